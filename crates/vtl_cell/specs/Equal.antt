@@ -1,0 +1,17 @@
+-- Equality of cells, as a test that computes.
+use Rattle.std.specs.Prelude.{Bool, true, false, not, List, [], ◌∷◌, nat_eq}
+use Rattle.std.specs.Ordering.{int_eq}
+use lib.Pointwise.{pointwise}
+use Rattle.vtl_cell.specs.declared.cell.Cell.{Cell}
+use Rattle.vtl_cell.specs.declared.cell.Cell.TheVariants as c
+
+abbrev pub same_bool : Bool → Bool → Bool
+same_bool true b = b
+same_bool false b = not b
+
+abbrev pub same_cell : Cell → Cell → Bool
+same_cell c.Null c.Null = true
+same_cell (c.Bool a) (c.Bool b) = same_bool a b
+same_cell (c.Int a) (c.Int b) = int_eq a b
+same_cell (c.Text s) (c.Text t) = pointwise nat_eq s t
+same_cell _ _ = false

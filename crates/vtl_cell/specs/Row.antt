@@ -1,0 +1,25 @@
+-- Rows of cells.
+use Rattle.std.specs.Prelude.{ℕ, Bool, true, false, ◌&&◌, List, [], ◌∷◌, slice_index_or}
+use Rattle.std.specs.Cmp.Lexicographic.{slice_cmp}
+use Rattle.std.specs.declared.cmp.Ordering.{Ordering}
+use Rattle.vtl_cell.specs.Equal.{same_cell}
+use Rattle.vtl_cell.specs.Order.{cell_cmp}
+use Rattle.vtl_cell.specs.declared.cell.Cell.{Cell}
+use Rattle.vtl_cell.specs.declared.cell.Cell.TheVariants as c
+
+abbrev pub Row : Type 0
+Row = List Cell
+
+-- the cell at a place, or null past the last one
+abbrev pub column_of : ℕ → Row → Cell
+column_of i r = slice_index_or r i c.Null
+
+abbrev pub same_row : Row → Row → Bool
+same_row [] [] = true
+same_row [] (y ∷ ys) = false
+same_row (x ∷ xs) [] = false
+same_row (x ∷ xs) (y ∷ ys) = same_cell x y && same_row xs ys
+
+-- cell by cell from the left
+abbrev pub row_cmp : Row → Row → Ordering
+row_cmp = slice_cmp cell_cmp

@@ -1,0 +1,62 @@
+// A value, its order and its copies.
+ghost use Rattle.std.specs.Prelude.{◌≡◌, IfOk, true};
+ghost use Rattle.std.specs.Cmp.{IsTotalOrder};
+ghost use Rattle.vtl_lists.specs.Sorting.{IsOrder, le_by};
+ghost use Rattle.vtl_cell.specs.Equal.{same_cell};
+ghost use Rattle.vtl_cell.specs.Order.{cell_cmp};
+ghost use Rattle.vtl_cell.specs.Row.{row_cmp};
+
+use std::alloc::AllocError;
+use std::cmp::Ordering;
+use vtl_text::Txt;
+
+/// A value of a point: null, or a value of one of the kinds.
+///
+/// Its order has null first, then false before true, whole numbers by value, and texts by their characters.
+#[derive(Debug, PartialEq, Eq, PartialOrd, Ord, Hash, Drop)]
+pub enum Cell {
+    /// No value.
+    Null,
+    /// A value of [`Kind::Bool`](crate::Kind).
+    Bool(bool),
+    /// A value of [`Kind::Int`](crate::Kind).
+    Int(i64),
+    /// A value of [`Kind::Text`](crate::Kind).
+    Text(Txt),
+}
+
+/// An equal cell, which shares its text. It fails only for want of memory.
+pub fn clone_cell(c: &Cell) -> Result<Cell, AllocError>
+    ensures { IfOk result (λ copy. copy ≡ c.now) }
+{
+    Ok(match c {
+        Cell::Null => Cell::Null,
+        Cell::Bool(b) => Cell::Bool(*b),
+        Cell::Int(n) => Cell::Int(*n),
+        Cell::Text(t) => Cell::Text(t.share()?),
+    })
+}
+
+/// Whether the cells are equal, null being equal to null.
+pub fn is_same(a: &Cell, b: &Cell) -> bool
+    ensures { result ≡ same_cell a.now b.now }
+{
+    a == b
+}
+
+/// The order of two cells.
+pub fn compare(a: &Cell, b: &Cell) -> Ordering
+    ensures { result ≡ cell_cmp a.now b.now }
+{
+    a.cmp(b)
+}
+
+/// The order of cells and of rows is total, ties are equal, and equality is equality.
+pub fn order_is_lawful()
+    ensures cells { IsTotalOrder cell_cmp }
+    ensures ties { (a b : Cell) → cell_cmp a b ≡ Ordering.Equal → a ≡ b }
+    ensures equal { (a b : Cell) → same_cell a b ≡ true → a ≡ b }
+    ensures reflexive { (a : Cell) → same_cell a a ≡ true }
+    ensures rows { IsOrder (le_by row_cmp) }
+{
+}

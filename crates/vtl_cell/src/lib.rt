@@ -1,0 +1,8 @@
+//! Cells: the values of a data set's points, with their kinds and their order.
+#![tactic(auto)]
+
+mod cell;
+mod kind;
+
+pub use cell::{Cell, clone_cell, compare, is_same, order_is_lawful};
+pub use kind::{Kind, ScalarOp};

@@ -1,0 +1,4 @@
+pub mod Faults
+pub mod LookUps
+pub mod Values
+pub mod Walks

@@ -1,0 +1,22 @@
+-- The clauses on data sets, as functions on lists of points.
+use Rattle.std.specs.Prelude.{Bool, true, false, Result, Ok, Err, List, filter}
+use Rattle.vtl_cell.specs.declared.cell.Cell.{Cell}
+use Rattle.vtl_cell.specs.declared.cell.Cell.TheVariants as c
+use Rattle.vtl_cell.specs.Row.{Row}
+use Rattle.vtl_cell.specs.Outcome.{Outcome, fault_in, faults_by, unless}
+use Rattle.vtl_tree.specs.Exp.{Exp}
+use Rattle.vtl_tree.specs.Value.{value}
+
+-- a condition holds where its value is true: neither where it is null nor where it has a fault
+abbrev pub is_true : Outcome Cell → Bool
+is_true (Ok (c.Bool b)) = b
+is_true _ = false
+
+-- the points at which the condition is true
+abbrev pub kept : Exp → List Row → List Row
+kept e d = filter (λ r. is_true (value e r)) d
+
+-- `filter`: these points, or the fault of the condition over all points
+abbrev pub filter_of : Exp → List Row → Outcome (List Row)
+filter_of e d = unless (faults_by (λ r. fault_in (value e r)) d) (kept e d)
+

@@ -1,0 +1,42 @@
+-- Data sets. A data set is a structure and the list of its points up to order; a point is a row of cells in column order.
+use Rattle.std.specs.Prelude.{◌≡◌, ℕ, ◌<◌, Bool, true, false, cond, not, ◌&&◌, List, [], ◌∷◌, take, Option, Some, None}
+use Rattle.std.specs.List.{AllByRecursion}
+use Rattle.vtl_lists.specs.Perm.{Perm}
+use Rattle.vtl_cell.specs.Kinds.{is_null, is_of}
+use Rattle.vtl_cell.specs.Row.{Row, same_row}
+use Rattle.vtl_tree.specs.declared.structure.Role.TheVariants as role
+use Rattle.vtl_tree.specs.declared.structure.Component.{Component}
+use Rattle.vtl_tree.specs.declared.structure.Structure.{Structure}
+use Rattle.vtl_tree.specs.Structure.{IsStructure, columns_of, key_width, same_role}
+
+
+-- a row has a cell for each column, of its kind, and no identifier is null
+abbrev pub is_point : List Component → Row → Bool
+is_point [] [] = true
+is_point [] (v ∷ vs) = false
+is_point (x ∷ xs) [] = false
+is_point (x ∷ xs) (v ∷ vs) = is_of x.kind v && not (same_role x.role role.Identifier && is_null v) && is_point xs vs
+
+-- two rows differ in the first n cells, the identifiers
+abbrev pub Apart : ℕ → Row → Row → Type 0
+Apart n r s = same_row (take n r) (take n s) ≡ false
+
+-- no two points have the same identifiers
+abbrev pub Distinct : ℕ → List Row → Type 0
+Distinct n [] = Unit {0}
+Distinct n (r ∷ d) = AllByRecursion (Apart n r) d × Distinct n d
+
+-- the points are those of a data set of the structure
+pub record IsDataSet (s : Structure) (points : List Row) : Type 0 where
+  pub well_formed : IsStructure s
+  pub typed : AllByRecursion (λ r. is_point (columns_of s) r ≡ true) points
+  pub distinct : Distinct (key_width s) points
+
+-- a table's rows stand for a data set: they are its points, each once, in any order
+abbrev pub StandsFor : List Row → List Row → Type 0
+StandsFor rows points = Perm rows points
+
+-- the point with these identifiers, of which there are n
+abbrev pub look : ℕ → List Row → Row → Option Row
+look n [] k = None
+look n (r ∷ d) k = cond (same_row (take n r) k) (Some r) (look n d k)

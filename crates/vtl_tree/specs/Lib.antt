@@ -1,0 +1,12 @@
+pub mod Answers
+pub mod Clauses
+pub mod DataSet
+pub mod Exp
+pub mod Kept
+pub mod Meaning
+pub mod Rows
+pub mod SameResult
+pub mod Seen
+pub mod Structure
+pub mod Value
+pub mod View

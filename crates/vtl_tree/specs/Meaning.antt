@@ -1,0 +1,60 @@
+-- The meaning of a script: what its statements give over an environment of data sets.
+use Rattle.std.specs.Prelude.{◌≡◌, ℕ, cond, Result, Ok, Err, Option, Some, None, List, [], ◌∷◌, ◌++◌}
+use Rattle.vtl_lists.specs.Perm.{Perm}
+use Rattle.vtl_cell.specs.Row.{Row}
+use Rattle.vtl_cell.specs.Outcome.{Fault, Outcome, after}
+use Rattle.vtl_tree.specs.Exp.{Exp}
+use Rattle.vtl_tree.specs.Structure.{same_name}
+use Rattle.vtl_tree.specs.Clauses.{filter_of}
+use Rattle.vtl_tree.specs.declared.structure.Structure.{Structure}
+
+pub record DataSet : Type 0 where
+  pub structure : Structure
+  pub points : List Row
+
+abbrev pub no_data : Structure → DataSet
+no_data s = record { structure = s; points = [] }
+
+-- data sets by name
+abbrev pub Environment : Type 0
+Environment = List (List ℕ × DataSet)
+
+abbrev pub data_of : List ℕ → Environment → Option DataSet
+data_of name [] = None
+data_of name (d ∷ ds) = cond (same_name d.0 name) (Some d.1) (data_of name ds)
+
+-- what stands for a data set in a script, with the structure that it has
+pub data Node : Type 0 where
+  named : List ℕ → Structure → Node
+  filtered : Node → Exp → Node
+
+-- R <- node
+pub record Statement : Type 0 where
+  pub result : List ℕ
+  pub node : Node
+
+abbrev pub found : Structure → Option DataSet → DataSet
+found s None = no_data s
+found s (Some d) = d
+
+-- the data set of a node, or its fault; a name that is missing has no points, and no typed script holds one
+abbrev pub node_value : Node → Environment → Outcome DataSet
+node_value (named name s) env = Ok (found s (data_of name env))
+node_value (filtered a e) env = after (node_value a env) (λ d. after (filter_of e d.points) (λ ps. Ok (record { structure = d.structure; points = ps })))
+
+abbrev pub Outputs : Type 0
+Outputs = List (List ℕ × DataSet)
+
+abbrev pub with_output : List ℕ → DataSet → Result Outputs (Fault × List ℕ) → Result Outputs (Fault × List ℕ)
+with_output name d (Ok out) = Ok ((name, d) ∷ out)
+with_output name d (Err f) = Err f
+
+-- how a statement's value goes into the results: the fault with the result's name, or one more output
+abbrev pub stated : List ℕ → Outcome DataSet → (DataSet → Result Outputs (Fault × List ℕ)) → Result Outputs (Fault × List ℕ)
+stated name (Ok d) rest = with_output name d (rest d)
+stated name (Err f) rest = Err (f, name)
+
+-- the results in order, or the first fault with the name of its statement's result
+abbrev pub meaning : List Statement → Environment → Result Outputs (Fault × List ℕ)
+meaning [] env = Ok []
+meaning (s ∷ rest) env = stated s.result (node_value s.node env) (λ d. meaning rest ((s.result, d) ∷ env))

@@ -1,0 +1,16 @@
+//! What the language speaks of: structures, data sets and component expressions, with their meaning.
+#![tactic(auto)]
+
+mod evaluation;
+mod expression;
+mod laws;
+mod plain;
+mod seen;
+mod structure;
+
+pub use evaluation::{ScalarErr, apply, eval};
+pub use expression::CompExpr;
+pub use laws::{filter_is_a_clause, points_are_a_map};
+pub use plain::filter_points;
+pub use seen::Seen;
+pub use structure::{Component, Role, Structure};
