@@ -1,0 +1,4 @@
+//! The top of the program: the script, the structures and the CSV files that are read, and the CSV text that is written.
+#![tactic(auto)]
+
+pub mod records;
