@@ -1,1 +1,2 @@
 pub mod RecordsLeftLemmas
+pub mod RowTextLemmas

@@ -93,13 +93,6 @@ read-ended s after (Some xs) (Some ys) fields r =
     by None e next = rw (add-one (length xs), e) refl
     by (Some p) e next = cc next.0
 
--- the text that a read leaves is known
-read-known : (s after : State) (text rest : Option (List ℕ)) (found : Bool) (fields : List (List ℕ)) → IsSome text
-    → ReadsNext default_config s text rest found fields after → IsSome rest
-read-known s after None rest found fields known r = cc known
-read-known s after (Some xs) None found fields known r = absurd r
-read-known s after (Some xs) (Some ys) found fields known r = tt
-
 -- the same of a reader
 pub reader-found : (a b : Reader (Bor (List ℕ))) (fields : List (List ℕ)) → a.config ≡ default_config → IsSome (source_of bytes_left a)
     → ReadRecord bytes_left a b true fields
@@ -111,11 +104,6 @@ pub reader-ended : (a b : Reader (Bor (List ℕ))) (fields : List (List ℕ)) �
     → ReadRecord bytes_left a b false fields → records_of (source_of bytes_left a) a.state ≡ []
 reader-ended a b fields config r = read-ended a.state b.state (source_of bytes_left a) (pending_of (bytes_left b.rdr) b) fields (rw config at r.0)
 
-pub reader-known : (a b : Reader (Bor (List ℕ))) (found : Bool) (fields : List (List ℕ)) → a.config ≡ default_config → IsSome (source_of bytes_left a)
-    → ReadRecord bytes_left a b found fields → IsSome (source_of bytes_left b)
-reader-known a b found fields config known r =
-    rw r.1 (read-known a.state b.state (source_of bytes_left a) (pending_of (bytes_left b.rdr) b) found fields known (rw config at r.0))
-
 -- such a reader takes one record at each read
 pub reads-ready : (a : Reader (Bor (List ℕ))) → ReadsRecords a → Ready a
-reads-ready a reads = elim (cases_Bool a.first) [ | inl first ↦ inl first | inr fresh ↦ inr (inr (reads.no_header, reads.no_header_row fresh)) ]
+reads-ready a reads = elim (cases_Bool a.first) [ inl first ↦ inl first | inr fresh ↦ inr (inr (reads.no_header, reads.no_header_row fresh)) ]

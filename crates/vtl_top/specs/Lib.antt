@@ -1,1 +1,2 @@
 pub mod RecordsLeft
+pub mod RowsWritten

@@ -2,3 +2,4 @@
 #![tactic(auto)]
 
 pub mod records;
+pub mod row_text;

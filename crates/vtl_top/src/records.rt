@@ -1,5 +1,5 @@
 // The records of a CSV text, one after the other.
-ghost use Rattle.std.specs.Prelude.{◌≡◌, ◌∷◌, [], true, IfOk};
+ghost use Rattle.std.specs.Prelude.{◌≡◌, ◌∷◌, [], true, IfOk, OnErr};
 ghost use Rattle.std.specs.Bool.{OnTrue, OnFalse};
 ghost use Rattle.csv.specs.Reading.{default_config, error_kind, records, stops_reader, strip_bom};
 ghost use Rattle.csv.specs.Records.{fields_of};
@@ -56,6 +56,7 @@ impl<'a> RecordReader<'a> {
     pub fn next(&mut self, fields: &mut ByteRecord) -> Result<bool, AllocError>
         ensures found { IfOk result (λ found. OnTrue found (self.old ≡ fields_of fields.new ∷ self.new)) }
         ensures ended { IfOk result (λ found. OnFalse found ((self.old ≡ []) × (self.new ≡ []))) }
+        ensures failed { OnErr result (self.new ≡ []) }
     {
         if self.has_ended {
             return Ok(false);
@@ -71,5 +72,26 @@ impl<'a> RecordReader<'a> {
                 Err(want_of_memory(error))
             }
         }
+    }
+}
+
+#[cfg(test)]
+mod tests {
+    use super::*;
+    use std::test::Fail;
+
+    #[test]
+    fn reads_each_record(rt: HostRuntime) -> Result<(), Fail> {
+        let mut reader = RecordReader::new(rt.alloc(), b"Id_1,Me_1\nb,7\na\n");
+        let mut fields = ByteRecord::new(rt.alloc());
+        assert!(rt; reader.next(&mut fields)?);
+        assert_eq!(rt; fields.get(1), Some(b"Me_1".as_slice()));
+        assert!(rt; reader.next(&mut fields)?);
+        assert_eq!(rt; fields.get(0), Some(b"b".as_slice()));
+        assert!(rt; reader.next(&mut fields)?);
+        assert_eq!(rt; fields.len(), 1);
+        assert!(rt; !reader.next(&mut fields)?);
+        assert!(rt; !reader.next(&mut fields)?);
+        Ok(())
     }
 }
