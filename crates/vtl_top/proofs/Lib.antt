@@ -1,0 +1,2 @@
+pub mod RecordsLeftLemmas
+pub mod RowTextLemmas

@@ -1,0 +1,2 @@
+pub mod RecordsLeft
+pub mod RowsWritten
