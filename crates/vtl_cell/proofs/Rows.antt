@@ -1,13 +1,16 @@
 -- Equality and order of rows.
-use Rattle.std.proofs.Common.{◌≡◌, List, [], ◌∷◌, Bool, true, false, ◌&&◌, refl, sym, ap, ◌∙◌, subst, true≢false}
-use Rattle.std.specs.declared.cmp.Ordering.TheVariants.{Equal}
+use Rattle.std.proofs.Common.{◌≡◌, ℕ, zero, suc, List, [], ◌∷◌, Bool, true, false, not, ◌&&◌, take, refl, sym, ap, ◌∙◌, subst, true≢false}
+use Rattle.std.specs.Ordering.{is_lt, ordering_then}
+use Rattle.std.specs.declared.cmp.Ordering.{Ordering}
+use Rattle.std.specs.declared.cmp.Ordering.TheVariants.{Less, Equal, Greater}
 use Rattle.std.specs.Cmp.{IsTotalOrder}
 use Rattle.std.specs.Cmp.Lexicographic.{lists_total}
 use Rattle.std.specs.FinMap.{slice_cmp-IsAntisymmetric}
 use Rattle.vtl_lists.specs.Sorting.{IsOrder, le_by}
 use Rattle.vtl_lists.proofs.Sorts.{IsOrder-le_by}
 use Rattle.vtl_cell.specs.Equal.{same_cell}
-use Rattle.vtl_cell.specs.Row.{Row, same_row, row_cmp}
+use Rattle.vtl_cell.specs.Order.{cell_cmp}
+use Rattle.vtl_cell.specs.Row.{Row, same_row, same_key, row_cmp}
 use Rattle.vtl_cell.proofs.Cells.{same_cell-is, same_cell-refl}
 use Rattle.vtl_cell.proofs.Orders.{cell_cmp_total, cell_cmp-ties}
 
@@ -46,3 +49,38 @@ row_cmp-ties = slice_cmp-IsAntisymmetric cell_cmp-ties
 
 pub row_order : IsOrder (le_by row_cmp)
 row_order = IsOrder-le_by row_cmp_total row_cmp-ties
+
+-- what stands before by its first cells stands before
+first_differs : (o p q : Ordering) → (q ≡ Less → p ≡ Less) → ordering_then o q ≡ Less → ordering_then o p ≡ Less
+first_differs Less p q f e = refl
+first_differs Equal p q f e = f e
+first_differs Greater p q f e = cc
+
+less_by_front : (n : ℕ) (xs ys : Row) → row_cmp (take n xs) (take n ys) ≡ Less → row_cmp xs ys ≡ Less
+less_by_front zero xs ys e = cc
+less_by_front (suc n) [] [] e = e
+less_by_front (suc n) [] (y ∷ ys) e = refl
+less_by_front (suc n) (x ∷ xs) [] e = e
+less_by_front (suc n) (x ∷ xs) (y ∷ ys) e = first_differs (cell_cmp x y) (row_cmp xs ys) (row_cmp (take n xs) (take n ys)) (less_by_front n xs ys) e
+
+is_Less : (o : Ordering) → is_lt o ≡ true → o ≡ Less
+is_Less Less e = refl
+is_Less Equal e = absurd (true≢false (sym e))
+is_Less Greater e = absurd (true≢false (sym e))
+
+front_rises : (n : ℕ) (x y : Row) → le_by row_cmp x y ≡ true → le_by row_cmp (take n x) (take n y) ≡ true
+front_rises n x y e = go (is_lt (row_cmp (take n y) (take n x))) refl
+  where
+    go : (b : Bool) → is_lt (row_cmp (take n y) (take n x)) ≡ b → not b ≡ true
+    go true h = absurd (true≢false (sym e ∙ ap (λ o. not (is_lt o)) (less_by_front n y x (is_Less _ h))))
+    go false h = refl
+
+-- in order, rows with one key stand together
+pub key_between : (n : ℕ) (x y z : Row) → le_by row_cmp x y ≡ true → le_by row_cmp y z ≡ true → same_key n x z ≡ true → same_key n x y ≡ true
+key_between n x y z e h s =
+    let back : le_by row_cmp (take n y) (take n x) ≡ true = subst (λ k. le_by row_cmp (take n y) k ≡ true) (sym (same_row-is (take n x) (take n z) s)) (front_rises n y z h) in
+    let one = row_order.antisym (take n x) (take n y) (front_rises n x y e) back in
+    subst (λ k. same_row (take n x) k ≡ true) one (same_row-refl (take n x))
+
+pub same_key-sym : (n : ℕ) (x y : Row) → same_key n x y ≡ same_key n y x
+same_key-sym n x y = same_row-sym (take n x) (take n y)

@@ -1,5 +1,5 @@
 -- Rows of cells.
-use Rattle.std.specs.Prelude.{ℕ, Bool, true, false, ◌&&◌, List, [], ◌∷◌, slice_index_or}
+use Rattle.std.specs.Prelude.{ℕ, Bool, true, false, ◌&&◌, List, [], ◌∷◌, slice_index_or, take}
 use Rattle.std.specs.Cmp.Lexicographic.{slice_cmp}
 use Rattle.std.specs.declared.cmp.Ordering.{Ordering}
 use Rattle.vtl_cell.specs.Equal.{same_cell}
@@ -23,3 +23,7 @@ same_row (x ∷ xs) (y ∷ ys) = same_cell x y && same_row xs ys
 -- cell by cell from the left
 abbrev pub row_cmp : Row → Row → Ordering
 row_cmp = slice_cmp cell_cmp
+
+-- whether two rows agree in the first n cells
+abbrev pub same_key : ℕ → Row → Row → Bool
+same_key n r s = same_row (take n r) (take n s)

@@ -58,5 +58,4 @@ pub fn order_is_lawful()
     ensures equal { (a b : Cell) → same_cell a b ≡ true → a ≡ b }
     ensures reflexive { (a : Cell) → same_cell a a ≡ true }
     ensures rows { IsOrder (le_by row_cmp) }
-{
-}
+{}

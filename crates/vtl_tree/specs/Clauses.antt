@@ -19,4 +19,3 @@ kept e d = filter (λ r. is_true (value e r)) d
 -- `filter`: these points, or the fault of the condition over all points
 abbrev pub filter_of : Exp → List Row → Outcome (List Row)
 filter_of e d = unless (faults_by (λ r. fault_in (value e r)) d) (kept e d)
-

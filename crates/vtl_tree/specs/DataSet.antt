@@ -9,7 +9,6 @@ use Rattle.vtl_tree.specs.declared.structure.Component.{Component}
 use Rattle.vtl_tree.specs.declared.structure.Structure.{Structure}
 use Rattle.vtl_tree.specs.Structure.{IsStructure, columns_of, key_width, same_role}
 
-
 -- a row has a cell for each column, of its kind, and no identifier is null
 abbrev pub is_point : List Component → Row → Bool
 is_point [] [] = true

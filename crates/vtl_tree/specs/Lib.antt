@@ -7,6 +7,7 @@ pub mod Meaning
 pub mod Rows
 pub mod SameResult
 pub mod Seen
+pub mod Shown
 pub mod Structure
 pub mod Value
 pub mod View

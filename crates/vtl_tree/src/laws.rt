@@ -15,8 +15,7 @@ ghost use Rattle.vtl_tree.specs.declared.structure.Structure.{Structure};
 pub fn points_are_a_map()
     ensures same { (n : ℕ) (d e : List Row) → Distinct n d → Distinct n e → ((k : Row) → look n d k ≡ look n e k) → Perm d e }
     ensures back { (n : ℕ) (d e : List Row) → Distinct n d → Perm d e → (k : Row) → look n d k ≡ look n e k }
-{
-}
+{}
 
 /// `filter` gives a data set of the same structure, which at each tuple of identifiers has the operand's point where
 /// the condition is true there and none elsewhere; and it does not depend on the order of points.
@@ -24,5 +23,4 @@ pub fn filter_is_a_clause()
     ensures kept { (s : Structure) (c : Exp) (d : List Row) → IsDataSet s d → IsDataSet s (kept c d) }
     ensures at { (n : ℕ) (c : Exp) (d : List Row) (k : Row) → Distinct n d → look n (kept c d) k ≡ kept_row (λ r. is_true (value c r)) (look n d k) }
     ensures order { (c : Exp) (t d : List Row) → Perm t d → Same (filter_of c t) (filter_of c d) }
-{
-}
+{}

@@ -1,5 +1,10 @@
 // Structures of data sets.
 
+ghost use Rattle.std.specs.Prelude.{◌≡◌, ◌++◌, filter, map, IfOk, OnOk};
+ghost use Rattle.vtl_tree.specs.Structure.{columns_of, of_role, same_role};
+ghost use Rattle.vtl_tree.specs.Shown.{shown};
+
+use std::alloc::{AllocError, Global};
 use vtl_cell::Kind;
 use vtl_text::{List, Txt};
 
@@ -32,4 +37,54 @@ pub struct Component {
 pub struct Structure {
     /// The components, in the order in which they were declared.
     pub components: List<Component>,
+}
+
+impl Structure {
+    /// The components in column order: identifiers, then measures, then attributes, each in the order in which
+    /// they were declared.
+    pub fn columns(&self, alloc: Global) -> Result<Vec<&Component>, AllocError>
+        ensures { IfOk result (λ v. shown v.items ≡ columns_of self.now) }
+    {
+        let mut columns = Vec::new(alloc);
+        push_role(&mut columns, self.components.as_slice(), Role::Identifier)?;
+        push_role(&mut columns, self.components.as_slice(), Role::Measure)?;
+        push_role(&mut columns, self.components.as_slice(), Role::Attribute)?;
+        Ok(columns)
+    }
+
+    /// The identifiers, in the order in which they were declared.
+    pub fn identifiers(&self, alloc: Global) -> Result<Vec<&Component>, AllocError>
+        ensures { IfOk result (λ v. shown v.items ≡ of_role Role.Identifier self.now) }
+    {
+        let mut columns = Vec::new(alloc);
+        push_role(&mut columns, self.components.as_slice(), Role::Identifier)?;
+        Ok(columns)
+    }
+}
+
+// Adds the components of one role.
+fn push_role<'a>(
+    columns: &mut Vec<&'a Component>,
+    components: &'a [Component],
+    role: Role,
+) -> Result<(), AllocError>
+    ensures { OnOk result (shown columns.new.items ≡ shown columns.old.items ++ filter (λ x. same_role x.role role) components.now) }
+{
+    for component in components {
+        if is_same_role(component.role, role) {
+            columns.push(component)?;
+        }
+    }
+    Ok(())
+}
+
+fn is_same_role(a: Role, b: Role) -> bool
+    ensures { result ≡ same_role a b }
+{
+    match (a, b) {
+        (Role::Identifier, Role::Identifier) => true,
+        (Role::Measure, Role::Measure) => true,
+        (Role::Attribute, Role::Attribute) => true,
+        _ => false,
+    }
 }

@@ -1,0 +1,59 @@
+-- That no two items are the same does not depend on their order, and a rising list shows it at neighbours.
+use Rattle.std.proofs.Common.{◌≡◌, List, [], ◌∷◌, Bool, true, false, not, ◌&&◌, ◌||◌, refl, sym, ap, ◌∙◌, subst, true≢false}
+use Rattle.std.specs.List.{list_any, AllByRecursion}
+use Rattle.vtl_lists.specs.Apart.{all_apart}
+use Rattle.vtl_lists.specs.Perm.{Perm, empty, keep, cross, chain}
+use Rattle.vtl_lists.specs.Sorting.{Rises}
+
+or_swap : (a b c : Bool) → (a || (b || c)) ≡ (b || (a || c))
+or_swap true true c = refl
+or_swap true false c = refl
+or_swap false b c = refl
+
+pub list_any-Perm : {X : Type 0} (p : X → Bool) {xs ys : List X} → Perm xs ys → list_any p xs ≡ list_any p ys
+list_any-Perm p empty = refl
+list_any-Perm p (keep x q) = ap (λ b. p x || b) (list_any-Perm p q)
+list_any-Perm p (cross x y xs) = or_swap (p x) (p y) (list_any p xs)
+list_any-Perm p (chain q r) = list_any-Perm p q ∙ list_any-Perm p r
+
+-- x apart from y and from the rest, y apart from the rest, and the rest
+apart_swap : (xy yx x y r : Bool) → xy ≡ yx → (not (xy || x) && (not y && r)) ≡ (not (yx || y) && (not x && r))
+apart_swap true true x y r e = refl
+apart_swap true false x y r e = absurd (true≢false e)
+apart_swap false true x y r e = absurd (true≢false (sym e))
+apart_swap false false true true r e = refl
+apart_swap false false true false r e = refl
+apart_swap false false false true r e = refl
+apart_swap false false false false r e = refl
+
+module _ {X : Type 0} (same : X → X → Bool) (turn : (x y : X) → same x y ≡ same y x) where
+  pub all_apart-Perm : {xs ys : List X} → Perm xs ys → all_apart same xs ≡ all_apart same ys
+  all_apart-Perm empty = refl
+  all_apart-Perm (keep x {xs} {ys} q) = ap (λ b. not b && all_apart same xs) (list_any-Perm (same x) q) ∙ ap (λ b. not (list_any (same x) ys) && b) (all_apart-Perm q)
+  all_apart-Perm (cross x y xs) = apart_swap (same x y) (same y x) (list_any (same x) xs) (list_any (same y) xs) (all_apart same xs) (turn x y)
+  all_apart-Perm (chain q r) = all_apart-Perm q ∙ all_apart-Perm r
+
+-- whether each item differs from the next
+abbrev pub neighbours_apart : {X : Type 0} → (X → X → Bool) → List X → Bool
+neighbours_apart same [] = true
+neighbours_apart same (x ∷ []) = true
+neighbours_apart same (x ∷ y ∷ xs) = not (same x y) && neighbours_apart same (y ∷ xs)
+
+-- Between x and z lies y: where x is the same as z, it is the same as y.
+module _ {X : Type 0} (same le : X → X → Bool) (between : (x y z : X) → le x y ≡ true → le y z ≡ true → same x z ≡ true → same x y ≡ true) where
+  none_later : (x y : X) (zs : List X) → le x y ≡ true → same x y ≡ false → AllByRecursion (λ z. le y z ≡ true) zs → list_any (same x) zs ≡ false
+  none_later x y [] h e all = refl
+  none_later x y (z ∷ zs) h e all = go (same x z) refl (none_later x y zs h e all.1)
+    where
+      go : (b : Bool) → same x z ≡ b → list_any (same x) zs ≡ false → (b || list_any (same x) zs) ≡ false
+      go true t ih = absurd (true≢false (sym (between x y z h all.0 t) ∙ e))
+      go false t ih = ih
+
+  pub neighbours_suffice : (xs : List X) → Rises le xs → neighbours_apart same xs ≡ all_apart same xs
+  neighbours_suffice [] r = refl
+  neighbours_suffice (x ∷ []) r = refl
+  neighbours_suffice (x ∷ y ∷ zs) r = ap (λ b. not (same x y) && b) (neighbours_suffice (y ∷ zs) r.1) ∙ go (same x y) refl
+    where
+      go : (b : Bool) → same x y ≡ b → (not b && all_apart same (y ∷ zs)) ≡ (not (b || list_any (same x) zs) && all_apart same (y ∷ zs))
+      go true e = refl
+      go false e = ap (λ c. not c && all_apart same (y ∷ zs)) (sym (none_later x y zs r.0.0 e r.1.0))
