@@ -1,0 +1,146 @@
+ghost use Rattle.std.specs.Prelude.{◌≡◌, ◌≤◌, ◌<◌, ℕ, List, Bool, true, false, Option, Ok, length, is_ok, IsErr, OnOk, OnErr, IfOk, IfSome, string_bytes, []};
+ghost use Rattle.std.specs.Result.{result_unwrap_or};
+ghost use Rattle.vtl_files.specs.Outside.{Rose, Opens, Reads, Creates, Writes, LeavesNothing, CountsAbsence, CountsMisuse};
+
+use crate::failed::Failed;
+
+/// Files that are read, or created and written, one at a time.
+///
+/// Some meanings are lists that an object may tell or not; no call changes whether it does.
+pub trait Files {
+    /// The files that can be read, where they are told: names with bytes. No call changes them.
+    ghost held: { Self → Option (List (List ℕ × List ℕ)) };
+
+    /// The files that were created, where they are told: names with bytes, in order of creating.
+    ghost written: { Self → Option (List (List ℕ × List ℕ)) };
+
+    /// How often a call has failed. It never falls.
+    ghost faults: { Self → ℕ };
+
+    /// How often a file was not found. It never falls.
+    ghost absences: { Self → ℕ };
+
+    /// How often a call came where `creating` was not what it needs. It never falls.
+    ghost misuses: { Self → ℕ };
+
+    /// Whether a file is being created: between a `create` and a `finish` that answer Ok.
+    ghost creating: { Self → Bool };
+
+    /// The name that was last handed to `open` or `create`.
+    ghost place: { Self → List ℕ };
+
+    /// The count of faults before that call.
+    ghost mark: { Self → ℕ };
+
+    /// Whether a file is opened for reading: since an `open` that answered true, until the next
+    /// `open` or `create`.
+    ghost opened: { Self → Bool };
+
+    /// What is still to be read, told where the held files are.
+    ghost left: { Self → Option (List ℕ) };
+
+    /// Opens the file of this name for reading, at its start. False: there is none.
+    ///
+    /// # Errors
+    ///
+    /// The file could not be opened, for another reason than that there is none.
+    fn open(&mut self, name: String) -> Result<bool, Failed>
+        ensures held { held self.new ≡ held self.old }
+        ensures written { written self.new ≡ written self.old }
+        ensures faults { faults self.old ≤ faults self.new }
+        ensures failed { OnErr result (Rose (faults self.old) (faults self.new)) }
+        ensures absences { absences self.old ≤ absences self.new }
+        ensures absent { CountsAbsence result (absences self.old) (absences self.new) }
+        ensures misuses { misuses self.new ≡ misuses self.old }
+        ensures creating { creating self.new ≡ creating self.old }
+        ensures place { place self.new ≡ string_bytes name }
+        ensures mark { mark self.new ≡ faults self.old }
+        ensures opened { opened self.new ≡ result_unwrap_or result false }
+        ensures left { Opens (held self.old) (string_bytes name) result (left self.new) };
+
+    /// Puts the next bytes of the opened file at the front of `buf`, and gives how many. None: `buf` is
+    /// empty, the file's end is reached, or no file is opened.
+    ///
+    /// # Errors
+    ///
+    /// The opened file could not be read.
+    fn read(&mut self, buf: &mut [u8]) -> Result<usize, Failed>
+        ensures held { held self.new ≡ held self.old }
+        ensures written { written self.new ≡ written self.old }
+        ensures faults { faults self.old ≤ faults self.new }
+        ensures failed { OnErr result (Rose (faults self.old) (faults self.new)) }
+        ensures absences { absences self.new ≡ absences self.old }
+        ensures misuses { misuses self.new ≡ misuses self.old }
+        ensures creating { creating self.new ≡ creating self.old }
+        ensures place { place self.new ≡ place self.old }
+        ensures mark { mark self.new ≡ mark self.old }
+        ensures opened { opened self.new ≡ opened self.old }
+        ensures not_opened { opened self.old ≡ false → result ≡ Ok 0 }
+        ensures bound { IfOk result (λ count. count ≤ length buf.new) }
+        ensures left { Reads (left self.old) (left self.new) buf.new result }
+        ensures end { IfOk result (λ count. count ≡ 0 → 0 < length buf.new → IfSome (left self.old) (λ rest. rest ≡ [])) };
+
+    /// Creates an empty file of this name, to be written. The opened file is closed.
+    ///
+    /// # Errors
+    ///
+    /// The file could not be created, or another one is still being created.
+    fn create(&mut self, name: String) -> Result<(), Failed>
+        ensures held { held self.new ≡ held self.old }
+        ensures written { Creates (written self.old) (written self.new) (string_bytes name) result }
+        ensures faults { faults self.old ≤ faults self.new }
+        ensures failed { OnErr result (Rose (faults self.old) (faults self.new)) }
+        ensures absences { absences self.new ≡ absences self.old }
+        ensures misuses { misuses self.old ≤ misuses self.new }
+        ensures misused { CountsMisuse false (creating self.old) (misuses self.old) (misuses self.new) }
+        ensures refused { creating self.old ≡ true → IsErr result }
+        ensures creating { OnOk result (creating self.new ≡ true) }
+        ensures not_created { OnErr result (creating self.new ≡ creating self.old) }
+        ensures place { place self.new ≡ string_bytes name }
+        ensures mark { mark self.new ≡ faults self.old }
+        ensures opened { opened self.new ≡ false }
+        ensures left { LeavesNothing (held self.old) (left self.new) };
+
+    /// Appends some first bytes of `piece` to the file that is being created, and gives how many.
+    ///
+    /// # Errors
+    ///
+    /// The file could not be written, or none is being created.
+    fn write(&mut self, piece: &[u8]) -> Result<usize, Failed>
+        ensures held { held self.new ≡ held self.old }
+        ensures written { Writes (written self.old) (written self.new) piece.now result }
+        ensures faults { faults self.old ≤ faults self.new }
+        ensures failed { OnErr result (Rose (faults self.old) (faults self.new)) }
+        ensures absences { absences self.new ≡ absences self.old }
+        ensures misuses { misuses self.old ≤ misuses self.new }
+        ensures misused { CountsMisuse true (creating self.old) (misuses self.old) (misuses self.new) }
+        ensures refused { creating self.old ≡ false → IsErr result }
+        ensures creating { creating self.new ≡ creating self.old }
+        ensures place { place self.new ≡ place self.old }
+        ensures mark { mark self.new ≡ mark self.old }
+        ensures opened { opened self.new ≡ opened self.old }
+        ensures left { left self.new ≡ left self.old }
+        ensures bound { IfOk result (λ count. count ≤ length piece.now) }
+        ensures stuck { IfOk result (λ count. count ≡ 0 → 0 < length piece.now → Rose (faults self.old) (faults self.new)) };
+
+    /// Ends the file that is being created.
+    ///
+    /// # Errors
+    ///
+    /// The file could not be finished, or none is being created.
+    fn finish(&mut self) -> Result<(), Failed>
+        ensures held { held self.new ≡ held self.old }
+        ensures written { written self.new ≡ written self.old }
+        ensures faults { faults self.old ≤ faults self.new }
+        ensures failed { OnErr result (Rose (faults self.old) (faults self.new)) }
+        ensures absences { absences self.new ≡ absences self.old }
+        ensures misuses { misuses self.old ≤ misuses self.new }
+        ensures misused { CountsMisuse true (creating self.old) (misuses self.old) (misuses self.new) }
+        ensures refused { creating self.old ≡ false → IsErr result }
+        ensures creating { OnOk result (creating self.new ≡ false) }
+        ensures not_finished { OnErr result (creating self.new ≡ creating self.old) }
+        ensures place { place self.new ≡ place self.old }
+        ensures mark { mark self.new ≡ mark self.old }
+        ensures opened { opened self.new ≡ opened self.old }
+        ensures left { left self.new ≡ left self.old };
+}

@@ -1,0 +1,15 @@
+//! The outside: files that are read and written by name, and a sink for bytes, each as a trait whose
+//! contract names what they hold. Beside them stand the calls that read or hand over a whole text.
+#![tactic(auto)]
+
+mod failed;
+mod files;
+mod read_err;
+mod sink;
+mod whole;
+
+pub use failed::Failed;
+pub use files::Files;
+pub use read_err::ReadErr;
+pub use sink::Sink;
+pub use whole::{read_all, sink_all, write_all};
