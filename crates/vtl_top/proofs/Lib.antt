@@ -1,2 +1,3 @@
+pub mod PlainTextLemmas
 pub mod RecordsLeftLemmas
 pub mod RowTextLemmas

@@ -1,2 +1,3 @@
+pub mod PlainText
 pub mod RecordsLeft
 pub mod RowsWritten

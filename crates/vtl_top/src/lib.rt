@@ -1,5 +1,6 @@
 //! The top of the program: the script, the structures and the CSV files that are read, and the CSV text that is written.
 #![tactic(auto)]
 
+pub mod plain;
 pub mod records;
 pub mod row_text;
