@@ -1,1 +1,5 @@
+pub mod Occurrences
+pub mod Parts
+pub mod Places
 pub mod SameCharacters
+pub mod Spaces

@@ -1,6 +1,7 @@
 // A shared text, its order and its hash.
 ghost use Rattle.std.specs.Prelude.{◌≡◌, IfOk, IsTrue, IsUtf8, chars, encode_utf8_all};
 ghost use Rattle.std.specs.Str.{all_scalars};
+ghost use Rattle.std.specs.String.{string_bytes};
 
 use std::alloc::{AllocError, Global};
 use std::cmp::Ordering;
@@ -31,6 +32,15 @@ impl Txt {
     {
         Ok(Txt {
             text: RcStr::from_str(alloc, text)?,
+        })
+    }
+
+    // A text of the characters of `text`, whose bytes stay where they are.
+    pub(crate) fn from_string(text: String) -> Result<Txt, AllocError>
+        ensures { IfOk result (λ t. t ≡ chars (string_bytes text)) }
+    {
+        Ok(Txt {
+            text: RcStr::from_string(text)?,
         })
     }
 

@@ -1,3 +1,5 @@
 pub mod Fields
+pub mod PlainText
+pub mod Points
 pub mod RecordsLeft
 pub mod RowsWritten

@@ -2,5 +2,7 @@
 #![tactic(auto)]
 
 pub mod fields;
+pub mod plain;
+pub mod points;
 pub mod records;
 pub mod row_text;
