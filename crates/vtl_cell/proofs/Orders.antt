@@ -58,3 +58,7 @@ cell_cmp-ties (c.Text x) c.Null e = cc
 cell_cmp-ties (c.Text x) (c.Bool y) e = cc
 cell_cmp-ties (c.Text x) (c.Int y) e = cc
 cell_cmp-ties (c.Text x) (c.Text y) e = ap c.Text (slice_cmp-IsAntisymmetric nat_cmp-IsAntisymmetric x y e)
+
+-- what `cmp` of cells computes is their order
+pub derived_is : derived ≡ cell_cmp
+derived_is = λ i a b. same_order a b i

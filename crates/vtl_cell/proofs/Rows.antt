@@ -1,6 +1,8 @@
 -- Equality and order of rows.
-use Rattle.std.proofs.Common.{◌≡◌, ℕ, zero, suc, List, [], ◌∷◌, Bool, true, false, not, ◌&&◌, take, refl, sym, ap, ◌∙◌, subst, true≢false}
+use Rattle.std.proofs.Common.{◌≡◌, ◌≢◌, ℕ, zero, suc, ◌+◌, ◌<◌, ◌≤◌, length, get_or, drop, arith, List, [], ◌∷◌, Bool, true, false, not, ◌&&◌, take, refl, sym, ap, ◌∙◌, subst, true≢false}
+use Rattle.std.proofs.lemmas.List.{drop_more, drop_all}
 use Rattle.std.specs.Ordering.{is_lt, ordering_then}
+use Rattle.vtl_cell.specs.declared.cell.Cell.{Cell}
 use Rattle.std.specs.declared.cmp.Ordering.{Ordering}
 use Rattle.std.specs.declared.cmp.Ordering.TheVariants.{Less, Equal, Greater}
 use Rattle.std.specs.Cmp.{IsTotalOrder}
@@ -84,3 +86,24 @@ key_between n x y z e h s =
 
 pub same_key-sym : (n : ℕ) (x y : Row) → same_key n x y ≡ same_key n y x
 same_key-sym n x y = same_row-sym (take n x) (take n y)
+
+-- rows of different lengths
+pub same_row_lengths : (xs ys : Row) → length xs ≢ length ys → same_row xs ys ≡ false
+same_row_lengths [] [] h = absurd (h refl)
+same_row_lengths [] (y ∷ ys) h = refl
+same_row_lengths (x ∷ xs) [] h = refl
+same_row_lengths (x ∷ xs) (y ∷ ys) h = go (same_cell x y) (same_row_lengths xs ys (λ e. h (omega (arith, e))))
+  where
+    go : (b : Bool) → same_row xs ys ≡ false → (b && same_row xs ys) ≡ false
+    go true e = e
+    go false e = refl
+
+-- one place of two rows of one length
+pub same_row-drop : (xs ys : Row) (i : ℕ) (x y : Cell) → i < length xs → i < length ys → x ≡ get_or xs i x → y ≡ get_or ys i y → same_row (drop i xs) (drop i ys) ≡ (same_cell x y && same_row (drop (i + 1) xs) (drop (i + 1) ys))
+same_row-drop xs ys i x y h k at_x at_y =
+    ap (λ l. same_row l (drop i ys)) (drop_more xs i x h) ∙ ap (λ l. same_row (get_or xs i x ∷ drop (i + 1) xs) l) (drop_more ys i y k)
+    ∙ ap (λ a. same_cell a (get_or ys i y) && same_row (drop (i + 1) xs) (drop (i + 1) ys)) (sym at_x)
+    ∙ ap (λ b. same_cell x b && same_row (drop (i + 1) xs) (drop (i + 1) ys)) (sym at_y)
+
+pub same_row-ended : (xs ys : Row) (i : ℕ) → length xs ≤ i → length ys ≤ i → same_row (drop i xs) (drop i ys) ≡ true
+same_row-ended xs ys i h k = ap (λ l. same_row l (drop i ys)) (drop_all i xs h) ∙ ap (same_row []) (drop_all i ys k)

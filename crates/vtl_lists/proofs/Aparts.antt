@@ -1,6 +1,7 @@
 -- That no two items are the same does not depend on their order, and a rising list shows it at neighbours.
-use Rattle.std.proofs.Common.{◌≡◌, List, [], ◌∷◌, Bool, true, false, not, ◌&&◌, ◌||◌, refl, sym, ap, ◌∙◌, subst, true≢false}
+use Rattle.std.proofs.Common.{◌≡◌, ℕ, ◌+◌, ◌<◌, ◌≤◌, length, length-drop, get_or, drop, arith, List, [], ◌∷◌, Bool, true, false, not, ◌&&◌, ◌||◌, refl, sym, ap, ◌∙◌, subst, true≢false}
 use Rattle.std.specs.List.{list_any, AllByRecursion}
+use Rattle.std.proofs.lemmas.List.{drop_more}
 use Rattle.vtl_lists.specs.Apart.{all_apart}
 use Rattle.vtl_lists.specs.Perm.{Perm, empty, keep, cross, chain}
 use Rattle.vtl_lists.specs.Sorting.{Rises}
@@ -57,3 +58,20 @@ module _ {X : Type 0} (same le : X → X → Bool) (between : (x y z : X) → le
       go : (b : Bool) → same x y ≡ b → (not b && all_apart same (y ∷ zs)) ≡ (not (b || list_any (same x) zs) && all_apart same (y ∷ zs))
       go true e = refl
       go false e = ap (λ c. not c && all_apart same (y ∷ zs)) (sym (none_later x y zs r.0.0 e r.1.0))
+
+-- one place of a walk over neighbours
+pub two_neighbours : {X : Type 0} (same : X → X → Bool) (xs : List X) (i : ℕ) (x y : X) → i + 1 < length xs → x ≡ get_or xs i x → y ≡ get_or xs (i + 1) y
+    → neighbours_apart same (drop i xs) ≡ (not (same x y) && neighbours_apart same (drop (i + 1) xs))
+two_neighbours same xs i x y h at_x at_y =
+    let k : i < length xs = omega arith in
+    let second = drop_more xs (i + 1) y h ∙ ap (λ z. z ∷ drop (i + 1 + 1) xs) (sym at_y) in
+    ap (neighbours_apart same) (drop_more xs i x k ∙ ap (λ z. z ∷ drop (i + 1) xs) (sym at_x) ∙ ap (λ l. x ∷ l) second)
+    ∙ ap (λ l. not (same x y) && neighbours_apart same l) (sym second)
+
+at_most_one : {X : Type 0} (same : X → X → Bool) (xs : List X) → length xs ≤ 1 → neighbours_apart same xs ≡ true
+at_most_one same [] h = refl
+at_most_one same (x ∷ []) h = refl
+at_most_one same (x ∷ y ∷ xs) h = absurd (omega arith)
+
+pub no_neighbours : {X : Type 0} (same : X → X → Bool) (xs : List X) (i : ℕ) → length xs ≤ i + 1 → neighbours_apart same (drop i xs) ≡ true
+no_neighbours same xs i h = let few : length (drop i xs) ≤ 1 = simp length-drop (omega arith) in at_most_one same (drop i xs) few

@@ -1,4 +1,6 @@
 pub mod FieldLemmas
 pub mod PlainTextLemmas
+pub mod PointLemmas
 pub mod RecordsLeftLemmas
+pub mod RowLemmas
 pub mod RowTextLemmas

@@ -1,0 +1,12 @@
+use Rattle.std.proofs.Common.{◌≡◌, Some, get_or, sym, ap, ◌∙◌}
+use Rattle.std.proofs.lemmas.List.{get_or_read}
+use Rattle.csv.specs.Records.{field_at, fields_of}
+use Rattle.csv.proofs.RecordFacts.{field-get, field-there}
+use Rattle.vtl_top.proofs.PointLemmas.{read_there}
+use Rattle.vtl_top.proofs.points.field.Goals as goal
+
+pub unreachable-requires : goal.unreachable-requires
+unreachable-requires c = field-there (fields_of c.args.fields.now) c.args.i c.requires (sym c.in-None.ensures.value)
+
+pub returns : goal.returns
+returns c = read_there (fields_of c.args.fields.now) c.args.i c.in-Some.field.now c.requires (field-get (fields_of c.args.fields.now) c.args.i c.in-Some.field.now (sym c.in-Some.ensures.value))
