@@ -1,3 +1,4 @@
 pub mod PlainTextLemmas
 pub mod RecordsLeftLemmas
 pub mod RowTextLemmas
+pub mod StatementLemmas

@@ -1,3 +1,5 @@
 pub mod PlainText
 pub mod RecordsLeft
 pub mod RowsWritten
+pub mod Statement
+pub mod StatementParts

@@ -4,3 +4,4 @@
 pub mod plain;
 pub mod records;
 pub mod row_text;
+pub mod statement;
