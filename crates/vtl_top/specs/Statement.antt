@@ -59,7 +59,7 @@ behind None next = None
 behind (Some (said, rest)) next = next said rest
 
 -- the statement that a text spells
-abbrev pub statement_of : List ℕ → Option Statement
+unfoldable pub statement_of : List ℕ → Option Statement
 statement_of text =
     behind (name_at text) (λ result text.
     behind (sign_at (codes "<-") text) (λ arrow text.

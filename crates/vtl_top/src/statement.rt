@@ -162,6 +162,7 @@ fn integer(text: &[u8]) -> Option<(i64, &[u8])>
 }
 
 // The parts of the statement that the text spells.
+#[tactic(auto, unfolding(crate::specs::Statement::statement_of))]
 fn read_parts(text: &[u8]) -> Option<Parts<'_>>
     ensures { option_map statement_of_parts result ≡ statement_of text.now }
 {
