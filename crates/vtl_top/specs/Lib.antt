@@ -3,3 +3,4 @@ pub mod RecordsLeft
 pub mod RowsWritten
 pub mod Statement
 pub mod StatementParts
+pub mod StatementSpelling

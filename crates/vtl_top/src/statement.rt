@@ -1,11 +1,13 @@
 // The one statement that is built so far.
-ghost use Rattle.std.specs.Prelude.{◌≡◌, ◌<◌, ◌≤◌, All, length, IsTrue, IfOk, chars, nat_eq, option_map, take_while, true};
+ghost use Rattle.std.specs.Prelude.{◌≡◌, ◌↔◌, ◌<◌, ◌≤◌, ℕ, List, Some, All, length, IsTrue, IfOk, chars, nat_eq, option_map, take_while, true};
 ghost use Rattle.std.specs.Char.{is_ascii_digit};
 ghost use Rattle.std.specs.Cmp.Lexicographic.{pointwise};
 ghost use Rattle.std.specs.List.{list_all, prefix_len};
 ghost use Rattle.std.specs.Str.{all_ascii_digits};
 ghost use Rattle.vtl_text.specs.Words.{is_word_character};
 ghost use Rattle.vtl_top.specs.Statement.{drop_while, integer_at, is_white_space, name_at, number_of, sign_at, statement_of, token_on, word_at};
+ghost use Rattle.vtl_top.specs.declared.statement.Statement.{Statement};
+ghost use Rattle.vtl_top.specs.StatementSpelling.{IsSpelled};
 ghost use Rattle.vtl_top.specs.StatementParts.{statement_of_parts};
 
 use std::alloc::{AllocError, Global};
@@ -25,13 +27,13 @@ pub struct Statement {
     pub bound: i64,
 }
 
-/// The parts of a statement, as they stand in its text.
+// The parts of a statement, as they stand in its text.
 #[derive(Clone, Copy)]
-pub struct Parts<'a> {
-    pub result: &'a str,
-    pub operand: &'a str,
-    pub component: &'a str,
-    pub bound: i64,
+struct Parts<'a> {
+    result: &'a str,
+    operand: &'a str,
+    component: &'a str,
+    bound: i64,
 }
 
 // An integer literal is below this.
@@ -203,6 +205,13 @@ pub fn read_statement(alloc: Global, text: &[u8]) -> Result<Option<Statement>, A
         component: Txt::new(alloc, parts.component)?,
         bound: parts.bound,
     }))
+}
+
+/// What `read_statement` gives is what the text spells, token by token, and each text that spells a
+/// statement gives it.
+pub fn statements_are_spelled()
+    ensures { (text : List ℕ) (s : Statement) → (statement_of text ≡ Some s) ↔ IsSpelled text s }
+{
 }
 
 #[cfg(test)]
