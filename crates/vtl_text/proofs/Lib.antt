@@ -3,3 +3,4 @@ pub mod Parts
 pub mod Places
 pub mod SameCharacters
 pub mod Spaces
+pub mod WordTests

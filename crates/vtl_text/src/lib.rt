@@ -1,12 +1,17 @@
-//! Texts: a shared text that contracts see as its characters, a list that they see as its items, and the operators on texts.
+//! Texts: a shared text that contracts see as its characters, a list that they see as its items, the operators on texts, and words and names.
 #![tactic(auto)]
 
 mod item_list;
 mod operators;
 mod searches;
 mod shared_text;
+mod words;
 
 pub use item_list::List;
 pub use operators::{concat, length, ltrim, rtrim, substr, trim};
 pub use searches::{instr, replace};
 pub use shared_text::Txt;
+pub use words::{is_component_name, is_name, is_reserved, is_word};
+
+#[cfg(test)]
+mod tests;

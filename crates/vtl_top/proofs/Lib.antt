@@ -1,6 +1,9 @@
 pub mod FieldLemmas
+pub mod FrontLemmas
 pub mod PlainTextLemmas
 pub mod PointLemmas
 pub mod RecordsLeftLemmas
 pub mod RowLemmas
 pub mod RowTextLemmas
+pub mod SpellingLemmas
+pub mod StatementLemmas

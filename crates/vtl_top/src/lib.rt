@@ -6,3 +6,4 @@ pub mod plain;
 pub mod points;
 pub mod records;
 pub mod row_text;
+pub mod statement;
