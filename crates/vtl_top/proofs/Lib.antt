@@ -1,5 +1,7 @@
 pub mod FieldLemmas
+pub mod FilterLemmas
 pub mod FrontLemmas
+pub mod PlaceLemmas
 pub mod PlainTextLemmas
 pub mod PointLemmas
 pub mod RecordsLeftLemmas

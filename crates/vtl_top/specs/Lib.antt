@@ -1,3 +1,5 @@
+pub mod Condition
+pub mod CsvText
 pub mod Fields
 pub mod PlainText
 pub mod Points

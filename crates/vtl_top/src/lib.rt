@@ -1,7 +1,10 @@
 //! The top of the program: the script, the structures and the CSV files that are read, and the CSV text that is written.
 #![tactic(auto)]
 
+pub mod condition;
+pub mod csv_text;
 pub mod fields;
+pub mod filtering;
 pub mod plain;
 pub mod points;
 pub mod records;

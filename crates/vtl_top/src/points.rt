@@ -22,7 +22,8 @@ use vtl_tree::Component;
 /// The most points that a file may hold.
 const MAX_POINTS: usize = 1_000_000;
 
-fn column<'a>(columns: &[&'a Component], i: usize) -> &'a Component
+/// The column at a place.
+pub fn column<'a>(columns: &[&'a Component], i: usize) -> &'a Component
     requires { i < length columns.now }
     ensures { result.now ≡ slice_index_or (shown columns.now) i result.now }
 {

@@ -1,0 +1,53 @@
+// The condition of the statement, over the columns of its operand.
+ghost use Rattle.std.specs.Prelude.{◌≡◌, IfOk};
+ghost use Rattle.vtl_tree.specs.Shown.{shown};
+ghost use Rattle.vtl_tree.specs.Structure.{same_name};
+ghost use Rattle.vtl_tree.specs.View.{exp_of};
+ghost use Rattle.vtl_top.specs.Condition.{condition_in, place_of};
+
+use crate::points::column;
+use crate::statement::Statement;
+use std::alloc::{AllocError, Global};
+use vtl_cell::{Cell, Kind, ScalarOp};
+use vtl_text::Txt;
+use vtl_tree::{CompExpr, Component};
+
+/// The condition of the statement over these columns.
+pub fn condition(
+    alloc: Global,
+    columns: &[&Component],
+    statement: &Statement,
+) -> Result<CompExpr, AllocError>
+    ensures { IfOk result (λ e. exp_of e ≡ condition_in (shown columns.now) statement.now) }
+{
+    let mut args = Vec::new(alloc);
+    args.push(CompExpr::Column {
+        place: place(columns, &statement.component),
+        name: statement.component.share()?,
+        kind: Kind::Int,
+    })?;
+    args.push(CompExpr::Const(Cell::Int(statement.bound)))?;
+    Ok(CompExpr::Apply {
+        op: ScalarOp::Greater,
+        kind: Kind::Bool,
+        args,
+    })
+}
+
+// The place of the component of this name, or the number of columns where there is none.
+fn place(columns: &[&Component], name: &Txt) -> usize
+    ensures { result ≡ place_of name.now (shown columns.now) }
+{
+    for i in 0..columns.len() {
+        if is_named(column(columns, i), name) {
+            return i;
+        }
+    }
+    columns.len()
+}
+
+fn is_named(component: &Component, name: &Txt) -> bool
+    ensures { result ≡ same_name component.now.name name.now }
+{
+    component.name == *name
+}
