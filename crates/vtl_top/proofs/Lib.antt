@@ -7,5 +7,6 @@ pub mod PointLemmas
 pub mod RecordsLeftLemmas
 pub mod RowLemmas
 pub mod RowTextLemmas
+pub mod SinkLemmas
 pub mod SpellingLemmas
 pub mod StatementLemmas

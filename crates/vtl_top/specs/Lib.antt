@@ -1,10 +1,15 @@
+pub mod Answered
 pub mod Condition
 pub mod CsvText
+pub mod Expected
 pub mod Fields
 pub mod PlainText
 pub mod Points
 pub mod RecordsLeft
 pub mod RowsWritten
+pub mod RunView
 pub mod Statement
 pub mod StatementParts
 pub mod StatementSpelling
+pub mod StatusLine
+pub mod StructuresFile

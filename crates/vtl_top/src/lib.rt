@@ -10,3 +10,6 @@ pub mod points;
 pub mod records;
 pub mod row_text;
 pub mod statement;
+pub mod status;
+pub mod structures;
+pub mod words;

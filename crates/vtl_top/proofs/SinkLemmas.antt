@@ -1,0 +1,49 @@
+-- Bytes that a sink takes in several pieces.
+use Rattle.std.proofs.Common.{◌≡◌, ℕ, List, [], ◌∷◌, ◌++◌, Option, Some, None, Result, Ok, Err, refl, sym, ap, ◌∙◌, append_assoc}
+use Rattle.std.specs.Result.{OnOk, OnErr}
+use Rattle.std.specs.Option.{option_map}
+use Rattle.std.proofs.lemmas.List.{append-nil}
+use Rattle.vtl_files.specs.Outside.{TakesAll}
+use Rattle.vtl_files.specs.Whole.{TakesFront}
+
+taken_twice : (t : Option (List ℕ)) (a b : List ℕ) → option_map (λ x. x ++ b) (option_map (λ x. x ++ a) t) ≡ option_map (λ x. x ++ (a ++ b)) t
+taken_twice None a b = refl
+taken_twice (Some t) a b = ap Some (append_assoc t a b)
+
+-- a piece, and then a front of the next one
+pub front_after : (t u v : Option (List ℕ)) (a b : List ℕ) → TakesAll t u a → TakesFront u v b → TakesFront t v (a ++ b)
+front_after t u v a b all f = (
+  f.0,
+  record {
+    front = a ++ f.1.front;
+    whole = ap (λ x. a ++ x) f.1.whole ∙ sym (append_assoc a f.1.front f.0);
+    told = f.1.told ∙ ap (option_map (λ x. x ++ f.1.front)) all ∙ taken_twice t a f.1.front;
+  },
+)
+
+-- a front of a piece is a front of what it begins
+pub front_before : (t u : Option (List ℕ)) (a b : List ℕ) → TakesFront t u a → TakesFront t u (a ++ b)
+front_before t u a b f = (
+  f.0 ++ b,
+  record {
+    front = f.1.front;
+    whole = ap (λ x. x ++ b) f.1.whole ∙ append_assoc f.1.front f.0 b;
+    told = f.1.told;
+  },
+)
+
+pub front_of_all : (t u : Option (List ℕ)) (a : List ℕ) → TakesAll t u a → TakesFront t u a
+front_of_all t u a all = ([], record { front = a; whole = sym (append-nil a); told = all; })
+
+pub err_always : {T E P : Type 0} (r : Result T E) → P → OnErr r P
+err_always (Ok x) p = tt
+err_always (Err e) p = p
+
+pub err_leads : {T E P Q : Type 0} (r : Result T E) → (P → Q) → OnErr r P → OnErr r Q
+err_leads (Ok x) f p = tt
+err_leads (Err e) f p = f p
+
+-- the whole or a front of it
+pub front_anyway : {T E : Type 0} (r : Result T E) (t u : Option (List ℕ)) (a : List ℕ) → OnOk r (TakesAll t u a) → OnErr r (TakesFront t u a) → TakesFront t u a
+front_anyway (Ok x) t u a all front = front_of_all t u a all
+front_anyway (Err e) t u a all front = front
