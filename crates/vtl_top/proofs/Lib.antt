@@ -2,8 +2,10 @@ pub mod FieldLemmas
 pub mod FrontLemmas
 pub mod PlainTextLemmas
 pub mod PointLemmas
+pub mod ReadStructures
 pub mod RecordsLeftLemmas
 pub mod RowLemmas
 pub mod RowTextLemmas
 pub mod SpellingLemmas
 pub mod StatementLemmas
+pub mod StructureLemmas

@@ -1,3 +1,4 @@
+pub mod DeclarationFields
 pub mod Fields
 pub mod PlainText
 pub mod Points
@@ -6,3 +7,4 @@ pub mod RowsWritten
 pub mod Statement
 pub mod StatementParts
 pub mod StatementSpelling
+pub mod StructuresFile

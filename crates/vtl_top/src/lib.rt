@@ -7,3 +7,4 @@ pub mod points;
 pub mod records;
 pub mod row_text;
 pub mod statement;
+pub mod structures;
