@@ -4,9 +4,11 @@ pub mod FrontLemmas
 pub mod PlaceLemmas
 pub mod PlainTextLemmas
 pub mod PointLemmas
+pub mod ReadStructures
 pub mod RecordsLeftLemmas
 pub mod RowLemmas
 pub mod RowTextLemmas
 pub mod SinkLemmas
 pub mod SpellingLemmas
 pub mod StatementLemmas
+pub mod StructureLemmas

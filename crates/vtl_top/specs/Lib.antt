@@ -1,6 +1,7 @@
 pub mod Answered
 pub mod Condition
 pub mod CsvText
+pub mod DeclarationFields
 pub mod Expected
 pub mod Fields
 pub mod PlainText
