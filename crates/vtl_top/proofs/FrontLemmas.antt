@@ -1,5 +1,5 @@
 -- The front of a text that passes a test, and the text behind it.
-use Rattle.std.proofs.Common.{◌≡◌, ◌+◌, ◌∷◌, ◌++◌, ◌∙◌, ◌&&◌, [], ℕ, zero, suc, List, Bool, true, false, drop, take, take_while, sym, ap, refl, inl, inr, arith, cond}
+use Rattle.std.proofs.Common.{◌≡◌, ◌+◌, ◌∷◌, ◌++◌, ◌∙◌, [], ℕ, suc, List, Bool, true, false, take_while, sym, ap, refl, inl, inr, arith, cond}
 use Rattle.std.specs.List.{list_all, prefix_len}
 use Rattle.std.proofs.lemmas.Bool.{and_from, and_parts, cases_Bool}
 use Rattle.std.proofs.lemmas.List.{take-append-drop}

@@ -1,5 +1,5 @@
 -- A read takes the first of the records that a text has left.
-use Rattle.std.proofs.Common.{Bor, Bool, true, false, ℕ, zero, suc, List, [], ◌∷◌, ◌++◌, Option, Some, None, IsSome, ◌≡◌, ◌≤◌, ◌<◌, ◌+◌, ◌⊎◌, inl, inr, ◌∙◌, sym, ap, refl, length, cond, add-one, arith}
+use Rattle.std.proofs.Common.{Bor, Bool, true, false, ℕ, zero, suc, List, [], ◌∷◌, ◌++◌, Option, Some, None, IsSome, ◌≡◌, ◌<◌, ◌+◌, ◌⊎◌, inl, inr, ◌∙◌, sym, ap, refl, length, cond, add-one, arith}
 use Rattle.csv.specs.Machine.{Read, ends_at_end, field_after, fields_after, is_end, next_record, step}
 use Rattle.csv.specs.Reading.{NextIs, ReadRecord, ReadsNext, Ready, default_config, pending_of, records_from, records_next, source_of}
 use Rattle.csv.specs.declared.parser.Config.{Config}

@@ -5,7 +5,7 @@ use Rattle.std.specs.Io.KnownBytes.{Appends}
 use Rattle.csv.specs.declared.writer.QuoteStyle.TheVariants as style
 use Rattle.csv.specs.declared.writer.Writer.{Writer}
 use Rattle.vtl_top.specs.RowsWritten.{WritesRecords, bytes_held, rows_written}
-use Rattle.csv.specs.Writing.{default_writer, escaped, field_text, fields_text, is_blank, row_text, text_written, with_flexible, writer_setup}
+use Rattle.csv.specs.Writing.{default_writer, escaped, fields_text, is_blank, row_text, text_written, with_flexible, writer_setup}
 
 escaped-any_length : (field : List ℕ) → escaped (with_flexible default_writer true) field ≡ escaped default_writer field
 unfolding escaped

@@ -1,5 +1,5 @@
 -- What is read is spelled so, and what is spelled so is read.
-use Rattle.std.proofs.Common.{◌≡◌, ◌≢◌, ◌<◌, ◌↔◌, ◌∷◌, ◌++◌, ◌∙◌, ◌&&◌, ◌==◌, [], ℕ, ℤ, pos, List, Bool, Option, Some, None, option_map, IsTrue, true, false, not, length, drop, take, take_while, nat_lt, nat_eq, codes, cond, sym, ap, subst, refl, arith, inl, inr, append_assoc}
+use Rattle.std.proofs.Common.{◌≡◌, ◌≢◌, ◌<◌, ◌↔◌, ◌∷◌, ◌++◌, ◌∙◌, ◌&&◌, ◌==◌, [], ℕ, ℤ, pos, List, Bool, Option, Some, None, option_map, IsTrue, true, false, not, length, drop, take, take_while, nat_lt, nat_eq, codes, cond, sym, ap, subst, refl, arith, inl, inr}
 use Rattle.std.specs.Char.{is_ascii_alphabetic, is_ascii_digit}
 use Rattle.std.specs.Cmp.Lexicographic.{pointwise}
 use Rattle.std.specs.List.{list_all, starts_with}
@@ -12,7 +12,7 @@ use Rattle.std.proofs.lemmas.List.{take-append-drop}
 use Rattle.std.proofs.lemmas.Slice.Eq.{bytes_eq-Decides}
 use Rattle.vtl_text.specs.Words.{is_name, is_word, is_word_character, starts_with_letter}
 use Rattle.vtl_top.specs.Statement.{Token, behind, drop_while, integer_at, integer_limit, is_white_space, name_at, number_of, sign_at, statement_of, token_on, word_at}
-use Rattle.vtl_top.specs.StatementSpelling.{HasTokens, IsSpelled, IsWhiteSpace, IsWhole, begins_with}
+use Rattle.vtl_top.specs.StatementSpelling.{IsSpelled, IsWhiteSpace, IsWhole, begins_with}
 use Rattle.vtl_top.specs.declared.statement.Statement.{Statement}
 use Rattle.vtl_top.proofs.FrontLemmas.{begins_with-behind, behind-stops, drop_while-front, front-behind, front-passes, take_while-front}
 
@@ -184,8 +184,10 @@ name_at-read text name rest e = by (is_name word) refl e
   where
     word : List ℕ
     word = take_while is_word_character (token_on text)
+
     left : List ℕ
     left = drop_while is_word_character (token_on text)
+
     by : (b : Bool) → is_name word ≡ b → cond {A = Option (List ℕ × List ℕ)} b (Some (word, left)) None ≡ Some (name, rest)
         → TokenRead text (name, rest) × IsWhole name rest × (is_name name ≡ true)
     by true is e =
@@ -199,8 +201,10 @@ word_at-read wanted text said rest e = by (pointwise nat_eq word wanted) refl e
   where
     word : List ℕ
     word = take_while is_word_character (token_on text)
+
     left : List ℕ
     left = drop_while is_word_character (token_on text)
+
     by : (b : Bool) → pointwise nat_eq word wanted ≡ b → cond {A = Option (List ℕ × List ℕ)} b (Some (word, left)) None ≡ Some (said, rest)
         → TokenRead text (wanted, rest) × IsWhole wanted rest
     by true is e =
@@ -217,6 +221,7 @@ sign_at-read sign text said rest e = by (starts_with nat_eq (token_on text) sign
   where
     left : List ℕ
     left = drop (length sign) (token_on text)
+
     by : (b : Bool) → starts_with nat_eq (token_on text) sign ≡ b → cond {A = Option (List ℕ × List ℕ)} b (Some (sign, left)) None ≡ Some (said, rest) → TokenRead text (sign, rest)
     by true is e =
         let same : ◌≡◌ {A = List ℕ × List ℕ} (sign, left) (said, rest) = cc e in
@@ -242,8 +247,10 @@ integer_at-read text value rest e =
   where
     digits : List ℕ
     digits = take_while is_ascii_digit (token_on text)
+
     left : List ℕ
     left = drop_while is_ascii_digit (token_on text)
+
     by : (none below : Bool) → (length digits == 0) ≡ none → nat_lt (digits_value 10 digits) integer_limit ≡ below
         → option_map {U = ℤ × List ℕ} (λ v. (v, left)) (cond (not none && below) (Some (pos (digits_value 10 digits))) None) ≡ Some (value, rest) → IntegerRead text value rest
     by true below n b e = cc e
@@ -277,6 +284,7 @@ spelled-from_tokens text s n0 t0 n1 t1 n2 t2 n3 t3 n4 t4 n5 t5 n6 t6 bound t7 n8
   where
     read : Statement
     read = record { result = n0; operand = n2; component = n5; bound = bound }
+
     by : (white same : Bool) → list_all is_white_space t9 ≡ white → pointwise nat_eq n0 n2 ≡ same
         → cond {A = Option Statement} (white && not same) (Some read) None ≡ Some s → IsSpelled text s
     by false same w p e = cc e
@@ -297,17 +305,70 @@ spelled-from_tokens text s n0 t0 n1 t1 n2 t2 n3 t3 n4 t4 n5 t5 n6 t6 bound t7 n8
         let l7 : IsWhole r7.digits t7 = λ all. sign-stops t7 r8.0 (codes "]") t8 r8.1 r8.2 refl in
         subst (λ (q : Statement). IsSpelled text q) is (record {
           digits = r7.digits;
-          tokens =
-            (r0.0, t0, r0.1, r0.2, l0,
-              (r1.0, t1, r1.1, r1.2, (λ all. absurd (false≢true all)),
-              (r2.0, t2, r2.1, r2.2, l2,
-              (r3.0, t3, r3.1, r3.2, (λ all. absurd (false≢true all)),
-              (r4.0, t4, r4.1, r4.2, l4,
-              (r5.0, t5, r5.1, r5.2, l5,
-              (r6.0, t6, r6.1, r6.2, (λ all. absurd (false≢true all)),
-              (r7.token.0, t7, r7.token.1, r7.token.2, l7,
-              (r8.0, t8, r8.1, r8.2, (λ all. absurd (false≢true all)),
-              (r9.0, t9, r9.1, r9.2, (λ all. absurd (false≢true all)), w))))))))));
+          tokens = (
+            r0.0,
+            t0,
+            r0.1,
+            r0.2,
+            l0,
+            (
+              r1.0,
+              t1,
+              r1.1,
+              r1.2,
+              (λ all. absurd (false≢true all)),
+              (
+                r2.0,
+                t2,
+                r2.1,
+                r2.2,
+                l2,
+                (
+                  r3.0,
+                  t3,
+                  r3.1,
+                  r3.2,
+                  (λ all. absurd (false≢true all)),
+                  (
+                    r4.0,
+                    t4,
+                    r4.1,
+                    r4.2,
+                    l4,
+                    (
+                      r5.0,
+                      t5,
+                      r5.1,
+                      r5.2,
+                      l5,
+                      (
+                        r6.0,
+                        t6,
+                        r6.1,
+                        r6.2,
+                        (λ all. absurd (false≢true all)),
+                        (
+                          r7.token.0,
+                          t7,
+                          r7.token.1,
+                          r7.token.2,
+                          l7,
+                          (
+                            r8.0,
+                            t8,
+                            r8.1,
+                            r8.2,
+                            (λ all. absurd (false≢true all)),
+                            (r9.0, t9, r9.1, r9.2, (λ all. absurd (false≢true all)), w),
+                          ),
+                        ),
+                      ),
+                    ),
+                  ),
+                ),
+              ),
+            ),
+          );
           result = name0;
           operand = name2;
           component = name5;

@@ -1,7 +1,6 @@
 -- What stands at the front of a text.
-use Rattle.std.proofs.Common.{◌≡◌, ◌<◌, ◌≤◌, ◌+◌, ◌^◌, ◌∷◌, ◌++◌, ◌∙◌, ◌&&◌, ◌==◌, [], ℕ, ℤ, pos, List, Bool, Option, Some, None, true, false, not, length, nat_lt, take, take_while, cond, sym, ap, refl, arith, inl, inr, All, IsTrue}
+use Rattle.std.proofs.Common.{◌≡◌, ◌<◌, ◌^◌, ◌∷◌, ◌&&◌, ◌==◌, [], ℕ, pos, List, Bool, Some, None, true, false, not, length, nat_lt, take_while, cond, refl, arith, inl, inr, All, IsTrue}
 use Rattle.std.specs.Char.{is_ascii_digit}
-use Rattle.std.specs.List.{prefix_len}
 use Rattle.std.specs.Str.{all_ascii_digits}
 use Rattle.std.specs.Str.Parse.{digits_value}
 use Rattle.std.proofs.lemmas.Bool.{and_from, and_parts, cases_Bool}

@@ -1,5 +1,5 @@
 -- The text that a writer of CSV has written into memory.
-use Rattle.std.specs.Prelude.{◌≡◌, Bool, true, false, ℕ, List, [], Option, Some, None, IsSome, unwrap_or}
+use Rattle.std.specs.Prelude.{◌≡◌, Bool, true, false, ℕ, List, [], Option, Some, IsSome, unwrap_or}
 use Rattle.std.specs.Global.{Vec}
 use Rattle.csv.specs.Writing.{default_writer, fields_written, has_written, text_written, with_flexible, writer_setup}
 use Rattle.csv.specs.declared.writer.Writer.{Writer}

@@ -1,5 +1,5 @@
 -- The statement `R <- D [filter C > L];`, as a text spells it.
-use Rattle.std.specs.Prelude.{◌==◌, ◌||◌, ◌&&◌, ◌^◌, not, nat_lt, Bool, ℕ, ℤ, pos, List, length, drop, take_while, codes, Option, Some, None, option_map, if◌then◌else◌, nat_eq}
+use Rattle.std.specs.Prelude.{◌==◌, ◌||◌, ◌&&◌, not, nat_lt, Bool, ℕ, ℤ, pos, List, length, drop, take_while, codes, Option, Some, None, option_map, if◌then◌else◌, nat_eq}
 use Rattle.std.specs.Char.{is_ascii_digit}
 use Rattle.std.specs.Cmp.Lexicographic.{pointwise}
 use Rattle.std.specs.List.{list_all, prefix_len, starts_with}

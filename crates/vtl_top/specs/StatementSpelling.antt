@@ -1,5 +1,5 @@
 -- How a text spells the statement `R <- D [filter C > L];`.
-use Rattle.std.specs.Prelude.{◌≡◌, ◌≢◌, ◌<◌, ◌∷◌, ◌++◌, ◌&&◌, Bool, true, false, ℕ, pos, List, [], IsTrue, codes, length}
+use Rattle.std.specs.Prelude.{◌≡◌, ◌≢◌, ◌<◌, ◌∷◌, ◌++◌, Bool, true, false, ℕ, pos, List, [], IsTrue, codes, length}
 use Rattle.std.specs.List.{list_all}
 use Rattle.std.specs.Str.{all_ascii_digits}
 use Rattle.std.specs.Str.Parse.{digits_value}

@@ -1,4 +1,4 @@
-use Rattle.std.proofs.Common.{◌≡◌, ◌∙◌, sym, refl}
+use Rattle.std.proofs.Common.{◌∙◌, sym, refl}
 use Rattle.vtl_top.proofs.PlainTextLemmas.{lines_follow-byte, lines_follow-end, lines_follow-feed}
 use Rattle.vtl_top.proofs.plain.has_plain_lines.Goals as goal
 use Rattle.vtl_top.proofs.plain.has_plain_lines.Goals.{then-byte-eq10+else-not-has_byte, else-byte-eq10+then-is_plain_byte}

@@ -1,5 +1,4 @@
 use Rattle.vtl_top.proofs.StatementLemmas.{digits-digits}
-use Rattle.vtl_top.specs.Statement.{token_on}
 use Rattle.vtl_top.proofs.statement.integer.Goals as goal
 
 pub digits_number-requires : goal.digits_number-requires

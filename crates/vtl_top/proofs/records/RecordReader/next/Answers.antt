@@ -1,4 +1,4 @@
-use Rattle.std.proofs.Common.{◌≡◌, ◌∙◌, sym, refl}
+use Rattle.std.proofs.Common.{refl}
 use Rattle.csv.specs.Records.{fields_of}
 use Rattle.vtl_top.proofs.RecordsLeftLemmas.{reader-ended, reader-found, reads-ready}
 use Rattle.vtl_top.proofs.records.RecordReader.next.Goals as goal

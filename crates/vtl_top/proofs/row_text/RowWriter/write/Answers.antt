@@ -1,4 +1,3 @@
-use Rattle.std.proofs.Common.{◌≡◌, refl}
 use Rattle.csv.specs.Records.{fields_of}
 use Rattle.vtl_top.proofs.RowTextLemmas.{not_numeric, row-written}
 use Rattle.vtl_top.proofs.row_text.RowWriter.write.Goals as goal
