@@ -4,12 +4,20 @@
 
 mod failed;
 mod files;
+mod mem;
+mod mem_files;
+mod mem_sink;
+mod plan;
 mod read_err;
 mod sink;
 mod whole;
 
 pub use failed::Failed;
 pub use files::Files;
+pub use mem::MemFile;
+pub use mem_files::MemFiles;
+pub use mem_sink::MemSink;
+pub use plan::{FailAt, Method};
 pub use read_err::ReadErr;
 pub use sink::Sink;
 pub use whole::{read_all, sink_all, write_all};
