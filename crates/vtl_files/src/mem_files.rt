@@ -1,5 +1,6 @@
 ghost use Rattle.std.specs.Prelude.{◌≡◌, ◌<◌, ◌≤◌, ◌+◌, ◌-◌, ◌^◌, ◌++◌, ◌∷◌, OnOk, OnErr, Some, false, min, length, is_some, [], string_bytes};
 
+use crate::count::Count;
 use crate::failed::Failed;
 use crate::files::Files;
 use crate::mem::{MemFile, append_to_last, place_of};
@@ -16,11 +17,11 @@ struct Opened {
 // How often each method was called.
 #[derive(Clone, Copy)]
 struct Calls {
-    open: u64,
-    read: u64,
-    create: u64,
-    write: u64,
-    finish: u64,
+    open: Count,
+    read: Count,
+    create: Count,
+    write: Count,
+    finish: Count,
 }
 
 impl Calls {
@@ -33,8 +34,8 @@ impl Calls {
             Method::Write => &mut self.write,
             Method::Finish => &mut self.finish,
         };
-        *calls = calls.saturating_add(1);
-        *calls
+        calls.rise();
+        calls.value()
     }
 }
 
@@ -48,12 +49,12 @@ pub struct MemFiles {
     chunk: usize,
     fail: Vec<FailAt>,
     calls: Calls,
-    faults: u64,
-    absences: u64,
-    misuses: u64,
+    faults: Count,
+    absences: Count,
+    misuses: Count,
     creating: bool,
     place: String,
-    mark: u64,
+    mark: Count,
     opened: Option<Opened>,
 
     ghost moves_some: { 0 < chunk },
@@ -83,18 +84,18 @@ impl MemFiles {
             chunk,
             fail,
             calls: Calls {
-                open: 0,
-                read: 0,
-                create: 0,
-                write: 0,
-                finish: 0,
+                open: Count::new(),
+                read: Count::new(),
+                create: Count::new(),
+                write: Count::new(),
+                finish: Count::new(),
             },
-            faults: 0,
-            absences: 0,
-            misuses: 0,
+            faults: Count::new(),
+            absences: Count::new(),
+            misuses: Count::new(),
             creating: false,
             place: String::new(alloc),
-            mark: 0,
+            mark: Count::new(),
             opened: None,
         }
     }
@@ -112,27 +113,6 @@ impl MemFiles {
     {
         let number = self.calls.count(method);
         self.fail.contains(&FailAt { method, number })
-    }
-
-    // Counts a failed call.
-    fn fault(&mut self) -> Failed
-        ensures counted { self.new ≡ record self.old { faults = min (self.old.faults + 1) (2 ^ 64 - 1) } }
-        ensures never_falls { self.old.faults ≤ self.new.faults }
-    {
-        self.faults = self.faults.saturating_add(1);
-        Failed
-    }
-
-    // Counts a call that came where `creating` was not what it needs.
-    fn misuse(&mut self) -> Failed
-        ensures counted { self.new ≡ record self.old {
-          faults = min (self.old.faults + 1) (2 ^ 64 - 1);
-          misuses = min (self.old.misuses + 1) (2 ^ 64 - 1);
-        } }
-        ensures never_falls { (self.old.faults ≤ self.new.faults) × (self.old.misuses ≤ self.new.misuses) }
-    {
-        self.misuses = self.misuses.saturating_add(1);
-        self.fault()
     }
 
     // Adds an empty file of the name that was handed in.
@@ -188,7 +168,8 @@ impl Files for MemFiles {
         self.mark = self.faults;
         self.opened = None;
         if self.is_to_fail(Method::Open) {
-            return Err(self.fault());
+            self.faults.rise();
+            return Err(Failed);
         }
         match place_of(&self.held, self.place.as_str()) {
             Some(place) => {
@@ -196,7 +177,7 @@ impl Files for MemFiles {
                 Ok(true)
             }
             None => {
-                self.absences = self.absences.saturating_add(1);
+                self.absences.rise();
                 Ok(false)
             }
         }
@@ -207,7 +188,8 @@ impl Files for MemFiles {
             return Ok(0);
         };
         if self.is_to_fail(Method::Read) {
-            return Err(self.fault());
+            self.faults.rise();
+            return Err(Failed);
         }
         let rest = self.rest_of(opened);
         let count = rest.len().min(buf.len()).min(self.chunk);
@@ -225,10 +207,13 @@ impl Files for MemFiles {
         self.opened = None;
         let fails = self.is_to_fail(Method::Create);
         if self.creating {
-            return Err(self.misuse());
+            self.misuses.rise();
+            self.faults.rise();
+            return Err(Failed);
         }
         if fails || self.add_file().is_err() {
-            return Err(self.fault());
+            self.faults.rise();
+            return Err(Failed);
         }
         self.creating = true;
         Ok(())
@@ -237,11 +222,14 @@ impl Files for MemFiles {
     fn write(&mut self, piece: &[u8]) -> Result<usize, Failed> {
         let fails = self.is_to_fail(Method::Write);
         if !self.creating {
-            return Err(self.misuse());
+            self.misuses.rise();
+            self.faults.rise();
+            return Err(Failed);
         }
         let count = piece.len().min(self.chunk);
         if fails || append_to_last(&mut self.written, &piece[..count]).is_err() {
-            return Err(self.fault());
+            self.faults.rise();
+            return Err(Failed);
         }
         Ok(count)
     }
@@ -249,10 +237,13 @@ impl Files for MemFiles {
     fn finish(&mut self) -> Result<(), Failed> {
         let fails = self.is_to_fail(Method::Finish);
         if !self.creating {
-            return Err(self.misuse());
+            self.misuses.rise();
+            self.faults.rise();
+            return Err(Failed);
         }
         if fails {
-            return Err(self.fault());
+            self.faults.rise();
+            return Err(Failed);
         }
         self.creating = false;
         Ok(())

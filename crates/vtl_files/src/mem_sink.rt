@@ -1,5 +1,6 @@
-ghost use Rattle.std.specs.Prelude.{◌≡◌, ◌<◌, ◌≤◌, ◌+◌, ◌-◌, ◌^◌, Some, min, length, []};
+ghost use Rattle.std.specs.Prelude.{◌≡◌, ◌<◌, ◌≤◌, Some, []};
 
+use crate::count::Count;
 use crate::failed::Failed;
 use crate::sink::Sink;
 use std::alloc::Global;
@@ -10,8 +11,8 @@ pub struct MemSink {
     taken: Vec<u8>,
     chunk: usize,
     fail: Vec<u64>,
-    calls: u64,
-    faults: u64,
+    calls: Count,
+    faults: Count,
 
     ghost takes_some: { 0 < chunk },
 }
@@ -28,8 +29,8 @@ impl MemSink {
             taken: Vec::new(alloc),
             chunk,
             fail,
-            calls: 0,
-            faults: 0,
+            calls: Count::new(),
+            faults: Count::new(),
         }
     }
 
@@ -39,15 +40,6 @@ impl MemSink {
     {
         &self.taken
     }
-
-    // Counts a failed call.
-    fn fault(&mut self) -> Failed
-        ensures counted { self.new ≡ record self.old { faults = min (self.old.faults + 1) (2 ^ 64 - 1) } }
-        ensures never_falls { self.old.faults ≤ self.new.faults }
-    {
-        self.faults = self.faults.saturating_add(1);
-        Failed
-    }
 }
 
 impl Sink for MemSink {
@@ -56,13 +48,13 @@ impl Sink for MemSink {
     ghost faults = { λ sink. sink.faults };
 
     fn write(&mut self, piece: &[u8]) -> Result<usize, Failed> {
-        self.calls = self.calls.saturating_add(1);
-        if self.fail.contains(&self.calls) {
-            return Err(self.fault());
-        }
+        self.calls.rise();
         let count = piece.len().min(self.chunk);
-        if self.taken.extend_from_slice(&piece[..count]).is_err() {
-            return Err(self.fault());
+        if self.fail.contains(&self.calls.value())
+            || self.taken.extend_from_slice(&piece[..count]).is_err()
+        {
+            self.faults.rise();
+            return Err(Failed);
         }
         Ok(count)
     }
