@@ -1,4 +1,4 @@
-use Rattle.std.proofs.Common.{◌≡◌, ◌∙◌, ap, sym}
+use Rattle.std.proofs.Common.{◌∙◌, ap}
 use Rattle.std.specs.Str.{bytes_eq}
 use Rattle.vtl_files.proofs.Memory.{found_at}
 use Rattle.vtl_files.proofs.mem.place_of.Goals as goal
