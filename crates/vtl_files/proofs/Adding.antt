@@ -25,6 +25,12 @@ append_last-append [] front rest = refl
 append_last-append (file ∷ []) front rest = ap (λ bytes. (file.0, bytes) ∷ []) (append_assoc file.1 front rest)
 append_last-append (file ∷ next ∷ files) front rest = past_first file next files front rest ∙ ap (λ more. file ∷ more) (append_last-append (next ∷ files) front rest)
 
+-- what is appended after a file was created is in that file
+pub append_last-created : (files : List (List ℕ × List ℕ)) (name bytes : List ℕ) → append_last bytes (files ++ (name, []) ∷ []) ≡ files ++ (name, bytes) ∷ []
+append_last-created [] name bytes = refl
+append_last-created (file ∷ []) name bytes = refl
+append_last-created (file ∷ next ∷ files) name bytes = ap (λ more. file ∷ more) (append_last-created (next ∷ files) name bytes)
+
 pub append_last_adds : IsAdding append_last
 append_last_adds = record { add-nil = append_last-nil; add-append = append_last-append }
 

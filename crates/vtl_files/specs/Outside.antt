@@ -1,8 +1,7 @@
 -- What a call on files, or on a sink, does.
 use Rattle.std.specs.Prelude.{◌≡◌, ℕ, ◌+◌, ◌-◌, ◌^◌, ◌≤◌, min, List, [], ◌∷◌, ◌++◌, Bool, true, false, cond, Option, Some, None, Result, Ok, Err, IsSome, take}
 use Rattle.std.specs.Option.{option_map}
-use lib.Pointwise.{pointwise}
-use Rattle.std.specs.Prelude.{nat_eq}
+use Rattle.std.specs.Str.{bytes_eq}
 use Rattle.vtl_files.specs.declared.failed.Failed.{Failed}
 
 -- A count rose, or stands at the last value of its type.
@@ -23,7 +22,7 @@ FileList = List (List ℕ × List ℕ)
 -- the bytes of the first file of this name
 abbrev pub bytes_at : List ℕ → List (List ℕ × List ℕ) → Option (List ℕ)
 bytes_at name [] = None
-bytes_at name (file ∷ files) = cond (pointwise nat_eq file.0 name) (Some file.1) (bytes_at name files)
+bytes_at name (file ∷ files) = cond (bytes_eq file.0 name) (Some file.1) (bytes_at name files)
 
 -- the last file has these bytes at its end too
 abbrev pub append_last : List ℕ → List (List ℕ × List ℕ) → List (List ℕ × List ℕ)

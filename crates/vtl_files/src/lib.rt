@@ -2,14 +2,30 @@
 //! contract names what they hold. Beside them stand the calls that read or hand over a whole text.
 #![tactic(auto)]
 
+mod count;
+mod disk_files;
 mod failed;
 mod files;
+mod mem;
+mod mem_files;
+mod mem_sink;
+mod plan;
 mod read_err;
 mod sink;
+mod std_sink;
 mod whole;
 
+pub use disk_files::DiskFiles;
 pub use failed::Failed;
 pub use files::Files;
+pub use mem::MemFile;
+pub use mem_files::MemFiles;
+pub use mem_sink::MemSink;
+pub use plan::{FailAt, Method};
 pub use read_err::ReadErr;
 pub use sink::Sink;
+pub use std_sink::StdSink;
 pub use whole::{read_all, sink_all, write_all};
+
+#[cfg(test)]
+mod tests;

@@ -1,0 +1,39 @@
+ghost use Rattle.std.specs.Prelude.{◌≡◌, ◌≤◌, ◌+◌, ◌-◌, ◌^◌, ℕ, min};
+
+use std::marker::Model;
+
+// A count of events. It stands still at its last value.
+#[derive(Clone, Copy)]
+pub(crate) struct Count {
+    value: u64,
+}
+
+impl Model for Count {
+    ghost Value = { ℕ };
+
+    ghost view = { λ count. count.value };
+
+    ghost inverse = { λ value. record { value = value } };
+}
+
+impl Count {
+    pub(crate) fn new() -> Count
+        ensures { result ≡ 0 }
+    {
+        Count { value: 0 }
+    }
+
+    pub(crate) fn value(self) -> u64
+        ensures { result ≡ self }
+    {
+        self.value
+    }
+
+    // Counts one more.
+    pub(crate) fn rise(&mut self)
+        ensures rose { self.new ≡ min (self.old + 1) (2 ^ 64 - 1) }
+        ensures never_falls { self.old ≤ self.new }
+    {
+        self.value = self.value.saturating_add(1);
+    }
+}
