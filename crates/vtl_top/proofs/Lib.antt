@@ -1,6 +1,7 @@
 pub mod FieldLemmas
 pub mod FilterLemmas
 pub mod FrontLemmas
+pub mod OutputLemmas
 pub mod PlaceLemmas
 pub mod PlainTextLemmas
 pub mod PointLemmas

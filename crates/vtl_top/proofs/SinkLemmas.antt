@@ -47,3 +47,7 @@ err_leads (Err e) f p = f p
 pub front_anyway : {T E : Type 0} (r : Result T E) (t u : Option (List ℕ)) (a : List ℕ) → OnOk r (TakesAll t u a) → OnErr r (TakesFront t u a) → TakesFront t u a
 front_anyway (Ok x) t u a all front = front_of_all t u a all
 front_anyway (Err e) t u a all front = front
+
+pub ok_always : {T E P : Type 0} (r : Result T E) → P → OnOk r P
+ok_always (Ok x) p = p
+ok_always (Err e) p = tt

@@ -31,6 +31,13 @@ pub record OnlyReads (before now : Outside) : Type 0 where
   pub faults : before.faults ≤ now.faults
   pub absences : before.absences ≤ now.absences
 
+-- Nothing but the written files, counts, place and mark has changed, and no misuse was counted.
+pub record OnlyWrites (before now : Outside) : Type 0 where
+  pub held : now.held ≡ before.held
+  pub misuses : now.misuses ≡ before.misuses
+  pub faults : before.faults ≤ now.faults
+  pub absences : now.absences ≡ before.absences
+
 -- There was a fault at this path, which is that of the last file.
 abbrev pub Faulted : Outside → Outside → List ℕ → Type 0
 Faulted before now path = (path ≡ chars now.place) × FaultAt before.faults now.faults now.mark now.place now.place

@@ -4,9 +4,11 @@ pub mod CsvText
 pub mod DeclarationFields
 pub mod Expected
 pub mod Fields
+pub mod OutputView
 pub mod PlainText
 pub mod Points
 pub mod RecordsLeft
+pub mod Refusal
 pub mod RowsWritten
 pub mod RunView
 pub mod Statement

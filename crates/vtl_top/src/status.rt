@@ -4,6 +4,7 @@ ghost use Rattle.vtl_files.specs.Outside.{Rose, TakesAll};
 ghost use Rattle.vtl_files.specs.Whole.{TakesFront};
 ghost use Rattle.vtl_top.specs.StatusLine.{code_of, lead_of, line_of, path_of};
 
+use std::alloc::AllocError;
 use vtl_files::{Failed, Sink, sink_all};
 use vtl_text::Txt;
 
@@ -69,6 +70,17 @@ impl Status {
             | Status::WriteFault(path)
             | Status::Unbuilt(path) => path.as_str(),
         }
+    }
+}
+
+impl From<AllocError> for Status {
+    ghost use Rattle.std.specs.Prelude.{◌≡◌};
+    ghost use Rattle.vtl_top.specs.declared.status.Status.TheVariants.{Memory};
+
+    ghost from_gives = { λ _ status. status ≡ Memory };
+
+    fn from(_: AllocError) -> Status {
+        Status::Memory
     }
 }
 

@@ -1,0 +1,53 @@
+-- The output is made of what the condition keeps, and a new file is made of its pieces.
+use Rattle.std.proofs.Common.{◌≡◌, ℕ, ◌+◌, ◌≤◌, min, ◌^◌, ◌-◌, List, [], ◌∷◌, ◌++◌, Option, Some, None, Result, Ok, Err, refl, sym, ap, ◌∙◌, inl, inr, arith}
+use Rattle.std.specs.Option.{option_map}
+use Rattle.std.proofs.lemmas.List.{append-nil}
+use Rattle.vtl_files.specs.Outside.{Rose, append_last, AppendsAll}
+use Rattle.vtl_files.specs.Whole.{AppendsFront}
+use Rattle.vtl_cell.specs.Outcome.{Outcome, fault_in, faults_by, unless}
+use Rattle.vtl_cell.specs.Row.{Row}
+use Rattle.vtl_tree.specs.Clauses.{filter_of, kept}
+use Rattle.vtl_tree.specs.Answers.{AnswersBy}
+use Rattle.vtl_tree.specs.Value.{value}
+use Rattle.vtl_tree.specs.declared.evaluation.ScalarErr.{ScalarErr}
+use Rattle.vtl_tree.specs.declared.evaluation.ScalarErr.TheVariants as err
+use Rattle.vtl_tree.specs.declared.structure.Component.{Component}
+use Rattle.vtl_top.specs.Answered.{Adds, AddsFront}
+use Rattle.vtl_top.specs.Condition.{condition_in}
+use Rattle.vtl_top.specs.declared.statement.Statement.{Statement}
+
+-- a comparison has no fault
+no_fault : (columns : List Component) (s : Statement) (rows : List Row) → faults_by (λ r. fault_in (value (condition_in columns s) r)) rows ≡ None
+no_fault columns s [] = refl
+no_fault columns s (r ∷ rows) = no_fault columns s rows
+
+pub filter_is_kept : (columns : List Component) (s : Statement) (rows : List Row) → filter_of (condition_in columns s) rows ≡ Ok (kept (condition_in columns s) rows)
+filter_is_kept columns s rows = ap (λ f. unless f (kept (condition_in columns s) rows)) (no_fault columns s rows)
+
+-- ---- a new file
+grown : (fs : List (List ℕ × List ℕ)) (name bytes more : List ℕ) → append_last more (fs ++ (name, bytes) ∷ []) ≡ fs ++ (name, bytes ++ more) ∷ []
+grown [] name bytes more = refl
+grown (f ∷ []) name bytes more = refl
+grown (f ∷ g ∷ fs) name bytes more = ap (λ l. f ∷ l) (grown (g ∷ fs) name bytes more)
+
+grown_told : (o : Option (List (List ℕ × List ℕ))) (name more : List ℕ) → option_map (append_last more) (option_map (λ fs. fs ++ (name, []) ∷ []) o) ≡ option_map (λ fs. fs ++ (name, more) ∷ []) o
+grown_told None name more = refl
+grown_told (Some fs) name more = ap Some (grown fs name [] more)
+
+pub whole_file : (w0 w1 w2 : Option (List (List ℕ × List ℕ))) (name bytes : List ℕ) → w1 ≡ option_map (λ fs. fs ++ (name, []) ∷ []) w0 → AppendsAll w1 w2 bytes → Adds w0 w2 (name, bytes)
+whole_file w0 w1 w2 name bytes e all = all ∙ ap (option_map (append_last bytes)) e ∙ grown_told w0 name bytes
+
+pub front_of_file : (w0 w1 w2 : Option (List (List ℕ × List ℕ))) (name bytes : List ℕ) → w1 ≡ option_map (λ fs. fs ++ (name, []) ∷ []) w0 → AppendsFront w1 w2 bytes → AddsFront w0 w2 (name, bytes)
+front_of_file w0 w1 w2 name bytes e f = inr (f.1.front, f.0, f.1.whole, f.1.told ∙ ap (option_map (append_last f.1.front)) e ∙ grown_told w0 name f.1.front)
+
+pub whole_as_front : (w0 w1 w2 : Option (List (List ℕ × List ℕ))) (name bytes : List ℕ) → Adds w0 w1 (name, bytes) → w2 ≡ w1 → AddsFront w0 w2 (name, bytes)
+whole_as_front w0 w1 w2 name bytes a e = inr (bytes, [], sym (append-nil bytes), e ∙ a)
+
+pub rose_earlier : (a b c : ℕ) → a ≤ b → Rose b c → Rose a c
+rose_earlier a b c h r = omega (arith, r)
+
+-- without a fault there is only want of memory
+pub only_memory : {A B : Type 0} (view : A → B) (e : ScalarErr) (m : Outcome B) (x : B) → m ≡ Ok x → AnswersBy view (Err e) m → e ≡ err.OutOfMemory
+only_memory view err.DivZero m x is a = cc
+only_memory view err.Range m x is a = cc
+only_memory view err.OutOfMemory m x is a = refl

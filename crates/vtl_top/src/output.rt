@@ -1,0 +1,68 @@
+// The output of a run, and how it is written.
+ghost use Rattle.std.specs.Prelude.{◌≡◌, ◌≤◌, false, IfOk, OnOk, OnErr, string_bytes};
+ghost use Rattle.vtl_files.specs.Outside.{FaultAt};
+ghost use Rattle.vtl_tree.specs.Clauses.{kept};
+ghost use Rattle.vtl_tree.specs.Rows.{rows_of};
+ghost use Rattle.vtl_tree.specs.Shown.{shown};
+ghost use Rattle.vtl_top.specs.Answered.{Adds, AddsFront, Faulted, OnlyWrites, told};
+ghost use Rattle.vtl_top.specs.Condition.{condition_in};
+ghost use Rattle.vtl_top.specs.CsvText.{csv_rows};
+
+use crate::condition::condition;
+use crate::csv_text::csv_text;
+use crate::filtering::filter;
+use crate::statement::Statement;
+use std::alloc::{AllocError, Global};
+use vtl_cell::Cell;
+use vtl_files::{Failed, Files, write_all};
+use vtl_text::Txt;
+use vtl_tree::{Component, ScalarErr};
+
+/// What a run writes. All of it is made before anything is created.
+#[derive(Drop)]
+pub struct Output {
+    /// The path of the file.
+    pub path: String,
+    /// The same path, as a status names it.
+    pub named: Txt,
+    /// The bytes of the file.
+    pub bytes: Vec<u8>,
+}
+
+/// The CSV text of the rows at which the condition of the statement is true.
+pub fn output_text(
+    alloc: Global,
+    columns: &[&Component],
+    statement: &Statement,
+    rows: Vec<Vec<Cell>>,
+) -> Result<Vec<u8>, AllocError>
+    ensures { IfOk result (λ text. text.items ≡ csv_rows (shown columns.now) (kept (condition_in (shown columns.now) statement.now) (rows_of rows.items))) }
+{
+    let condition = condition(alloc, columns, statement)?;
+    match filter(alloc, rows, &condition) {
+        Ok(kept) => csv_text(alloc, columns, &kept),
+        Err(error) => Err(want_of_memory(error)),
+    }
+}
+
+// A comparison has no fault, so there is no other error.
+fn want_of_memory(_error: ScalarErr) -> AllocError
+    requires { _error ≡ ScalarErr.OutOfMemory }
+{
+    AllocError
+}
+
+/// Creates the file at the path, writes the bytes and finishes it. It takes no memory.
+pub fn write_file<F: Files>(files: &mut F, path: String, bytes: &[u8]) -> Result<(), Failed>
+    requires { F.creating files.old ≡ false }
+    ensures writes { OnlyWrites (told F.held F.written F.faults F.absences F.misuses F.creating F.place F.mark files.old)
+        (told F.held F.written F.faults F.absences F.misuses F.creating F.place F.mark files.new) }
+    ensures finished { OnOk result (F.creating files.new ≡ false) }
+    ensures written { OnOk result (Adds (F.written files.old) (F.written files.new) (string_bytes path, bytes.now)) }
+    ensures fault { OnErr result (FaultAt (F.faults files.old) (F.faults files.new) (F.mark files.new) (F.place files.new) (string_bytes path)) }
+    ensures front { OnErr result (AddsFront (F.written files.old) (F.written files.new) (string_bytes path, bytes.now)) }
+{
+    files.create(path)?;
+    write_all(files, bytes)?;
+    files.finish()
+}

@@ -1,0 +1,231 @@
+// The run of a script, from the paths of its files to the text of its output.
+ghost use Rattle.std.specs.Prelude.{◌≡◌, ◌∷◌, [], IfOk, IfErr, IfSome, string_bytes, option_map};
+ghost use Rattle.vtl_lists.specs.Sorting.{le_by, sorted_by};
+ghost use Rattle.vtl_cell.specs.Row.{row_cmp};
+ghost use Rattle.vtl_tree.specs.Clauses.{kept};
+ghost use Rattle.vtl_tree.specs.Rows.{rows_of};
+ghost use Rattle.vtl_tree.specs.Shown.{shown};
+ghost use Rattle.vtl_top.specs.Condition.{condition_in};
+ghost use Rattle.vtl_top.specs.CsvText.{csv_rows};
+ghost use Rattle.vtl_top.specs.OutputView.{NamesPath, output_view};
+ghost use Rattle.vtl_top.specs.Points.{points_in};
+ghost use Rattle.vtl_top.specs.Answered.{Meets, OnlyReads, Refuses, told};
+ghost use Rattle.vtl_top.specs.Expected.{content, csv_limit, expected, file_in, from_input, from_structures, input_path, reads, reads_from_structures, script_limit, stage, structures_limit};
+ghost use Rattle.vtl_top.specs.Refusal.{IsFormed, IsRefusal};
+ghost use Rattle.vtl_top.specs.RunView.{run_view};
+ghost use Rattle.vtl_top.specs.Statement.{statement_of};
+ghost use Rattle.vtl_top.specs.StructuresFile.{structure_of};
+
+use crate::output::{Output, output_text};
+use crate::points::points;
+use crate::statement::{Statement, read_statement};
+use crate::status::Status;
+use crate::structures::structure;
+use crate::words::Run;
+use std::alloc::{AllocError, Global};
+use vtl_cell::Cell;
+use vtl_files::{Files, ReadErr, read_all};
+use vtl_text::Txt;
+use vtl_tree::{Component, Structure};
+
+const SCRIPT_LIMIT: usize = 65_536;
+const STRUCTURES_LIMIT: usize = 1_048_576;
+const CSV_LIMIT: usize = 67_108_864;
+
+// The file of a data set in a folder.
+fn file_in(alloc: Global, folder: &str, name: &Txt) -> Result<String, AllocError>
+    ensures { IfOk result (λ path. string_bytes path ≡ file_in folder.now name.now) }
+{
+    let mut path = String::from_str(alloc, folder)?;
+    path.push_str("/")?;
+    path.push_str(name.as_str())?;
+    path.push_str(".csv")?;
+    Ok(path)
+}
+
+// The bytes of a file.
+fn read_file<F: Files>(
+    alloc: Global,
+    files: &mut F,
+    path: &str,
+    limit: usize,
+) -> Result<Vec<u8>, Status>
+    ensures reads { OnlyReads (told F.held F.written F.faults F.absences F.misuses F.creating F.place F.mark files.old)
+        (told F.held F.written F.faults F.absences F.misuses F.creating F.place F.mark files.new) }
+    ensures cause { IfErr result (Refuses (told F.held F.written F.faults F.absences F.misuses F.creating F.place F.mark files.old)
+        (told F.held F.written F.faults F.absences F.misuses F.creating F.place F.mark files.new)) }
+    ensures meets { IfSome (F.held files.old) (λ held. Meets (λ v. v.items) (content path.now limit held) (path.now ∷ []) result) }
+{
+    match read_all(alloc, files, path, limit) {
+        Ok(bytes) => Ok(bytes),
+        Err(error) => Err(refusal(alloc, error, path)),
+    }
+}
+
+// The status that names the path of a file which was not read.
+fn refusal(alloc: Global, error: ReadErr, path: &str) -> Status
+    ensures { IsRefusal error path.now result }
+{
+    if let ReadErr::OutOfMemory = error {
+        return Status::Memory;
+    }
+    match Txt::new(alloc, path) {
+        Ok(path) => match error {
+            ReadErr::Absent => Status::NoFile(path),
+            ReadErr::TooLong => Status::TooLong(path),
+            ReadErr::Failed => Status::ReadFault(path),
+            ReadErr::OutOfMemory => Status::Memory,
+        },
+        Err(_) => Status::Memory,
+    }
+}
+
+// The value that the bytes of the file at a path were read as.
+fn formed<T: Drop>(
+    alloc: Global,
+    path: &str,
+    read: Result<Option<T>, AllocError>,
+) -> Result<T, Status>
+    ensures { IsFormed path.now read result }
+{
+    match read {
+        Ok(Some(value)) => Ok(value),
+        Ok(None) => match Txt::new(alloc, path) {
+            Ok(path) => Err(Status::Unbuilt(path)),
+            Err(_) => Err(Status::Memory),
+        },
+        Err(_) => Err(Status::Memory),
+    }
+}
+
+// The statement of the script.
+fn read_script<F: Files>(alloc: Global, files: &mut F, path: &str) -> Result<Statement, Status>
+    ensures reads { OnlyReads (told F.held F.written F.faults F.absences F.misuses F.creating F.place F.mark files.old)
+        (told F.held F.written F.faults F.absences F.misuses F.creating F.place F.mark files.new) }
+    ensures cause { IfErr result (Refuses (told F.held F.written F.faults F.absences F.misuses F.creating F.place F.mark files.old)
+        (told F.held F.written F.faults F.absences F.misuses F.creating F.place F.mark files.new)) }
+    ensures meets { IfSome (F.held files.old) (λ held. Meets (λ s. s) (stage path.now script_limit statement_of held) (path.now ∷ []) result) }
+{
+    let bytes = read_file(alloc, files, path, SCRIPT_LIMIT)?;
+    formed(alloc, path, read_statement(alloc, &bytes))
+}
+
+// The structure of the statement's operand.
+fn read_structure<F: Files>(
+    alloc: Global,
+    files: &mut F,
+    path: &str,
+    statement: &Statement,
+) -> Result<Structure, Status>
+    ensures reads { OnlyReads (told F.held F.written F.faults F.absences F.misuses F.creating F.place F.mark files.old)
+        (told F.held F.written F.faults F.absences F.misuses F.creating F.place F.mark files.new) }
+    ensures cause { IfErr result (Refuses (told F.held F.written F.faults F.absences F.misuses F.creating F.place F.mark files.old)
+        (told F.held F.written F.faults F.absences F.misuses F.creating F.place F.mark files.new)) }
+    ensures meets { IfSome (F.held files.old) (λ held. Meets (λ s. s) (stage path.now structures_limit (structure_of statement.now) held) (path.now ∷ []) result) }
+{
+    let bytes = read_file(alloc, files, path, STRUCTURES_LIMIT)?;
+    formed(alloc, path, structure(alloc, statement, &bytes))
+}
+
+// The points of the input, in the order of their cells from the left.
+fn read_points<F: Files>(
+    alloc: Global,
+    files: &mut F,
+    path: &str,
+    columns: &[&Component],
+    keys: usize,
+) -> Result<Vec<Vec<Cell>>, Status>
+    ensures reads { OnlyReads (told F.held F.written F.faults F.absences F.misuses F.creating F.place F.mark files.old)
+        (told F.held F.written F.faults F.absences F.misuses F.creating F.place F.mark files.new) }
+    ensures cause { IfErr result (Refuses (told F.held F.written F.faults F.absences F.misuses F.creating F.place F.mark files.old)
+        (told F.held F.written F.faults F.absences F.misuses F.creating F.place F.mark files.new)) }
+    ensures meets { IfSome (F.held files.old) (λ held. Meets (λ v. rows_of v.items)
+        (stage path.now csv_limit (λ text. option_map (sorted_by (le_by row_cmp)) (points_in (shown columns.now) keys text)) held) (path.now ∷ []) result) }
+{
+    let bytes = read_file(alloc, files, path, CSV_LIMIT)?;
+    formed(alloc, path, points(alloc, columns, keys, &bytes))
+}
+
+// What is written: the text and the path of the result.
+fn make_output(
+    alloc: Global,
+    folder: &str,
+    statement: &Statement,
+    bytes: Vec<u8>,
+) -> Result<Output, AllocError>
+    ensures view { IfOk result (λ o. output_view o ≡ (file_in folder.now statement.now.result, bytes.items)) }
+    ensures named { IfOk result NamesPath }
+{
+    let path = file_in(alloc, folder, &statement.result)?;
+    let named = Txt::new(alloc, path.as_str())?;
+    Ok(Output { path, named, bytes })
+}
+
+// The output that the rows of the input give.
+fn output_from(
+    alloc: Global,
+    columns: &[&Component],
+    folder: &str,
+    statement: &Statement,
+    rows: Vec<Vec<Cell>>,
+) -> Result<Output, AllocError>
+    ensures view { IfOk result (λ o. output_view o ≡ (file_in folder.now statement.now.result, csv_rows (shown columns.now) (kept (condition_in (shown columns.now) statement.now) (rows_of rows.items)))) }
+    ensures named { IfOk result NamesPath }
+{
+    let bytes = output_text(alloc, columns, statement, rows)?;
+    make_output(alloc, folder, statement, bytes)
+}
+
+// The input, and the output that it gives.
+fn read_input<F: Files>(
+    alloc: Global,
+    files: &mut F,
+    run: Run,
+    statement: &Statement,
+    structure: &Structure,
+) -> Result<Output, Status>
+    ensures reads { OnlyReads (told F.held F.written F.faults F.absences F.misuses F.creating F.place F.mark files.old)
+        (told F.held F.written F.faults F.absences F.misuses F.creating F.place F.mark files.new) }
+    ensures cause { IfErr result (Refuses (told F.held F.written F.faults F.absences F.misuses F.creating F.place F.mark files.old)
+        (told F.held F.written F.faults F.absences F.misuses F.creating F.place F.mark files.new)) }
+    ensures meets { IfSome (F.held files.old) (λ held. Meets output_view (from_input (run_view run.entry) statement.now structure.now held) (input_path (run_view run.entry) statement.now ∷ []) result) }
+    ensures named { IfOk result NamesPath }
+{
+    let columns = structure.columns(alloc)?;
+    let keys = structure.identifiers(alloc)?.len();
+    let path = file_in(alloc, run.input, &statement.operand)?;
+    let rows = read_points(alloc, files, path.as_str(), &columns, keys)?;
+    Ok(output_from(alloc, &columns, run.output, statement, rows)?)
+}
+
+// The structures file, and the output that it and the input give.
+fn read_declared<F: Files>(
+    alloc: Global,
+    files: &mut F,
+    run: Run,
+    statement: &Statement,
+) -> Result<Output, Status>
+    ensures reads { OnlyReads (told F.held F.written F.faults F.absences F.misuses F.creating F.place F.mark files.old)
+        (told F.held F.written F.faults F.absences F.misuses F.creating F.place F.mark files.new) }
+    ensures cause { IfErr result (Refuses (told F.held F.written F.faults F.absences F.misuses F.creating F.place F.mark files.old)
+        (told F.held F.written F.faults F.absences F.misuses F.creating F.place F.mark files.new)) }
+    ensures meets { IfSome (F.held files.old) (λ held. Meets output_view (from_structures (run_view run.entry) statement.now held) (reads_from_structures (run_view run.entry) statement.now held) result) }
+    ensures named { IfOk result NamesPath }
+{
+    let structure = read_structure(alloc, files, run.structures, statement)?;
+    read_input(alloc, files, run, statement, &structure)
+}
+
+/// Reads the files of a run, and makes its output: nothing is created. The answer is the output, or the first refusal
+/// of the files in the order script, structures file, input; or want of memory at any place.
+pub fn prepare<F: Files>(alloc: Global, files: &mut F, run: Run) -> Result<Output, Status>
+    ensures reads { OnlyReads (told F.held F.written F.faults F.absences F.misuses F.creating F.place F.mark files.old)
+        (told F.held F.written F.faults F.absences F.misuses F.creating F.place F.mark files.new) }
+    ensures cause { IfErr result (Refuses (told F.held F.written F.faults F.absences F.misuses F.creating F.place F.mark files.old)
+        (told F.held F.written F.faults F.absences F.misuses F.creating F.place F.mark files.new)) }
+    ensures meets { IfSome (F.held files.old) (λ held. Meets output_view (expected (run_view run.entry) held) (reads (run_view run.entry) held) result) }
+    ensures named { IfOk result NamesPath }
+{
+    let statement = read_script(alloc, files, run.script)?;
+    read_declared(alloc, files, run, &statement)
+}
