@@ -9,6 +9,7 @@ pub mod ReadStructures
 pub mod RecordsLeftLemmas
 pub mod RowLemmas
 pub mod RowTextLemmas
+pub mod RunLemmas
 pub mod SinkLemmas
 pub mod SpellingLemmas
 pub mod StatementLemmas

@@ -127,3 +127,14 @@ Writes run before now (st.TooLong path) = now.written ≡ before.written
 Writes run before now (st.ReadFault path) = now.written ≡ before.written
 Writes run before now (st.Unbuilt path) = now.written ≡ before.written
 Writes run before now st.Memory = now.written ≡ before.written
+
+-- The output is written, and finished; or there was a fault at its path, and nothing or a front of it is written.
+abbrev pub IsWritten : List ℕ × List ℕ → Outside → Outside → Status → Type 0
+IsWritten file before now st.Done = Adds before.written now.written file × (now.creating ≡ false)
+IsWritten file before now (st.WriteFault path) = (path ≡ chars file.0) × Faulted before now path × AddsFront before.written now.written file
+IsWritten file before now st.Usage = ⊥
+IsWritten file before now (st.NoFile path) = ⊥
+IsWritten file before now (st.TooLong path) = ⊥
+IsWritten file before now (st.ReadFault path) = ⊥
+IsWritten file before now (st.Unbuilt path) = ⊥
+IsWritten file before now st.Memory = ⊥

@@ -16,7 +16,10 @@ header_of columns = map (λ x. encode_utf8_all x.name) columns
 abbrev pub csv_rows : List Component → List Row → List ℕ
 csv_rows columns rows = flat_map (row_text default_writer) (header_of columns ∷ map (map field_of) rows)
 
--- The CSV text of the data set of this structure with these points: the header, and the points in order of their
--- cells from the left. The identifiers stand first, and no two points have the same ones: so this is the order by identifiers.
+-- The CSV text of the data set with these columns and points: the header, and the points in order of their cells from
+-- the left. The identifiers stand first, and no two points have the same ones: so this is the order by identifiers.
+abbrev pub csv_in : List Component → List Row → List ℕ
+csv_in columns points = csv_rows columns (sorted_by (le_by row_cmp) points)
+
 abbrev pub csv_of : Structure → List Row → List ℕ
-csv_of s points = csv_rows (columns_of s) (sorted_by (le_by row_cmp) points)
+csv_of s points = csv_in (columns_of s) points

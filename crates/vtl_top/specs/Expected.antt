@@ -3,11 +3,12 @@ use Rattle.std.specs.Prelude.{◌≡◌, ℕ, Bool, true, false, not, ◌&&◌, 
 use Rattle.vtl_files.specs.Outside.{bytes_at}
 use Rattle.vtl_cell.specs.Row.{Row}
 use Rattle.vtl_tree.specs.Clauses.{kept}
-use Rattle.vtl_tree.specs.Structure.{columns_of, same_name}
+use Rattle.vtl_tree.specs.Structure.{columns_of, key_width, same_name}
+use Rattle.vtl_tree.specs.declared.structure.Component.{Component}
 use Rattle.vtl_tree.specs.declared.structure.Structure.{Structure}
 use Rattle.vtl_top.specs.Condition.{condition_in}
-use Rattle.vtl_top.specs.CsvText.{csv_of}
-use Rattle.vtl_top.specs.Points.{points_of}
+use Rattle.vtl_top.specs.CsvText.{csv_in}
+use Rattle.vtl_top.specs.Points.{points_in}
 use Rattle.vtl_top.specs.Statement.{statement_of}
 use Rattle.vtl_top.specs.StructuresFile.{structure_of}
 use Rattle.vtl_top.specs.declared.statement.Statement.{Statement}
@@ -79,15 +80,19 @@ abbrev pub File : Type 0
 File = List ℕ × List ℕ
 
 -- the output: the points at which the statement's condition is true
-abbrev pub output_of : Run → Statement → Structure → List Row → List ℕ × List ℕ
-output_of r s structure points = (file_in r.output s.result, csv_of structure (kept (condition_in (columns_of structure) s) points))
+abbrev pub output_in : Run → Statement → List Component → List Row → List ℕ × List ℕ
+output_in r s columns points = (file_in r.output s.result, csv_in columns (kept (condition_in columns s) points))
 
 abbrev pub input_path : Run → Statement → List ℕ
 input_path r s = file_in r.input s.operand
 
+-- what the input gives in these columns, of which the first n are identifiers
+abbrev pub from_columns : Run → Statement → List Component → ℕ → List (List ℕ × List ℕ) → Result (List ℕ × List ℕ) Status
+from_columns r s columns n held = go_on (stage (input_path r s) csv_limit (points_in columns n) held) (λ points. Ok (output_in r s columns points))
+
 -- what the input gives, then what the structures file gives, then what the script gives
 abbrev pub from_input : Run → Statement → Structure → List (List ℕ × List ℕ) → Result (List ℕ × List ℕ) Status
-from_input r s structure held = go_on (stage (input_path r s) csv_limit (points_of structure) held) (λ points. Ok (output_of r s structure points))
+from_input r s structure held = from_columns r s (columns_of structure) (key_width structure) held
 
 abbrev pub from_structures : Run → Statement → List (List ℕ × List ℕ) → Result (List ℕ × List ℕ) Status
 from_structures r s held = go_on (stage r.structures structures_limit (structure_of s) held) (λ structure. from_input r s structure held)

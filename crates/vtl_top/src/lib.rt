@@ -14,4 +14,5 @@ pub mod run;
 pub mod statement;
 pub mod status;
 pub mod structures;
+pub mod top;
 pub mod words;

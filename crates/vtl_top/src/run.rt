@@ -5,12 +5,13 @@ ghost use Rattle.vtl_cell.specs.Row.{row_cmp};
 ghost use Rattle.vtl_tree.specs.Clauses.{kept};
 ghost use Rattle.vtl_tree.specs.Rows.{rows_of};
 ghost use Rattle.vtl_tree.specs.Shown.{shown};
+ghost use Rattle.vtl_tree.specs.Structure.{key_width};
 ghost use Rattle.vtl_top.specs.Condition.{condition_in};
 ghost use Rattle.vtl_top.specs.CsvText.{csv_rows};
 ghost use Rattle.vtl_top.specs.OutputView.{NamesPath, output_view};
 ghost use Rattle.vtl_top.specs.Points.{points_in};
 ghost use Rattle.vtl_top.specs.Answered.{Meets, OnlyReads, Refuses, told};
-ghost use Rattle.vtl_top.specs.Expected.{content, csv_limit, expected, file_in, from_input, from_structures, input_path, reads, reads_from_structures, script_limit, stage, structures_limit};
+ghost use Rattle.vtl_top.specs.Expected.{content, csv_limit, expected, file_in, from_columns, from_input, from_structures, input_path, reads, reads_from_structures, script_limit, stage, structures_limit};
 ghost use Rattle.vtl_top.specs.Refusal.{IsFormed, IsRefusal};
 ghost use Rattle.vtl_top.specs.RunView.{run_view};
 ghost use Rattle.vtl_top.specs.Statement.{statement_of};
@@ -127,11 +128,12 @@ fn read_structure<F: Files>(
     formed(alloc, path, structure(alloc, statement, &bytes))
 }
 
-// The points of the input, in the order of their cells from the left.
+// The points of the data set of this name in a folder, in the order of their cells from the left.
 fn read_points<F: Files>(
     alloc: Global,
     files: &mut F,
-    path: &str,
+    folder: &str,
+    name: &Txt,
     columns: &[&Component],
     keys: usize,
 ) -> Result<Vec<Vec<Cell>>, Status>
@@ -140,10 +142,12 @@ fn read_points<F: Files>(
     ensures cause { IfErr result (Refuses (told F.held F.written F.faults F.absences F.misuses F.creating F.place F.mark files.old)
         (told F.held F.written F.faults F.absences F.misuses F.creating F.place F.mark files.new)) }
     ensures meets { IfSome (F.held files.old) (λ held. Meets (λ v. rows_of v.items)
-        (stage path.now csv_limit (λ text. option_map (sorted_by (le_by row_cmp)) (points_in (shown columns.now) keys text)) held) (path.now ∷ []) result) }
+        (stage (file_in folder.now name.now) csv_limit (λ text. option_map (sorted_by (le_by row_cmp)) (points_in (shown columns.now) keys text)) held)
+        (file_in folder.now name.now ∷ []) result) }
 {
-    let bytes = read_file(alloc, files, path, CSV_LIMIT)?;
-    formed(alloc, path, points(alloc, columns, keys, &bytes))
+    let path = file_in(alloc, folder, name)?;
+    let bytes = read_file(alloc, files, path.as_str(), CSV_LIMIT)?;
+    formed(alloc, path.as_str(), points(alloc, columns, keys, &bytes))
 }
 
 // What is written: the text and the path of the result.
@@ -176,6 +180,34 @@ fn output_from(
     make_output(alloc, folder, statement, bytes)
 }
 
+// How many components identify points.
+fn key_count(alloc: Global, structure: &Structure) -> Result<usize, AllocError>
+    ensures { IfOk result (λ count. count ≡ key_width structure.now) }
+{
+    Ok(structure.identifiers(alloc)?.len())
+}
+
+// The input in these columns, of which the first `keys` are identifiers, and the output that it gives.
+fn read_columns<F: Files>(
+    alloc: Global,
+    files: &mut F,
+    run: Run,
+    statement: &Statement,
+    columns: &[&Component],
+    keys: usize,
+) -> Result<Output, Status>
+    ensures reads { OnlyReads (told F.held F.written F.faults F.absences F.misuses F.creating F.place F.mark files.old)
+        (told F.held F.written F.faults F.absences F.misuses F.creating F.place F.mark files.new) }
+    ensures cause { IfErr result (Refuses (told F.held F.written F.faults F.absences F.misuses F.creating F.place F.mark files.old)
+        (told F.held F.written F.faults F.absences F.misuses F.creating F.place F.mark files.new)) }
+    ensures meets { IfSome (F.held files.old) (λ held. Meets output_view (from_columns (run_view run.entry) statement.now (shown columns.now) keys held) (input_path (run_view run.entry) statement.now ∷ []) result) }
+    ensures named { IfOk result NamesPath }
+{
+    let rows = read_points(alloc, files, run.input, &statement.operand, columns, keys)?;
+    let output = output_from(alloc, columns, run.output, statement, rows)?;
+    Ok(output)
+}
+
 // The input, and the output that it gives.
 fn read_input<F: Files>(
     alloc: Global,
@@ -192,10 +224,8 @@ fn read_input<F: Files>(
     ensures named { IfOk result NamesPath }
 {
     let columns = structure.columns(alloc)?;
-    let keys = structure.identifiers(alloc)?.len();
-    let path = file_in(alloc, run.input, &statement.operand)?;
-    let rows = read_points(alloc, files, path.as_str(), &columns, keys)?;
-    Ok(output_from(alloc, &columns, run.output, statement, rows)?)
+    let keys = key_count(alloc, structure)?;
+    read_columns(alloc, files, run, statement, &columns, keys)
 }
 
 // The structures file, and the output that it and the input give.

@@ -1,0 +1,30 @@
+use Rattle.std.proofs.Common.{◌≡◌, Ok, Result, List, ℕ, sym, ap, ◌∙◌}
+use Rattle.vtl_cell.specs.Row.{Row}
+use Rattle.vtl_tree.specs.Clauses.{kept}
+use Rattle.vtl_tree.specs.Rows.{rows_of}
+use Rattle.vtl_tree.specs.Shown.{shown}
+use Rattle.vtl_top.specs.Condition.{condition_in}
+use Rattle.vtl_top.specs.CsvText.{csv_rows}
+use Rattle.vtl_top.specs.Expected.{csv_limit, file_in, from_columns, output_in, stage}
+use Rattle.vtl_top.specs.OutputView.{output_view}
+use Rattle.vtl_top.specs.Points.{points_in}
+use Rattle.vtl_top.specs.RunView.{run_view}
+use Rattle.vtl_top.specs.declared.status.Status.{Status}
+use Rattle.vtl_top.proofs.RunLemmas.{if_some_map, in_order, kept_in_order, stage_mapped}
+use Rattle.std.specs.Option.{option_map}
+use Rattle.vtl_top.proofs.run.read_columns.Goals as goal
+
+pub returns-clause-meets : goal.returns-clause-meets
+returns-clause-meets g c =
+    let cols = shown c.args.columns.now in
+    let s = c.args.statement.now in
+    let r = run_view c.args.run in
+    let rows = rows_of c.in_ok-rows.rows.items in
+    let out = output_view c.in_ok-output.output in
+    let made = λ (x : List Row) (same : in_order x ≡ rows).
+      ap (λ (l : List Row). (file_in r.output s.result, csv_rows cols l)) (sym (kept_in_order (condition_in cols s) x) ∙ ap (kept (condition_in cols s)) same) ∙ sym c.in_ok-output.ensures.view in
+    if_some_map (g.F.Files.held c.args.files.now)
+    (λ held. stage (file_in r.input s.operand) csv_limit (λ text. option_map in_order (points_in cols c.args.keys text)) held ≡ Ok rows)
+    (λ held. from_columns r s cols c.args.keys held ≡ Ok out)
+    (λ held e. stage_mapped in_order (file_in r.input s.operand) csv_limit (points_in cols c.args.keys) held rows (λ points. Ok (output_in r s cols points)) (Ok out) e (λ x same. ap Ok (made x same)))
+    c.in_ok-rows.ensures.meets
