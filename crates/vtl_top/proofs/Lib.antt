@@ -1,6 +1,8 @@
+pub mod DataSetLemmas
 pub mod FieldLemmas
 pub mod FilterLemmas
 pub mod FrontLemmas
+pub mod MeantLemmas
 pub mod OutputLemmas
 pub mod PlaceLemmas
 pub mod PlainTextLemmas

@@ -15,7 +15,7 @@ use Rattle.vtl_top.specs.PlainText.{plain_lines}
 use Rattle.vtl_top.specs.StructuresFile.{component_of, components_in, components_of_records, is_declared, is_header, is_identifier, is_int_named, structure_of, structure_with}
 use Rattle.vtl_top.specs.declared.statement.Statement.{Statement}
 
-some_same : {X : Type 0} {x y : X} → Some x ≡ Some y → x ≡ y
+pub some_same : {X : Type 0} {x y : X} → Some x ≡ Some y → x ≡ y
 some_same e = cc
 
 -- as many values as items

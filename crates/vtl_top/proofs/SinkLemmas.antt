@@ -33,7 +33,7 @@ front_before t u a b f = (
 )
 
 pub front_of_all : (t u : Option (List ℕ)) (a : List ℕ) → TakesAll t u a → TakesFront t u a
-front_of_all t u a all = ([], record { front = a; whole = sym (append-nil a); told = all; })
+front_of_all t u a all = ([], record { front = a; whole = sym (append-nil a); told = all })
 
 pub err_always : {T E P : Type 0} (r : Result T E) → P → OnErr r P
 err_always (Ok x) p = tt

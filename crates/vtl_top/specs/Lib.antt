@@ -4,6 +4,7 @@ pub mod CsvText
 pub mod DeclarationFields
 pub mod Expected
 pub mod Fields
+pub mod Meant
 pub mod OutputView
 pub mod PlainText
 pub mod Points

@@ -13,12 +13,7 @@ use vtl_tree::Role;
 
 /// The cell that a field spells in the column of a component with this role and kind: null for an empty field of
 /// a component that is no identifier, and none where the field spells no value of the kind.
-pub fn cell(
-    alloc: Global,
-    role: Role,
-    kind: Kind,
-    field: &[u8],
-) -> Result<Option<Cell>, AllocError>
+pub fn cell(alloc: Global, role: Role, kind: Kind, field: &[u8]) -> Result<Option<Cell>, AllocError>
     ensures { IfOk result (λ o. o ≡ cell_of role kind field.now) }
 {
     if field.is_empty() {

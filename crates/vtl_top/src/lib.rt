@@ -1,18 +1,29 @@
-//! The top of the program: the script, the structures and the CSV files that are read, and the CSV text that is written.
+//! The top of the program: the call that carries out the words of a command line, with its statuses. The readers and
+//! writers of text that it needs so far are private parts of it.
 #![tactic(auto)]
 
-pub mod condition;
-pub mod csv_text;
-pub mod fields;
-pub mod filtering;
-pub mod output;
-pub mod plain;
-pub mod points;
-pub mod records;
-pub mod row_text;
-pub mod run;
-pub mod statement;
-pub mod status;
-pub mod structures;
-pub mod top;
-pub mod words;
+mod condition;
+mod csv_text;
+mod fields;
+mod filtering;
+mod laws;
+mod output;
+mod plain;
+mod points;
+mod records;
+mod row_text;
+mod run;
+mod statement;
+mod status;
+mod structures;
+#[cfg(test)]
+mod tests;
+mod top;
+mod words;
+
+pub use laws::{output_is_meant, points_are_a_data_set};
+pub use plain::plain_lines_are_lines;
+pub use statement::{Statement, statements_are_spelled};
+pub use status::{Status, tell};
+pub use structures::read_structures_are_structures;
+pub use top::vtl;

@@ -136,10 +136,7 @@ fn keys_are_apart(rows: &[Vec<Cell>], keys: usize) -> bool
 }
 
 // The rows in order, where no two of them agree in the first `keys` cells.
-fn in_order(
-    mut rows: Vec<Vec<Cell>>,
-    keys: usize,
-) -> Result<Option<Vec<Vec<Cell>>>, AllocError>
+fn in_order(mut rows: Vec<Vec<Cell>>, keys: usize) -> Result<Option<Vec<Vec<Cell>>>, AllocError>
     ensures { IfOk result (λ o. option_map (λ v. rows_of v.items) o ≡ option_map (sorted_by (le_by row_cmp)) (keyed keys (rows_of rows.items))) }
 {
     sort(&mut rows)?;

@@ -30,7 +30,9 @@ use vtl_text::Txt;
 use vtl_tree::{Component, Structure};
 
 const SCRIPT_LIMIT: usize = 65_536;
+
 const STRUCTURES_LIMIT: usize = 1_048_576;
+
 const CSV_LIMIT: usize = 67_108_864;
 
 // The file of a data set in a folder.

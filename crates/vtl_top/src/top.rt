@@ -19,12 +19,7 @@ use vtl_files::{Files, Sink};
 ///
 /// `run SCRIPT STRUCTURES IN OUT` reads the script, the structures file and the CSV file of the data set in the folder
 /// IN, and writes the CSV file of the result into the folder OUT. A status other than Done is named by a line on `out`.
-pub fn vtl<F: Files, O: Sink>(
-    alloc: Global,
-    words: &[String],
-    files: &mut F,
-    out: &mut O,
-) -> Status
+pub fn vtl<F: Files, O: Sink>(alloc: Global, words: &[String], files: &mut F, out: &mut O) -> Status
     requires { F.creating files.old ≡ false }
 
     ensures held { F.held files.new ≡ F.held files.old }

@@ -43,7 +43,12 @@ fn paths<'a>(
 ) -> Option<Run<'a>>
     ensures { option_map run_view result ≡ run_of (command.now ∷ script.now ∷ structures.now ∷ input.now ∷ output.now ∷ []) }
 {
-    if command == "run" && is_path(script) && is_path(structures) && is_path(input) && is_path(output) {
+    if command == "run"
+        && is_path(script)
+        && is_path(structures)
+        && is_path(input)
+        && is_path(output)
+    {
         Some(Run {
             script,
             structures,

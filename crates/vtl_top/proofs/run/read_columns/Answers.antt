@@ -22,7 +22,7 @@ returns-clause-meets g c =
     let rows = rows_of c.in_ok-rows.rows.items in
     let out = output_view c.in_ok-output.output in
     let made = λ (x : List Row) (same : in_order x ≡ rows).
-      ap (λ (l : List Row). (file_in r.output s.result, csv_rows cols l)) (sym (kept_in_order (condition_in cols s) x) ∙ ap (kept (condition_in cols s)) same) ∙ sym c.in_ok-output.ensures.view in
+    ap (λ (l : List Row). (file_in r.output s.result, csv_rows cols l)) (sym (kept_in_order (condition_in cols s) x) ∙ ap (kept (condition_in cols s)) same) ∙ sym c.in_ok-output.ensures.view in
     if_some_map (g.F.Files.held c.args.files.now)
     (λ held. stage (file_in r.input s.operand) csv_limit (λ text. option_map in_order (points_in cols c.args.keys text)) held ≡ Ok rows)
     (λ held. from_columns r s cols c.args.keys held ≡ Ok out)

@@ -1,0 +1,57 @@
+-- The output is what the script means.
+use Rattle.std.proofs.Common.{◌≡◌, ℕ, List, [], ◌∷◌, Bool, true, false, cond, Option, Some, None, Result, Ok, Err, refl, sym, ap, ◌∙◌, subst}
+use Rattle.std.specs.Cmp.Lexicographic.{nat_list_eq_equiv}
+use Rattle.vtl_cell.specs.Row.{Row}
+use Rattle.vtl_cell.specs.Outcome.{Outcome, Fault, after}
+use Rattle.vtl_tree.specs.Clauses.{filter_of, kept}
+use Rattle.vtl_tree.specs.Meaning.{DataSet, found, data_of, node_value, named, filtered, meaning, stated}
+use Rattle.vtl_tree.specs.Structure.{columns_of, same_name}
+use Rattle.vtl_tree.specs.declared.structure.Structure.{Structure}
+use Rattle.vtl_top.specs.Condition.{condition_in}
+use Rattle.vtl_top.specs.CsvText.{csv_of}
+use Rattle.vtl_top.specs.Expected.{Run, csv_limit, expected, file_in, from_input, from_structures, go_on, input_path, output_in, script_limit, stage, structures_limit}
+use Rattle.vtl_top.specs.Meant.{IsMeant, data_set, script_of}
+use Rattle.vtl_top.specs.Points.{points_of}
+use Rattle.vtl_top.specs.Statement.{statement_of}
+use Rattle.vtl_top.specs.StructuresFile.{structure_of}
+use Rattle.vtl_top.specs.declared.statement.Statement.{Statement as Filter}
+use Rattle.vtl_top.specs.declared.status.Status.{Status}
+use Rattle.vtl_top.proofs.OutputLemmas.{filter_is_kept}
+
+-- a value that goes on is there
+went_on : {A B : Type 0} (m : Result A Status) (k : A → Result B Status) (y : B) → go_on m k ≡ Ok y → (x : A) × (m ≡ Ok x) × (k x ≡ Ok y)
+went_on (Ok x) k y e = (x, refl, e)
+went_on (Err s) k y e = cc
+
+-- the one data set of its environment
+own_data : (name : List ℕ) (d : DataSet) → data_of name ((name, d) ∷ []) ≡ Some d
+own_data name d = ap (λ b. cond b (Some d) None) (nat_list_eq_equiv.refl name)
+
+-- its points at which the condition is true
+abbrev filtered_by : Filter → Structure → DataSet → Outcome DataSet
+filtered_by s structure d = after (filter_of (condition_in (columns_of structure) s) d.points) (λ rows. Ok (record { structure = d.structure; points = rows }))
+
+pub statement_means : (s : Filter) (structure : Structure) (points : List Row)
+    → meaning (script_of s structure) ((s.operand, data_set structure points) ∷ []) ≡ Ok ((s.result, data_set structure (kept (condition_in (columns_of structure) s) points)) ∷ [])
+statement_means s structure points =
+    ap (λ d. stated s.result (filtered_by s structure (found structure d)) (λ d. Ok [])) (own_data s.operand (data_set structure points))
+    ∙ ap (λ m. stated s.result (after m (λ rows. Ok (data_set structure rows))) (λ d. Ok [])) (filter_is_kept (columns_of structure) s points)
+
+pub meant : (r : Run) (held : List (List ℕ × List ℕ)) (file : List ℕ × List ℕ) → expected r held ≡ Ok file → IsMeant r held file
+meant r held file e =
+    let a = went_on (stage r.script script_limit statement_of held) (λ s. from_structures r s held) file e in
+    let b = went_on (stage r.structures structures_limit (structure_of a.0) held) (λ structure. from_input r a.0 structure held) file a.2 in
+    let c = went_on (stage (input_path r a.0) csv_limit (points_of b.0) held) (λ points. Ok (output_in r a.0 (columns_of b.0) points)) file b.2 in
+    let same : output_in r a.0 (columns_of b.0) c.0 ≡ file = cc in
+    record {
+      statement = a.0;
+      structure = b.0;
+      points = c.0;
+      kept = kept (condition_in (columns_of b.0) a.0) c.0;
+      script = a.1;
+      declared = b.1;
+      input = c.1;
+      means = statement_means a.0 b.0 c.0;
+      path = sym (ap (λ (f : List ℕ × List ℕ). f.0) same);
+      bytes = sym (ap (λ (f : List ℕ × List ℕ). f.1) same);
+    }

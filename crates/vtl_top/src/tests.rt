@@ -1,0 +1,408 @@
+// The top call over files in memory.
+use crate::condition::condition;
+use crate::csv_text::csv_text;
+use crate::points::points;
+use crate::statement::read_statement;
+use crate::structures::structure;
+use crate::{Status, vtl};
+use std::alloc::{AllocError, Global};
+use std::process::Abort;
+use std::test::Fail;
+use vtl_files::{FailAt, MemFile, MemFiles, MemSink, Method};
+use vtl_tree::filter_points;
+
+const SCRIPT: &str = "DS_r <- DS_1 [filter Me_1 > 5];";
+
+const STRUCTURES: &str =
+    "dataset,component,role,type,codes\nDS_1,Id_1,identifier,string,\nDS_1,Me_1,measure,integer,\n";
+
+const POINTS: &str = "Id_1,Me_1\nb,7\na,9\nc,3\n";
+
+const KEPT: &str = "Id_1,Me_1\na,9\nb,7\n";
+
+// Two identifiers and a measure of strings.
+const WIDE: &str =
+    "dataset,component,role,type,codes\nDS_1,Note,measure,string,\nDS_1,Id_1,identifier,string,\nDS_1,Me_1,measure,integer,\nDS_1,Id_2,identifier,string,\n";
+
+static WORDS: [&str; 5] = ["run", "script.vtl", "structures.csv", "in", "out"];
+
+fn strings(alloc: Global, words: &[&str]) -> Result<Vec<String>, AllocError> {
+    let mut all = Vec::new(alloc);
+    for word in words {
+        all.push(String::from_str(alloc, word)?)?;
+    }
+    Ok(all)
+}
+
+fn file(alloc: Global, name: &str, text: &str) -> Result<MemFile, AllocError> {
+    let name = String::from_str(alloc, name)?;
+    let bytes = Vec::from_slice(alloc, text.as_bytes())?;
+    Ok(MemFile { name, bytes })
+}
+
+fn held(alloc: Global, structures: &str, points: &str) -> Result<Vec<MemFile>, AllocError> {
+    let mut files = Vec::new(alloc);
+    files.push(file(alloc, "script.vtl", SCRIPT)?)?;
+    files.push(file(alloc, "structures.csv", structures)?)?;
+    files.push(file(alloc, "in/DS_1.csv", points)?)?;
+    Ok(files)
+}
+
+fn gives(
+    rt: &impl Abort,
+    alloc: Global,
+    chunk: usize,
+    structures: &str,
+    points: &str,
+    expected: &str,
+) -> Result<(), AllocError> {
+    let mut files = MemFiles::new(
+        alloc,
+        held(alloc, structures, points)?,
+        chunk.max(1),
+        Vec::new(alloc),
+    );
+    let mut out = MemSink::new(alloc, 8, Vec::new(alloc));
+    let status = vtl(
+        alloc,
+        strings(alloc, &WORDS)?.as_slice(),
+        &mut files,
+        &mut out,
+    );
+    assert_eq!(rt; status.code(), 0, "{points}");
+    assert_eq!(rt; out.taken(), b"".as_slice());
+    let written = files.written();
+    assert_eq!(rt; written.len(), 1);
+    let output = &written[0];
+    assert_eq!(rt; output.name.as_str(), "out/DS_r.csv");
+    assert_eq!(rt; output.bytes.as_slice(), expected.as_bytes(), "{points}");
+    Ok(())
+}
+
+#[test]
+fn gives_the_points_that_pass(rt: HostRuntime) -> Result<(), Fail> {
+    let alloc = rt.alloc();
+    for chunk in [1usize, 3, 8] {
+        gives(&rt, alloc, chunk, STRUCTURES, POINTS, KEPT)?;
+    }
+    gives(
+        &rt,
+        alloc,
+        8,
+        STRUCTURES,
+        "Id_1,Me_1\nb,7\na,9\nc,3\nd,\n",
+        KEPT,
+    )?;
+    gives(&rt, alloc, 8, STRUCTURES, "Id_1,Me_1\n", "Id_1,Me_1\n")?;
+    gives(
+        &rt,
+        alloc,
+        8,
+        STRUCTURES,
+        "Id_1,Me_1\na,5\nb,-7\nc,000000000006\n",
+        "Id_1,Me_1\nc,6\n",
+    )?;
+    gives(
+        &rt,
+        alloc,
+        8,
+        WIDE,
+        "Id_1,Id_2,Note,Me_1\nb,x,old,6\na,y,,7\na,x,new one,8\nb,w,,\n",
+        "Id_1,Id_2,Note,Me_1\na,x,new one,8\na,y,,7\nb,x,old,6\n",
+    )?;
+    Ok(())
+}
+
+// The same by the definition of the clause, computed as it stands.
+#[test]
+fn gives_what_the_plain_interpreter_gives(rt: HostRuntime) -> Result<(), Fail> {
+    let alloc = rt.alloc();
+    let text = b"Id_1,Me_1\nb,7\na,9\nc,3\nd,\ne,6\nf,5\n";
+    let statement = read_statement(alloc, SCRIPT.as_bytes())?.ok_or("not a script")?;
+    let structure = structure(alloc, &statement, STRUCTURES.as_bytes())?.ok_or("no structure")?;
+    let columns = structure.columns(alloc)?;
+    let rows = points(alloc, &columns, 1, text)?.ok_or("no points")?;
+    let condition = condition(alloc, &columns, &statement)?;
+    let kept = filter_points(alloc, rows.as_slice(), &condition).map_err(|_| "a fault")?;
+    let kept = csv_text(alloc, &columns, kept.as_slice())?;
+    gives(
+        &rt,
+        alloc,
+        8,
+        STRUCTURES,
+        str::from_utf8(text)?,
+        str::from_utf8(kept.as_slice())?,
+    )?;
+    Ok(())
+}
+
+fn is_told(rt: &impl Abort, status: &Status, out: &MemSink, code: u8, line: &str) {
+    assert_eq!(rt; status.code(), code, "{line}");
+    assert_eq!(rt; out.taken(), line.as_bytes(), "{line}");
+}
+
+// A run that is refused before anything is created.
+fn refuses(
+    rt: &impl Abort,
+    alloc: Global,
+    words: &[&str],
+    held: Vec<MemFile>,
+    fail: Vec<FailAt>,
+    code: u8,
+    line: &str,
+) -> Result<(), AllocError> {
+    let mut files = MemFiles::new(alloc, held, 100_000, fail);
+    let mut out = MemSink::new(alloc, 8, Vec::new(alloc));
+    let status = vtl(
+        alloc,
+        strings(alloc, words)?.as_slice(),
+        &mut files,
+        &mut out,
+    );
+    is_told(rt, &status, &out, code, line);
+    assert_eq!(rt; files.written().len(), 0, "{line}");
+    Ok(())
+}
+
+static WRONG_WORDS: [&[&str]; 6] = [
+    &[],
+    &["run", "script.vtl", "structures.csv", "in"],
+    &["run", "script.vtl", "structures.csv", "in", "out", "more"],
+    &["run", "script.vtl", "", "in", "out"],
+    &["run", "script.vtl", "structures.csv", "in", ""],
+    &["runs", "script.vtl", "structures.csv", "in", "out"],
+];
+
+#[test]
+fn refuses_words(rt: HostRuntime) -> Result<(), Fail> {
+    let alloc = rt.alloc();
+    for words in WRONG_WORDS {
+        let held = held(alloc, STRUCTURES, POINTS)?;
+        refuses(
+            &rt,
+            alloc,
+            words,
+            held,
+            Vec::new(alloc),
+            1,
+            "error: usage\n",
+        )?;
+    }
+    Ok(())
+}
+
+// The first refusal in the order script, structures file, input; the files from `k` on are missing.
+#[test]
+fn refuses_missing_files(rt: HostRuntime) -> Result<(), Fail> {
+    let alloc = rt.alloc();
+    let lines = [
+        "error: no file: script.vtl\n",
+        "error: no file: structures.csv\n",
+        "error: no file: in/DS_1.csv\n",
+    ];
+    for k in 0..3 {
+        let mut some = held(alloc, STRUCTURES, POINTS)?;
+        some.truncate(k);
+        refuses(&rt, alloc, &WORDS, some, Vec::new(alloc), 4, lines[k])?;
+    }
+    Ok(())
+}
+
+fn failing(alloc: Global, method: Method, number: u64) -> Result<Vec<FailAt>, AllocError> {
+    let mut fail = Vec::new(alloc);
+    fail.push(FailAt { method, number })?;
+    Ok(fail)
+}
+
+// Each file is opened, and read twice: its text, and that there is no more.
+#[test]
+fn refuses_failing_files(rt: HostRuntime) -> Result<(), Fail> {
+    let alloc = rt.alloc();
+    let lines = [
+        "error: read fault: script.vtl\n",
+        "error: read fault: structures.csv\n",
+        "error: read fault: in/DS_1.csv\n",
+    ];
+    for k in 0..3usize {
+        let first = 2 * k as u64 + 1;
+        let whole = held(alloc, STRUCTURES, POINTS)?;
+        refuses(
+            &rt,
+            alloc,
+            &WORDS,
+            whole,
+            failing(alloc, Method::Open, k as u64 + 1)?,
+            6,
+            lines[k],
+        )?;
+        let whole = held(alloc, STRUCTURES, POINTS)?;
+        refuses(
+            &rt,
+            alloc,
+            &WORDS,
+            whole,
+            failing(alloc, Method::Read, first)?,
+            6,
+            lines[k],
+        )?;
+        let whole = held(alloc, STRUCTURES, POINTS)?;
+        refuses(
+            &rt,
+            alloc,
+            &WORDS,
+            whole,
+            failing(alloc, Method::Read, first + 1)?,
+            6,
+            lines[k],
+        )?;
+    }
+    Ok(())
+}
+
+fn spaces(alloc: Global, count: usize) -> Result<Vec<u8>, AllocError> {
+    let mut bytes = Vec::new(alloc);
+    bytes.resize(count, b' ')?;
+    Ok(bytes)
+}
+
+// A file of spaces: at its limit it has not the form, and one byte more is too long.
+fn refuses_at_limit(
+    rt: &impl Abort,
+    alloc: Global,
+    k: usize,
+    limit: usize,
+    long: &str,
+    other: &str,
+) -> Result<(), AllocError> {
+    for (count, code, line) in [(limit, 8, other), (limit + 1, 4, long)] {
+        let mut files = held(alloc, STRUCTURES, POINTS)?;
+        if let Some(file) = files.get_mut(k) {
+            file.bytes = spaces(alloc, count)?;
+        }
+        refuses(rt, alloc, &WORDS, files, Vec::new(alloc), code, line)?;
+    }
+    Ok(())
+}
+
+#[test]
+fn refuses_long_files(rt: HostRuntime) -> Result<(), Fail> {
+    let alloc = rt.alloc();
+    refuses_at_limit(
+        &rt,
+        alloc,
+        0,
+        65_536,
+        "error: too long: script.vtl\n",
+        "error: unbuilt: script.vtl\n",
+    )?;
+    refuses_at_limit(
+        &rt,
+        alloc,
+        1,
+        1_048_576,
+        "error: too long: structures.csv\n",
+        "error: unbuilt: structures.csv\n",
+    )?;
+    refuses_at_limit(
+        &rt,
+        alloc,
+        2,
+        67_108_864,
+        "error: too long: in/DS_1.csv\n",
+        "error: unbuilt: in/DS_1.csv\n",
+    )?;
+    Ok(())
+}
+
+static NOT_POINTS: [&str; 20] = [
+    "",
+    "Id_1,Me_1",
+    "Id_1,Me_1\na,9",
+    "Id_1,Me_1\r\na,9\r\n",
+    "Id_1,Me_1\n\"a\",9\n",
+    "Id_1,Me_1\n\u{e9},9\n",
+    "Id_1,Me_1\n\na,9\n",
+    "Me_1,Id_1\n9,a\n",
+    "Id_1\na\n",
+    "Id_1,me_1\na,9\n",
+    "Id_1,Me_1\na\n",
+    "Id_1,Me_1\na,9,\n",
+    "Id_1,Me_1\n,9\n",
+    "Id_1,Me_1\na,9\nb,8\na,7\n",
+    "Id_1,Me_1\na,x\n",
+    "Id_1,Me_1\na,-\n",
+    "Id_1,Me_1\na,+9\n",
+    "Id_1,Me_1\na, 9\n",
+    "Id_1,Me_1\na,9.0\n",
+    "Id_1,Me_1\na,1234567890123\n",
+];
+
+#[test]
+fn refuses_other_points(rt: HostRuntime) -> Result<(), Fail> {
+    let alloc = rt.alloc();
+    for text in NOT_POINTS {
+        let held = held(alloc, STRUCTURES, text)?;
+        refuses(
+            &rt,
+            alloc,
+            &WORDS,
+            held,
+            Vec::new(alloc),
+            8,
+            "error: unbuilt: in/DS_1.csv\n",
+        )?;
+    }
+    Ok(())
+}
+
+// A fault while the output is written; `count` files with `text` in the last are there then.
+fn stops_writing(
+    rt: &impl Abort,
+    alloc: Global,
+    method: Method,
+    number: u64,
+    count: usize,
+    text: &str,
+) -> Result<(), AllocError> {
+    let held = held(alloc, STRUCTURES, POINTS)?;
+    let mut files = MemFiles::new(alloc, held, 8, failing(alloc, method, number)?);
+    let mut out = MemSink::new(alloc, 8, Vec::new(alloc));
+    let status = vtl(
+        alloc,
+        strings(alloc, &WORDS)?.as_slice(),
+        &mut files,
+        &mut out,
+    );
+    is_told(rt, &status, &out, 6, "error: write fault: out/DS_r.csv\n");
+    let written = files.written();
+    assert_eq!(rt; written.len(), count);
+    if let Some(output) = written.first() {
+        assert_eq!(rt; output.name.as_str(), "out/DS_r.csv");
+        assert_eq!(rt; output.bytes.as_slice(), text.as_bytes());
+    }
+    Ok(())
+}
+
+#[test]
+fn tells_where_writing_stops(rt: HostRuntime) -> Result<(), Fail> {
+    let alloc = rt.alloc();
+    stops_writing(&rt, alloc, Method::Create, 1, 0, "")?;
+    stops_writing(&rt, alloc, Method::Write, 3, 1, "Id_1,Me_1\na,9\nb,")?;
+    stops_writing(&rt, alloc, Method::Finish, 1, 1, KEPT)?;
+    Ok(())
+}
+
+// The line may be cut; the status stays.
+#[test]
+fn a_sink_may_fail(rt: HostRuntime) -> Result<(), Fail> {
+    let alloc = rt.alloc();
+    for (number, line) in [(1u64, ""), (2, "error: u")] {
+        let mut fail = Vec::new(alloc);
+        fail.push(number)?;
+        let mut files = MemFiles::new(alloc, Vec::new(alloc), 8, Vec::new(alloc));
+        let mut out = MemSink::new(alloc, 8, fail);
+        let status = vtl(alloc, &[], &mut files, &mut out);
+        is_told(&rt, &status, &out, 1, line);
+    }
+    Ok(())
+}
