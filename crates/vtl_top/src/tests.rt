@@ -265,51 +265,51 @@ fn spaces(alloc: Global, count: usize) -> Result<Vec<u8>, AllocError> {
     Ok(bytes)
 }
 
-// A file of spaces: at its limit it has not the form, and one byte more is too long.
-fn refuses_at_limit(
+// The file at place `k` of those held is one of so many spaces.
+fn refuses_spaces(
     rt: &impl Abort,
     alloc: Global,
     k: usize,
-    limit: usize,
-    long: &str,
-    other: &str,
+    count: usize,
+    code: u8,
+    line: &str,
 ) -> Result<(), AllocError> {
-    for (count, code, line) in [(limit, 8, other), (limit + 1, 4, long)] {
-        let mut files = held(alloc, STRUCTURES, POINTS)?;
-        if let Some(file) = files.get_mut(k) {
-            file.bytes = spaces(alloc, count)?;
-        }
-        refuses(rt, alloc, &WORDS, files, Vec::new(alloc), code, line)?;
+    let mut files = held(alloc, STRUCTURES, POINTS)?;
+    if let Some(file) = files.get_mut(k) {
+        file.bytes = spaces(alloc, count)?;
     }
-    Ok(())
+    refuses(rt, alloc, &WORDS, files, Vec::new(alloc), code, line)
 }
 
+// A file of spaces has no form; one byte over its limit it is too long.
 #[test]
 fn refuses_long_files(rt: HostRuntime) -> Result<(), Fail> {
     let alloc = rt.alloc();
-    refuses_at_limit(
-        &rt,
-        alloc,
-        0,
-        65_536,
-        "error: too long: script.vtl\n",
-        "error: unbuilt: script.vtl\n",
-    )?;
-    refuses_at_limit(
+    refuses_spaces(&rt, alloc, 0, 65_536, 8, "error: unbuilt: script.vtl\n")?;
+    refuses_spaces(&rt, alloc, 0, 65_537, 4, "error: too long: script.vtl\n")?;
+    refuses_spaces(
         &rt,
         alloc,
         1,
         1_048_576,
-        "error: too long: structures.csv\n",
+        8,
         "error: unbuilt: structures.csv\n",
     )?;
-    refuses_at_limit(
+    refuses_spaces(
+        &rt,
+        alloc,
+        1,
+        1_048_577,
+        4,
+        "error: too long: structures.csv\n",
+    )?;
+    refuses_spaces(
         &rt,
         alloc,
         2,
-        67_108_864,
+        67_108_865,
+        4,
         "error: too long: in/DS_1.csv\n",
-        "error: unbuilt: in/DS_1.csv\n",
     )?;
     Ok(())
 }
