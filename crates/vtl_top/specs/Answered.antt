@@ -98,11 +98,22 @@ abbrev pub HasCause : Outside → Outside → Status → Type 0
 HasCause before now (st.NoFile path) = (path ≡ chars now.place) × Rose before.absences now.absences
 HasCause before now (st.ReadFault path) = Faulted before now path
 HasCause before now (st.WriteFault path) = Faulted before now path
-HasCause before now st.Done = now.creating ≡ false
+HasCause before now st.Done = Unit {0}
 HasCause before now st.Usage = Unit {0}
 HasCause before now (st.TooLong path) = Unit {0}
 HasCause before now (st.Unbuilt path) = Unit {0}
 HasCause before now st.Memory = Unit {0}
+
+-- A file is left unfinished only after a fault of writing.
+abbrev pub IsClosed : Bool → Status → Type 0
+IsClosed creating (st.WriteFault path) = Unit {0}
+IsClosed creating (st.NoFile path) = creating ≡ false
+IsClosed creating (st.TooLong path) = creating ≡ false
+IsClosed creating (st.ReadFault path) = creating ≡ false
+IsClosed creating (st.Unbuilt path) = creating ≡ false
+IsClosed creating st.Usage = creating ≡ false
+IsClosed creating st.Memory = creating ≡ false
+IsClosed creating st.Done = creating ≡ false
 
 -- one more file
 abbrev pub Adds : Option (List (List ℕ × List ℕ)) → Option (List (List ℕ × List ℕ)) → List ℕ × List ℕ → Type 0

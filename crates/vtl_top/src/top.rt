@@ -2,7 +2,7 @@
 ghost use Rattle.std.specs.Prelude.{◌≡◌, ◌≢◌, ◌≤◌, ◌↔◌, None, Some, false, map, IfSome, IsTrue, string_bytes};
 ghost use Rattle.vtl_files.specs.Outside.{Rose, TakesAll};
 ghost use Rattle.vtl_files.specs.Whole.{TakesFront};
-ghost use Rattle.vtl_top.specs.Answered.{HasCause, IsWritten, StatusFits, Writes, told};
+ghost use Rattle.vtl_top.specs.Answered.{HasCause, IsClosed, IsWritten, StatusFits, Writes, told};
 ghost use Rattle.vtl_top.specs.Expected.{run_of};
 ghost use Rattle.vtl_top.specs.OutputView.{NamesPath, output_view};
 ghost use Rattle.vtl_top.specs.RunView.{run_view};
@@ -34,10 +34,12 @@ pub fn vtl<F: Files, O: Sink>(alloc: Global, words: &[String], files: &mut F, ou
     // fault at a path that is read up to there, or at the output; or want of memory.
     ensures status { IfSome (F.held files.old) (λ held. StatusFits (run_of (map string_bytes words.now)) held result) }
 
-    // No file, and faults of reading and writing, come only by a count that rose, at the path that the status names;
-    // on Done each file is finished.
+    // No file, and faults of reading and writing, come only by a count that rose, at the path that the status names.
     ensures cause { HasCause (told F.held F.written F.faults F.absences F.misuses F.creating F.place F.mark files.old)
         (told F.held F.written F.faults F.absences F.misuses F.creating F.place F.mark files.new) result }
+
+    // A file is left unfinished only after a fault of writing.
+    ensures closed { IsClosed (F.creating files.new) result }
 
     // On Done exactly the output is written; after a fault of writing a front of it; else nothing.
     ensures written { Writes (run_of (map string_bytes words.now)) (told F.held F.written F.faults F.absences F.misuses F.creating F.place F.mark files.old)
@@ -73,6 +75,7 @@ fn answer<F: Files>(alloc: Global, words: &[String], files: &mut F) -> Status
     ensures status { IfSome (F.held files.old) (λ held. StatusFits (run_of (map string_bytes words.now)) held result) }
     ensures cause { HasCause (told F.held F.written F.faults F.absences F.misuses F.creating F.place F.mark files.old)
         (told F.held F.written F.faults F.absences F.misuses F.creating F.place F.mark files.new) result }
+    ensures closed { IsClosed (F.creating files.new) result }
     ensures written { Writes (run_of (map string_bytes words.now)) (told F.held F.written F.faults F.absences F.misuses F.creating F.place F.mark files.old)
         (told F.held F.written F.faults F.absences F.misuses F.creating F.place F.mark files.new) result }
 {
@@ -93,6 +96,7 @@ fn carry_out<F: Files>(alloc: Global, files: &mut F, run: Run) -> Status
     ensures status { IfSome (F.held files.old) (λ held. StatusFits (Some (run_view run.entry)) held result) }
     ensures cause { HasCause (told F.held F.written F.faults F.absences F.misuses F.creating F.place F.mark files.old)
         (told F.held F.written F.faults F.absences F.misuses F.creating F.place F.mark files.new) result }
+    ensures closed { IsClosed (F.creating files.new) result }
     ensures written { Writes (Some (run_view run.entry)) (told F.held F.written F.faults F.absences F.misuses F.creating F.place F.mark files.old)
         (told F.held F.written F.faults F.absences F.misuses F.creating F.place F.mark files.new) result }
 {
