@@ -16,3 +16,6 @@ pub mod status;
 pub mod structures;
 pub mod top;
 pub mod words;
+
+pub use status::{Status, tell};
+pub use top::vtl;
