@@ -33,10 +33,13 @@ awk 'BEGIN {
 echo "rows:          1000000"
 echo "bytes read:    $(wc -c <"$made/in/readings.csv")"
 start=$(date +%s%N)
-"$program" run "$made/script.vtl" "$made/structures.csv" "$made/in" "$made/out"
-status=$?
+# In a subshell of its own, whose children are the program alone.
+(
+    "$program" run "$made/script.vtl" "$made/structures.csv" "$made/in" "$made/out" || exit
+    times >"$made/times"
+) || exit
 end=$(date +%s%N)
-[ "$status" -eq 0 ] || exit "$status"
 echo "rows written:  $(($(wc -l <"$made/out/large.csv") - 1))"
 echo "bytes written: $(wc -c <"$made/out/large.csv")"
-echo "milliseconds:  $(((end - start) / 1000000))"
+echo "elapsed:       $(((end - start) / 1000000)) ms"
+echo "user, system:  $(sed -n 2p "$made/times")"
