@@ -1,5 +1,5 @@
 -- The test decides equality.
-use Rattle.std.proofs.Common.{◌≡◌, Bool, true, false, refl, sym, ap, subst, true≢false}
+use Rattle.std.proofs.Common.{◌≡◌, Bool, true, false, refl, sym, ap, true≢false}
 use Rattle.std.proofs.lemmas.Bool.Decides.{Decides-int_eq}
 use Rattle.std.proofs.lemmas.Slice.Eq.{bytes_eq-Decides}
 use Rattle.vtl_cell.specs.Equal.{same_bool, same_cell}

@@ -1,5 +1,5 @@
 -- Equality of cells, as a test that computes.
-use Rattle.std.specs.Prelude.{Bool, true, false, not, List, [], ◌∷◌, nat_eq}
+use Rattle.std.specs.Prelude.{Bool, true, false, not, nat_eq}
 use Rattle.std.specs.Ordering.{int_eq}
 use lib.Pointwise.{pointwise}
 use Rattle.vtl_cell.specs.declared.cell.Cell.{Cell}

@@ -1,5 +1,4 @@
 -- The order of cells: null, then booleans, integers and texts.
-use Rattle.std.specs.Prelude.{Bool, true, false}
 use Rattle.std.specs.declared.cmp.Ordering.{Ordering}
 use Rattle.std.specs.declared.cmp.Ordering.TheVariants.{Less, Equal, Greater}
 use Rattle.std.specs.Ordering.{nat_cmp, int_cmp, bool_cmp}

@@ -8,3 +8,6 @@ mod row;
 pub use cell::{Cell, clone_cell, compare, is_same, order_is_lawful};
 pub use kind::{Kind, ScalarOp};
 pub use row::{is_same_key, is_same_row};
+
+#[cfg(test)]
+mod tests;

@@ -30,5 +30,9 @@ pub fn is_same_key(a: &[Cell], b: &[Cell], count: usize) -> bool
 fn front(row: &[Cell], count: usize) -> &[Cell]
     ensures { result.now ≡ take count row.now }
 {
-    if count < row.len() { &row[..count] } else { row }
+    if count < row.len() {
+        &row[..count]
+    } else {
+        row
+    }
 }

@@ -2,7 +2,7 @@
 use Rattle.std.proofs.Common.{◌≡◌, ℕ, List, [], ◌∷◌, ◌++◌, Bool, true, false, cond, take, Option, Some, None, refl, sym, ap, ◌∙◌, subst, true≢false}
 use Rattle.std.specs.List.{filter, AllByRecursion}
 use Rattle.vtl_lists.specs.Perm.{Perm, empty, keep, cross, chain}
-use Rattle.vtl_lists.proofs.Perms.{Perm-refl, Perm-same, Perm-sym, Perm-middle}
+use Rattle.vtl_lists.proofs.Perms.{Perm-same, Perm-sym, Perm-middle}
 use Rattle.vtl_lists.proofs.Sorts.{AllByRecursion-filter}
 use Rattle.vtl_cell.specs.Row.{Row, same_row}
 use Rattle.vtl_cell.proofs.Rows.{same_row-is, same_row-refl, same_row-sym}

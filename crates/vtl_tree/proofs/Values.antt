@@ -1,6 +1,6 @@
 -- The operands that are left to evaluate.
 use Rattle.std.proofs.Common.{rules, Vec, Global, ◌≡◌, ℕ, ◌+◌, ◌<◌, ◌≤◌, List, [], ◌∷◌, ◌++◌, length, get_or, drop, map, Result, Ok, Err, subst, refl, sym, ap, ◌∙◌, append_assoc}
-use Rattle.std.proofs.lemmas.List.{append-nil, drop_more, drop_all, drop-map, get_or-map}
+use Rattle.std.proofs.lemmas.List.{append-nil, drop_more, drop_all, drop-map}
 use Rattle.vtl_cell.specs.declared.cell.Cell.{Cell}
 use Rattle.vtl_tree.specs.Exp.{Exp, call}
 use Rattle.vtl_cell.specs.Outcome.{Fault, DivZero, Range, Outcome, after}

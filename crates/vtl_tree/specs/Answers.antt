@@ -1,7 +1,5 @@
 -- What an answer of the program tells of a value or a fault.
-use Rattle.std.specs.Prelude.{◌≡◌, Result, Ok, Err, List, map}
-use Rattle.vtl_cell.specs.declared.cell.Cell.{Cell}
-use Rattle.vtl_cell.specs.Row.{Row}
+use Rattle.std.specs.Prelude.{◌≡◌, Result, Ok, Err}
 use Rattle.vtl_cell.specs.Outcome.{Outcome, DivZero, Range}
 use Rattle.vtl_tree.specs.declared.evaluation.ScalarErr.{ScalarErr}
 use Rattle.vtl_tree.specs.declared.evaluation.ScalarErr.TheVariants as err

@@ -1,5 +1,5 @@
 -- The clauses on data sets, as functions on lists of points.
-use Rattle.std.specs.Prelude.{Bool, true, false, Result, Ok, Err, List, filter}
+use Rattle.std.specs.Prelude.{Bool, false, Ok, List, filter}
 use Rattle.vtl_cell.specs.declared.cell.Cell.{Cell}
 use Rattle.vtl_cell.specs.declared.cell.Cell.TheVariants as c
 use Rattle.vtl_cell.specs.Row.{Row}

@@ -1,6 +1,5 @@
 -- The meaning of a script: what its statements give over an environment of data sets.
-use Rattle.std.specs.Prelude.{◌≡◌, ℕ, cond, Result, Ok, Err, Option, Some, None, List, [], ◌∷◌, ◌++◌}
-use Rattle.vtl_lists.specs.Perm.{Perm}
+use Rattle.std.specs.Prelude.{ℕ, cond, Result, Ok, Err, Option, Some, None, List, [], ◌∷◌}
 use Rattle.vtl_cell.specs.Row.{Row}
 use Rattle.vtl_cell.specs.Outcome.{Fault, Outcome, after}
 use Rattle.vtl_tree.specs.Exp.{Exp}

@@ -1,5 +1,5 @@
 -- Results up to order.
-use Rattle.std.specs.Prelude.{◌≡◌, Result, Ok, Err, List}
+use Rattle.std.specs.Prelude.{◌≡◌, Ok, Err, List}
 use Rattle.vtl_lists.specs.Perm.{Perm}
 use Rattle.vtl_cell.specs.Outcome.{Outcome}
 

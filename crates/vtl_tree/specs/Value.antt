@@ -1,5 +1,5 @@
 -- The value of a component expression at a point.
-use Rattle.std.specs.Prelude.{ℕ, Bool, true, false, Result, Ok, Err, List, [], ◌∷◌, ℤ, int_lt, nat_lt}
+use Rattle.std.specs.Prelude.{Ok, List, [], ◌∷◌}
 use Rattle.std.specs.Ordering.{is_gt}
 use Rattle.vtl_cell.specs.declared.cell.Cell.{Cell}
 use Rattle.vtl_cell.specs.declared.cell.Cell.TheVariants as c

@@ -1,9 +1,7 @@
-use Rattle.std.proofs.Common.{rules, ◌≡◌, ◌+◌, ◌<◌, ◌≤◌, length, get_or, map, drop, Ok, Err, arith, ◌∙◌, sym, ap}
-use Rattle.vtl_tree.specs.Value.{apply_of, value, values}
-use Rattle.vtl_cell.specs.Outcome.{after}
-use Rattle.vtl_tree.specs.Answers.{Answers}
-use Rattle.vtl_tree.specs.View.{exp_of, exps_of}
-use Rattle.vtl_tree.proofs.Values.{rest, rest_more, Answers_same, Answers_passed, value_at_end, value_stops}
+use Rattle.std.proofs.Common.{rules, ◌≡◌, get_or, Ok, Err, ◌∙◌, sym, ap}
+use Rattle.vtl_tree.specs.Value.{apply_of, value}
+use Rattle.vtl_tree.specs.View.{exp_of}
+use Rattle.vtl_tree.proofs.Values.{rest_more, Answers_same, Answers_passed, value_at_end, value_stops}
 use Rattle.vtl_tree.proofs.evaluation.+eval.Goals as goal
 
 pub returns-in_err-v-in-Apply : goal.returns-in_err-v-in-Apply
