@@ -70,7 +70,7 @@ is_Less Less e = refl
 is_Less Equal e = absurd (true≢false (sym e))
 is_Less Greater e = absurd (true≢false (sym e))
 
-front_rises : (n : ℕ) (x y : Row) → le_by row_cmp x y ≡ true → le_by row_cmp (take n x) (take n y) ≡ true
+pub front_rises : (n : ℕ) (x y : Row) → le_by row_cmp x y ≡ true → le_by row_cmp (take n x) (take n y) ≡ true
 front_rises n x y e = go (is_lt (row_cmp (take n y) (take n x))) refl
   where
     go : (b : Bool) → is_lt (row_cmp (take n y) (take n x)) ≡ b → not b ≡ true

@@ -2,6 +2,7 @@ pub mod DataSetLemmas
 pub mod FieldLemmas
 pub mod FilterLemmas
 pub mod FrontLemmas
+pub mod KeyOrderLemmas
 pub mod MeantLemmas
 pub mod OutputLemmas
 pub mod PlaceLemmas

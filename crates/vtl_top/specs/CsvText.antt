@@ -1,5 +1,5 @@
 -- The CSV text of a data set.
-use Rattle.std.specs.Prelude.{ℕ, List, [], ◌∷◌, map, flat_map, encode_utf8_all}
+use Rattle.std.specs.Prelude.{ℕ, Bool, List, [], ◌∷◌, map, flat_map, take, encode_utf8_all}
 use Rattle.csv.specs.Writing.{default_writer, row_text}
 use Rattle.vtl_lists.specs.Sorting.{le_by, sorted_by}
 use Rattle.vtl_cell.specs.Row.{Row, row_cmp}
@@ -16,8 +16,12 @@ header_of columns = map (λ x. encode_utf8_all x.name) columns
 abbrev pub csv_rows : List Component → List Row → List ℕ
 csv_rows columns rows = flat_map (row_text default_writer) (header_of columns ∷ map (map field_of) rows)
 
+-- at most, by the first n cells from the left
+abbrev pub le_key : ℕ → Row → Row → Bool
+le_key n x y = le_by row_cmp (take n x) (take n y)
+
 -- The CSV text of the data set with these columns and points: the header, and the points in order of their cells from
--- the left. The identifiers stand first, and no two points have the same ones: so this is the order by identifiers.
+-- the left. The identifiers stand first, so the points rise by their identifiers.
 abbrev pub csv_in : List Component → List Row → List ℕ
 csv_in columns points = csv_rows columns (sorted_by (le_by row_cmp) points)
 

@@ -21,7 +21,7 @@ mod tests;
 mod top;
 mod words;
 
-pub use laws::{output_is_meant, points_are_a_data_set};
+pub use laws::{output_is_meant, output_rises_by_identifiers, points_are_a_data_set};
 pub use plain::plain_lines_are_lines;
 pub use statement::{Statement, statements_are_spelled};
 pub use status::{Status, tell};
