@@ -1,0 +1,4 @@
+pub mod DayLemmas
+pub mod NumeralLemmas
+pub mod PeriodLemmas
+pub mod TextLemmas

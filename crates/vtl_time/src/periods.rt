@@ -1,0 +1,188 @@
+// Periods of time.
+ghost use Rattle.std.specs.Prelude.{◌≡◌, ◌+◌, ◌≤◌, ◌<◌, ◌++◌, Some, OnOk, OnErr, IfOk, IfSome, chars, pos, neg_ℤ};
+ghost use Rattle.std.specs.Ordering.{int_cmp};
+
+use crate::numerals::{last_digit, number};
+use std::alloc::AllocError;
+use std::marker::Model;
+
+// Periods lie in the years 0 to 9999.
+const YEARS: u64 = 10_000;
+
+/// How a year is parted: not at all, into halves, quarters or months.
+#[derive(Clone, Copy, Debug, PartialEq, Eq, PartialOrd, Ord, Hash)]
+pub enum Frequency {
+    Annual,
+    Semester,
+    Quarter,
+    Month,
+}
+
+impl Frequency {
+    ghost use Rattle.vtl_time.specs.Periods.{parts_of, width_of, letter_of};
+
+    // How many periods a year has.
+    fn parts(self) -> u8
+        ensures { result ≡ parts_of self }
+    {
+        match self {
+            Frequency::Annual => 1,
+            Frequency::Semester => 2,
+            Frequency::Quarter => 4,
+            Frequency::Month => 12,
+        }
+    }
+
+    // How many digits the number of a part is written with.
+    fn width(self) -> usize
+        ensures { result ≡ width_of self }
+    {
+        match self {
+            Frequency::Annual | Frequency::Semester | Frequency::Quarter => 1,
+            Frequency::Month => 2,
+        }
+    }
+
+    fn letter(self) -> u8
+        ensures { result ≡ letter_of self }
+    {
+        match self {
+            Frequency::Annual => b'A',
+            Frequency::Semester => b'S',
+            Frequency::Quarter => b'Q',
+            Frequency::Month => b'M',
+        }
+    }
+}
+
+/// A period of a year from 0 to 9999. Periods are ordered by frequency (years, halves, quarters, months), then by year, then by part.
+#[derive(Clone, Copy, Debug, PartialEq, Eq, PartialOrd, Ord, Hash)]
+pub struct Period {
+    frequency: Frequency,
+    year: u16,
+    part: u8,
+}
+
+impl Model for Period {
+    ghost use Rattle.std.specs.Prelude.{IsTrue};
+    ghost use Rattle.vtl_time.specs.Periods.{YearPart, is_year_part};
+
+    ghost Value = { YearPart };
+
+    ghost view = { λ p. record { frequency = p.frequency; year = p.year; part = p.part } };
+
+    ghost invariant = { λ p. IsTrue (is_year_part p.frequency p.year p.part) };
+
+    ghost inverse = { λ v. record { frequency = v.frequency; year = v.year; part = v.part } };
+}
+
+ghost use Rattle.vtl_time.specs.Periods.{period_of, period_cmp, period_text, numbered_part_of, part_of, rest_of, read_period_of, shift_of};
+
+/// The period that `t` spells: `YYYY-A1`, `YYYY-S1` to `S2`, `YYYY-Q1` to `Q4`, `YYYY-M01` to `M12`, or as `YYYY` a year and as `YYYY-01` to `YYYY-12` a month.
+/// `None` for any other text.
+pub fn read_period(t: &str) -> Option<Period>
+    ensures { result ≡ read_period_of (chars t.now) }
+{
+    period_in(t.as_bytes())
+}
+
+fn period_in(bytes: &[u8]) -> Option<Period>
+    ensures { result ≡ read_period_of bytes.now }
+{
+    if bytes.len() < 4 {
+        return None;
+    }
+    let year = number(&bytes[..4])?;
+    rest_in(year, &bytes[4..])
+}
+
+fn rest_in(year: u16, rest: &[u8]) -> Option<Period>
+    requires { year ≤ 9999 }
+    ensures { result ≡ rest_of year rest.now }
+{
+    match rest.first() {
+        None => make_period(Frequency::Annual, year, 1),
+        Some(b'-') => part_in(year, &rest[1..]),
+        Some(_) => None,
+    }
+}
+
+fn part_in(year: u16, part: &[u8]) -> Option<Period>
+    requires { year ≤ 9999 }
+    ensures { result ≡ part_of year part.now }
+{
+    match part.first()? {
+        b'A' => numbered_part(Frequency::Annual, year, &part[1..]),
+        b'S' => numbered_part(Frequency::Semester, year, &part[1..]),
+        b'Q' => numbered_part(Frequency::Quarter, year, &part[1..]),
+        b'M' => numbered_part(Frequency::Month, year, &part[1..]),
+        _ => numbered_part(Frequency::Month, year, part),
+    }
+}
+
+fn numbered_part(frequency: Frequency, year: u16, digits: &[u8]) -> Option<Period>
+    requires { year ≤ 9999 }
+    ensures { result ≡ numbered_part_of frequency year digits.now }
+{
+    if digits.len() != frequency.width() {
+        return None;
+    }
+    make_period(frequency, year, number(digits)?)
+}
+
+// The period with these numbers, if there is one.
+fn make_period(frequency: Frequency, year: u16, part: u16) -> Option<Period>
+    requires { year ≤ 9999 }
+    ensures { result ≡ period_of frequency year part }
+{
+    if part < 1 || part > u16::from(frequency.parts()) {
+        return None;
+    }
+    Some(Period {
+        frequency,
+        year,
+        part: part as u8,
+    })
+}
+
+/// The `n`-th period of the same frequency after `p`, or before it for a negative `n`. `None` exactly where its year is not in 0 to 9999.
+pub fn shift(p: Period, n: i64) -> Option<Period>
+    ensures value { result ≡ shift_of p n }
+    ensures back { IfSome result (λ q. shift_of q (neg_ℤ n) ≡ Some p) }
+    ensures order { IfSome result (λ q. period_cmp p q ≡ int_cmp (pos 0) n) }
+{
+    let parts = u64::from(p.frequency.parts());
+    let index = u64::from(p.year) * parts + u64::from(p.part) - 1;
+    let shifted = index.checked_add_signed(n)?;
+    if shifted >= YEARS * parts {
+        return None;
+    }
+    Some(Period {
+        frequency: p.frequency,
+        year: (shifted / parts) as u16,
+        part: (shifted % parts) as u8 + 1,
+    })
+}
+
+/// Appends the period to `out`, as `YYYY-A1`, `YYYY-S1`, `YYYY-Q1` or `YYYY-M01`. It fails only for want of memory, and then leaves `out` as it was.
+pub fn write_period(p: Period, out: &mut Vec<u8>) -> Result<(), AllocError>
+    ensures ok { OnOk result (out.new.items ≡ out.old.items ++ period_text p) }
+    ensures err { OnErr result (out.new.items ≡ out.old.items) }
+    ensures reads_back { read_period_of (period_text p) ≡ Some p }
+{
+    let part = u16::from(p.part);
+    let text = [
+        last_digit(p.year / 1000),
+        last_digit(p.year / 100),
+        last_digit(p.year / 10),
+        last_digit(p.year),
+        b'-',
+        p.frequency.letter(),
+        last_digit(part / 10),
+        last_digit(part),
+    ];
+    match p.frequency {
+        Frequency::Month => out.extend_from_slice(&text),
+        _ => out.extend_from_slice(&[text[0], text[1], text[2], text[3], text[4], text[5], text[7]]),
+    }
+}
