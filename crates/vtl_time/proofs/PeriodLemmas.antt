@@ -1,16 +1,21 @@
 -- Periods of time.
-use Rattle.std.proofs.Common.{◌≡◌, ℕ, zero, suc, ◌+◌, ◌-◌, ◌*◌, ◌/◌, ◌%◌, ◌<◌, ◌≤◌, Bool, true, false, cond, ◌&&◌, ◌==◌, nat_le, nat_lt, List, [], ◌∷◌, ◌++◌, length, take, drop, Option, None, Some, IfSome, option_and_then, refl, sym, ap, subst, ◌∙◌, arith, ℤ, pos, negsuc, neg_ℤ, ◌+ℤ◌, w64}
-use Rattle.std.specs.Ordering.{Ordering, ordering_then, nat_cmp, int_cmp}
+use Rattle.std.proofs.Common.{◌≡◌, ℕ, suc, ◌+◌, ◌-◌, ◌*◌, ◌/◌, ◌%◌, ◌^◌, ◌<◌, ◌≤◌, Bool, true, false, cond, ◌&&◌, ◌==◌, nat_le, nat_lt, List, [], ◌∷◌, length, take, drop, Option, None, Some, option_and_then, refl, sym, ap, subst, ◌∙◌, arith, lit<, ⊎_elim, ℤ, pos, negsuc, neg_ℤ, ◌+ℤ◌, ◌≤ℤ◌, unsigned_abs, FitsSigned, to_z, of_z, w64}
+use Rattle.std.specs.declared.cmp.Ordering.{Ordering}
+use Rattle.std.specs.Ordering.{ordering_then, nat_cmp, int_cmp}
 use Rattle.std.specs.Int.{FitsUnsigned}
 use Rattle.std.specs.Str.{IsAscii}
+use Rattle.std.proofs.lemmas.Bool.{cases_Bool, eqb-true, eq-eqb}
+use Rattle.std.proofs.lemmas.List.{take-append-drop}
+use Rattle.std.proofs.lemmas.Str.{IsAscii-append}
+use Rattle.std.proofs.lemmas.Str.Ascii.{IsAscii-nil, IsAscii-cons}
 use Rattle.std.proofs.lemmas.Bool.Decides.{nat_tests}
-use Rattle.std.proofs.lemmas.Int.{ints}
+use Rattle.std.proofs.lemmas.Int.{ints, to_z-of_z}
 use Rattle.std.proofs.lemmas.Nat.{div-mul-add, mod-mul-add, div-add-mod', mul-add-lt, div_below, mod_below}
 use Rattle.vtl_time.specs.declared.periods.Frequency.{Frequency}
 use Rattle.vtl_time.specs.declared.periods.Frequency.TheVariants.{Annual, Semester, Quarter, Month}
-use Rattle.vtl_time.specs.Numerals.{number_of, two_digits, four_digits}
-use Rattle.vtl_time.specs.Periods.{YearPart, parts_of, is_year_part, period_of, period_cmp, rank_of, index_of, period_at, period_within, shift_of, period_text, numbered_part_of, part_of, rest_of, read_period_of}
-use Rattle.vtl_time.proofs.NumeralLemmas.{both, chosen, number_of-one, number_of-two, number_of-four, number_ascii}
+use Rattle.vtl_time.specs.Numerals.{number_of, two_digits}
+use Rattle.vtl_time.specs.Periods.{YearPart, parts_of, is_year_part, period_of, period_cmp, rank_of, index_of, period_at, period_within, shift_of, period_text, part_text, letter_of, width_of, numbered_part_of, part_of, rest_of, read_period_of}
+use Rattle.vtl_time.proofs.NumeralLemmas.{both, number_of-one, number_of-two, number_of-four, number_ascii}
 
 pub parts_from : (f : Frequency) → 1 ≤ parts_of f
 parts_from Annual = omega arith
@@ -53,6 +58,15 @@ IsPart p = is_year_part p.frequency p.year p.part ≡ true
 
 abbrev part_with : Frequency → ℕ → ℕ → YearPart
 part_with f y n = record { frequency = f; year = y; part = n }
+
+not_from : (b : Bool) → (b ≡ true → ⊥) → b ≡ false
+not_from b h = ⊎_elim (λ yes. absurd (h yes)) (λ k. k) (cases_Bool b)
+
+at_least : (a b : ℕ) → a ≤ b → nat_le a b ≡ true
+at_least a b h = grind (arith, nat_tests)
+
+less_than : (a b : ℕ) → b < a → nat_le a b ≡ false
+less_than a b h = grind (arith, nat_tests)
 
 below_true : (a b : ℕ) → a < b → nat_lt a b ≡ true
 below_true a b h = grind (arith, nat_tests)
@@ -159,3 +173,102 @@ shift_of-past p n i sum past =
 pub shift_of-none : (p : YearPart) (n : ℤ) → ¬ FitsUnsigned w64 (pos (index_of p) +ℤ n) → shift_of p n ≡ None
 unfolding shift_of
 shift_of-none p n out = none_within p.frequency (pos (index_of p) +ℤ n) out
+
+-- the period with these numbers, and no period
+pub period_of-some : (f : Frequency) (y n : ℕ) → is_year_part f y n ≡ true → period_of f y n ≡ Some (record { frequency = f; year = y; part = n })
+period_of-some f y n h = ap (λ b. cond b (Some (part_with f y n)) None) h
+
+pub period_of-none : (f : Frequency) (y n : ℕ) → (is_year_part f y n ≡ true → ⊥) → period_of f y n ≡ None
+period_of-none f y n h = ap (λ b. cond b (Some (part_with f y n)) None) (not_from (is_year_part f y n) h)
+
+-- a text of at least four characters, by its year and by what follows
+pub read_long : (cs : List ℕ) → 4 ≤ length cs → read_period_of cs ≡ option_and_then (λ y. rest_of y (drop 4 cs)) (number_of (take 4 cs))
+unfolding read_period_of
+read_long cs long = ap (λ b. cond b (option_and_then (λ y. rest_of y (drop 4 cs)) (number_of (take 4 cs))) None) (at_least 4 (length cs) long)
+
+pub read_short : (cs : List ℕ) → length cs < 4 → read_period_of cs ≡ None
+unfolding read_period_of
+read_short cs short = ap (λ b. cond b (option_and_then (λ y. rest_of y (drop 4 cs)) (number_of (take 4 cs))) None) (less_than 4 (length cs) short)
+
+-- a period's text reads as the period
+numbered : (f : Frequency) (y n : ℕ) (cs : List ℕ) → length cs ≡ width_of f → number_of cs ≡ Some n → is_year_part f y n ≡ true → numbered_part_of f y cs ≡ Some (part_with f y n)
+numbered f y n cs width number h =
+    ap (λ b. cond b (option_and_then (λ k. period_of f y k) (number_of cs)) None) (eq-eqb (length cs) (width_of f) width)
+    ∙ ap (option_and_then (λ k. period_of f y k)) number ∙ period_of-some f y n h
+
+rest_reads : (f : Frequency) (y n : ℕ) → is_year_part f y n ≡ true → rest_of y (45 ∷ (letter_of f ∷ part_text f n)) ≡ Some (part_with f y n)
+rest_reads Annual y n h = numbered Annual y n ((48 + n) ∷ []) refl (number_of-one n (omega (arith, (part_numbers Annual y n h).to))) h
+rest_reads Semester y n h = numbered Semester y n ((48 + n) ∷ []) refl (number_of-one n (omega (arith, (part_numbers Semester y n h).to))) h
+rest_reads Quarter y n h = numbered Quarter y n ((48 + n) ∷ []) refl (number_of-one n (omega (arith, (part_numbers Quarter y n h).to))) h
+rest_reads Month y n h = numbered Month y n (two_digits n) refl (number_of-two n (omega (arith, (part_numbers Month y n h).to))) h
+
+pub reads_back : (p : YearPart) → IsPart p → read_period_of (period_text p) ≡ Some p
+reads_back p h =
+    read_long (period_text p) (omega arith)
+    ∙ ap (option_and_then (λ y. rest_of y (45 ∷ (letter_of p.frequency ∷ part_text p.frequency p.part)))) (number_of-four p.year (omega (arith, (part_numbers p.frequency p.year p.part h).year)))
+    ∙ rest_reads p.frequency p.year p.part h
+
+-- a text that is read is ASCII
+some_of : {X : Type 0} (r : Option ℕ) (f : ℕ → Option X) (x : X) → option_and_then f r ≡ Some x → (n : ℕ) × (r ≡ Some n) × (f n ≡ Some x)
+some_of None f x h = cc
+some_of (Some n) f x h = (n, refl, h)
+
+if_some : {X : Type 0} (b : Bool) (r : Option X) (x : X) → cond b r None ≡ Some x → (b ≡ true) × (r ≡ Some x)
+if_some true r x h = (refl, h)
+if_some false r x h = cc
+
+numbered_ascii : (f : Frequency) (y : ℕ) (cs : List ℕ) (x : YearPart) → numbered_part_of f y cs ≡ Some x → IsAscii cs
+numbered_ascii f y cs x h =
+    let wide = if_some (length cs == width_of f) (option_and_then (λ n. period_of f y n) (number_of cs)) x h in
+    let number = some_of (number_of cs) (λ n. period_of f y n) x wide.1 in
+    number_ascii cs number.0 number.1
+
+-- a letter of its own, or what stands for any other character
+lettered : (c k : ℕ) (cs : List ℕ) (x : YearPart) (r s : Option YearPart) → k < 128 → (r ≡ Some x → IsAscii cs) → (s ≡ Some x → IsAscii (c ∷ cs)) → cond (c == k) r s ≡ Some x → IsAscii (c ∷ cs)
+lettered c k cs x r s small here there h =
+    ⊎_elim (λ same. IsAscii-cons c cs (subst (λ j. j < 128) (sym (eqb-true c k same)) small) (here (sym (ap (λ b. cond b r s) same) ∙ h)))
+    (λ other. there (sym (ap (λ b. cond b r s) other) ∙ h)) (cases_Bool (c == k))
+
+part_ascii : (y : ℕ) (cs : List ℕ) (x : YearPart) → part_of y cs ≡ Some x → IsAscii cs
+part_ascii y [] x h = cc
+part_ascii y (c ∷ cs) x h =
+    let month = numbered_part_of Month y (c ∷ cs) in
+    let by_m = cond (c == 77) (numbered_part_of Month y cs) month in
+    let by_q = cond (c == 81) (numbered_part_of Quarter y cs) by_m in
+    let by_s = cond (c == 83) (numbered_part_of Semester y cs) by_q in
+    lettered c 65 cs x (numbered_part_of Annual y cs) by_s (lit< tt) (numbered_ascii Annual y cs x)
+    (lettered c 83 cs x (numbered_part_of Semester y cs) by_q (lit< tt) (numbered_ascii Semester y cs x)
+    (lettered c 81 cs x (numbered_part_of Quarter y cs) by_m (lit< tt) (numbered_ascii Quarter y cs x)
+    (lettered c 77 cs x (numbered_part_of Month y cs) month (lit< tt) (numbered_ascii Month y cs x) (numbered_ascii Month y (c ∷ cs) x)))) h
+
+rest_ascii : (y : ℕ) (cs : List ℕ) (x : YearPart) → rest_of y cs ≡ Some x → IsAscii cs
+rest_ascii y [] x h = IsAscii-nil
+rest_ascii y (c ∷ cs) x h =
+    let dash = if_some (c == 45) (part_of y cs) x h in
+    IsAscii-cons c cs (subst (λ k. k < 128) (sym (eqb-true c 45 dash.0)) (lit< tt)) (part_ascii y cs x dash.1)
+
+pub read_period_ascii : (cs : List ℕ) (x : YearPart) → read_period_of cs ≡ Some x → IsAscii cs
+unfolding read_period_of
+read_period_ascii cs x h =
+    let long = if_some (nat_le 4 (length cs)) (option_and_then (λ y. rest_of y (drop 4 cs)) (number_of (take 4 cs))) x h in
+    let year = some_of (number_of (take 4 cs)) (λ y. rest_of y (drop 4 cs)) x long.1 in
+    subst IsAscii (take-append-drop 4 cs) (IsAscii-append (take 4 cs) (drop 4 cs) (number_ascii (take 4 cs) year.0 year.1) (rest_ascii year.0 (drop 4 cs) x year.2))
+
+-- the sum that a machine word holds
+from_abs : (z : ℤ) (i : ℕ) → pos 0 ≤ℤ z → i ≡ unsigned_abs z → z ≡ pos i
+from_abs (pos k) i low is = ap pos (sym is)
+from_abs (negsuc k) i low is = absurd (omega (arith, ints, low))
+
+module _ (p : YearPart) (n : ℤ) (i : ℕ) (fits : FitsSigned w64 n) (i_is : i ≡ index_of p) where
+  same_sum : pos i +ℤ to_z w64 (of_z w64 n) ≡ pos (index_of p) +ℤ n
+  same_sum = ap (λ k. pos i +ℤ k) (to_z-of_z w64 n fits) ∙ ap (λ k. pos k +ℤ n) i_is
+
+  pub sum_is : (j : ℕ) → FitsUnsigned w64 (pos i +ℤ to_z w64 (of_z w64 n)) → j ≡ unsigned_abs (pos i +ℤ to_z w64 (of_z w64 n)) → pos (index_of p) +ℤ n ≡ pos j
+  sum_is j within is = sym same_sum ∙ from_abs _ j within.0 is
+
+  pub no_sum : ¬ FitsUnsigned w64 (pos i +ℤ to_z w64 (of_z w64 n)) → shift_of p n ≡ None
+  no_sum out = shift_of-none p n (subst (λ z. ¬ FitsUnsigned w64 z) same_sum out)
+
+-- no part of a year but a month has two digits
+pub short_part : (f : Frequency) (y n : ℕ) → parts_of f ≤ 9 → is_year_part f y n ≡ true → n ≤ 9
+short_part f y n few h = omega (arith, (part_numbers f y n h).to)

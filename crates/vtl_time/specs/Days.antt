@@ -1,6 +1,7 @@
 -- Days of the calendar, their order and their texts. A text is the list of its characters, and a character is its code.
-use Rattle.std.specs.Prelude.{ℕ, ◌+◌, ◌-◌, ◌%◌, Bool, not, ◌&&◌, ◌||◌, ◌==◌, nat_le, nat_eq, List, [], ◌∷◌, ◌++◌, length, take, drop, slice_index, Option, None, Some, option_and_then, if◌then◌else◌}
-use Rattle.std.specs.Ordering.{Ordering, nat_cmp, on, then_cmp}
+use Rattle.std.specs.Prelude.{ℕ, ◌%◌, Bool, not, ◌&&◌, ◌||◌, ◌==◌, nat_le, List, ◌∷◌, ◌++◌, length, take, drop, slice_index, Option, None, Some, option_and_then, if◌then◌else◌}
+use Rattle.std.specs.declared.cmp.Ordering.{Ordering}
+use Rattle.std.specs.Ordering.{nat_cmp, on, then_cmp}
 use Rattle.vtl_time.specs.Numerals.{number_of, two_digits, four_digits}
 
 pub record CalendarDay : Type 0 where
@@ -42,10 +43,10 @@ has_day_shape cs = (length cs == 10) && ((slice_index cs 4 == 45) && (slice_inde
 unfoldable pub read_day_of : List ℕ → Option CalendarDay
 read_day_of cs =
     if has_day_shape cs then
-      option_and_then (λ y.
-      option_and_then (λ m.
-      option_and_then (λ d. day_of y m d)
-      (number_of (drop 8 cs)))
-      (number_of (take 2 (drop 5 cs))))
-      (number_of (take 4 cs))
+    option_and_then (λ y.
+    option_and_then (λ m.
+    option_and_then (λ d. day_of y m d)
+    (number_of (drop 8 cs)))
+    (number_of (take 2 (drop 5 cs))))
+    (number_of (take 4 cs))
     else None

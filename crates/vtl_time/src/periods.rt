@@ -1,6 +1,7 @@
 // Periods of time.
-ghost use Rattle.std.specs.Prelude.{◌≡◌, ◌+◌, ◌≤◌, ◌<◌, ◌++◌, Some, OnOk, OnErr, IfOk, IfSome, chars, pos, neg_ℤ};
+ghost use Rattle.std.specs.Prelude.{◌≡◌, [], ◌∷◌, ◌+◌, ◌*◌, ◌≤◌, ◌<◌, ◌++◌, Some, OnOk, OnErr, IfOk, IfSome, chars, pos, neg_ℤ};
 ghost use Rattle.std.specs.Ordering.{int_cmp};
+ghost use Rattle.vtl_time.specs.Numerals.{two_digits, four_digits};
 
 use crate::numerals::{last_digit, number};
 use std::alloc::AllocError;
@@ -19,7 +20,7 @@ pub enum Frequency {
 }
 
 impl Frequency {
-    ghost use Rattle.vtl_time.specs.Periods.{parts_of, width_of, letter_of};
+    ghost use Rattle.vtl_time.specs.Periods.{parts_of, width_of};
 
     // How many periods a year has.
     fn parts(self) -> u8
@@ -40,17 +41,6 @@ impl Frequency {
         match self {
             Frequency::Annual | Frequency::Semester | Frequency::Quarter => 1,
             Frequency::Month => 2,
-        }
-    }
-
-    fn letter(self) -> u8
-        ensures { result ≡ letter_of self }
-    {
-        match self {
-            Frequency::Annual => b'A',
-            Frequency::Semester => b'S',
-            Frequency::Quarter => b'Q',
-            Frequency::Month => b'M',
         }
     }
 }
@@ -145,23 +135,52 @@ fn make_period(frequency: Frequency, year: u16, part: u16) -> Option<Period>
     })
 }
 
+impl Period {
+    ghost use Rattle.std.specs.Prelude.{IsTrue};
+    ghost use Rattle.vtl_time.specs.Periods.{parts_of, index_of, period_at, is_year_part};
+
+    /// Whether it is a year, a half, a quarter or a month.
+    pub fn frequency(self) -> Frequency
+        ensures { result ≡ self.frequency }
+    {
+        self.frequency
+    }
+
+    // How many periods of its frequency come before it from the year 0 on.
+    fn index(self) -> u64
+        ensures value { result ≡ index_of self }
+        ensures valid { IsTrue (is_year_part self.frequency self.year self.part) }
+    {
+        u64::from(self.year) * u64::from(self.frequency.parts()) + u64::from(self.part - 1)
+    }
+
+    // The period that has so many of its frequency before it.
+    fn at_index(frequency: Frequency, index: u64) -> Period
+        requires { index < 10000 * parts_of frequency }
+        ensures { result ≡ period_at frequency index }
+    {
+        let parts = u64::from(frequency.parts());
+        Period {
+            frequency,
+            year: (index / parts) as u16,
+            part: (index % parts) as u8 + 1,
+        }
+    }
+}
+
 /// The `n`-th period of the same frequency after `p`, or before it for a negative `n`. `None` exactly where its year is not in 0 to 9999.
 pub fn shift(p: Period, n: i64) -> Option<Period>
     ensures value { result ≡ shift_of p n }
     ensures back { IfSome result (λ q. shift_of q (neg_ℤ n) ≡ Some p) }
     ensures order { IfSome result (λ q. period_cmp p q ≡ int_cmp (pos 0) n) }
 {
-    let parts = u64::from(p.frequency.parts());
-    let index = u64::from(p.year) * parts + u64::from(p.part) - 1;
-    let shifted = index.checked_add_signed(n)?;
-    if shifted >= YEARS * parts {
-        return None;
+    let index = p.index().checked_add_signed(n)?;
+    let end = YEARS * u64::from(p.frequency().parts());
+    if index < end {
+        Some(Period::at_index(p.frequency(), index))
+    } else {
+        None
     }
-    Some(Period {
-        frequency: p.frequency,
-        year: (shifted / parts) as u16,
-        part: (shifted % parts) as u8 + 1,
-    })
 }
 
 /// Appends the period to `out`, as `YYYY-A1`, `YYYY-S1`, `YYYY-Q1` or `YYYY-M01`. It fails only for want of memory, and then leaves `out` as it was.
@@ -170,19 +189,43 @@ pub fn write_period(p: Period, out: &mut Vec<u8>) -> Result<(), AllocError>
     ensures err { OnErr result (out.new.items ≡ out.old.items) }
     ensures reads_back { read_period_of (period_text p) ≡ Some p }
 {
-    let part = u16::from(p.part);
-    let text = [
-        last_digit(p.year / 1000),
-        last_digit(p.year / 100),
-        last_digit(p.year / 10),
-        last_digit(p.year),
-        b'-',
-        p.frequency.letter(),
-        last_digit(part / 10),
-        last_digit(part),
-    ];
     match p.frequency {
-        Frequency::Month => out.extend_from_slice(&text),
-        _ => out.extend_from_slice(&[text[0], text[1], text[2], text[3], text[4], text[5], text[7]]),
+        Frequency::Annual => out.extend_from_slice(&short_text(p.year, b'A', p.part)),
+        Frequency::Semester => out.extend_from_slice(&short_text(p.year, b'S', p.part)),
+        Frequency::Quarter => out.extend_from_slice(&short_text(p.year, b'Q', p.part)),
+        Frequency::Month => out.extend_from_slice(&month_text(p.year, p.part)),
     }
+}
+
+// A year, `-`, a letter and a digit.
+fn short_text(year: u16, letter: u8, part: u8) -> [u8; 7]
+    requires { part ≤ 9 }
+    ensures { result ≡ four_digits year ++ (45 ∷ (letter ∷ ((48 + part) ∷ []))) }
+{
+    [
+        last_digit(year / 1000),
+        last_digit(year / 100),
+        last_digit(year / 10),
+        last_digit(year),
+        b'-',
+        letter,
+        b'0' + part,
+    ]
+}
+
+// A year, `-M` and the two digits of a month.
+fn month_text(year: u16, month: u8) -> [u8; 8]
+    ensures { result ≡ four_digits year ++ (45 ∷ (77 ∷ two_digits month)) }
+{
+    let month = u16::from(month);
+    [
+        last_digit(year / 1000),
+        last_digit(year / 100),
+        last_digit(year / 10),
+        last_digit(year),
+        b'-',
+        b'M',
+        last_digit(month / 10),
+        last_digit(month),
+    ]
 }
