@@ -8,7 +8,7 @@ use std::cmp::Ordering;
 use std::marker::Model;
 
 /// A day of the calendar in the years 0 to 9999. Days are ordered by time.
-#[derive(Clone, Copy, Debug, PartialEq, Eq, PartialOrd, Ord, Hash)]
+#[derive(Clone, Copy, Debug, PartialEq, Eq, Hash)]
 pub struct Day {
     year: u16,
     month: u8,
@@ -26,6 +26,43 @@ impl Model for Day {
     ghost invariant = { λ d. IsTrue (is_calendar_day d.year d.month d.day) };
 
     ghost inverse = { λ v. record { year = v.year; month = v.month; day = v.day } };
+}
+
+impl PartialOrd for Day {
+    ghost use Rattle.std.specs.Cmp.{partial_order_from_own_ties};
+    ghost use Rattle.std.specs.Cmp.Rules.{comparing};
+    ghost use Rattle.std.specs.Ordering.{as_partial_cmp};
+    ghost use Rattle.std.proofs.Common.{rules};
+    ghost use Rattle.vtl_time.specs.Days.{day_cmp};
+
+    ghost partial_cmp = { as_partial_cmp day_cmp };
+
+    ghost laws = { partial_order_from_own_ties (Prim.search (comparing, rules)) (Prim.search (comparing, rules)) };
+
+    fn partial_cmp(&self, other: &Day) -> Option<Ordering> {
+        Some(self.cmp(other))
+    }
+}
+
+impl Ord for Day {
+    ghost use Rattle.std.specs.Cmp.Rules.{comparing};
+    ghost use Rattle.std.proofs.Common.{rules};
+    ghost use Rattle.vtl_time.specs.Days.{day_cmp};
+
+    ghost cmp = { day_cmp };
+
+    ghost total = { Prim.search (comparing, rules) };
+
+    ghost matches_partial_cmp = { Prim.search (comparing, rules) };
+
+    ghost matches_eq = { Prim.search (comparing, rules) };
+
+    fn cmp(&self, other: &Day) -> Ordering {
+        self.year
+            .cmp(&other.year)
+            .then(self.month.cmp(&other.month))
+            .then(self.day.cmp(&other.day))
+    }
 }
 
 ghost use Rattle.vtl_time.specs.Days.{day_of, day_cmp, day_text, read_day_of};

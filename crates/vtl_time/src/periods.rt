@@ -5,6 +5,7 @@ ghost use Rattle.vtl_time.specs.Numerals.{two_digits, four_digits};
 
 use crate::numerals::{last_digit, number};
 use std::alloc::AllocError;
+use std::cmp::Ordering;
 use std::marker::Model;
 
 // Periods lie in the years 0 to 9999.
@@ -20,7 +21,7 @@ pub enum Frequency {
 }
 
 impl Frequency {
-    ghost use Rattle.vtl_time.specs.Periods.{parts_of, width_of};
+    ghost use Rattle.vtl_time.specs.Periods.{parts_of, rank_of, width_of};
 
     // How many periods a year has.
     fn parts(self) -> u8
@@ -32,6 +33,13 @@ impl Frequency {
             Frequency::Quarter => 4,
             Frequency::Month => 12,
         }
+    }
+
+    // The place among the frequencies.
+    fn rank(self) -> u8
+        ensures { result ≡ rank_of self }
+    {
+        self as u8
     }
 
     // How many digits the number of a part is written with.
@@ -46,7 +54,7 @@ impl Frequency {
 }
 
 /// A period of a year from 0 to 9999. Periods are ordered by frequency (years, halves, quarters, months), then by year, then by part.
-#[derive(Clone, Copy, Debug, PartialEq, Eq, PartialOrd, Ord, Hash)]
+#[derive(Clone, Copy, Debug, PartialEq, Eq, Hash)]
 pub struct Period {
     frequency: Frequency,
     year: u16,
@@ -64,6 +72,44 @@ impl Model for Period {
     ghost invariant = { λ p. IsTrue (is_year_part p.frequency p.year p.part) };
 
     ghost inverse = { λ v. record { frequency = v.frequency; year = v.year; part = v.part } };
+}
+
+impl PartialOrd for Period {
+    ghost use Rattle.std.specs.Cmp.{partial_order_from_own_ties};
+    ghost use Rattle.std.specs.Cmp.Rules.{comparing};
+    ghost use Rattle.std.specs.Ordering.{as_partial_cmp};
+    ghost use Rattle.std.proofs.Common.{rules};
+    ghost use Rattle.vtl_time.specs.Periods.{period_cmp};
+
+    ghost partial_cmp = { as_partial_cmp period_cmp };
+
+    ghost laws = { partial_order_from_own_ties (Prim.search (comparing, rules)) (Prim.search (comparing, rules)) };
+
+    fn partial_cmp(&self, other: &Period) -> Option<Ordering> {
+        Some(self.cmp(other))
+    }
+}
+
+impl Ord for Period {
+    ghost use Rattle.std.specs.Cmp.Rules.{comparing};
+    ghost use Rattle.std.proofs.Common.{rules};
+    ghost use Rattle.vtl_time.specs.Periods.{period_cmp};
+
+    ghost cmp = { period_cmp };
+
+    ghost total = { Prim.search (comparing, rules) };
+
+    ghost matches_partial_cmp = { Prim.search (comparing, rules) };
+
+    ghost matches_eq = { Prim.search (comparing, rules) };
+
+    fn cmp(&self, other: &Period) -> Ordering {
+        self.frequency
+            .rank()
+            .cmp(&other.frequency.rank())
+            .then(self.year.cmp(&other.year))
+            .then(self.part.cmp(&other.part))
+    }
 }
 
 ghost use Rattle.vtl_time.specs.Periods.{period_of, period_cmp, period_text, numbered_part_of, part_of, rest_of, read_period_of, shift_of};
