@@ -1,16 +1,16 @@
 -- Days of the calendar.
-use Rattle.std.proofs.Common.{◌≡◌, ℕ, ◌≤◌, Bool, true, false, cond, ◌&&◌, ◌==◌, nat_le, List, ◌∷◌, length, take, drop, get_or, Option, None, Some, option_and_then, refl, sym, ap, subst, ◌∙◌, arith, lit≤, lit<, ⊎_elim, ◌||◌, ℤ, pos, to_z, w8, w16}
+use Rattle.std.proofs.Common.{◌++◌, ◌≡◌, ℕ, ◌≤◌, Bool, true, false, cond, ◌&&◌, ◌==◌, nat_le, List, ◌∷◌, length, take, drop, get_or, Option, None, Some, option_and_then, IfSome, refl, sym, ap, subst, ◌∙◌, arith, lit≤, lit<, ⊎_elim, ◌||◌, ℤ, pos, to_z, w8, w16}
 use Rattle.std.specs.Str.{IsAscii}
 use Rattle.jiff.specs.Words.{IsDate, days_in_month as date_month_length}
 use Rattle.std.proofs.lemmas.Bool.{false≢true, cases_Bool, eqb-true}
 use Rattle.std.proofs.lemmas.Bool.Decides.{nat_tests}
 use Rattle.std.proofs.lemmas.Int.{ints, to_z_pos}
-use Rattle.std.proofs.lemmas.List.{take-append-drop, drop-drop, drop_more}
+use Rattle.std.proofs.lemmas.List.{take-append-drop, drop-drop, drop_more, length-take-le, length-drop}
 use Rattle.std.proofs.lemmas.Str.{IsAscii-append}
 use Rattle.std.proofs.lemmas.Str.Ascii.{IsAscii-cons}
 use Rattle.vtl_time.specs.Days.{CalendarDay, is_leap_year, days_in_month, is_calendar_day, day_of, day_text, has_day_shape, read_day_of}
-use Rattle.vtl_time.specs.Numerals.{number_of}
-use Rattle.vtl_time.proofs.NumeralLemmas.{both, number_of-two, number_of-four, number_ascii}
+use Rattle.vtl_time.specs.Numerals.{number_of, two_digits, four_digits}
+use Rattle.vtl_time.proofs.NumeralLemmas.{both, number_of-two, number_of-four, number_ascii, chosen_value, two_digits_are, four_digits_are}
 
 five_hold : (y m d last : ℕ) → y ≤ 9999 → 1 ≤ m → m ≤ 12 → 1 ≤ d → d ≤ last → nat_le y 9999 && (nat_le 1 m && (nat_le m 12 && (nat_le 1 d && nat_le d last))) ≡ true
 five_hold y m d last a b c e f = grind (arith, nat_tests)
@@ -135,20 +135,57 @@ shape_chosen : (b : Bool) {X : Type 0} (r : Option X) (x : X) → cond b r None 
 shape_chosen true r x h = (refl, h)
 shape_chosen false r x h = cc
 
-pub read_day_ascii : (cs : List ℕ) (x : CalendarDay) → read_day_of cs ≡ Some x → IsAscii cs
+-- a text of the shape of a day
+split_day : (cs : List ℕ) → has_day_shape cs ≡ true → cs ≡ take 4 cs ++ (45 ∷ (take 2 (drop 5 cs) ++ (45 ∷ drop 8 cs)))
+split_day cs h =
+    let shape = shape_of cs h in
+    let at_four : drop 4 cs ≡ 45 ∷ drop 5 cs = drop_more cs 4 0 (omega (arith, shape.0)) ∙ ap (λ c. c ∷ drop 5 cs) shape.1 in
+    let at_seven : drop 7 cs ≡ 45 ∷ drop 8 cs = drop_more cs 7 0 (omega (arith, shape.0)) ∙ ap (λ c. c ∷ drop 8 cs) shape.2 in
+    let middle : drop 5 cs ≡ take 2 (drop 5 cs) ++ (45 ∷ drop 8 cs) =
+    sym (take-append-drop 2 (drop 5 cs)) ∙ ap (λ l. take 2 (drop 5 cs) ++ l) (drop-drop 2 5 cs ∙ at_seven) in
+    sym (take-append-drop 4 cs) ∙ ap (λ l. take 4 cs ++ l) (at_four ∙ ap (λ l. 45 ∷ l) middle)
+
+-- the numbers of a day that was read
+record IsRead (cs : List ℕ) (x : CalendarDay) : Type 0 where
+  y : ℕ
+  m : ℕ
+  d : ℕ
+  shape : has_day_shape cs ≡ true
+  year : number_of (take 4 cs) ≡ Some y
+  month : number_of (take 2 (drop 5 cs)) ≡ Some m
+  day : number_of (drop 8 cs) ≡ Some d
+  is : day_of y m d ≡ Some x
+
+is_read : (cs : List ℕ) (x : CalendarDay) → read_day_of cs ≡ Some x → IsRead cs x
 unfolding read_day_of
-read_day_ascii cs x h =
+is_read cs x h =
     let shaped = shape_chosen (has_day_shape cs) (option_and_then (λ y. after_year cs y) (number_of (take 4 cs))) x h in
-    let shape = shape_of cs shaped.0 in
     let year = some_of (number_of (take 4 cs)) (λ y. after_year cs y) x shaped.1 in
     let month = some_of (number_of (take 2 (drop 5 cs))) (λ m. after_month cs year.0 m) x year.2 in
     let day = some_of (number_of (drop 8 cs)) (λ d. day_of year.0 month.0 d) x month.2 in
-    let at_four : drop 4 cs ≡ 45 ∷ drop 5 cs = drop_more cs 4 0 (omega (arith, shape.0)) ∙ ap (λ c. c ∷ drop 5 cs) shape.1 in
-    let at_seven : drop 7 cs ≡ 45 ∷ drop 8 cs = drop_more cs 7 0 (omega (arith, shape.0)) ∙ ap (λ c. c ∷ drop 8 cs) shape.2 in
-    let seven : drop 2 (drop 5 cs) ≡ drop 7 cs = drop-drop 2 5 cs in
-    let last : IsAscii (drop 7 cs) = subst IsAscii (sym at_seven) (IsAscii-cons 45 (drop 8 cs) (lit< tt) (number_ascii (drop 8 cs) day.0 day.1)) in
-    let middle : IsAscii (drop 5 cs) = subst IsAscii (take-append-drop 2 (drop 5 cs)) (IsAscii-append (take 2 (drop 5 cs)) (drop 2 (drop 5 cs)) (number_ascii (take 2 (drop 5 cs)) month.0 month.1) (subst IsAscii (sym seven) last)) in
-    subst IsAscii (take-append-drop 4 cs) (IsAscii-append (take 4 cs) (drop 4 cs) (number_ascii (take 4 cs) year.0 year.1) (subst IsAscii (sym at_four) (IsAscii-cons 45 (drop 5 cs) (lit< tt) middle)))
+    record { y = year.0; m = month.0; d = day.0; shape = shaped.0; year = year.1; month = month.1; day = day.1; is = day.2 }
+
+pub read_day_ascii : (cs : List ℕ) (x : CalendarDay) → read_day_of cs ≡ Some x → IsAscii cs
+read_day_ascii cs x h =
+    let r = is_read cs x h in
+    let last = IsAscii-cons 45 (drop 8 cs) (lit< tt) (number_ascii (drop 8 cs) r.d r.day) in
+    let middle = IsAscii-append (take 2 (drop 5 cs)) (45 ∷ drop 8 cs) (number_ascii (take 2 (drop 5 cs)) r.m r.month) last in
+    subst IsAscii (sym (split_day cs r.shape))
+    (IsAscii-append (take 4 cs) (45 ∷ (take 2 (drop 5 cs) ++ (45 ∷ drop 8 cs))) (number_ascii (take 4 cs) r.y r.year) (IsAscii-cons 45 (take 2 (drop 5 cs) ++ (45 ∷ drop 8 cs)) (lit< tt) middle))
+
+-- a day is read from its own text alone
+pub read_day_text : (cs : List ℕ) (x : CalendarDay) → read_day_of cs ≡ Some x → cs ≡ day_text x
+read_day_text cs x h =
+    let r = is_read cs x h in
+    let size = (shape_of cs r.shape).0 in
+    let year = four_digits_are (take 4 cs) r.y (length-take-le 4 cs (omega (arith, size))) r.year in
+    let month = two_digits_are (take 2 (drop 5 cs)) r.m (length-take-le 2 (drop 5 cs) (omega (arith, size, length-drop 5 cs))) r.month in
+    let day = two_digits_are (drop 8 cs) r.d (omega (arith, size, length-drop 8 cs)) r.day in
+    split_day cs r.shape
+    ∙ ap (λ l. l ++ (45 ∷ (take 2 (drop 5 cs) ++ (45 ∷ drop 8 cs)))) year
+    ∙ ap (λ l. four_digits r.y ++ (45 ∷ (l ++ (45 ∷ drop 8 cs)))) month
+    ∙ ap (λ l. four_digits r.y ++ (45 ∷ (two_digits r.m ++ (45 ∷ l)))) day
+    ∙ ap day_text (chosen_value (is_calendar_day r.y r.m r.d) (day_with r.y r.m r.d) x r.is)
 
 -- the same date, of numbers that were cast
 date_to : (y m d : ℕ) (a b c : ℤ) → a ≡ pos y → b ≡ pos m → c ≡ pos d → IsDate a b c → IsDate (pos y) (pos m) (pos d)
@@ -165,3 +202,8 @@ module _ (y m d : ℕ) (year : y ≤ 9999) (month : m ≤ 99) (day : d ≤ 99) w
   pub no_day_from_cast : (IsDate (to_z w16 y) (to_z w8 m) (to_z w8 d) → false ≡ true) → is_calendar_day y m d ≡ false
   no_day_from_cast h =
       not_from (is_calendar_day y m d) (λ is. false≢true (h (date_back y m d _ _ _ (to_z_pos w16 y (omega arith)) (to_z_pos w8 m (omega arith)) (to_z_pos w8 d (omega arith)) (date_from_day y m d is))))
+
+-- what a read day says of the text that it was read from
+pub text_of_read : (cs : List ℕ) (r : Option CalendarDay) → r ≡ read_day_of cs → IfSome r (λ d. cs ≡ day_text d)
+text_of_read cs None is = tt
+text_of_read cs (Some d) is = read_day_text cs d (sym is)

@@ -88,3 +88,59 @@ digits_ascii (c ∷ cs) h =
 pub number_ascii : (cs : List ℕ) (n : ℕ) → number_of cs ≡ Some n → IsAscii cs
 unfolding number_of
 number_ascii cs n h = digits_ascii cs (chosen (all_ascii_digits cs) (value_of cs) n h)
+
+-- the digits of a number that was read are its digits
+digit_range : (c : ℕ) → is_ascii_digit c ≡ true → (48 ≤ c) × (c ≤ 57)
+digit_range c h = (grind (arith, nat_tests), grind (arith, nat_tests))
+
+pub chosen_value : {X : Type 0} (b : Bool) (x y : X) → cond b (Some x) None ≡ Some y → x ≡ y
+chosen_value true x y h = cc
+chosen_value false x y h = cc
+
+cons_same : (a b : ℕ) (xs ys : List ℕ) → a ≡ b → xs ≡ ys → a ∷ xs ≡ b ∷ ys
+cons_same a b xs ys p q = ap (λ c. c ∷ xs) p ∙ ap (λ l. b ∷ l) q
+
+pub one_digit_is : (cs : List ℕ) (n : ℕ) → length cs ≡ 1 → number_of cs ≡ Some n → cs ≡ (48 + n) ∷ []
+unfolding number_of
+one_digit_is [] n size h = absurd (omega arith)
+one_digit_is (a ∷ []) n size h =
+    let digits = both (is_ascii_digit a) true (chosen (all_ascii_digits (a ∷ [])) (value_of (a ∷ [])) n h) in
+    let value = chosen_value (all_ascii_digits (a ∷ [])) (value_of (a ∷ [])) n h in
+    cons_same a (48 + n) [] [] (omega (arith, digit_range a digits.0, value)) refl
+one_digit_is (a ∷ b ∷ cs) n size h = absurd (omega arith)
+
+pub two_digits_are : (cs : List ℕ) (n : ℕ) → length cs ≡ 2 → number_of cs ≡ Some n → cs ≡ two_digits n
+unfolding number_of
+two_digits_are [] n size h = absurd (omega arith)
+two_digits_are (a ∷ []) n size h = absurd (omega arith)
+two_digits_are (a ∷ b ∷ []) n size h =
+    let digits = both (is_ascii_digit a) (is_ascii_digit b && true) (chosen (all_ascii_digits (a ∷ b ∷ [])) (value_of (a ∷ b ∷ [])) n h) in
+    let last = both (is_ascii_digit b) true digits.1 in
+    let value = chosen_value (all_ascii_digits (a ∷ b ∷ [])) (value_of (a ∷ b ∷ [])) n h in
+    let from_a = digit_range a digits.0 in
+    let from_b = digit_range b last.0 in
+    cons_same a (48 + n / 10 % 10) (b ∷ []) ((48 + n % 10) ∷ []) (omega arith) (cons_same b (48 + n % 10) [] [] (omega arith) refl)
+two_digits_are (a ∷ b ∷ c ∷ cs) n size h = absurd (omega arith)
+
+pub four_digits_are : (cs : List ℕ) (n : ℕ) → length cs ≡ 4 → number_of cs ≡ Some n → cs ≡ four_digits n
+unfolding number_of
+four_digits_are [] n size h = absurd (omega arith)
+four_digits_are (a ∷ []) n size h = absurd (omega arith)
+four_digits_are (a ∷ b ∷ []) n size h = absurd (omega arith)
+four_digits_are (a ∷ b ∷ c ∷ []) n size h = absurd (omega arith)
+four_digits_are (a ∷ b ∷ c ∷ d ∷ []) n size h =
+    let all = a ∷ b ∷ c ∷ d ∷ [] in
+    let first = both (is_ascii_digit a) (is_ascii_digit b && (is_ascii_digit c && (is_ascii_digit d && true))) (chosen (all_ascii_digits all) (value_of all) n h) in
+    let second = both (is_ascii_digit b) (is_ascii_digit c && (is_ascii_digit d && true)) first.1 in
+    let third = both (is_ascii_digit c) (is_ascii_digit d && true) second.1 in
+    let fourth = both (is_ascii_digit d) true third.1 in
+    let value = chosen_value (all_ascii_digits all) (value_of all) n h in
+    let from_a = digit_range a first.0 in
+    let from_b = digit_range b second.0 in
+    let from_c = digit_range c third.0 in
+    let from_d = digit_range d fourth.0 in
+    cons_same a (48 + n / 1000 % 10) (b ∷ c ∷ d ∷ []) _ (omega arith)
+    (cons_same b (48 + n / 100 % 10) (c ∷ d ∷ []) _ (omega arith)
+    (cons_same c (48 + n / 10 % 10) (d ∷ []) _ (omega arith)
+    (cons_same d (48 + n % 10) [] [] (omega arith) refl)))
+four_digits_are (a ∷ b ∷ c ∷ d ∷ e ∷ cs) n size h = absurd (omega arith)

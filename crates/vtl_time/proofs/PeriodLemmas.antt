@@ -1,11 +1,12 @@
 -- Periods of time.
-use Rattle.std.proofs.Common.{◌≡◌, ℕ, suc, ◌+◌, ◌-◌, ◌*◌, ◌/◌, ◌%◌, ◌^◌, ◌<◌, ◌≤◌, Bool, true, false, cond, ◌&&◌, ◌==◌, nat_le, nat_lt, List, [], ◌∷◌, length, take, drop, Option, None, Some, option_and_then, refl, sym, ap, subst, ◌∙◌, arith, lit<, ⊎_elim, ℤ, pos, negsuc, neg_ℤ, ◌+ℤ◌, ◌≤ℤ◌, unsigned_abs, FitsSigned, to_z, of_z, w64}
+use Rattle.std.proofs.Common.{◌++◌, IfSome, ◌≡◌, ℕ, suc, ◌+◌, ◌-◌, ◌*◌, ◌/◌, ◌%◌, ◌^◌, ◌<◌, ◌≤◌, Bool, true, false, cond, ◌&&◌, ◌==◌, nat_le, nat_lt, List, [], ◌∷◌, length, take, drop, Option, None, Some, option_and_then, refl, sym, ap, subst, ◌∙◌, arith, lit<, ◌⊎◌, inl, inr, ⊎_elim, ℤ, pos, negsuc, neg_ℤ, ◌+ℤ◌, ◌≤ℤ◌, unsigned_abs, FitsSigned, to_z, of_z, w64}
 use Rattle.std.specs.declared.cmp.Ordering.{Ordering}
 use Rattle.std.specs.Ordering.{ordering_then, nat_cmp, int_cmp}
 use Rattle.std.specs.Int.{FitsUnsigned}
 use Rattle.std.specs.Str.{IsAscii}
 use Rattle.std.proofs.lemmas.Bool.{cases_Bool, eqb-true, eq-eqb}
-use Rattle.std.proofs.lemmas.List.{take-append-drop}
+use borrow.Author.Tests.{leb-true}
+use Rattle.std.proofs.lemmas.List.{take-append-drop, length-take-le}
 use Rattle.std.proofs.lemmas.Str.{IsAscii-append}
 use Rattle.std.proofs.lemmas.Str.Ascii.{IsAscii-nil, IsAscii-cons}
 use Rattle.std.proofs.lemmas.Bool.Decides.{nat_tests}
@@ -13,9 +14,9 @@ use Rattle.std.proofs.lemmas.Int.{ints, to_z-of_z}
 use Rattle.std.proofs.lemmas.Nat.{div-mul-add, mod-mul-add, div-add-mod', mul-add-lt, div_below, mod_below}
 use Rattle.vtl_time.specs.declared.periods.Frequency.{Frequency}
 use Rattle.vtl_time.specs.declared.periods.Frequency.TheVariants.{Annual, Semester, Quarter, Month}
-use Rattle.vtl_time.specs.Numerals.{number_of, two_digits}
-use Rattle.vtl_time.specs.Periods.{YearPart, parts_of, is_year_part, period_of, period_cmp, rank_of, index_of, period_at, period_within, shift_of, period_text, part_text, letter_of, width_of, numbered_part_of, part_of, rest_of, read_period_of}
-use Rattle.vtl_time.proofs.NumeralLemmas.{both, number_of-one, number_of-two, number_of-four, number_ascii}
+use Rattle.vtl_time.specs.Numerals.{number_of, two_digits, four_digits}
+use Rattle.vtl_time.specs.Periods.{YearPart, parts_of, is_year_part, period_of, period_cmp, rank_of, index_of, period_at, period_within, shift_of, period_text, part_text, short_part_text, short_text, Spells, letter_of, width_of, numbered_part_of, part_of, rest_of, read_period_of}
+use Rattle.vtl_time.proofs.NumeralLemmas.{both, number_of-one, number_of-two, number_of-four, number_ascii, chosen_value, one_digit_is, two_digits_are, four_digits_are}
 
 pub parts_from : (f : Frequency) → 1 ≤ parts_of f
 parts_from Annual = omega arith
@@ -272,3 +273,81 @@ module _ (p : YearPart) (n : ℤ) (i : ℕ) (fits : FitsSigned w64 n) (i_is : i 
 -- no part of a year but a month has two digits
 pub short_part : (f : Frequency) (y n : ℕ) → parts_of f ≤ 9 → is_year_part f y n ≡ true → n ≤ 9
 short_part f y n few h = omega (arith, (part_numbers f y n h).to)
+
+-- a period is read from its spellings alone
+part_is : (f : Frequency) (y n : ℕ) (x : YearPart) → period_of f y n ≡ Some x → part_with f y n ≡ x
+part_is f y n x h = chosen_value (is_year_part f y n) (part_with f y n) x h
+
+record IsNumbered (f : Frequency) (y : ℕ) (cs : List ℕ) (x : YearPart) : Type 0 where
+  n : ℕ
+  width : length cs ≡ width_of f
+  number : number_of cs ≡ Some n
+  is : part_with f y n ≡ x
+
+is_numbered : (f : Frequency) (y : ℕ) (cs : List ℕ) (x : YearPart) → numbered_part_of f y cs ≡ Some x → IsNumbered f y cs x
+is_numbered f y cs x h =
+    let wide = if_some (length cs == width_of f) (option_and_then (λ n. period_of f y n) (number_of cs)) x h in
+    let number = some_of (number_of cs) (λ n. period_of f y n) x wide.1 in
+    record { n = number.0; width = eqb-true (length cs) (width_of f) wide.0; number = number.1; is = part_is f y number.0 x number.2 }
+
+numbered_text : (f : Frequency) (n : ℕ) (cs : List ℕ) → length cs ≡ width_of f → number_of cs ≡ Some n → cs ≡ part_text f n
+numbered_text Annual n cs width number = one_digit_is cs n width number
+numbered_text Semester n cs width number = one_digit_is cs n width number
+numbered_text Quarter n cs width number = one_digit_is cs n width number
+numbered_text Month n cs width number = two_digits_are cs n width number
+
+-- the text after the year, of a period of the year y
+abbrev SpellsRest : ℕ → List ℕ → YearPart → Type 0
+SpellsRest y cs p = (p.year ≡ y) × ((cs ≡ 45 ∷ (letter_of p.frequency ∷ part_text p.frequency p.part)) ⊎ (cs ≡ short_part_text p.frequency p.part))
+
+lettered_spells : (f : Frequency) (y c : ℕ) (cs : List ℕ) (x : YearPart) → c ≡ letter_of f → numbered_part_of f y cs ≡ Some x → SpellsRest y (45 ∷ (c ∷ cs)) x
+lettered_spells f y c cs x letter h =
+    let r = is_numbered f y cs x h in
+    let text : ◌≡◌ {A = List ℕ} (45 ∷ (c ∷ cs)) (45 ∷ (letter_of f ∷ part_text f r.n)) =
+    ap (λ k. 45 ∷ (k ∷ cs)) letter ∙ ap (λ l. 45 ∷ (letter_of f ∷ l)) (numbered_text f r.n cs r.width r.number) in
+    subst (λ p. SpellsRest y (45 ∷ (c ∷ cs)) p) r.is (refl, inl text)
+
+month_spells : (y : ℕ) (cs : List ℕ) (x : YearPart) → numbered_part_of Month y cs ≡ Some x → SpellsRest y (45 ∷ cs) x
+month_spells y cs x h =
+    let r = is_numbered Month y cs x h in
+    let text : ◌≡◌ {A = List ℕ} (45 ∷ cs) (45 ∷ two_digits r.n) = ap (λ l. 45 ∷ l) (two_digits_are cs r.n r.width r.number) in
+    subst (λ p. SpellsRest y (45 ∷ cs) p) r.is (refl, inr text)
+
+by_letter : (c k : ℕ) (x : YearPart) (r s : Option YearPart) (P : Type 0) → (c ≡ k → r ≡ Some x → P) → (s ≡ Some x → P) → cond (c == k) r s ≡ Some x → P
+by_letter c k x r s P here there h =
+    ⊎_elim (λ same. here (eqb-true c k same) (sym (ap (λ b. cond b r s) same) ∙ h))
+    (λ other. there (sym (ap (λ b. cond b r s) other) ∙ h)) (cases_Bool (c == k))
+
+part_spells : (y : ℕ) (cs : List ℕ) (x : YearPart) → part_of y cs ≡ Some x → SpellsRest y (45 ∷ cs) x
+part_spells y [] x h = cc
+part_spells y (c ∷ cs) x h =
+    let month = numbered_part_of Month y (c ∷ cs) in
+    let by_m = cond (c == 77) (numbered_part_of Month y cs) month in
+    let by_q = cond (c == 81) (numbered_part_of Quarter y cs) by_m in
+    let by_s = cond (c == 83) (numbered_part_of Semester y cs) by_q in
+    let P = SpellsRest y (45 ∷ (c ∷ cs)) x in
+    by_letter c 65 x (numbered_part_of Annual y cs) by_s P (lettered_spells Annual y c cs x)
+    (by_letter c 83 x (numbered_part_of Semester y cs) by_q P (lettered_spells Semester y c cs x)
+    (by_letter c 81 x (numbered_part_of Quarter y cs) by_m P (lettered_spells Quarter y c cs x)
+    (by_letter c 77 x (numbered_part_of Month y cs) month P (lettered_spells Month y c cs x) (month_spells y (c ∷ cs) x)))) h
+
+rest_spells : (y : ℕ) (cs : List ℕ) (x : YearPart) → rest_of y cs ≡ Some x → SpellsRest y cs x
+rest_spells y [] x h = subst (λ p. SpellsRest y [] p) (part_is Annual y 1 x h) (refl, inr refl)
+rest_spells y (c ∷ cs) x h =
+    let dash = if_some (c == 45) (part_of y cs) x h in
+    subst (λ k. SpellsRest y (k ∷ cs) x) (sym (eqb-true c 45 dash.0)) (part_spells y cs x dash.1)
+
+pub read_period_spells : (cs : List ℕ) (x : YearPart) → read_period_of cs ≡ Some x → Spells cs x
+unfolding read_period_of
+read_period_spells cs x h =
+    let long = if_some (nat_le 4 (length cs)) (option_and_then (λ y. rest_of y (drop 4 cs)) (number_of (take 4 cs))) x h in
+    let year = some_of (number_of (take 4 cs)) (λ y. rest_of y (drop 4 cs)) x long.1 in
+    let rest = rest_spells year.0 (drop 4 cs) x year.2 in
+    let digits : take 4 cs ≡ four_digits x.year =
+    four_digits_are (take 4 cs) year.0 (length-take-le 4 cs (leb-true 4 (length cs) long.0)) year.1 ∙ ap four_digits (sym rest.0) in
+    let split : cs ≡ four_digits x.year ++ drop 4 cs = sym (take-append-drop 4 cs) ∙ ap (λ l. l ++ drop 4 cs) digits in
+    ⊎_elim (λ e. inl (split ∙ ap (λ l. four_digits x.year ++ l) e)) (λ e. inr (split ∙ ap (λ l. four_digits x.year ++ l) e)) rest.1
+
+pub spelled : (cs : List ℕ) (r : Option YearPart) → r ≡ read_period_of cs → IfSome r (Spells cs)
+spelled cs None is = tt
+spelled cs (Some p) is = read_period_spells cs p (sym is)

@@ -1,5 +1,5 @@
 -- Periods of time, their order, their texts and their shifts. A text is the list of its characters, and a character is its code.
-use Rattle.std.specs.Prelude.{ℕ, ◌+◌, ◌-◌, ◌*◌, ◌/◌, ◌%◌, Bool, ◌&&◌, ◌==◌, nat_le, nat_lt, List, [], ◌∷◌, ◌++◌, length, take, drop, Option, None, Some, option_and_then, if◌then◌else◌, ℤ, pos, negsuc, ◌+ℤ◌}
+use Rattle.std.specs.Prelude.{◌≡◌, ◌⊎◌, ℕ, ◌+◌, ◌-◌, ◌*◌, ◌/◌, ◌%◌, Bool, ◌&&◌, ◌==◌, nat_le, nat_lt, List, [], ◌∷◌, ◌++◌, length, take, drop, Option, None, Some, option_and_then, if◌then◌else◌, ℤ, pos, negsuc, ◌+ℤ◌}
 use Rattle.std.specs.declared.cmp.Ordering.{Ordering}
 use Rattle.std.specs.Ordering.{nat_cmp, on, then_cmp}
 use Rattle.vtl_time.specs.declared.periods.Frequency.{Frequency}
@@ -100,3 +100,18 @@ rest_of y (c ∷ cs) = if c == 45 then part_of y cs else None
 unfoldable pub read_period_of : List ℕ → Option YearPart
 read_period_of cs =
     if nat_le 4 (length cs) then option_and_then (λ y. rest_of y (drop 4 cs)) (number_of (take 4 cs)) else None
+
+-- what follows the year in the short spelling; halves and quarters have none
+abbrev pub short_part_text : Frequency → ℕ → List ℕ
+short_part_text Annual n = []
+short_part_text Semester n = 45 ∷ (letter_of Semester ∷ part_text Semester n)
+short_part_text Quarter n = 45 ∷ (letter_of Quarter ∷ part_text Quarter n)
+short_part_text Month n = 45 ∷ two_digits n
+
+-- the short spelling of a year or a month
+abbrev pub short_text : YearPart → List ℕ
+short_text p = four_digits p.year ++ short_part_text p.frequency p.part
+
+-- the text spells the period: as it is written, or in short
+abbrev pub Spells : List ℕ → YearPart → Type 0
+Spells cs p = (cs ≡ period_text p) ⊎ (cs ≡ short_text p)

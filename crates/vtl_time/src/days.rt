@@ -1,5 +1,5 @@
 // Days of the calendar.
-ghost use Rattle.std.specs.Prelude.{◌≡◌, ◌+◌, ◌≤◌, ◌++◌, Some, OnOk, OnErr, IfOk, chars};
+ghost use Rattle.std.specs.Prelude.{◌≡◌, ◌+◌, ◌≤◌, ◌++◌, Some, OnOk, OnErr, IfSome, chars};
 
 use crate::numerals::{last_digit, number};
 use jiff::civil::Date;
@@ -69,7 +69,8 @@ ghost use Rattle.vtl_time.specs.Days.{day_of, day_cmp, day_text, read_day_of};
 
 /// The day that `t` spells as `YYYY-MM-DD`: exactly ten bytes, and a day that the calendar has. `None` for any other text.
 pub fn read_day(t: &str) -> Option<Day>
-    ensures { result ≡ read_day_of (chars t.now) }
+    ensures value { result ≡ read_day_of (chars t.now) }
+    ensures text { IfSome result (λ d. chars t.now ≡ day_text d) }
 {
     day_in(t.as_bytes())
 }

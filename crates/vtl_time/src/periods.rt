@@ -1,5 +1,5 @@
 // Periods of time.
-ghost use Rattle.std.specs.Prelude.{◌≡◌, [], ◌∷◌, ◌+◌, ◌*◌, ◌≤◌, ◌<◌, ◌++◌, Some, OnOk, OnErr, IfOk, IfSome, chars, pos, neg_ℤ};
+ghost use Rattle.std.specs.Prelude.{◌≡◌, [], ◌∷◌, ◌+◌, ◌*◌, ◌≤◌, ◌<◌, ◌++◌, Some, OnOk, OnErr, IfSome, chars, pos, neg_ℤ};
 ghost use Rattle.std.specs.Ordering.{int_cmp};
 ghost use Rattle.vtl_time.specs.Numerals.{two_digits, four_digits};
 
@@ -12,7 +12,7 @@ use std::marker::Model;
 const YEARS: u64 = 10_000;
 
 /// How a year is parted: not at all, into halves, quarters or months.
-#[derive(Clone, Copy, Debug, PartialEq, Eq, PartialOrd, Ord, Hash)]
+#[derive(Clone, Copy, Debug, PartialEq, Eq, Hash)]
 pub enum Frequency {
     Annual,
     Semester,
@@ -112,12 +112,13 @@ impl Ord for Period {
     }
 }
 
-ghost use Rattle.vtl_time.specs.Periods.{period_of, period_cmp, period_text, numbered_part_of, part_of, rest_of, read_period_of, shift_of};
+ghost use Rattle.vtl_time.specs.Periods.{Spells, period_of, period_cmp, period_text, numbered_part_of, part_of, rest_of, read_period_of, shift_of};
 
 /// The period that `t` spells: `YYYY-A1`, `YYYY-S1` to `S2`, `YYYY-Q1` to `Q4`, `YYYY-M01` to `M12`, or as `YYYY` a year and as `YYYY-01` to `YYYY-12` a month.
 /// `None` for any other text.
 pub fn read_period(t: &str) -> Option<Period>
-    ensures { result ≡ read_period_of (chars t.now) }
+    ensures value { result ≡ read_period_of (chars t.now) }
+    ensures text { IfSome result (Spells (chars t.now)) }
 {
     period_in(t.as_bytes())
 }
