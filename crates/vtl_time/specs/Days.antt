@@ -1,5 +1,5 @@
 -- Days of the calendar, their order and their texts. A text is the list of its characters, and a character is its code.
-use Rattle.std.specs.Prelude.{ℕ, ◌%◌, Bool, not, ◌&&◌, ◌||◌, ◌==◌, nat_le, List, ◌∷◌, ◌++◌, length, take, drop, slice_index, Option, None, Some, option_and_then, if◌then◌else◌}
+use Rattle.std.specs.Prelude.{ℕ, zero, suc, ◌+◌, ◌-◌, ◌%◌, Bool, not, ◌&&◌, ◌||◌, ◌==◌, nat_le, List, ◌∷◌, ◌++◌, length, take, drop, slice_index, Option, None, Some, option_and_then, if◌then◌else◌}
 use Rattle.std.specs.declared.cmp.Ordering.{Ordering}
 use Rattle.std.specs.Ordering.{nat_cmp, on, then_cmp}
 use Rattle.vtl_time.specs.Numerals.{number_of, two_digits, four_digits}
@@ -27,7 +27,20 @@ is_calendar_day y m d = nat_le y 9999 && (nat_le 1 m && (nat_le m 12 && (nat_le 
 abbrev pub day_of : ℕ → ℕ → ℕ → Option CalendarDay
 day_of y m d = if is_calendar_day y m d then Some (record { year = y; month = m; day = d }) else None
 
--- the earlier day first
+-- the days of the first n months of a year, and of the first n years from the year 0 on
+unfoldable pub days_of_months : ℕ → ℕ → ℕ
+days_of_months y zero = 0
+days_of_months y (suc n) = days_of_months y n + days_in_month y (suc n)
+
+unfoldable pub days_of_years : ℕ → ℕ
+days_of_years zero = 0
+days_of_years (suc n) = days_of_years n + days_of_months n 12
+
+-- how many days lie between the first day of the year 0 and the day
+unfoldable pub day_number : CalendarDay → ℕ
+day_number d = days_of_years d.year + days_of_months d.year (d.month - 1) + (d.day - 1)
+
+-- by year, then by month, then by day
 abbrev pub day_cmp : CalendarDay → CalendarDay → Ordering
 day_cmp = then_cmp (on (λ d. d.year) nat_cmp) (then_cmp (on (λ d. d.month) nat_cmp) (on (λ d. d.day) nat_cmp))
 

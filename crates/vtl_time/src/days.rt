@@ -47,7 +47,9 @@ impl PartialOrd for Day {
 impl Ord for Day {
     ghost use Rattle.std.specs.Cmp.Rules.{comparing};
     ghost use Rattle.std.proofs.Common.{rules};
-    ghost use Rattle.vtl_time.specs.Days.{day_cmp};
+    ghost use Rattle.std.specs.Ordering.{nat_cmp};
+    ghost use Rattle.std.specs.Prelude.{◌≡◌};
+    ghost use Rattle.vtl_time.specs.Days.{day_cmp, day_number};
 
     ghost cmp = { day_cmp };
 
@@ -57,7 +59,10 @@ impl Ord for Day {
 
     ghost matches_eq = { Prim.search (comparing, rules) };
 
-    fn cmp(&self, other: &Day) -> Ordering {
+    fn cmp(&self, other: &Day) -> Ordering
+        ensures fields { result ≡ day_cmp self.now other.now }
+        ensures time { result ≡ nat_cmp (day_number self.now) (day_number other.now) }
+    {
         self.year
             .cmp(&other.year)
             .then(self.month.cmp(&other.month))
