@@ -15,7 +15,7 @@ use Rattle.std.proofs.lemmas.Nat.{div-mul-add, mod-mul-add, div-add-mod', mul-ad
 use Rattle.vtl_time.specs.declared.periods.Frequency.{Frequency}
 use Rattle.vtl_time.specs.declared.periods.Frequency.TheVariants.{Annual, Semester, Quarter, Month}
 use Rattle.vtl_time.specs.Numerals.{number_of, two_digits, four_digits}
-use Rattle.vtl_time.specs.Periods.{YearPart, parts_of, is_year_part, period_of, period_cmp, rank_of, index_of, period_at, period_within, shift_of, period_text, part_text, short_part_text, short_text, Spells, letter_of, width_of, numbered_part_of, part_of, rest_of, read_period_of}
+use Rattle.vtl_time.specs.Periods.{YearPart, parts_of, is_year_part, period_of, period_cmp, rank_of, index_of, period_at, period_within, shift_of, period_text, part_text, short_part_text, Spells, letter_of, width_of, numbered_part_of, part_of, rest_of, read_period_of}
 use Rattle.vtl_time.proofs.NumeralLemmas.{both, number_of-one, number_of-two, number_of-four, number_ascii, chosen_value, one_digit_is, two_digits_are, four_digits_are}
 
 pub parts_from : (f : Frequency) → 1 ≤ parts_of f
