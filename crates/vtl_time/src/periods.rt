@@ -14,9 +14,13 @@ const YEARS: u64 = 10_000;
 /// How a year is parted: not at all, into halves, quarters or months.
 #[derive(Clone, Copy, Debug, PartialEq, Eq, Hash)]
 pub enum Frequency {
+    /// The whole year, written `A1`.
     Annual,
+    /// A half of the year, written `S1` or `S2`.
     Semester,
+    /// A quarter of the year, written `Q1` to `Q4`.
     Quarter,
+    /// A month, written `M01` to `M12`.
     Month,
 }
 
