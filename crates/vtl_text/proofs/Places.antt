@@ -1,5 +1,5 @@
 -- Where a pattern stands among the characters of a text, and what takes its place.
-use Rattle.std.proofs.Common.{◌≡◌, ℕ, suc, ◌-◌, ◌<◌, true, false, cond, List, [], ◌∷◌, ◌++◌, length, take, drop, None, Some, refl, sym, ap, ◌∙◌, arith}
+use Rattle.std.proofs.Common.{◌≡◌, ◌↔◌, ℕ, zero, suc, Bool, Option, ◌-◌, ◌<◌, true, false, cond, List, [], ◌∷◌, ◌++◌, length, take, drop, None, Some, refl, sym, ap, ◌∙◌, arith}
 use Rattle.std.specs.Option.{option_map, option_map_or}
 use Rattle.std.proofs.lemmas.List.{take-append-drop, take_at}
 use Rattle.std.proofs.lemmas.Slice.Eq.{bytes_eq-Decides}
@@ -91,3 +91,28 @@ replace_of-some cs (p ∷ ps) by some = refl
 pub replace_of-empty : (cs by : List ℕ) → replace_of cs [] by ≡ cs
 unfolding replace_of
 replace_of-empty cs by = refl
+
+-- no first occurrence: the pattern begins the text nowhere
+begins_nowhere : (ps : List ℕ) (b : Bool) (r : Option ℕ) → cond b (Some 0) r ≡ None → (b ≡ false) × (r ≡ None)
+begins_nowhere ps true r h = cc
+begins_nowhere ps false r h = (refl, h)
+
+no_later : (r : Option ℕ) → option_map suc r ≡ None → r ≡ None
+no_later None h = refl
+no_later (Some k) h = cc
+
+nowhere : (ps cs : List ℕ) → first_occurrence ps cs ≡ None → (n : ℕ) → begins ps (drop n cs) ≡ false
+nowhere ps [] h zero = (begins_nowhere ps (begins ps []) None h).0
+nowhere ps [] h (suc n) = (begins_nowhere ps (begins ps []) None h).0
+nowhere ps (c ∷ cs) h zero = (begins_nowhere ps (begins ps (c ∷ cs)) (option_map suc (first_occurrence ps cs)) h).0
+nowhere ps (c ∷ cs) h (suc n) = nowhere ps cs (no_later (first_occurrence ps cs) (begins_nowhere ps (begins ps (c ∷ cs)) (option_map suc (first_occurrence ps cs)) h).1) n
+
+zero_for_none : (o : Option ℕ) → option_map_or suc o 0 ≡ 0 → o ≡ None
+zero_for_none None h = refl
+zero_for_none (Some k) h = absurd (omega arith)
+
+-- `instr` gives 0 just where the pattern begins the text at no character
+pub absent_from : (cs ps : List ℕ) (r : ℕ) → r ≡ instr_of cs ps → (r ≡ 0) ↔ ((n : ℕ) → begins ps (drop n cs) ≡ false)
+unfolding instr_of
+absent_from cs ps r value =
+    (λ is_zero. nowhere ps cs (zero_for_none (first_occurrence ps cs) (sym value ∙ is_zero)), λ none. value ∙ instr_of-none ps cs (λ i _. none i))

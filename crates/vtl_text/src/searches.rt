@@ -1,6 +1,6 @@
 // The operators on texts that search for a pattern. The searches go by the bytes: in UTF-8 a pattern's bytes occur only where its characters do.
-ghost use Rattle.std.specs.Prelude.{◌≡◌, IfOk, chars};
-ghost use Rattle.vtl_text.specs.Texts.{instr_of, replace_of};
+ghost use Rattle.std.specs.Prelude.{◌≡◌, ◌↔◌, ℕ, false, IfOk, chars, drop};
+ghost use Rattle.vtl_text.specs.Texts.{begins, instr_of, replace_of};
 
 use crate::operators::length;
 use crate::shared_text::Txt;
@@ -9,7 +9,9 @@ use std::alloc::{AllocError, Global};
 
 /// The place of the first occurrence of `pattern`, in characters from 1, or 0 where there is none. An empty pattern occurs at 1.
 pub fn instr(t: &str, pattern: &str) -> usize
-    ensures { result ≡ instr_of (chars t.now) (chars pattern.now) }
+    ensures value { result ≡ instr_of (chars t.now) (chars pattern.now) }
+    ensures absent { (result ≡ 0)
+        ↔ ((n : ℕ) → begins (chars pattern.now) (drop n (chars t.now)) ≡ false) }
 {
     if pattern.is_empty() {
         return 1;

@@ -1,0 +1,5 @@
+pub mod DayLemmas
+pub mod DayOrder
+pub mod NumeralLemmas
+pub mod PeriodLemmas
+pub mod TextLemmas
