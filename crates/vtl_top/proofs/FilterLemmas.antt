@@ -1,5 +1,5 @@
 -- A walk over rows from the last one to the first, which keeps what passes and joins the faults.
-use Rattle.std.proofs.Common.{Vec, Global, vec_len, ◌≡◌, ◌<◌, ℕ, length, subst, arith, List, [], ◌∷◌, ◌++◌, Bool, true, false, cond, map, reverse, Option, Some, None, Result, Ok, Err, refl, sym, ap, ◌∙◌, append_assoc}
+use Rattle.std.proofs.Common.{Vec, Global, vec_len, ◌≡◌, length, subst, arith, List, [], ◌∷◌, ◌++◌, Bool, true, false, cond, reverse, Option, Some, None, Result, Ok, Err, refl, sym, ap, ◌∙◌, append_assoc}
 use Rattle.std.specs.List.{filter}
 use Rattle.std.proofs.lemmas.List.{append-nil, map-append, reverse-append}
 use Rattle.std.proofs.lemmas.List.Elements.{filter-append}

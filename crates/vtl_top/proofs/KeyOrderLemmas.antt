@@ -1,5 +1,5 @@
 -- Rows in order rise by their first cells.
-use Rattle.std.proofs.Common.{◌≡◌, ℕ, Bool, true, List, [], ◌∷◌, take}
+use Rattle.std.proofs.Common.{◌≡◌, ℕ, true, List, [], ◌∷◌}
 use Rattle.std.specs.List.{AllByRecursion}
 use Rattle.vtl_lists.specs.Sorting.{Rises, le_by, sorted_by}
 use Rattle.vtl_lists.proofs.Sorts.{Rises-sorted_by}

@@ -1,15 +1,14 @@
 -- The output is what the script means.
-use Rattle.std.proofs.Common.{◌≡◌, ℕ, List, [], ◌∷◌, Bool, true, false, cond, Option, Some, None, Result, Ok, Err, refl, sym, ap, ◌∙◌, subst}
+use Rattle.std.proofs.Common.{◌≡◌, ℕ, List, [], ◌∷◌, cond, Some, None, Result, Ok, Err, refl, sym, ap, ◌∙◌}
 use Rattle.std.specs.Cmp.Lexicographic.{nat_list_eq_equiv}
 use Rattle.vtl_cell.specs.Row.{Row}
-use Rattle.vtl_cell.specs.Outcome.{Outcome, Fault, after}
+use Rattle.vtl_cell.specs.Outcome.{Outcome, after}
 use Rattle.vtl_tree.specs.Clauses.{filter_of, kept}
-use Rattle.vtl_tree.specs.Meaning.{DataSet, found, data_of, node_value, named, filtered, meaning, stated}
-use Rattle.vtl_tree.specs.Structure.{columns_of, same_name}
+use Rattle.vtl_tree.specs.Meaning.{DataSet, found, data_of, meaning, stated}
+use Rattle.vtl_tree.specs.Structure.{columns_of}
 use Rattle.vtl_tree.specs.declared.structure.Structure.{Structure}
 use Rattle.vtl_top.specs.Condition.{condition_in}
-use Rattle.vtl_top.specs.CsvText.{csv_of}
-use Rattle.vtl_top.specs.Expected.{Run, csv_limit, expected, file_in, from_input, from_structures, go_on, input_path, output_in, script_limit, stage, structures_limit}
+use Rattle.vtl_top.specs.Expected.{Run, csv_limit, expected, from_input, from_structures, go_on, input_path, output_in, script_limit, stage, structures_limit}
 use Rattle.vtl_top.specs.Meant.{IsMeant, data_set, script_of}
 use Rattle.vtl_top.specs.Points.{points_of}
 use Rattle.vtl_top.specs.Statement.{statement_of}

@@ -1,7 +1,7 @@
 -- Steps of the loops over the columns and the records of a CSV file.
-use Rattle.std.proofs.Common.{◌≡◌, ℕ, zero, suc, ◌+◌, ◌<◌, ◌≤◌, List, [], ◌∷◌, ◌++◌, ◌&&◌, Bool, true, false, cond, get_or, drop, length, eqb, Option, Some, None, refl, sym, ap, ◌∙◌, arith, min, true≢false}
+use Rattle.std.proofs.Common.{◌≡◌, ℕ, zero, suc, ◌+◌, ◌<◌, ◌≤◌, List, [], ◌∷◌, ◌++◌, ◌&&◌, Bool, cond, get_or, drop, length, Option, Some, None, sym, ap, ◌∙◌, arith}
 use Rattle.std.specs.List.{list_all, zip}
-use Rattle.std.proofs.lemmas.List.{drop_more, drop_all, length-map}
+use Rattle.std.proofs.lemmas.List.{drop_more, length-map}
 use Rattle.std.specs.Borrow.{Bor}
 use Rattle.vtl_tree.specs.Shown.{shown}
 use Rattle.std.proofs.lemmas.Slice.Zip.{length-zip, get_or-zip}
@@ -11,7 +11,7 @@ use Rattle.vtl_tree.specs.declared.structure.Component.{Component}
 use Rattle.vtl_tree.specs.Structure.{same_name}
 use Rattle.vtl_top.specs.Points.{cell_in, is_header, row_of}
 use Rattle.vtl_lists.specs.Each.{each_some, onto}
-use Rattle.vtl_lists.proofs.Eaches.{each_takes_at, each_stops_at, each_ends_at}
+use Rattle.vtl_lists.proofs.Eaches.{each_takes_at, each_stops_at}
 
 -- the pair at a place
 pub pair_at : {A B : Type 0} (xs : List A) (ys : List B) (i : ℕ) (x : A) (y : B) → i < length xs → i < length ys → x ≡ get_or xs i x → y ≡ get_or ys i y → get_or (zip xs ys) i (x, y) ≡ (x, y)

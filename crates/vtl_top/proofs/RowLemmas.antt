@@ -1,5 +1,5 @@
 -- Rows in order.
-use Rattle.std.proofs.Common.{Vec, Global, ◌≡◌, ℕ, List, Bool, true, false, cond, Option, Some, None, IsSorted, IsPermutation, sym, ap, ◌∙◌, subst}
+use Rattle.std.proofs.Common.{Vec, Global, ◌≡◌, ℕ, List, true, false, cond, Some, None, IsSorted, IsPermutation, sym, ap, ◌∙◌, subst}
 use Rattle.std.specs.Option.{option_map}
 use Rattle.std.specs.Cmp.Lexicographic.{slice_cmp}
 use Rattle.std.proofs.lemmas.Cmp.{on_total}

@@ -1,7 +1,6 @@
 -- What a status tells: its cause, and what was written.
 use Rattle.std.specs.Prelude.{◌≡◌, ◌≤◌, ◌⊎◌, ℕ, Bool, false, List, [], ◌∷◌, ◌++◌, Option, Some, None, Result, Ok, Err, chars}
 use Rattle.std.specs.Option.{option_map}
-use Rattle.std.specs.List.{Contains}
 use Rattle.vtl_files.specs.Outside.{Rose, FaultAt}
 use Rattle.vtl_top.specs.Expected.{Run, expected, first, reads}
 use Rattle.vtl_top.specs.declared.status.Status.{Status}

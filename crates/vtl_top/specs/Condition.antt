@@ -1,11 +1,11 @@
 -- The condition of the statement, over the columns of its operand.
-use Rattle.std.specs.Prelude.{ℕ, List, [], ◌∷◌, Result, Ok, Err}
+use Rattle.std.specs.Prelude.{ℕ, List}
 use Rattle.std.specs.List.{position_or_len}
 use Rattle.vtl_cell.specs.declared.cell.Cell.TheVariants as c
 use Rattle.vtl_cell.specs.declared.kind.Kind.TheVariants as k
 use Rattle.vtl_cell.specs.declared.kind.ScalarOp.TheVariants as op
 use Rattle.vtl_tree.specs.Exp.{Exp, column, const, call, no_exps, exp}
-use Rattle.vtl_tree.specs.Structure.{columns_of, same_name}
+use Rattle.vtl_tree.specs.Structure.{same_name}
 use Rattle.vtl_tree.specs.declared.structure.Component.{Component}
 use Rattle.vtl_top.specs.declared.statement.Statement.{Statement}
 

@@ -1,5 +1,5 @@
 -- The CSV text of a data set.
-use Rattle.std.specs.Prelude.{ℕ, Bool, List, [], ◌∷◌, map, flat_map, take, encode_utf8_all}
+use Rattle.std.specs.Prelude.{ℕ, Bool, List, ◌∷◌, map, flat_map, take, encode_utf8_all}
 use Rattle.csv.specs.Writing.{default_writer, row_text}
 use Rattle.vtl_lists.specs.Sorting.{le_by, sorted_by}
 use Rattle.vtl_cell.specs.Row.{Row, row_cmp}

@@ -1,5 +1,5 @@
 -- The cells that fields of a CSV file spell, and the fields that cells are written as.
-use Rattle.std.specs.Prelude.{ℕ, zero, suc, ◌+◌, ◌-◌, ◌*◌, ◌==◌, ◌&&◌, not, Bool, true, false, cond, List, [], ◌∷◌, length, nat_le, Option, Some, None, option_map, ℤ, pos, negsuc, fold, chars, encode_utf8_all, codes, if◌then◌else◌}
+use Rattle.std.specs.Prelude.{ℕ, zero, suc, ◌+◌, ◌-◌, ◌*◌, ◌==◌, ◌&&◌, Bool, true, false, List, [], ◌∷◌, length, nat_le, Option, Some, None, option_map, ℤ, pos, negsuc, fold, chars, encode_utf8_all, codes, if◌then◌else◌}
 use Rattle.std.specs.List.{list_all}
 use Rattle.std.specs.Fmt.{signed_decimal}
 use Rattle.vtl_cell.specs.declared.cell.Cell.{Cell}

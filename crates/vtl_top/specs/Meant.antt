@@ -1,5 +1,5 @@
 -- The output of a run in the words of the language: what the script means over its input.
-use Rattle.std.specs.Prelude.{◌≡◌, ℕ, List, [], ◌∷◌, Result, Ok}
+use Rattle.std.specs.Prelude.{◌≡◌, ℕ, List, [], ◌∷◌, Ok}
 use Rattle.vtl_cell.specs.Row.{Row}
 use Rattle.vtl_tree.specs.Meaning.{DataSet, Statement, named, filtered, meaning}
 use Rattle.vtl_tree.specs.Structure.{columns_of}

@@ -1,5 +1,5 @@
 -- The points that a CSV file holds, as far as it is read so far.
-use Rattle.std.specs.Prelude.{ℕ, Bool, true, false, ◌&&◌, ◌==◌, List, [], ◌∷◌, length, nat_le, Option, Some, None, encode_utf8_all, if◌then◌else◌}
+use Rattle.std.specs.Prelude.{ℕ, Bool, ◌&&◌, ◌==◌, List, [], ◌∷◌, length, nat_le, Option, Some, None, encode_utf8_all, if◌then◌else◌}
 use Rattle.std.specs.Option.{option_and_then}
 use Rattle.std.specs.List.{list_all, zip}
 use Rattle.csv.specs.Reading.{default_config, records, strip_bom}

@@ -1,4 +1,4 @@
-use Rattle.std.proofs.Common.{◌≡◌, ◌<◌, ◌≤◌, ◌^◌, ◌*◌, ◌+◌, arith, length}
+use Rattle.std.proofs.Common.{◌<◌, ◌≤◌, arith}
 use Rattle.vtl_top.proofs.FieldLemmas.{small_power, smaller_power}
 use Rattle.vtl_top.proofs.fields.size.Goals as goal
 

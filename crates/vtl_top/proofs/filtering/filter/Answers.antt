@@ -1,4 +1,4 @@
-use Rattle.std.proofs.Common.{◌≡◌, ◌++◌, ◌∷◌, [], reverse, sym, ap, ◌∙◌}
+use Rattle.std.proofs.Common.{◌++◌, reverse, sym, ap, ◌∙◌}
 use Rattle.std.specs.List.{filter}
 use Rattle.vtl_cell.specs.Row.{Row}
 use Rattle.vtl_cell.specs.Outcome.{faults_by, fault_in, join, unless}
@@ -7,7 +7,7 @@ use Rattle.vtl_tree.specs.Rows.{rows_of}
 use Rattle.vtl_tree.specs.Seen.{seen_of}
 use Rattle.vtl_tree.specs.Value.{value}
 use Rattle.vtl_tree.specs.View.{exp_of}
-use Rattle.vtl_top.proofs.FilterLemmas.{rows_pushed, keeps_one, sees_one, all_kept, all_seen, answers_all, popped_row, popped_none, nothing_left}
+use Rattle.vtl_top.proofs.FilterLemmas.{keeps_one, sees_one, all_kept, all_seen, answers_all, popped_row, popped_none, nothing_left}
 use Rattle.vtl_top.proofs.filtering.filter.Goals as goal
 
 pub loop-row-preserved : goal.loop-row-preserved

@@ -1,6 +1,5 @@
-use Rattle.std.proofs.Common.{◌≡◌, Some, get_or, sym, ap, ◌∙◌}
-use Rattle.std.proofs.lemmas.List.{get_or_read}
-use Rattle.csv.specs.Records.{field_at, fields_of}
+use Rattle.std.proofs.Common.{sym}
+use Rattle.csv.specs.Records.{fields_of}
 use Rattle.csv.proofs.RecordFacts.{field-get, field-there}
 use Rattle.vtl_top.proofs.PointLemmas.{read_there}
 use Rattle.vtl_top.proofs.points.field.Goals as goal

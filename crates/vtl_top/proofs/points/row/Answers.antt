@@ -1,4 +1,4 @@
-use Rattle.std.proofs.Common.{◌≡◌, ◌++◌, ◌∷◌, [], Some, None, length, drop, ◌+◌, ◌<◌, arith, sym, ap, ◌∙◌}
+use Rattle.std.proofs.Common.{◌≡◌, Some, None, length, drop, ◌+◌, ◌<◌, sym, ap, ◌∙◌}
 use Rattle.std.specs.List.{zip}
 use Rattle.csv.specs.Records.{fields_of}
 use Rattle.vtl_lists.specs.Each.{each_some, onto}

@@ -1,6 +1,5 @@
-use Rattle.std.proofs.Common.{Vec, Global, ◌≡◌, List, Result, Ok, Err, IsPermutation, IsSorted}
+use Rattle.std.proofs.Common.{Result, Ok, Err}
 use Rattle.std.specs.Result.{OnOk}
-use Rattle.std.specs.declared.alloc.AllocError.{AllocError}
 use Rattle.vtl_top.proofs.RowLemmas.{rows_sorted}
 use Rattle.vtl_top.proofs.points.sort.Goals as goal
 

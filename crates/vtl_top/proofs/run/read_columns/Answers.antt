@@ -1,4 +1,4 @@
-use Rattle.std.proofs.Common.{◌≡◌, Ok, Result, List, ℕ, sym, ap, ◌∙◌}
+use Rattle.std.proofs.Common.{◌≡◌, Ok, List, sym, ap, ◌∙◌}
 use Rattle.vtl_cell.specs.Row.{Row}
 use Rattle.vtl_tree.specs.Clauses.{kept}
 use Rattle.vtl_tree.specs.Rows.{rows_of}
@@ -9,7 +9,6 @@ use Rattle.vtl_top.specs.Expected.{csv_limit, file_in, from_columns, output_in, 
 use Rattle.vtl_top.specs.OutputView.{output_view}
 use Rattle.vtl_top.specs.Points.{points_in}
 use Rattle.vtl_top.specs.RunView.{run_view}
-use Rattle.vtl_top.specs.declared.status.Status.{Status}
 use Rattle.vtl_top.proofs.RunLemmas.{if_some_map, in_order, kept_in_order, stage_mapped}
 use Rattle.std.specs.Option.{option_map}
 use Rattle.vtl_top.proofs.run.read_columns.Goals as goal

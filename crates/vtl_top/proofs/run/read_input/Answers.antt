@@ -1,7 +1,7 @@
 use Rattle.std.proofs.Common.{◌≡◌, ◌∷◌, [], ap, ◌∙◌, subst}
 use Rattle.std.specs.Option.{IfSome}
 use Rattle.vtl_tree.specs.Shown.{shown}
-use Rattle.vtl_tree.specs.Structure.{columns_of, key_width}
+use Rattle.vtl_tree.specs.Structure.{columns_of}
 use Rattle.vtl_top.specs.Answered.{Meets}
 use Rattle.vtl_top.specs.Expected.{from_columns, input_path}
 use Rattle.vtl_top.specs.OutputView.{output_view}

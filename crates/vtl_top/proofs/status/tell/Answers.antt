@@ -1,6 +1,6 @@
 use Rattle.std.proofs.Common.{◌∷◌, [], ◌++◌, ap, ◌∙◌, subst}
 use Rattle.vtl_files.specs.Whole.{TakesFront}
-use Rattle.vtl_top.specs.StatusLine.{line_of, lead_of}
+use Rattle.vtl_top.specs.StatusLine.{lead_of}
 use Rattle.vtl_top.proofs.SinkLemmas.{front_anyway}
 use Rattle.vtl_top.proofs.status.tell.Goals as goal
 
