@@ -1,0 +1,4 @@
+pub mod Operators
+pub mod Range
+pub mod Rounding
+pub mod Settings

@@ -1,0 +1,21 @@
+-- Whole numbers from quotients.
+use Rattle.std.specs.Prelude.{ℕ, ◌+◌, ◌*◌, ◌/◌, ◌%◌, Bool, true, false, ◌&&◌, ◌||◌, ◌==◌, nat_lt, nat_le, if◌then◌else◌, ℤ, pos, negsuc, neg_ℤ, unsigned_abs}
+use Rattle.vtl_decimal.specs.declared.settings.Rounding.{Rounding}
+use Rattle.vtl_decimal.specs.declared.settings.Rounding.TheVariants.{HalfUp, HalfEven, Down}
+
+-- whether one is added to the quotient z that leaves the rest r of a division by q
+abbrev pub rounds_up : Rounding → ℕ → ℕ → ℕ → Bool
+rounds_up HalfUp z r q = nat_le q (2 * r)
+rounds_up HalfEven z r q = nat_lt q (2 * r) || ((2 * r == q) && (z % 2 == 1))
+rounds_up Down z r q = false
+
+-- the size of a quotient from the sizes of its two numbers
+abbrev pub rounded_size : Rounding → ℕ → ℕ → ℕ
+rounded_size m p q = p / q + (if rounds_up m (p / q) (p % q) q then 1 else 0)
+
+-- p / q made whole: its size, under the sign of p / q
+abbrev pub rounded_quotient : Rounding → ℤ → ℤ → ℤ
+rounded_quotient m (pos p) (pos q) = pos (rounded_size m p q)
+rounded_quotient m (pos p) (negsuc q) = neg_ℤ (pos (rounded_size m p (q + 1)))
+rounded_quotient m (negsuc p) (pos q) = neg_ℤ (pos (rounded_size m (p + 1) q))
+rounded_quotient m (negsuc p) (negsuc q) = pos (rounded_size m (p + 1) (q + 1))
