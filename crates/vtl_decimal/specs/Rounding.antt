@@ -19,3 +19,17 @@ rounded_quotient m (pos p) (pos q) = pos (rounded_size m p q)
 rounded_quotient m (pos p) (negsuc q) = neg_ℤ (pos (rounded_size m p (q + 1)))
 rounded_quotient m (negsuc p) (pos q) = neg_ℤ (pos (rounded_size m (p + 1) q))
 rounded_quotient m (negsuc p) (negsuc q) = pos (rounded_size m (p + 1) (q + 1))
+
+-- the greatest whole number that is at most p / q, for q above 0
+abbrev pub floor_quotient : ℤ → ℕ → ℤ
+floor_quotient (pos p) q = pos (p / q)
+floor_quotient (negsuc p) q = negsuc (p / q)
+
+-- the least whole number that is at least p / q, for q above 0
+abbrev pub ceil_quotient : ℤ → ℕ → ℤ
+ceil_quotient p q = neg_ℤ (floor_quotient (neg_ℤ p) q)
+
+-- the greatest whole number that is at most a / b, for b of either sign
+abbrev pub floor_of : ℤ → ℤ → ℤ
+floor_of a (pos b) = floor_quotient a b
+floor_of a (negsuc b) = floor_quotient (neg_ℤ a) (b + 1)

@@ -6,7 +6,9 @@ mod operators;
 mod powers;
 mod quotient;
 mod settings;
+mod wholes;
 
 pub use number::{Dec, Fault};
-pub use operators::{abs, add, div, mul, neg, sub};
+pub use operators::{abs, add, div, modulo, mul, neg, sub};
 pub use settings::{Profile, Rounding};
+pub use wholes::{ceil, floor, of_whole, round, trunc, whole};

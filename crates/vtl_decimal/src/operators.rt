@@ -1,6 +1,6 @@
-ghost use Rattle.std.specs.Prelude.{◌≡◌, ◌+ℤ◌, ◌-ℤ◌, neg_ℤ, pos, unsigned_abs};
+ghost use Rattle.std.specs.Prelude.{◌≡◌, ◌-◌, ◌^◌, ◌<◌, ◌+ℤ◌, ◌-ℤ◌, ◌*ℤ◌, neg_ℤ, pos, unsigned_abs};
 ghost use Rattle.vtl_decimal.specs.Range.{fit_number};
-ghost use Rattle.vtl_decimal.specs.Operators.{product, quotient};
+ghost use Rattle.vtl_decimal.specs.Operators.{product, quotient, remainder};
 
 use crate::number::{fit, Dec, Fault};
 use crate::powers::{exact_product, power_of_ten};
@@ -60,4 +60,19 @@ pub fn div(a: Dec, b: Dec, p: &Profile) -> Result<Dec, Fault>
     }
     let unit = power_of_ten(p.scale());
     fit(rounded(p.rounding(), exact_product(a.k(), unit), i128::from(b.k())))
+}
+
+/// What is left of `a` where `b` is taken away as often as the floor of `a / b` says: zero, or of
+/// the sign of `b` and smaller. It is `a` where `b` is zero.
+pub fn modulo(a: Dec, b: Dec) -> Dec
+    ensures { result ≡ remainder a b }
+{
+    let divisor = b.k();
+    if divisor > 0 {
+        Dec::of(a.k().rem_euclid(divisor))
+    } else if divisor < 0 {
+        Dec::of(-(-a.k()).rem_euclid(-divisor))
+    } else {
+        a
+    }
 }
