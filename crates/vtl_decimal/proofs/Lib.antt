@@ -1,2 +1,3 @@
 pub mod OperatorLemmas
 pub mod PowerLemmas
+pub mod RoundingLemmas

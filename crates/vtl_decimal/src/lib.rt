@@ -6,9 +6,11 @@ mod operators;
 mod powers;
 mod quotient;
 mod settings;
+mod total;
 mod wholes;
 
 pub use number::{Dec, Fault};
 pub use operators::{abs, add, div, modulo, mul, neg, sub};
 pub use settings::{Profile, Rounding};
+pub use total::Sum;
 pub use wholes::{ceil, floor, of_whole, round, trunc, whole};
