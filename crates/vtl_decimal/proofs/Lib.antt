@@ -1,3 +1,6 @@
+pub mod DigitLemmas
+pub mod NumeralLemmas
 pub mod OperatorLemmas
 pub mod PowerLemmas
 pub mod RoundingLemmas
+pub mod TextLemmas

@@ -1,4 +1,6 @@
+pub mod Numeral
 pub mod Operators
+pub mod Parsed
 pub mod Range
 pub mod Rounding
 pub mod Settings

@@ -1,8 +1,10 @@
 //! Exact decimal numbers of at most 18 digits, with a declared scale and rounding.
 #![tactic(auto)]
 
+mod digits;
 mod number;
 mod operators;
+mod parse;
 mod powers;
 mod quotient;
 mod settings;

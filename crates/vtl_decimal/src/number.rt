@@ -13,7 +13,7 @@ pub enum Fault {
 }
 
 /// One more than the greatest size of a number's `k`.
-const LIMIT: u64 = 1_000_000_000_000_000_000;
+pub(crate) const LIMIT: u64 = 1_000_000_000_000_000_000;
 
 /// A number of at most 18 digits: it stands for `k` units of the last place of the profile's scale.
 #[derive(Clone, Copy, Debug, PartialEq, Eq, Hash, PartialOrd, Ord)]
