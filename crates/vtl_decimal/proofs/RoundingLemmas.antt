@@ -1,7 +1,8 @@
 -- How large a rounded quotient is.
 use Rattle.std.proofs.Common.{ℕ, ◌+◌, ◌*◌, ◌/◌, ◌%◌, ◌<◌, ◌≤◌, ◌≡◌, Bool, true, false, ℤ, pos, negsuc, neg_ℤ, refl, ◌⊎◌, inl, inr, cond, arith}
 use Rattle.std.proofs.Math.Nat.{lt_of_mul-lt-mul_left, le_of_mul-le-mul_left}
-use Rattle.std.specs.Prelude.{unsigned_abs}
+use Rattle.std.specs.Prelude.{unsigned_abs, ◌==◌}
+use Rattle.vtl_decimal.specs.Divided.{rest_of, rounds_up_from}
 use Rattle.vtl_decimal.specs.declared.settings.Rounding.{Rounding}
 use Rattle.vtl_decimal.specs.declared.settings.Rounding.TheVariants.{HalfUp, HalfEven, Down}
 use Rattle.vtl_decimal.specs.Rounding.{rounds_up, rounded_size, rounded_quotient}
@@ -47,3 +48,9 @@ rounded_quotient_within m (negsuc p) q b h le =
     let le' : p + 1 ≤ q * b = omega arith in
     let w : rounded_size m (p + 1) q ≤ b = rounded_size_within m (p + 1) q b h le' in
     grind arith
+
+-- the rule, from where the rest stands
+pub rounds_up_is : (m : Rounding) (z r q : ℕ) → 0 < q → rounds_up m z r q ≡ rounds_up_from m (z % 2 == 1) (rest_of r q)
+rounds_up_is HalfUp z r q h = grind arith
+rounds_up_is HalfEven z r q h = grind arith
+rounds_up_is Down z r q h = grind arith

@@ -1,3 +1,4 @@
+pub mod Divided
 pub mod Numeral
 pub mod Operators
 pub mod Parsed
