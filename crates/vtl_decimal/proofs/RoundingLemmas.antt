@@ -14,7 +14,7 @@ rounds_up_no_rest HalfEven z q h = grind arith
 rounds_up_no_rest Down z q h = refl
 
 -- a natural is zero or not
-zero_or_more : (n : ℕ) → (n ≡ 0) ⊎ (0 < n)
+pub zero_or_more : (n : ℕ) → (n ≡ 0) ⊎ (0 < n)
 zero_or_more n = search arith
 
 -- a flag adds at most one

@@ -7,6 +7,7 @@ mod operators;
 mod parse;
 mod powers;
 mod quotient;
+mod scaling;
 mod settings;
 mod total;
 mod wholes;
