@@ -2,6 +2,9 @@ pub mod DigitLemmas
 pub mod NumeralLemmas
 pub mod OperatorLemmas
 pub mod PowerLemmas
+pub mod ReadingLemmas
 pub mod RestLemmas
 pub mod RoundingLemmas
+pub mod SpellingLemmas
+pub mod SplitLemmas
 pub mod TextLemmas
