@@ -1,10 +1,12 @@
 pub mod DigitLemmas
 pub mod NumeralLemmas
 pub mod OperatorLemmas
+pub mod ParsedLemmas
 pub mod PowerLemmas
 pub mod ReadingLemmas
 pub mod RestLemmas
 pub mod RoundingLemmas
+pub mod ScalingLemmas
 pub mod SpellingLemmas
 pub mod SplitLemmas
 pub mod TextLemmas

@@ -11,13 +11,13 @@ use Rattle.vtl_decimal.specs.declared.quotient.Rest.TheVariants.{Zero, BelowHalf
 use Rattle.vtl_decimal.specs.Divided.{rest_of, has_nonzero}
 use Rattle.vtl_decimal.specs.Numeral.{are_digits}
 
-below_half : (r q : ℕ) → 0 < r → 2 * r < q → rest_of r q ≡ BelowHalf
+pub below_half : (r q : ℕ) → 0 < r → 2 * r < q → rest_of r q ≡ BelowHalf
 below_half r q some low = grind arith
 
-at_half : (r q : ℕ) → 0 < r → 2 * r ≡ q → rest_of r q ≡ Half
+pub at_half : (r q : ℕ) → 0 < r → 2 * r ≡ q → rest_of r q ≡ Half
 at_half r q some same = grind arith
 
-above_half : (r q : ℕ) → q < 2 * r → rest_of r q ≡ AboveHalf
+pub above_half : (r q : ℕ) → q < 2 * r → rest_of r q ≡ AboveHalf
 above_half r q high = grind arith
 
 -- a digit d, and t below the power p of ten that it stands before

@@ -3,7 +3,7 @@ ghost use Rattle.std.specs.Option.{option_map};
 ghost use Rattle.std.specs.List.{before_first, position};
 ghost use Rattle.std.specs.Str.Parse.{digits_value, starts_with_minus, without_leading_sign};
 ghost use Rattle.vtl_decimal.specs.Numeral.{are_digits, is_mark, is_point, from_first, power_of, exponent_of, with_digits, unsigned_numeral_of, numeral_of};
-ghost use Rattle.vtl_decimal.specs.Parsed.{numeral_view};
+ghost use Rattle.vtl_decimal.specs.Parsed.{numeral_view, IsParsed};
 
 use crate::digits::value_onto;
 
@@ -138,8 +138,10 @@ fn unsigned_numeral(negative: bool, text: &[u8]) -> Option<Numeral<'_>>
 }
 
 // The numeral that a text spells.
+#[tactic(auto, using(crate::proofs::ParsedLemmas::numeral_parsed))]
 pub(crate) fn parse_numeral(text: &[u8]) -> Option<Numeral<'_>>
-    ensures { option_map numeral_view result ≡ numeral_of text.now }
+    ensures value { option_map numeral_view result ≡ numeral_of text.now }
+    ensures parsed { IfSome result (λ n. IsParsed (numeral_view n)) }
 {
     if text.len() > 64 {
         return None;
