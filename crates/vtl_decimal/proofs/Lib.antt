@@ -10,3 +10,4 @@ pub mod ScalingLemmas
 pub mod SpellingLemmas
 pub mod SplitLemmas
 pub mod TextLemmas
+pub mod ValueLemmas

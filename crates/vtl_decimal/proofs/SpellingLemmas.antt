@@ -8,7 +8,7 @@ use Rattle.std.proofs.lemmas.Option.{cond_some, none-some}
 use Rattle.vtl_decimal.specs.Numeral.{Numeral, signed, IsSign, no_sign, plus, minus, IsPoint, no_point, point, IsMark, small, capital, IsExponent, no_exponent, times_ten_to, Spells, are_digits, is_mark, is_point, from_first, power_of, exponent_of, with_digits, unsigned_numeral_of, numeral_of}
 use Rattle.vtl_decimal.proofs.SplitLemmas.{before_and_from, from_first_cases}
 
-and_then_some : {A B : Type 0} (f : A → Option B) (o : Option A) (y : B) → option_and_then f o ≡ Some y → (x : A) × (o ≡ Some x) × (f x ≡ Some y)
+pub and_then_some : {A B : Type 0} (f : A → Option B) (o : Option A) (y : B) → option_and_then f o ≡ Some y → (x : A) × (o ≡ Some x) × (f x ≡ Some y)
 and_then_some f (Some x) y h = (x, refl, h)
 and_then_some f None y h = absurd (none-some y h)
 

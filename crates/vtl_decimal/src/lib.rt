@@ -7,6 +7,7 @@ mod operators;
 mod parse;
 mod powers;
 mod quotient;
+mod reading;
 mod scaling;
 mod settings;
 mod total;
@@ -14,6 +15,7 @@ mod wholes;
 
 pub use number::{Dec, Fault};
 pub use operators::{abs, add, div, modulo, mul, neg, sub};
+pub use reading::{read, read_whole, BadNumber};
 pub use settings::{Profile, Rounding};
 pub use total::Sum;
 pub use wholes::{ceil, floor, of_whole, round, trunc, whole};
