@@ -11,3 +11,4 @@ pub mod SpellingLemmas
 pub mod SplitLemmas
 pub mod TextLemmas
 pub mod ValueLemmas
+pub mod WritingLemmas

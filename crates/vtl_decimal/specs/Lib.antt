@@ -6,3 +6,4 @@ pub mod Range
 pub mod Rounding
 pub mod Settings
 pub mod Tally
+pub mod Written

@@ -2,6 +2,7 @@
 #![tactic(auto)]
 
 mod digits;
+mod line;
 mod number;
 mod operators;
 mod parse;
@@ -12,6 +13,7 @@ mod scaling;
 mod settings;
 mod total;
 mod wholes;
+mod writing;
 
 pub use number::{Dec, Fault};
 pub use operators::{abs, add, div, modulo, mul, neg, sub};
@@ -19,3 +21,4 @@ pub use reading::{read, read_whole, BadNumber};
 pub use settings::{Profile, Rounding};
 pub use total::Sum;
 pub use wholes::{ceil, floor, of_whole, round, trunc, whole};
+pub use writing::write;
