@@ -96,4 +96,5 @@ pub value_of_three : (ds : List ℕ) → IsTrue (are_digits ds) → length ds �
 value_of_three ds h short = omega (arith, value-lt ds h, pow-le-pow_right {n = 10} (omega arith) {i = length ds} {j = 3} short)
 
 pub ruleset digit_facts = (value_after-grows, digit_in, value_after-step)
+
 pub ruleset joined_digits = (value_after-grows, value_after-append)

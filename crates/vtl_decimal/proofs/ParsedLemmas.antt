@@ -28,7 +28,8 @@ numeral_parsed t n h =
       whole_digits = s.whole_digits;
       fraction_digits = s.fraction_digits;
       short = parts_short s.sign n.whole s.separator n.fraction s.power (omega (arith, ap length s.parts, s.short));
-      exponent_fits = exponent_small s.power n.exponent s.exponents }
+      exponent_fits = exponent_small s.power n.exponent s.exponents;
+    }
 
 pub parsed_if : (o : Option Parsed) (t : List ℕ) → option_map numeral_view o ≡ numeral_of t → IfSome o (λ n. IsParsed (numeral_view n))
 parsed_if (Some n) t h = numeral_parsed t (numeral_view n) (sym h)

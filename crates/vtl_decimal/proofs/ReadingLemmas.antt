@@ -88,8 +88,8 @@ power_read : (sign digits : List ℕ) (negative : Bool) → IsSign sign negative
 power_read sign digits negative signs h some few =
     let start = digits_no_sign digits h some in
     let test : (are_digits digits && (nat_lt 0 (length digits) && nat_le (length digits) 3)) ≡ true =
-        and_from (are_digits digits) (nat_lt 0 (length digits) && nat_le (length digits) 3) h
-          (and_from (nat_lt 0 (length digits)) (nat_le (length digits) 3) (lt-ltb 0 (length digits) some) (le-leb (length digits) 3 few)) in
+    and_from (are_digits digits) (nat_lt 0 (length digits) && nat_le (length digits) 3) h
+    (and_from (nat_lt 0 (length digits)) (nat_le (length digits) 3) (lt-ltb 0 (length digits) some) (le-leb (length digits) 3 few)) in
     rw (body_read sign digits negative signs start, minus_read sign digits negative signs start)
     (cond-true (are_digits digits && (nat_lt 0 (length digits) && nat_le (length digits) 3)) (Some (signed negative (digits_value 10 digits))) None test)
 
@@ -102,20 +102,20 @@ unsigned_read : (n : Numeral) (separator power : List ℕ) → IsTrue (are_digit
 unsigned_read n separator power whole points fraction some exponents =
     let mantissa = n.whole ++ (separator ++ n.fraction) in
     let body : n.whole ++ (separator ++ (n.fraction ++ power)) ≡ mantissa ++ power =
-        ap (λ xs. n.whole ++ xs) (sym (append_assoc separator n.fraction power)) ∙ sym (append_assoc n.whole (separator ++ n.fraction) power) in
+    ap (λ xs. n.whole ++ xs) (sym (append_assoc separator n.fraction power)) ∙ sym (append_assoc n.whole (separator ++ n.fraction) power) in
     let none : list_all (λ b. not (is_mark b)) mantissa ≡ true =
-        list_all-append (λ b. not (is_mark b)) n.whole (separator ++ n.fraction)
-        ∙ and_from (list_all (λ b. not (is_mark b)) n.whole) (list_all (λ b. not (is_mark b)) (separator ++ n.fraction)) (digits_no_mark n.whole whole)
-            (list_all-append (λ b. not (is_mark b)) separator n.fraction
-            ∙ and_from (list_all (λ b. not (is_mark b)) separator) (list_all (λ b. not (is_mark b)) n.fraction) (point_no_mark separator n.fraction points) (digits_no_mark n.fraction fraction)) in
+    list_all-append (λ b. not (is_mark b)) n.whole (separator ++ n.fraction)
+    ∙ and_from (list_all (λ b. not (is_mark b)) n.whole) (list_all (λ b. not (is_mark b)) (separator ++ n.fraction)) (digits_no_mark n.whole whole)
+    (list_all-append (λ b. not (is_mark b)) separator n.fraction
+    ∙ and_from (list_all (λ b. not (is_mark b)) separator) (list_all (λ b. not (is_mark b)) n.fraction) (point_no_mark separator n.fraction points) (digits_no_mark n.fraction fraction)) in
     let cut = exponent_cut power n.exponent exponents in
     let front : before_first is_mark (mantissa ++ power) ≡ mantissa = before_first-append is_mark mantissa power none cut in
     let back : from_first is_mark (mantissa ++ power) ≡ power = from_first-append is_mark mantissa power none cut in
     let front_whole : before_first is_point mantissa ≡ n.whole = before_first-append is_point n.whole (separator ++ n.fraction) (digits_no_point n.whole whole) (point_cut separator n.fraction points) in
     let front_rest : from_first is_point mantissa ≡ separator ++ n.fraction = from_first-append is_point n.whole (separator ++ n.fraction) (digits_no_point n.whole whole) (point_cut separator n.fraction points) in
     let test : (are_digits n.whole && (are_digits n.fraction && nat_lt 0 (length n.whole + length n.fraction))) ≡ true =
-        and_from (are_digits n.whole) (are_digits n.fraction && nat_lt 0 (length n.whole + length n.fraction)) whole
-          (and_from (are_digits n.fraction) (nat_lt 0 (length n.whole + length n.fraction)) fraction (lt-ltb 0 (length n.whole + length n.fraction) some)) in
+    and_from (are_digits n.whole) (are_digits n.fraction && nat_lt 0 (length n.whole + length n.fraction)) whole
+    (and_from (are_digits n.fraction) (nat_lt 0 (length n.whole + length n.fraction)) fraction (lt-ltb 0 (length n.whole + length n.fraction) some)) in
     let F : List ℕ → List ℕ → List ℕ → Option Numeral = λ m r p. option_and_then (with_digits n.negative (before_first is_point m) (drop 1 r)) (exponent_of p) in
     let G : List ℕ → List ℕ → Option Numeral = λ w f. with_digits n.negative w f n.exponent in
     ap (unsigned_numeral_of n.negative) body

@@ -57,11 +57,12 @@ pub ruleset rest_by_lead = (rest_at_zero, rest_past_zero, rest_at_low, rest_at_f
 nonzero_step : (d p v : ℕ) (b : Bool) → 48 ≤ d → d ≤ 57 → 0 < p → b ≡ nat_lt 0 v → (not (d == 48) || b) ≡ nat_lt 0 ((d - 48) * p + v)
 nonzero_step d p v b low high some e =
     elim (zero_or_more (d - 48)) [
-      inl zero_digit ↦ grind arith
-    | inr a_digit ↦
-        let least : 1 * p ≤ (d - 48) * p = mul-le-mul_right {m = 1} {n = d - 48} p (omega arith) in
-        let more : 0 < (d - 48) * p + v = omega arith in
-        grind arith ]
+      | inl zero_digit ↦ grind arith
+      | inr a_digit ↦
+          let least : 1 * p ≤ (d - 48) * p = mul-le-mul_right {m = 1} {n = d - 48} p (omega arith) in
+          let more : 0 < (d - 48) * p + v = omega arith in
+          grind arith
+    ]
 
 pub has_nonzero-is : (ds : List ℕ) → IsTrue (are_digits ds) → has_nonzero ds ≡ nat_lt 0 (digits_value 10 ds)
 has_nonzero-is [] h = refl

@@ -25,14 +25,15 @@ flag_adds false z n h = omega arith
 within : (m : Rounding) (z r q b : ℕ) → r < q → q * z + r ≤ q * b → z + cond (rounds_up m z r q) 1 0 ≤ b
 within m z r q b small le =
     elim (zero_or_more r) [
-      inl none ↦
-        let no : rounds_up m z r q ≡ false = rw none (rounds_up_no_rest m z q (omega arith)) in
-        let low : q * z ≤ q * b = omega arith in
-        let le' : z ≤ b = le_of_mul-le-mul_left {m = z} {n = b} {k = q} low (omega arith) in
-        rw no (omega arith)
-    | inr some ↦
-        let low : q * z < q * b = omega arith in
-        flag_adds (rounds_up m z r q) z b (lt_of_mul-lt-mul_left q {m = z} {n = b} low) ]
+      | inl none ↦
+          let no : rounds_up m z r q ≡ false = rw none (rounds_up_no_rest m z q (omega arith)) in
+          let low : q * z ≤ q * b = omega arith in
+          let le' : z ≤ b = le_of_mul-le-mul_left {m = z} {n = b} {k = q} low (omega arith) in
+          rw no (omega arith)
+      | inr some ↦
+          let low : q * z < q * b = omega arith in
+          flag_adds (rounds_up m z r q) z b (lt_of_mul-lt-mul_left q {m = z} {n = b} low)
+    ]
 
 -- a rounded quotient is at most the whole number that its exact value is at most
 pub rounded_size_within : (m : Rounding) (p q b : ℕ) → 0 < q → p ≤ q * b → rounded_size m p q ≤ b

@@ -27,9 +27,10 @@ rest-mul-add z q r small =
 -- a number with its quotient and rest
 pub divided : (z q r : ℕ) (d : Divided) → r < q → d.units ≡ z → d.rest ≡ rest_of r q → z < 10 ^ 18 → IsDivided (z * q + r) q d
 divided z q r d small units rest bound = record {
-    units = units ∙ sym (div-mul-add z q r small);
-    rest = rest ∙ ap (λ v. rest_of v q) (sym (rest-mul-add z q r small));
-    small = omega (arith, units) }
+  units = units ∙ sym (div-mul-add z q r small);
+  rest = rest ∙ ap (λ v. rest_of v q) (sym (rest-mul-add z q r small));
+  small = omega (arith, units);
+}
 
 zero_times : (c : ℕ) → 0 * c ≡ 0
 zero_times c = omega arith
@@ -38,16 +39,19 @@ zero_times c = omega arith
 rest_of-mul : (r q c : ℕ) → 0 < c → rest_of (r * c) (q * c) ≡ rest_of r q
 rest_of-mul r q c h =
     elim (zero_or_more r) [
-      inl none ↦
-        let nothing : r * c ≡ 0 = ap (λ v. v * c) none ∙ zero_times c in
-        ap (λ v. rest_of v (q * c)) nothing ∙ ap (λ v. rest_of v q) (sym none)
-    | inr some ↦
-        let some' : 0 < r * c = omega (arith, zero_times c, mul-lt-mul_of_pos_right {m = 0} {n = r} {k = c} some h) in
-        elim (cases_order (2 * r) q) [
-          inl same ↦ at_half (r * c) (q * c) some' (omega (arith, ap (λ v. v * c) same)) ∙ sym (at_half r q some same)
-        | inr other ↦ elim other [
-            inl low ↦ below_half (r * c) (q * c) some' (omega (arith, mul-lt-mul_of_pos_right {m = 2 * r} {n = q} {k = c} low h)) ∙ sym (below_half r q some low)
-          | inr high ↦ above_half (r * c) (q * c) (omega (arith, mul-lt-mul_of_pos_right {m = q} {n = 2 * r} {k = c} high h)) ∙ sym (above_half r q high) ] ] ]
+      | inl none ↦
+          let nothing : r * c ≡ 0 = ap (λ v. v * c) none ∙ zero_times c in
+          ap (λ v. rest_of v (q * c)) nothing ∙ ap (λ v. rest_of v q) (sym none)
+      | inr some ↦
+          let some' : 0 < r * c = omega (arith, zero_times c, mul-lt-mul_of_pos_right {m = 0} {n = r} {k = c} some h) in
+          elim (cases_order (2 * r) q) [
+            | inl same ↦ at_half (r * c) (q * c) some' (omega (arith, ap (λ v. v * c) same)) ∙ sym (at_half r q some same)
+            | inr other ↦ elim other [
+              | inl low ↦ below_half (r * c) (q * c) some' (omega (arith, mul-lt-mul_of_pos_right {m = 2 * r} {n = q} {k = c} low h)) ∙ sym (below_half r q some low)
+              | inr high ↦ above_half (r * c) (q * c) (omega (arith, mul-lt-mul_of_pos_right {m = q} {n = 2 * r} {k = c} high h)) ∙ sym (above_half r q high)
+            ]
+          ]
+    ]
 
 -- ---- the digits cut in two
 

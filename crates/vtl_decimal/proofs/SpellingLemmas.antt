@@ -26,10 +26,12 @@ sign_split [] = record { sign = []; parts = refl; signs = no_sign }
 sign_split (c ∷ cs) =
     let P : ℕ → Type 0 = λ x. SignedText (x ∷ cs) in
     elim (cases_eq c 45) [
-      inl e ↦ subst P (sym e) (record { sign = 45 ∷ []; parts = refl; signs = minus })
-    | inr f ↦ elim (cases_eq c 43) [
-        inl e ↦ subst P (sym e) (record { sign = 43 ∷ []; parts = refl; signs = plus })
-      | inr g ↦ no_sign_at c cs (ne_eqb c 45 f) (ne_eqb c 43 g) ] ]
+      | inl e ↦ subst P (sym e) (record { sign = 45 ∷ []; parts = refl; signs = minus })
+      | inr f ↦ elim (cases_eq c 43) [
+        | inl e ↦ subst P (sym e) (record { sign = 43 ∷ []; parts = refl; signs = plus })
+        | inr g ↦ no_sign_at c cs (ne_eqb c 45 f) (ne_eqb c 43 g)
+      ]
+    ]
 
 -- what stands from the point on is the point and the digits behind it
 record PointedText (rest : List ℕ) : Type 0 where
@@ -41,17 +43,19 @@ point_split : (t : List ℕ) → PointedText (from_first is_point t)
 point_split t =
     let P : List ℕ → Type 0 = λ xs. PointedText xs in
     elim (from_first_cases is_point t) [
-      inl e ↦ subst P (sym e) (record { separator = []; parts = refl; points = no_point })
-    | inr w ↦
-        let at : w.0 ≡ 46 = eqb-true w.0 46 w.3 in
-        subst P (sym w.2) (let Q : ℕ → Type 0 = λ x. PointedText (x ∷ w.1) in subst Q (sym at) (record { separator = 46 ∷ []; parts = refl; points = point w.1 })) ]
+      | inl e ↦ subst P (sym e) (record { separator = []; parts = refl; points = no_point })
+      | inr w ↦
+          let at : w.0 ≡ 46 = eqb-true w.0 46 w.3 in
+          subst P (sym w.2) (let Q : ℕ → Type 0 = λ x. PointedText (x ∷ w.1) in subst Q (sym at) (record { separator = 46 ∷ []; parts = refl; points = point w.1 }))
+    ]
 
 -- what stands from the mark on is an exponent, where it is read as one
 mark_is : (b : ℕ) → is_mark b ≡ true → IsMark b
 mark_is b h =
     elim (or_cases (b == 101) (b == 69) h) [
-      inl e ↦ subst IsMark (sym (eqb-true b 101 e)) small
-    | inr e ↦ subst IsMark (sym (eqb-true b 69 e)) capital ]
+      | inl e ↦ subst IsMark (sym (eqb-true b 101 e)) small
+      | inr e ↦ subst IsMark (sym (eqb-true b 69 e)) capital
+    ]
 
 power_is : (mark : ℕ) (t : List ℕ) (e : ℤ) → is_mark mark ≡ true → power_of t ≡ Some e → IsExponent (mark ∷ t) e
 power_is mark t e marked h =
@@ -69,9 +73,10 @@ exponent_split t e h =
     let P : List ℕ → Type 0 = λ xs. exponent_of xs ≡ Some e → IsExponent xs e in
     let Q : ℤ → Type 0 = λ v. IsExponent [] v in
     let all : P (from_first is_mark t) =
-        elim (from_first_cases is_mark t) [
-          inl none ↦ subst P (sym none) (λ k. subst Q (let zero_ : pos 0 ≡ e = cc in zero_) no_exponent)
-        | inr w ↦ subst P (sym w.2) (λ k. power_is w.0 w.1 e w.3 k) ] in
+    elim (from_first_cases is_mark t) [
+      | inl none ↦ subst P (sym none) (λ k. subst Q (let zero_ : pos 0 ≡ e = cc in zero_) no_exponent)
+      | inr w ↦ subst P (sym w.2) (λ k. power_is w.0 w.1 e w.3 k)
+    ] in
     all h
 
 -- ---- together
@@ -100,7 +105,8 @@ unsigned_spelled sign body negative n signs short h =
       points = p.points;
       fraction_digits = more.0;
       some_digit = ltb-true 0 (length whole + length fraction) more.1;
-      exponents = exponent_split body e found.1 })
+      exponents = exponent_split body e found.1;
+    })
 
 -- the numeral that is read is one that the text spells
 pub numeral_spelled : (t : List ℕ) (n : Numeral) → numeral_of t ≡ Some n → Spells t n
@@ -108,8 +114,9 @@ numeral_spelled t n h =
     let s = sign_split t in
     let P : List ℕ → Type 0 = λ text. Spells text n in
     elim (cases_Bool (nat_le (length t) 64)) [
-      inl fits ↦
-        let given : unsigned_numeral_of (starts_with_minus t) (without_leading_sign t) ≡ Some n = sym (rw fits refl) ∙ h in
-        subst P (sym s.parts) (unsigned_spelled s.sign (without_leading_sign t) (starts_with_minus t) n s.signs
+      | inl fits ↦
+          let given : unsigned_numeral_of (starts_with_minus t) (without_leading_sign t) ≡ Some n = sym (rw fits refl) ∙ h in
+          subst P (sym s.parts) (unsigned_spelled s.sign (without_leading_sign t) (starts_with_minus t) n s.signs
           (subst (λ text. length text ≤ 64) s.parts (leb-true (length t) 64 fits)) given)
-    | inr long ↦ absurd (none-some n (sym (rw long refl) ∙ h)) ]
+      | inr long ↦ absurd (none-some n (sym (rw long refl) ∙ h))
+    ]

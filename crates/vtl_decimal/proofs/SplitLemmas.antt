@@ -30,8 +30,9 @@ pub from_first_cases : (p : ℕ → Bool) (xs : List ℕ) → (from_first p xs �
 from_first_cases p [] = inl refl
 from_first_cases p (x ∷ xs) =
     elim (cases_Bool (p x)) [
-      inl yes_ ↦ inr (x, xs, from_first-yes p x xs yes_, yes_)
-    | inr no_ ↦ rw (from_first-no p x xs no_) (from_first_cases p xs) ]
+      | inl yes_ ↦ inr (x, xs, from_first-yes p x xs yes_, yes_)
+      | inr no_ ↦ rw (from_first-no p x xs no_) (from_first_cases p xs)
+    ]
 
 -- nothing, or a byte that passes and what stands behind it
 pub data IsCut (p : ℕ → Bool) : List ℕ → Type 0 where

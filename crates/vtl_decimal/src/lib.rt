@@ -17,8 +17,11 @@ mod writing;
 
 pub use number::{Dec, Fault};
 pub use operators::{abs, add, div, modulo, mul, neg, sub};
-pub use reading::{read, read_whole, BadNumber};
+pub use reading::{BadNumber, read, read_whole};
 pub use settings::{Profile, Rounding};
 pub use total::Sum;
 pub use wholes::{ceil, floor, of_whole, round, trunc, whole};
 pub use writing::write;
+
+#[cfg(test)]
+mod tests;

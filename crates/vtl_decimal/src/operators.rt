@@ -2,7 +2,7 @@ ghost use Rattle.std.specs.Prelude.{◌≡◌, ◌-◌, ◌^◌, ◌<◌, ◌+�
 ghost use Rattle.vtl_decimal.specs.Range.{fit_number};
 ghost use Rattle.vtl_decimal.specs.Operators.{product, quotient, remainder};
 
-use crate::number::{fit, Dec, Fault};
+use crate::number::{Dec, Fault, fit};
 use crate::powers::{exact_product, power_of_ten};
 use crate::quotient::rounded;
 use crate::settings::Profile;

@@ -113,7 +113,12 @@ fn with_digits<'a>(
     if empty || !all_digits(whole) || !all_digits(fraction) {
         return None;
     }
-    Some(Numeral { negative, whole, fraction, exponent })
+    Some(Numeral {
+        negative,
+        whole,
+        fraction,
+        exponent,
+    })
 }
 
 // What stands behind the point, if it is there.

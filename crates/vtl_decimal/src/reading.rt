@@ -3,9 +3,9 @@ ghost use Rattle.std.specs.Result.{result_ok};
 ghost use Rattle.vtl_decimal.specs.Numeral.{Numeral as NumeralSpec, Spells, signed, number_of, integer_of, number_read, integer_read};
 ghost use Rattle.vtl_decimal.specs.Parsed.{numeral_view, IsParsed};
 
-use crate::number::{fit, Dec};
-use crate::parse::{parse_numeral, Numeral};
-use crate::quotient::{goes_up, Rest};
+use crate::number::{Dec, fit};
+use crate::parse::{Numeral, parse_numeral};
+use crate::quotient::{Rest, goes_up};
 use crate::scaling::scaled;
 use crate::settings::Profile;
 use crate::wholes::whole;

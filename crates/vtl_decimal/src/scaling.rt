@@ -32,21 +32,9 @@ fn rest_from_lead(lead: u8, more: bool) -> Rest
     ensures { (n t : ℕ) → t < 10 ^ n → more ≡ nat_lt 0 t → result ≡ rest_of ((lead - 48) * 10 ^ n + t) (10 ^ n * 10) }
 {
     match lead {
-        b'0' => {
-            if more {
-                Rest::BelowHalf
-            } else {
-                Rest::Zero
-            }
-        }
+        b'0' => { if more { Rest::BelowHalf } else { Rest::Zero } }
         b'1'..=b'4' => Rest::BelowHalf,
-        b'5' => {
-            if more {
-                Rest::AboveHalf
-            } else {
-                Rest::Half
-            }
-        }
+        b'5' => { if more { Rest::AboveHalf } else { Rest::Half } }
         _ => Rest::AboveHalf,
     }
 }

@@ -3,11 +3,10 @@ ghost use Rattle.vtl_decimal.specs.Range.{fit_number};
 ghost use Rattle.vtl_decimal.specs.Rounding.{rounded_quotient};
 ghost use Rattle.vtl_decimal.specs.Tally.{tally_of, tally_with, mean_of};
 
-use std::marker::Model;
-
-use crate::number::{fit, Dec, Fault};
+use crate::number::{Dec, Fault, fit};
 use crate::quotient::rounded;
 use crate::settings::{Profile, Rounding};
+use std::marker::Model;
 
 /// The exact total of the numbers added so far, and how many they are.
 #[derive(Clone, Copy, Debug, PartialEq, Eq)]

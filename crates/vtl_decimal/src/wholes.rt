@@ -4,7 +4,7 @@ ghost use Rattle.vtl_decimal.specs.Rounding.{rounded_quotient, floor_quotient, c
 ghost use Rattle.vtl_decimal.specs.Operators.{rounded_at};
 ghost use Rattle.vtl_decimal.specs.declared.settings.Rounding.TheVariants.{Down};
 
-use crate::number::{fit, Dec, Fault};
+use crate::number::{Dec, Fault, fit};
 use crate::powers::{exact_product, power_of_ten};
 use crate::quotient::rounded;
 use crate::settings::{Profile, Rounding};

@@ -2,12 +2,11 @@ ghost use Rattle.std.specs.Prelude.{◌≡◌, ◌≤◌, ◌<◌, ◌+◌, ◌^
 ghost use Rattle.std.specs.Fmt.{decimal};
 ghost use Rattle.vtl_decimal.specs.Written.{last_digits, shortest_digits, behind_point, number_text};
 
-use std::alloc::AllocError;
-
 use crate::line::Line;
 use crate::number::Dec;
 use crate::powers::power_of_ten;
 use crate::settings::Profile;
+use std::alloc::AllocError;
 
 // Puts the last digits of a number before a text.
 #[tactic(auto, using(crate::proofs::WritingLemmas::written_digits))]

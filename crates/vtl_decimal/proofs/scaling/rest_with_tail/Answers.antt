@@ -14,8 +14,9 @@ returns c = λ behind h e.
     let all : take (length c.args.digits.now - 1) (drop 1 c.args.digits.now) ≡ drop 1 c.args.digits.now = grind (arith, common_steps) in
     let tail : c.any_nonzero.result ≡ has_nonzero (drop 1 c.args.digits.now) = c.any_nonzero.ensures ∙ ap has_nonzero all in
     let more : c.if-any_nonzero.more ≡ (c.any_nonzero.result || c.args.more) =
-        elim c.if-any_nonzero.branch [
-          then-any_nonzero w ↦ grind arith
-        | else-any_nonzero w ↦ grind arith ] in
+    elim c.if-any_nonzero.branch [
+      | then-any_nonzero w ↦ grind arith
+      | else-any_nonzero w ↦ grind arith
+    ] in
     rest_of_lead c.args.digits.now behind _ _ c.requires.digits h c.requires.some_digit
-      (either _ _ _ _ _ tail (sym e) more) c.rest_from_lead.ensures
+    (either _ _ _ _ _ tail (sym e) more) c.rest_from_lead.ensures

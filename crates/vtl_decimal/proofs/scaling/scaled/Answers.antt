@@ -14,8 +14,8 @@ returns-in_err-units c =
     let high : pos 0 ≤ℤ shift = grind (arith, ints) in
     let moved = moved_left c.args.scale (length n.fraction.now) n.exponent shift c.places_to_left-shift.ensures.value high in
     rw c.from_residual.ensures
-      (scaled_too_large (digits_value 10 (n.whole.now ++ n.fraction.now)) (c.args.scale + raised n.exponent) (length n.fraction.now + lowered n.exponent)
-        c.unsigned_abs-places.result (ap (λ k. k + (length n.fraction.now + lowered n.exponent)) places ∙ moved) c.in_err-units.ensures.value)
+    (scaled_too_large (digits_value 10 (n.whole.now ++ n.fraction.now)) (c.args.scale + raised n.exponent) (length n.fraction.now + lowered n.exponent)
+    c.unsigned_abs-places.result (ap (λ k. k + (length n.fraction.now + lowered n.exponent)) places ∙ moved) c.in_err-units.ensures.value)
 
 pub returns-then-shift-lt0 : goal.returns-then-shift-lt0
 returns-then-shift-lt0 c =
@@ -25,7 +25,7 @@ returns-then-shift-lt0 c =
     let low : shift <ℤ pos 0 = grind (arith, ints) in
     let moved = moved_right c.args.scale (length n.fraction.now) n.exponent shift c.places_to_left-shift.ensures.value low in
     scaled_down (digits_value 10 (n.whole.now ++ n.fraction.now)) (c.args.scale + raised n.exponent) (length n.fraction.now + lowered n.exponent)
-      c.unsigned_abs-places.result c.divided_by_power.result (ap (λ k. k + (c.args.scale + raised n.exponent)) places ∙ moved) c.divided_by_power.ensures
+    c.unsigned_abs-places.result c.divided_by_power.result (ap (λ k. k + (c.args.scale + raised n.exponent)) places ∙ moved) c.divided_by_power.ensures
 
 pub returns : goal.returns
 returns c =
@@ -35,5 +35,5 @@ returns c =
     let high : pos 0 ≤ℤ shift = grind (arith, ints) in
     let moved = moved_left c.args.scale (length n.fraction.now) n.exponent shift c.places_to_left-shift.ensures.value high in
     scaled_up (digits_value 10 (n.whole.now ++ n.fraction.now)) (c.args.scale + raised n.exponent) (length n.fraction.now + lowered n.exponent)
-      c.unsigned_abs-places.result _ (ap (λ k. k + (length n.fraction.now + lowered n.exponent)) places ∙ moved)
-      c.in_ok-units.ensures.value c.in_ok-units.ensures.bound refl
+    c.unsigned_abs-places.result _ (ap (λ k. k + (length n.fraction.now + lowered n.exponent)) places ∙ moved)
+    c.in_ok-units.ensures.value c.in_ok-units.ensures.bound refl

@@ -9,11 +9,12 @@ returns-then-width-gt0-clause-text c =
     let w = c.loop-width.width in
     let n = c.loop-width.rest in
     let last : 0 < n % 10 =
-        elim c.loop-width-test.branch [
-          then-loop-width-test+else-rest-eq0 b ↦ omega arith
-        | else-loop-width-test b ↦ omega arith ] in
+    elim c.loop-width-test.branch [
+      | then-loop-width-test+else-rest-eq0 b ↦ omega arith
+      | else-loop-width-test b ↦ omega arith
+    ] in
     let digits : c.push_digits.new.line ≡ last_digits w n =
-        c.push_digits.ensures.text ∙ (ap (λ t. last_digits w n ++ t) c.requires.empty ∙ append-nil (last_digits w n)) in
+    c.push_digits.ensures.text ∙ (ap (λ t. last_digits w n ++ t) c.requires.empty ∙ append-nil (last_digits w n)) in
     c.push_front.ensures
     ∙ (ap (λ t. 46 ∷ t) digits
     ∙ (sym (behind_point_some w n c.if-width-gt0.true last)
