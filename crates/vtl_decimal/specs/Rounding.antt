@@ -1,5 +1,5 @@
 -- Whole numbers from quotients.
-use Rattle.std.specs.Prelude.{ℕ, ◌+◌, ◌*◌, ◌/◌, ◌%◌, Bool, true, false, ◌&&◌, ◌||◌, ◌==◌, nat_lt, nat_le, if◌then◌else◌, ℤ, pos, negsuc, neg_ℤ, unsigned_abs}
+use Rattle.std.specs.Prelude.{ℕ, ◌+◌, ◌*◌, ◌/◌, ◌%◌, ◌<◌, ◌≤◌, ◌≡◌, Bool, true, false, ◌&&◌, ◌||◌, ◌==◌, nat_lt, nat_le, if◌then◌else◌, ℤ, pos, negsuc, neg_ℤ, ◌-ℤ◌, ◌*ℤ◌, unsigned_abs}
 use Rattle.vtl_decimal.specs.declared.settings.Rounding.{Rounding}
 use Rattle.vtl_decimal.specs.declared.settings.Rounding.TheVariants.{HalfUp, HalfEven, Down}
 
@@ -33,3 +33,15 @@ ceil_quotient p q = neg_ℤ (floor_quotient (neg_ℤ p) q)
 abbrev pub floor_of : ℤ → ℤ → ℤ
 floor_of a (pos b) = floor_quotient a b
 floor_of a (negsuc b) = floor_quotient (neg_ℤ a) (b + 1)
+
+-- ---- the same rules without quotient and rest, as a law of the above
+
+-- what each rule asks of the whole k, by the sizes of p, q, k, k * q and p - k * q
+abbrev pub IsNearBySizes : Rounding → ℕ → ℕ → ℕ → ℕ → ℕ → Type 0
+IsNearBySizes HalfUp p q k product error = (2 * error ≤ q) × (2 * error ≡ q → p < product)
+IsNearBySizes HalfEven p q k product error = (2 * error ≤ q) × (2 * error ≡ q → k % 2 ≡ 0)
+IsNearBySizes Down p q k product error = (error < q) × (product ≤ p)
+
+-- k is as near to p / q as any whole number, and at a half it is the larger or the even one; by `Down` it is the nearest one that is not larger
+abbrev pub IsNear : Rounding → ℤ → ℤ → ℤ → Type 0
+IsNear m p q k = IsNearBySizes m (unsigned_abs p) (unsigned_abs q) (unsigned_abs k) (unsigned_abs (k *ℤ q)) (unsigned_abs (p -ℤ (k *ℤ q)))
