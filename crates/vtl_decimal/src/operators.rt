@@ -1,5 +1,6 @@
-ghost use Rattle.std.specs.Prelude.{◌≡◌, ◌-◌, ◌^◌, ◌<◌, ◌+ℤ◌, ◌-ℤ◌, ◌*ℤ◌, neg_ℤ, pos, unsigned_abs};
+ghost use Rattle.std.specs.Prelude.{◌≡◌, ◌-◌, ◌^◌, ◌<◌, ◌+ℤ◌, ◌-ℤ◌, ◌*ℤ◌, ◌<ℤ◌, ◌≤ℤ◌, neg_ℤ, pos, unsigned_abs, IfOk};
 ghost use Rattle.vtl_decimal.specs.Range.{fit_number};
+ghost use Rattle.vtl_decimal.specs.Rounding.{IsNear};
 ghost use Rattle.vtl_decimal.specs.Operators.{product, quotient, remainder};
 
 use crate::number::{Dec, Fault, fit};
@@ -43,7 +44,8 @@ pub fn abs(a: Dec) -> Dec
 ///
 /// Range where it then has more than 18 digits.
 pub fn mul(a: Dec, b: Dec, p: &Profile) -> Result<Dec, Fault>
-    ensures { result ≡ product p.now.rounding p.now.scale a b }
+    ensures value { result ≡ product p.now.rounding p.now.scale a b }
+    ensures near { IfOk result (IsNear p.now.rounding (a *ℤ b) (pos (10 ^ p.now.scale))) }
 {
     let unit = power_of_ten(p.scale());
     fit(rounded(p.rounding(), exact_product(a.k(), b.k()), i128::from(unit)))
@@ -53,7 +55,8 @@ pub fn mul(a: Dec, b: Dec, p: &Profile) -> Result<Dec, Fault>
 ///
 /// DivZero where the divisor is zero, and Range where the result has more than 18 digits.
 pub fn div(a: Dec, b: Dec, p: &Profile) -> Result<Dec, Fault>
-    ensures { result ≡ quotient p.now.rounding p.now.scale a b }
+    ensures value { result ≡ quotient p.now.rounding p.now.scale a b }
+    ensures near { IfOk result (IsNear p.now.rounding (a *ℤ pos (10 ^ p.now.scale)) b) }
 {
     if b.k() == 0 {
         return Err(Fault::DivZero);
@@ -65,7 +68,9 @@ pub fn div(a: Dec, b: Dec, p: &Profile) -> Result<Dec, Fault>
 /// What is left of `a` where `b` is taken away as often as the floor of `a / b` says: zero, or of
 /// the sign of `b` and smaller. It is `a` where `b` is zero.
 pub fn modulo(a: Dec, b: Dec) -> Dec
-    ensures { result ≡ remainder a b }
+    ensures value { result ≡ remainder a b }
+    ensures above { pos 0 <ℤ b → (pos 0 ≤ℤ result) × (result <ℤ b) }
+    ensures below { b <ℤ pos 0 → (b <ℤ result) × (result ≤ℤ pos 0) }
 {
     let divisor = b.k();
     if divisor > 0 {
