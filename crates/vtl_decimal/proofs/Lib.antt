@@ -13,3 +13,4 @@ pub mod SplitLemmas
 pub mod TextLemmas
 pub mod ValueLemmas
 pub mod WritingLemmas
+pub mod WrittenLemmas

@@ -49,7 +49,7 @@ number_from s n d is =
     let size = rounded_from s.rounding (numerator s.scale n) (denominator n) d some is in
     ap (λ v. result_ok (fit_number v)) (ap (signed n.negative) (sym size) ∙ sym (rounded_signed s.rounding n.negative (numerator s.scale n) (denominator n) some))
 
-signed_size : (negative : Bool) (n : ℕ) → unsigned_abs (signed negative n) ≡ n
+pub signed_size : (negative : Bool) (n : ℕ) → unsigned_abs (signed negative n) ≡ n
 signed_size false n = refl
 signed_size true zero = refl
 signed_size true (suc n) = refl

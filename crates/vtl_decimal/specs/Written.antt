@@ -1,7 +1,8 @@
 -- The text of a number.
-use Rattle.std.specs.Prelude.{ℕ, zero, suc, ◌+◌, ◌/◌, ◌%◌, ◌^◌, ◌==◌, if◌then◌else◌, ℤ, unsigned_abs, List, [], ◌∷◌, ◌++◌}
+use Rattle.std.specs.Prelude.{ℕ, zero, suc, ◌+◌, ◌-◌, ◌/◌, ◌%◌, ◌^◌, ◌<◌, ◌≡◌, ◌≢◌, ◌==◌, if◌then◌else◌, ℤ, pos, unsigned_abs, List, [], ◌∷◌, ◌++◌, length, slice_index}
 use Rattle.std.specs.Fmt.{decimal}
 use Rattle.std.specs.Int.{is_negative}
+use Rattle.vtl_decimal.specs.Numeral.{Numeral}
 
 -- the last w digits of n, with zeros before them
 unfoldable pub last_digits : ℕ → ℕ → List ℕ
@@ -25,3 +26,9 @@ sign_text k = if is_negative k then 45 ∷ [] else []
 -- k units of the scale s: the digits before the point without leading zeros, and those behind it without trailing ones
 abbrev pub number_text : ℕ → ℤ → List ℕ
 number_text s k = sign_text k ++ (decimal (unsigned_abs k / 10 ^ s) ++ behind_point (shortest_digits s (unsigned_abs k % 10 ^ s)))
+
+-- a numeral without a digit that could be left out, and without an exponent
+pub record HasNoNeedlessDigit (n : Numeral) : Type 0 where
+  pub leading : slice_index n.whole 0 ≡ 48 → length n.whole ≡ 1
+  pub trailing : 0 < length n.fraction → slice_index n.fraction (length n.fraction - 1) ≢ 48
+  pub plain : n.exponent ≡ pos 0
