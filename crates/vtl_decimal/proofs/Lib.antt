@@ -1,4 +1,5 @@
 pub mod DigitLemmas
+pub mod FloorLemmas
 pub mod NearLemmas
 pub mod NumeralLemmas
 pub mod OperatorLemmas

@@ -90,7 +90,7 @@ far_down p n e (above h) = grind (arith, ints)
 one_after : (n : ℕ) → n + 1 ≡ suc n
 one_after n = omega arith
 
-times_negative : (k q : ℕ) → neg_ℤ (pos k) *ℤ pos q ≡ neg_ℤ (pos (k * q))
+pub times_negative : (k q : ℕ) → neg_ℤ (pos k) *ℤ pos q ≡ neg_ℤ (pos (k * q))
 times_negative zero q =
     let nothing : 0 * q ≡ 0 = omega arith in
     zero-*ℤ (pos q) ∙ ap (λ n. neg_ℤ (pos n)) (sym nothing)

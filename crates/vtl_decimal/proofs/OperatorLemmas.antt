@@ -21,7 +21,7 @@ div_euclid_is_floor (pos p) q = refl
 div_euclid_is_floor (negsuc p) q = refl
 
 -- what a product and a quotient are, where they are in range
-fits : (P : ℤ → Type 0) (k : ℤ) (b : Bool) → P k → IfOk (cond b (Ok k) (Err Range)) P
+pub fits : (P : ℤ → Type 0) (k : ℤ) (b : Bool) → P k → IfOk (cond b (Ok k) (Err Range)) P
 fits P k true h = h
 fits P k false h = tt
 

@@ -1,5 +1,5 @@
 -- Whole numbers from quotients.
-use Rattle.std.specs.Prelude.{ℕ, ◌+◌, ◌*◌, ◌/◌, ◌%◌, ◌<◌, ◌≤◌, ◌≡◌, Bool, true, false, ◌&&◌, ◌||◌, ◌==◌, nat_lt, nat_le, if◌then◌else◌, ℤ, pos, negsuc, neg_ℤ, ◌-ℤ◌, ◌*ℤ◌, unsigned_abs}
+use Rattle.std.specs.Prelude.{ℕ, ◌+◌, ◌*◌, ◌/◌, ◌%◌, ◌<◌, ◌≤◌, ◌≡◌, Bool, true, false, ◌&&◌, ◌||◌, ◌==◌, nat_lt, nat_le, if◌then◌else◌, ℤ, pos, negsuc, neg_ℤ, ◌+ℤ◌, ◌-ℤ◌, ◌*ℤ◌, ◌≤ℤ◌, ◌<ℤ◌, unsigned_abs}
 use Rattle.vtl_decimal.specs.declared.settings.Rounding.{Rounding}
 use Rattle.vtl_decimal.specs.declared.settings.Rounding.TheVariants.{HalfUp, HalfEven, Down}
 
@@ -45,3 +45,10 @@ IsNearBySizes Down p q k product error = (error < q) × (product ≤ p)
 -- k is as near to p / q as any whole number, and at a half it is the larger or the even one; by `Down` it is the nearest one that is not larger
 abbrev pub IsNear : Rounding → ℤ → ℤ → ℤ → Type 0
 IsNear m p q k = IsNearBySizes m (unsigned_abs p) (unsigned_abs q) (unsigned_abs k) (unsigned_abs (k *ℤ q)) (unsigned_abs (p -ℤ (k *ℤ q)))
+
+-- n is the greatest whole number that is at most p / q, and the least that is at least p / q
+abbrev pub IsFloor : ℤ → ℕ → ℤ → Type 0
+IsFloor p q n = ((n *ℤ pos q) ≤ℤ p) × (p <ℤ ((n +ℤ pos 1) *ℤ pos q))
+
+abbrev pub IsCeil : ℤ → ℕ → ℤ → Type 0
+IsCeil p q n = (((n -ℤ pos 1) *ℤ pos q) <ℤ p) × (p ≤ℤ (n *ℤ pos q))

@@ -1,6 +1,6 @@
-ghost use Rattle.std.specs.Prelude.{◌≡◌, ◌-◌, ◌^◌, ◌<◌, ◌≤◌, ◌*ℤ◌, ◌≤ℤ◌, ◌<ℤ◌, neg_ℤ, pos, negsuc, unsigned_abs};
+ghost use Rattle.std.specs.Prelude.{◌≡◌, ◌-◌, ◌^◌, ◌<◌, ◌≤◌, ◌*ℤ◌, ◌≤ℤ◌, ◌<ℤ◌, neg_ℤ, pos, negsuc, unsigned_abs, IfOk};
 ghost use Rattle.vtl_decimal.specs.Range.{fit_number, fit_integer};
-ghost use Rattle.vtl_decimal.specs.Rounding.{rounded_quotient, floor_quotient, ceil_quotient};
+ghost use Rattle.vtl_decimal.specs.Rounding.{rounded_quotient, floor_quotient, ceil_quotient, IsFloor, IsCeil};
 ghost use Rattle.vtl_decimal.specs.Operators.{rounded_at};
 ghost use Rattle.vtl_decimal.specs.declared.settings.Rounding.TheVariants.{Down};
 
@@ -92,8 +92,10 @@ fn ceil_of(k: i64, unit: i64) -> i64
 /// The greatest integer that is at most the number.
 ///
 /// Range where the profile has no such integer.
+#[tactic(auto, using(crate::proofs::FloorLemmas::floor_fit))]
 pub fn floor(a: Dec, p: &Profile) -> Result<i64, Fault>
-    ensures { result ≡ fit_integer p.now.scale (floor_quotient a (10 ^ p.now.scale)) }
+    ensures value { result ≡ fit_integer p.now.scale (floor_quotient a (10 ^ p.now.scale)) }
+    ensures greatest { IfOk result (IsFloor a (10 ^ p.now.scale)) }
 {
     let unit = power_of_ten(p.scale());
     whole(i128::from(a.k().div_euclid(unit)), p)
@@ -102,8 +104,10 @@ pub fn floor(a: Dec, p: &Profile) -> Result<i64, Fault>
 /// The least integer that is at least the number.
 ///
 /// Range where the profile has no such integer.
+#[tactic(auto, using(crate::proofs::FloorLemmas::ceil_fit))]
 pub fn ceil(a: Dec, p: &Profile) -> Result<i64, Fault>
-    ensures { result ≡ fit_integer p.now.scale (ceil_quotient a (10 ^ p.now.scale)) }
+    ensures value { result ≡ fit_integer p.now.scale (ceil_quotient a (10 ^ p.now.scale)) }
+    ensures least { IfOk result (IsCeil a (10 ^ p.now.scale)) }
 {
     let unit = power_of_ten(p.scale());
     whole(i128::from(ceil_of(a.k(), unit)), p)
