@@ -1,6 +1,6 @@
-ghost use Rattle.std.specs.Prelude.{◌≡◌, ◌*◌, ◌^◌, ◌<◌, ◌≤◌, unsigned_abs, pos, ℤ, List, [], ◌∷◌, ◌++◌};
+ghost use Rattle.std.specs.Prelude.{◌≡◌, ◌*◌, ◌^◌, ◌<◌, ◌≤◌, unsigned_abs, pos, IfSome, ℤ, List, [], ◌∷◌, ◌++◌};
 ghost use Rattle.vtl_decimal.specs.Range.{fit_number};
-ghost use Rattle.vtl_decimal.specs.Rounding.{rounded_quotient};
+ghost use Rattle.vtl_decimal.specs.Rounding.{rounded_quotient, IsNear};
 ghost use Rattle.vtl_decimal.specs.Tally.{tally_of, tally_with, mean_of};
 
 use crate::number::{Dec, Fault, fit};
@@ -57,7 +57,8 @@ impl Sum {
 
     /// The exact total divided by the count, rounded once. None where nothing was added.
     pub fn mean(&self, p: &Profile) -> Option<Dec>
-        ensures { result ≡ mean_of p.now.rounding self.now }
+        ensures value { result ≡ mean_of p.now.rounding self.now }
+        ensures near { IfSome result (IsNear p.now.rounding self.now.total (pos self.now.count)) }
     {
         if self.count == 0 {
             return None;
