@@ -33,12 +33,13 @@ as_it_is Down z r q small down = (small, omega arith)
 even_above : (z r q : ℕ) → r < q → (nat_lt q (2 * r) || ((2 * r == q) && (z % 2 == 1))) ≡ true → (q ≤ 2 * r) × (2 * (q - r) ≡ q → (z + 1) % 2 ≡ 0)
 even_above z r q small up =
     elim (or_cases (nat_lt q (2 * r)) ((2 * r == q) && (z % 2 == 1)) up) [
-      inl above ↦ let high = ltb-true q (2 * r) above in (omega arith, λ tie. absurd (omega arith))
-    | inr tie ↦
-        let both = and_parts (2 * r == q) (z % 2 == 1) tie in
-        let same = eqb-true (2 * r) q both.0 in
-        let odd = eqb-true (z % 2) 1 both.1 in
-        (omega arith, λ _. omega arith) ]
+      | inl above ↦ let high = ltb-true q (2 * r) above in (omega arith, λ tie. absurd (omega arith))
+      | inr tie ↦
+          let both = and_parts (2 * r == q) (z % 2 == 1) tie in
+          let same = eqb-true (2 * r) q both.0 in
+          let odd = eqb-true (z % 2) 1 both.1 in
+          (omega arith, λ _. omega arith)
+    ]
 
 one_more : (m : Rounding) (z r q : ℕ) → r < q → rounds_up m z r q ≡ true → IsNearBySizes m (z * q + r) q (z + 1) ((z + 1) * q) (q - r)
 one_more HalfUp z r q small up = let high = leb-true q (2 * r) up in (omega arith, λ tie. omega arith)
@@ -128,19 +129,19 @@ rounded_near m (pos p) (negsuc q) h =
     let k = rounded_size m p (q + 1) in
     let away = far_up p (k * (q + 1)) s.error s.apart in
     to_near m (pos p) (negsuc q) (neg_ℤ (pos k)) p (q + 1) k s.error refl (one_after q) (sym (size_turned k))
-      (sym (ap (λ x. unsigned_abs (pos p -ℤ x)) (both_negative k q) ∙ away)) s.near
+    (sym (ap (λ x. unsigned_abs (pos p -ℤ x)) (both_negative k q) ∙ away)) s.near
 rounded_near m (negsuc p) (pos q) h =
     let s = near_size m (p + 1) q h in
     let k = rounded_size m (p + 1) q in
     let away = far_down p (k * q) s.error s.apart in
     to_near m (negsuc p) (pos q) (neg_ℤ (pos k)) (p + 1) q k s.error (one_after p) refl (sym (size_turned k))
-      (sym (ap (λ x. unsigned_abs (negsuc p -ℤ x)) (times_negative k q) ∙ away)) s.near
+    (sym (ap (λ x. unsigned_abs (negsuc p -ℤ x)) (times_negative k q) ∙ away)) s.near
 rounded_near m (negsuc p) (negsuc q) h =
     let s = near_size m (p + 1) (q + 1) (omega arith) in
     let k = rounded_size m (p + 1) (q + 1) in
     let away = far_down p (k * (q + 1)) s.error s.apart in
     to_near m (negsuc p) (negsuc q) (pos k) (p + 1) (q + 1) k s.error (one_after p) (one_after q) refl
-      (sym (ap (λ x. unsigned_abs (negsuc p -ℤ x)) (by_negative k q) ∙ away)) s.near
+    (sym (ap (λ x. unsigned_abs (negsuc p -ℤ x)) (by_negative k q) ∙ away)) s.near
 
 -- ---- the sign turns with the dividend
 nothing_rounded : (m : Rounding) (q : ℕ) → 0 < q → rounded_size m 0 q ≡ 0

@@ -43,20 +43,22 @@ shortest_are_digits : (w n : ℕ) → IsTrue (are_digits (shortest_digits w n))
 shortest_are_digits zero n = ap are_digits (shortest_digits-none n)
 shortest_are_digits (suc w) n =
     elim (zero_or_more (n % 10)) [
-      inl none ↦
-        let less : suc w - 1 ≡ w = omega arith in
-        ap are_digits (shortest_digits_zero (suc w) n (omega arith) none) ∙ ap (λ k. are_digits (shortest_digits k (n / 10))) less ∙ shortest_are_digits w (n / 10)
-    | inr some ↦ ap are_digits (shortest_digits_nonzero (suc w) n (omega arith) some) ∙ last_are_digits (suc w) n ]
+      | inl none ↦
+          let less : suc w - 1 ≡ w = omega arith in
+          ap are_digits (shortest_digits_zero (suc w) n (omega arith) none) ∙ ap (λ k. are_digits (shortest_digits k (n / 10))) less ∙ shortest_are_digits w (n / 10)
+      | inr some ↦ ap are_digits (shortest_digits_nonzero (suc w) n (omega arith) some) ∙ last_are_digits (suc w) n
+    ]
 
 length-shortest_digits-le : (w n : ℕ) → length (shortest_digits w n) ≤ w
 length-shortest_digits-le zero n = omega (arith, ap length (shortest_digits-none n))
 length-shortest_digits-le (suc w) n =
     elim (zero_or_more (n % 10)) [
-      inl none ↦
-        let less : suc w - 1 ≡ w = omega arith in
-        let same = ap length (shortest_digits_zero (suc w) n (omega arith) none) ∙ ap (λ k. length (shortest_digits k (n / 10))) less in
-        omega (arith, same, length-shortest_digits-le w (n / 10))
-    | inr some ↦ omega (arith, ap length (shortest_digits_nonzero (suc w) n (omega arith) some), length-last_digits (suc w) n) ]
+      | inl none ↦
+          let less : suc w - 1 ≡ w = omega arith in
+          let same = ap length (shortest_digits_zero (suc w) n (omega arith) none) ∙ ap (λ k. length (shortest_digits k (n / 10))) less in
+          omega (arith, same, length-shortest_digits-le w (n / 10))
+      | inr some ↦ omega (arith, ap length (shortest_digits_nonzero (suc w) n (omega arith) some), length-last_digits (suc w) n)
+    ]
 
 -- ---- and write the number
 last_value : (w n : ℕ) → n < 10 ^ w → digits_value 10 (last_digits w n) ≡ n
@@ -85,23 +87,25 @@ shortest_value zero n small =
 shortest_value (suc w) n small =
     let F : List ℕ → Type 0 = λ ds. digits_value 10 ds * 10 ^ suc w ≡ n * 10 ^ length ds in
     elim (zero_or_more (n % 10)) [
-      inl none ↦
-        let less : suc w - 1 ≡ w = omega arith in
-        let shorter = shortest_digits_zero (suc w) n (omega arith) none ∙ ap (λ k. shortest_digits k (n / 10)) less in
-        let below : n / 10 < 10 ^ w = omega (arith, pow-suc 10 w) in
-        subst F (sym shorter) (ten_times (digits_value 10 (shortest_digits w (n / 10))) (n / 10) n (10 ^ w) (10 ^ suc w) (10 ^ length (shortest_digits w (n / 10))) (pow-suc 10 w) (omega arith) (shortest_value w (n / 10) below))
-    | inr some ↦
-        let whole = last_value (suc w) n small in
-        let size = length-last_digits (suc w) n in
-        subst F (sym (shortest_digits_nonzero (suc w) n (omega arith) some)) (ap (λ v. v * 10 ^ suc w) whole ∙ ap (λ k. n * 10 ^ k) (sym size)) ]
+      | inl none ↦
+          let less : suc w - 1 ≡ w = omega arith in
+          let shorter = shortest_digits_zero (suc w) n (omega arith) none ∙ ap (λ k. shortest_digits k (n / 10)) less in
+          let below : n / 10 < 10 ^ w = omega (arith, pow-suc 10 w) in
+          subst F (sym shorter) (ten_times (digits_value 10 (shortest_digits w (n / 10))) (n / 10) n (10 ^ w) (10 ^ suc w) (10 ^ length (shortest_digits w (n / 10))) (pow-suc 10 w) (omega arith) (shortest_value w (n / 10) below))
+      | inr some ↦
+          let whole = last_value (suc w) n small in
+          let size = length-last_digits (suc w) n in
+          subst F (sym (shortest_digits_nonzero (suc w) n (omega arith) some)) (ap (λ v. v * 10 ^ suc w) whole ∙ ap (λ k. n * 10 ^ k) (sym size))
+    ]
 
 -- ---- the numeral of the text
 abbrev pub written_numeral : ℕ → ℤ → Numeral
 written_numeral s k = record {
-    negative = is_negative k;
-    whole = decimal (unsigned_abs k / 10 ^ s);
-    fraction = shortest_digits s (unsigned_abs k % 10 ^ s);
-    exponent = pos 0 }
+  negative = is_negative k;
+  whole = decimal (unsigned_abs k / 10 ^ s);
+  fraction = shortest_digits s (unsigned_abs k % 10 ^ s);
+  exponent = pos 0;
+}
 
 sign_is : (k : ℤ) → IsSign (sign_text k) (is_negative k)
 sign_is (pos n) =
@@ -142,14 +146,22 @@ text_spelled s k low small =
       separator = point_before n.fraction;
       power = [];
       parts = ap (λ l. sign_text k ++ (n.whole ++ l)) (behind_is n.fraction);
-      short = omega (arith, length-append (sign_text k) (n.whole ++ behind_point n.fraction), length-append n.whole (behind_point n.fraction),
-                length-behind n.fraction, length-sign k, length-shortest_digits-le s (unsigned_abs k % 10 ^ s), size);
+      short = omega (
+        arith,
+        length-append (sign_text k) (n.whole ++ behind_point n.fraction),
+        length-append n.whole (behind_point n.fraction),
+        length-behind n.fraction,
+        length-sign k,
+        length-shortest_digits-le s (unsigned_abs k % 10 ^ s),
+        size,
+      );
       signs = sign_is k;
       whole_digits = digits;
       points = point_is n.fraction;
       fraction_digits = shortest_are_digits s (unsigned_abs k % 10 ^ s);
       some_digit = omega (arith, first);
-      exponents = no_exponent }
+      exponents = no_exponent;
+    }
 
 -- ---- its value
 expand : (w q v u : ℕ) → (w * q + v) * u ≡ w * u * q + v * u
@@ -187,10 +199,10 @@ written_value p k small =
     let digits = value-append n.whole n.fraction ∙ ap (λ w. w * 10 ^ length n.fraction + digits_value 10 n.fraction) whole in
     let rest = shortest_value s (unsigned_abs k % 10 ^ s) (omega arith) in
     let value : numerator s n ≡ unsigned_abs k * denominator n =
-        ap (λ e. digits_value 10 (n.whole ++ n.fraction) * 10 ^ e) (add-zero s)
-        ∙ ap (λ v. v * 10 ^ s) digits
-        ∙ scaled_value (unsigned_abs k / 10 ^ s) (10 ^ length n.fraction) (digits_value 10 n.fraction) (10 ^ s) (unsigned_abs k % 10 ^ s) (unsigned_abs k) rest (div-add-mod' (unsigned_abs k) (10 ^ s))
-        ∙ ap (λ e. unsigned_abs k * 10 ^ e) (sym (add-zero (length n.fraction))) in
+    ap (λ e. digits_value 10 (n.whole ++ n.fraction) * 10 ^ e) (add-zero s)
+    ∙ ap (λ v. v * 10 ^ s) digits
+    ∙ scaled_value (unsigned_abs k / 10 ^ s) (10 ^ length n.fraction) (digits_value 10 n.fraction) (10 ^ s) (unsigned_abs k % 10 ^ s) (unsigned_abs k) rest (div-add-mod' (unsigned_abs k) (10 ^ s))
+    ∙ ap (λ e. unsigned_abs k * 10 ^ e) (sym (add-zero (length n.fraction))) in
     let size = ap (λ v. rounded_size p.rounding v (denominator n)) value ∙ rounded_exactly p.rounding (unsigned_abs k) (denominator n) more' in
     let back = rounded_signed p.rounding n.negative (numerator s n) (denominator n) more' ∙ ap (signed n.negative) size ∙ signed_back k in
     ap (λ v. result_ok (fit_number v)) back ∙ ap result_ok (cond-true (nat_lt (unsigned_abs k) (10 ^ 18)) (Ok k) (Err Range) (lt-ltb (unsigned_abs k) (10 ^ 18) small))
@@ -210,27 +222,30 @@ trailing_digit zero n some = absurd (omega (arith, ap length (shortest_digits-no
 trailing_digit (suc w) n some =
     let F : List ℕ → Type 0 = λ ds. 0 < length ds → get_or ds (length ds - 1) 0 ≢ 48 in
     let all : F (shortest_digits (suc w) n) =
-        elim (zero_or_more (n % 10)) [
-          inl none ↦
-            let less : suc w - 1 ≡ w = omega arith in
-            subst F (sym (shortest_digits_zero (suc w) n (omega arith) none ∙ ap (λ k. shortest_digits k (n / 10)) less)) (trailing_digit w (n / 10))
-        | inr more ↦
-            let last : get_or (last_digits (suc w) n) (length (last_digits (suc w) n) - 1) 0 ≡ 48 + n % 10 =
-                ap (λ ds. get_or ds (length ds - 1) 0) (last_digits-suc w n) ∙ last_of_push (last_digits w (n / 10)) (48 + n % 10) in
-            subst F (sym (shortest_digits_nonzero (suc w) n (omega arith) more)) (λ _ e. omega (arith, last, e)) ] in
+    elim (zero_or_more (n % 10)) [
+      | inl none ↦
+          let less : suc w - 1 ≡ w = omega arith in
+          subst F (sym (shortest_digits_zero (suc w) n (omega arith) none ∙ ap (λ k. shortest_digits k (n / 10)) less)) (trailing_digit w (n / 10))
+      | inr more ↦
+          let last : get_or (last_digits (suc w) n) (length (last_digits (suc w) n) - 1) 0 ≡ 48 + n % 10 =
+          ap (λ ds. get_or ds (length ds - 1) 0) (last_digits-suc w n) ∙ last_of_push (last_digits w (n / 10)) (48 + n % 10) in
+          subst F (sym (shortest_digits_nonzero (suc w) n (omega arith) more)) (λ _ e. omega (arith, last, e))
+    ] in
     all some
 
 leading_digit : (n : ℕ) → n < 10 ^ 18 → get_or (decimal n) 0 0 ≡ 48 → length (decimal n) ≡ 1
 leading_digit n small e =
     elim (zero_or_more n) [
-      inl none ↦ ap (λ v. length (decimal v)) none ∙ ap length (decimal_digit 0 (omega arith))
-    | inr some ↦ absurd (omega (arith, first_decimal n some (omega arith), e)) ]
+      | inl none ↦ ap (λ v. length (decimal v)) none ∙ ap length (decimal_digit 0 (omega arith))
+      | inr some ↦ absurd (omega (arith, first_decimal n some (omega arith), e))
+    ]
 
 pub no_needless_digit : (s : ℕ) (k : ℤ) → unsigned_abs k < 10 ^ 18 → HasNoNeedlessDigit (written_numeral s k)
 no_needless_digit s k small = record {
-    leading = leading_digit (unsigned_abs k / 10 ^ s) (omega (arith, div-le_self (unsigned_abs k) (10 ^ s)));
-    trailing = trailing_digit s (unsigned_abs k % 10 ^ s);
-    plain = refl }
+  leading = leading_digit (unsigned_abs k / 10 ^ s) (omega (arith, div-le_self (unsigned_abs k) (10 ^ s)));
+  trailing = trailing_digit s (unsigned_abs k % 10 ^ s);
+  plain = refl;
+}
 
 pub shortest_spelled : (s : ℕ) (k : ℤ) → s ≤ 9 → unsigned_abs k < 10 ^ 18 → (n : Numeral) × Spells (number_text s k) n × HasNoNeedlessDigit n
 shortest_spelled s k low small = (written_numeral s k, text_spelled s k low small, no_needless_digit s k small)
