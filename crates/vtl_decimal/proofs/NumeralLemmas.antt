@@ -1,5 +1,5 @@
 -- The reading of numerals, step by step.
-use Rattle.std.proofs.Common.{ℤ, ℕ, ◌≡◌, Bool, List, drop, Option, Some, ap}
+use Rattle.std.proofs.Common.{ℤ, ℕ, ◌≡◌, Bool, List, drop, Some, ap}
 use Rattle.std.specs.Prelude.{option_and_then}
 use Rattle.std.specs.List.{before_first}
 use Rattle.vtl_decimal.specs.Numeral.{is_mark, is_point, from_first, exponent_of, with_digits, unsigned_numeral_of}

@@ -1,9 +1,9 @@
 -- What every numeral that is read keeps.
-use Rattle.std.proofs.Common.{ℕ, ℤ, pos, ◌≡◌, ◌+◌, ◌<◌, ◌≤◌, List, ◌++◌, length, Option, Some, None, sym, arith, ap, length-append, Bool, true, false, negsuc, refl}
-use Rattle.std.specs.Prelude.{unsigned_abs, IsTrue, IfSome}
+use Rattle.std.proofs.Common.{ℕ, ℤ, ◌≡◌, ◌+◌, ◌<◌, ◌≤◌, List, ◌++◌, length, Option, Some, None, sym, arith, ap, length-append, Bool, true, false, refl}
+use Rattle.std.specs.Prelude.{unsigned_abs, IfSome}
 use Rattle.std.specs.Option.{option_map}
 use Rattle.std.specs.Str.Parse.{digits_value}
-use Rattle.vtl_decimal.specs.Numeral.{Numeral, signed, IsExponent, no_exponent, times_ten_to, Spells, are_digits, numeral_of}
+use Rattle.vtl_decimal.specs.Numeral.{Numeral, signed, IsExponent, no_exponent, times_ten_to, numeral_of}
 use Rattle.vtl_decimal.specs.declared.parse.Numeral.{Numeral as Parsed}
 use Rattle.vtl_decimal.specs.Parsed.{IsParsed, numeral_view}
 use Rattle.vtl_decimal.proofs.DigitLemmas.{value_of_three}

@@ -1,6 +1,6 @@
 -- What the text spells is what is read.
-use Rattle.std.proofs.Common.{ℕ, ℤ, pos, ◌≡◌, ◌+◌, ◌<◌, ◌≤◌, Bool, true, false, cond, List, [], ◌∷◌, ◌++◌, drop, length, Option, Some, None, refl, ap, sym, subst, ◌∙◌, arith, append_assoc}
-use Rattle.std.specs.Prelude.{option_and_then, nat_lt, nat_le, ◌&&◌, ◌||◌, ◌==◌, not, IsTrue, slice_index}
+use Rattle.std.proofs.Common.{ℕ, ℤ, ◌≡◌, ◌+◌, ◌<◌, ◌≤◌, Bool, true, false, List, [], ◌∷◌, ◌++◌, drop, length, Option, Some, None, refl, ap, sym, ◌∙◌, arith, append_assoc}
+use Rattle.std.specs.Prelude.{option_and_then, nat_lt, nat_le, ◌&&◌, ◌==◌, not, IsTrue, slice_index}
 use Rattle.std.specs.Char.{is_ascii_digit}
 use Rattle.std.specs.List.{before_first, list_all}
 use Rattle.std.specs.Str.Parse.{digits_value, starts_with_minus, without_leading_sign}

@@ -1,5 +1,5 @@
 -- How large a rounded quotient is.
-use Rattle.std.proofs.Common.{ℕ, ◌+◌, ◌*◌, ◌/◌, ◌%◌, ◌<◌, ◌≤◌, ◌≡◌, Bool, true, false, ℤ, pos, negsuc, neg_ℤ, refl, ◌⊎◌, inl, inr, cond, arith}
+use Rattle.std.proofs.Common.{ℕ, ◌+◌, ◌*◌, ◌/◌, ◌%◌, ◌<◌, ◌≤◌, ◌≡◌, Bool, true, false, ℤ, pos, negsuc, refl, ◌⊎◌, inl, inr, cond, arith}
 use Rattle.std.proofs.Math.Nat.{lt_of_mul-lt-mul_left, le_of_mul-le-mul_left}
 use Rattle.std.specs.Prelude.{unsigned_abs, ◌==◌}
 use Rattle.vtl_decimal.specs.Divided.{rest_of, rounds_up_from}

@@ -1,17 +1,16 @@
 -- Numbers of digits, divided by powers of ten.
-use Rattle.std.proofs.Common.{ℕ, ◌≡◌, ◌+◌, ◌-◌, ◌*◌, ◌/◌, ◌%◌, ◌^◌, ◌<◌, ◌≤◌, Bool, true, false, cond, List, [], ◌++◌, ◌⊎◌, inl, inr, length, refl, ap, sym, subst, ◌∙◌, arith, add-zero, mul_assoc, ℤ, pos, negsuc, ◌+ℤ◌, ◌-ℤ◌, ◌<ℤ◌, ◌≤ℤ◌, Option, Some, None}
+use Rattle.std.proofs.Common.{ℕ, ◌≡◌, ◌+◌, ◌*◌, ◌/◌, ◌%◌, ◌^◌, ◌<◌, ◌≤◌, true, false, List, ◌++◌, inl, inr, length, ap, sym, subst, ◌∙◌, arith, add-zero, mul_assoc, ℤ, pos, negsuc, ◌+ℤ◌, ◌-ℤ◌, ◌<ℤ◌, ◌≤ℤ◌, Option, Some, None}
 use Rattle.std.specs.Prelude.{IsTrue, MatchOption, unsigned_abs}
 use Rattle.std.proofs.lemmas.Int.{ints}
 use Rattle.std.specs.Str.Parse.{digits_value}
 use Rattle.std.proofs.Math.Nat.{one-le-pow, pow-le-pow_right, mul-lt-mul_of_pos_right, mul-div-mul_right, mul-le-mul_right, le-mul_of_pos_right}
 use Rattle.std.proofs.lemmas.Bool.{cases_order, ltb-true, ltb-false}
 use Rattle.std.proofs.lemmas.Nat.{div-mul-add, div-add-mod', pow-add}
-use Rattle.vtl_decimal.specs.declared.quotient.Rest.{Rest}
-use Rattle.vtl_decimal.specs.declared.quotient.Rest.TheVariants.{Zero, BelowHalf, Half, AboveHalf}
+use Rattle.vtl_decimal.specs.declared.quotient.Rest.TheVariants.{Zero, BelowHalf}
 use Rattle.vtl_decimal.specs.declared.quotient.Divided.{Divided}
 use Rattle.vtl_decimal.specs.Divided.{rest_of, IsDivided, has_nonzero}
 use Rattle.vtl_decimal.specs.Numeral.{are_digits, raised, lowered}
-use Rattle.vtl_decimal.proofs.DigitLemmas.{value-append, value-lt, are_digits-append}
+use Rattle.vtl_decimal.proofs.DigitLemmas.{value-append, value-lt}
 use Rattle.vtl_decimal.proofs.RestLemmas.{below_half, at_half, above_half, has_nonzero-is}
 use Rattle.vtl_decimal.proofs.RoundingLemmas.{zero_or_more}
 

@@ -1,9 +1,9 @@
 -- What is read is what the text spells.
-use Rattle.std.proofs.Common.{ℕ, ℤ, pos, ◌≡◌, ◌≢◌, ◌+◌, ◌<◌, ◌≤◌, Bool, true, false, cond, List, [], ◌∷◌, ◌++◌, ◌⊎◌, inl, inr, take, drop, length, Option, Some, None, refl, ap, sym, subst, ◌∙◌, arith, append_assoc}
+use Rattle.std.proofs.Common.{ℕ, ℤ, pos, ◌≡◌, ◌+◌, ◌≤◌, Bool, true, false, List, [], ◌∷◌, ◌++◌, inl, inr, drop, length, Option, Some, None, refl, ap, sym, subst, ◌∙◌, append_assoc}
 use Rattle.std.specs.Prelude.{option_and_then, nat_lt, nat_le, ◌&&◌, ◌==◌}
 use Rattle.std.specs.List.{before_first}
 use Rattle.std.specs.Str.Parse.{digits_value, starts_with_minus, without_leading_sign}
-use Rattle.std.proofs.lemmas.Bool.{cases_Bool, cases_eq, eq-eqb, ne_eqb, eqb-true, and_parts, or_cases, ltb-true, leb-true}
+use Rattle.std.proofs.lemmas.Bool.{cases_Bool, cases_eq, ne_eqb, eqb-true, and_parts, or_cases, ltb-true, leb-true}
 use Rattle.std.proofs.lemmas.Option.{cond_some, none-some}
 use Rattle.vtl_decimal.specs.Numeral.{Numeral, signed, IsSign, no_sign, plus, minus, IsPoint, no_point, point, IsMark, small, capital, IsExponent, no_exponent, times_ten_to, Spells, are_digits, is_mark, is_point, from_first, power_of, exponent_of, with_digits, unsigned_numeral_of, numeral_of}
 use Rattle.vtl_decimal.proofs.SplitLemmas.{before_and_from, from_first_cases}

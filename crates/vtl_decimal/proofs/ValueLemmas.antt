@@ -1,5 +1,5 @@
 -- The number of a numeral, from its quotient with a rest.
-use Rattle.std.proofs.Common.{ℕ, zero, suc, ℤ, pos, neg_ℤ, ◌≡◌, ◌+◌, ◌-◌, ◌*◌, ◌/◌, ◌%◌, ◌^◌, ◌<◌, ◌≤◌, Bool, true, false, cond, List, Option, Some, None, Result, Ok, Err, refl, ap, sym, ◌∙◌, arith, rules}
+use Rattle.std.proofs.Common.{ℕ, zero, suc, ℤ, pos, neg_ℤ, ◌≡◌, ◌+◌, ◌-◌, ◌/◌, ◌%◌, ◌^◌, ◌<◌, ◌≤◌, Bool, true, false, cond, List, Option, Some, None, Result, Ok, Err, refl, ap, sym, ◌∙◌, arith, rules}
 use Rattle.std.specs.Prelude.{unsigned_abs, ◌==◌, nat_lt, option_and_then, IfOk, OnErr}
 use Rattle.std.specs.Option.{ok_or}
 use Rattle.std.specs.Result.{result_ok}
@@ -7,12 +7,11 @@ use Rattle.std.proofs.Math.Nat.{one-le-pow, pow-le-pow_right}
 use Rattle.std.proofs.lemmas.Bool.{le-ltb}
 use Rattle.vtl_decimal.specs.declared.settings.Rounding.{Rounding}
 use Rattle.vtl_decimal.specs.declared.quotient.Rest.{Rest}
-use Rattle.vtl_decimal.specs.declared.quotient.Rest.TheVariants.{Zero, BelowHalf, Half, AboveHalf}
 use Rattle.vtl_decimal.specs.declared.quotient.Divided.{Divided}
 use Rattle.vtl_decimal.specs.Divided.{rest_of, rounds_up_from, IsDivided}
 use Rattle.vtl_decimal.specs.Numeral.{Numeral, Spells, signed, numeral_of, number_of, integer_of, numerator, denominator}
 use Rattle.vtl_decimal.specs.Range.{fit_number}
-use Rattle.vtl_decimal.specs.Rounding.{rounds_up, rounded_size, rounded_quotient}
+use Rattle.vtl_decimal.specs.Rounding.{rounded_size, rounded_quotient}
 use Rattle.vtl_decimal.specs.Settings.{Settings}
 use Rattle.vtl_decimal.proofs.ReadingLemmas.{spelled_numeral}
 use Rattle.vtl_decimal.proofs.RoundingLemmas.{rounded_size_within, rounds_up_is}

@@ -1,6 +1,6 @@
 -- The text that is written spells the number that it was written for.
-use Rattle.std.proofs.Common.{ℕ, zero, suc, ℤ, pos, negsuc, neg_ℤ, ◌≡◌, ◌≢◌, ◌+◌, ◌-◌, ◌*◌, ◌/◌, ◌%◌, ◌^◌, ◌<◌, ◌≤◌, ◌⊎◌, inl, inr, Bool, true, false, cond, List, [], ◌∷◌, ◌++◌, length, get_or, Option, Some, None, Ok, Err, refl, ap, sym, subst, ◌∙◌, arith, rules, append_assoc, append-nil, length-append, pow-suc, add-zero}
-use Rattle.std.specs.Prelude.{unsigned_abs, nat_lt, ◌==◌, option_and_then, IsTrue}
+use Rattle.std.proofs.Common.{ℕ, zero, suc, ℤ, pos, negsuc, ◌≡◌, ◌≢◌, ◌+◌, ◌-◌, ◌*◌, ◌/◌, ◌%◌, ◌^◌, ◌<◌, ◌≤◌, inl, inr, Bool, true, false, cond, List, [], ◌∷◌, ◌++◌, length, get_or, Some, Ok, Err, refl, ap, sym, subst, ◌∙◌, arith, rules, append-nil, length-append, pow-suc, add-zero}
+use Rattle.std.specs.Prelude.{unsigned_abs, nat_lt, option_and_then, IsTrue}
 use Rattle.std.specs.Char.{is_ascii_digit}
 use Rattle.std.specs.Fmt.{decimal}
 use Rattle.std.specs.Int.{is_negative}
@@ -9,22 +9,22 @@ use Rattle.std.specs.Result.{result_ok}
 use Rattle.std.specs.Str.Parse.{digits_value}
 use Rattle.std.proofs.Math.Nat.{one-le-pow, div-le_self, mul-mod_left}
 use Rattle.std.proofs.lemmas.Grind.{common_steps}
-use Rattle.std.proofs.lemmas.Bool.{cases_Bool, cases_eq, cond-true, lt-ltb, le-ltb, eq-eqb, ne_eqb}
+use Rattle.std.proofs.lemmas.Bool.{cond-true, lt-ltb}
 use Rattle.std.proofs.lemmas.Fmt.{decimal_nonempty, digits_decimal, digits_value-decimal, first_decimal, decimal_digit, length-decimal-le}
 use Rattle.std.proofs.lemmas.Int.Digits.{digits_value_push}
-use Rattle.std.proofs.lemmas.Nat.{div-add-mod', div-mul-add, pow-add}
+use Rattle.std.proofs.lemmas.Nat.{div-add-mod', div-mul-add}
 use Rattle.std.proofs.lemmas.Str.Parse.{IsNumeralModel, numerals_by_value}
-use Rattle.vtl_decimal.specs.Numeral.{Numeral, signed, IsSign, no_sign, minus, IsPoint, no_point, point, no_exponent, Spells, are_digits, numeral_of, number_of, number_read, numerator, denominator}
+use Rattle.vtl_decimal.specs.Numeral.{Numeral, signed, IsSign, no_sign, minus, IsPoint, no_point, point, no_exponent, Spells, are_digits, number_of, number_read, numerator, denominator}
 use Rattle.vtl_decimal.specs.Range.{fit_number}
 use Rattle.vtl_decimal.specs.declared.number.Fault.TheVariants.{Range}
 use Rattle.vtl_decimal.specs.declared.settings.Rounding.{Rounding}
-use Rattle.vtl_decimal.specs.Rounding.{rounds_up, rounded_size, rounded_quotient}
+use Rattle.vtl_decimal.specs.Rounding.{rounds_up, rounded_size}
 use Rattle.vtl_decimal.specs.Settings.{Settings}
 use Rattle.vtl_decimal.specs.Written.{last_digits, shortest_digits, behind_point, sign_text, number_text, HasNoNeedlessDigit}
 use Rattle.vtl_decimal.proofs.DigitLemmas.{are_digits-append, value-append, digit_value_is}
 use Rattle.vtl_decimal.proofs.ReadingLemmas.{spelled_numeral}
 use Rattle.vtl_decimal.proofs.RoundingLemmas.{rounds_up_no_rest, zero_or_more}
-use Rattle.vtl_decimal.proofs.ValueLemmas.{rounded_signed, signed_size}
+use Rattle.vtl_decimal.proofs.ValueLemmas.{rounded_signed}
 use Rattle.vtl_decimal.proofs.WritingLemmas.{last_digits-suc, last_digits-none, length-last_digits, shortest_digits_zero, shortest_digits_nonzero, shortest_digits-none}
 
 -- ---- the digits are digits

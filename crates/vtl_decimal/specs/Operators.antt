@@ -1,5 +1,5 @@
 -- The operators on numbers. A number is the whole k of its units, of which 10 ^ s make one at the scale s.
-use Rattle.std.specs.Prelude.{ℕ, ◌-◌, ◌^◌, ◌==◌, if◌then◌else◌, ℤ, pos, ◌*ℤ◌, ◌-ℤ◌, unsigned_abs, Result, Ok, Err}
+use Rattle.std.specs.Prelude.{ℕ, ◌^◌, ◌==◌, if◌then◌else◌, ℤ, pos, ◌*ℤ◌, ◌-ℤ◌, unsigned_abs, Result, Err}
 use Rattle.std.specs.Int.RustNames.{int_le}
 use Rattle.vtl_decimal.specs.declared.number.Fault.{Fault}
 use Rattle.vtl_decimal.specs.declared.number.Fault.TheVariants.{DivZero}

@@ -4,6 +4,7 @@ use crate::{
     read, read_whole, round, sub, trunc, whole, write,
 };
 use std::alloc::Global;
+use std::process::Abort;
 use std::test::Fail;
 
 // The greatest number at scale 6: every one of its 18 digits is a nine.
@@ -144,6 +145,12 @@ fn remainders_have_the_sign_of_the_divisor(rt: HostRuntime) -> Result<(), Fail> 
     Ok(())
 }
 
+// The number rounded and cut at digits that are in range.
+fn rounded_and_cut(rt: &impl Abort, d: Dec, digits: i8, p: &Profile) -> (Result<Dec, Fault>, Dec) {
+    assert!(rt; -9 <= digits && digits <= 9);
+    (round(d, digits, p), trunc(d, digits, p))
+}
+
 #[test]
 fn digits_are_rounded_and_cut(rt: HostRuntime) -> Result<(), Fail> {
     for (rounding, a, digits, rounded, cut) in [
@@ -162,17 +169,14 @@ fn digits_are_rounded_and_cut(rt: HostRuntime) -> Result<(), Fail> {
         (HalfUp, LEAST, 6, LEAST, LEAST),
     ] {
         let p = profile(6, rounding)?;
-        let digits = digits.clamp(-9, 9);
-        let d = read(a, &p)?;
-        let outcome = round(d, digits, &p);
+        let (nearest, lower) = rounded_and_cut(&rt, read(a, &p)?, digits, &p);
         assert_eq!(rt;
-            shown(rt.alloc(), outcome, &p)?.as_slice(),
+            shown(rt.alloc(), nearest, &p)?.as_slice(),
             rounded.as_bytes(),
             "round({a}, {digits})"
         );
-        let outcome = Ok(trunc(d, digits, &p));
         assert_eq!(rt;
-            shown(rt.alloc(), outcome, &p)?.as_slice(),
+            shown(rt.alloc(), Ok(lower), &p)?.as_slice(),
             cut.as_bytes(),
             "trunc({a}, {digits})"
         );

@@ -63,7 +63,7 @@ pub fn whole(n: i128, p: &Profile) -> Result<i64, Fault>
     ensures { result ≡ fit_integer p.now.scale n }
 {
     let limit = power_of_ten(18 - p.scale());
-    if n.unsigned_abs() < limit.unsigned_abs().into() {
+    if n.unsigned_abs() < u128::from(limit.unsigned_abs()) {
         Ok(n as i64)
     } else {
         Err(Fault::Range)

@@ -1,4 +1,4 @@
-use Rattle.std.proofs.Common.{◌≡◌, ◌-◌, ◌∙◌, sym, ap, cond, drop, take, length, true, false, arith, Bool, refl}
+use Rattle.std.proofs.Common.{◌≡◌, ◌-◌, ◌∙◌, sym, ap, drop, take, length, arith, Bool}
 use Rattle.std.specs.Prelude.{◌||◌}
 use Rattle.std.proofs.lemmas.Grind.{common_steps}
 use Rattle.vtl_decimal.specs.Divided.{has_nonzero}

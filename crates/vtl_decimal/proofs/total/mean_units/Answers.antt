@@ -1,6 +1,6 @@
 use Rattle.std.proofs.Common.{arith, ◌≡◌, ◌≤◌, pos}
 use Rattle.std.specs.Prelude.{unsigned_abs}
-use Rattle.std.proofs.lemmas.Int.{to_z-of_z, ints}
+use Rattle.std.proofs.lemmas.Int.{to_z-of_z}
 use Rattle.vtl_decimal.specs.Rounding.{rounded_quotient}
 use Rattle.vtl_decimal.proofs.RoundingLemmas.{rounded_quotient_within}
 use Rattle.vtl_decimal.proofs.total.mean_units.Goals as goal

@@ -1,4 +1,4 @@
-use Rattle.std.proofs.Common.{◌≡◌, ◌<◌, ◌%◌, ◌++◌, ◌∷◌, [], ap, sym, ◌∙◌, append-nil, arith}
+use Rattle.std.proofs.Common.{◌≡◌, ◌<◌, ◌%◌, ◌++◌, ◌∷◌, ap, sym, ◌∙◌, append-nil, arith}
 use Rattle.vtl_decimal.specs.Written.{last_digits, shortest_digits, behind_point}
 use Rattle.vtl_decimal.proofs.WritingLemmas.{behind_point_some, behind_point_none}
 use Rattle.vtl_decimal.proofs.writing.push_fraction.Goals as goal

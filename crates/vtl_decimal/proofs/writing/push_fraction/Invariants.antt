@@ -1,4 +1,4 @@
-use Rattle.std.proofs.Common.{◌≡◌, ◌≤◌, []}
+use Rattle.std.proofs.Common.{◌≡◌, ◌≤◌}
 use Rattle.vtl_decimal.specs.Written.{shortest_digits}
 use Rattle.vtl_decimal.proofs.writing.push_fraction.Given as goal
 
