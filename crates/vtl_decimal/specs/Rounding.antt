@@ -42,7 +42,7 @@ IsNearBySizes HalfUp p q k product error = (2 * error ≤ q) × (2 * error ≡ q
 IsNearBySizes HalfEven p q k product error = (2 * error ≤ q) × (2 * error ≡ q → k % 2 ≡ 0)
 IsNearBySizes Down p q k product error = (error < q) × (product ≤ p)
 
--- k is as near to p / q as any whole number, and at a half it is the larger or the even one; by `Down` it is the nearest one that is not larger
+-- k is as near to p / q as any whole number, and at a half it is the larger or the even one; by `Down` it is the nearest of those that are not larger in size
 abbrev pub IsNear : Rounding → ℤ → ℤ → ℤ → Type 0
 IsNear m p q k = IsNearBySizes m (unsigned_abs p) (unsigned_abs q) (unsigned_abs k) (unsigned_abs (k *ℤ q)) (unsigned_abs (p -ℤ (k *ℤ q)))
 

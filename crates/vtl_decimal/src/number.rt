@@ -8,7 +8,7 @@ use std::marker::Model;
 pub enum Fault {
     /// The divisor is zero.
     DivZero,
-    /// The result has more than 18 digits.
+    /// The result has more than 18 digits, those after its point among them.
     Range,
 }
 

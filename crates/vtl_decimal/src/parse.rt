@@ -42,8 +42,8 @@ fn place_of_mark(text: &[u8]) -> Option<usize>
     text.iter().position(|byte| *byte == b'e' || *byte == b'E')
 }
 
-#[tactic(auto, using(crate::proofs::TextLemmas::text_facts))]
 // What stands before the mark of an exponent, and what from it on.
+#[tactic(auto, using(crate::proofs::TextLemmas::text_facts))]
 fn split_at_mark(text: &[u8]) -> (&[u8], &[u8])
     ensures before { result.0.now ≡ before_first is_mark text.now }
     ensures rest { result.1.now ≡ from_first is_mark text.now }
@@ -58,8 +58,8 @@ fn place_of_point(text: &[u8]) -> Option<usize>
     text.iter().position(|byte| *byte == b'.')
 }
 
-#[tactic(auto, using(crate::proofs::TextLemmas::text_facts))]
 // What stands before the point, and what from it on.
+#[tactic(auto, using(crate::proofs::TextLemmas::text_facts))]
 fn split_at_point(text: &[u8]) -> (&[u8], &[u8])
     ensures before { result.0.now ≡ before_first is_point text.now }
     ensures rest { result.1.now ≡ from_first is_point text.now }

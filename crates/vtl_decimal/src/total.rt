@@ -37,6 +37,7 @@ impl Sum {
     }
 
     /// Adds a number. The total keeps every digit, also where no number of 18 digits could hold it.
+    /// A sum takes 2^63 numbers and no more.
     pub fn add(&mut self, d: Dec)
         requires { self.old.count < 2 ^ 63 }
         ensures added { self.new ≡ tally_with self.old d }

@@ -36,7 +36,7 @@ fn rounded_units(rounding: Rounding, scale: u8, digits: i8, a: Dec) -> i128
 }
 
 /// The number rounded to `digits` digits after the point, or to tens, hundreds and so on before it
-/// where `digits` is negative. It is unchanged where it has no more digits.
+/// where `digits`, from -9 to 9, is negative. It is unchanged where it has no more digits.
 ///
 /// Range where the result has more than 18 digits.
 pub fn round(a: Dec, digits: i8, p: &Profile) -> Result<Dec, Fault>
@@ -47,7 +47,7 @@ pub fn round(a: Dec, digits: i8, p: &Profile) -> Result<Dec, Fault>
     fit(rounded_units(p.rounding(), p.scale(), digits, a))
 }
 
-/// The number cut toward zero at the place where `round` rounds it.
+/// The number cut toward zero at the place where `round` rounds it, for `digits` from -9 to 9.
 pub fn trunc(a: Dec, digits: i8, p: &Profile) -> Dec
     requires digits_from { negsuc 8 ≤ℤ digits }
     requires digits_to { digits ≤ℤ pos 9 }
@@ -70,7 +70,7 @@ pub fn whole(n: i128, p: &Profile) -> Result<i64, Fault>
     }
 }
 
-/// The number that is equal to an integer of the profile.
+/// The number that is equal to an integer of the profile, as `whole` and `read_whole` give it.
 #[tactic(auto, using(crate::proofs::PowerLemmas::units_fit))]
 pub fn of_whole(n: i64, p: &Profile) -> Dec
     requires { unsigned_abs n < 10 ^ (18 - p.now.scale) }
