@@ -1,0 +1,17 @@
+pub mod DigitLemmas
+pub mod FloorLemmas
+pub mod NearLemmas
+pub mod NumeralLemmas
+pub mod OperatorLemmas
+pub mod ParsedLemmas
+pub mod PowerLemmas
+pub mod ReadingLemmas
+pub mod RestLemmas
+pub mod RoundingLemmas
+pub mod ScalingLemmas
+pub mod SpellingLemmas
+pub mod SplitLemmas
+pub mod TextLemmas
+pub mod ValueLemmas
+pub mod WritingLemmas
+pub mod WrittenLemmas
