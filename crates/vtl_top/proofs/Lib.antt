@@ -1,17 +1,9 @@
-pub mod DataSetLemmas
-pub mod FieldLemmas
 pub mod FilterLemmas
 pub mod FrontLemmas
-pub mod KeyOrderLemmas
 pub mod MeantLemmas
 pub mod OutputLemmas
 pub mod PlaceLemmas
-pub mod PlainTextLemmas
-pub mod PointLemmas
 pub mod ReadStructures
-pub mod RecordsLeftLemmas
-pub mod RowLemmas
-pub mod RowTextLemmas
 pub mod RunLemmas
 pub mod SinkLemmas
 pub mod SpellingLemmas

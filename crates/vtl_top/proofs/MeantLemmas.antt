@@ -10,7 +10,7 @@ use Rattle.vtl_tree.specs.declared.structure.Structure.{Structure}
 use Rattle.vtl_top.specs.Condition.{condition_in}
 use Rattle.vtl_top.specs.Expected.{Run, csv_limit, expected, from_input, from_structures, go_on, input_path, output_in, script_limit, stage, structures_limit}
 use Rattle.vtl_top.specs.Meant.{IsMeant, data_set, script_of}
-use Rattle.vtl_top.specs.Points.{points_of}
+use Rattle.vtl_csv.specs.Points.{points_of}
 use Rattle.vtl_top.specs.Statement.{statement_of}
 use Rattle.vtl_top.specs.StructuresFile.{structure_of}
 use Rattle.vtl_top.specs.declared.statement.Statement.{Statement as Filter}

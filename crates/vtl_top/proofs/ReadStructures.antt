@@ -11,12 +11,10 @@ use Rattle.vtl_lists.specs.Each.{cons_if, each_some}
 use Rattle.vtl_tree.specs.declared.structure.Component.{Component}
 use Rattle.vtl_tree.specs.declared.structure.Structure.{Structure}
 use Rattle.vtl_tree.specs.Structure.{IsStructure, key_width, names_of, same_name}
-use Rattle.vtl_top.specs.PlainText.{plain_lines}
+use Rattle.vtl_csv.specs.PlainText.{plain_lines}
+use Rattle.vtl_csv.proofs.DataSetLemmas.{some_same}
 use Rattle.vtl_top.specs.StructuresFile.{component_of, components_in, components_of_records, is_declared, is_header, is_identifier, is_int_named, structure_of, structure_with}
 use Rattle.vtl_top.specs.declared.statement.Statement.{Statement}
-
-pub some_same : {X : Type 0} {x y : X} → Some x ≡ Some y → x ≡ y
-some_same e = cc
 
 -- as many values as items
 each_some-length : {X Y : Type 0} (f : X → Option Y) (xs : List X) (ys : List Y) → each_some f xs ≡ Some ys → length ys ≡ length xs

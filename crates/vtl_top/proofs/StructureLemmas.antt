@@ -6,7 +6,7 @@ use Rattle.std.proofs.lemmas.Bool.{and_from}
 use Rattle.std.proofs.lemmas.Bool.Decides.{nat_tests}
 use Rattle.csv.specs.Records.{field_at}
 use Rattle.vtl_text.specs.Words.{is_name}
-use Rattle.vtl_top.specs.Fields.{is_ascii}
+use Rattle.vtl_csv.specs.Fields.{is_ascii}
 use Rattle.vtl_top.specs.StructuresFile.{declaration_of, name_in}
 
 pub declaration_there : (fs : List (List ℕ)) (v w x y z : List ℕ) → length fs ≡ 5

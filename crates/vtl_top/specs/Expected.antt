@@ -7,8 +7,8 @@ use Rattle.vtl_tree.specs.Structure.{columns_of, key_width, same_name}
 use Rattle.vtl_tree.specs.declared.structure.Component.{Component}
 use Rattle.vtl_tree.specs.declared.structure.Structure.{Structure}
 use Rattle.vtl_top.specs.Condition.{condition_in}
-use Rattle.vtl_top.specs.CsvText.{csv_in}
-use Rattle.vtl_top.specs.Points.{points_in}
+use Rattle.vtl_csv.specs.CsvText.{csv_in}
+use Rattle.vtl_csv.specs.Points.{points_in}
 use Rattle.vtl_top.specs.Statement.{statement_of}
 use Rattle.vtl_top.specs.StructuresFile.{structure_of}
 use Rattle.vtl_top.specs.declared.statement.Statement.{Statement}

@@ -1,16 +1,10 @@
 pub mod Answered
 pub mod Condition
-pub mod CsvText
 pub mod DeclarationFields
 pub mod Expected
-pub mod Fields
 pub mod Meant
 pub mod OutputView
-pub mod PlainText
-pub mod Points
-pub mod RecordsLeft
 pub mod Refusal
-pub mod RowsWritten
 pub mod RunView
 pub mod Statement
 pub mod StatementParts

@@ -5,9 +5,9 @@ use Rattle.vtl_tree.specs.Meaning.{DataSet, Statement, named, filtered, meaning}
 use Rattle.vtl_tree.specs.Structure.{columns_of}
 use Rattle.vtl_tree.specs.declared.structure.Structure.{Structure}
 use Rattle.vtl_top.specs.Condition.{condition_in}
-use Rattle.vtl_top.specs.CsvText.{csv_of}
+use Rattle.vtl_csv.specs.CsvText.{csv_of}
 use Rattle.vtl_top.specs.Expected.{Run, csv_limit, file_in, input_path, script_limit, stage, structures_limit}
-use Rattle.vtl_top.specs.Points.{points_of}
+use Rattle.vtl_csv.specs.Points.{points_of}
 use Rattle.vtl_top.specs.Statement.{statement_of}
 use Rattle.vtl_top.specs.StructuresFile.{structure_of}
 use Rattle.vtl_top.specs.declared.statement.Statement.{Statement as Filter}

@@ -13,8 +13,8 @@ use Rattle.vtl_tree.specs.declared.structure.Role.TheVariants as r
 use Rattle.vtl_tree.specs.declared.structure.Component.{Component}
 use Rattle.vtl_tree.specs.declared.structure.Structure.{Structure}
 use Rattle.vtl_tree.specs.Structure.{names_of, same_name, same_role}
-use Rattle.vtl_top.specs.Fields.{is_ascii}
-use Rattle.vtl_top.specs.PlainText.{plain_lines}
+use Rattle.vtl_csv.specs.Fields.{is_ascii}
+use Rattle.vtl_csv.specs.PlainText.{plain_lines}
 use Rattle.vtl_top.specs.declared.statement.Statement.{Statement}
 
 -- the most components that a structure may have

@@ -5,10 +5,10 @@ ghost use Rattle.vtl_tree.specs.Structure.{same_name};
 ghost use Rattle.vtl_tree.specs.View.{exp_of};
 ghost use Rattle.vtl_top.specs.Condition.{condition_in, place_of};
 
-use crate::points::column;
 use crate::statement::Statement;
 use std::alloc::{AllocError, Global};
 use vtl_cell::{Cell, Kind, ScalarOp};
+use vtl_csv::column;
 use vtl_text::Txt;
 use vtl_tree::{CompExpr, Component};
 

@@ -6,14 +6,14 @@ ghost use Rattle.vtl_tree.specs.Rows.{rows_of};
 ghost use Rattle.vtl_tree.specs.Shown.{shown};
 ghost use Rattle.vtl_top.specs.Answered.{Adds, AddsFront, Faulted, OnlyWrites, told};
 ghost use Rattle.vtl_top.specs.Condition.{condition_in};
-ghost use Rattle.vtl_top.specs.CsvText.{csv_rows};
+ghost use Rattle.vtl_csv.specs.CsvText.{csv_rows};
 
 use crate::condition::condition;
-use crate::csv_text::csv_text;
 use crate::filtering::filter;
 use crate::statement::Statement;
 use std::alloc::{AllocError, Global};
 use vtl_cell::Cell;
+use vtl_csv::csv_text;
 use vtl_files::{Failed, Files, write_all};
 use vtl_text::Txt;
 use vtl_tree::{Component, ScalarErr};

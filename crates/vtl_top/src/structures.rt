@@ -10,13 +10,12 @@ ghost use Rattle.vtl_top.specs.declared.statement.Statement.{Statement};
 ghost use Rattle.vtl_top.specs.DeclarationFields.{declaration_fields};
 ghost use Rattle.vtl_top.specs.StructuresFile.{component_of, components_in, declaration_of, declared_by, is_declared, is_header, is_heading, is_identifier, is_int, is_int_named, max_components, measure_kind, name_in, role_and_kind, structure_of};
 
-use crate::plain::has_plain_lines;
-use crate::records::RecordReader;
 use crate::statement::Statement;
 use csv::ByteRecord;
 use std::alloc::{AllocError, Global};
 use std::str;
 use vtl_cell::Kind;
+use vtl_csv::{RecordReader, has_plain_lines};
 use vtl_text::{List, Txt, is_name};
 use vtl_tree::{Component, Role, Structure};
 

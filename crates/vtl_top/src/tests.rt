@@ -1,13 +1,12 @@
 // The top call over files in memory.
 use crate::condition::condition;
-use crate::csv_text::csv_text;
-use crate::points::points;
 use crate::statement::read_statement;
 use crate::structures::structure;
 use crate::{Status, vtl};
 use std::alloc::{AllocError, Global};
 use std::process::Abort;
 use std::test::Fail;
+use vtl_csv::{csv_text, points};
 use vtl_files::{FailAt, MemFile, MemFiles, MemSink, Method};
 use vtl_tree::filter_points;
 

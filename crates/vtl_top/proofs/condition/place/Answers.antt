@@ -3,7 +3,7 @@ use Rattle.vtl_tree.specs.Shown.{shown}
 use Rattle.vtl_tree.specs.Structure.{same_name}
 use Rattle.vtl_tree.specs.declared.structure.Component.{Component}
 use Rattle.vtl_top.proofs.PlaceLemmas.{position_here, position_later}
-use Rattle.vtl_top.proofs.PointLemmas.{columns_shown}
+use Rattle.vtl_csv.proofs.PointLemmas.{columns_shown}
 use Rattle.vtl_top.proofs.condition.place.Goals as goal
 
 pub returns-then-is_named : goal.returns-then-is_named

@@ -4,10 +4,10 @@ use Rattle.vtl_tree.specs.Clauses.{kept}
 use Rattle.vtl_tree.specs.Rows.{rows_of}
 use Rattle.vtl_tree.specs.Shown.{shown}
 use Rattle.vtl_top.specs.Condition.{condition_in}
-use Rattle.vtl_top.specs.CsvText.{csv_rows}
+use Rattle.vtl_csv.specs.CsvText.{csv_rows}
 use Rattle.vtl_top.specs.Expected.{csv_limit, file_in, from_columns, output_in, stage}
 use Rattle.vtl_top.specs.OutputView.{output_view}
-use Rattle.vtl_top.specs.Points.{points_in}
+use Rattle.vtl_csv.specs.Points.{points_in}
 use Rattle.vtl_top.specs.RunView.{run_view}
 use Rattle.vtl_top.proofs.RunLemmas.{if_some_map, in_order, kept_in_order, stage_mapped}
 use Rattle.std.specs.Option.{option_map}

@@ -1,0 +1,146 @@
+-- The points that a file gives are those of a data set.
+use Rattle.std.proofs.Common.{◌≡◌, ℕ, suc, List, [], ◌∷◌, Bool, true, false, not, ◌&&◌, ◌||◌, nat_le, cond, Option, Some, None, option_map, length, arith, refl, sym, ap, ◌∙◌, subst}
+use Rattle.std.specs.Prelude.{ℤ, ◌==◌, chars}
+use Rattle.std.specs.List.{list_any, list_all, zip, AllByRecursion}
+use Rattle.std.specs.Option.{option_and_then}
+use Rattle.std.proofs.lemmas.Bool.{and_parts}
+use Rattle.std.proofs.lemmas.Bool.Decides.{nat_tests}
+use Rattle.csv.specs.Reading.{default_config, records, strip_bom}
+use Rattle.vtl_lists.specs.Apart.{all_apart}
+use Rattle.vtl_lists.specs.Each.{cons_if, each_some}
+use Rattle.vtl_cell.specs.declared.cell.Cell.{Cell}
+use Rattle.vtl_cell.specs.declared.cell.Cell.TheVariants as c
+use Rattle.vtl_cell.specs.declared.kind.Kind.{Kind}
+use Rattle.vtl_cell.specs.declared.kind.Kind.TheVariants as k
+use Rattle.vtl_cell.specs.Kinds.{is_of, is_null}
+use Rattle.vtl_cell.specs.Row.{Row, same_key}
+use Rattle.vtl_tree.specs.DataSet.{Apart, Distinct, IsDataSet, is_point}
+use Rattle.vtl_tree.specs.declared.structure.Component.{Component}
+use Rattle.vtl_tree.specs.declared.structure.Role.{Role}
+use Rattle.vtl_tree.specs.declared.structure.Role.TheVariants as role
+use Rattle.vtl_tree.specs.declared.structure.Structure.{Structure}
+use Rattle.vtl_tree.specs.Structure.{IsStructure, columns_of, key_width, same_role}
+use Rattle.vtl_csv.specs.Fields.{cell_of, integer_of, is_ascii, value_of}
+use Rattle.vtl_csv.specs.PlainText.{plain_lines}
+use Rattle.vtl_csv.specs.Points.{cell_in, is_header, keyed, max_points, points_of, row_of, rows_in, rows_of_records}
+
+pub some_same : {X : Type 0} {x y : X} → Some x ≡ Some y → x ≡ y
+some_same e = cc
+
+-- a value under a test
+if_some : {X : Type 0} (b : Bool) (m : Option X) (x : X) → cond b m None ≡ Some x → (b ≡ true) × (m ≡ Some x)
+if_some true m x e = (refl, e)
+if_some false m x e = cc
+
+-- what holds of the value of each item
+each_holds : {X Y : Type 0} (f : X → Option Y) (P : Y → Type 0) → ((x : X) (y : Y) → f x ≡ Some y → P y) → (xs : List X) (ys : List Y) → each_some f xs ≡ Some ys → AllByRecursion P ys
+each_holds {Y = Y} f P holds [] ys e = subst (AllByRecursion P) (some_same e) tt
+each_holds {Y = Y} f P holds (x ∷ xs) ys e = go (f x) refl (each_some f xs) (each_holds f P holds xs) e
+  where
+    go : (o : Option Y) → f x ≡ o → (m : Option (List Y)) → ((zs : List Y) → m ≡ Some zs → AllByRecursion P zs) → cons_if o m ≡ Some ys → AllByRecursion P ys
+    go None t m h q = cc
+    go (Some y) t None h q = cc
+    go (Some y) t (Some zs) h q = subst (AllByRecursion P) (some_same q) (holds x y t, h zs refl)
+
+-- ---- a cell
+abbrev is_good : Role → Kind → Cell → Bool
+is_good r kind v = is_of kind v && not (same_role r role.Identifier && is_null v)
+
+no_null : (b : Bool) → not (b && false) ≡ true
+no_null true = refl
+no_null false = refl
+
+mapped : (r : Role) (o : Option ℤ) (v : Cell) → option_map c.Int o ≡ Some v → is_good r k.Int v ≡ true
+mapped r None v e = cc
+mapped r (Some n) v e = ap (is_good r k.Int) (sym (some_same e)) ∙ no_null (same_role r role.Identifier)
+
+value_good : (r : Role) (kind : Kind) (f : List ℕ) (v : Cell) → value_of kind f ≡ Some v → is_good r kind v ≡ true
+value_good r k.Bool f v e = cc
+value_good r k.Int f v e = mapped r (integer_of f) v e
+value_good r k.Text f v e =
+    ap (is_good r k.Text) (sym (some_same (if_some (list_all is_ascii f) (Some (c.Text (chars f))) v e).1)) ∙ no_null (same_role r role.Identifier)
+
+null_good : (r : Role) (kind : Kind) → same_role r role.Identifier ≡ false → is_good r kind c.Null ≡ true
+null_good r k.Bool e = ap (λ b. not (b && true)) e
+null_good r k.Int e = ap (λ b. not (b && true)) e
+null_good r k.Text e = ap (λ b. not (b && true)) e
+
+empty_good : (r : Role) (kind : Kind) (v : Cell) (b : Bool) → same_role r role.Identifier ≡ b → cond b None (Some c.Null) ≡ Some v → is_good r kind v ≡ true
+empty_good r kind v true t e = cc
+empty_good r kind v false t e = ap (is_good r kind) (sym (some_same e)) ∙ null_good r kind t
+
+cell_good : (r : Role) (kind : Kind) (f : List ℕ) (v : Cell) → cell_of r kind f ≡ Some v → is_good r kind v ≡ true
+cell_good r kind [] v e = empty_good r kind v (same_role r role.Identifier) refl e
+cell_good r kind (b ∷ bs) v e = value_good r kind (b ∷ bs) v e
+
+-- ---- a row
+and_both : (a b c : Bool) → (a && b) ≡ true → c ≡ true → (a && b && c) ≡ true
+and_both true true c e h = h
+and_both true false c e h = cc
+and_both false b c e h = cc
+
+row_good : (columns : List Component) (fields : List (List ℕ)) (row : Row) → length fields ≡ length columns → each_some cell_in (zip columns fields) ≡ Some row → is_point columns row ≡ true
+row_good [] [] row n e = ap (is_point []) (sym (some_same e))
+row_good [] (f ∷ fs) row n e = cc
+row_good (x ∷ xs) [] row n e = cc
+row_good (x ∷ xs) (f ∷ fs) row n e = go (cell_in (x, f)) refl (each_some cell_in (zip xs fs)) (λ rest. row_good xs fs rest (suc_same n)) e
+  where
+    suc_same : {a b : ℕ} → suc a ≡ suc b → a ≡ b
+    suc_same e = cc
+
+    go : (o : Option Cell) → cell_in (x, f) ≡ o → (m : Option Row) → ((rest : Row) → m ≡ Some rest → is_point xs rest ≡ true) → cons_if o m ≡ Some row → is_point (x ∷ xs) row ≡ true
+    go None t m h q = cc
+    go (Some v) t None h q = cc
+    go (Some v) t (Some rest) h q =
+        ap (is_point (x ∷ xs)) (sym (some_same q))
+        ∙ and_both (is_of x.kind v) (not (same_role x.role role.Identifier && is_null v)) (is_point xs rest) (cell_good x.role x.kind f v t) (h rest refl)
+
+record_good : (columns : List Component) (fields : List (List ℕ)) (row : Row) → row_of columns fields ≡ Some row → is_point columns row ≡ true
+record_good columns fields row e =
+    let h = if_some (length fields == length columns) (each_some cell_in (zip columns fields)) row e in
+    let same : length fields ≡ length columns = let t = h.0 in grind (arith, nat_tests) in
+    row_good columns fields row same h.1
+
+-- ---- the rows of a file
+records_good : (columns : List Component) (rs : List (List (List ℕ))) (rows : List Row) → rows_of_records columns rs ≡ Some rows → AllByRecursion (λ r. is_point columns r ≡ true) rows
+records_good columns [] rows e = cc
+records_good columns (header ∷ rest) rows e =
+    each_holds (row_of columns) (λ r. is_point columns r ≡ true) (record_good columns) rest rows (if_some (is_header columns header && nat_le (length rest) max_points) (each_some (row_of columns) rest) rows e).1
+
+rows_good : (columns : List Component) (text : List ℕ) (rows : List Row) → rows_in columns text ≡ Some rows → AllByRecursion (λ r. is_point columns r ≡ true) rows
+rows_good columns text rows e =
+    records_good columns (records default_config (strip_bom text)) rows (if_some (plain_lines text) (rows_of_records columns (records default_config (strip_bom text))) rows e).1
+
+-- ---- no two with the same identifiers
+none_same : (n : ℕ) (r : Row) (d : List Row) → list_any (same_key n r) d ≡ false → AllByRecursion (Apart n r) d
+none_same n r [] e = tt
+none_same n r (s ∷ d) e = go (same_key n r s) refl (none_same n r d) e
+  where
+    go : (b : Bool) → same_key n r s ≡ b → (list_any (same_key n r) d ≡ false → AllByRecursion (Apart n r) d) → (b || list_any (same_key n r) d) ≡ false → AllByRecursion (Apart n r) (s ∷ d)
+    go true t h q = cc
+    go false t h q = (t, h q)
+
+not_true : (b : Bool) → not b ≡ true → b ≡ false
+not_true true e = cc
+not_true false e = refl
+
+distinct_keys : (n : ℕ) (d : List Row) → all_apart (same_key n) d ≡ true → Distinct n d
+distinct_keys n [] e = tt
+distinct_keys n (r ∷ d) e =
+    let h = and_parts (not (list_any (same_key n r) d)) (all_apart (same_key n) d) e in
+    (none_same n r d (not_true (list_any (same_key n r) d) h.0), distinct_keys n d h.1)
+
+keyed_rows : (n : ℕ) (m : Option (List Row)) (points : List Row) → option_and_then (keyed n) m ≡ Some points → (m ≡ Some points) × (all_apart (same_key n) points ≡ true)
+keyed_rows n None points e = cc
+keyed_rows n (Some rows) points e =
+    let h = if_some (all_apart (same_key n) rows) (Some rows) points e in
+    (h.1, ap (all_apart (same_key n)) (sym (some_same h.1)) ∙ h.0)
+
+pub points_are : (s : Structure) (text : List ℕ) (points : List Row) → IsStructure s → points_of s text ≡ Some points → IsDataSet s points
+points_are s text points well e =
+    let h = keyed_rows (key_width s) (rows_in (columns_of s) text) points e in
+    record {
+      well_formed = well;
+      typed = rows_good (columns_of s) text points h.0;
+      distinct = distinct_keys (key_width s) points h.1;
+    }

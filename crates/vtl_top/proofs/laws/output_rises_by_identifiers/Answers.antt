@@ -1,5 +1,0 @@
-use Rattle.vtl_top.proofs.KeyOrderLemmas.{sorted_by_key}
-use Rattle.vtl_top.proofs.laws.output_rises_by_identifiers.Goals as goal
-
-pub returns : goal.returns
-returns c = sorted_by_key
