@@ -1,3 +1,4 @@
 pub mod Cells
 pub mod Orders
 pub mod Rows
+pub mod Times

@@ -1,20 +1,31 @@
--- The order of cells: null, then booleans, integers and texts.
+-- The order of cells: null, then by kind, then by value.
 use Rattle.std.specs.declared.cmp.Ordering.{Ordering}
 use Rattle.std.specs.declared.cmp.Ordering.TheVariants.{Less, Equal, Greater}
 use Rattle.std.specs.Ordering.{nat_cmp, int_cmp, bool_cmp}
 use Rattle.std.specs.Cmp.Lexicographic.{slice_cmp}
+use Rattle.std.specs.Prelude.{ℕ}
+use Rattle.vtl_time.specs.Days.{day_cmp}
+use Rattle.vtl_time.specs.Periods.{period_cmp}
 use Rattle.vtl_cell.specs.declared.cell.Cell.{Cell}
 use Rattle.vtl_cell.specs.declared.cell.Cell.TheVariants as c
 
+-- null before all values, and the kinds in this order
+abbrev pub rank_of : Cell → ℕ
+rank_of c.Null = 0
+rank_of (c.Bool x) = 1
+rank_of (c.Int x) = 2
+rank_of (c.Num x) = 3
+rank_of (c.Text x) = 4
+rank_of (c.Day x) = 5
+rank_of (c.Period x) = 6
+
+-- by value within a kind: false before true, numbers by size, texts by their characters, days by time, periods by frequency, year and part
 abbrev pub cell_cmp : Cell → Cell → Ordering
 cell_cmp c.Null c.Null = Equal
-cell_cmp c.Null b = Less
-cell_cmp (c.Bool x) c.Null = Greater
 cell_cmp (c.Bool x) (c.Bool y) = bool_cmp x y
-cell_cmp (c.Bool x) b = Less
-cell_cmp (c.Int x) c.Null = Greater
-cell_cmp (c.Int x) (c.Bool y) = Greater
 cell_cmp (c.Int x) (c.Int y) = int_cmp x y
-cell_cmp (c.Int x) (c.Text t) = Less
-cell_cmp (c.Text s) (c.Text t) = slice_cmp nat_cmp s t
-cell_cmp (c.Text s) b = Greater
+cell_cmp (c.Num x) (c.Num y) = int_cmp x y
+cell_cmp (c.Text x) (c.Text y) = slice_cmp nat_cmp x y
+cell_cmp (c.Day x) (c.Day y) = day_cmp x y
+cell_cmp (c.Period x) (c.Period y) = period_cmp x y
+cell_cmp a b = nat_cmp (rank_of a) (rank_of b)

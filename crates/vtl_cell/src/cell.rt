@@ -8,11 +8,15 @@ ghost use Rattle.vtl_cell.specs.Row.{row_cmp};
 
 use std::alloc::AllocError;
 use std::cmp::Ordering;
+use vtl_decimal::Dec;
 use vtl_text::Txt;
+use vtl_time::{Day, Period};
 
 /// A value of a point: null, or a value of one of the kinds.
 ///
-/// Its order has null first, then false before true, whole numbers by value, and texts by their characters.
+/// Its order has null first, then false before true, integers and numbers by value, texts by their characters, days by
+/// time, and periods by frequency, year and part. Values of two kinds are ordered as the kinds are, so that equal cells
+/// are always of one kind: the integer 1 and the number 1 are two cells.
 #[derive(Debug, PartialEq, Eq, PartialOrd, Ord, Hash, Drop)]
 pub enum Cell {
     /// No value.
@@ -21,8 +25,14 @@ pub enum Cell {
     Bool(bool),
     /// A value of [`Kind::Int`](crate::Kind).
     Int(i64),
+    /// A value of [`Kind::Num`](crate::Kind).
+    Num(Dec),
     /// A value of [`Kind::Text`](crate::Kind).
     Text(Txt),
+    /// A value of [`Kind::Day`](crate::Kind).
+    Day(Day),
+    /// A value of [`Kind::Period`](crate::Kind).
+    Period(Period),
 }
 
 /// An equal cell, which shares its text. It fails only for want of memory.
@@ -33,7 +43,10 @@ pub fn clone_cell(c: &Cell) -> Result<Cell, AllocError>
         Cell::Null => Cell::Null,
         Cell::Bool(b) => Cell::Bool(*b),
         Cell::Int(n) => Cell::Int(*n),
+        Cell::Num(n) => Cell::Num(*n),
         Cell::Text(t) => Cell::Text(t.share()?),
+        Cell::Day(d) => Cell::Day(*d),
+        Cell::Period(p) => Cell::Period(*p),
     })
 }
 

@@ -1,19 +1,20 @@
-// The kinds of values, and the operators on them.
+// The kinds of values.
 
 /// The kind of a component or of an expression's value. Null belongs to each kind.
 #[derive(Clone, Copy, Debug, PartialEq, Eq)]
 pub enum Kind {
+    /// Null alone: the kind of the literal `null`.
+    Null,
     /// True or false.
     Bool,
     /// A whole number.
     Int,
+    /// A number with digits after its point, as many as the profile's scale says.
+    Num,
     /// A text.
     Text,
-}
-
-/// A scalar operator.
-#[derive(Clone, Copy, Debug, PartialEq, Eq)]
-pub enum ScalarOp {
-    /// Whether the first operand is above the second, by their kind's order; null where one of them is.
-    Greater,
+    /// A day of the calendar.
+    Day,
+    /// A period of a year.
+    Period,
 }

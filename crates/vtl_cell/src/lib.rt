@@ -3,10 +3,12 @@
 
 mod cell;
 mod kind;
+mod operator;
 mod row;
 
 pub use cell::{Cell, clone_cell, compare, is_same, order_is_lawful};
-pub use kind::{Kind, ScalarOp};
+pub use kind::Kind;
+pub use operator::{AggKind, ScalarOp};
 pub use row::{is_same_key, is_same_row};
 
 #[cfg(test)]
