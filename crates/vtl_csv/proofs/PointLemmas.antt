@@ -3,6 +3,7 @@ use Rattle.std.proofs.Common.{◌≡◌, ℕ, zero, suc, ◌+◌, ◌<◌, ◌�
 use Rattle.std.specs.List.{list_all, zip}
 use Rattle.std.proofs.lemmas.List.{drop_more, length-map}
 use Rattle.std.specs.Borrow.{Bor}
+use Rattle.vtl_decimal.specs.Settings.{Settings}
 use Rattle.vtl_tree.specs.Shown.{shown}
 use Rattle.std.proofs.lemmas.Slice.Zip.{length-zip, get_or-zip}
 use borrow.Author.Tests.{eq-eqb}
@@ -47,8 +48,8 @@ is_name p = same_name p.1 (encode_utf8_all p.0.name)
 pub is_header-by_names : (cs : List Component) (fs : List (List ℕ)) (b : Bool) → length fs ≡ length cs → list_all is_name (zip cs fs) ≡ b → is_header cs fs ≡ b
 is_header-by_names cs fs b same e = ap (λ t. t && list_all is_name (zip cs fs)) (eq-eqb (length fs) (length cs) same) ∙ e
 
-pub row_of-by_cells : (cs : List Component) (fs : List (List ℕ)) → length fs ≡ length cs → row_of cs fs ≡ each_some cell_in (zip cs fs)
-row_of-by_cells cs fs same = ap (λ t. cond t (each_some cell_in (zip cs fs)) None) (eq-eqb (length fs) (length cs) same)
+pub row_of-by_cells : (p : Settings) (cs : List Component) (fs : List (List ℕ)) → length fs ≡ length cs → row_of p cs fs ≡ each_some (cell_in p) (zip cs fs)
+row_of-by_cells p cs fs same = ap (λ t. cond t (each_some (cell_in p) (zip cs fs)) None) (eq-eqb (length fs) (length cs) same)
 
 -- what a list has at a place, whatever stands for what it lacks
 pub read_there : (xs : List (List ℕ)) (i : ℕ) (x : List ℕ) → i < length xs → get_or xs i [] ≡ x → x ≡ get_or xs i x

@@ -3,6 +3,7 @@ use Rattle.std.specs.Prelude.{ℕ, Bool, ◌&&◌, ◌==◌, List, [], ◌∷◌
 use Rattle.std.specs.Option.{option_and_then}
 use Rattle.std.specs.List.{list_all, zip}
 use Rattle.csv.specs.Reading.{default_config, records, strip_bom}
+use Rattle.vtl_decimal.specs.Settings.{Settings}
 use Rattle.vtl_lists.specs.Apart.{all_apart}
 use Rattle.vtl_lists.specs.Each.{each_some}
 use Rattle.vtl_cell.specs.declared.cell.Cell.{Cell}
@@ -22,30 +23,30 @@ abbrev pub is_header : List Component → List (List ℕ) → Bool
 is_header columns fields = (length fields == length columns) && list_all (λ p. same_name p.1 (encode_utf8_all p.0.name)) (zip columns fields)
 
 -- the cell of a field in its column
-abbrev pub cell_in : Component × List ℕ → Option Cell
-cell_in p = cell_of p.0.role p.0.kind p.1
+abbrev pub cell_in : Settings → Component × List ℕ → Option Cell
+cell_in p x = cell_of p x.0.role x.0.kind x.1
 
 -- the row of a record: as many fields as columns, each a value of its column
-abbrev pub row_of : List Component → List (List ℕ) → Option Row
-row_of columns fields = if length fields == length columns then each_some cell_in (zip columns fields) else None
+abbrev pub row_of : Settings → List Component → List (List ℕ) → Option Row
+row_of p columns fields = if length fields == length columns then each_some (cell_in p) (zip columns fields) else None
 
 -- the rows of the records after the header
-abbrev pub rows_of_records : List Component → List (List (List ℕ)) → Option (List Row)
-rows_of_records columns [] = None
-rows_of_records columns (header ∷ rest) = if is_header columns header && nat_le (length rest) max_points then each_some (row_of columns) rest else None
+abbrev pub rows_of_records : Settings → List Component → List (List (List ℕ)) → Option (List Row)
+rows_of_records p columns [] = None
+rows_of_records p columns (header ∷ rest) = if is_header columns header && nat_le (length rest) max_points then each_some (row_of p columns) rest else None
 
 -- the rows that a text holds
-abbrev pub rows_in : List Component → List ℕ → Option (List Row)
-rows_in columns text = if plain_lines text then rows_of_records columns (records default_config (strip_bom text)) else None
+abbrev pub rows_in : Settings → List Component → List ℕ → Option (List Row)
+rows_in p columns text = if plain_lines text then rows_of_records p columns (records default_config (strip_bom text)) else None
 
 -- rows, no two of which agree in the first n cells
 abbrev pub keyed : ℕ → List Row → Option (List Row)
 keyed n rows = if all_apart (same_key n) rows then Some rows else None
 
 -- the points that a text holds in these columns, of which the first n are identifiers
-abbrev pub points_in : List Component → ℕ → List ℕ → Option (List Row)
-points_in columns n text = option_and_then (keyed n) (rows_in columns text)
+abbrev pub points_in : Settings → List Component → ℕ → List ℕ → Option (List Row)
+points_in p columns n text = option_and_then (keyed n) (rows_in p columns text)
 
 -- the points of a data set of this structure that a text holds
-abbrev pub points_of : Structure → List ℕ → Option (List Row)
-points_of s text = points_in (columns_of s) (key_width s) text
+abbrev pub points_of : Settings → Structure → List ℕ → Option (List Row)
+points_of p s text = points_in p (columns_of s) (key_width s) text

@@ -16,6 +16,7 @@ use crate::records::RecordReader;
 use csv::ByteRecord;
 use std::alloc::{AllocError, Global};
 use vtl_cell::{Cell, is_same_key};
+use vtl_decimal::Profile;
 use vtl_text::Txt;
 use vtl_tree::Component;
 
@@ -66,8 +67,9 @@ fn row(
     alloc: Global,
     columns: &[&Component],
     fields: &ByteRecord,
+    profile: &Profile,
 ) -> Result<Option<Vec<Cell>>, AllocError>
-    ensures { IfOk result (λ o. option_map (λ v. v.items) o ≡ row_of (shown columns.now) (fields_of fields.now)) }
+    ensures { IfOk result (λ o. option_map (λ v. v.items) o ≡ row_of profile.now (shown columns.now) (fields_of fields.now)) }
 {
     if fields.len() != columns.len() {
         return Ok(None);
@@ -75,7 +77,7 @@ fn row(
     let mut row = Vec::with_capacity(alloc, columns.len())?;
     for i in 0..columns.len() {
         let column = column(columns, i);
-        match cell(alloc, column.role, column.kind, field(fields, i))? {
+        match cell(alloc, column.role, column.kind, field(fields, i), profile)? {
             Some(value) => row.push(value)?,
             None => return Ok(None),
         }
@@ -89,16 +91,17 @@ fn rows(
     columns: &[&Component],
     reader: &mut RecordReader,
     fields: &mut ByteRecord,
+    profile: &Profile,
 ) -> Result<Option<Vec<Vec<Cell>>>, AllocError>
     ensures { IfOk result (λ o. option_map (λ v. rows_of v.items) o
-        ≡ (if nat_le (length reader.old) max_points then each_some (row_of (shown columns.now)) reader.old else None)) }
+        ≡ (if nat_le (length reader.old) max_points then each_some (row_of profile.now (shown columns.now)) reader.old else None)) }
 {
     let mut rows = Vec::new(alloc);
     while reader.next(fields)? {
         if rows.len() >= MAX_POINTS {
             return Ok(None);
         }
-        match row(alloc, columns, fields)? {
+        match row(alloc, columns, fields, profile)? {
             Some(row) => rows.push(row)?,
             None => return Ok(None),
         }
@@ -152,8 +155,9 @@ fn read_rows(
     alloc: Global,
     columns: &[&Component],
     text: &[u8],
+    profile: &Profile,
 ) -> Result<Option<Vec<Vec<Cell>>>, AllocError>
-    ensures { IfOk result (λ o. option_map (λ v. rows_of v.items) o ≡ rows_in (shown columns.now) text.now) }
+    ensures { IfOk result (λ o. option_map (λ v. rows_of v.items) o ≡ rows_in profile.now (shown columns.now) text.now) }
 {
     if !has_plain_lines(text) {
         return Ok(None);
@@ -163,20 +167,22 @@ fn read_rows(
     if !reader.next(&mut fields)? || !are_names(columns, &fields) {
         return Ok(None);
     }
-    rows(alloc, columns, &mut reader, &mut fields)
+    rows(alloc, columns, &mut reader, &mut fields, profile)
 }
 
 /// The points that a CSV text holds in these columns, of which the first `keys` are the identifiers, in the order
-/// of their cells from the left. None: the text is not of the form that is read so far.
+/// of their cells from the left. The profile says which numbers there are. None: the text is not of the form that is
+/// read so far.
 pub fn points(
     alloc: Global,
     columns: &[&Component],
     keys: usize,
     text: &[u8],
+    profile: &Profile,
 ) -> Result<Option<Vec<Vec<Cell>>>, AllocError>
-    ensures { IfOk result (λ o. option_map (λ v. rows_of v.items) o ≡ option_map (sorted_by (le_by row_cmp)) (points_in (shown columns.now) keys text.now)) }
+    ensures { IfOk result (λ o. option_map (λ v. rows_of v.items) o ≡ option_map (sorted_by (le_by row_cmp)) (points_in profile.now (shown columns.now) keys text.now)) }
 {
-    match read_rows(alloc, columns, text)? {
+    match read_rows(alloc, columns, text, profile)? {
         Some(rows) => in_order(rows, keys),
         None => Ok(None),
     }

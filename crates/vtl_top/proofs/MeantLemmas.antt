@@ -1,6 +1,7 @@
 -- The output is what the script means.
 use Rattle.std.proofs.Common.{◌≡◌, ℕ, List, [], ◌∷◌, cond, Some, None, Result, Ok, Err, refl, sym, ap, ◌∙◌}
 use Rattle.std.specs.Cmp.Lexicographic.{nat_list_eq_equiv}
+use Rattle.vtl_decimal.specs.Settings.{Settings}
 use Rattle.vtl_cell.specs.Row.{Row}
 use Rattle.vtl_cell.specs.Outcome.{Outcome, after}
 use Rattle.vtl_tree.specs.Clauses.{filter_of, kept}
@@ -27,30 +28,30 @@ own_data : (name : List ℕ) (d : DataSet) → data_of name ((name, d) ∷ []) �
 own_data name d = ap (λ b. cond b (Some d) None) (nat_list_eq_equiv.refl name)
 
 -- its points at which the condition is true
-abbrev filtered_by : Filter → Structure → DataSet → Outcome DataSet
-filtered_by s structure d = after (filter_of (condition_in (columns_of structure) s) d.points) (λ rows. Ok (record { structure = d.structure; points = rows }))
+abbrev filtered_by : Settings → Filter → Structure → DataSet → Outcome DataSet
+filtered_by p s structure d = after (filter_of p (condition_in (columns_of structure) s) d.points) (λ rows. Ok (record { structure = d.structure; points = rows }))
 
-pub statement_means : (s : Filter) (structure : Structure) (points : List Row)
-    → meaning (script_of s structure) ((s.operand, data_set structure points) ∷ []) ≡ Ok ((s.result, data_set structure (kept (condition_in (columns_of structure) s) points)) ∷ [])
-statement_means s structure points =
-    ap (λ d. stated s.result (filtered_by s structure (found structure d)) (λ d. Ok [])) (own_data s.operand (data_set structure points))
-    ∙ ap (λ m. stated s.result (after m (λ rows. Ok (data_set structure rows))) (λ d. Ok [])) (filter_is_kept (columns_of structure) s points)
+pub statement_means : (p : Settings) (s : Filter) (structure : Structure) (points : List Row)
+    → meaning p (script_of s structure) ((s.operand, data_set structure points) ∷ []) ≡ Ok ((s.result, data_set structure (kept p (condition_in (columns_of structure) s) points)) ∷ [])
+statement_means p s structure points =
+    ap (λ d. stated s.result (filtered_by p s structure (found structure d)) (λ d. Ok [])) (own_data s.operand (data_set structure points))
+    ∙ ap (λ m. stated s.result (after m (λ rows. Ok (data_set structure rows))) (λ d. Ok [])) (filter_is_kept p (columns_of structure) s points)
 
 pub meant : (r : Run) (held : List (List ℕ × List ℕ)) (file : List ℕ × List ℕ) → expected r held ≡ Ok file → IsMeant r held file
 meant r held file e =
     let a = went_on (stage r.script script_limit statement_of held) (λ s. from_structures r s held) file e in
     let b = went_on (stage r.structures structures_limit (structure_of a.0) held) (λ structure. from_input r a.0 structure held) file a.2 in
-    let c = went_on (stage (input_path r a.0) csv_limit (points_of b.0) held) (λ points. Ok (output_in r a.0 (columns_of b.0) points)) file b.2 in
+    let c = went_on (stage (input_path r a.0) csv_limit (points_of r.settings b.0) held) (λ points. Ok (output_in r a.0 (columns_of b.0) points)) file b.2 in
     let same : output_in r a.0 (columns_of b.0) c.0 ≡ file = cc in
     record {
       statement = a.0;
       structure = b.0;
       points = c.0;
-      kept = kept (condition_in (columns_of b.0) a.0) c.0;
+      kept = kept r.settings (condition_in (columns_of b.0) a.0) c.0;
       script = a.1;
       declared = b.1;
       input = c.1;
-      means = statement_means a.0 b.0 c.0;
+      means = statement_means r.settings a.0 b.0 c.0;
       path = sym (ap (λ (f : List ℕ × List ℕ). f.0) same);
       bytes = sym (ap (λ (f : List ℕ × List ℕ). f.1) same);
     }

@@ -4,25 +4,26 @@ use Rattle.std.specs.Option.{option_map}
 use Rattle.std.proofs.lemmas.List.{append-nil}
 use Rattle.vtl_files.specs.Outside.{Rose, append_last, AppendsAll}
 use Rattle.vtl_files.specs.Whole.{AppendsFront}
+use Rattle.vtl_decimal.specs.Settings.{Settings}
 use Rattle.vtl_cell.specs.Outcome.{Outcome, fault_in, faults_by, unless}
 use Rattle.vtl_cell.specs.Row.{Row}
 use Rattle.vtl_tree.specs.Clauses.{filter_of, kept}
-use Rattle.vtl_tree.specs.Answers.{AnswersBy}
+use Rattle.vtl_scalar.specs.Answers.{AnswersBy}
 use Rattle.vtl_tree.specs.Value.{value}
-use Rattle.vtl_tree.specs.declared.evaluation.ScalarErr.{ScalarErr}
-use Rattle.vtl_tree.specs.declared.evaluation.ScalarErr.TheVariants as err
+use Rattle.vtl_scalar.specs.declared.MODULE.ScalarErr.{ScalarErr}
+use Rattle.vtl_scalar.specs.declared.MODULE.ScalarErr.TheVariants as err
 use Rattle.vtl_tree.specs.declared.structure.Component.{Component}
 use Rattle.vtl_top.specs.Answered.{Adds, AddsFront}
 use Rattle.vtl_top.specs.Condition.{condition_in}
 use Rattle.vtl_top.specs.declared.statement.Statement.{Statement}
 
 -- a comparison has no fault
-no_fault : (columns : List Component) (s : Statement) (rows : List Row) → faults_by (λ r. fault_in (value (condition_in columns s) r)) rows ≡ None
-no_fault columns s [] = refl
-no_fault columns s (r ∷ rows) = no_fault columns s rows
+no_fault : (p : Settings) (columns : List Component) (s : Statement) (rows : List Row) → faults_by (λ r. fault_in (value p (condition_in columns s) r)) rows ≡ None
+no_fault p columns s [] = refl
+no_fault p columns s (r ∷ rows) = no_fault p columns s rows
 
-pub filter_is_kept : (columns : List Component) (s : Statement) (rows : List Row) → filter_of (condition_in columns s) rows ≡ Ok (kept (condition_in columns s) rows)
-filter_is_kept columns s rows = ap (λ f. unless f (kept (condition_in columns s) rows)) (no_fault columns s rows)
+pub filter_is_kept : (p : Settings) (columns : List Component) (s : Statement) (rows : List Row) → filter_of p (condition_in columns s) rows ≡ Ok (kept p (condition_in columns s) rows)
+filter_is_kept p columns s rows = ap (λ f. unless f (kept p (condition_in columns s) rows)) (no_fault p columns s rows)
 
 -- ---- a new file
 grown : (fs : List (List ℕ × List ℕ)) (name bytes more : List ℕ) → append_last more (fs ++ (name, bytes) ∷ []) ≡ fs ++ (name, bytes ++ more) ∷ []

@@ -3,6 +3,7 @@ use Rattle.std.proofs.Common.{◌≡◌, ℕ, List, Option, Some, None, Result, 
 use Rattle.std.specs.Option.{option_map, IfSome}
 use Rattle.vtl_lists.specs.Sorting.{le_by, sorted_by}
 use Rattle.vtl_lists.proofs.Sorts.{sorted_by-filter}
+use Rattle.vtl_decimal.specs.Settings.{Settings}
 use Rattle.vtl_cell.specs.Row.{Row, row_cmp}
 use Rattle.vtl_cell.proofs.Rows.{row_order}
 use Rattle.vtl_tree.specs.Clauses.{kept, is_true}
@@ -15,8 +16,8 @@ abbrev pub in_order : List Row → List Row
 in_order = sorted_by (le_by row_cmp)
 
 -- what is kept of rows in order is what is kept, in order
-pub kept_in_order : (e : Exp) (rows : List Row) → kept e (in_order rows) ≡ in_order (kept e rows)
-kept_in_order e rows = sorted_by-filter row_order (λ r. is_true (value e r)) rows
+pub kept_in_order : (p : Settings) (e : Exp) (rows : List Row) → kept p e (in_order rows) ≡ in_order (kept p e rows)
+kept_in_order p e rows = sorted_by-filter row_order (λ r. is_true (value p e r)) rows
 
 formed_mapped : {A B C : Type 0} (f : A → B) (path : List ℕ) (o : Option A) (rows : B) (k : A → Result C Status) (w : Result C Status) → formed path (option_map f o) ≡ Ok rows → ((x : A) → f x ≡ rows → k x ≡ w) → go_on (formed path o) k ≡ w
 formed_mapped f path None rows k w e next = cc

@@ -1,6 +1,8 @@
 -- What the words and the files that are held give: the output of the run, or the first refusal.
 use Rattle.std.specs.Prelude.{ℕ, Bool, not, ◌&&◌, ◌==◌, List, [], ◌∷◌, ◌++◌, length, nat_lt, Option, Some, None, Result, Ok, Err, codes, chars, encode_utf8_all, if◌then◌else◌}
 use Rattle.vtl_files.specs.Outside.{bytes_at}
+use Rattle.vtl_decimal.specs.Settings.{Settings}
+use Rattle.vtl_decimal.specs.declared.settings.Rounding.TheVariants.{HalfUp}
 use Rattle.vtl_cell.specs.Row.{Row}
 use Rattle.vtl_tree.specs.Clauses.{kept}
 use Rattle.vtl_tree.specs.Structure.{columns_of, key_width, same_name}
@@ -22,12 +24,17 @@ Path = List ℕ
 abbrev pub Held : Type 0
 Held = List (List ℕ × List ℕ)
 
--- the paths of a run
+-- six digits after the point, and halves go away from zero
+abbrev pub default_settings : Settings
+default_settings = record { scale = 6; rounding = HalfUp }
+
+-- the paths of a run, and its profile
 pub record Run : Type 0 where
   pub script : List ℕ
   pub structures : List ℕ
   pub input : List ℕ
   pub output : List ℕ
+  pub settings : Settings
 
 abbrev pub is_path : List ℕ → Bool
 is_path word = not (length word == 0)
@@ -36,7 +43,7 @@ is_path word = not (length word == 0)
 abbrev pub run_of : List (List ℕ) → Option Run
 run_of (command ∷ script ∷ structures ∷ input ∷ output ∷ []) =
     if same_name command (codes "run") && (is_path script && (is_path structures && (is_path input && is_path output)))
-    then Some (record { script = script; structures = structures; input = input; output = output }) else None
+    then Some (record { script = script; structures = structures; input = input; output = output; settings = default_settings }) else None
 run_of _ = None
 
 -- the file of a data set in a folder
@@ -81,14 +88,14 @@ File = List ℕ × List ℕ
 
 -- the output: the points at which the statement's condition is true
 abbrev pub output_in : Run → Statement → List Component → List Row → List ℕ × List ℕ
-output_in r s columns points = (file_in r.output s.result, csv_in columns (kept (condition_in columns s) points))
+output_in r s columns points = (file_in r.output s.result, csv_in r.settings columns (kept r.settings (condition_in columns s) points))
 
 abbrev pub input_path : Run → Statement → List ℕ
 input_path r s = file_in r.input s.operand
 
 -- what the input gives in these columns, of which the first n are identifiers
 abbrev pub from_columns : Run → Statement → List Component → ℕ → List (List ℕ × List ℕ) → Result (List ℕ × List ℕ) Status
-from_columns r s columns n held = go_on (stage (input_path r s) csv_limit (points_in columns n) held) (λ points. Ok (output_in r s columns points))
+from_columns r s columns n held = go_on (stage (input_path r s) csv_limit (points_in r.settings columns n) held) (λ points. Ok (output_in r s columns points))
 
 -- what the input gives, then what the structures file gives, then what the script gives
 abbrev pub from_input : Run → Statement → Structure → List (List ℕ × List ℕ) → Result (List ℕ × List ℕ) Status

@@ -14,9 +14,11 @@ use crate::statement::Statement;
 use std::alloc::{AllocError, Global};
 use vtl_cell::Cell;
 use vtl_csv::csv_text;
+use vtl_decimal::Profile;
 use vtl_files::{Failed, Files, write_all};
+use vtl_scalar::ScalarErr;
 use vtl_text::Txt;
-use vtl_tree::{Component, ScalarErr};
+use vtl_tree::Component;
 
 /// What a run writes. All of it is made before anything is created.
 #[derive(Drop)]
@@ -35,12 +37,13 @@ pub fn output_text(
     columns: &[&Component],
     statement: &Statement,
     rows: Vec<Vec<Cell>>,
+    profile: &Profile,
 ) -> Result<Vec<u8>, AllocError>
-    ensures { IfOk result (λ text. text.items ≡ csv_rows (shown columns.now) (kept (condition_in (shown columns.now) statement.now) (rows_of rows.items))) }
+    ensures { IfOk result (λ text. text.items ≡ csv_rows profile.now (shown columns.now) (kept profile.now (condition_in (shown columns.now) statement.now) (rows_of rows.items))) }
 {
     let condition = condition(alloc, columns, statement)?;
-    match filter(alloc, rows, &condition) {
-        Ok(kept) => csv_text(alloc, columns, &kept),
+    match filter(alloc, rows, &condition, profile) {
+        Ok(kept) => csv_text(alloc, columns, &kept, profile),
         Err(error) => Err(want_of_memory(error)),
     }
 }

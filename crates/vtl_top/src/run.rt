@@ -25,6 +25,7 @@ use crate::words::Run;
 use std::alloc::{AllocError, Global};
 use vtl_cell::Cell;
 use vtl_csv::points;
+use vtl_decimal::Profile;
 use vtl_files::{Files, ReadErr, read_all};
 use vtl_text::Txt;
 use vtl_tree::{Component, Structure};
@@ -138,18 +139,19 @@ fn read_points<F: Files>(
     name: &Txt,
     columns: &[&Component],
     keys: usize,
+    profile: &Profile,
 ) -> Result<Vec<Vec<Cell>>, Status>
     ensures reads { OnlyReads (told F.held F.written F.faults F.absences F.misuses F.creating F.place F.mark files.old)
         (told F.held F.written F.faults F.absences F.misuses F.creating F.place F.mark files.new) }
     ensures cause { IfErr result (Refuses (told F.held F.written F.faults F.absences F.misuses F.creating F.place F.mark files.old)
         (told F.held F.written F.faults F.absences F.misuses F.creating F.place F.mark files.new)) }
     ensures meets { IfSome (F.held files.old) (λ held. Meets (λ v. rows_of v.items)
-        (stage (file_in folder.now name.now) csv_limit (λ text. option_map (sorted_by (le_by row_cmp)) (points_in (shown columns.now) keys text)) held)
+        (stage (file_in folder.now name.now) csv_limit (λ text. option_map (sorted_by (le_by row_cmp)) (points_in profile.now (shown columns.now) keys text)) held)
         (file_in folder.now name.now ∷ []) result) }
 {
     let path = file_in(alloc, folder, name)?;
     let bytes = read_file(alloc, files, path.as_str(), CSV_LIMIT)?;
-    formed(alloc, path.as_str(), points(alloc, columns, keys, &bytes))
+    formed(alloc, path.as_str(), points(alloc, columns, keys, &bytes, profile))
 }
 
 // What is written: the text and the path of the result.
@@ -171,15 +173,15 @@ fn make_output(
 fn output_from(
     alloc: Global,
     columns: &[&Component],
-    folder: &str,
+    run: Run,
     statement: &Statement,
     rows: Vec<Vec<Cell>>,
 ) -> Result<Output, AllocError>
-    ensures view { IfOk result (λ o. output_view o ≡ (file_in folder.now statement.now.result, csv_rows (shown columns.now) (kept (condition_in (shown columns.now) statement.now) (rows_of rows.items)))) }
+    ensures view { IfOk result (λ o. output_view o ≡ (file_in (run_view run.entry).output statement.now.result, csv_rows (run_view run.entry).settings (shown columns.now) (kept (run_view run.entry).settings (condition_in (shown columns.now) statement.now) (rows_of rows.items)))) }
     ensures named { IfOk result NamesPath }
 {
-    let bytes = output_text(alloc, columns, statement, rows)?;
-    make_output(alloc, folder, statement, bytes)
+    let bytes = output_text(alloc, columns, statement, rows, &run.profile)?;
+    make_output(alloc, run.output, statement, bytes)
 }
 
 // How many components identify points.
@@ -205,8 +207,16 @@ fn read_columns<F: Files>(
     ensures meets { IfSome (F.held files.old) (λ held. Meets output_view (from_columns (run_view run.entry) statement.now (shown columns.now) keys held) (input_path (run_view run.entry) statement.now ∷ []) result) }
     ensures named { IfOk result NamesPath }
 {
-    let rows = read_points(alloc, files, run.input, &statement.operand, columns, keys)?;
-    let output = output_from(alloc, columns, run.output, statement, rows)?;
+    let rows = read_points(
+        alloc,
+        files,
+        run.input,
+        &statement.operand,
+        columns,
+        keys,
+        &run.profile,
+    )?;
+    let output = output_from(alloc, columns, run, statement, rows)?;
     Ok(output)
 }
 

@@ -223,7 +223,7 @@ fn is_int(kind: Kind) -> bool
 {
     match kind {
         Kind::Int => true,
-        Kind::Bool | Kind::Text => false,
+        _ => false,
     }
 }
 

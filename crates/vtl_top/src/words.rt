@@ -1,15 +1,18 @@
 // The words of the command line.
 ghost use Rattle.std.specs.Prelude.{◌≡◌, ◌∷◌, [], map, option_map, string_bytes};
-ghost use Rattle.vtl_top.specs.Expected.{is_path, run_of};
+ghost use Rattle.vtl_top.specs.Expected.{default_settings, is_path, run_of};
 ghost use Rattle.vtl_top.specs.RunView.{run_view};
 
-/// The paths of a run.
+use vtl_decimal::{Profile, Rounding};
+
+/// The paths of a run, and its profile.
 #[derive(Clone, Copy)]
 pub struct Run<'a> {
     pub script: &'a str,
     pub structures: &'a str,
     pub input: &'a str,
     pub output: &'a str,
+    pub profile: Profile,
 }
 
 fn is_path(word: &str) -> bool
@@ -54,8 +57,19 @@ fn paths<'a>(
             structures,
             input,
             output,
+            profile: default_profile(),
         })
     } else {
         None
+    }
+}
+
+// Six digits after the point, and halves go away from zero.
+fn default_profile() -> Profile
+    ensures { result ≡ default_settings }
+{
+    match Profile::new(6, Rounding::HalfUp) {
+        Some(profile) => profile,
+        None => unreachable!(),
     }
 }

@@ -1,5 +1,6 @@
 -- The clauses on data sets, as functions on lists of points.
 use Rattle.std.specs.Prelude.{Bool, false, Ok, List, filter}
+use Rattle.vtl_decimal.specs.Settings.{Settings}
 use Rattle.vtl_cell.specs.declared.cell.Cell.{Cell}
 use Rattle.vtl_cell.specs.declared.cell.Cell.TheVariants as c
 use Rattle.vtl_cell.specs.Row.{Row}
@@ -13,9 +14,9 @@ is_true (Ok (c.Bool b)) = b
 is_true _ = false
 
 -- the points at which the condition is true
-abbrev pub kept : Exp → List Row → List Row
-kept e d = filter (λ r. is_true (value e r)) d
+abbrev pub kept : Settings → Exp → List Row → List Row
+kept p e d = filter (λ r. is_true (value p e r)) d
 
 -- `filter`: these points, or the fault of the condition over all points
-abbrev pub filter_of : Exp → List Row → Outcome (List Row)
-filter_of e d = unless (faults_by (λ r. fault_in (value e r)) d) (kept e d)
+abbrev pub filter_of : Settings → Exp → List Row → Outcome (List Row)
+filter_of p e d = unless (faults_by (λ r. fault_in (value p e r)) d) (kept p e d)

@@ -2,7 +2,7 @@
 use Rattle.std.specs.Prelude.{ℕ, List}
 use Rattle.vtl_cell.specs.declared.cell.Cell.{Cell}
 use Rattle.vtl_cell.specs.declared.kind.Kind.{Kind}
-use Rattle.vtl_cell.specs.declared.kind.ScalarOp.{ScalarOp}
+use Rattle.vtl_cell.specs.declared.operator.ScalarOp.{ScalarOp}
 
 mutual
   pub data Exp : Type 0 where

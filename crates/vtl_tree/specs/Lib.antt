@@ -1,4 +1,3 @@
-pub mod Answers
 pub mod Clauses
 pub mod DataSet
 pub mod Exp

@@ -1,5 +1,6 @@
 -- The meaning of a script: what its statements give over an environment of data sets.
 use Rattle.std.specs.Prelude.{ℕ, cond, Result, Ok, Err, Option, Some, None, List, [], ◌∷◌}
+use Rattle.vtl_decimal.specs.Settings.{Settings}
 use Rattle.vtl_cell.specs.Row.{Row}
 use Rattle.vtl_cell.specs.Outcome.{Fault, Outcome, after}
 use Rattle.vtl_tree.specs.Exp.{Exp}
@@ -37,9 +38,9 @@ found s None = no_data s
 found s (Some d) = d
 
 -- the data set of a node, or its fault; a name that is missing has no points, and no typed script holds one
-abbrev pub node_value : Node → Environment → Outcome DataSet
-node_value (named name s) env = Ok (found s (data_of name env))
-node_value (filtered a e) env = after (node_value a env) (λ d. after (filter_of e d.points) (λ ps. Ok (record { structure = d.structure; points = ps })))
+abbrev pub node_value : Settings → Node → Environment → Outcome DataSet
+node_value p (named name s) env = Ok (found s (data_of name env))
+node_value p (filtered a e) env = after (node_value p a env) (λ d. after (filter_of p e d.points) (λ ps. Ok (record { structure = d.structure; points = ps })))
 
 abbrev pub Outputs : Type 0
 Outputs = List (List ℕ × DataSet)
@@ -54,6 +55,6 @@ stated name (Ok d) rest = with_output name d (rest d)
 stated name (Err f) rest = Err (f, name)
 
 -- the results in order, or the first fault with the name of its statement's result
-abbrev pub meaning : List Statement → Environment → Result Outputs (Fault × List ℕ)
-meaning [] env = Ok []
-meaning (s ∷ rest) env = stated s.result (node_value s.node env) (λ d. meaning rest ((s.result, d) ∷ env))
+abbrev pub meaning : Settings → List Statement → Environment → Result Outputs (Fault × List ℕ)
+meaning p [] env = Ok []
+meaning p (s ∷ rest) env = stated s.result (node_value p s.node env) (λ d. meaning p rest ((s.result, d) ∷ env))

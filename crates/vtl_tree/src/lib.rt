@@ -8,7 +8,7 @@ mod plain;
 mod seen;
 mod structure;
 
-pub use evaluation::{ScalarErr, apply, eval};
+pub use evaluation::eval;
 pub use expression::CompExpr;
 pub use laws::{filter_is_a_clause, points_are_a_map};
 pub use plain::filter_points;

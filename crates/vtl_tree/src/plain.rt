@@ -1,16 +1,18 @@
 // The clauses, computed as they are defined: plain and slow, for comparison with what runs.
 ghost use Rattle.std.specs.Prelude.{◌≡◌, ◌<◌, ◌++◌, [], ◌∷◌, map, length, slice_index_or, IfOk, IfErr, if◌then◌else◌};
 ghost use Rattle.vtl_cell.specs.Outcome.{join, fault_in};
-ghost use Rattle.vtl_tree.specs.Answers.{AnswersBy};
+ghost use Rattle.vtl_scalar.specs.Answers.{AnswersBy};
 ghost use Rattle.vtl_tree.specs.Clauses.{filter_of, is_true};
 ghost use Rattle.vtl_tree.specs.Seen.{seen_of};
 ghost use Rattle.vtl_tree.specs.Value.{value};
 ghost use Rattle.vtl_tree.specs.View.{exp_of};
 ghost use Rattle.vtl_tree.specs.Rows.{rows_of};
 
-use crate::{CompExpr, ScalarErr, Seen, eval};
+use crate::{CompExpr, Seen, eval};
 use std::alloc::{AllocError, Global};
 use vtl_cell::{Cell, clone_cell};
+use vtl_decimal::Profile;
+use vtl_scalar::ScalarErr;
 
 /// The points of a data set at which the condition is true, in their order: the clause `filter` (VTL 2.0,
 /// Reference Manual, "filter"). Where the condition has a fault at some point, the answer is that fault.
@@ -18,13 +20,14 @@ pub fn filter_points(
     alloc: Global,
     points: &[Vec<Cell>],
     condition: &CompExpr,
+    profile: &Profile,
 ) -> Result<Vec<Vec<Cell>>, ScalarErr>
-    ensures { AnswersBy (λ v. rows_of v.items) result (filter_of (exp_of condition.now) (rows_of points.now)) }
+    ensures { AnswersBy (λ v. rows_of v.items) result (filter_of profile.now (exp_of condition.now) (rows_of points.now)) }
 {
     let mut kept = Vec::new(alloc);
     let mut seen = Seen::Nothing;
     for i in 0..points.len() {
-        seen = keep_point(alloc, &mut kept, seen, row_at(points, i), condition)?;
+        seen = keep_point(alloc, &mut kept, seen, row_at(points, i), condition, profile)?;
     }
     seen.unless(kept)
 }
@@ -36,12 +39,13 @@ fn keep_point(
     seen: Seen,
     row: &[Cell],
     condition: &CompExpr,
+    profile: &Profile,
 ) -> Result<Seen, ScalarErr>
-    ensures seen { IfOk result (λ s. seen_of s ≡ join (seen_of seen) (fault_in (value (exp_of condition.now) row.now))) }
-    ensures kept { IfOk result (λ _. rows_of kept.new.items ≡ rows_of kept.old.items ++ (if is_true (value (exp_of condition.now) row.now) then row.now ∷ [] else [])) }
+    ensures seen { IfOk result (λ s. seen_of s ≡ join (seen_of seen) (fault_in (value profile.now (exp_of condition.now) row.now))) }
+    ensures kept { IfOk result (λ _. rows_of kept.new.items ≡ rows_of kept.old.items ++ (if is_true (value profile.now (exp_of condition.now) row.now) then row.now ∷ [] else [])) }
     ensures err { IfErr result (λ e. e ≡ ScalarErr.OutOfMemory) }
 {
-    match eval(alloc, condition, row) {
+    match eval(alloc, condition, row, profile) {
         Ok(Cell::Bool(true)) => {
             kept.push(clone_row(alloc, row)?)?;
             Ok(seen)

@@ -1,9 +1,9 @@
 // The fault that a walk over many points has seen.
 ghost use Rattle.vtl_cell.specs.Outcome.{unless};
-ghost use Rattle.vtl_tree.specs.Answers.{Answers};
+ghost use Rattle.vtl_scalar.specs.Answers.{Answers};
 ghost use Rattle.vtl_tree.specs.Seen.{seen_of, SeesAlso};
 
-use crate::ScalarErr;
+use vtl_scalar::ScalarErr;
 
 /// The fault that was seen so far: a division by zero stands before a number out of range.
 #[derive(Clone, Copy, Debug, PartialEq, Eq)]

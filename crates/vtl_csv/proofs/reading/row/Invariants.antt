@@ -8,5 +8,5 @@ use Rattle.vtl_csv.proofs.reading.row.Given as goal
 
 abbrev pub invariant-loop-i : goal.invariant-loop-i
 invariant-loop-i l =
-    onto l.row.items (each_some cell_in (drop l.i (zip (shown l.columns) (fields_of l.fields))))
-    ≡ each_some cell_in (zip (shown l.columns) (fields_of l.fields))
+    onto l.row.items (each_some (cell_in l.profile) (drop l.i (zip (shown l.columns) (fields_of l.fields))))
+    ≡ each_some (cell_in l.profile) (zip (shown l.columns) (fields_of l.fields))

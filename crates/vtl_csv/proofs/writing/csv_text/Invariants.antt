@@ -5,4 +5,4 @@ use Rattle.vtl_csv.specs.CsvText.{csv_rows}
 use Rattle.vtl_csv.proofs.writing.csv_text.Given as goal
 
 abbrev pub invariant-loop-row : goal.invariant-loop-row
-invariant-loop-row l = l.writer ≡ csv_rows (shown l.columns) (rows_of (take l.row-index l.rows))
+invariant-loop-row l = l.writer ≡ csv_rows l.profile (shown l.columns) (rows_of (take l.row-index l.rows))

@@ -10,10 +10,10 @@ use Rattle.vtl_top.proofs.filtering.filter.Given as goal
 
 abbrev pub invariant-loop-row : goal.invariant-loop-row
 invariant-loop-row l =
-    (filter (λ r. is_true (value (exp_of l.condition) r)) (rows_of l.fn.rows.items)
-    ≡ filter (λ r. is_true (value (exp_of l.condition) r)) (rows_of l.rows.items) ++ reverse (rows_of l.kept.items))
-    × (faults_by (λ r. fault_in (value (exp_of l.condition) r)) (rows_of l.fn.rows.items)
-    ≡ join (faults_by (λ r. fault_in (value (exp_of l.condition) r)) (rows_of l.rows.items)) (seen_of l.seen))
+    (filter (λ r. is_true (value l.profile (exp_of l.condition) r)) (rows_of l.fn.rows.items)
+    ≡ filter (λ r. is_true (value l.profile (exp_of l.condition) r)) (rows_of l.rows.items) ++ reverse (rows_of l.kept.items))
+    × (faults_by (λ r. fault_in (value l.profile (exp_of l.condition) r)) (rows_of l.fn.rows.items)
+    ≡ join (faults_by (λ r. fault_in (value l.profile (exp_of l.condition) r)) (rows_of l.rows.items)) (seen_of l.seen))
 
 abbrev pub decreases-loop-row : goal.decreases-loop-row
 decreases-loop-row l = vec_len l.rows

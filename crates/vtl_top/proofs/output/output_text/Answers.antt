@@ -8,4 +8,4 @@ use Rattle.vtl_top.proofs.output.output_text.Goals as goal
 
 pub want_of_memory-requires : goal.want_of_memory-requires
 want_of_memory-requires c =
-    only_memory {A = Vec (Vec Cell Global) Global} (λ v. rows_of v.items) c.in-Err.error _ _ (ap (λ e. filter_of e (rows_of c.args.rows.items)) c.in_ok-condition.ensures ∙ filter_is_kept (shown c.args.columns.now) c.args.statement.now (rows_of c.args.rows.items)) c.in-Err.ensures
+    only_memory {A = Vec (Vec Cell Global) Global} (λ v. rows_of v.items) c.in-Err.error _ _ (ap (λ e. filter_of c.args.profile.now e (rows_of c.args.rows.items)) c.in_ok-condition.ensures ∙ filter_is_kept c.args.profile.now (shown c.args.columns.now) c.args.statement.now (rows_of c.args.rows.items)) c.in-Err.ensures

@@ -21,9 +21,9 @@ returns-clause-meets g c =
     let rows = rows_of c.in_ok-rows.rows.items in
     let out = output_view c.in_ok-output.output in
     let made = λ (x : List Row) (same : in_order x ≡ rows).
-    ap (λ (l : List Row). (file_in r.output s.result, csv_rows cols l)) (sym (kept_in_order (condition_in cols s) x) ∙ ap (kept (condition_in cols s)) same) ∙ sym c.in_ok-output.ensures.view in
+    ap (λ (l : List Row). (file_in r.output s.result, csv_rows r.settings cols l)) (sym (kept_in_order r.settings (condition_in cols s) x) ∙ ap (kept r.settings (condition_in cols s)) same) ∙ sym c.in_ok-output.ensures.view in
     if_some_map (g.F.Files.held c.args.files.now)
-    (λ held. stage (file_in r.input s.operand) csv_limit (λ text. option_map in_order (points_in cols c.args.keys text)) held ≡ Ok rows)
+    (λ held. stage (file_in r.input s.operand) csv_limit (λ text. option_map in_order (points_in r.settings cols c.args.keys text)) held ≡ Ok rows)
     (λ held. from_columns r s cols c.args.keys held ≡ Ok out)
-    (λ held e. stage_mapped in_order (file_in r.input s.operand) csv_limit (points_in cols c.args.keys) held rows (λ points. Ok (output_in r s cols points)) (Ok out) e (λ x same. ap Ok (made x same)))
+    (λ held e. stage_mapped in_order (file_in r.input s.operand) csv_limit (points_in r.settings cols c.args.keys) held rows (λ points. Ok (output_in r s cols points)) (Ok out) e (λ x same. ap Ok (made x same)))
     c.in_ok-rows.ensures.meets

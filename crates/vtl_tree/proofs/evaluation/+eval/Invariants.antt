@@ -5,4 +5,4 @@ use Rattle.vtl_tree.proofs.Values.{rest}
 use Rattle.vtl_tree.proofs.evaluation.+eval.Given as goal
 
 abbrev pub invariant-loop-arg : goal.invariant-loop-arg
-invariant-loop-arg l = rest (drop l.arg-index (map exp_of l.arg-items)) l.row l.values.items ≡ values (exps_of (map exp_of l.arg-items)) l.row
+invariant-loop-arg l = rest l.p (drop l.arg-index (map exp_of l.arg-items)) l.row l.values.items ≡ values l.p (exps_of (map exp_of l.arg-items)) l.row

@@ -11,15 +11,15 @@ use Rattle.vtl_tree.proofs.LookUps.{look-filter, Distinct-filter}
 use Rattle.vtl_tree.proofs.laws.filter_is_a_clause.Goals as goal
 
 pub returns-clause-kept : goal.returns-clause-kept
-returns-clause-kept c = λ s e d h. record {
+returns-clause-kept c = λ p s e d h. record {
   well_formed = h.well_formed;
-  typed = AllByRecursion-filter (λ r. is_point (columns_of s) r ≡ true) (λ r. is_true (value e r)) d h.typed;
-  distinct = Distinct-filter (key_width s) (λ r. is_true (value e r)) d h.distinct;
+  typed = AllByRecursion-filter (λ r. is_point (columns_of s) r ≡ true) (λ r. is_true (value p e r)) d h.typed;
+  distinct = Distinct-filter (key_width s) (λ r. is_true (value p e r)) d h.distinct;
 }
 
 pub returns-clause-at : goal.returns-clause-at
-returns-clause-at c = λ n e d k s. look-filter n (λ r. is_true (value e r)) d k s
+returns-clause-at c = λ p n e d k s. look-filter n (λ r. is_true (value p e r)) d k s
 
 pub returns-clause-order : goal.returns-clause-order
-returns-clause-order c = λ e t d p.
-    Same_unless _ _ _ _ (faults_by-Perm (λ r. fault_in (value e r)) p) (Perm-filter (λ r. is_true (value e r)) p)
+returns-clause-order c = λ p e t d q.
+    Same_unless _ _ _ _ (faults_by-Perm (λ r. fault_in (value p e r)) q) (Perm-filter (λ r. is_true (value p e r)) q)

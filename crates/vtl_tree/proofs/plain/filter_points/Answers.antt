@@ -11,6 +11,6 @@ use Rattle.vtl_tree.proofs.plain.filter_points.Goals as goal
 pub loop-i-preserved : goal.loop-i-preserved
 loop-i-preserved c =
     let within : c.loop-i.i < length (rows_of c.args.points.now) = simp length-map (omega arith) in (
-      kept_more (λ r. is_true (value (exp_of c.args.condition.now) r)) (rows_of c.args.points.now) c.loop-i.i c.row_at.result.now _ _ within c.row_at.ensures c.loop-i.invariant.0 c.in_ok-seen.ensures.kept,
-      seen_more (λ r. fault_in (value (exp_of c.args.condition.now) r)) (rows_of c.args.points.now) c.loop-i.i c.row_at.result.now _ _ within c.row_at.ensures c.loop-i.invariant.1 c.in_ok-seen.ensures.seen,
+      kept_more (λ r. is_true (value c.args.profile.now (exp_of c.args.condition.now) r)) (rows_of c.args.points.now) c.loop-i.i c.row_at.result.now _ _ within c.row_at.ensures c.loop-i.invariant.0 c.in_ok-seen.ensures.kept,
+      seen_more (λ r. fault_in (value c.args.profile.now (exp_of c.args.condition.now) r)) (rows_of c.args.points.now) c.loop-i.i c.row_at.result.now _ _ within c.row_at.ensures c.loop-i.invariant.1 c.in_ok-seen.ensures.seen,
     )

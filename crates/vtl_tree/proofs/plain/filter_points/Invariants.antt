@@ -10,5 +10,5 @@ use Rattle.vtl_tree.proofs.plain.filter_points.Given as goal
 
 abbrev pub invariant-loop-i : goal.invariant-loop-i
 invariant-loop-i l =
-    (rows_of l.kept.items ≡ filter (λ r. is_true (value (exp_of l.condition) r)) (take l.i (rows_of l.points)))
-    × (seen_of l.seen ≡ faults_by (λ r. fault_in (value (exp_of l.condition) r)) (take l.i (rows_of l.points)))
+    (rows_of l.kept.items ≡ filter (λ r. is_true (value l.profile (exp_of l.condition) r)) (take l.i (rows_of l.points)))
+    × (seen_of l.seen ≡ faults_by (λ r. fault_in (value l.profile (exp_of l.condition) r)) (take l.i (rows_of l.points)))
