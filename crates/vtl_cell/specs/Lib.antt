@@ -1,5 +1,6 @@
 pub mod Equal
 pub mod Kinds
+pub mod Logic
 pub mod Order
 pub mod Outcome
 pub mod Row

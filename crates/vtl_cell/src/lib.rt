@@ -3,11 +3,13 @@
 
 mod cell;
 mod kind;
+mod logic;
 mod operator;
 mod row;
 
 pub use cell::{Cell, clone_cell, compare, is_same, order_is_lawful};
 pub use kind::Kind;
+pub use logic::{and3, not3, or3, xor3};
 pub use operator::{AggKind, ScalarOp};
 pub use row::{is_same_key, is_same_row};
 
