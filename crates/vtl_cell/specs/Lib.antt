@@ -3,4 +3,6 @@ pub mod Kinds
 pub mod Logic
 pub mod Order
 pub mod Outcome
+pub mod Reading
 pub mod Row
+pub mod Writing
