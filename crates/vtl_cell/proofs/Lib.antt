@@ -1,4 +1,5 @@
 pub mod Cells
 pub mod Orders
 pub mod Rows
+pub mod Texts
 pub mod Times

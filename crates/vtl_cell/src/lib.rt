@@ -3,13 +3,19 @@
 
 mod cell;
 mod kind;
+mod logic;
 mod operator;
+mod reading;
 mod row;
+mod writing;
 
 pub use cell::{Cell, clone_cell, compare, is_same, order_is_lawful};
 pub use kind::Kind;
+pub use logic::{and3, not3, or3, xor3};
 pub use operator::{AggKind, ScalarOp};
+pub use reading::read_cell;
 pub use row::{is_same_key, is_same_row};
+pub use writing::write_cell;
 
 #[cfg(test)]
 mod tests;
