@@ -1,5 +1,6 @@
 pub mod Cells
 pub mod Orders
+pub mod Readings
 pub mod Rows
 pub mod Texts
 pub mod Times

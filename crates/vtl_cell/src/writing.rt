@@ -3,9 +3,8 @@ ghost use Rattle.std.specs.Prelude.{◌≡◌, ◌++◌, OnOk, OnErr};
 ghost use Rattle.vtl_cell.specs.Writing.{text_of, ReadsBack};
 
 use crate::Cell;
-use itoa::Buffer;
 use std::alloc::AllocError;
-use vtl_decimal::{Profile, write};
+use vtl_decimal::{Profile, write, write_whole};
 use vtl_time::{write_day, write_period};
 
 /// Appends the text of the cell, which `read_cell` reads as the same value: nothing for null, `true` or `false`, the
@@ -22,7 +21,7 @@ pub fn write_cell(c: &Cell, p: &Profile, out: &mut Vec<u8>) -> Result<(), AllocE
         Cell::Null => Ok(()),
         Cell::Bool(true) => out.extend_from_slice(b"true"),
         Cell::Bool(false) => out.extend_from_slice(b"false"),
-        Cell::Int(n) => out.extend_from_slice(Buffer::new().format(*n).as_bytes()),
+        Cell::Int(n) => write_whole(*n, out),
         Cell::Num(n) => write(*n, p, out),
         Cell::Text(t) => out.extend_from_slice(t.as_str().as_bytes()),
         Cell::Day(d) => write_day(*d, out),

@@ -65,15 +65,15 @@ pub behind_point_none : (n : ℕ) → behind_point (shortest_digits 0 n) ≡ []
 behind_point_none n = ap behind_point (shortest_digits-none n)
 
 -- ---- before the point
-pub decimal_front : (n : ℕ) (t : List ℕ) → 10 ≤ n → n < 10 ^ 18 → decimal n ++ t ≡ decimal (n / 10) ++ ((48 + n % 10) ∷ t)
+pub decimal_front : (n : ℕ) (t : List ℕ) → 10 ≤ n → n < 10 ^ 19 → decimal n ++ t ≡ decimal (n / 10) ++ ((48 + n % 10) ∷ t)
 decimal_front n t h small =
     ap (λ l. l ++ t) (decimal_step n h (omega arith)) ∙ append_assoc (decimal (n / 10)) ((48 + n % 10) ∷ []) t
 
 pub decimal_last : (n : ℕ) (t : List ℕ) → n < 10 → decimal n ++ t ≡ (48 + n) ∷ t
 decimal_last n t h = ap (λ l. l ++ t) (decimal_digit n h)
 
-pub decimal_room : (n m : ℕ) (t u : List ℕ) → n < 10 ^ 18 → m < 10 ^ 18 → decimal n ++ t ≡ decimal m ++ u → length t < length u + 18
+pub decimal_room : (n m : ℕ) (t u : List ℕ) → n < 10 ^ 19 → m < 10 ^ 19 → decimal n ++ t ≡ decimal m ++ u → length t < length u + 19
 decimal_room n m t u h k e =
-    omega (arith, ap length e, length-append (decimal n) t, length-append (decimal m) u, decimal_nonempty n (omega arith), length-decimal-le 18 m (omega arith) k (omega arith))
+    omega (arith, ap length e, length-append (decimal n) t, length-append (decimal m) u, decimal_nonempty n (omega arith), length-decimal-le 19 m (omega arith) k (omega arith))
 
 pub ruleset written_digits = (last_digits_step, last_digits_done, shortest_digits_zero, behind_point_some, behind_point_none, decimal_front, decimal_last, decimal_room)

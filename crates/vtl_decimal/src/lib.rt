@@ -21,7 +21,7 @@ pub use reading::{BadNumber, read, read_whole};
 pub use settings::{Profile, Rounding};
 pub use total::Sum;
 pub use wholes::{ceil, floor, of_whole, round, trunc, whole};
-pub use writing::write;
+pub use writing::{write, write_whole};
 
 #[cfg(test)]
 mod tests;

@@ -1,5 +1,5 @@
 ghost use Rattle.std.specs.Prelude.{◌≡◌, ◌≤◌, ◌<◌, ◌+◌, ◌^◌, [], ◌++◌, length, Some, OnOk, OnErr};
-ghost use Rattle.std.specs.Fmt.{decimal};
+ghost use Rattle.std.specs.Fmt.{decimal, signed_decimal};
 ghost use Rattle.vtl_decimal.specs.Written.{last_digits, shortest_digits, behind_point, number_text, HasNoNeedlessDigit};
 ghost use Rattle.vtl_decimal.specs.Numeral.{Numeral, Spells, number_read};
 
@@ -47,9 +47,9 @@ fn push_fraction(line: &mut Line, fraction: u64, scale: u8)
 #[tactic(auto, using(crate::proofs::WritingLemmas::written_digits))]
 fn push_whole(line: &mut Line, n: u64)
     requires room { length line.old ≤ 10 }
-    requires fits { n < 10 ^ 18 }
+    requires fits { n < 10 ^ 19 }
     ensures text { line.new ≡ decimal n ++ line.old }
-    ensures size { length line.new ≤ 18 + length line.old }
+    ensures size { length line.new ≤ 19 + length line.old }
 {
     let mut rest = n;
     while rest >= 10 {
@@ -89,4 +89,26 @@ pub fn write(d: Dec, p: &Profile, out: &mut Vec<u8>) -> Result<(), AllocError>
     ensures err { OnErr result (out.new.items ≡ out.old.items) }
 {
     out.extend_from_slice(text_of(d, p).as_slice())
+}
+
+/// Appends the digits of a whole number, with `-` before them where it is negative.
+///
+/// On want of memory `out` is as before.
+pub fn write_whole(n: i64, out: &mut Vec<u8>) -> Result<(), AllocError>
+    ensures ok { OnOk result (out.new.items ≡ out.old.items ++ signed_decimal n) }
+    ensures err { OnErr result (out.new.items ≡ out.old.items) }
+{
+    out.extend_from_slice(whole_text(n).as_slice())
+}
+
+// The text of a whole number.
+fn whole_text(n: i64) -> Line
+    ensures { result ≡ signed_decimal n }
+{
+    let mut line = Line::new();
+    push_whole(&mut line, n.unsigned_abs());
+    if n < 0 {
+        line.push_front(b'-');
+    }
+    line
 }

@@ -120,10 +120,10 @@ fn gives_what_the_plain_interpreter_gives(rt: HostRuntime) -> Result<(), Fail> {
     let statement = read_statement(alloc, SCRIPT.as_bytes())?.ok_or("not a script")?;
     let structure = structure(alloc, &statement, STRUCTURES.as_bytes())?.ok_or("no structure")?;
     let columns = structure.columns(alloc)?;
-    let rows = points(alloc, &columns, 1, text)?.ok_or("no points")?;
+    let rows = points(alloc, &columns, 1, text, &profile)?.ok_or("no points")?;
     let condition = condition(alloc, &columns, &statement)?;
-    let kept = filter_points(alloc, rows.as_slice(), &condition).map_err(|_| "a fault")?;
-    let kept = csv_text(alloc, &columns, kept.as_slice())?;
+    let kept = filter_points(alloc, rows.as_slice(), &condition, &profile).map_err(|_| "a fault")?;
+    let kept = csv_text(alloc, &columns, kept.as_slice(), &profile)?;
     gives(
         &rt,
         alloc,
