@@ -1,3 +1,4 @@
+pub mod Conversion
 pub mod Equal
 pub mod Kinds
 pub mod Logic
@@ -5,4 +6,11 @@ pub mod Order
 pub mod Outcome
 pub mod Reading
 pub mod Row
+pub mod ScalarArithmetic
+pub mod ScalarChoice
+pub mod ScalarComparison
+pub mod ScalarKinds
+pub mod ScalarSpelling
+pub mod ScalarTexts
+pub mod Scalars
 pub mod Writing

@@ -4,7 +4,8 @@ use Rattle.vtl_decimal.specs.Settings.{Settings}
 use Rattle.vtl_cell.specs.declared.cell.Cell.{Cell}
 use Rattle.vtl_cell.specs.declared.kind.Kind.{Kind}
 use Rattle.vtl_cell.specs.declared.operator.ScalarOp.{ScalarOp}
-use Rattle.vtl_cell.specs.Scalar.{as_kind, scalar_of}
+use Rattle.vtl_cell.specs.Conversion.{as_kind}
+use Rattle.vtl_cell.specs.Scalars.{scalar_of}
 use Rattle.vtl_cell.specs.Row.{Row, column_of}
 use Rattle.vtl_cell.specs.Outcome.{Outcome, after}
 use Rattle.vtl_tree.specs.Exp.{Exp, Exps, column, const, call, no_exps, exp}
