@@ -42,7 +42,12 @@ combined f (Some a) (Some b) = Some (f a b)
 abbrev pub between_of : Settings → Cell → Cell → Cell → Option Bool
 between_of p a x y = combined (λ s t. s && t) (compared is_ge p a x) (compared is_le p a y)
 
--- a in members
+-- whether one of the members equals the value
 abbrev pub member_of : Settings → Cell → List Cell → Option Bool
 member_of p a [] = Some false
 member_of p a (x ∷ members) = combined (λ s t. s || t) (compared is_eq p a x) (member_of p a members)
+
+-- a in {x, ..}: a value, and then one member at least
+abbrev pub membership_of : Settings → List Cell → Option Bool
+membership_of p (a ∷ x ∷ members) = member_of p a (x ∷ members)
+membership_of p other = None

@@ -8,8 +8,8 @@ use Rattle.vtl_cell.specs.Row.{Row}
 use Rattle.std.specs.Option.{option_to_list, MatchOption}
 use Rattle.vtl_cell.specs.Outcome.{Fault, DivZero, Range, Outcome, join, faults_by, unless}
 use Rattle.vtl_scalar.specs.Answers.{Answers, AnswersBy}
-use Rattle.vtl_scalar.specs.declared.MODULE.ScalarErr.{ScalarErr}
-use Rattle.vtl_scalar.specs.declared.MODULE.ScalarErr.TheVariants as err
+use Rattle.vtl_scalar.specs.declared.error.ScalarErr.{ScalarErr}
+use Rattle.vtl_scalar.specs.declared.error.ScalarErr.TheVariants as err
 use Rattle.vtl_tree.specs.Rows.{rows_of}
 use Rattle.vtl_tree.proofs.Faults.{faults_by-append, join_assoc, join_none}
 

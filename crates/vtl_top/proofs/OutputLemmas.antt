@@ -10,8 +10,8 @@ use Rattle.vtl_cell.specs.Row.{Row}
 use Rattle.vtl_tree.specs.Clauses.{filter_of, kept}
 use Rattle.vtl_scalar.specs.Answers.{AnswersBy}
 use Rattle.vtl_tree.specs.Value.{value}
-use Rattle.vtl_scalar.specs.declared.MODULE.ScalarErr.{ScalarErr}
-use Rattle.vtl_scalar.specs.declared.MODULE.ScalarErr.TheVariants as err
+use Rattle.vtl_scalar.specs.declared.error.ScalarErr.{ScalarErr}
+use Rattle.vtl_scalar.specs.declared.error.ScalarErr.TheVariants as err
 use Rattle.vtl_tree.specs.declared.structure.Component.{Component}
 use Rattle.vtl_top.specs.Answered.{Adds, AddsFront}
 use Rattle.vtl_top.specs.Condition.{condition_in}

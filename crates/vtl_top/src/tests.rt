@@ -7,6 +7,7 @@ use std::alloc::{AllocError, Global};
 use std::process::Abort;
 use std::test::Fail;
 use vtl_csv::{csv_text, points};
+use vtl_decimal::{Profile, Rounding};
 use vtl_files::{FailAt, MemFile, MemFiles, MemSink, Method};
 use vtl_tree::filter_points;
 
@@ -120,6 +121,7 @@ fn gives_what_the_plain_interpreter_gives(rt: HostRuntime) -> Result<(), Fail> {
     let statement = read_statement(alloc, SCRIPT.as_bytes())?.ok_or("not a script")?;
     let structure = structure(alloc, &statement, STRUCTURES.as_bytes())?.ok_or("no structure")?;
     let columns = structure.columns(alloc)?;
+    let profile = Profile::new(6, Rounding::HalfUp).ok_or("no profile")?;
     let rows = points(alloc, &columns, 1, text, &profile)?.ok_or("no points")?;
     let condition = condition(alloc, &columns, &statement)?;
     let kept = filter_points(alloc, rows.as_slice(), &condition, &profile).map_err(|_| "a fault")?;

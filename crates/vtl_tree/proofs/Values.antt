@@ -5,8 +5,8 @@ use Rattle.vtl_cell.specs.declared.cell.Cell.{Cell}
 use Rattle.vtl_tree.specs.Exp.{Exp, call}
 use Rattle.vtl_cell.specs.Outcome.{Fault, DivZero, Range, Outcome, after}
 use Rattle.vtl_scalar.specs.Answers.{Answers}
-use Rattle.vtl_scalar.specs.declared.MODULE.ScalarErr.TheVariants as err
-use Rattle.vtl_scalar.specs.declared.MODULE.ScalarErr.{ScalarErr}
+use Rattle.vtl_scalar.specs.declared.error.ScalarErr.TheVariants as err
+use Rattle.vtl_scalar.specs.declared.error.ScalarErr.{ScalarErr}
 use Rattle.vtl_decimal.specs.Settings.{Settings}
 use Rattle.vtl_tree.specs.Value.{result_of, value, values}
 use Rattle.vtl_cell.specs.declared.kind.Kind.{Kind}

@@ -1,8 +1,8 @@
 -- The fault seen so far.
 use Rattle.std.specs.Prelude.{◌≡◌, Option, Some, None, Result, Ok, Err}
 use Rattle.vtl_cell.specs.Outcome.{Fault, DivZero, Range, join}
-use Rattle.vtl_scalar.specs.declared.MODULE.ScalarErr.{ScalarErr}
-use Rattle.vtl_scalar.specs.declared.MODULE.ScalarErr.TheVariants as err
+use Rattle.vtl_scalar.specs.declared.error.ScalarErr.{ScalarErr}
+use Rattle.vtl_scalar.specs.declared.error.ScalarErr.TheVariants as err
 use Rattle.vtl_tree.specs.declared.seen.Seen.{Seen}
 use Rattle.vtl_tree.specs.declared.seen.Seen.TheVariants as seen
 
