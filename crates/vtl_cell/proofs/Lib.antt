@@ -1,4 +1,5 @@
 pub mod Cells
+pub mod Examples
 pub mod Orders
 pub mod Rows
 pub mod Texts

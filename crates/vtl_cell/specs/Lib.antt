@@ -1,8 +1,11 @@
 pub mod Equal
+pub mod Frames
+pub mod Groups
 pub mod Kinds
 pub mod Logic
 pub mod Order
 pub mod Outcome
 pub mod Reading
 pub mod Row
+pub mod Sorted
 pub mod Writing
