@@ -1,4 +1,6 @@
 pub mod Cells
+pub mod Examples
+pub mod Keys
 pub mod Orders
 pub mod Readings
 pub mod Rows

@@ -1,5 +1,7 @@
 pub mod Conversion
 pub mod Equal
+pub mod Frames
+pub mod Groups
 pub mod Kinds
 pub mod Logic
 pub mod Order
@@ -13,4 +15,5 @@ pub mod ScalarKinds
 pub mod ScalarSpelling
 pub mod ScalarTexts
 pub mod Scalars
+pub mod Sorted
 pub mod Writing

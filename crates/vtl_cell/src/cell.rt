@@ -1,10 +1,11 @@
 // A value, its order and its copies.
-ghost use Rattle.std.specs.Prelude.{◌≡◌, IfOk, true};
+ghost use Rattle.std.specs.Prelude.{◌≡◌, IfOk, List, true};
 ghost use Rattle.std.specs.Cmp.{IsTotalOrder};
 ghost use Rattle.vtl_lists.specs.Sorting.{IsOrder, le_by};
 ghost use Rattle.vtl_cell.specs.Equal.{same_cell};
 ghost use Rattle.vtl_cell.specs.Order.{cell_cmp};
 ghost use Rattle.vtl_cell.specs.Row.{row_cmp};
+ghost use Rattle.vtl_cell.specs.Sorted.{Key, by_keys};
 
 use std::alloc::AllocError;
 use std::cmp::Ordering;
@@ -64,11 +65,15 @@ pub fn compare(a: &Cell, b: &Cell) -> Ordering
     a.cmp(b)
 }
 
-/// The order of cells and of rows is total, ties are equal, and equality is equality.
+/// The order of cells and of rows is total, ties are equal, and equality is equality. The order by listed keys is total,
+/// and rows may tie.
 pub fn order_is_lawful()
     ensures cells { IsTotalOrder cell_cmp }
     ensures ties { (a b : Cell) → cell_cmp a b ≡ Ordering.Equal → a ≡ b }
     ensures equal { (a b : Cell) → same_cell a b ≡ true → a ≡ b }
     ensures reflexive { (a : Cell) → same_cell a a ≡ true }
     ensures rows { IsOrder (le_by row_cmp) }
+    ensures keys { (listed : List Key) → IsTotalOrder (by_keys listed) }
 {}
+
+const _: () = prove!(size_of::<Cell>() <= 32);

@@ -1,4 +1,5 @@
 use Rattle.vtl_cell.proofs.Cells.{same_cell-is, same_cell-refl}
+use Rattle.vtl_cell.proofs.Keys.{by_keys_total}
 use Rattle.vtl_cell.proofs.Orders.{cell_cmp_total, cell_cmp-ties}
 use Rattle.vtl_cell.proofs.Rows.{row_order}
 use Rattle.vtl_cell.proofs.cell.order_is_lawful.Goals as goal
@@ -17,3 +18,6 @@ returns-clause-reflexive c = same_cell-refl
 
 pub returns-clause-rows : goal.returns-clause-rows
 returns-clause-rows c = row_order
+
+pub returns-clause-keys : goal.returns-clause-keys
+returns-clause-keys c = by_keys_total
