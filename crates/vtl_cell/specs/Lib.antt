@@ -1,5 +1,13 @@
 pub mod Equal
 pub mod Kinds
+pub mod Logic
 pub mod Order
 pub mod Outcome
 pub mod Row
+pub mod ScalarArithmetic
+pub mod ScalarChoice
+pub mod ScalarComparison
+pub mod ScalarKinds
+pub mod ScalarSpelling
+pub mod ScalarTexts
+pub mod Scalars
