@@ -4,7 +4,7 @@ ghost use Rattle.vtl_cell.specs.ScalarArithmetic.{as_number, digits_in, number_i
 ghost use Rattle.vtl_scalar.specs.Operands.{pair_outcome};
 
 use vtl_cell::Cell;
-use vtl_decimal::{Dec, Fault, Profile, of_whole, whole};
+use vtl_decimal::{Dec, Fault, Profile};
 
 // Two operands of an operator that takes integers or numbers: an integer beside a number is a number.
 #[derive(Clone, Copy)]
@@ -15,18 +15,21 @@ pub(crate) enum Pair {
 }
 
 // An integer in units of the number that equals it.
+#[tactic(auto, using(crate::proofs::UnitLemmas::unit_fits))]
 pub(crate) fn units(n: i64, p: &Profile) -> i128
     ensures { result ≡ units p.now n }
 {
-    i128::from(n) * i128::from(of_whole(1, p).k())
+    i128::from(n) * i128::from(10_u64.pow(u32::from(p.scale())))
 }
 
 // The number that equals an integer.
 pub(crate) fn as_number(n: i64, p: &Profile) -> Result<Dec, Fault>
     ensures { outcome_of result ≡ as_number p.now n }
 {
-    let n = whole(i128::from(n), p)?;
-    Ok(of_whole(n, p))
+    match i64::try_from(units(n, p)) {
+        Ok(k) => Dec::from_k(k).ok_or(Fault::Range),
+        Err(_) => Err(Fault::Range),
+    }
 }
 
 // The number that an operand stands for.
