@@ -26,7 +26,7 @@ pub rest-cons : (p : Settings) (e : Exp) (es : List Exp) (row done : List Cell) 
 rest-cons p e es row done v h = rw h (joined done v (values p (exps_of es) row))
 
 pub rest-fault : (p : Settings) (e : Exp) (es : List Exp) (row done : List Cell) (f : Fault) → value p e row ≡ Err f → rest p (e ∷ es) row done ≡ Err f
-rest-fault e es row done f h = rw h
+rest-fault p e es row done f h = rw h
 
 front : (es : List CompExpr) (i : ℕ) (d : CompExpr) → i < length es → drop i (map exp_of es) ≡ exp_of (get_or es i d) ∷ drop (i + 1) (map exp_of es)
 front es i d h = drop-map exp_of i es ∙ ap (map exp_of) (drop_more es i d h) ∙ ap (λ l. exp_of (get_or es i d) ∷ l) (sym (drop-map exp_of (i + 1) es))
