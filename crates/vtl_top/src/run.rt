@@ -180,7 +180,7 @@ fn output_from(
     ensures view { IfOk result (λ o. output_view o ≡ (file_in (run_view run.entry).output statement.now.result, csv_rows (run_view run.entry).settings (shown columns.now) (kept (run_view run.entry).settings (condition_in (shown columns.now) statement.now) (rows_of rows.items)))) }
     ensures named { IfOk result NamesPath }
 {
-    let bytes = output_text(alloc, columns, statement, rows, &run.profile)?;
+    let bytes = output_text(alloc, columns, statement, rows, run.profile)?;
     make_output(alloc, run.output, statement, bytes)
 }
 
@@ -214,7 +214,7 @@ fn read_columns<F: Files>(
         &statement.operand,
         columns,
         keys,
-        &run.profile,
+        run.profile,
     )?;
     let output = output_from(alloc, columns, run, statement, rows)?;
     Ok(output)

@@ -11,7 +11,7 @@ ghost use Rattle.vtl_top.specs.StatusLine.{line_of};
 use crate::output::{Output, write_file};
 use crate::run::prepare;
 use crate::status::{Status, tell};
-use crate::words::{Run, run_words};
+use crate::words::{Run, default_profile, run_words};
 use std::alloc::Global;
 use vtl_files::{Files, Sink};
 
@@ -79,7 +79,8 @@ fn answer<F: Files>(alloc: Global, words: &[String], files: &mut F) -> Status
     ensures written { Writes (run_of (map string_bytes words.now)) (told F.held F.written F.faults F.absences F.misuses F.creating F.place F.mark files.old)
         (told F.held F.written F.faults F.absences F.misuses F.creating F.place F.mark files.new) result }
 {
-    match run_words(words) {
+    let profile = default_profile();
+    match run_words(words, &profile) {
         Some(run) => carry_out(alloc, files, run),
         None => Status::Usage,
     }

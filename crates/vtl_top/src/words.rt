@@ -12,7 +12,7 @@ pub struct Run<'a> {
     pub structures: &'a str,
     pub input: &'a str,
     pub output: &'a str,
-    pub profile: Profile,
+    pub profile: &'a Profile,
 }
 
 fn is_path(word: &str) -> bool
@@ -21,8 +21,10 @@ fn is_path(word: &str) -> bool
     !word.is_empty()
 }
 
-/// The run that the words ask for: `run SCRIPT STRUCTURES IN OUT`, each a path that is not empty.
-pub fn run_words(words: &[String]) -> Option<Run<'_>>
+/// The run that the words ask for: `run SCRIPT STRUCTURES IN OUT`, each a path that is not empty. It has this profile,
+/// which is the default one.
+pub fn run_words<'a>(words: &'a [String], profile: &'a Profile) -> Option<Run<'a>>
+    requires { profile.now ≡ default_settings }
     ensures { option_map run_view result ≡ run_of (map string_bytes words.now) }
 {
     if words.len() != 5 {
@@ -34,6 +36,7 @@ pub fn run_words(words: &[String]) -> Option<Run<'_>>
         words[2].as_str(),
         words[3].as_str(),
         words[4].as_str(),
+        profile,
     )
 }
 
@@ -43,7 +46,9 @@ fn paths<'a>(
     structures: &'a str,
     input: &'a str,
     output: &'a str,
+    profile: &'a Profile,
 ) -> Option<Run<'a>>
+    requires { profile.now ≡ default_settings }
     ensures { option_map run_view result ≡ run_of (command.now ∷ script.now ∷ structures.now ∷ input.now ∷ output.now ∷ []) }
 {
     if command == "run"
@@ -57,15 +62,15 @@ fn paths<'a>(
             structures,
             input,
             output,
-            profile: default_profile(),
+            profile,
         })
     } else {
         None
     }
 }
 
-// Six digits after the point, and halves go away from zero.
-fn default_profile() -> Profile
+/// Six digits after the point, and halves go away from zero.
+pub fn default_profile() -> Profile
     ensures { result ≡ default_settings }
 {
     match Profile::new(6, Rounding::HalfUp) {
