@@ -11,12 +11,7 @@ use vtl_scalar::{ScalarErr, apply, to_kind};
 
 /// The value of an expression at a point, whose cells stand in column order: every operand is evaluated,
 /// from left to right, and the first fault is the answer. A column past the last cell is null.
-pub fn eval(
-    alloc: Global,
-    e: &CompExpr,
-    row: &[Cell],
-    p: &Profile,
-) -> Result<Cell, ScalarErr>
+pub fn eval(alloc: Global, e: &CompExpr, row: &[Cell], p: &Profile) -> Result<Cell, ScalarErr>
     ensures { Answers result (value p.now (exp_of e.now) row.now) }
 {
     match e {

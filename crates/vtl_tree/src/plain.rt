@@ -27,7 +27,14 @@ pub fn filter_points(
     let mut kept = Vec::new(alloc);
     let mut seen = Seen::Nothing;
     for i in 0..points.len() {
-        seen = keep_point(alloc, &mut kept, seen, row_at(points, i), condition, profile)?;
+        seen = keep_point(
+            alloc,
+            &mut kept,
+            seen,
+            row_at(points, i),
+            condition,
+            profile,
+        )?;
     }
     seen.unless(kept)
 }
