@@ -1,6 +1,7 @@
 pub mod Equal
 pub mod Frames
 pub mod Groups
+pub mod Held
 pub mod Kinds
 pub mod Logic
 pub mod Order

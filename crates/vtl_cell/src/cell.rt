@@ -3,12 +3,14 @@ ghost use Rattle.std.specs.Prelude.{◌≡◌, IfOk, List, true};
 ghost use Rattle.std.specs.Cmp.{IsTotalOrder};
 ghost use Rattle.vtl_lists.specs.Sorting.{IsOrder, le_by};
 ghost use Rattle.vtl_cell.specs.Equal.{same_cell};
+ghost use Rattle.vtl_cell.specs.Held.{IsHeld};
 ghost use Rattle.vtl_cell.specs.Order.{cell_cmp};
 ghost use Rattle.vtl_cell.specs.Row.{row_cmp};
 ghost use Rattle.vtl_cell.specs.Sorted.{Key, by_keys};
 
 use std::alloc::AllocError;
 use std::cmp::Ordering;
+use std::hash::Hash;
 use vtl_decimal::Dec;
 use vtl_text::Txt;
 use vtl_time::{Day, Period};
@@ -77,3 +79,8 @@ pub fn order_is_lawful()
 {}
 
 const _: () = prove!(size_of::<Cell>() <= 32);
+
+/// Cells that feed a hasher alike are equal, so that the integer 1 and the number 1 are told apart.
+pub fn hashes_tell_apart()
+    ensures { (a b : Cell) → IsHeld a → IsHeld b → ⟦<Cell as Hash>⟧.hash_input a ≡ ⟦<Cell as Hash>⟧.hash_input b → a ≡ b }
+{}
