@@ -1,8 +1,8 @@
 -- Cells that feed a hasher alike are equal.
-use Rattle.std.proofs.Common.{ℕ, ℤ, pos, negsuc, ◌≡◌, ◌+◌, ◌-◌, ◌^◌, ◌<◌, ◌≤◌, Bool, true, false, List, [], ◌∷◌, refl, ap, sym, ◌∙◌, arith, chars}
-use Rattle.std.specs.Prelude.{unsigned_abs, IsTrue, ◌&&◌, nat_le, encode_utf8_all}
+use Rattle.std.proofs.Common.{ℕ, ℤ, pos, negsuc, ◌≡◌, ◌^◌, ◌<◌, Bool, true, false, List, [], ◌∷◌, refl, ap, sym, ◌∙◌, arith, chars}
+use Rattle.std.specs.Prelude.{unsigned_abs, IsTrue, nat_le}
 use Rattle.std.specs.Hash.{le_bytes}
-use Rattle.std.specs.Int.{w16, w64, to_le_bytes, from_le_bytes}
+use Rattle.std.specs.Int.{w16, w64, from_le_bytes}
 use Rattle.std.specs.Int.RustNames.{FitsSigned}
 use Rattle.std.specs.Str.{all_scalars}
 use Rattle.std.proofs.lemmas.Bool.{leb-true}
@@ -104,11 +104,11 @@ year_of_period q h = omega (arith, leb-true q.year 9999 (split_and (nat_le q.yea
 
 frequency_fed : (q : YearPart) → first (later (fed (c.Period q))) ≡ le_bytes 8 (frequency_rank q.frequency)
 frequency_fed q = elim q.frequency as (λ f. first (later (fed (c.Period (record { frequency = f; year = q.year; part = q.part })))) ≡ le_bytes 8 (frequency_rank f)) [
-    | Annual ↦ refl
-    | Semester ↦ refl
-    | Quarter ↦ refl
-    | Month ↦ refl
-  ]
+  | Annual ↦ refl
+  | Semester ↦ refl
+  | Quarter ↦ refl
+  | Month ↦ refl
+]
 
 frequency_small : (f : Frequency) → frequency_rank f < 2 ^ 64
 frequency_small Annual = omega arith
