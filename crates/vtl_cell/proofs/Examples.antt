@@ -1,6 +1,6 @@
 -- What the definitions on lists give for single lists.
-use Rattle.std.proofs.Common.{◌≡◌, ℕ, pos, negsuc, true, false, List, [], ◌∷◌, Ok, Err, refl}
-use Rattle.std.specs.declared.cmp.Ordering.TheVariants.{Less, Equal, Greater}
+use Rattle.std.proofs.Common.{◌≡◌, ℕ, pos, negsuc, true, List, [], ◌∷◌, Ok, Err, refl}
+use Rattle.std.specs.declared.cmp.Ordering.TheVariants.{Equal}
 use Rattle.vtl_decimal.specs.Settings.{Settings}
 use Rattle.vtl_decimal.specs.declared.settings.Rounding.TheVariants.{HalfUp}
 use Rattle.vtl_cell.specs.declared.cell.Cell.{Cell}

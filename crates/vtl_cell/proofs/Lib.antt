@@ -1,5 +1,6 @@
 pub mod Cells
 pub mod Examples
+pub mod Hashes
 pub mod Keys
 pub mod Orders
 pub mod Readings

@@ -1,5 +1,5 @@
 -- The text of a value stands for the value.
-use Rattle.std.proofs.Common.{ℕ, suc, ℤ, pos, negsuc, ◌≡◌, ◌+◌, ◌-◌, ◌*◌, ◌/◌, ◌%◌, ◌^◌, ◌<◌, ◌≤◌, Bool, true, false, cond, List, [], ◌∷◌, ◌++◌, length, Option, Some, None, Result, Ok, Err, refl, ap, sym, ◌∙◌, arith, rules, chars, append-nil, length-append}
+use Rattle.std.proofs.Common.{ℕ, suc, ℤ, pos, negsuc, ◌≡◌, ◌-◌, ◌*◌, ◌/◌, ◌%◌, ◌^◌, ◌<◌, ◌≤◌, Bool, true, false, cond, List, [], ◌∷◌, ◌++◌, length, Option, Some, None, Ok, Err, refl, ap, sym, ◌∙◌, arith, rules, append-nil, length-append}
 use Rattle.std.specs.Prelude.{unsigned_abs, nat_lt, option_and_then, option_map, ◌==◌}
 use Rattle.std.specs.Char.{is_ascii_digit}
 use Rattle.std.specs.Fmt.{decimal, signed_decimal}
@@ -11,7 +11,7 @@ use Rattle.std.proofs.lemmas.Bool.{eq-eqb, ltb-true}
 use Rattle.std.proofs.lemmas.Fmt.{decimal_nonempty, digits_decimal, digits_value-decimal, length-decimal-le}
 use Rattle.std.proofs.lemmas.Str.{chars-IsAscii}
 use Rattle.std.proofs.lemmas.Str.Parse.{IsNumeralModel, numerals_by_value}
-use Rattle.vtl_decimal.specs.Numeral.{Numeral, Spells, IsSign, no_sign, minus, no_point, no_exponent, signed, numerator, denominator, integer_of, integer_read}
+use Rattle.vtl_decimal.specs.Numeral.{Numeral, Spells, IsSign, no_sign, minus, no_point, no_exponent, signed, numerator, integer_of, integer_read}
 use Rattle.vtl_decimal.specs.Range.{fit_integer}
 use Rattle.vtl_decimal.specs.Settings.{Settings}
 use Rattle.vtl_decimal.specs.declared.number.Fault.TheVariants.{Range}
@@ -22,7 +22,6 @@ use Rattle.vtl_time.specs.Periods.{YearPart, period_text, read_period_of}
 use Rattle.vtl_time.proofs.DayLemmas.{read_day_ascii}
 use Rattle.vtl_time.proofs.PeriodLemmas.{read_period_ascii}
 use Rattle.vtl_cell.specs.Writing.{ReadsBack}
-use Rattle.vtl_cell.specs.declared.cell.Cell.{Cell}
 use Rattle.vtl_cell.specs.declared.cell.Cell.TheVariants as c
 
 -- ---- integers

@@ -2,6 +2,7 @@ pub mod Conversion
 pub mod Equal
 pub mod Frames
 pub mod Groups
+pub mod Held
 pub mod Kinds
 pub mod Logic
 pub mod Order

@@ -1,5 +1,5 @@
 -- The texts that values are written as, in UTF-8.
-use Rattle.std.specs.Prelude.{ℕ, ◌-◌, ◌^◌, ◌<◌, ◌≡◌, Bool, true, false, nat_lt, List, [], Some, codes, encode_utf8_all, unsigned_abs}
+use Rattle.std.specs.Prelude.{ℕ, ◌-◌, ◌^◌, ◌≡◌, Bool, true, false, nat_lt, List, [], Some, codes, encode_utf8_all, unsigned_abs}
 use Rattle.std.specs.Fmt.{signed_decimal}
 use Rattle.vtl_decimal.specs.Settings.{Settings}
 use Rattle.vtl_decimal.specs.Written.{number_text}

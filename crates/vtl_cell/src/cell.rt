@@ -1,14 +1,16 @@
 // A value, its order and its copies.
-ghost use Rattle.std.specs.Prelude.{◌≡◌, IfOk, List, true};
+ghost use Rattle.std.specs.Prelude.{◌≡◌, ℕ, IfOk, List, true};
 ghost use Rattle.std.specs.Cmp.{IsTotalOrder};
 ghost use Rattle.vtl_lists.specs.Sorting.{IsOrder, le_by};
 ghost use Rattle.vtl_cell.specs.Equal.{same_cell};
+ghost use Rattle.vtl_cell.specs.Held.{IsHeld};
 ghost use Rattle.vtl_cell.specs.Order.{cell_cmp};
 ghost use Rattle.vtl_cell.specs.Row.{row_cmp};
-ghost use Rattle.vtl_cell.specs.Sorted.{Key, by_keys};
+ghost use Rattle.vtl_cell.specs.Sorted.{Key, by_keys, window_cmp};
 
 use std::alloc::AllocError;
 use std::cmp::Ordering;
+use std::hash::Hash;
 use vtl_decimal::Dec;
 use vtl_text::Txt;
 use vtl_time::{Day, Period};
@@ -35,6 +37,9 @@ pub enum Cell {
     /// A value of [`Kind::Period`](crate::Kind).
     Period(Period),
 }
+
+// Most of the memory that is taken is rows of cells.
+const _: () = prove!(size_of::<Cell>() <= 32);
 
 /// An equal cell, which shares its text. It fails only for want of memory.
 pub fn clone_cell(c: &Cell) -> Result<Cell, AllocError>
@@ -66,7 +71,7 @@ pub fn compare(a: &Cell, b: &Cell) -> Ordering
 }
 
 /// The order of cells and of rows is total, ties are equal, and equality is equality. The order by listed keys is total,
-/// and rows may tie.
+/// and rows may tie; with whole rows last they do not.
 pub fn order_is_lawful()
     ensures cells { IsTotalOrder cell_cmp }
     ensures ties { (a b : Cell) → cell_cmp a b ≡ Ordering.Equal → a ≡ b }
@@ -74,6 +79,10 @@ pub fn order_is_lawful()
     ensures reflexive { (a : Cell) → same_cell a a ≡ true }
     ensures rows { IsOrder (le_by row_cmp) }
     ensures keys { (listed : List Key) → IsTotalOrder (by_keys listed) }
+    ensures windows { (listed : List Key) (places : List ℕ) → IsOrder (le_by (window_cmp listed places)) }
 {}
 
-const _: () = prove!(size_of::<Cell>() <= 32);
+/// Cells that feed a hasher alike are equal, so that the integer 1 and the number 1 are told apart.
+pub fn hashes_tell_apart()
+    ensures { (a b : Cell) → IsHeld a → IsHeld b → ⟦<Cell as Hash>⟧.hash_input a ≡ ⟦<Cell as Hash>⟧.hash_input b → a ≡ b }
+{}

@@ -1,5 +1,6 @@
 // The texts that values are written as.
 ghost use Rattle.std.specs.Prelude.{◌≡◌, ◌++◌, OnOk, OnErr};
+ghost use Rattle.vtl_cell.specs.Held.{IsHeld};
 ghost use Rattle.vtl_cell.specs.Writing.{text_of, ReadsBack};
 
 use crate::Cell;
@@ -11,11 +12,13 @@ use vtl_time::{write_day, write_period};
 /// digits of an integer, a number as `vtl_decimal::write` writes it, a text as it is, a day as `YYYY-MM-DD` and a
 /// period as `write_period` writes it.
 ///
-/// It fails only for want of memory, and then leaves `out` as it was.
+/// It fails only for want of memory, and then leaves `out` as it was. The clause `held` says which cells there are: those
+/// whose parts are in the range of their types.
 pub fn write_cell(c: &Cell, p: &Profile, out: &mut Vec<u8>) -> Result<(), AllocError>
     ensures ok { OnOk result (out.new.items ≡ out.old.items ++ text_of p.now c.now) }
     ensures err { OnErr result (out.new.items ≡ out.old.items) }
     ensures reads_back { ReadsBack p.now c.now }
+    ensures held { IsHeld c.now }
 {
     match c {
         Cell::Null => Ok(()),

@@ -1,5 +1,5 @@
 // Days of the calendar.
-ghost use Rattle.std.specs.Prelude.{◌≡◌, ◌+◌, ◌≤◌, ◌++◌, Some, OnOk, OnErr, IfSome, chars};
+ghost use Rattle.std.specs.Prelude.{◌≡◌, ◌+◌, ◌≤◌, ◌++◌, Some, OnOk, OnErr, IfSome, IsTrue, chars};
 
 use crate::numerals::{last_digit, number};
 use jiff::civil::Date;
@@ -70,7 +70,7 @@ impl Ord for Day {
     }
 }
 
-ghost use Rattle.vtl_time.specs.Days.{day_of, day_cmp, day_text, read_day_of};
+ghost use Rattle.vtl_time.specs.Days.{day_of, day_cmp, day_text, is_calendar_day, read_day_of};
 
 /// The day that `t` spells as `YYYY-MM-DD`: exactly ten bytes, and a day that the calendar has. `None` for any other text.
 pub fn read_day(t: &str) -> Option<Day>
@@ -114,6 +114,7 @@ pub fn write_day(d: Day, out: &mut Vec<u8>) -> Result<(), AllocError>
     ensures ok { OnOk result (out.new.items ≡ out.old.items ++ day_text d) }
     ensures err { OnErr result (out.new.items ≡ out.old.items) }
     ensures reads_back { read_day_of (day_text d) ≡ Some d }
+    ensures valid { IsTrue (is_calendar_day d.year d.month d.day) }
 {
     let (month, day) = (u16::from(d.month), u16::from(d.day));
     out.extend_from_slice(&[

@@ -1,5 +1,5 @@
 // Periods of time.
-ghost use Rattle.std.specs.Prelude.{◌≡◌, [], ◌∷◌, ◌+◌, ◌*◌, ◌≤◌, ◌<◌, ◌++◌, Some, OnOk, OnErr, IfSome, chars, pos, neg_ℤ};
+ghost use Rattle.std.specs.Prelude.{◌≡◌, [], ◌∷◌, ◌+◌, ◌*◌, ◌≤◌, ◌<◌, ◌++◌, Some, OnOk, OnErr, IfSome, IsTrue, chars, pos, neg_ℤ};
 ghost use Rattle.std.specs.Ordering.{int_cmp};
 ghost use Rattle.vtl_time.specs.Numerals.{two_digits, four_digits};
 
@@ -116,7 +116,7 @@ impl Ord for Period {
     }
 }
 
-ghost use Rattle.vtl_time.specs.Periods.{Spells, period_of, period_cmp, period_text, numbered_part_of, part_of, rest_of, read_period_of, shift_of};
+ghost use Rattle.vtl_time.specs.Periods.{Spells, is_year_part, period_of, period_cmp, period_text, numbered_part_of, part_of, rest_of, read_period_of, shift_of};
 
 /// The period that `t` spells: `YYYY-A1`, `YYYY-S1` to `S2`, `YYYY-Q1` to `Q4`, `YYYY-M01` to `M12`, or as `YYYY` a year and as `YYYY-01` to `YYYY-12` a month.
 /// `None` for any other text.
@@ -187,8 +187,7 @@ fn make_period(frequency: Frequency, year: u16, part: u16) -> Option<Period>
 }
 
 impl Period {
-    ghost use Rattle.std.specs.Prelude.{IsTrue};
-    ghost use Rattle.vtl_time.specs.Periods.{parts_of, index_of, period_at, is_year_part};
+    ghost use Rattle.vtl_time.specs.Periods.{parts_of, index_of, period_at};
 
     /// Whether it is a year, a half, a quarter or a month.
     pub fn frequency(self) -> Frequency
@@ -239,6 +238,7 @@ pub fn write_period(p: Period, out: &mut Vec<u8>) -> Result<(), AllocError>
     ensures ok { OnOk result (out.new.items ≡ out.old.items ++ period_text p) }
     ensures err { OnErr result (out.new.items ≡ out.old.items) }
     ensures reads_back { read_period_of (period_text p) ≡ Some p }
+    ensures valid { IsTrue (is_year_part p.frequency p.year p.part) }
 {
     match p.frequency {
         Frequency::Annual => out.extend_from_slice(&short_text(p.year, b'A', p.part)),

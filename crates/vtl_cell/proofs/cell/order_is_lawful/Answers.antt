@@ -1,5 +1,5 @@
 use Rattle.vtl_cell.proofs.Cells.{same_cell-is, same_cell-refl}
-use Rattle.vtl_cell.proofs.Keys.{by_keys_total}
+use Rattle.vtl_cell.proofs.Keys.{by_keys_total, window_order}
 use Rattle.vtl_cell.proofs.Orders.{cell_cmp_total, cell_cmp-ties}
 use Rattle.vtl_cell.proofs.Rows.{row_order}
 use Rattle.vtl_cell.proofs.cell.order_is_lawful.Goals as goal
@@ -21,3 +21,6 @@ returns-clause-rows c = row_order
 
 pub returns-clause-keys : goal.returns-clause-keys
 returns-clause-keys c = by_keys_total
+
+pub returns-clause-windows : goal.returns-clause-windows
+returns-clause-windows c = window_order
