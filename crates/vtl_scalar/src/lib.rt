@@ -12,3 +12,6 @@ mod texts;
 
 pub use error::ScalarErr;
 pub use operators::apply;
+
+#[cfg(test)]
+mod tests;
