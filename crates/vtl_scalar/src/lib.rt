@@ -5,12 +5,14 @@ mod arithmetic;
 mod choice;
 mod comparison;
 mod error;
+mod laws;
 mod logic;
 mod operands;
 mod operators;
 mod texts;
 
 pub use error::ScalarErr;
+pub use laws::{integers_are_numbers, other_operators_have_no_fault};
 pub use operators::apply;
 
 #[cfg(test)]

@@ -1,0 +1,21 @@
+// Laws of the table of scalar operators.
+ghost use Rattle.std.specs.Prelude.{◌≡◌, ◌-◌, ◌^◌, ◌<◌, ◌≤◌, ℤ, List, false, unsigned_abs, Ok, IsOk};
+ghost use Rattle.std.specs.List.{AllByRecursion};
+ghost use Rattle.vtl_cell.specs.ScalarArithmetic.{as_number, units};
+ghost use Rattle.vtl_cell.specs.Scalars.{scalar_of};
+ghost use Rattle.vtl_cell.specs.declared.cell.Cell.{Cell};
+ghost use Rattle.vtl_cell.specs.declared.operator.ScalarOp.{ScalarOp};
+ghost use Rattle.vtl_decimal.specs.Settings.{Settings};
+ghost use Rattle.vtl_scalar.specs.Profiles.{IsOfProfile, may_fault};
+
+/// An integer of the profile stands for a number without a fault.
+#[tactic(auto, using(crate::proofs::FaultLemmas::integer_is_a_number))]
+pub fn integers_are_numbers()
+    ensures { (p : Settings) (n : ℤ) → p.scale ≤ 9 → unsigned_abs n < 10 ^ (18 - p.scale) → as_number p n ≡ Ok (units p n) }
+{}
+
+/// At operands of the profile only `+`, `-`, `*`, `/`, `floor`, `ceil`, `round`, `instr` and `length` may have a fault.
+#[tactic(auto, using(crate::proofs::FaultLemmas::scalar_is_ok))]
+pub fn other_operators_have_no_fault()
+    ensures { (p : Settings) (op : ScalarOp) (args : List Cell) → p.scale ≤ 9 → may_fault op ≡ false → AllByRecursion (IsOfProfile p) args → IsOk (scalar_of p op args) }
+{}
