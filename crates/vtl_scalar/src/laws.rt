@@ -1,11 +1,15 @@
 // Laws of the table of scalar operators.
-ghost use Rattle.std.specs.Prelude.{◌≡◌, ◌-◌, ◌^◌, ◌<◌, ◌≤◌, ℤ, List, false, unsigned_abs, Ok, IsOk};
+ghost use Rattle.std.specs.Prelude.{◌≡◌, ◌-◌, ◌^◌, ◌<◌, ◌≤◌, ℤ, List, map, false, unsigned_abs, Ok, Some, true, IsOk};
 ghost use Rattle.std.specs.List.{AllByRecursion};
+ghost use Rattle.vtl_cell.specs.Kinds.{kind_of};
 ghost use Rattle.vtl_cell.specs.ScalarArithmetic.{as_number, units};
 ghost use Rattle.vtl_cell.specs.Scalars.{scalar_of};
 ghost use Rattle.vtl_cell.specs.declared.cell.Cell.{Cell};
 ghost use Rattle.vtl_cell.specs.declared.operator.ScalarOp.{ScalarOp};
 ghost use Rattle.vtl_decimal.specs.Settings.{Settings};
+ghost use Rattle.vtl_cell.specs.ScalarKinds.{meet, kinds_of};
+ghost use Rattle.vtl_cell.specs.declared.kind.Kind.{Kind};
+ghost use Rattle.vtl_scalar.specs.KindLaws.{HasKind};
 ghost use Rattle.vtl_scalar.specs.Profiles.{IsOfProfile, may_fault};
 
 /// An integer of the profile stands for a number without a fault.
@@ -18,4 +22,11 @@ pub fn integers_are_numbers()
 #[tactic(auto, using(crate::proofs::FaultLemmas::scalar_is_ok))]
 pub fn other_operators_have_no_fault()
     ensures { (p : Settings) (op : ScalarOp) (args : List Cell) → p.scale ≤ 9 → may_fault op ≡ false → AllByRecursion (IsOfProfile p) args → IsOk (scalar_of p op args) }
+{}
+
+/// A value is of the kind that the operator gives for the kinds of its operands, where each operand is of its kind: null,
+/// a value of the kind, or an integer where the kind is number.
+#[tactic(auto, using(crate::proofs::ValueKindLemmas::value_is_of_kind))]
+pub fn values_are_of_their_kind()
+    ensures { (p : Settings) (op : ScalarOp) (kinds : List Kind) (args : List Cell) (kind : Kind) → kinds_of op kinds ≡ Some kind → meet kinds (map kind_of args) ≡ true → HasKind kind (scalar_of p op args) }
 {}
