@@ -1,6 +1,6 @@
 -- The operators that have no fault.
-use Rattle.std.proofs.Common.{ℕ, ◌-◌, ◌^◌, ◌<◌, ◌≤◌, ◌≡◌, Bool, true, false, ℤ, pos, neg_ℤ, List, [], ◌∷◌, Result, Ok, Err, Option, Some, None, refl, arith}
-use Rattle.std.specs.Prelude.{unsigned_abs, IsOk, is_some}
+use Rattle.std.proofs.Common.{ℕ, ◌-◌, ◌^◌, ◌<◌, ◌≤◌, ◌≡◌, true, false, ℤ, pos, neg_ℤ, List, [], ◌∷◌, Ok, Err, Option, Some, None, refl, arith}
+use Rattle.std.specs.Prelude.{unsigned_abs, IsOk}
 use Rattle.std.specs.List.{AllByRecursion}
 use Rattle.std.proofs.lemmas.Int.{ints}
 use Rattle.vtl_decimal.specs.Settings.{Settings}

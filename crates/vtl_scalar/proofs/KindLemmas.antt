@@ -1,6 +1,6 @@
 -- Which kinds stand for which, and the kind that operands share.
 use Rattle.std.proofs.Common.{◌≡◌, Bool, true, false, List, [], ◌∷◌, Option, Some, None, ◌⊎◌, inl, inr, refl, subst}
-use Rattle.std.specs.Prelude.{◌&&◌, if◌then◌else◌, option_and_then}
+use Rattle.std.specs.Prelude.{◌&&◌, if◌then◌else◌}
 use Rattle.std.specs.Option.{option_map}
 use Rattle.vtl_cell.specs.ScalarKinds.{meets, meet, to, only, first_met, shared_kind, common_kind, truth_of_alike}
 use Rattle.vtl_cell.specs.declared.kind.Kind.{Kind}

@@ -1,5 +1,5 @@
 -- The values of the operators are of the kinds that they give.
-use Rattle.std.proofs.Common.{ℕ, ◌≡◌, Bool, true, false, ℤ, pos, neg_ℤ, List, [], ◌∷◌, ◌++◌, map, Result, Ok, Err, Option, Some, None, ◌⊎◌, inl, inr, refl, sym, subst}
+use Rattle.std.proofs.Common.{ℕ, ◌≡◌, Bool, true, false, ℤ, pos, neg_ℤ, List, [], ◌∷◌, map, Result, Ok, Err, Option, Some, None, inl, inr, refl, subst}
 use Rattle.std.specs.Prelude.{unsigned_abs, is_some, ◌&&◌, if◌then◌else◌}
 use Rattle.vtl_decimal.specs.declared.number.Fault.{Fault as DecimalFault}
 use Rattle.vtl_decimal.specs.declared.settings.Rounding.TheVariants.{Down}
@@ -11,7 +11,7 @@ use Rattle.std.specs.Prelude.{◌^◌, ◌+ℤ◌, ◌-ℤ◌, ◌*ℤ◌, lengt
 use Rattle.vtl_text.specs.Texts.{instr_of, trim_of, ltrim_of, rtrim_of}
 use Rattle.vtl_cell.specs.Kinds.{kind_of}
 use Rattle.vtl_cell.specs.Outcome.{Outcome, after}
-use Rattle.vtl_cell.specs.ScalarArithmetic.{Pair, integers, numbers, neither, pair_of, as_number, number_in, on_number, at_digits, digits_in, integer, number, units, identity_of, negation_of, absolute_of, sum_of, difference_of, product_of, quotient_of, remainder_of, floor_of, ceil_of, rounded_of, truncated_of}
+use Rattle.vtl_cell.specs.ScalarArithmetic.{Pair, integers, numbers, neither, pair_of, as_number, number_in, on_number, at_digits, digits_in, integer, number, units, identity_of, negation_of, absolute_of, sum_of, difference_of, product_of, quotient_of, remainder_of}
 use Rattle.vtl_cell.specs.ScalarChoice.{truth_in, on_truth, on_truths, beside, value_or, chosen_of}
 use Rattle.vtl_cell.specs.ScalarComparison.{truth, compared, between_of, membership_of}
 use Rattle.vtl_cell.specs.Logic.{not_of, and_of, or_of, xor_of}

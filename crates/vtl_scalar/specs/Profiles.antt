@@ -1,5 +1,5 @@
--- What the laws of the operators speak of.
-use Rattle.std.specs.Prelude.{ℕ, ◌-◌, ◌^◌, ◌<◌, Bool, true, false, unsigned_abs}
+-- What the laws of the operators speak of: profiles, and the operators that a law is about.
+use Rattle.std.specs.Prelude.{◌-◌, ◌^◌, ◌<◌, Bool, true, false, unsigned_abs}
 use Rattle.vtl_decimal.specs.Settings.{Settings}
 use Rattle.vtl_cell.specs.declared.cell.Cell.{Cell}
 use Rattle.vtl_cell.specs.declared.cell.Cell.TheVariants as c
@@ -24,3 +24,12 @@ may_fault op.Round = true
 may_fault op.Position = true
 may_fault op.Length = true
 may_fault other = false
+
+-- whether an operator is null where an operand is null
+abbrev pub is_strict : ScalarOp → Bool
+is_strict op.And = false
+is_strict op.Or = false
+is_strict op.IsNull = false
+is_strict op.ValueOr = false
+is_strict op.If = false
+is_strict other = true

@@ -12,7 +12,9 @@ mod operators;
 mod texts;
 
 pub use error::ScalarErr;
-pub use laws::{integers_are_numbers, other_operators_have_no_fault};
+pub use laws::{
+    integers_are_numbers, null_gives_null, other_operators_have_no_fault, values_are_of_their_kind,
+};
 pub use operators::apply;
 
 #[cfg(test)]
