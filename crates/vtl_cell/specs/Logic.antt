@@ -1,11 +1,12 @@
--- Logic of three values: true, false and null, which is None.
-use Rattle.std.specs.Prelude.{Bool, true, false, not, Option, Some, None}
+-- Logic with three values: true, false, and None for null, which may be either.
+use Rattle.std.specs.Prelude.{Bool, true, false, Option, Some, None}
 
 abbrev pub not_of : Option Bool → Option Bool
+not_of (Some true) = Some false
+not_of (Some false) = Some true
 not_of None = None
-not_of (Some b) = Some (not b)
 
--- false where an operand is false, whatever the other is
+-- false where one side is false, whatever the other is
 abbrev pub and_of : Option Bool → Option Bool → Option Bool
 and_of (Some false) b = Some false
 and_of (Some true) b = b
@@ -13,7 +14,7 @@ and_of None (Some false) = Some false
 and_of None (Some true) = None
 and_of None None = None
 
--- true where an operand is true, whatever the other is
+-- true where one side is true, whatever the other is
 abbrev pub or_of : Option Bool → Option Bool → Option Bool
 or_of (Some true) b = Some true
 or_of (Some false) b = b
@@ -21,9 +22,8 @@ or_of None (Some true) = Some true
 or_of None (Some false) = None
 or_of None None = None
 
--- null where an operand is null
+-- null where one side is null
 abbrev pub xor_of : Option Bool → Option Bool → Option Bool
+xor_of (Some true) b = not_of b
+xor_of (Some false) b = b
 xor_of None b = None
-xor_of (Some a) None = None
-xor_of (Some true) (Some b) = Some (not b)
-xor_of (Some false) (Some b) = Some b

@@ -1,1 +1,6 @@
+pub mod FaultLemmas
+pub mod KindLemmas
+pub mod NullLemmas
+pub mod RemainderLemmas
 pub mod UnitLemmas
+pub mod ValueKindLemmas

@@ -1,2 +1,4 @@
 pub mod Answers
+pub mod KindLaws
 pub mod Operands
+pub mod Profiles

@@ -46,14 +46,12 @@ pub(crate) fn between(a: &Cell, x: &Cell, y: &Cell, p: &Profile) -> Option<bool>
 fn member(a: &Cell, members: &[Cell], p: &Profile) -> Option<bool>
     ensures { result ≡ member_of p.now a.now members.now }
 {
-    match members {
-        [] => Some(false),
-        [x, others @ ..] => {
-            let is_this = order(a, x, p)?.is_eq();
-            let is_other = member(a, others, p)?;
-            Some(is_this || is_other)
-        }
+    let mut found = false;
+    for x in members {
+        let is_this = order(a, x, p)?.is_eq();
+        found = is_this || found;
     }
+    Some(found)
 }
 
 // Whether the first operand is one of the others.

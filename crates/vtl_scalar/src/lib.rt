@@ -6,6 +6,7 @@ mod choice;
 mod comparison;
 mod conversion;
 mod error;
+mod laws;
 mod logic;
 mod operands;
 mod operators;
@@ -13,4 +14,10 @@ mod texts;
 
 pub use conversion::to_kind;
 pub use error::ScalarErr;
+pub use laws::{
+    integers_are_numbers, null_gives_null, other_operators_have_no_fault, values_are_of_their_kind,
+};
 pub use operators::apply;
+
+#[cfg(test)]
+mod tests;
