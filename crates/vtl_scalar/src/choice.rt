@@ -8,9 +8,8 @@ ghost use Rattle.vtl_scalar.specs.Answers.{Answers};
 
 use crate::comparison::truth;
 use crate::error::ScalarErr;
-use crate::logic::{and3, not3, or3, xor3};
 use crate::operands::as_number;
-use vtl_cell::{Cell, clone_cell};
+use vtl_cell::{Cell, and3, clone_cell, not3, or3, xor3};
 use vtl_decimal::Profile;
 
 // A boolean or null, where the operand is one of these.

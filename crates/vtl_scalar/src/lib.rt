@@ -7,7 +7,6 @@ mod comparison;
 mod conversion;
 mod error;
 mod laws;
-mod logic;
 mod operands;
 mod operators;
 mod texts;

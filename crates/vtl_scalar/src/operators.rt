@@ -6,11 +6,10 @@ ghost use Rattle.vtl_scalar.specs.Answers.{Answers};
 
 use crate::comparison::{between, membership, order, truth};
 use crate::error::ScalarErr;
-use crate::logic::not3;
 use crate::operands::alike;
 use crate::{arithmetic, choice, texts};
 use std::alloc::Global;
-use vtl_cell::{Cell, ScalarOp};
+use vtl_cell::{Cell, ScalarOp, not3};
 use vtl_decimal::{Fault, Profile};
 
 /// The value of an operator at its operands, by the table of scalar operators.
