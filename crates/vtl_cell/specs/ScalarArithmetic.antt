@@ -1,33 +1,23 @@
 -- The values of the scalar operators on integers and numbers. A number is the whole k of its units.
-use Rattle.std.specs.Prelude.{◌^◌, ◌&&◌, if◌then◌else◌, ℤ, pos, negsuc, neg_ℤ, ◌+ℤ◌, ◌-ℤ◌, ◌*ℤ◌, unsigned_abs, Option, Some, None, Result, Ok, Err}
+use Rattle.std.specs.Prelude.{◌^◌, ◌&&◌, if◌then◌else◌, ℤ, pos, negsuc, neg_ℤ, ◌+ℤ◌, ◌-ℤ◌, ◌*ℤ◌, unsigned_abs, Option, Some, None, Ok, Err}
 use Rattle.std.specs.Int.RustNames.{int_le}
-use Rattle.vtl_decimal.specs.declared.number.Fault.{Fault as DecimalFault}
-use Rattle.vtl_decimal.specs.declared.number.Fault.TheVariants as decimal
 use Rattle.vtl_decimal.specs.declared.settings.Rounding.TheVariants.{Down}
 use Rattle.vtl_decimal.specs.Settings.{Settings}
 use Rattle.vtl_decimal.specs.Range.{fit_number, fit_integer}
 use Rattle.vtl_decimal.specs.Rounding.{floor_quotient, ceil_quotient}
 use Rattle.vtl_decimal.specs.Operators.{product, quotient, remainder, rounded_at}
-use Rattle.vtl_cell.specs.Outcome.{Fault, DivZero, Range, Outcome, after}
+use Rattle.vtl_cell.specs.Outcome.{Outcome, after}
 use Rattle.vtl_cell.specs.declared.cell.Cell.{Cell}
 use Rattle.vtl_cell.specs.declared.cell.Cell.TheVariants as c
 
-abbrev pub fault_of : DecimalFault → Fault
-fault_of decimal.DivZero = DivZero
-fault_of decimal.Range = Range
-
--- what an operation on decimal numbers answered
-abbrev pub outcome_of : {A : Type 0} → Result A DecimalFault → Outcome A
-outcome_of (Ok x) = Ok x
-outcome_of (Err e) = Err (fault_of e)
-
-abbrev pub number : Result ℤ DecimalFault → Outcome Cell
+-- the number, or the fault of the operation that gives it
+abbrev pub number : Outcome ℤ → Outcome Cell
 number (Ok k) = Ok (c.Num k)
-number (Err e) = Err (fault_of e)
+number (Err e) = Err e
 
-abbrev pub integer : Result ℤ DecimalFault → Outcome Cell
+abbrev pub integer : Outcome ℤ → Outcome Cell
 integer (Ok n) = Ok (c.Int n)
-integer (Err e) = Err (fault_of e)
+integer (Err e) = Err e
 
 -- an integer in units of the number that equals it
 abbrev pub units : Settings → ℤ → ℤ
@@ -35,7 +25,7 @@ units p n = n *ℤ pos (10 ^ p.scale)
 
 -- the number that equals an integer
 abbrev pub as_number : Settings → ℤ → Outcome ℤ
-as_number p n = outcome_of (fit_number (units p n))
+as_number p n = fit_number (units p n)
 
 -- the number that an operand stands for, where it is a number or an integer
 abbrev pub number_in : Settings → Cell → Outcome (Option ℤ)

@@ -1,7 +1,6 @@
 // The operators on integers and numbers. None of them takes memory.
 ghost use Rattle.std.specs.Prelude.{◌≡◌};
 ghost use Rattle.vtl_cell.specs.ScalarArithmetic as row;
-ghost use Rattle.vtl_cell.specs.ScalarArithmetic.{outcome_of};
 ghost use Rattle.vtl_decimal.specs.Operators.{remainder};
 ghost use Rattle.vtl_decimal.specs.Range.{fit_integer};
 ghost use Rattle.vtl_scalar.specs.Operands.{pair_view};
@@ -12,13 +11,13 @@ use vtl_decimal::{Dec, Fault, Profile, whole};
 
 // An integer of the profile, of a whole number.
 fn integer(n: i128, p: &Profile) -> Result<Cell, Fault>
-    ensures { outcome_of result ≡ row.integer (fit_integer p.now.scale n) }
+    ensures { result ≡ row.integer (fit_integer p.now.scale n) }
 {
     Ok(Cell::Int(whole(n, p)?))
 }
 
 fn number(k: Result<Dec, Fault>) -> Result<Cell, Fault>
-    ensures { outcome_of result ≡ row.number k }
+    ensures { result ≡ row.number k }
 {
     Ok(Cell::Num(k?))
 }
@@ -34,7 +33,7 @@ pub(crate) fn identity(a: &Cell) -> Cell
 }
 
 pub(crate) fn negation(a: &Cell, p: &Profile) -> Result<Cell, Fault>
-    ensures { outcome_of result ≡ row.negation_of p.now a.now }
+    ensures { result ≡ row.negation_of p.now a.now }
 {
     match a {
         Cell::Int(n) => integer(-i128::from(*n), p),
@@ -44,7 +43,7 @@ pub(crate) fn negation(a: &Cell, p: &Profile) -> Result<Cell, Fault>
 }
 
 pub(crate) fn absolute(a: &Cell, p: &Profile) -> Result<Cell, Fault>
-    ensures { outcome_of result ≡ row.absolute_of p.now a.now }
+    ensures { result ≡ row.absolute_of p.now a.now }
 {
     match a {
         Cell::Int(n) => integer(i128::from(n.unsigned_abs()), p),
@@ -54,7 +53,7 @@ pub(crate) fn absolute(a: &Cell, p: &Profile) -> Result<Cell, Fault>
 }
 
 pub(crate) fn sum(operands: Pair, p: &Profile) -> Result<Cell, Fault>
-    ensures { outcome_of result ≡ row.sum_of p.now (pair_view operands) }
+    ensures { result ≡ row.sum_of p.now (pair_view operands) }
 {
     match operands {
         Pair::Integers(a, b) => integer(i128::from(a) + i128::from(b), p),
@@ -64,7 +63,7 @@ pub(crate) fn sum(operands: Pair, p: &Profile) -> Result<Cell, Fault>
 }
 
 pub(crate) fn difference(operands: Pair, p: &Profile) -> Result<Cell, Fault>
-    ensures { outcome_of result ≡ row.difference_of p.now (pair_view operands) }
+    ensures { result ≡ row.difference_of p.now (pair_view operands) }
 {
     match operands {
         Pair::Integers(a, b) => integer(i128::from(a) - i128::from(b), p),
@@ -74,7 +73,7 @@ pub(crate) fn difference(operands: Pair, p: &Profile) -> Result<Cell, Fault>
 }
 
 pub(crate) fn product(operands: Pair, p: &Profile) -> Result<Cell, Fault>
-    ensures { outcome_of result ≡ row.product_of p.now (pair_view operands) }
+    ensures { result ≡ row.product_of p.now (pair_view operands) }
 {
     match operands {
         Pair::Integers(a, b) => integer(i128::from(a) * i128::from(b), p),
@@ -84,7 +83,7 @@ pub(crate) fn product(operands: Pair, p: &Profile) -> Result<Cell, Fault>
 }
 
 pub(crate) fn quotient(operands: Pair, p: &Profile) -> Result<Cell, Fault>
-    ensures { outcome_of result ≡ row.quotient_of p.now (pair_view operands) }
+    ensures { result ≡ row.quotient_of p.now (pair_view operands) }
 {
     match operands {
         Pair::Integers(a, b) => number(vtl_decimal::div(as_number(a, p)?, as_number(b, p)?, p)),
@@ -108,7 +107,7 @@ fn rest(a: i64, b: i64) -> i128
 }
 
 pub(crate) fn remainder(operands: Pair, p: &Profile) -> Result<Cell, Fault>
-    ensures { outcome_of result ≡ row.remainder_of p.now (pair_view operands) }
+    ensures { result ≡ row.remainder_of p.now (pair_view operands) }
 {
     match operands {
         Pair::Integers(a, b) => integer(rest(a, b), p),
@@ -118,7 +117,7 @@ pub(crate) fn remainder(operands: Pair, p: &Profile) -> Result<Cell, Fault>
 }
 
 pub(crate) fn floor(a: &Cell, p: &Profile) -> Result<Cell, Fault>
-    ensures { outcome_of result ≡ row.floor_of p.now a.now }
+    ensures { result ≡ row.floor_of p.now a.now }
 {
     match number_in(a, p)? {
         Some(k) => Ok(Cell::Int(vtl_decimal::floor(k, p)?)),
@@ -127,7 +126,7 @@ pub(crate) fn floor(a: &Cell, p: &Profile) -> Result<Cell, Fault>
 }
 
 pub(crate) fn ceil(a: &Cell, p: &Profile) -> Result<Cell, Fault>
-    ensures { outcome_of result ≡ row.ceil_of p.now a.now }
+    ensures { result ≡ row.ceil_of p.now a.now }
 {
     match number_in(a, p)? {
         Some(k) => Ok(Cell::Int(vtl_decimal::ceil(k, p)?)),
@@ -136,7 +135,7 @@ pub(crate) fn ceil(a: &Cell, p: &Profile) -> Result<Cell, Fault>
 }
 
 pub(crate) fn rounded(a: &Cell, d: &Cell, p: &Profile) -> Result<Cell, Fault>
-    ensures { outcome_of result ≡ row.rounded_of p.now a.now d.now }
+    ensures { result ≡ row.rounded_of p.now a.now d.now }
 {
     let Some(digits) = digits_in(d) else {
         return Ok(Cell::Null);
@@ -148,7 +147,7 @@ pub(crate) fn rounded(a: &Cell, d: &Cell, p: &Profile) -> Result<Cell, Fault>
 }
 
 pub(crate) fn truncated(a: &Cell, d: &Cell, p: &Profile) -> Result<Cell, Fault>
-    ensures { outcome_of result ≡ row.truncated_of p.now a.now d.now }
+    ensures { result ≡ row.truncated_of p.now a.now d.now }
 {
     let Some(digits) = digits_in(d) else {
         return Ok(Cell::Null);

@@ -1,6 +1,6 @@
 // Operands that are integers or numbers.
 ghost use Rattle.std.specs.Prelude.{◌≡◌, ◌<◌, ◌^◌, unsigned_abs};
-ghost use Rattle.vtl_cell.specs.ScalarArithmetic.{as_number, digits_in, number_in, outcome_of, pair_of, units};
+ghost use Rattle.vtl_cell.specs.ScalarArithmetic.{as_number, digits_in, number_in, pair_of, units};
 ghost use Rattle.vtl_scalar.specs.Operands.{pair_outcome};
 
 use vtl_cell::Cell;
@@ -24,7 +24,7 @@ pub(crate) fn units(n: i64, p: &Profile) -> i128
 
 // The number that equals an integer.
 pub(crate) fn as_number(n: i64, p: &Profile) -> Result<Dec, Fault>
-    ensures { outcome_of result ≡ as_number p.now n }
+    ensures { result ≡ as_number p.now n }
 {
     match i64::try_from(units(n, p)) {
         Ok(k) => Dec::from_k(k).ok_or(Fault::Range),
@@ -34,7 +34,7 @@ pub(crate) fn as_number(n: i64, p: &Profile) -> Result<Dec, Fault>
 
 // The number that an operand stands for.
 pub(crate) fn number_in(a: &Cell, p: &Profile) -> Result<Option<Dec>, Fault>
-    ensures { outcome_of result ≡ number_in p.now a.now }
+    ensures { result ≡ number_in p.now a.now }
 {
     match a {
         Cell::Int(n) => Ok(Some(as_number(*n, p)?)),

@@ -1,6 +1,5 @@
 // The operators by the number of their operands.
 ghost use Rattle.std.specs.Prelude.{◌≡◌};
-ghost use Rattle.vtl_cell.specs.ScalarArithmetic.{outcome_of};
 ghost use Rattle.vtl_cell.specs.Scalars.{unary_of, binary_of, ternary_of, by_number_of_operands, scalar_of};
 ghost use Rattle.vtl_scalar.specs.Answers.{Answers};
 
@@ -48,7 +47,7 @@ fn by_number_of_operands(
 
 // What an operator answers that takes no memory.
 fn answered(v: Result<Cell, Fault>) -> Result<Cell, ScalarErr>
-    ensures { Answers result (outcome_of v) }
+    ensures { Answers result v }
 {
     Ok(v?)
 }

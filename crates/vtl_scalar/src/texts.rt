@@ -1,6 +1,5 @@
 // The operators on texts.
 ghost use Rattle.std.specs.Prelude.{◌≡◌, ◌≤ℤ◌, pos, unsigned_abs, [], chars, IfOk};
-ghost use Rattle.vtl_cell.specs.ScalarArithmetic.{outcome_of};
 ghost use Rattle.vtl_cell.specs.ScalarTexts.{on_text, joined_of, count_in, part_from, part_within, replaced_of, position_of, length_of};
 ghost use Rattle.vtl_text.specs.Texts.{ltrim_of, rtrim_of, trim_of};
 
@@ -127,7 +126,7 @@ pub(crate) fn replaced(
 }
 
 pub(crate) fn position(a: &Cell, pattern: &Cell, p: &Profile) -> Result<Cell, Fault>
-    ensures { outcome_of result ≡ position_of p.now a.now pattern.now }
+    ensures { result ≡ position_of p.now a.now pattern.now }
 {
     match (a, pattern) {
         (Cell::Text(t), Cell::Text(pattern)) => Ok(Cell::Int(whole(
@@ -139,7 +138,7 @@ pub(crate) fn position(a: &Cell, pattern: &Cell, p: &Profile) -> Result<Cell, Fa
 }
 
 pub(crate) fn length(a: &Cell, p: &Profile) -> Result<Cell, Fault>
-    ensures { outcome_of result ≡ length_of p.now a.now }
+    ensures { result ≡ length_of p.now a.now }
 {
     match a {
         Cell::Text(t) => Ok(Cell::Int(whole(vtl_text::length(t.as_str()) as i128, p)?)),
