@@ -151,7 +151,11 @@ fn read_points<F: Files>(
 {
     let path = file_in(alloc, folder, name)?;
     let bytes = read_file(alloc, files, path.as_str(), CSV_LIMIT)?;
-    formed(alloc, path.as_str(), points(alloc, columns, keys, &bytes, profile))
+    formed(
+        alloc,
+        path.as_str(),
+        points(alloc, columns, keys, &bytes, profile),
+    )
 }
 
 // What is written: the text and the path of the result.
