@@ -1,1 +1,5 @@
+pub mod Gaps
 pub mod Keywords
+pub mod Lexed
+pub mod Spelling
+pub mod Tokens
