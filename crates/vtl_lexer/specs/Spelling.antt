@@ -54,6 +54,6 @@ Spells (k.Name word) bytes = (bytes ≡ word) × (is_name word ≡ true)
 Spells (k.Keyword keyword) bytes = slice_get reserved_words (place_of keyword) ≡ Some bytes
 Spells (k.QuotedName name) bytes = (inner : List ℕ) × (bytes ≡ quoted inner) × Lacks 39 inner × (name ≡ chars inner) × (is_component_name name ≡ true)
 Spells (k.Integer digits) bytes = (bytes ≡ digits) × IsDigits digits
-Spells (k.Decimal number) bytes = (bytes ≡ number) × ((whole : List ℕ) × (part : List ℕ) × (number ≡ whole ++ 46 ∷ part) × IsDigits whole × IsDigits part)
+Spells (k.Decimal number) bytes = (whole : List ℕ) × (part : List ℕ) × (bytes ≡ number) × (number ≡ whole ++ 46 ∷ part) × IsDigits whole × IsDigits part
 Spells (k.String text) bytes = (inner : List ℕ) × (bytes ≡ 34 ∷ (doubled inner ++ 34 ∷ [])) × (text ≡ chars inner)
 Spells (k.Sign sign) bytes = bytes ≡ spelling sign
