@@ -1,3 +1,5 @@
+pub mod GapLemmas
+pub mod LexedLemmas
 pub mod ListLemmas
 pub mod ReservedLemmas
 pub mod SpellingLemmas
