@@ -21,12 +21,12 @@ gap-some bytes rest (line_comment inner is lacks stops) e = cc (is, e)
 gap-some bytes rest (block_comment inner is none) e = cc (is, e)
 
 -- the second byte of a list
-abbrev second_of : List ℕ → ℕ
+abbrev pub second_of : List ℕ → ℕ
 second_of [] = 0
 second_of (first ∷ []) = 0
 second_of (first ∷ second ∷ rest) = second
 
-abbrev first_of : List ℕ → ℕ
+abbrev pub first_of : List ℕ → ℕ
 first_of [] = 0
 first_of (first ∷ rest) = first
 

@@ -1,12 +1,14 @@
 -- Reserved words and their places.
-use Rattle.std.proofs.Common.{◌≡◌, ◌≢◌, ◌<◌, ◌∷◌, ◌++◌, ◌∙◌, ◌&&◌, ◌||◌, [], ℕ, zero, suc, ◌+◌, List, option_map, arith, Bool, Option, Some, None, true, false, nat_eq, get_or, map, sym, ap, subst, refl, inl, inr}
+use Rattle.std.proofs.Common.{◌≡◌, ◌≢◌, ◌<◌, ◌∷◌, ◌++◌, ◌∙◌, ◌&&◌, ◌||◌, [], ℕ, zero, suc, ◌+◌, List, option_map, arith, ◌≤◌, not, cond, nat_lt, length, Bool, Option, Some, None, true, false, nat_eq, get_or, map, sym, ap, subst, refl, inl, inr}
 use lib.Utf8.{encode}
 use Rattle.std.specs.Cmp.Lexicographic.{pointwise}
-use Rattle.std.specs.List.{list_all, list_any, position, slice_get}
+use Rattle.std.specs.List.{list_all, list_any, position, position_or_len, slice_get}
 use Rattle.std.proofs.lemmas.Bool.{and_parts, cases_Bool, false≢true}
-use Rattle.std.proofs.lemmas.Option.{get_or_from_slice_get, slice_get-map}
+use Rattle.std.proofs.lemmas.Bool.Decides.{nat_tests}
+use Rattle.std.proofs.lemmas.List.Sums.{passes_at_first, prefix_len-le-length}
+use Rattle.std.proofs.lemmas.Option.{get_or_from_slice_get, slice_get-get_or, slice_get-map}
 use Rattle.std.proofs.lemmas.Slice.Eq.{bytes_eq-Decides}
-use Rattle.vtl_text.specs.Words.{is_reserved, is_word, reserved_words}
+use Rattle.vtl_text.specs.Words.{is_reserved, is_word, reserved_place, reserved_words}
 use Rattle.vtl_lexer.specs.Keywords.{place_of}
 use Rattle.vtl_lexer.specs.declared.keyword.TheConstants.{KEYWORDS}
 use Rattle.vtl_lexer.specs.declared.keyword.Keyword.{Keyword}
@@ -27,6 +29,10 @@ any-at p (y ∷ ys) (suc i) x pass e = by (p y) (any-at p ys i x pass e)
     by : (b : Bool) → list_any p ys ≡ true → (b || list_any p ys) ≡ true
     by true more = refl
     by false more = more
+
+reserved-count : length reserved_words ≡ 114
+unfolding reserved_words
+reserved-count = refl
 
 -- each reserved word is a word
 reserved-words : list_all is_word reserved_words ≡ true
@@ -79,3 +85,50 @@ one-keyword a b bytes e f =
     sym (place-found a) ∙ ap (λ w. position (λ v. pointwise nat_eq v w) reserved_words) (p ∙ sym q) ∙ place-found b in
     let places : place_of a ≡ place_of b = cc same in
     sym (keyword-placed a) ∙ ap (λ i. get_or KEYWORDS i k.Abs) places ∙ keyword-placed b
+
+-- what the place of a word tells
+position-none : {X : Type 0} (p : X → Bool) (xs : List X) → position_or_len p xs ≡ length xs → list_any p xs ≡ false
+position-none p [] e = refl
+position-none p (x ∷ xs) e = by (p x) refl e (position-none p xs)
+  where
+    by : (b : Bool) → p x ≡ b → cond (not b) (1 + position_or_len p xs) 0 ≡ suc (length xs) → (position_or_len p xs ≡ length xs → list_any p xs ≡ false) → list_any p (x ∷ xs) ≡ false
+    by true e' h more = absurd (omega arith)
+    by false e' h more = let lengths : position_or_len p xs ≡ length xs = omega arith in rw e' (more lengths)
+
+-- the two answers of `position`
+none-place : {X : Type 0} (p : X → Bool) (xs : List X) → position p xs ≡ None → position_or_len p xs ≡ length xs
+none-place p xs e = by (nat_lt (position_or_len p xs) (length xs)) refl e
+  where
+    by : (b : Bool) → nat_lt (position_or_len p xs) (length xs) ≡ b → cond {A = Option ℕ} b (Some (position_or_len p xs)) None ≡ None → position_or_len p xs ≡ length xs
+    by true e' h = absurd (cc h)
+    by false e' h =
+        let le = prefix_len-le-length (λ x. not (p x)) xs in
+        let ge : length xs ≤ position_or_len p xs = grind (arith, nat_tests, e') in
+        omega (arith, le, ge)
+
+some-place : {X : Type 0} (p : X → Bool) (xs : List X) (i : ℕ) (d : X) → position p xs ≡ Some i → (i < length xs) × (p (get_or xs i d) ≡ true)
+some-place p xs i d e = by (nat_lt (position_or_len p xs) (length xs)) refl e
+  where
+    by : (b : Bool) → nat_lt (position_or_len p xs) (length xs) ≡ b → cond {A = Option ℕ} b (Some (position_or_len p xs)) None ≡ Some i → (i < length xs) × (p (get_or xs i d) ≡ true)
+    by true e' h =
+        let lt : position_or_len p xs < length xs = grind (arith, nat_tests, e') in
+        let is : position_or_len p xs ≡ i = cc h in
+        (subst (λ n. n < length xs) is lt, subst (λ n. p (get_or xs n d) ≡ true) is (passes_at_first p xs d lt))
+    by false e' h = absurd (cc h)
+
+pub unplaced : (bytes : List ℕ) → reserved_place bytes ≡ None → is_reserved bytes ≡ false
+unfolding reserved_place is_reserved
+unplaced bytes e = position-none (λ w. pointwise nat_eq w bytes) reserved_words (none-place (λ w. pointwise nat_eq w bytes) reserved_words e)
+
+pub placed-below : (bytes : List ℕ) (i : ℕ) → reserved_place bytes ≡ Some i → i < 114
+unfolding reserved_place
+placed-below bytes i e = subst (λ n. i < n) reserved-count (some-place (λ w. pointwise nat_eq w bytes) reserved_words i [] e).0
+
+pub placed : (bytes : List ℕ) (i : ℕ) (d : Keyword) → reserved_place bytes ≡ Some i → slice_get reserved_words (place_of (get_or KEYWORDS i d)) ≡ Some bytes
+unfolding reserved_place
+placed bytes i d e =
+    let (lt, same) = some-place (λ w. pointwise nat_eq w bytes) reserved_words i [] e in
+    let lt' : i < length KEYWORDS = subst (λ n. i < n) reserved-count lt in
+    let place = keyword-at i (get_or KEYWORDS i d) lt' (slice_get-get_or KEYWORDS i d lt') in
+    let is : get_or reserved_words i [] ≡ bytes = (bytes_eq-Decides (get_or reserved_words i []) bytes).0 same in
+    ap (slice_get reserved_words) place ∙ slice_get-get_or reserved_words i [] lt ∙ ap Some is

@@ -9,9 +9,9 @@ use Rattle.vtl_lexer.specs.declared.token.Token.{Token}
 pub data Lexes : ℕ → List ℕ → List Token → Option ℕ → Type 0 where
   at_end : (at : ℕ) → Lexes at [] [] None
   behind_gap : (at : ℕ) (text bytes rest : List ℕ) (tokens : List Token) (bad : Option ℕ) → text ≡ bytes ++ rest → IsGap bytes rest
-    → Lexes (at + length bytes) rest tokens bad → Lexes at text tokens bad
+      → Lexes (at + length bytes) rest tokens bad → Lexes at text tokens bad
   behind_token : (at : ℕ) (text bytes rest : List ℕ) (token : Token) (tokens : List Token) (bad : Option ℕ) → text ≡ bytes ++ rest → IsToken token.kind bytes rest
-    → token.start ≡ at → token.end ≡ at + length bytes → Lexes (at + length bytes) rest tokens bad → Lexes at text (token ∷ tokens) bad
+      → token.start ≡ at → token.end ≡ at + length bytes → Lexes (at + length bytes) rest tokens bad → Lexes at text (token ∷ tokens) bad
   at_fault : (at : ℕ) (text : List ℕ) → text ≢ [] → NoGap text → NoToken text → Lexes at text [] (Some at)
 
 -- a mark EF BB BF at the start of a text is no part of it

@@ -1,6 +1,9 @@
+pub mod Found
 pub mod Gaps
 pub mod Keywords
+pub mod Leads
 pub mod Lexed
+pub mod Searches
 pub mod Signs
 pub mod Spelling
 pub mod Tokens

@@ -1,6 +1,9 @@
 // The words of the grammar.
-ghost use Rattle.std.specs.Prelude.{◌≡◌};
+ghost use Rattle.std.specs.Prelude.{◌≡◌, Some, false, chars, MatchOption, slice_get};
+ghost use Rattle.vtl_text.specs.Words.{is_reserved, reserved_words};
 ghost use Rattle.vtl_lexer.specs.Keywords.{place_of, same_keyword};
+
+use vtl_text::reserved_place;
 
 /// A reserved word.
 #[derive(Clone, Copy, Debug, PartialEq, Eq)]
@@ -365,4 +368,12 @@ pub fn is_same_keyword(a: Keyword, b: Keyword) -> bool
     ensures { result ≡ same_keyword a b }
 {
     place(a) == place(b)
+}
+
+/// The reserved word that `word` is, if it is one. Its letters are as the grammar writes them.
+pub fn keyword_of(word: &str) -> Option<Keyword>
+    ensures { MatchOption result (is_reserved (chars word.now) ≡ false)
+        (λ keyword. slice_get reserved_words (place_of keyword) ≡ Some (chars word.now)) }
+{
+    Some(KEYWORDS[reserved_place(word)?])
 }

@@ -83,3 +83,11 @@ pub enum Sign {
     /// `#`
     Hash,
 }
+
+// A token at the front of a text.
+#[derive(Drop)]
+pub(crate) struct Found {
+    pub(crate) kind: TokenKind,
+    // Its bytes.
+    pub(crate) size: usize,
+}

@@ -1,0 +1,48 @@
+// Signs.
+ghost use Rattle.std.specs.Prelude.{◌≡◌, ◌⊎◌};
+ghost use Rattle.vtl_lexer.specs.Found.{IsFoundIn};
+ghost use Rattle.vtl_lexer.specs.Leads.{lead_of};
+ghost use Rattle.vtl_lexer.specs.Signs.{sign_of_one, sign_of_two};
+
+use crate::Sign;
+use crate::lead::Lead;
+use crate::token::{Found, TokenKind};
+
+fn sign_of_two(first: u8, second: u8) -> Option<Sign>
+    ensures { result ≡ sign_of_two first second }
+{
+    match (first, second) {
+        (b':', b'=') => Some(Sign::Assign),
+        (b'<', b'-') => Some(Sign::Persist),
+        (b'<', b'>') => Some(Sign::NotEqual),
+        (b'<', b'=') => Some(Sign::LessOrEqual),
+        (b'>', b'=') => Some(Sign::GreaterOrEqual),
+        (b'|', b'|') => Some(Sign::Concat),
+        _ => None,
+    }
+}
+
+fn sign_of_one(byte: u8) -> Option<Sign>
+    ensures { result ≡ sign_of_one byte }
+{
+    match byte {
+        b'<' => Some(Sign::Less),
+        b'>' => Some(Sign::Greater),
+        b'=' => Some(Sign::Equal),
+        b'+' => Some(Sign::Plus),
+        b'-' => Some(Sign::Minus),
+        b'*' => Some(Sign::Star),
+        b'/' => Some(Sign::Slash),
+        b'(' => Some(Sign::OpenBracket),
+        b')' => Some(Sign::CloseBracket),
+        b'[' => Some(Sign::OpenSquare),
+        b']' => Some(Sign::CloseSquare),
+        b'{' => Some(Sign::OpenBrace),
+        b'}' => Some(Sign::CloseBrace),
+        b',' => Some(Sign::Comma),
+        b';' => Some(Sign::Semicolon),
+        b':' => Some(Sign::Colon),
+        b'#' => Some(Sign::Hash),
+        _ => None,
+    }
+}
