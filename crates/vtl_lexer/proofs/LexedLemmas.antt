@@ -8,7 +8,7 @@ use Rattle.vtl_lexer.specs.declared.token.Token.{Token}
 use Rattle.vtl_lexer.specs.declared.token.TokenKind.{TokenKind}
 use Rattle.vtl_lexer.proofs.GapLemmas.{gap-no_token, gap-some, one-gap}
 use Rattle.vtl_lexer.proofs.ListLemmas.{front-same}
-use Rattle.vtl_lexer.proofs.SpellingLemmas.{class_kind, front-class, one-kind, spelled-some}
+use Rattle.vtl_lexer.proofs.SpellingLemmas.{lead_kind, front-lead, one-kind, spelled-some}
 
 -- two tokens at the front of one text are one
 one-token : (a b : TokenKind) (bytes rest more behind : List ℕ) → bytes ++ rest ≡ more ++ behind → IsToken a bytes rest → IsToken b more behind
@@ -17,8 +17,8 @@ one-token a b bytes rest more behind e g h =
     let le = g.longest b more behind e h.spelled in
     let ge = h.longest a bytes rest (sym e) g.spelled in
     let same = front-same bytes more rest behind e (omega arith) in
-    let class : class_kind a ≡ class_kind b = sym (front-class a (bytes ++ rest) bytes rest refl g.spelled) ∙ front-class b (bytes ++ rest) more behind e h.spelled in
-    (one-kind a b bytes class g.spelled (subst (Spells b) (sym same.0) h.spelled), same.0, same.1)
+    let lead : lead_kind a ≡ lead_kind b = sym (front-lead a (bytes ++ rest) bytes rest refl g.spelled) ∙ front-lead b (bytes ++ rest) more behind e h.spelled in
+    (one-kind a b bytes lead g.spelled (subst (Spells b) (sym same.0) h.spelled), same.0, same.1)
 
 nothing-split : (bytes rest : List ℕ) → [] ≡ bytes ++ rest → bytes ≡ []
 nothing-split [] rest e = refl

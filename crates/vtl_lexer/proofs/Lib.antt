@@ -4,4 +4,5 @@ pub mod LexedLemmas
 pub mod ListLemmas
 pub mod ReservedLemmas
 pub mod SearchLemmas
+pub mod SignLemmas
 pub mod SpellingLemmas

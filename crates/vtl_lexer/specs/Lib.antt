@@ -6,4 +6,5 @@ pub mod Lexed
 pub mod Searches
 pub mod Signs
 pub mod Spelling
+pub mod Strings
 pub mod Tokens

@@ -5,9 +5,12 @@ mod finding;
 mod gaps;
 mod keyword;
 mod lead;
+mod numbers;
+mod quotes;
 mod searches;
 mod signs;
 mod token;
+mod words;
 
 pub use keyword::{Keyword, is_same_keyword, keyword_of};
 pub use token::{Sign, Token, TokenKind};
