@@ -1,8 +1,12 @@
+pub mod CutLemmas
 pub mod GapLemmas
 pub mod GapSearchLemmas
+pub mod LeadLemmas
 pub mod LexedLemmas
 pub mod ListLemmas
+pub mod NumberLemmas
 pub mod ReservedLemmas
 pub mod SearchLemmas
 pub mod SignLemmas
 pub mod SpellingLemmas
+pub mod WordLemmas

@@ -100,3 +100,7 @@ stands-result byte text (Some place) found = stands-first byte text place found
 pub ends-result : (text : List ℕ) (r : Option ℕ) → FindsNeedle text (codes "*/") 0 r → MatchOption r (HasNoEnd text) (λ place. EndsFirst text place)
 ends-result text None found = ends-nowhere text found
 ends-result text (Some place) found = ends-first text place found
+
+-- the same of the bytes of a text
+pub run-of_text : (test : ℕ → Bool) (text bytes : List ℕ) (size : ℕ) → size ≡ prefix_len test bytes → bytes ≡ text → IsRun test text size
+run-of_text test text bytes size e is = run-from_prefix test text size (e ∙ ap (prefix_len test) is)

@@ -14,31 +14,27 @@ pub(crate) fn number(alloc: Global, text: &str) -> Result<Option<Found>, AllocEr
     requires { lead_of text.now ≡ Lead.Digit }
     ensures { IfOk result (λ found. IsFoundIn text.now found) }
 {
-    let whole = digits_len(text.as_bytes());
-    Ok(Some(match fraction_len(&text.as_bytes()[whole..]) {
-        None => Found {
+    let bytes = text.as_bytes();
+    let whole = digits_len(bytes);
+    match fraction_len(bytes.split_at(whole).1) {
+        None => Ok(Some(Found {
             kind: TokenKind::Integer(Txt::new(alloc, &text[..whole])?),
             size: whole,
-        },
-        Some(fraction) => {
-            let size = whole + fraction;
-            Found {
-                kind: TokenKind::Decimal(Txt::new(alloc, &text[..size])?),
-                size,
-            }
-        }
-    }))
+        })),
+        Some(fraction) => Ok(Some(Found {
+            kind: TokenKind::Decimal(Txt::new(alloc, &text[..whole + fraction])?),
+            size: whole + fraction,
+        })),
+    }
 }
 
 // How many bytes the point and the digits at the front have, if they stand there.
 fn fraction_len(text: &[u8]) -> Option<usize>
     ensures { MatchOption result (HasNoFraction text.now) (λ size. IsFractionOf text.now size) }
 {
-    if !text.starts_with(b".") {
+    let digits = digits_len(text.strip_prefix(b".")?);
+    if digits == 0 {
         return None;
     }
-    match digits_len(&text[1..]) {
-        0 => None,
-        digits => Some(digits + 1),
-    }
+    Some(digits + 1)
 }
