@@ -5,8 +5,10 @@ pub mod LeadLemmas
 pub mod LexedLemmas
 pub mod ListLemmas
 pub mod NumberLemmas
+pub mod QuoteLemmas
 pub mod ReservedLemmas
 pub mod SearchLemmas
 pub mod SignLemmas
 pub mod SpellingLemmas
+pub mod StringLemmas
 pub mod WordLemmas

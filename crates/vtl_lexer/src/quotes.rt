@@ -5,7 +5,7 @@ ghost use Rattle.vtl_lexer.specs.Leads.{lead_of};
 ghost use Rattle.vtl_lexer.specs.Strings.{EndsNowhere, IsLongestEnd};
 
 use crate::lead::Lead;
-use crate::searches::place_of_byte;
+use crate::searches::{byte_or_space, place_of_byte};
 use crate::token::{Found, TokenKind};
 use std::alloc::{AllocError, Global};
 use vtl_text::{Txt, is_component_name, replace};
@@ -53,7 +53,7 @@ fn last_end(text: &[u8]) -> Option<usize>
     while let Some(plain) = place_of_byte(b'"', &text[from..]) {
         let end = from + plain;
         last = Some(end);
-        if text.get(end + 1) != Some(&b'"') {
+        if byte_or_space(text, end + 1) != b'"' {
             return last;
         }
         from = end + 2;

@@ -1,12 +1,12 @@
 // Signs.
-ghost use Rattle.std.specs.Prelude.{◌≡◌, slice_get};
-ghost use Rattle.std.specs.Option.{unwrap_or};
+ghost use Rattle.std.specs.Prelude.{◌≡◌};
 ghost use Rattle.vtl_lexer.specs.Found.{IsFoundIn};
 ghost use Rattle.vtl_lexer.specs.Leads.{lead_of};
 ghost use Rattle.vtl_lexer.specs.Signs.{begins_comment, sign_of_one, sign_of_two};
 
 use crate::Sign;
 use crate::lead::Lead;
+use crate::searches::byte_or_space;
 use crate::token::{Found, TokenKind};
 
 fn sign_of_two(first: u8, second: u8) -> Option<Sign>
@@ -74,11 +74,4 @@ fn begins_comment(first: u8, second: u8) -> bool
     ensures { result ≡ begins_comment first second }
 {
     first == b'/' && (second == b'*' || second == b'/')
-}
-
-// The byte at a place. The end of the text parts as a space does.
-fn byte_or_space(text: &[u8], place: usize) -> u8
-    ensures { result ≡ unwrap_or (slice_get text.now place) 32 }
-{
-    text.get(place).copied().unwrap_or(b' ')
 }
