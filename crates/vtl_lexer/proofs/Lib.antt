@@ -1,4 +1,5 @@
 pub mod CutLemmas
+pub mod FoundLemmas
 pub mod GapLemmas
 pub mod GapSearchLemmas
 pub mod LeadLemmas
@@ -11,4 +12,5 @@ pub mod SearchLemmas
 pub mod SignLemmas
 pub mod SpellingLemmas
 pub mod StringLemmas
+pub mod UndoubleLemmas
 pub mod WordLemmas

@@ -45,7 +45,7 @@ run-from_prefix test text size e =
       stops = prefix-stops test text;
     })
 
-lacks-below : (byte : ℕ) (text : List ℕ) (n : ℕ) → ((i : ℕ) → i < n → (get_or text i 0 == byte) ≡ true → ⊥) → Lacks byte (take n text)
+pub lacks-below : (byte : ℕ) (text : List ℕ) (n : ℕ) → ((i : ℕ) → i < n → (get_or text i 0 == byte) ≡ true → ⊥) → Lacks byte (take n text)
 lacks-below byte text zero none = refl
 lacks-below byte [] (suc n) none = refl
 lacks-below byte (first ∷ rest) (suc n) none =

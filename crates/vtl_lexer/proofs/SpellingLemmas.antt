@@ -69,7 +69,7 @@ sign-lead : (sign : Sign) → lead_of (spelling sign) ≡ Other
 sign-lead s.Assign = refl
 sign-lead _ = refl
 
-lead-some : (kind : TokenKind) → lead_kind kind ≢ Nothing
+pub lead-some : (kind : TokenKind) → lead_kind kind ≢ Nothing
 lead-some (k.Name word) e = cc e
 lead-some kind e = cc e
 

@@ -65,17 +65,17 @@ data Ends (plain behind inner rest : List ℕ) : Type 0 where
   here : length (doubled inner) ≡ length plain → Ends plain behind inner rest
   later : (left : List ℕ) → behind ≡ 34 ∷ (doubled left ++ 34 ∷ rest) → length (doubled inner) ≡ length plain + 2 + length (doubled left) → Ends plain behind inner rest
 
-abbrev first-byte : List ℕ → ℕ
+abbrev pub first-byte : List ℕ → ℕ
 first-byte [] = 0
 first-byte (byte ∷ rest) = byte
 
-no-quote : (byte : ℕ) → not (byte == 34) ≡ true → byte ≡ 34 → ⊥
+pub no-quote : (byte : ℕ) → not (byte == 34) ≡ true → byte ≡ 34 → ⊥
 no-quote byte e is = false≢true (ap (λ b. not (b == 34)) (sym is) ∙ e)
 
-doubled-quote : (byte : ℕ) (bytes : List ℕ) → (byte == 34) ≡ true → doubled (byte ∷ bytes) ≡ 34 ∷ 34 ∷ doubled bytes
+pub doubled-quote : (byte : ℕ) (bytes : List ℕ) → (byte == 34) ≡ true → doubled (byte ∷ bytes) ≡ 34 ∷ 34 ∷ doubled bytes
 doubled-quote byte bytes e = ap (λ b. cond b (34 ∷ 34 ∷ doubled bytes) (byte ∷ doubled bytes)) e
 
-doubled-other : (byte : ℕ) (bytes : List ℕ) → (byte == 34) ≡ false → doubled (byte ∷ bytes) ≡ byte ∷ doubled bytes
+pub doubled-other : (byte : ℕ) (bytes : List ℕ) → (byte == 34) ≡ false → doubled (byte ∷ bytes) ≡ byte ∷ doubled bytes
 doubled-other byte bytes e = ap (λ b. cond b (34 ∷ 34 ∷ doubled bytes) (byte ∷ doubled bytes)) e
 
 ends-more : (p : ℕ) (plain behind : List ℕ) (x : ℕ) (inner rest : List ℕ) → (x == 34) ≡ false → Ends plain behind inner rest → Ends (p ∷ plain) behind (x ∷ inner) rest
