@@ -1,5 +1,5 @@
 -- Where a text may be cut, and what is ASCII.
-use Rattle.std.proofs.Common.{◌≡◌, ◌≢◌, ◌≤◌, ◌<◌, ◌+◌, ◌-◌, ◌∷◌, ◌++◌, ◌∙◌, ◌&&◌, [], ℕ, zero, suc, List, Bool, true, false, length, take, drop, get_or, sym, ap, subst, refl, arith, append_assoc, length-append, IsUtf8, nat_lt, add-one}
+use Rattle.std.proofs.Common.{◌≡◌, ◌≤◌, ◌<◌, ◌+◌, ◌∷◌, ◌++◌, ◌∙◌, [], ℕ, List, Bool, true, length, take, drop, get_or, sym, ap, subst, refl, arith, append_assoc, length-append, IsUtf8}
 use Rattle.std.specs.Char.{is_ascii_digit}
 use Rattle.std.specs.List.{list_all}
 use Rattle.std.specs.Str.{IsAscii, IsCharBoundary}

@@ -1,19 +1,20 @@
 -- A text may be cut behind what was found at its front.
-use Rattle.std.proofs.Common.{◌≡◌, ◌≢◌, ◌≤◌, ◌<◌, ◌+◌, ◌∷◌, ◌++◌, ◌∙◌, ◌&&◌, ◌==◌, ◌||◌, [], ℕ, suc, List, Bool, true, false, not, length, take, drop, codes, nat_lt, sym, ap, subst, refl, arith, append_assoc, length-append, IsUtf8}
+use Rattle.std.proofs.Common.{◌≡◌, ◌<◌, ◌∷◌, ◌++◌, ◌∙◌, ◌==◌, [], ℕ, List, Bool, true, false, not, nat_eq, cond, length, take, drop, codes, nat_lt, sym, ap, subst, refl, arith, IsUtf8}
 use Rattle.std.specs.Char.{is_ascii_digit}
-use Rattle.std.specs.List.{list_all}
+use Rattle.std.specs.List.{list_all, starts_with}
 use Rattle.std.specs.Str.{IsCharBoundary}
-use Rattle.std.proofs.lemmas.Bool.{false≢true}
 use Rattle.std.proofs.lemmas.Bool.Decides.{nat_tests}
 use Rattle.std.proofs.lemmas.List.{append-nil, length-take-le, take-append-drop}
-use Rattle.std.proofs.lemmas.Str.{IsCharBoundary-end}
+use Rattle.std.proofs.lemmas.Str.{IsCharBoundary-end, IsCharBoundary-past_char, IsCharBoundary-start}
+use lib.Utf8.{encode}
 use borrow.Author.Tests.{ltb-true}
 use Rattle.vtl_text.specs.Words.{is_word, is_word_character}
 use Rattle.vtl_lexer.specs.Found.{IsGapOf, IsTokenOf}
-use Rattle.vtl_lexer.specs.Gaps.{IsGap, block_comment, is_white_space, line_comment, white_space}
+use Rattle.vtl_lexer.specs.Gaps.{IsGap, block_comment, line_comment, white_space}
+use Rattle.vtl_lexer.specs.Lexed.{mark_len}
 use Rattle.vtl_lexer.specs.Leads.{lead_of}
 use Rattle.vtl_lexer.specs.Spelling.{Spells, doubled, spelling}
-use Rattle.vtl_lexer.specs.Tokens.{IsToken, NoToken, begins_with}
+use Rattle.vtl_lexer.specs.Tokens.{NoToken, begins_with}
 use Rattle.vtl_lexer.specs.declared.lead.Lead.TheVariants.{Nothing}
 use Rattle.vtl_lexer.specs.declared.token.Found.{Found}
 use Rattle.vtl_lexer.specs.declared.token.Sign.{Sign}
@@ -21,8 +22,9 @@ use Rattle.vtl_lexer.specs.declared.token.Sign.TheVariants as s
 use Rattle.vtl_lexer.specs.declared.token.TokenKind.{TokenKind}
 use Rattle.vtl_lexer.specs.declared.token.TokenKind.TheVariants as k
 use Rattle.vtl_lexer.proofs.CutLemmas.{EndsAscii, cut-before, cut-behind, digit-ascii, ends-all, ends-append, ends-more, word-ascii}
+use Rattle.vtl_lexer.proofs.GapSearchLemmas.{start-splits}
 use Rattle.vtl_lexer.proofs.ReservedLemmas.{keyword-word}
-use Rattle.vtl_lexer.proofs.SpellingLemmas.{front-lead, lead_kind, lead-some, name-word, spelled-some, word-characters}
+use Rattle.vtl_lexer.proofs.SpellingLemmas.{front-lead, lead-some, name-word, spelled-some, word-characters}
 
 one-end : (byte : ℕ) → byte < 128 → EndsAscii (byte ∷ [])
 one-end byte ascii = record { front = []; last = byte; is = refl; ascii = ascii }
@@ -77,3 +79,16 @@ gap-cut text size u of =
 -- nothing starts in an empty text
 pub nothing-starts : (text : List ℕ) → lead_of text ≡ Nothing → NoToken text
 nothing-starts text lead kind bytes rest e token = lead-some kind (sym (front-lead kind text bytes rest e token.spelled) ∙ lead)
+
+-- the mark is a character
+mark-bytes : encode 0xFEFF ≡ 0xEF ∷ 0xBB ∷ 0xBF ∷ []
+unfolding encode
+mark-bytes = refl
+
+pub mark-cut : (text : List ℕ) → IsUtf8 text → IsCharBoundary text (mark_len text)
+mark-cut text u = by (starts_with nat_eq text (0xEF ∷ 0xBB ∷ 0xBF ∷ [])) refl
+  where
+    by : (b : Bool) → starts_with nat_eq text (0xEF ∷ 0xBB ∷ 0xBF ∷ []) ≡ b → IsCharBoundary text (cond b 3 0)
+    by true e =
+        IsCharBoundary-past_char text (drop 3 text) 0 0xFEFF (omega arith) u (start-splits text (0xEF ∷ 0xBB ∷ 0xBF ∷ []) e ∙ ap (λ l. l ++ drop 3 text) (sym mark-bytes))
+    by false e = IsCharBoundary-start text u

@@ -1,10 +1,8 @@
 -- At the front of a text stands one gap, or a token, and not both.
-use Rattle.std.proofs.Common.{◌≡◌, ◌≢◌, ◌≤◌, ◌<◌, ◌+◌, ◌∷◌, ◌++◌, ◌∙◌, ◌&&◌, ◌||◌, ◌==◌, [], ℕ, suc, List, Bool, true, false, not, cond, length, drop, codes, sym, ap, subst, refl, arith, append_assoc}
+use Rattle.std.proofs.Common.{◌≡◌, ◌≢◌, ◌∷◌, ◌++◌, ◌∙◌, ◌||◌, ◌==◌, [], ℕ, List, true, false, not, length, drop, codes, sym, ap, refl, arith, append_assoc}
 use Rattle.std.specs.Char.{is_ascii_alphabetic, is_ascii_digit}
-use Rattle.std.specs.List.{list_all}
 use Rattle.std.proofs.lemmas.Bool.{false≢true}
 use Rattle.std.proofs.lemmas.Bool.Decides.{nat_tests}
-use Rattle.vtl_text.specs.Words.{is_word_character}
 use Rattle.vtl_lexer.specs.Gaps.{HasNoEnd, IsGap, block_comment, is_white_space, line_comment, white_space}
 use Rattle.vtl_lexer.specs.Spelling.{Lacks, Spells, spelling}
 use Rattle.vtl_lexer.specs.Tokens.{IsToken, begins_with, goes_on}
@@ -14,7 +12,6 @@ use Rattle.vtl_lexer.specs.declared.token.TokenKind.{TokenKind}
 use Rattle.vtl_lexer.specs.declared.token.TokenKind.TheVariants as k
 use Rattle.vtl_lexer.proofs.ListLemmas.{front-same, run-same}
 use Rattle.vtl_lexer.specs.Leads.{lead_byte_of, lead_of}
-use Rattle.vtl_lexer.specs.declared.lead.Lead.{Lead}
 use Rattle.vtl_lexer.specs.declared.lead.Lead.TheVariants.{Other}
 use Rattle.vtl_lexer.proofs.SpellingLemmas.{front-lead, lead_kind}
 

@@ -1,5 +1,5 @@
 -- The first byte of a text, from what it leads.
-use Rattle.std.proofs.Common.{◌≡◌, ◌∷◌, ◌∙◌, ◌==◌, [], ℕ, List, Bool, true, false, cond, drop, sym, ap, refl, eqb-true}
+use Rattle.std.proofs.Common.{◌≡◌, ◌∷◌, ◌==◌, [], ℕ, List, Bool, true, false, cond, drop, ap, refl, eqb-true}
 use Rattle.std.specs.Char.{is_ascii_alphabetic, is_ascii_digit}
 use Rattle.vtl_lexer.specs.Leads.{lead_byte_of, lead_of}
 use Rattle.vtl_lexer.specs.declared.lead.Lead.{Lead}

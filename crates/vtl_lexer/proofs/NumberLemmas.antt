@@ -1,11 +1,11 @@
 -- The number at the front of a text.
-use Rattle.std.proofs.Common.{◌≡◌, ◌≢◌, ◌≤◌, ◌<◌, ◌+◌, ◌-◌, ◌∷◌, ◌++◌, ◌∙◌, ◌&&◌, ◌||◌, [], ℕ, zero, suc, List, Bool, true, false, nat_eq, not, length, take, drop, chars, sym, ap, subst, refl, arith, inl, inr, IsUtf8, append_assoc, length-append}
+use Rattle.std.proofs.Common.{◌≡◌, ◌≢◌, ◌≤◌, ◌<◌, ◌+◌, ◌∷◌, ◌++◌, ◌∙◌, [], ℕ, zero, suc, List, true, false, nat_eq, length, take, drop, chars, sym, ap, subst, refl, arith, IsUtf8, append_assoc, length-append}
 use Rattle.std.specs.Char.{is_ascii_digit}
 use Rattle.std.specs.List.{list_all}
 use Rattle.std.specs.Cmp.Lexicographic.{pointwise}
 use Rattle.std.specs.Str.{IsCharBoundary}
 use Rattle.std.proofs.Math.Seq.{take-append_seam, drop-append_seam}
-use Rattle.std.proofs.lemmas.Bool.{and_from, and_parts, cases_Bool, false≢true}
+use Rattle.std.proofs.lemmas.Bool.{and_from, and_parts, false≢true}
 use Rattle.std.proofs.lemmas.Bool.Decides.{nat_tests}
 use Rattle.std.proofs.lemmas.List.{length-take-le, take-append-drop}
 use Rattle.std.proofs.lemmas.List.Folds.{list_all-append}
@@ -13,14 +13,13 @@ use Rattle.std.proofs.lemmas.Slice.Eq.{bytes_eq-Decides}
 use Rattle.std.proofs.lemmas.Str.{chars-IsAscii}
 use Rattle.vtl_text.specs.Words.{is_word_character}
 use Rattle.vtl_lexer.specs.Found.{HasNoFraction, IsFractionOf, IsTokenOf}
-use Rattle.vtl_lexer.specs.Leads.{lead_byte_of, lead_of}
+use Rattle.vtl_lexer.specs.Leads.{lead_of}
 use Rattle.vtl_lexer.specs.Spelling.{IsDigits, Spells}
-use Rattle.vtl_lexer.specs.Tokens.{IsToken, NoToken, begins_with, goes_on}
-use Rattle.vtl_lexer.specs.declared.lead.Lead.{Lead}
-use Rattle.vtl_lexer.specs.declared.lead.Lead.TheVariants.{Letter, Digit, Quote, DoubleQuote, Other}
+use Rattle.vtl_lexer.specs.Tokens.{IsToken, begins_with}
+use Rattle.vtl_lexer.specs.declared.lead.Lead.TheVariants.{Digit}
 use Rattle.vtl_lexer.specs.declared.token.TokenKind.{TokenKind}
 use Rattle.vtl_lexer.specs.declared.token.TokenKind.TheVariants as k
-use Rattle.vtl_lexer.proofs.CutLemmas.{EndsAscii, all-ascii, cut-behind, cut-run, digit-ascii, ends-all, ends-append, ends-more, word-ascii}
+use Rattle.vtl_lexer.proofs.CutLemmas.{all-ascii, cut-behind, cut-run, digit-ascii, ends-all, ends-append, ends-more, word-ascii}
 use Rattle.vtl_lexer.proofs.LeadLemmas.{lead-digit}
 use Rattle.vtl_lexer.proofs.ListLemmas.{run-longest, run-same}
 use Rattle.vtl_lexer.proofs.SearchLemmas.{IsRun}

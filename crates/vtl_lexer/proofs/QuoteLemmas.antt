@@ -1,22 +1,17 @@
 -- The quoted name and the string at the front of a text.
-use Rattle.std.proofs.Common.{◌≡◌, ◌≢◌, ◌≤◌, ◌<◌, ◌+◌, ◌-◌, ◌∷◌, ◌++◌, ◌∙◌, ◌&&◌, ◌==◌, ◌⊎◌, [], ℕ, zero, suc, List, Bool, Option, Some, None, true, false, not, cond, length, take, drop, chars, sym, ap, subst, refl, arith, inl, inr, append_assoc, length-append, length-drop, add-one, IsUtf8, encode_utf8_all}
-use lib.Utf8.{encode, scalar, scalars}
-use Rattle.std.specs.List.{list_all}
+use Rattle.std.proofs.Common.{◌≡◌, ◌≤◌, ◌<◌, ◌+◌, ◌-◌, ◌∷◌, ◌++◌, ◌∙◌, ◌==◌, [], ℕ, List, true, false, not, length, take, drop, chars, sym, ap, subst, refl, arith, append_assoc, length-append, IsUtf8}
 use Rattle.std.specs.Str.{IsCharBoundary}
-use Rattle.std.proofs.Math.Seq.{take-append_seam, drop-append_seam}
-use Rattle.std.proofs.lemmas.Bool.{and_from, and_parts, cases_Bool, false≢true}
-use Rattle.std.proofs.lemmas.Bool.Decides.{nat_tests}
-use Rattle.std.proofs.lemmas.List.{length-take-le, take-append-drop}
-use Rattle.vtl_text.specs.Texts.{begins, replace_of, replaced_from}
+use Rattle.std.proofs.Math.Seq.{take-append_seam}
+use Rattle.std.proofs.lemmas.Bool.{false≢true}
+use Rattle.std.proofs.lemmas.List.{length-take-le}
 use Rattle.vtl_text.specs.Words.{is_component_name, quoted}
 use Rattle.vtl_lexer.specs.Found.{IsTokenOf}
 use Rattle.vtl_lexer.specs.Leads.{lead_of}
 use Rattle.vtl_lexer.specs.Searches.{StandsFirst}
 use Rattle.vtl_lexer.specs.Spelling.{Lacks, Spells, doubled}
 use Rattle.vtl_lexer.specs.Strings.{EndsAt, EndsNowhere, IsLongestEnd}
-use Rattle.vtl_lexer.specs.Tokens.{IsToken, NoToken, begins_with, goes_on}
-use Rattle.vtl_lexer.specs.declared.lead.Lead.{Lead}
-use Rattle.vtl_lexer.specs.declared.lead.Lead.TheVariants.{Letter, Digit, Quote, DoubleQuote, Other}
+use Rattle.vtl_lexer.specs.Tokens.{IsToken, NoToken}
+use Rattle.vtl_lexer.specs.declared.lead.Lead.TheVariants.{Quote, DoubleQuote}
 use Rattle.vtl_lexer.specs.declared.token.TokenKind.{TokenKind}
 use Rattle.vtl_lexer.specs.declared.token.TokenKind.TheVariants as k
 use Rattle.vtl_lexer.proofs.CutLemmas.{cut-after, cut-before}
@@ -24,7 +19,7 @@ use Rattle.vtl_lexer.proofs.LeadLemmas.{double-first, quote-first}
 use Rattle.vtl_lexer.proofs.ListLemmas.{run-same}
 use Rattle.vtl_lexer.proofs.NumberLemmas.{never, token-of}
 use Rattle.vtl_lexer.proofs.SpellingLemmas.{front-lead, lead_kind}
-use Rattle.vtl_lexer.proofs.StringLemmas.{doubled-append, lacks-split}
+use Rattle.vtl_lexer.proofs.StringLemmas.{lacks-split}
 
 -- a text may be cut behind its quote
 pub cut-first : (text rest : List ℕ) (byte : ℕ) → IsUtf8 text → text ≡ byte ∷ rest → byte < 128 → IsCharBoundary text 1

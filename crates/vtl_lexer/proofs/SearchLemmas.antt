@@ -1,9 +1,8 @@
 -- What searches find.
-use Rattle.std.proofs.Common.{◌≡◌, ◌≢◌, ◌≤◌, ◌<◌, ◌+◌, ◌∷◌, ◌++◌, ◌∙◌, ◌&&◌, ◌==◌, [], ℕ, zero, suc, List, Bool, Option, Some, None, true, false, not, cond, length, take, drop, get_or, codes, sym, ap, subst, refl, arith, inl, inr, eqb-true, add-one, append_assoc, length-append, MatchOption}
+use Rattle.std.proofs.Common.{◌≡◌, ◌≤◌, ◌<◌, ◌+◌, ◌∷◌, ◌++◌, ◌∙◌, ◌==◌, [], ℕ, zero, suc, List, Bool, Option, Some, None, true, false, not, length, take, drop, get_or, codes, sym, ap, subst, refl, arith, inl, inr, eqb-true, add-one, append_assoc, length-append, MatchOption}
 use Rattle.std.specs.List.{list_all, prefix_len}
 use Rattle.std.proofs.Math.Seq.{split_at}
-use Rattle.std.proofs.lemmas.Bool.{and_from, cases_Bool, false≢true}
-use Rattle.std.proofs.lemmas.Bool.Decides.{nat_tests}
+use Rattle.std.proofs.lemmas.Bool.{and_from, cases_Bool}
 use Rattle.std.proofs.lemmas.List.{take-append-drop, drop_at, length-take-le}
 use Rattle.std.proofs.lemmas.List.Prefix.{at_reads, at_from_reads}
 use Rattle.std.proofs.lemmas.List.Sums.{prefix_len-le-length}

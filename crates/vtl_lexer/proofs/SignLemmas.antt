@@ -1,23 +1,19 @@
 -- Which sign starts at the front of a text.
-use Rattle.std.proofs.Common.{◌≡◌, ◌≢◌, ◌≤◌, ◌<◌, ◌+◌, ◌∷◌, ◌++◌, ◌∙◌, ◌&&◌, ◌||◌, ◌==◌, ◌⊎◌, [], ℕ, suc, List, Bool, Option, Some, None, true, false, not, cond, length, take, drop, codes, sym, ap, subst, refl, arith, inl, inr, eqb-true}
+use Rattle.std.proofs.Common.{◌≡◌, ◌≤◌, ◌∷◌, ◌++◌, ◌∙◌, ◌&&◌, ◌||◌, ◌==◌, [], ℕ, List, Bool, Option, Some, None, true, false, cond, length, sym, ap, subst, refl, arith, eqb-true}
 use Rattle.std.specs.Option.{unwrap_or}
 use Rattle.std.specs.List.{slice_get}
-use Rattle.std.proofs.lemmas.Bool.{and_parts, cases_Bool, false≢true}
-use Rattle.std.proofs.lemmas.Bool.Decides.{nat_tests}
-use Rattle.std.proofs.lemmas.List.{take-append-drop}
-use Rattle.vtl_lexer.specs.Found.{IsFoundIn, IsTokenOf}
+use Rattle.std.proofs.lemmas.Bool.{and_parts, false≢true}
+use Rattle.vtl_lexer.specs.Found.{IsTokenOf}
 use Rattle.vtl_lexer.specs.Leads.{lead_of}
 use Rattle.vtl_lexer.specs.Signs.{begins_comment, sign_of_one, sign_of_two}
 use Rattle.vtl_lexer.specs.Spelling.{Spells, spelling}
-use Rattle.vtl_lexer.specs.Tokens.{IsToken, NoToken, begins_with, goes_on}
-use Rattle.vtl_lexer.specs.declared.lead.Lead.{Lead}
+use Rattle.vtl_lexer.specs.Tokens.{NoToken, begins_with, goes_on}
 use Rattle.vtl_lexer.specs.declared.lead.Lead.TheVariants.{Other}
-use Rattle.vtl_lexer.specs.declared.token.Found.{Found}
 use Rattle.vtl_lexer.specs.declared.token.Sign.{Sign}
 use Rattle.vtl_lexer.specs.declared.token.Sign.TheVariants as s
 use Rattle.vtl_lexer.specs.declared.token.TokenKind.{TokenKind}
 use Rattle.vtl_lexer.specs.declared.token.TokenKind.TheVariants as k
-use Rattle.vtl_lexer.proofs.GapLemmas.{Opening, comment, first_of, second_of, token-no_opening}
+use Rattle.vtl_lexer.proofs.GapLemmas.{comment, first_of, second_of, token-no_opening}
 use Rattle.vtl_lexer.proofs.SpellingLemmas.{front-lead, lead_kind, sign_of, sign_of-spelling}
 
 -- one choice of many
@@ -43,10 +39,10 @@ two-spelled : (first second : ℕ) (sign : Sign) → sign_of_two first second �
 two-spelled first second sign =
     choose _ s.Assign sign _ (IsTwo first second) (is-two first second 58 61)
     (choose _ s.Persist sign _ (IsTwo first second) (is-two first second 60 45)
-        (choose _ s.NotEqual sign _ (IsTwo first second) (is-two first second 60 62)
-            (choose _ s.LessOrEqual sign _ (IsTwo first second) (is-two first second 60 61)
-                (choose _ s.GreaterOrEqual sign _ (IsTwo first second) (is-two first second 62 61)
-                    (choose _ s.Concat sign _ (IsTwo first second) (is-two first second 124 124) (λ e. absurd (cc e)))))))
+    (choose _ s.NotEqual sign _ (IsTwo first second) (is-two first second 60 62)
+    (choose _ s.LessOrEqual sign _ (IsTwo first second) (is-two first second 60 61)
+    (choose _ s.GreaterOrEqual sign _ (IsTwo first second) (is-two first second 62 61)
+    (choose _ s.Concat sign _ (IsTwo first second) (is-two first second 124 124) (λ e. absurd (cc e)))))))
 
 one-spelled : (byte : ℕ) (sign : Sign) → sign_of_one byte ≡ Some sign → spelling sign ≡ byte ∷ []
 one-spelled byte sign =

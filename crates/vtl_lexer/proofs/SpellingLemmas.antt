@@ -1,18 +1,16 @@
 -- What the first byte of a token tells of its kind, and that a spelling has one kind.
-use Rattle.std.proofs.Common.{◌≡◌, ◌≢◌, ◌≤◌, ◌<◌, ◌+◌, ◌∷◌, ◌++◌, ◌∙◌, ◌&&◌, ◌||◌, ◌==◌, [], ℕ, suc, List, Bool, Option, Some, None, true, false, not, cond, length, chars, sym, ap, subst, refl, arith, inl, inr, length-append, append_assoc}
+use Rattle.std.proofs.Common.{◌≡◌, ◌≢◌, ◌<◌, ◌∷◌, ◌++◌, ◌∙◌, ◌==◌, [], ℕ, List, Bool, Option, Some, None, true, false, not, cond, length, chars, sym, ap, subst, refl, arith, inl, inr, length-append}
 use Rattle.std.specs.Char.{is_ascii_alphabetic, is_ascii_digit}
-use Rattle.std.specs.List.{list_all, slice_get}
-use Rattle.std.proofs.lemmas.Bool.{and_parts, and_from, cases_Bool, false≢true}
+use Rattle.std.specs.List.{list_all}
+use Rattle.std.proofs.lemmas.Bool.{and_parts, cases_Bool, false≢true}
 use Rattle.std.proofs.lemmas.Bool.Decides.{nat_tests}
 use Rattle.std.proofs.lemmas.List.Folds.{list_all-append}
-use Rattle.vtl_text.specs.Words.{fits_name, is_component_name, is_name, is_reserved, is_word, is_word_character, quoted, reserved_words, starts_with_letter}
-use Rattle.vtl_lexer.specs.Keywords.{place_of}
+use Rattle.vtl_text.specs.Words.{fits_name, is_name, is_reserved, is_word, is_word_character, starts_with_letter}
 use Rattle.vtl_lexer.specs.Leads.{lead_byte_of, lead_of}
 use Rattle.vtl_lexer.specs.declared.lead.Lead.{Lead}
 use Rattle.vtl_lexer.specs.declared.lead.Lead.TheVariants.{Nothing, Letter, Digit, Quote, DoubleQuote, Other}
 use Rattle.vtl_lexer.specs.Signs.{sign_of_one, sign_of_two}
-use Rattle.vtl_lexer.specs.Spelling.{IsDigits, Lacks, Spells, doubled, spelling}
-use Rattle.vtl_lexer.specs.declared.keyword.Keyword.{Keyword}
+use Rattle.vtl_lexer.specs.Spelling.{IsDigits, Spells, doubled, spelling}
 use Rattle.vtl_lexer.specs.declared.token.Sign.{Sign}
 use Rattle.vtl_lexer.specs.declared.token.Sign.TheVariants as s
 use Rattle.vtl_lexer.specs.declared.token.TokenKind.{TokenKind}

@@ -1,11 +1,10 @@
 -- Where a string ends.
-use Rattle.std.proofs.Common.{◌≡◌, ◌≢◌, ◌≤◌, ◌<◌, ◌+◌, ◌-◌, ◌∷◌, ◌++◌, ◌∙◌, ◌&&◌, ◌==◌, ◌⊎◌, [], ℕ, zero, suc, List, Bool, Option, Some, None, true, false, not, cond, length, take, drop, get_or, sym, ap, subst, refl, arith, inl, inr, append_assoc, length-append, length-drop, MatchOption, eqb-true, add-one}
+use Rattle.std.proofs.Common.{◌≡◌, ◌≤◌, ◌+◌, ◌∷◌, ◌++◌, ◌∙◌, ◌==◌, ◌⊎◌, [], ℕ, zero, suc, List, Bool, Option, Some, None, true, false, not, cond, length, take, drop, sym, ap, subst, refl, arith, inl, inr, append_assoc, length-append, length-drop, MatchOption}
 use Rattle.std.specs.Option.{unwrap_or}
-use Rattle.std.specs.List.{list_all, slice_get}
+use Rattle.std.specs.List.{slice_get}
 use Rattle.std.proofs.lemmas.Bool.{and_parts, cases_Bool, false≢true}
 use Rattle.std.proofs.lemmas.Bool.Decides.{nat_tests}
 use Rattle.std.proofs.lemmas.List.{drop-drop, length-take-le}
-use Rattle.std.proofs.lemmas.List.Folds.{list_all-append}
 use Rattle.vtl_lexer.specs.Searches.{StandsFirst}
 use Rattle.vtl_lexer.specs.Spelling.{Lacks, doubled}
 use Rattle.vtl_lexer.specs.Strings.{EndsAt, EndsNowhere, IsLongestEnd}
@@ -56,7 +55,7 @@ ends-pass text place more found pair ends =
       inner = take place text ++ 34 ∷ ends.inner;
       rest = ends.rest;
       split = found.split ∙ ap (λ l. take place text ++ 34 ∷ l) (pair ∙ ap (λ l. 34 ∷ l) ends.split)
-      ∙ sym (append_assoc (take place text) (34 ∷ 34 ∷ doubled ends.inner) (34 ∷ ends.rest)) ∙ ap (λ l. l ++ 34 ∷ ends.rest) (sym twice);
+          ∙ sym (append_assoc (take place text) (34 ∷ 34 ∷ doubled ends.inner) (34 ∷ ends.rest)) ∙ ap (λ l. l ++ 34 ∷ ends.rest) (sym twice);
       is = omega (arith, ap length twice, length-append (take place text) (34 ∷ 34 ∷ doubled ends.inner), length-take-le place text (omega (arith, found.within)), ends.is);
     }
 

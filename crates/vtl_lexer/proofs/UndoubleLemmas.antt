@@ -1,8 +1,7 @@
 -- The text that a string holds: each `""` of its bytes is one `"` of its characters.
-use Rattle.std.proofs.Common.{◌≡◌, ◌≢◌, ◌≤◌, ◌<◌, ◌+◌, ◌-◌, ◌∷◌, ◌++◌, ◌∙◌, ◌&&◌, ◌==◌, ◌⊎◌, [], ℕ, zero, suc, List, Bool, true, false, not, cond, length, take, drop, get_or, chars, nat_eq, sym, ap, subst, refl, arith, inl, inr, append_assoc, length-append, eqb-true, IsUtf8, encode_utf8_all}
+use Rattle.std.proofs.Common.{◌≡◌, ◌∷◌, ◌++◌, ◌∙◌, ◌&&◌, ◌==◌, ◌⊎◌, [], ℕ, List, true, false, not, length, take, drop, get_or, chars, nat_eq, sym, ap, subst, refl, arith, inl, inr, eqb-true, IsUtf8, encode_utf8_all}
 use lib.Utf8.{encode, scalar, scalars}
 use Rattle.std.specs.Cmp.Lexicographic.{pointwise}
-use Rattle.std.specs.List.{list_all}
 use Rattle.std.proofs.lemmas.Bool.{and_from, and_parts, cases_Bool, false≢true}
 use Rattle.std.proofs.lemmas.Bool.Decides.{nat_tests}
 use Rattle.std.proofs.lemmas.List.{append-nil}
@@ -17,9 +16,9 @@ use Rattle.vtl_lexer.proofs.StringLemmas.{doubled-other, doubled-quote, first-by
 encode-plain : (c : ℕ) → (c == 34) ≡ false → Lacks 34 (encode c)
 encode-plain c e =
     subst (Lacks 34) (take-whole (encode c)) (lacks-below 34 (encode c) (length (encode c)) (λ i lt at.
-        let is : get_or (encode c) i 0 ≡ 34 = eqb-true (get_or (encode c) i 0) 34 at in
-        let same : c ≡ get_or (encode c) i 0 = inside_one c [] (encode c) i (sym (append-nil (encode c))) lt (omega arith) in
-        false≢true (sym e ∙ ap (λ n. n == 34) (same ∙ is))))
+    let is : get_or (encode c) i 0 ≡ 34 = eqb-true (get_or (encode c) i 0) 34 at in
+    let same : c ≡ get_or (encode c) i 0 = inside_one c [] (encode c) i (sym (append-nil (encode c))) lt (omega arith) in
+    false≢true (sym e ∙ ap (λ n. n == 34) (same ∙ is))))
 
 record Behind (front rest inner : List ℕ) : Type 0 where
   left : List ℕ

@@ -1,21 +1,20 @@
 -- The word at the front of a text.
-use Rattle.std.proofs.Common.{◌≡◌, ◌≢◌, ◌≤◌, ◌<◌, ◌+◌, ◌-◌, ◌∷◌, ◌++◌, ◌∙◌, ◌&&◌, ◌||◌, [], ℕ, zero, suc, List, Bool, Some, true, false, not, length, take, drop, chars, encode_utf8_all, nat_le, sym, ap, subst, refl, arith, inl, inr, IsUtf8}
-use Rattle.std.specs.Char.{is_ascii_alphabetic, is_ascii_digit}
+use Rattle.std.proofs.Common.{◌≡◌, ◌≤◌, ◌<◌, ◌∷◌, ◌∙◌, ◌&&◌, [], ℕ, zero, suc, List, Bool, Some, true, false, not, length, take, drop, chars, encode_utf8_all, nat_le, sym, ap, subst, refl, arith, IsUtf8}
+use Rattle.std.specs.Char.{is_ascii_alphabetic}
 use Rattle.std.specs.List.{list_all, slice_get}
-use Rattle.std.specs.Str.{IsAscii, IsCharBoundary}
-use Rattle.std.proofs.lemmas.Bool.{and_from, and_parts, cases_Bool, false≢true}
+use Rattle.std.specs.Str.{IsCharBoundary}
+use Rattle.std.proofs.lemmas.Bool.{and_from, and_parts, false≢true}
 use Rattle.std.proofs.lemmas.Bool.Decides.{nat_tests}
 use Rattle.std.proofs.lemmas.List.{length-take-le, take-append-drop}
 use Rattle.std.proofs.lemmas.Str.{encodes-IsAscii, chars-IsAscii}
 use Rattle.vtl_text.specs.Words.{fits_name, is_name, is_reserved, is_word, is_word_character, reserved_words, starts_with_letter}
 use Rattle.vtl_lexer.specs.Found.{IsTokenOf, IsWordKind}
 use Rattle.vtl_lexer.specs.Keywords.{place_of}
-use Rattle.vtl_lexer.specs.Leads.{lead_byte_of, lead_of}
+use Rattle.vtl_lexer.specs.Leads.{lead_of}
 use Rattle.vtl_lexer.specs.Spelling.{Spells}
-use Rattle.vtl_lexer.specs.Tokens.{IsToken, NoToken, begins_with, goes_on}
+use Rattle.vtl_lexer.specs.Tokens.{NoToken, begins_with, goes_on}
 use Rattle.vtl_lexer.specs.declared.keyword.Keyword.{Keyword}
-use Rattle.vtl_lexer.specs.declared.lead.Lead.{Lead}
-use Rattle.vtl_lexer.specs.declared.lead.Lead.TheVariants.{Letter, Digit, Quote, DoubleQuote, Other}
+use Rattle.vtl_lexer.specs.declared.lead.Lead.TheVariants.{Letter}
 use Rattle.vtl_lexer.specs.declared.token.TokenKind.{TokenKind}
 use Rattle.vtl_lexer.specs.declared.token.TokenKind.TheVariants as k
 use Rattle.vtl_lexer.proofs.CutLemmas.{all-ascii, cut-run, word-ascii}

@@ -1,10 +1,9 @@
 -- How each kind of token is spelled. A text is the list of its bytes in UTF-8.
-use Rattle.std.specs.Prelude.{◌≡◌, ◌<◌, ◌==◌, ℕ, Bool, true, not, List, [], ◌∷◌, ◌++◌, Some, length, chars, codes, slice_get, if◌then◌else◌}
+use Rattle.std.specs.Prelude.{◌≡◌, ◌<◌, ◌==◌, ℕ, true, not, List, [], ◌∷◌, ◌++◌, Some, length, chars, codes, slice_get, if◌then◌else◌}
 use Rattle.std.specs.Char.{is_ascii_digit}
 use Rattle.std.specs.List.{list_all}
 use Rattle.vtl_text.specs.Words.{is_component_name, is_name, quoted, reserved_words}
 use Rattle.vtl_lexer.specs.Keywords.{place_of}
-use Rattle.vtl_lexer.specs.declared.keyword.Keyword.{Keyword}
 use Rattle.vtl_lexer.specs.declared.token.Sign.{Sign}
 use Rattle.vtl_lexer.specs.declared.token.Sign.TheVariants as s
 use Rattle.vtl_lexer.specs.declared.token.TokenKind.{TokenKind}

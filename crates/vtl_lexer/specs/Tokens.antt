@@ -1,5 +1,5 @@
 -- Which token starts at the front of a text.
-use Rattle.std.specs.Prelude.{◌≡◌, ◌≤◌, ◌==◌, ◌||◌, ℕ, Bool, true, false, List, [], ◌∷◌, ◌++◌, length}
+use Rattle.std.specs.Prelude.{◌≡◌, ◌≤◌, ◌==◌, ◌||◌, ℕ, Bool, false, List, [], ◌∷◌, ◌++◌, length}
 use Rattle.vtl_text.specs.Words.{is_word_character}
 use Rattle.vtl_lexer.specs.Spelling.{Spells}
 use Rattle.vtl_lexer.specs.declared.token.Sign.TheVariants as s

@@ -1,4 +1,4 @@
-use Rattle.std.proofs.Common.{◌≡◌, ◌∙◌, drop, sym, subst}
+use Rattle.std.proofs.Common.{◌∙◌, drop, sym, subst}
 use Rattle.std.proofs.lemmas.List.{take_rest}
 use Rattle.vtl_lexer.specs.Searches.{StandsFirst}
 use Rattle.vtl_lexer.specs.Spelling.{Lacks}

@@ -1,10 +1,10 @@
-use Rattle.std.proofs.Common.{◌≡◌, ◌∙◌, ap, arith, chars, drop, false, true, length, sym, subst, take}
+use Rattle.std.proofs.Common.{◌≡◌, ◌∙◌, ap, arith, chars, drop, false, true, sym, subst, take}
 use Rattle.std.proofs.lemmas.Grind.{common_steps}
 use Rattle.vtl_text.specs.Words.{is_component_name}
 use Rattle.vtl_lexer.specs.Searches.{StandsFirst}
 use Rattle.vtl_lexer.specs.Spelling.{Lacks}
 use Rattle.vtl_lexer.proofs.LeadLemmas.{quote-first}
-use Rattle.vtl_lexer.proofs.QuoteLemmas.{cut-first, cut-place, quote-token, quote-unclosed, quote-unfit}
+use Rattle.vtl_lexer.proofs.QuoteLemmas.{cut-first, quote-token, quote-unclosed, quote-unfit}
 use Rattle.vtl_lexer.proofs.quotes.quoted_name.Goals as goal
 
 pub range_from-inner-requires : goal.range_from-inner-requires

@@ -1,4 +1,4 @@
-use Rattle.std.proofs.Common.{◌≡◌, ◌∙◌, ap, arith, chars, drop, length, sym, subst, take}
+use Rattle.std.proofs.Common.{◌≡◌, ◌∙◌, arith, drop, subst, take}
 use Rattle.std.proofs.lemmas.Grind.{common_steps}
 use Rattle.vtl_lexer.specs.Strings.{EndsNowhere, IsLongestEnd}
 use Rattle.vtl_lexer.proofs.LeadLemmas.{double-first}

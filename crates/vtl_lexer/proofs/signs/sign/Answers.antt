@@ -1,4 +1,4 @@
-use Rattle.std.proofs.Common.{◌≡◌, ◌∙◌, sym}
+use Rattle.std.proofs.Common.{◌∙◌, sym}
 use Rattle.vtl_lexer.proofs.SignLemmas.{comment-none, one-found, sign-none, two-found}
 use Rattle.vtl_lexer.proofs.signs.sign.Goals as goal
 

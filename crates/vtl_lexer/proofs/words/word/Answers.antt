@@ -1,6 +1,6 @@
-use Rattle.std.proofs.Common.{◌≡◌, take, arith, subst, true}
+use Rattle.std.proofs.Common.{◌≡◌, take, arith, subst}
 use Rattle.std.proofs.lemmas.Grind.{common_steps}
-use Rattle.vtl_text.specs.Words.{is_word, is_word_character}
+use Rattle.vtl_text.specs.Words.{is_word_character}
 use Rattle.vtl_lexer.specs.Found.{IsWordKind}
 use Rattle.vtl_lexer.proofs.SearchLemmas.{run-of_text}
 use Rattle.vtl_lexer.proofs.WordLemmas.{word-cut, word-is, word-long, word-token}
