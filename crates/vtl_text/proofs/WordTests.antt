@@ -1,7 +1,7 @@
 -- What the tests of words and names come to.
-use Rattle.std.proofs.Common.{◌≡◌, ℕ, Bool, true, false, ◌&&◌, ◌||◌, nat_eq, List, [], ◌∷◌, length, refl, sym, ap, ◌∙◌, arith, chars, IsUtf8, encode_utf8_all, ◌==◌, ◌<◌, nat_lt, ◌-◌, length-append}
+use Rattle.std.proofs.Common.{◌≡◌, ℕ, ◌+◌, cond, not, Some, None, Bool, true, false, ◌&&◌, ◌||◌, nat_eq, List, [], ◌∷◌, length, refl, sym, ap, ◌∙◌, arith, chars, IsUtf8, encode_utf8_all, ◌==◌, ◌<◌, nat_lt, ◌-◌, length-append}
 use Rattle.std.specs.Cmp.Lexicographic.{pointwise}
-use Rattle.std.specs.List.{list_all, list_any}
+use Rattle.std.specs.List.{list_all, list_any, position, position_or_len}
 use Rattle.std.proofs.lemmas.Str.{encodes-chars, length-le-encodes, chars-IsAscii, IsUtf8-from_ascii}
 use Rattle.std.proofs.lemmas.Str.Ascii.{IsAscii-nil, IsAscii-cons}
 use Rattle.std.proofs.lemmas.Bool.{false≢true}
@@ -10,7 +10,7 @@ use Rattle.std.proofs.lemmas.List.{take_at}
 use Rattle.std.proofs.lemmas.Slice.Eq.{bytes_eq-Decides}
 use borrow.Author.Tests.{ltb-true}
 use Rattle.std.proofs.lemmas.Bool.Decides.{nat_tests}
-use Rattle.vtl_text.specs.Words.{is_component_name, is_reserved, reserved_words, quoted, unquoted, is_quoted_name}
+use Rattle.vtl_text.specs.Words.{is_component_name, is_reserved, reserved_place, reserved_words, quoted, unquoted, is_quoted_name}
 use Rattle.vtl_text.proofs.SameCharacters.{same_characters}
 
 pub three_pass : (a b x : Bool) → a ≡ true → b ≡ true → x ≡ a && (b && x)
@@ -46,15 +46,30 @@ ascii_from (b ∷ w) h =
     IsAscii-cons b w (ltb-true b 128 parts.0) (ascii_from w parts.1)
 
 -- the words are looked up by their bytes
+same_word : (w bs : List ℕ) → IsUtf8 bs → list_all (λ b. nat_lt b 128) w ≡ true → pointwise nat_eq w bs ≡ pointwise nat_eq w (chars bs)
+same_word w bs u h =
+    let ascii = ascii_from w h in
+    same_characters w bs (IsUtf8-from_ascii w ascii) u ∙ ap (λ l. pointwise nat_eq l (chars bs)) (chars-IsAscii w ascii)
+
 same_any : (ws : List (List ℕ)) (bs : List ℕ) → IsUtf8 bs → list_all (list_all (λ b. nat_lt b 128)) ws ≡ true
     → list_any (λ w. pointwise nat_eq w bs) ws ≡ list_any (λ w. pointwise nat_eq w (chars bs)) ws
 same_any [] bs u h = refl
 same_any (w ∷ ws) bs u h =
     let parts = both (list_all (λ b. nat_lt b 128) w) (list_all (list_all (λ b. nat_lt b 128)) ws) h in
-    let ascii = ascii_from w parts.0 in
-    let first : pointwise nat_eq w bs ≡ pointwise nat_eq w (chars bs) =
-    same_characters w bs (IsUtf8-from_ascii w ascii) u ∙ ap (λ l. pointwise nat_eq l (chars bs)) (chars-IsAscii w ascii) in
+    let first = same_word w bs u parts.0 in
     ap (λ b. b || list_any (λ x. pointwise nat_eq x bs) ws) first ∙ ap (λ b. pointwise nat_eq w (chars bs) || b) (same_any ws bs u parts.1)
+
+same_prefix : (ws : List (List ℕ)) (bs : List ℕ) → IsUtf8 bs → list_all (list_all (λ b. nat_lt b 128)) ws ≡ true
+    → position_or_len (λ w. pointwise nat_eq w bs) ws ≡ position_or_len (λ w. pointwise nat_eq w (chars bs)) ws
+same_prefix [] bs u h = refl
+same_prefix (w ∷ ws) bs u h =
+    let parts = both (list_all (λ b. nat_lt b 128) w) (list_all (list_all (λ b. nat_lt b 128)) ws) h in
+    ap (λ b. cond (not b) (1 + position_or_len (λ x. pointwise nat_eq x bs) ws) 0) (same_word w bs u parts.0)
+    ∙ ap (λ n. cond (not (pointwise nat_eq w (chars bs))) (1 + n) 0) (same_prefix ws bs u parts.1)
+
+pub reserved_place_by_bytes : (bs : List ℕ) → IsUtf8 bs → position (λ w. pointwise nat_eq w bs) reserved_words ≡ reserved_place (chars bs)
+unfolding reserved_place reserved_words
+reserved_place_by_bytes bs u = ap (λ n. cond (nat_lt n (length reserved_words)) (Some n) None) (same_prefix reserved_words bs u refl)
 
 pub reserved_by_bytes : (bs : List ℕ) → IsUtf8 bs → list_any (λ w. pointwise nat_eq w bs) reserved_words ≡ is_reserved (chars bs)
 unfolding is_reserved reserved_words

@@ -1,8 +1,8 @@
 -- Words, reserved words and names. A text is the list of its characters, and a character is its code.
-use Rattle.std.specs.Prelude.{ℕ, ◌-◌, Bool, false, not, ◌&&◌, ◌||◌, ◌==◌, nat_le, nat_eq, List, [], ◌∷◌, ◌++◌, length, codes, encode_utf8_all, slice_get, take, drop}
+use Rattle.std.specs.Prelude.{ℕ, ◌-◌, Bool, false, not, ◌&&◌, ◌||◌, ◌==◌, nat_le, nat_eq, List, [], ◌∷◌, ◌++◌, length, codes, encode_utf8_all, slice_get, take, drop, Option}
 use Rattle.std.specs.Char.{is_ascii_alphabetic, is_ascii_alphanumeric, is_control}
 use Rattle.std.specs.Cmp.Lexicographic.{pointwise}
-use Rattle.std.specs.List.{list_all, list_any}
+use Rattle.std.specs.List.{list_all, list_any, position}
 use Rattle.std.specs.Option.{option_map_or}
 
 -- at most 64 bytes in UTF-8
@@ -48,6 +48,10 @@ reserved_words =
 
 unfoldable pub is_reserved : List ℕ → Bool
 is_reserved cs = list_any (λ w. pointwise nat_eq w cs) reserved_words
+
+-- the place of a reserved word among them
+unfoldable pub reserved_place : List ℕ → Option ℕ
+reserved_place cs = position (λ w. pointwise nat_eq w cs) reserved_words
 
 -- a word that is not reserved
 unfoldable pub is_name : List ℕ → Bool

@@ -11,7 +11,7 @@ pub use item_list::List;
 pub use operators::{concat, length, ltrim, rtrim, substr, trim};
 pub use searches::{instr, replace};
 pub use shared_text::Txt;
-pub use words::{is_component_name, is_name, is_reserved, is_word};
+pub use words::{is_component_name, is_name, is_reserved, is_word, reserved_place};
 
 #[cfg(test)]
 mod tests;

@@ -1,6 +1,6 @@
 // Words, reserved words and names.
 ghost use Rattle.std.specs.Prelude.{◌≡◌, chars};
-ghost use Rattle.vtl_text.specs.Words.{fits_name, starts_with_letter, is_word_character, is_word, is_reserved, is_name, is_component_character, is_component_name};
+ghost use Rattle.vtl_text.specs.Words.{fits_name, starts_with_letter, is_word_character, is_word, is_reserved, reserved_place, is_name, is_component_character, is_component_name};
 
 // The most bytes of a word or a name.
 const MAX_NAME_BYTES: usize = 64;
@@ -153,6 +153,13 @@ pub fn is_reserved(text: &str) -> bool
     ensures { result ≡ is_reserved (chars text.now) }
 {
     RESERVED_WORDS.iter().any(|word| *word == text)
+}
+
+/// The place of `text` among the words that the grammar gives a meaning, from 0 and in the order of their letters, if it is one.
+pub fn reserved_place(text: &str) -> Option<usize>
+    ensures { result ≡ reserved_place (chars text.now) }
+{
+    RESERVED_WORDS.iter().position(|word| *word == text)
 }
 
 /// Whether `text` is a name: a word that is not reserved. Data sets, rulesets, rules and aliases have such names.

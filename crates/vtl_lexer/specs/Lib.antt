@@ -1,0 +1,11 @@
+pub mod Answered
+pub mod Found
+pub mod Gaps
+pub mod Keywords
+pub mod Leads
+pub mod Lexed
+pub mod Searches
+pub mod Signs
+pub mod Spelling
+pub mod Strings
+pub mod Tokens
