@@ -1,13 +1,8 @@
-// A library with one function.
+//! The grammar of scripts.
 #![tactic(auto)]
 
-ghost use Rattle.std.specs.Prelude.{◌≡◌};
-ghost use Rattle.vtl_grammar.specs.Echo.{echo_of};
+mod call_forms;
+mod levels;
 
-// The `ensures` clause is the contract: what `echo` returns is `echo_of` of its argument, a definition
-// in `specs/Echo.antt`, which a caller's clause can cite too.
-pub fn echo(x: usize) -> usize
-    ensures { result ≡ echo_of x }
-{
-    x
-}
+pub use call_forms::CallForm;
+pub use levels::Level;
