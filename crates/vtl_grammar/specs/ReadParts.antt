@@ -90,14 +90,19 @@ order_part ts =
 unfoldable pub order_parts : Reads (List OrderPart)
 order_parts = listed order_part
 
+-- "current" "data" "point"
+unfoldable pub current : Reads Limit
+current ts =
+    after_keyword keyword.Current ts
+    >>= (λ a. after_keyword keyword.Data a
+    >>= (λ b. after_keyword keyword.Point b
+    >>= (λ rest. Some (limits.Current, rest))))
+
 unfoldable pub limit : Reads Limit
 limit ts =
     given (after_keyword keyword.Unbounded ts) (λ after. word side_at after >>= (λ s. Some (limits.Unbounded s.0, s.1)))
     (given (word integer_at ts) (λ d. word side_at d.1 >>= (λ s. Some (limits.Points d.0 s.0, s.1)))
-    (after_keyword keyword.Current ts
-    >>= (λ a. after_keyword keyword.Data a
-    >>= (λ b. after_keyword keyword.Point b
-    >>= (λ rest. Some (limits.Current, rest))))))
+    (current ts))
 
 -- [ "partition" "by" comps ]
 unfoldable pub partition_part : Reads (Option (List Comp))

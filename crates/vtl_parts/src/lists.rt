@@ -3,9 +3,9 @@ ghost use Rattle.std.specs.Prelude.{◌≡◌, IfOk, IsErrOf, None, Some};
 ghost use Rattle.vtl_grammar.specs.Faults.{kinds};
 ghost use Rattle.vtl_grammar.specs.Reading as reading;
 
-use crate::{ReadErr, after_sign};
+use crate::{ReadErr, after_keyword, after_sign};
 use std::alloc::Global;
-use vtl_lexer::{Sign, Token};
+use vtl_lexer::{Keyword, Sign, Token};
 use vtl_text::List;
 
 /// What stands in lists.
@@ -41,4 +41,30 @@ pub fn list<P: Part>(alloc: Global, tokens: &[Token]) -> Result<(List<P>, &[Toke
         rest = left;
     }
     Ok((List::of(parts), rest))
+}
+
+impl<P: Part> Part for List<P> {
+    ghost use Rattle.vtl_grammar.specs.Reading.{listed};
+
+    ghost reads = { listed P.reads };
+
+    fn read(alloc: Global, tokens: &[Token]) -> Result<(List<P>, &[Token]), ReadErr> {
+        list(alloc, tokens)
+    }
+}
+
+/// A word with a part behind it, or nothing.
+pub fn maybe_after<P: Part>(
+    alloc: Global,
+    tokens: &[Token],
+    word: Keyword,
+) -> Result<(Option<P>, &[Token]), ReadErr>
+    ensures ok { IfOk result (λ p. reading.maybe_after word P.reads (kinds tokens.now) ≡ Some (p.0, kinds p.1.now)) }
+    ensures refused { IsErrOf result ReadErr.Refused → reading.maybe_after word P.reads (kinds tokens.now) ≡ None }
+{
+    let Some(rest) = after_keyword(tokens, word) else {
+        return Ok((None, tokens));
+    };
+    let (part, rest) = P::read(alloc, rest)?;
+    Ok((Some(part), rest))
 }
