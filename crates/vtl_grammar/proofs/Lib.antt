@@ -1,0 +1,2 @@
+pub mod SoundSteps
+pub mod SoundTables
