@@ -1,2 +1,5 @@
+pub mod Places
+pub mod SoundLists
 pub mod SoundSteps
 pub mod SoundTables
+pub mod SoundTokens

@@ -32,6 +32,9 @@ either_way Q None f other h k o = o
 either_way Q (Some a) f other h k o = k a (h.holds a refl)
 
 -- a reading under a test
-pub tested : {B : Type 0} {Q : B → Type 0} (b : Bool) (x y : Option B) → (b ≡ true → Gives Q x) → (b ≡ false → Gives Q y) → Gives Q (if b then x else y)
-tested true x y h k = h refl
-tested false x y h k = k refl
+pub under_test : {B : Type 0} {Q : B → Type 0} (b : Bool) (x y : Option B) → (b ≡ true → Gives Q x) → (b ≡ false → Gives Q y) → Gives Q (if b then x else y)
+under_test true x y h k = h refl
+under_test false x y h k = k refl
+
+pub weaker : {A : Type 0} {P Q : A → Type 0} {r : Option A} → Gives P r → ((a : A) → P a → Q a) → Gives Q r
+weaker h k = record { holds = λ a e. k a (h.holds a e) }
