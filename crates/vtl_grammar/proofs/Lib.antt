@@ -1,5 +1,6 @@
 pub mod Places
 pub mod SoundLists
+pub mod SoundParts
 pub mod SoundSteps
 pub mod SoundTables
 pub mod SoundTokens

@@ -1,10 +1,11 @@
 -- What a token is, where a table gives a word for it.
-use Rattle.std.proofs.Common.{◌≡◌, Bool, true, false, None, Some, refl}
+use Rattle.std.proofs.Common.{◌≡◌, ◌∷◌, Bool, true, false, None, Some, refl}
 use Rattle.vtl_lexer.specs.declared.keyword.Keyword.TheVariants as keyword
 use Rattle.vtl_lexer.specs.declared.token.Sign.TheVariants as sign
 use Rattle.vtl_lexer.specs.declared.token.TokenKind.{TokenKind}
 use Rattle.vtl_lexer.specs.declared.token.TokenKind.TheVariants as token
 use Rattle.vtl_syntax.specs.declared.parts.Comp.TheVariants as comp
+use Rattle.vtl_syntax.specs.declared.parts.Constant.TheVariants as constant
 use Rattle.vtl_syntax.specs.declared.parts.Numeral.TheVariants as numeral
 use Rattle.vtl_grammar.specs.declared.call_forms.CallForm.TheVariants as form
 use Rattle.vtl_syntax.specs.declared.word_groups.BinaryOp.TheVariants as binary_op
@@ -30,7 +31,8 @@ use Rattle.vtl_syntax.specs.declared.word_groups.CastKind.TheVariants as cast_ki
 use Rattle.vtl_syntax.specs.declared.word_groups.Comparison.TheVariants as comparison
 use Rattle.vtl_syntax.specs.declared.word_groups.Addition.TheVariants as addition
 use Rattle.vtl_syntax.specs.declared.word_groups.AssignKind.TheVariants as assign_kind
-use Rattle.vtl_grammar.specs.Words.{addition_at, addition_token, assign_kind_at, assign_kind_token, basic_out_at, basic_out_token, binary_op_at, binary_op_token, cast_kind_at, cast_kind_token, check_out_at, check_out_token, comp_at, comp_token, comparison_at, comparison_token, direction_at, direction_token, form_at, form_token, group_kind_at, group_kind_token, hier_input_at, hier_input_token, hier_out_at, hier_out_token, in_at, in_token, integer_at, mode_at, mode_token, name_at, numeral_at, numeral_token, retain_at, retain_token, side_at, side_token, string_at, unary_op_at, unary_op_token, written_role_at, written_role_token}
+use Rattle.vtl_grammar.specs.Grammar.{Tokens, constant_onto}
+use Rattle.vtl_grammar.specs.Words.{addition_at, addition_token, assign_kind_at, assign_kind_token, basic_out_at, basic_out_token, binary_op_at, binary_op_token, cast_kind_at, cast_kind_token, check_out_at, check_out_token, comp_at, comp_token, comparison_at, comparison_token, constant_at, direction_at, direction_token, form_at, form_token, group_kind_at, group_kind_token, hier_input_at, hier_input_token, hier_out_at, hier_out_token, in_at, in_token, integer_at, mode_at, mode_token, name_at, numeral_at, numeral_token, retain_at, retain_token, side_at, side_token, string_at, unary_op_at, unary_op_token, written_role_at, written_role_token}
 use Rattle.vtl_grammar.proofs.SoundSteps.{Gives, none_gives, some_gives}
 
 pub binary_op_table : (t : TokenKind) → Gives (λ x. t ≡ binary_op_token x) (binary_op_at t)
@@ -207,3 +209,13 @@ string_table _ = none_gives
 pub integer_table : (t : TokenKind) → Gives (λ d. t ≡ token.Integer d) (integer_at t)
 integer_table (token.Integer d) = some_gives d refl
 integer_table _ = none_gives
+
+-- a constant of one token
+pub constant_table : (t : TokenKind) → Gives (λ c. (us : Tokens) → t ∷ us ≡ constant_onto c us) (constant_at t)
+constant_table (token.Integer d) = some_gives (constant.Number (numeral.Integer d)) (λ us. refl)
+constant_table (token.Decimal d) = some_gives (constant.Number (numeral.Decimal d)) (λ us. refl)
+constant_table (token.String s) = some_gives (constant.String s) (λ us. refl)
+constant_table (token.Keyword keyword.True) = some_gives (constant.Boolean true) (λ us. refl)
+constant_table (token.Keyword keyword.False) = some_gives (constant.Boolean false) (λ us. refl)
+constant_table (token.Keyword keyword.Null) = some_gives constant.Null (λ us. refl)
+constant_table _ = none_gives

@@ -8,7 +8,7 @@ use Rattle.vtl_lexer.specs.declared.token.TokenKind.TheVariants as token
 use Rattle.vtl_grammar.specs.Grammar.{Tokens, maybe_onto, maybe_after_onto}
 use Rattle.vtl_grammar.specs.Reading.{Reads, after_keyword, after_sign, given, is_keyword, is_sign, maybe_after, maybe_word, word}
 use Rattle.vtl_grammar.proofs.Places.{keyword_by_test, sign_by_test}
-use Rattle.vtl_grammar.proofs.SoundSteps.{Gives, either, either_way, follow, none_gives, some_gives, under_test}
+use Rattle.vtl_grammar.proofs.SoundSteps.{Gives, either, either_way, follow, none_gives, some_gives, under_test, weaker}
 
 is_keyword-sound : (k : Keyword) (t : TokenKind) → is_keyword k t ≡ true → t ≡ token.Keyword k
 is_keyword-sound k (token.Keyword w) e = ap (λ x. token.Keyword x) (keyword_by_test w k e)
@@ -37,14 +37,18 @@ Spelled onto ts p = ts ≡ onto p.0 p.1
 abbrev pub word_onto : {A : Type 0} → (A → TokenKind) → A → Tokens → Tokens
 word_onto token_of x ts = token_of x ∷ ts
 
+-- the first token is what the table gives for it
+pub word_onto-sound : {A : Type 0} (onto : A → Tokens → Tokens) (at : TokenKind → Option A) → ((t : TokenKind) → Gives (λ x. (us : Tokens) → t ∷ us ≡ onto x us) (at t)) → (ts : Tokens) → Gives (Spelled onto ts) (word at ts)
+word_onto-sound onto at table [] = none_gives
+word_onto-sound {A} onto at table (t ∷ ts) = go (at t) (table t)
+  where
+    go : (r : Option A) → Gives (λ x. (us : Tokens) → t ∷ us ≡ onto x us) r → Gives (Spelled onto (t ∷ ts)) (option_map (λ a. (a, ts)) r)
+    go None h = none_gives
+    go (Some a) h = some_gives (a, ts) (h.holds a refl ts)
+
 -- the first token is that of the word
 pub word-sound : {A : Type 0} (token_of : A → TokenKind) (at : TokenKind → Option A) → ((t : TokenKind) → Gives (λ x. t ≡ token_of x) (at t)) → (ts : Tokens) → Gives (Spelled (word_onto token_of) ts) (word at ts)
-word-sound token_of at table [] = none_gives
-word-sound {A} token_of at table (t ∷ ts) = go (at t) (table t)
-  where
-    go : (r : Option A) → Gives (λ x. t ≡ token_of x) r → Gives (Spelled (word_onto token_of) (t ∷ ts)) (option_map (λ a. (a, ts)) r)
-    go None h = none_gives
-    go (Some a) h = some_gives (a, ts) (ap (λ x. x ∷ ts) (h.holds a refl))
+word-sound token_of at table ts = word_onto-sound (word_onto token_of) at (λ t. weaker (table t) (λ x e us. ap (λ y. y ∷ us) e)) ts
 
 pub maybe_word-sound : {A : Type 0} (token_of : A → TokenKind) (at : TokenKind → Option A) → ((t : TokenKind) → Gives (λ x. t ≡ token_of x) (at t)) → (ts : Tokens) → ts ≡ maybe_onto token_of (maybe_word at ts).0 (maybe_word at ts).1
 maybe_word-sound token_of at table ts =
