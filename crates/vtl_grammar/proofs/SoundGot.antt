@@ -127,3 +127,53 @@ parts_deep (p ∷ ps) = ap (λ d. max (part_depth p) d) (parts_deep ps)
 pub parts_counted : (ps : List PartTree) → parts_count (parts_of ps) ≡ length ps
 parts_counted [] = refl
 parts_counted (p ∷ ps) = ap (λ d. suc d) (parts_counted ps)
+
+-- ---- what lists of trees are, as trees hold them
+
+abbrev pub exps_tree_onto : List Exp → Tokens → Tokens
+exps_tree_onto es ts = exps_onto (exps_of es) ts
+
+abbrev pub ExpsTreeFit : List Exp → Type 0
+ExpsTreeFit es = (1 ≤ exps_count (exps_of es)) × ExpsFit (exps_of es)
+
+abbrev pub exps_tree_depth : List Exp → ℕ
+exps_tree_depth es = exps_depth (exps_of es)
+
+pub exps_as_tree : (n : ℕ) (ts : Tokens) (g : Got (List Exp)) → IsGot (listed_onto exp_onto) (FilledWith Fits) (deepest exp_depth) n ts g → IsGot exps_tree_onto ExpsTreeFit exps_tree_depth n ts g
+exps_as_tree n ts g is = record {
+  spelled = is.spelled ∙ sym (exps_listed g.tree g.rest);
+  fits = (rw (exps_counted g.tree) is.fits.some, exps_fit g.tree is.fits.each);
+  deep = rw (exps_deep g.tree) is.deep;
+}
+
+abbrev pub calcs_tree_onto : List CalcTree → Tokens → Tokens
+calcs_tree_onto cs ts = calcs_onto (calcs_of cs) ts
+
+abbrev pub CalcsTreeFit : List CalcTree → Type 0
+CalcsTreeFit cs = (1 ≤ calcs_count (calcs_of cs)) × CalcsFit (calcs_of cs)
+
+abbrev pub calcs_tree_depth : List CalcTree → ℕ
+calcs_tree_depth cs = calcs_depth (calcs_of cs)
+
+pub calcs_as_tree : (n : ℕ) (ts : Tokens) (g : Got (List CalcTree)) → IsGot (listed_onto calc_item_onto) (FilledWith CalcFits) (deepest calc_depth) n ts g → IsGot calcs_tree_onto CalcsTreeFit calcs_tree_depth n ts g
+calcs_as_tree n ts g is = record {
+  spelled = is.spelled ∙ sym (calcs_listed g.tree g.rest);
+  fits = (rw (calcs_counted g.tree) is.fits.some, calcs_fit g.tree is.fits.each);
+  deep = rw (calcs_deep g.tree) is.deep;
+}
+
+abbrev pub parts_tree_onto : List PartTree → Tokens → Tokens
+parts_tree_onto ps ts = parts_onto (parts_of ps) ts
+
+abbrev pub PartsTreeFit : List PartTree → Type 0
+PartsTreeFit ps = PartsFit (parts_of ps)
+
+abbrev pub parts_tree_depth : List PartTree → ℕ
+parts_tree_depth ps = parts_depth (parts_of ps)
+
+pub parts_as_tree : (n : ℕ) (ts : Tokens) (g : Got (List PartTree)) → IsGot (listed_onto part_item_onto) (FilledWith PartFits) (deepest part_depth) n ts g → IsGot parts_tree_onto PartsTreeFit parts_tree_depth n ts g
+parts_as_tree n ts g is = record {
+  spelled = is.spelled ∙ sym (parts_listed g.tree g.rest);
+  fits = parts_fit g.tree is.fits.each;
+  deep = rw (parts_deep g.tree) is.deep;
+}

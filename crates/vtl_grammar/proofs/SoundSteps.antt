@@ -38,3 +38,6 @@ under_test false x y h k = k refl
 
 pub weaker : {A : Type 0} {P Q : A → Type 0} {r : Option A} → Gives P r → ((a : A) → P a → Q a) → Gives Q r
 weaker h k = record { holds = λ a e. k a (h.holds a e) }
+
+pub itself : {A : Type 0} (r : Option A) → Gives (λ a. r ≡ Some a) r
+itself r = record { holds = λ a e. e }
