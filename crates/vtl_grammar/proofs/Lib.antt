@@ -1,4 +1,5 @@
 pub mod Places
+pub mod SoundCalls
 pub mod SoundForms
 pub mod SoundGot
 pub mod SoundLists
