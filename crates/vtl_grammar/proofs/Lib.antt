@@ -2,6 +2,7 @@ pub mod Places
 pub mod SoundCalls
 pub mod SoundForms
 pub mod SoundGot
+pub mod SoundLevels
 pub mod SoundLists
 pub mod SoundParts
 pub mod SoundSteps

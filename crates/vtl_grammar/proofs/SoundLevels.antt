@@ -1,0 +1,151 @@
+-- Reading an expression gives one that stands there, may stand at the place and is as deep as the budget says.
+use Rattle.std.proofs.Common.{◌≡◌, ◌≤◌, ◌+◌, ◌∙◌, ℕ, zero, suc, Bool, true, false, Option, None, Some, List, [], ◌∷◌, arith, length, refl, sym, ap, subst}
+use Rattle.std.specs.Prelude.{max, min, nat_eq, option_map, if◌then◌else◌}
+use Rattle.vtl_lexer.specs.declared.keyword.Keyword.TheVariants as keyword
+use Rattle.vtl_lexer.specs.declared.token.Sign.TheVariants as sign
+use Rattle.vtl_lexer.specs.declared.token.TokenKind.{TokenKind}
+use Rattle.vtl_lexer.specs.declared.token.TokenKind.TheVariants as token
+use Rattle.vtl_syntax.specs.Depth.{exp_depth}
+use Rattle.vtl_syntax.specs.Trees as tree
+use Rattle.vtl_syntax.specs.Trees.{Exp}
+use Rattle.vtl_syntax.specs.declared.word_groups.BinaryOp.{BinaryOp}
+use Rattle.vtl_grammar.specs.Fits.{Fits}
+use Rattle.vtl_grammar.specs.Grammar.{Tokens, close_bracket, constant_onto, exp_onto, open_bracket, set_onto}
+use Rattle.vtl_grammar.specs.Levels.{Within, level_of, looseness, operator_level, tighter}
+use Rattle.vtl_grammar.specs.ReadExpressions.{around, bracketed, call, chain, choice, choice_or, clause, closed, formed, leaf_at, membership_at, more_operands, more_postfix, operator_at, postfix, prefixed, primary, read, read_level}
+use Rattle.vtl_grammar.specs.ReadParts.{literal_set}
+use Rattle.vtl_grammar.specs.Reading.{Gets, Got, after_keyword, after_sign, got, given, word, ◌>>=◌}
+use Rattle.vtl_grammar.specs.Words.{binary_op_at, binary_op_token, comp_at, comp_token, constant_at, form_at, form_token, in_at, in_token, unary_op_at, unary_op_token}
+use Rattle.vtl_grammar.specs.declared.call_forms.CallForm.{CallForm}
+use Rattle.vtl_grammar.specs.declared.levels.Level.{Level}
+use Rattle.vtl_grammar.specs.declared.levels.Level.TheVariants as level
+use Rattle.vtl_grammar.proofs.Places.{level_by_test}
+use Rattle.vtl_grammar.proofs.SoundCalls.{IsCall, call-sound}
+use Rattle.vtl_grammar.proofs.SoundForms.{IsExp, clause-sound}
+use Rattle.vtl_grammar.proofs.SoundParts.{comp-sound, literal_set-sound}
+use Rattle.vtl_grammar.proofs.SoundSteps.{Gives, either, follow, none_gives, some_gives, under_test, weaker}
+use Rattle.vtl_grammar.proofs.SoundTables.{binary_op_table, comp_table, constant_table, form_table, in_table, unary_op_table}
+use Rattle.vtl_grammar.proofs.SoundTokens.{Spelled, after_keyword-sound, after_sign-sound, word-sound, word_onto-sound}
+
+-- what may stand at a place may stand at each looser one
+pub looser : (a b : Level) (n : ℕ) (ts : Tokens) (g : Got Exp) → looseness a ≤ looseness b → IsExp a n ts g → IsExp b n ts g
+looser a b n ts g le is = record { spelled = is.spelled; within = omega arith; fits = is.fits; deep = is.deep }
+
+-- ---- tokens
+
+-- a name or a constant alone
+record IsLeaf (t : TokenKind) (e : Exp) : Type 0 where
+  spelled : (us : Tokens) → t ∷ us ≡ exp_onto e us
+  tight : level_of e ≡ level.Primary
+  fits : Fits e
+  deep : exp_depth e ≡ 1
+
+leaf_table : (t : TokenKind) → Gives (IsLeaf t) (leaf_at t)
+leaf_table t =
+    either (comp_at t) _ _ (comp_table t)
+    (λ c e. some_gives (tree.component c) (record { spelled = λ us. ap (λ x. x ∷ us) e; tight = refl; fits = tt; deep = refl }))
+    (of_constant (constant_at t) (constant_table t))
+  where
+    of_constant : (r : Option _) → Gives (λ c. (us : Tokens) → t ∷ us ≡ constant_onto c us) r → Gives (IsLeaf t) (option_map (λ c. tree.constant c) r)
+    of_constant None h = none_gives
+    of_constant (Some c) h = some_gives (tree.constant c) (record { spelled = h.holds c refl; tight = refl; fits = tt; deep = refl })
+
+-- the operator of a level
+record IsOperator (l : Level) (t : TokenKind) (o : BinaryOp) : Type 0 where
+  spelled : t ≡ binary_op_token o
+  at : operator_level o ≡ l
+
+operator_table : (l : Level) (t : TokenKind) → Gives (IsOperator l t) (operator_at l t)
+operator_table l t =
+    follow (binary_op_at t) _ (binary_op_table t)
+    (λ o e. under_test (nat_eq (looseness (operator_level o)) (looseness l)) (Some o) None
+    (λ same. some_gives o (record { spelled = e; at = level_by_test (operator_level o) l same }))
+    (λ other. none_gives))
+
+record IsMembership (l : Level) (t : TokenKind) (negated : Bool) : Type 0 where
+  spelled : t ≡ in_token negated
+  at : l ≡ level.Compare
+
+membership_table : (l : Level) (t : TokenKind) → Gives (IsMembership l t) (membership_at l t)
+membership_table level.Compare t = weaker (in_table t) (λ b e. record { spelled = e; at = refl })
+membership_table _ t = none_gives
+
+-- what a word's table says of the first token
+record IsFirst {A : Type 0} (Is : TokenKind → A → Type 0) (ts : Tokens) (p : A × Tokens) : Type 0 where
+  token : TokenKind
+  spelled : ts ≡ token ∷ p.1
+  is : Is token p.0
+
+first_word : {A : Type 0} (Is : TokenKind → A → Type 0) (at : TokenKind → Option A) → ((t : TokenKind) → Gives (Is t) (at t)) → (ts : Tokens) → Gives (IsFirst Is ts) (word at ts)
+first_word Is at table [] = none_gives
+first_word {A} Is at table (t ∷ ts) = go (at t) (table t)
+  where
+    go : (r : Option A) → Gives (Is t) r → Gives (IsFirst Is (t ∷ ts)) (option_map (λ a. (a, ts)) r)
+    go None h = none_gives
+    go (Some a) h = some_gives (a, ts) (record { token = t; spelled = refl; is = h.holds a refl })
+
+-- what is read within the budget of what is around
+around-sound : {A : Type 0} {P : A → Type 0} (n : ℕ) (f : ℕ → Option A) → ((s : ℕ) → n ≡ suc s → Gives P (f s)) → Gives P (around n f)
+around-sound zero f h = none_gives
+around-sound (suc n) f h = h n refl
+
+-- ---- operands
+
+module _ (n : ℕ) (part : Gets Exp) (h : (ts : Tokens) → Gives (IsExp level.Expression n ts) (part ts)) where
+  bracketed-sound : (ts : Tokens) → Gives (IsExp level.Primary (suc n) (open_bracket ∷ ts)) (bracketed part ts)
+  unfolding bracketed closed
+  bracketed-sound ts =
+      follow (part ts) _ (h ts)
+      (λ g is. follow (after_sign sign.CloseBracket g.rest) _ (after_sign-sound sign.CloseBracket g.rest)
+      (λ rest e. some_gives (got (tree.brackets g.tree) g.spare rest) (record { spelled = cc; within = omega arith; fits = is.fits; deep = omega arith })))
+
+  formed-sound : (ts : Tokens) → Gives (IsExp level.Primary (suc n) ts) (formed n part ts)
+  unfolding formed closed
+  formed-sound ts =
+      follow (word form_at ts) _ (word-sound form_token form_at form_table ts)
+      (λ f ef. follow (after_sign sign.OpenBracket f.1) _ (after_sign-sound sign.OpenBracket f.1)
+      (λ inner ei. follow (call n part f.0 inner) _ (call-sound n part h f.0 inner)
+      (λ g is. follow (after_sign sign.CloseBracket g.rest) _ (after_sign-sound sign.CloseBracket g.rest)
+      (λ rest er.
+      let all = is.spelled rest er in
+      some_gives (got g.tree g.spare rest) (record { spelled = cc; within = rw is.tight (omega arith); fits = is.fits; deep = is.deep })))))
+
+  primary-sound : (ts : Tokens) → Gives (IsExp level.Primary (suc n) ts) (primary n part ts)
+  unfolding primary
+  primary-sound ts =
+      either (word leaf_at ts) _ _ (first_word IsLeaf leaf_at leaf_table ts)
+      (λ p f. some_gives (got p.0 n p.1) (record { spelled = f.spelled ∙ f.is.spelled p.1; within = rw f.is.tight (omega arith); fits = f.is.fits; deep = rw f.is.deep (omega arith) }))
+      (either (after_sign sign.OpenBracket ts) _ _ (after_sign-sound sign.OpenBracket ts)
+      (λ after e. weaker (bracketed-sound after) (λ g is. record { spelled = e ∙ is.spelled; within = is.within; fits = is.fits; deep = is.deep }))
+      (formed-sound ts))
+
+  more_postfix-sound : (us : Tokens) (turns : ℕ) (e : Exp) (spare : ℕ) (ts : Tokens) → IsExp level.Postfix (suc n) us (got e spare ts) → Gives (IsExp level.Postfix (suc n) us) (more_postfix n part turns e spare ts)
+  unfolding more_postfix
+  more_postfix-sound us zero e spare ts is = some_gives (got e spare ts) is
+  more_postfix-sound us (suc turns) e spare ts is =
+      either (after_sign sign.OpenSquare ts) _ _ (after_sign-sound sign.OpenSquare ts)
+      (λ after ea. around-sound spare _
+      (λ s es. follow (clause n part after) _ (clause-sound n part h after)
+      (λ c ic. follow (after_sign sign.CloseSquare c.rest) _ (after_sign-sound sign.CloseSquare c.rest)
+      (λ rest er. more_postfix-sound us turns (tree.clause e c.tree) (min s c.spare) rest
+      (record { spelled = cc; within = omega arith; fits = (is.within, is.fits, ic.fits); deep = omega arith })))))
+      (either (after_sign sign.Hash ts) _ _ (after_sign-sound sign.Hash ts)
+      (λ after ea. around-sound spare _
+      (λ s es. follow (word comp_at after) _ (comp-sound after)
+      (λ c ec. more_postfix-sound us turns (tree.member e c.0) s c.1
+      (record { spelled = cc; within = omega arith; fits = (is.within, is.fits); deep = omega arith }))))
+      (some_gives (got e spare ts) is))
+
+  postfix-sound : (ts : Tokens) → Gives (IsExp level.Postfix (suc n) ts) (postfix n part ts)
+  unfolding postfix
+  postfix-sound ts =
+      follow (primary n part ts) _ (primary-sound ts)
+      (λ g is. more_postfix-sound ts (length g.rest) g.tree g.spare g.rest (looser level.Primary level.Postfix (suc n) ts g (omega arith) is))
+
+  prefixed-sound : (again : Gets Exp) → ((ts : Tokens) → Gives (IsExp level.Unary n ts) (again ts)) → (ts : Tokens) → Gives (IsExp level.Unary (suc n) ts) (prefixed n part again ts)
+  unfolding prefixed
+  prefixed-sound again ha ts =
+      either (word unary_op_at ts) _ _ (word-sound unary_op_token unary_op_at unary_op_table ts)
+      (λ o eo. follow (again o.1) _ (ha o.1)
+      (λ g is. some_gives (got (tree.unary o.0 g.tree) g.spare g.rest) (record { spelled = cc; within = omega arith; fits = (is.within, is.fits); deep = omega arith })))
+      (weaker (postfix-sound ts) (λ g is. looser level.Postfix level.Unary (suc n) ts g (omega arith) is))
