@@ -12,7 +12,7 @@ use Rattle.vtl_syntax.specs.declared.word_groups.BinaryOp.{BinaryOp}
 use Rattle.vtl_grammar.specs.Fits.{Fits}
 use Rattle.vtl_grammar.specs.Grammar.{Tokens, close_bracket, constant_onto, exp_onto, open_bracket, set_onto}
 use Rattle.vtl_grammar.specs.Levels.{Within, level_of, looseness, operator_level, tighter}
-use Rattle.vtl_grammar.specs.ReadExpressions.{around, bracketed, call, chain, choice, choice_or, clause, closed, formed, leaf_at, membership_at, more_operands, more_postfix, operator_at, postfix, prefixed, primary, read, read_level}
+use Rattle.vtl_grammar.specs.ReadExpressions.{add_at, and_at, around, bracketed, call, chain, compare_at, choice, choice_or, clause, closed, formed, leaf_at, membership_at, more_operands, more_postfix, multiply_at, operator_at, or_at, postfix, prefixed, primary, read, read_level, unary_at}
 use Rattle.vtl_grammar.specs.ReadParts.{literal_set}
 use Rattle.vtl_grammar.specs.Reading.{Gets, Got, after_keyword, after_sign, got, given, word, ◌>>=◌}
 use Rattle.vtl_grammar.specs.Words.{binary_op_at, binary_op_token, comp_at, comp_token, constant_at, form_at, form_token, in_at, in_token, unary_op_at, unary_op_token}
@@ -149,3 +149,101 @@ module _ (n : ℕ) (part : Gets Exp) (h : (ts : Tokens) → Gives (IsExp level.E
       (λ o eo. follow (again o.1) _ (ha o.1)
       (λ g is. some_gives (got (tree.unary o.0 g.tree) g.spare g.rest) (record { spelled = cc; within = omega arith; fits = (is.within, is.fits); deep = omega arith })))
       (weaker (postfix-sound ts) (λ g is. looser level.Postfix level.Unary (suc n) ts g (omega arith) is))
+
+-- ---- chains of operators
+
+module _ (n : ℕ) (l : Level) (right : Gets Exp) (hr : (ts : Tokens) → Gives (IsExp (tighter l) n ts) (right ts)) where
+  more_operands-sound : (us : Tokens) (turns : ℕ) (e : Exp) (spare : ℕ) (ts : Tokens) → IsExp l (suc n) us (got e spare ts) → Gives (IsExp l (suc n) us) (more_operands l right turns e spare ts)
+  unfolding more_operands
+  more_operands-sound us zero e spare ts is = some_gives (got e spare ts) is
+  more_operands-sound us (suc turns) e spare ts is =
+      either (word (operator_at l) ts) _ _ (first_word (IsOperator l) (operator_at l) (operator_table l) ts)
+      (λ o io. around-sound spare _
+      (λ s es. follow (right o.1) _ (hr o.1)
+      (λ g ig. more_operands-sound us turns (tree.binary e o.0 g.tree) (min s g.spare) g.rest
+      (record {
+        spelled = let first = io.spelled in let sign = io.is.spelled in cc;
+        within = rw io.is.at (omega arith);
+        fits = rw io.is.at (is.within, is.fits, ig.within, ig.fits);
+        deep = omega arith;
+      }))))
+      (either (word (membership_at l) ts) _ _ (first_word (IsMembership l) (membership_at l) (membership_table l) ts)
+      (λ i ii. around-sound spare _
+      (λ s es. follow (literal_set i.1) _ (literal_set-sound i.1)
+      (λ ls il. more_operands-sound us turns (tree.in_set e i.0 ls.0) s ls.1
+      (record {
+        spelled = let first = ii.spelled in let sign = ii.is.spelled in cc;
+        within = rw ii.is.at (omega arith);
+        fits = (subst (λ x. Within x e) ii.is.at is.within, is.fits, il.fits);
+        deep = omega arith;
+      }))))
+      (some_gives (got e spare ts) is))
+
+  chain-sound : (first : Gets Exp) → ((ts : Tokens) → Gives (IsExp (tighter l) (suc n) ts) (first ts)) → looseness (tighter l) ≤ looseness l → (ts : Tokens) → Gives (IsExp l (suc n) ts) (chain l first right ts)
+  unfolding chain
+  chain-sound first hf le ts =
+      follow (first ts) _ (hf ts)
+      (λ g is. more_operands-sound ts (length g.rest) g.tree g.spare g.rest (looser (tighter l) l (suc n) ts g le is))
+
+-- "if" expr "then" expr "else" expr
+module _ (n : ℕ) (part : Gets Exp) (h : (ts : Tokens) → Gives (IsExp level.Expression n ts) (part ts)) where
+  choice-sound : (ts : Tokens) → Gives (IsExp level.Expression (suc n) (token.Keyword keyword.If ∷ ts)) (choice part ts)
+  unfolding choice
+  choice-sound ts =
+      follow (part ts) _ (h ts)
+      (λ c ic. follow (after_keyword keyword.Then c.rest) _ (after_keyword-sound keyword.Then c.rest)
+      (λ x ex. follow (part x) _ (h x)
+      (λ a ia. follow (after_keyword keyword.Else a.rest) _ (after_keyword-sound keyword.Else a.rest)
+      (λ y ey. follow (part y) _ (h y)
+      (λ b ib. some_gives (got (tree.if_then c.tree a.tree b.tree) (min c.spare (min a.spare b.spare)) b.rest)
+      (record { spelled = cc; within = omega arith; fits = (ic.fits, ia.fits, ib.fits); deep = omega arith }))))))
+
+  choice_or-sound : (otherwise : Gets Exp) → ((ts : Tokens) → Gives (IsExp level.Or (suc n) ts) (otherwise ts)) → (ts : Tokens) → Gives (IsExp level.Expression (suc n) ts) (choice_or part otherwise ts)
+  unfolding choice_or
+  choice_or-sound otherwise ho ts =
+      either (after_keyword keyword.If ts) _ _ (after_keyword-sound keyword.If ts)
+      (λ after e. weaker (choice-sound after) (λ g is. record { spelled = e ∙ is.spelled; within = is.within; fits = is.fits; deep = is.deep }))
+      (weaker (ho ts) (λ g is. looser level.Or level.Expression (suc n) ts g (omega arith) is))
+
+-- ---- levels
+
+-- what a reading at each level gives within a budget
+abbrev pub LevelsSound : ℕ → (Level → Gets Exp) → Type 0
+LevelsSound n reads = (l : Level) (ts : Tokens) → Gives (IsExp l n ts) (reads l ts)
+
+module _ (n : ℕ) (inner : Level → Gets Exp) (h : LevelsSound n inner) where
+  unary_at-sound : (ts : Tokens) → Gives (IsExp level.Unary (suc n) ts) (unary_at n inner ts)
+  unary_at-sound ts = prefixed-sound n (inner level.Expression) (h level.Expression) (inner level.Unary) (h level.Unary) ts
+
+  multiply_at-sound : (ts : Tokens) → Gives (IsExp level.Multiply (suc n) ts) (multiply_at n inner ts)
+  multiply_at-sound ts = chain-sound n level.Multiply (inner level.Unary) (h level.Unary) (unary_at n inner) unary_at-sound (omega arith) ts
+
+  add_at-sound : (ts : Tokens) → Gives (IsExp level.Add (suc n) ts) (add_at n inner ts)
+  add_at-sound ts = chain-sound n level.Add (inner level.Multiply) (h level.Multiply) (multiply_at n inner) multiply_at-sound (omega arith) ts
+
+  compare_at-sound : (ts : Tokens) → Gives (IsExp level.Compare (suc n) ts) (compare_at n inner ts)
+  compare_at-sound ts = chain-sound n level.Compare (inner level.Add) (h level.Add) (add_at n inner) add_at-sound (omega arith) ts
+
+  and_at-sound : (ts : Tokens) → Gives (IsExp level.And (suc n) ts) (and_at n inner ts)
+  and_at-sound ts = chain-sound n level.And (inner level.Compare) (h level.Compare) (compare_at n inner) compare_at-sound (omega arith) ts
+
+  or_at-sound : (ts : Tokens) → Gives (IsExp level.Or (suc n) ts) (or_at n inner ts)
+  or_at-sound ts = chain-sound n level.Or (inner level.And) (h level.And) (and_at n inner) and_at-sound (omega arith) ts
+
+  read_level-sound : LevelsSound (suc n) (read_level n inner)
+  unfolding read_level
+  read_level-sound level.Primary ts = primary-sound n (inner level.Expression) (h level.Expression) ts
+  read_level-sound level.Postfix ts = postfix-sound n (inner level.Expression) (h level.Expression) ts
+  read_level-sound level.Unary ts = unary_at-sound ts
+  read_level-sound level.Multiply ts = multiply_at-sound ts
+  read_level-sound level.Add ts = add_at-sound ts
+  read_level-sound level.Compare ts = compare_at-sound ts
+  read_level-sound level.And ts = and_at-sound ts
+  read_level-sound level.Or ts = or_at-sound ts
+  read_level-sound level.Expression ts = choice_or-sound n (inner level.Expression) (h level.Expression) (or_at n inner) or_at-sound ts
+
+-- what is read at the front of some tokens stands there
+pub read-sound : (n : ℕ) → LevelsSound n (read n)
+unfolding read
+read-sound zero l ts = none_gives
+read-sound (suc n) l ts = read_level-sound n (read n) (read-sound n) l ts
