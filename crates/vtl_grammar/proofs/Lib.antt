@@ -5,6 +5,7 @@ pub mod SoundGot
 pub mod SoundLevels
 pub mod SoundLists
 pub mod SoundParts
+pub mod SoundStatements
 pub mod SoundSteps
 pub mod SoundTables
 pub mod SoundTokens
