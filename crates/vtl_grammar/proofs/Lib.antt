@@ -1,0 +1,2 @@
+pub mod CompleteBase
+pub mod CompleteTables
