@@ -1,2 +1,5 @@
+pub mod AppendExpressions
+pub mod AppendParts
 pub mod CompleteBase
+pub mod CompleteParts
 pub mod CompleteTables
