@@ -1,5 +1,6 @@
 pub mod AppendExpressions
 pub mod AppendParts
 pub mod CompleteBase
+pub mod CompleteLevels
 pub mod CompleteParts
 pub mod CompleteTables
