@@ -1,4 +1,11 @@
+pub mod AppendExpressions
+pub mod AppendParts
+pub mod CompleteBase
+pub mod CompleteLevels
+pub mod CompleteParts
+pub mod CompleteTables
 pub mod Places
+pub mod ScriptLemmas
 pub mod SoundCalls
 pub mod SoundForms
 pub mod SoundGot
