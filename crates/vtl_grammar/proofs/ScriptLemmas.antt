@@ -1,5 +1,5 @@
 -- What reading a script gives, and what it says of the tokens of a text.
-use Rattle.std.proofs.Common.{◌≡◌, ◌≤◌, ◌+◌, ◌-◌, ◌++◌, ◌∙◌, ℕ, zero, suc, Option, None, Some, List, [], ◌∷◌, append_assoc, append-nil, arith, length, length-append, map, refl, sym, ap, subst}
+use Rattle.std.proofs.Common.{◌≡◌, ◌⊎◌, inl, inr, ◌≤◌, ◌+◌, ◌-◌, ◌++◌, ◌∙◌, ℕ, zero, suc, Option, None, Some, List, [], ◌∷◌, append_assoc, append-nil, arith, length, length-append, map, refl, sym, ap, subst}
 use Rattle.std.specs.List.{AllByRecursion}
 use Rattle.std.proofs.lemmas.List.{append_cancel_right, length-map, map-append}
 use Rattle.vtl_lexer.specs.declared.token.Token.{Token}
@@ -234,3 +234,24 @@ module _ (complete : Complete) where
       nothing_left : (r : List Token) → length r ≡ 0 → byte_of r None ≡ Some byte → ⊥
       nothing_left [] e h = cc
       nothing_left (t ∷ r) e h = absurd (omega arith)
+
+  -- tokens cut where their kinds are
+  cut : (ts : List Token) (a b : Tokens) → kinds ts ≡ a ++ b → (front : List Token) × (rest : List Token) × (ts ≡ front ++ rest) × (kinds rest ≡ b)
+  unfolding kinds
+  cut ts [] b e = ([], ts, refl, e)
+  cut [] (x ∷ a) b e = absurd (omega (arith, ap length e))
+  cut (t ∷ ts) (x ∷ a) b e = let more = cut ts a b (same_tail t.kind x (kinds ts) (a ++ b) e) in (t ∷ more.0, more.1, ap (λ us. t ∷ us) more.2, more.3)
+
+  -- each text is a script or has a fault
+  pub whole_or_fault : (ts : List Token) (bad : Option ℕ) → ((script : ScriptTree) × WholeScript ts bad script) ⊎ ((done : ℕ) × (byte : ℕ) × SyntaxFault ts bad done byte)
+  unfolding kinds
+  whole_or_fault ts bad =
+      let is = script_read-sound (kinds ts) in
+      let read = script_read (kinds ts) in
+      let split = cut ts (tokens_of is.others) read.1 (is.spelled ∙ script-append is.others [] read.1) in
+      by_rest read.0 split.0 split.1 split.2 (ap (λ us. (read.0, us)) (sym split.3)) bad
+    where
+      by_rest : (script : ScriptTree) (front rest : List Token) → ts ≡ front ++ rest → script_read (kinds ts) ≡ (script, kinds rest) → (b : Option ℕ) → ((s : ScriptTree) × WholeScript ts b s) ⊎ ((done : ℕ) × (byte : ℕ) × SyntaxFault ts b done byte)
+      by_rest script front [] e read None = inl (script, record { whole = refl; spelled = script_read-spells (kinds ts) script read })
+      by_rest script front [] e read (Some b) = inr (length script, b, script_read-fault ts front [] (Some b) script b read e refl)
+      by_rest script front (t ∷ rest) e read b = inr (length script, t.start, script_read-fault ts front (t ∷ rest) b script t.start read e refl)
