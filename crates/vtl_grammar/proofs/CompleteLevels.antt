@@ -105,6 +105,38 @@ operator_link op.Concat = refl
 operator_link op.Multiply = refl
 operator_link op.Divide = refl
 
+pub operator_loose : (o : BinaryOp) → 3 ≤ looseness (operator_level o)
+operator_loose op.Or = omega arith
+operator_loose op.Xor = omega arith
+operator_loose op.And = omega arith
+operator_loose op.Equal = omega arith
+operator_loose op.NotEqual = omega arith
+operator_loose op.Less = omega arith
+operator_loose op.LessOrEqual = omega arith
+operator_loose op.Greater = omega arith
+operator_loose op.GreaterOrEqual = omega arith
+operator_loose op.Add = omega arith
+operator_loose op.Subtract = omega arith
+operator_loose op.Concat = omega arith
+operator_loose op.Multiply = omega arith
+operator_loose op.Divide = omega arith
+
+pub operator_tight : (o : BinaryOp) → looseness (operator_level o) ≤ 7
+operator_tight op.Or = omega arith
+operator_tight op.Xor = omega arith
+operator_tight op.And = omega arith
+operator_tight op.Equal = omega arith
+operator_tight op.NotEqual = omega arith
+operator_tight op.Less = omega arith
+operator_tight op.LessOrEqual = omega arith
+operator_tight op.Greater = omega arith
+operator_tight op.GreaterOrEqual = omega arith
+operator_tight op.Add = omega arith
+operator_tight op.Subtract = omega arith
+operator_tight op.Concat = omega arith
+operator_tight op.Multiply = omega arith
+operator_tight op.Divide = omega arith
+
 pub in_link : (b : Bool) → link (in_token b) ≡ 5
 in_link true = refl
 in_link false = refl
@@ -259,7 +291,7 @@ ends_apart _ h = refl
 pub form_no_leaf : (f : CallForm) → in_table leaf_at (form_token f) ≡ false
 form_no_leaf = form_lacks (in_table leaf_at) leaf_apart
 
-sign_apart : (s : Sign) (t : TokenKind) → is_sign s t ≡ true → form_at t ≡ None
+pub sign_apart : (s : Sign) (t : TokenKind) → is_sign s t ≡ true → form_at t ≡ None
 sign_apart s (token.Sign x) h = refl
 sign_apart s _ h = cc
 

@@ -1,8 +1,12 @@
 pub mod AppendExpressions
 pub mod AppendParts
 pub mod CompleteBase
+pub mod CompleteCalls
+pub mod CompleteChains
+pub mod CompleteExpressions
 pub mod CompleteForms
 pub mod CompleteLevels
 pub mod CompleteParts
+pub mod CompletePrimary
 pub mod CompleteTables
 pub mod CompleteTrees
