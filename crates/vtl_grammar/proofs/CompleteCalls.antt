@@ -55,7 +55,7 @@ ends_group None tree.no_exp rest = refl
 ends_group None (tree.some_exp e) rest = refl
 ends_group (Some g) h rest = refl
 
-error_lacks : (p : TokenKind → Bool) → p (token.Keyword keyword.Errorcode) ≡ false → p (token.Keyword keyword.Errorlevel) ≡ false → (e : ErrorPart) (rest : Tokens) → Lacks p rest → Lacks p (error_onto e rest)
+pub error_lacks : (p : TokenKind → Bool) → p (token.Keyword keyword.Errorcode) ≡ false → p (token.Keyword keyword.Errorlevel) ≡ false → (e : ErrorPart) (rest : Tokens) → Lacks p rest → Lacks p (error_onto e rest)
 error_lacks p no_code no_level e rest h =
     let level : Tokens = maybe_after_onto (token.Keyword keyword.Errorlevel) integer_onto e.level rest in
     maybe_after_lacks p (token.Keyword keyword.Errorcode) string_onto no_code e.code level (maybe_after_lacks p (token.Keyword keyword.Errorlevel) integer_onto no_level e.level rest h)

@@ -8,5 +8,7 @@ pub mod CompleteForms
 pub mod CompleteLevels
 pub mod CompleteParts
 pub mod CompletePrimary
+pub mod CompleteRules
+pub mod CompleteStatements
 pub mod CompleteTables
 pub mod CompleteTrees
