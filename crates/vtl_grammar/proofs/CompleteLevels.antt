@@ -105,6 +105,38 @@ operator_link op.Concat = refl
 operator_link op.Multiply = refl
 operator_link op.Divide = refl
 
+pub operator_loose : (o : BinaryOp) → 3 ≤ looseness (operator_level o)
+operator_loose op.Or = omega arith
+operator_loose op.Xor = omega arith
+operator_loose op.And = omega arith
+operator_loose op.Equal = omega arith
+operator_loose op.NotEqual = omega arith
+operator_loose op.Less = omega arith
+operator_loose op.LessOrEqual = omega arith
+operator_loose op.Greater = omega arith
+operator_loose op.GreaterOrEqual = omega arith
+operator_loose op.Add = omega arith
+operator_loose op.Subtract = omega arith
+operator_loose op.Concat = omega arith
+operator_loose op.Multiply = omega arith
+operator_loose op.Divide = omega arith
+
+pub operator_tight : (o : BinaryOp) → looseness (operator_level o) ≤ 7
+operator_tight op.Or = omega arith
+operator_tight op.Xor = omega arith
+operator_tight op.And = omega arith
+operator_tight op.Equal = omega arith
+operator_tight op.NotEqual = omega arith
+operator_tight op.Less = omega arith
+operator_tight op.LessOrEqual = omega arith
+operator_tight op.Greater = omega arith
+operator_tight op.GreaterOrEqual = omega arith
+operator_tight op.Add = omega arith
+operator_tight op.Subtract = omega arith
+operator_tight op.Concat = omega arith
+operator_tight op.Multiply = omega arith
+operator_tight op.Divide = omega arith
+
 pub in_link : (b : Bool) → link (in_token b) ≡ 5
 in_link true = refl
 in_link false = refl
@@ -249,6 +281,21 @@ if_apart : (t : TokenKind) → is_keyword keyword.If t ≡ true → form_at t �
 if_apart (token.Keyword keyword.If) h = refl
 if_apart _ h = cc
 
+when_apart : (t : TokenKind) → is_keyword keyword.When t ≡ true → form_at t ≡ None
+when_apart (token.Keyword keyword.When) h = refl
+when_apart _ h = cc
+
+end_apart : (t : TokenKind) → is_keyword keyword.End t ≡ true → form_at t ≡ None
+end_apart (token.Keyword keyword.End) h = refl
+end_apart _ h = cc
+
+name_apart : (t : TokenKind) → in_table name_at t ≡ true → form_at t ≡ None
+name_apart (token.Name n) h = refl
+name_apart _ h = cc
+
+pub form_no_name : (f : CallForm) → in_table name_at (form_token f) ≡ false
+form_no_name = form_lacks (in_table name_at) name_apart
+
 ends_apart : (t : TokenKind) → ends_operand t ≡ true → form_at t ≡ None
 ends_apart (token.Keyword keyword.Group) h = refl
 ends_apart (token.Keyword keyword.Having) h = refl
@@ -259,7 +306,7 @@ ends_apart _ h = refl
 pub form_no_leaf : (f : CallForm) → in_table leaf_at (form_token f) ≡ false
 form_no_leaf = form_lacks (in_table leaf_at) leaf_apart
 
-sign_apart : (s : Sign) (t : TokenKind) → is_sign s t ≡ true → form_at t ≡ None
+pub sign_apart : (s : Sign) (t : TokenKind) → is_sign s t ≡ true → form_at t ≡ None
 sign_apart s (token.Sign x) h = refl
 sign_apart s _ h = cc
 
@@ -305,3 +352,30 @@ operand_start = record {
   no_form = form_lacks ends_operand ends_apart;
 }
 
+-- no `when` begins an expression
+pub when_start : NoStart level.Expression (is_keyword keyword.When)
+when_start = record {
+  no_if = λ h. refl;
+  no_unary = λ h o. elim o as (λ v. (is_keyword keyword.When) (unary_op_token v) ≡ false) [ unary_op.Plus ↦ refl | unary_op.Minus ↦ refl | unary_op.Not ↦ refl ];
+  no_comp = comp_lacks (is_keyword keyword.When) (λ n. refl) (λ n. refl);
+  no_numeral = λ n. elim n as (λ v. (is_keyword keyword.When) (numeral_token v) ≡ false) [ numeral.Integer d ↦ refl | numeral.Decimal d ↦ refl ];
+  no_string = λ s. refl;
+  no_boolean = λ b. elim b as (λ v. (is_keyword keyword.When) (boolean_token v) ≡ false) [ true ↦ refl | false ↦ refl ];
+  no_null = refl;
+  no_open = refl;
+  no_form = form_lacks (is_keyword keyword.When) when_apart;
+}
+
+-- and no `end`
+pub end_start : NoStart level.Expression (is_keyword keyword.End)
+end_start = record {
+  no_if = λ h. refl;
+  no_unary = λ h o. elim o as (λ v. (is_keyword keyword.End) (unary_op_token v) ≡ false) [ unary_op.Plus ↦ refl | unary_op.Minus ↦ refl | unary_op.Not ↦ refl ];
+  no_comp = comp_lacks (is_keyword keyword.End) (λ n. refl) (λ n. refl);
+  no_numeral = λ n. elim n as (λ v. (is_keyword keyword.End) (numeral_token v) ≡ false) [ numeral.Integer d ↦ refl | numeral.Decimal d ↦ refl ];
+  no_string = λ s. refl;
+  no_boolean = λ b. elim b as (λ v. (is_keyword keyword.End) (boolean_token v) ≡ false) [ true ↦ refl | false ↦ refl ];
+  no_null = refl;
+  no_open = refl;
+  no_form = form_lacks (is_keyword keyword.End) end_apart;
+}

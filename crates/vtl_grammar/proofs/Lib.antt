@@ -1,9 +1,17 @@
 pub mod AppendExpressions
 pub mod AppendParts
 pub mod CompleteBase
+pub mod CompleteCalls
+pub mod CompleteChains
+pub mod CompleteExpressions
+pub mod CompleteForms
 pub mod CompleteLevels
 pub mod CompleteParts
+pub mod CompletePrimary
+pub mod CompleteRules
+pub mod CompleteStatements
 pub mod CompleteTables
+pub mod CompleteTrees
 pub mod Places
 pub mod ScriptLemmas
 pub mod SoundCalls
