@@ -16,3 +16,4 @@ pub mod SoundStatements
 pub mod SoundSteps
 pub mod SoundTables
 pub mod SoundTokens
+pub mod CompleteHole
