@@ -194,4 +194,3 @@ level_by_place x y e = sym (level_at_place x) ∙ ap (λ n. get_or levels n leve
 
 pub level_by_test : (x y : Level) → nat_eq (looseness x) (looseness y) ≡ true → x ≡ y
 level_by_test x y e = level_by_place x y (same_number (looseness x) (looseness y) e)
-

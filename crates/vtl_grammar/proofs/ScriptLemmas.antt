@@ -215,7 +215,7 @@ module _ (complete : Complete) where
       let above = same_done ts bad other at done byte g f in
       let one : done ≡ other = omega arith in
       let both = same_front f.script g.script (kinds f.rest) (kinds g.rest) f.spelled.each g.spelled.each (f.counts ∙ one ∙ sym g.counts)
-          (sym (front_kinds-onto ts f.front f.rest f.script f.split f.spelled.is) ∙ front_kinds-onto ts g.front g.rest g.script g.split g.spelled.is) in
+      (sym (front_kinds-onto ts f.front f.rest f.script f.split f.spelled.is) ∙ front_kinds-onto ts g.front g.rest g.script g.split g.spelled.is) in
       let rest = same_end f.front g.front f.rest g.rest (sym f.split ∙ g.split) (same_kinds f.rest g.rest both.1) in
       (one, same_value byte at (sym f.at ∙ ap (λ r. byte_of r bad) rest ∙ g.at))
 
