@@ -24,4 +24,3 @@ pub mod SoundStatements
 pub mod SoundSteps
 pub mod SoundTables
 pub mod SoundTokens
-pub mod CompleteHole

@@ -10,6 +10,7 @@ use Rattle.vtl_grammar.specs.Grammar.{Tokens, script_onto, statement_onto, token
 use Rattle.vtl_grammar.specs.ReadStatements.{assignment_read, script_read, statement_read, statements_read}
 use Rattle.vtl_grammar.specs.Reading.{after_keyword, given}
 use Rattle.vtl_grammar.proofs.AppendExpressions.{script-append, statement-append}
+use Rattle.vtl_grammar.proofs.CompleteStatements.{statement_complete}
 use Rattle.vtl_grammar.proofs.SoundLists.{IsRead}
 use Rattle.vtl_grammar.proofs.SoundStatements.{statement_read-sound}
 
@@ -75,12 +76,6 @@ pub script_read-sound : (ts : Tokens) → IsScript [] ts (script_read ts)
 unfolding script_read
 script_read-sound ts = statements_read-sound (length ts) [] ts (omega arith)
 
--- ---- where each statement of the grammar is read
-
--- each statement of the grammar is read where it stands
-abbrev pub Complete : Type 0
-Complete = (s : StatementTree) (rest : Tokens) → InGrammar s → statement_read (statement_onto s rest) ≡ Some (s, rest)
-
 -- ---- what a script that was read says of its tokens
 
 is_script : (ts : Tokens) (p : ScriptTree × Tokens) → script_read ts ≡ p → IsScript [] ts p
@@ -128,130 +123,129 @@ same_kinds : (r q : List Token) → kinds r ≡ kinds q → length r ≡ length 
 unfolding kinds
 same_kinds r q e = sym (length-map r (λ t. t.kind)) ∙ ap length e ∙ length-map q (λ t. t.kind)
 
--- ---- what is read, where each statement of the grammar is read
+-- ---- scripts that stand in front are read
 
-module _ (complete : Complete) where
-  statements_read-complete : (script : ScriptTree) → AllByRecursion InGrammar script → (all turns : ℕ) → all ≡ length script + turns → (front : ScriptTree) (rest : Tokens) → statements_read all front (script_onto script rest) ≡ statements_read turns (front ++ script) rest
-  statements_read-complete [] each all turns e front rest = let same : all ≡ turns = omega arith in rw (same, append-nil front) refl
-  statements_read-complete (s ∷ ss) each zero turns e front rest = absurd (omega arith)
-  statements_read-complete (s ∷ ss) each (suc n) turns e front rest =
-      statements_read-some n front (statement_onto s (script_onto ss rest)) s (script_onto ss rest) (complete s (script_onto ss rest) each.0)
-      ∙ statements_read-complete ss each.1 n turns (omega arith) (front ++ s ∷ []) rest
-      ∙ ap (λ f. statements_read turns f rest) (append_assoc front (s ∷ []) ss)
+statements_read-complete : (script : ScriptTree) → AllByRecursion InGrammar script → (all turns : ℕ) → all ≡ length script + turns → (front : ScriptTree) (rest : Tokens) → statements_read all front (script_onto script rest) ≡ statements_read turns (front ++ script) rest
+statements_read-complete [] each all turns e front rest = let same : all ≡ turns = omega arith in rw (same, append-nil front) refl
+statements_read-complete (s ∷ ss) each zero turns e front rest = absurd (omega arith)
+statements_read-complete (s ∷ ss) each (suc n) turns e front rest =
+    statements_read-some n front (statement_onto s (script_onto ss rest)) s (script_onto ss rest) (statement_complete s (script_onto ss rest) each.0)
+    ∙ statements_read-complete ss each.1 n turns (omega arith) (front ++ s ∷ []) rest
+    ∙ ap (λ f. statements_read turns f rest) (append_assoc front (s ∷ []) ss)
 
-  -- the turns that are left behind a script
-  left_turns : (script : ScriptTree) (rest : Tokens) → length (script_onto script rest) ≡ length script + (length (script_onto script rest) - length script)
-  left_turns script rest = let grows = script_grows script rest in omega arith
+-- the turns that are left behind a script
+left_turns : (script : ScriptTree) (rest : Tokens) → length (script_onto script rest) ≡ length script + (length (script_onto script rest) - length script)
+left_turns script rest = let grows = script_grows script rest in omega arith
 
-  script_read-onto : (script : ScriptTree) (rest : Tokens) → AllByRecursion InGrammar script → script_read (script_onto script rest) ≡ statements_read (length (script_onto script rest) - length script) script rest
-  unfolding script_read
-  script_read-onto script rest each = statements_read-complete script each (length (script_onto script rest)) (length (script_onto script rest) - length script) (left_turns script rest) [] rest
+script_read-onto : (script : ScriptTree) (rest : Tokens) → AllByRecursion InGrammar script → script_read (script_onto script rest) ≡ statements_read (length (script_onto script rest) - length script) script rest
+unfolding script_read
+script_read-onto script rest each = statements_read-complete script each (length (script_onto script rest)) (length (script_onto script rest) - length script) (left_turns script rest) [] rest
 
-  -- a script that stands in front is read, where no statement follows
-  pub script_read-complete : (script : ScriptTree) (rest : Tokens) → AllByRecursion InGrammar script → statement_read rest ≡ None → script_read (script_onto script rest) ≡ (script, rest)
-  script_read-complete script rest each none = script_read-onto script rest each ∙ statements_read-none (length (script_onto script rest) - length script) script rest none
+-- a script that stands in front is read, where no statement follows
+pub script_read-complete : (script : ScriptTree) (rest : Tokens) → AllByRecursion InGrammar script → statement_read rest ≡ None → script_read (script_onto script rest) ≡ (script, rest)
+script_read-complete script rest each none = script_read-onto script rest each ∙ statements_read-none (length (script_onto script rest) - length script) script rest none
 
-  pub script_read-spelled : (ts : Tokens) (script : ScriptTree) → Spells ts script → script_read ts ≡ (script, [])
-  script_read-spelled ts script spells = ap script_read spells.is ∙ script_read-complete script [] spells.each statement_read-nil
+pub script_read-spelled : (ts : Tokens) (script : ScriptTree) → Spells ts script → script_read ts ≡ (script, [])
+script_read-spelled ts script spells = ap script_read spells.is ∙ script_read-complete script [] spells.each statement_read-nil
 
-  -- and no longer script stands in front than the one that is read
-  pub script_read-greatest : (script : ScriptTree) (rest : Tokens) → AllByRecursion InGrammar script → length script ≤ length (script_read (script_onto script rest)).0
-  script_read-greatest script rest each =
-      let turns = length (script_onto script rest) - length script in
-      let grows = script_grows script rest in
-      let more = statements_read-sound turns script rest (omega arith) in
-      rw (script_read-onto script rest each) (rw more.all (omega (arith, length-append script more.others)))
+-- and no longer script stands in front than the one that is read
+pub script_read-greatest : (script : ScriptTree) (rest : Tokens) → AllByRecursion InGrammar script → length script ≤ length (script_read (script_onto script rest)).0
+script_read-greatest script rest each =
+    let turns = length (script_onto script rest) - length script in
+    let grows = script_grows script rest in
+    let more = statements_read-sound turns script rest (omega arith) in
+    rw (script_read-onto script rest each) (rw more.all (omega (arith, length-append script more.others)))
 
-  -- what is wrong with a text, where not all of its tokens are read, or not all of it is tokens
-  pub script_read-fault : (ts front rest : List Token) (bad : Option ℕ) (script : ScriptTree) (byte : ℕ) → script_read (kinds ts) ≡ (script, kinds rest) → ts ≡ front ++ rest → byte_of rest bad ≡ Some byte → SyntaxFault ts bad (length script) byte
-  script_read-fault ts front rest bad script byte e split at =
-      let is = is_script (kinds ts) (script, kinds rest) e in
-      let spelled : kinds ts ≡ script_onto script (kinds rest) = rw is.all is.spelled in
-      record {
-        front = front;
-        rest = rest;
-        split = split;
-        script = script;
-        spelled = record { is = front_kinds ts front rest script split spelled; each = rw is.all is.each };
-        counts = refl;
-        greatest = λ f r s cut spells.
-            let longest = script_read-greatest s (kinds r) spells.each in
-            let whole = front_kinds-onto ts f r s cut spells.is in
-            subst (λ p. length s ≤ length p.0) (ap script_read (sym whole) ∙ e) longest;
-        at = at;
-      }
+-- what is wrong with a text, where not all of its tokens are read, or not all of it is tokens
+pub script_read-fault : (ts front rest : List Token) (bad : Option ℕ) (script : ScriptTree) (byte : ℕ) → script_read (kinds ts) ≡ (script, kinds rest) → ts ≡ front ++ rest → byte_of rest bad ≡ Some byte → SyntaxFault ts bad (length script) byte
+script_read-fault ts front rest bad script byte e split at =
+    let is = is_script (kinds ts) (script, kinds rest) e in
+    let spelled : kinds ts ≡ script_onto script (kinds rest) = rw is.all is.spelled in
+    record {
+      front = front;
+      rest = rest;
+      split = split;
+      script = script;
+      spelled = record { is = front_kinds ts front rest script split spelled; each = rw is.all is.each };
+      counts = refl;
+      greatest = λ f r s cut spells.
+          let longest = script_read-greatest s (kinds r) spells.each in
+          let whole = front_kinds-onto ts f r s cut spells.is in
+          subst (λ p. length s ≤ length p.0) (ap script_read (sym whole) ∙ e) longest;
+      at = at;
+    }
 
-  -- ---- one script at most
+-- ---- one script at most
 
-  -- scripts of one length are one, where they stand in front of one list
-  pub same_front : (a b : ScriptTree) (r q : Tokens) → AllByRecursion InGrammar a → AllByRecursion InGrammar b → length a ≡ length b → script_onto a r ≡ script_onto b q → (a ≡ b) × (r ≡ q)
-  same_front [] [] r q ha hb same e = (refl, e)
-  same_front [] (y ∷ b) r q ha hb same e = absurd (omega arith)
-  same_front (x ∷ a) [] r q ha hb same e = absurd (omega arith)
-  same_front (x ∷ a) (y ∷ b) r q ha hb same e =
-      let both = same_read x y (script_onto a r) (script_onto b q) (sym (complete x (script_onto a r) ha.0) ∙ ap statement_read e ∙ complete y (script_onto b q) hb.0) in
-      let rest = same_front a b r q ha.1 hb.1 (omega arith) both.1 in
-      (same_cons x y a b both.0 rest.0, rest.1)
+-- scripts of one length are one, where they stand in front of one list
+pub same_front : (a b : ScriptTree) (r q : Tokens) → AllByRecursion InGrammar a → AllByRecursion InGrammar b → length a ≡ length b → script_onto a r ≡ script_onto b q → (a ≡ b) × (r ≡ q)
+same_front [] [] r q ha hb same e = (refl, e)
+same_front [] (y ∷ b) r q ha hb same e = absurd (omega arith)
+same_front (x ∷ a) [] r q ha hb same e = absurd (omega arith)
+same_front (x ∷ a) (y ∷ b) r q ha hb same e =
+    let both = same_read x y (script_onto a r) (script_onto b q) (sym (statement_complete x (script_onto a r) ha.0) ∙ ap statement_read e ∙ statement_complete y (script_onto b q) hb.0) in
+    let rest = same_front a b r q ha.1 hb.1 (omega arith) both.1 in
+    (same_cons x y a b both.0 rest.0, rest.1)
 
-  pub Spells-unique : (ts : Tokens) (a b : ScriptTree) → Spells ts a → Spells ts b → a ≡ b
-  Spells-unique ts a b ha hb =
-      let both : (a, []) ≡ (b, []) = sym (script_read-spelled ts a ha) ∙ script_read-spelled ts b hb in
-      ap (λ p. p.0) both
+pub Spells-unique : (ts : Tokens) (a b : ScriptTree) → Spells ts a → Spells ts b → a ≡ b
+Spells-unique ts a b ha hb =
+    let both : (a, []) ≡ (b, []) = sym (script_read-spelled ts a ha) ∙ script_read-spelled ts b hb in
+    ap (λ p. p.0) both
 
-  -- no statement begins another
-  pub statement-prefix : (s t : StatementTree) (ts us : Tokens) → InGrammar s → InGrammar t → ts ≡ statement_onto s [] → ts ++ us ≡ statement_onto t [] → us ≡ []
-  statement-prefix s t ts us hs ht es et =
-      let one : ts ++ us ≡ statement_onto s us = ap (λ x. x ++ us) es ∙ sym (statement-append s [] us) in
-      (same_read s t us [] (sym (complete s us hs) ∙ ap statement_read (sym one ∙ et) ∙ complete t [] ht)).1
+-- no statement begins another
+pub statement-prefix : (s t : StatementTree) (ts us : Tokens) → InGrammar s → InGrammar t → ts ≡ statement_onto s [] → ts ++ us ≡ statement_onto t [] → us ≡ []
+statement-prefix s t ts us hs ht es et =
+    let one : ts ++ us ≡ statement_onto s us = ap (λ x. x ++ us) es ∙ sym (statement-append s [] us) in
+    (same_read s t us [] (sym (statement_complete s us hs) ∙ ap statement_read (sym one ∙ et) ∙ statement_complete t [] ht)).1
 
-  -- ---- faults
+-- ---- faults
 
-  same_done : (ts : List Token) (bad : Option ℕ) (done byte other at : ℕ) → SyntaxFault ts bad done byte → SyntaxFault ts bad other at → done ≤ other
-  same_done ts bad done byte other at f g = let le = g.greatest f.front f.rest f.script f.split f.spelled in let counts = f.counts in omega arith
+same_done : (ts : List Token) (bad : Option ℕ) (done byte other at : ℕ) → SyntaxFault ts bad done byte → SyntaxFault ts bad other at → done ≤ other
+same_done ts bad done byte other at f g = let le = g.greatest f.front f.rest f.script f.split f.spelled in let counts = f.counts in omega arith
 
-  pub fault-determined : (ts : List Token) (bad : Option ℕ) (done byte other at : ℕ) → SyntaxFault ts bad done byte → SyntaxFault ts bad other at → (done ≡ other) × (byte ≡ at)
-  fault-determined ts bad done byte other at f g =
-      let below = same_done ts bad done byte other at f g in
-      let above = same_done ts bad other at done byte g f in
-      let one : done ≡ other = omega arith in
-      let both = same_front f.script g.script (kinds f.rest) (kinds g.rest) f.spelled.each g.spelled.each (f.counts ∙ one ∙ sym g.counts)
-      (sym (front_kinds-onto ts f.front f.rest f.script f.split f.spelled.is) ∙ front_kinds-onto ts g.front g.rest g.script g.split g.spelled.is) in
-      let rest = same_end f.front g.front f.rest g.rest (sym f.split ∙ g.split) (same_kinds f.rest g.rest both.1) in
-      (one, same_value byte at (sym f.at ∙ ap (λ r. byte_of r bad) rest ∙ g.at))
+pub fault-determined : (ts : List Token) (bad : Option ℕ) (done byte other at : ℕ) → SyntaxFault ts bad done byte → SyntaxFault ts bad other at → (done ≡ other) × (byte ≡ at)
+fault-determined ts bad done byte other at f g =
+    let below = same_done ts bad done byte other at f g in
+    let above = same_done ts bad other at done byte g f in
+    let one : done ≡ other = omega arith in
+    let both = same_front f.script g.script (kinds f.rest) (kinds g.rest) f.spelled.each g.spelled.each (f.counts ∙ one ∙ sym g.counts)
+    (sym (front_kinds-onto ts f.front f.rest f.script f.split f.spelled.is) ∙ front_kinds-onto ts g.front g.rest g.script g.split g.spelled.is) in
+    let rest = same_end f.front g.front f.rest g.rest (sym f.split ∙ g.split) (same_kinds f.rest g.rest both.1) in
+    (one, same_value byte at (sym f.at ∙ ap (λ r. byte_of r bad) rest ∙ g.at))
 
-  -- a text that is a script has no fault
-  pub whole-no_fault : (ts : List Token) (bad : Option ℕ) (script : ScriptTree) (done byte : ℕ) → WholeScript ts bad script → SyntaxFault ts bad done byte → ⊥
-  unfolding kinds
-  whole-no_fault ts bad script done byte w f =
-      let read = script_read-spelled (kinds ts) script w.spelled in
-      let onto = front_kinds-onto ts f.front f.rest f.script f.split f.spelled.is in
-      let less : length f.script ≤ length script = subst (λ p. length f.script ≤ length p.0) (ap script_read (sym onto) ∙ read) (script_read-greatest f.script (kinds f.rest) f.spelled.each) in
-      let more = f.greatest ts [] script (sym (append-nil ts)) w.spelled in
-      let counts = f.counts in
-      let both = same_front f.script script (kinds f.rest) [] f.spelled.each w.spelled.each (omega arith) (sym onto ∙ w.spelled.is) in
-      nothing_left f.rest (same_kinds f.rest [] both.1) (ap (byte_of f.rest) (sym w.whole) ∙ f.at)
-    where
-      nothing_left : (r : List Token) → length r ≡ 0 → byte_of r None ≡ Some byte → ⊥
-      nothing_left [] e h = cc
-      nothing_left (t ∷ r) e h = absurd (omega arith)
+-- a text that is a script has no fault
+pub whole-no_fault : (ts : List Token) (bad : Option ℕ) (script : ScriptTree) (done byte : ℕ) → WholeScript ts bad script → SyntaxFault ts bad done byte → ⊥
+unfolding kinds
+whole-no_fault ts bad script done byte w f =
+    let read = script_read-spelled (kinds ts) script w.spelled in
+    let onto = front_kinds-onto ts f.front f.rest f.script f.split f.spelled.is in
+    let less : length f.script ≤ length script = subst (λ p. length f.script ≤ length p.0) (ap script_read (sym onto) ∙ read) (script_read-greatest f.script (kinds f.rest) f.spelled.each) in
+    let more = f.greatest ts [] script (sym (append-nil ts)) w.spelled in
+    let counts = f.counts in
+    let both = same_front f.script script (kinds f.rest) [] f.spelled.each w.spelled.each (omega arith) (sym onto ∙ w.spelled.is) in
+    nothing_left f.rest (same_kinds f.rest [] both.1) (ap (byte_of f.rest) (sym w.whole) ∙ f.at)
+  where
+    nothing_left : (r : List Token) → length r ≡ 0 → byte_of r None ≡ Some byte → ⊥
+    nothing_left [] e h = cc
+    nothing_left (t ∷ r) e h = absurd (omega arith)
 
-  -- tokens cut where their kinds are
-  cut : (ts : List Token) (a b : Tokens) → kinds ts ≡ a ++ b → (front : List Token) × (rest : List Token) × (ts ≡ front ++ rest) × (kinds rest ≡ b)
-  unfolding kinds
-  cut ts [] b e = ([], ts, refl, e)
-  cut [] (x ∷ a) b e = absurd (omega (arith, ap length e))
-  cut (t ∷ ts) (x ∷ a) b e = let more = cut ts a b (same_tail t.kind x (kinds ts) (a ++ b) e) in (t ∷ more.0, more.1, ap (λ us. t ∷ us) more.2, more.3)
+-- tokens cut where their kinds are
+cut : (ts : List Token) (a b : Tokens) → kinds ts ≡ a ++ b → (front : List Token) × (rest : List Token) × (ts ≡ front ++ rest) × (kinds rest ≡ b)
+unfolding kinds
+cut ts [] b e = ([], ts, refl, e)
+cut [] (x ∷ a) b e = absurd (omega (arith, ap length e))
+cut (t ∷ ts) (x ∷ a) b e = let more = cut ts a b (same_tail t.kind x (kinds ts) (a ++ b) e) in (t ∷ more.0, more.1, ap (λ us. t ∷ us) more.2, more.3)
 
-  -- each text is a script or has a fault
-  pub whole_or_fault : (ts : List Token) (bad : Option ℕ) → ((script : ScriptTree) × WholeScript ts bad script) ⊎ ((done : ℕ) × (byte : ℕ) × SyntaxFault ts bad done byte)
-  unfolding kinds
-  whole_or_fault ts bad =
-      let is = script_read-sound (kinds ts) in
-      let read = script_read (kinds ts) in
-      let split = cut ts (tokens_of is.others) read.1 (is.spelled ∙ script-append is.others [] read.1) in
-      by_rest read.0 split.0 split.1 split.2 (ap (λ us. (read.0, us)) (sym split.3)) bad
-    where
-      by_rest : (script : ScriptTree) (front rest : List Token) → ts ≡ front ++ rest → script_read (kinds ts) ≡ (script, kinds rest) → (b : Option ℕ) → ((s : ScriptTree) × WholeScript ts b s) ⊎ ((done : ℕ) × (byte : ℕ) × SyntaxFault ts b done byte)
-      by_rest script front [] e read None = inl (script, record { whole = refl; spelled = script_read-spells (kinds ts) script read })
-      by_rest script front [] e read (Some b) = inr (length script, b, script_read-fault ts front [] (Some b) script b read e refl)
-      by_rest script front (t ∷ rest) e read b = inr (length script, t.start, script_read-fault ts front (t ∷ rest) b script t.start read e refl)
+-- each text is a script or has a fault
+pub whole_or_fault : (ts : List Token) (bad : Option ℕ) → ((script : ScriptTree) × WholeScript ts bad script) ⊎ ((done : ℕ) × (byte : ℕ) × SyntaxFault ts bad done byte)
+unfolding kinds
+whole_or_fault ts bad =
+    let is = script_read-sound (kinds ts) in
+    let read = script_read (kinds ts) in
+    let split = cut ts (tokens_of is.others) read.1 (is.spelled ∙ script-append is.others [] read.1) in
+    by_rest read.0 split.0 split.1 split.2 (ap (λ us. (read.0, us)) (sym split.3)) bad
+  where
+    by_rest : (script : ScriptTree) (front rest : List Token) → ts ≡ front ++ rest → script_read (kinds ts) ≡ (script, kinds rest) → (b : Option ℕ) → ((s : ScriptTree) × WholeScript ts b s) ⊎ ((done : ℕ) × (byte : ℕ) × SyntaxFault ts b done byte)
+    by_rest script front [] e read None = inl (script, record { whole = refl; spelled = script_read-spells (kinds ts) script read })
+    by_rest script front [] e read (Some b) = inr (length script, b, script_read-fault ts front [] (Some b) script b read e refl)
+    by_rest script front (t ∷ rest) e read b = inr (length script, t.start, script_read-fault ts front (t ∷ rest) b script t.start read e refl)

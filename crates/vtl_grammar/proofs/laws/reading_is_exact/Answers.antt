@@ -1,4 +1,4 @@
-use Rattle.vtl_grammar.proofs.CompleteHole.{statement_read-complete}
+use Rattle.vtl_grammar.proofs.CompleteStatements.{statement_complete}
 use Rattle.vtl_grammar.proofs.SoundStatements.{statement_read-sound}
 use Rattle.vtl_grammar.proofs.laws.reading_is_exact.Goals as goal
 
@@ -6,4 +6,4 @@ pub returns-clause-read : goal.returns-clause-read
 returns-clause-read c = λ ts s rest e. let is = (statement_read-sound ts).holds (s, rest) e in (is.spelled, is.fits)
 
 pub returns-clause-all : goal.returns-clause-all
-returns-clause-all c = statement_read-complete
+returns-clause-all c = statement_complete
