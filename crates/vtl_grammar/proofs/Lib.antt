@@ -12,3 +12,4 @@ pub mod CompleteRules
 pub mod CompleteStatements
 pub mod CompleteTables
 pub mod CompleteTrees
+pub mod UniqueLemmas
