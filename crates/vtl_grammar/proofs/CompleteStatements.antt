@@ -47,5 +47,62 @@ statement_complete (hierarchical n i rs last) rest is =
     rw (comp_read i, hier_rules_complete rs last end is.fits (shallow_all hier_rule_depth 128 rs is.shallow)) refl
 
 -- ---- and every script
+
 statement_some : (s : StatementTree) (rest : Tokens) → suc (length rest) ≤ length (statement_onto s rest)
-statement_some s rest = ?
+statement_some s rest = rw (statement-append s [] rest) (omega (arith, length-append (statement_onto s []) rest, has_token s))
+  where
+    has_token : (x : StatementTree) → 1 ≤ length (statement_onto x [])
+    has_token (assignment n k e) = omega arith
+    has_token (datapoint n vs rs last) = omega arith
+    has_token (hierarchical n i rs last) = omega arith
+
+pub script_grows : (script : ScriptTree) (rest : Tokens) → length script + length rest ≤ length (script_onto script rest)
+script_grows [] rest = omega arith
+script_grows (s ∷ ss) rest = omega (arith, script_grows ss rest, statement_some s (script_onto ss rest))
+
+-- what is read of a script goes on at the tokens behind it
+record ScriptGoing (n : ℕ) (before script : ScriptTree) (rest : Tokens) : Type 0 where
+  turns : ℕ
+  is : statements_read n before (script_onto script rest) ≡ statements_read turns (before ++ script) rest
+
+script_going : (script : ScriptTree) (n : ℕ) (before : ScriptTree) (rest : Tokens) → AllByRecursion InGrammar script → length script ≤ n → ScriptGoing n before script rest
+unfolding statements_read
+script_going [] n before rest all few = record { turns = n; is = rw append-nil refl }
+script_going (s ∷ ss) zero before rest all few = absurd (omega arith)
+script_going (s ∷ ss) (suc n) before rest all few =
+    let g : ScriptGoing n (before ++ s ∷ []) ss rest = script_going ss n (before ++ s ∷ []) rest all.1 (omega arith) in
+    record { turns = g.turns; is = rw (statement_complete s (script_onto ss rest) all.0) (g.is ∙ rw append_assoc refl) }
+
+statements_stop : (n : ℕ) (before : ScriptTree) (rest : Tokens) → statement_read rest ≡ None → statements_read n before rest ≡ (before, rest)
+unfolding statements_read
+statements_stop zero before rest h = refl
+statements_stop (suc n) before rest h = rw h refl
+
+-- a script that is read only grows
+statements_more : (n : ℕ) (before : ScriptTree) (ts : Tokens) → length before ≤ length (statements_read n before ts).0
+unfolding statements_read
+statements_more zero before ts = omega arith
+statements_more (suc n) before ts = more (statements_more n) (statement_read ts)
+  where
+    more : ((b : ScriptTree) (r : Tokens) → length b ≤ length (statements_read n b r).0) → (o : Option (StatementTree × Tokens))
+        → length before ≤ length (given o (λ s. statements_read n (before ++ s.0 ∷ []) s.1) (before, ts)).0
+    more again None = omega arith
+    more again (Some s) = omega (arith, again (before ++ s.0 ∷ []) s.1, length-append before (s.0 ∷ []))
+
+-- where no statement follows, the script is what is read
+pub script_complete : (script : ScriptTree) (rest : Tokens) → AllByRecursion InGrammar script → statement_read rest ≡ None → script_read (script_onto script rest) ≡ (script, rest)
+unfolding script_read
+script_complete script rest all ends =
+    let g : ScriptGoing (length (script_onto script rest)) [] script rest = script_going script (length (script_onto script rest)) [] rest all (omega (arith, script_grows script rest)) in
+    g.is ∙ statements_stop g.turns script rest ends
+
+-- no front of the tokens is a longer script than what is read
+pub script_greatest : (script : ScriptTree) (rest : Tokens) → AllByRecursion InGrammar script → length script ≤ length (script_read (script_onto script rest)).0
+unfolding script_read
+script_greatest script rest all =
+    let g : ScriptGoing (length (script_onto script rest)) [] script rest = script_going script (length (script_onto script rest)) [] rest all (omega (arith, script_grows script rest)) in
+    rw g.is (statements_more g.turns script rest)
+
+pub nothing_read : statement_read [] ≡ None
+unfolding statement_read assignment_read after_keyword
+nothing_read = refl

@@ -24,3 +24,4 @@ pub mod SoundStatements
 pub mod SoundSteps
 pub mod SoundTables
 pub mod SoundTokens
+pub mod UniqueLemmas
