@@ -48,7 +48,7 @@ statement_complete (hierarchical n i rs last) rest is =
 
 -- ---- and every script
 
-statement_some : (s : StatementTree) (rest : Tokens) → suc (length rest) ≤ length (statement_onto s rest)
+pub statement_some : (s : StatementTree) (rest : Tokens) → suc (length rest) ≤ length (statement_onto s rest)
 statement_some s rest = rw (statement-append s [] rest) (omega (arith, length-append (statement_onto s []) rest, has_token s))
   where
     has_token : (x : StatementTree) → 1 ≤ length (statement_onto x [])
@@ -73,7 +73,7 @@ script_going (s ∷ ss) (suc n) before rest all few =
     let g : ScriptGoing n (before ++ s ∷ []) ss rest = script_going ss n (before ++ s ∷ []) rest all.1 (omega arith) in
     record { turns = g.turns; is = rw (statement_complete s (script_onto ss rest) all.0) (g.is ∙ rw append_assoc refl) }
 
-statements_stop : (n : ℕ) (before : ScriptTree) (rest : Tokens) → statement_read rest ≡ None → statements_read n before rest ≡ (before, rest)
+pub statements_stop : (n : ℕ) (before : ScriptTree) (rest : Tokens) → statement_read rest ≡ None → statements_read n before rest ≡ (before, rest)
 unfolding statements_read
 statements_stop zero before rest h = refl
 statements_stop (suc n) before rest h = rw h refl
