@@ -2,13 +2,13 @@
 use Rattle.std.proofs.Common.{◌≡◌, ◌∙◌, ◌∷◌, [], ℕ, List, true, ap, arith, get_or, refl, sym}
 use Rattle.std.specs.Prelude.{nat_eq}
 use Rattle.std.proofs.lemmas.Bool.Decides.{nat_tests}
-use Rattle.vtl_lexer.specs.Keywords.{place_of, same_keyword}
+use Rattle.vtl_lexer.specs.Keywords.{place_of}
 use Rattle.vtl_lexer.specs.declared.keyword.Keyword.{Keyword}
 use Rattle.vtl_lexer.specs.declared.keyword.Keyword.TheVariants as k
 use Rattle.vtl_lexer.specs.declared.token.Sign.{Sign}
 use Rattle.vtl_lexer.specs.declared.token.Sign.TheVariants as sign
 use Rattle.vtl_grammar.specs.Levels.{looseness}
-use Rattle.vtl_grammar.specs.Reading.{same_sign, sign_place}
+use Rattle.vtl_grammar.specs.Reading.{sign_place}
 use Rattle.vtl_grammar.specs.declared.levels.Level.{Level}
 use Rattle.vtl_grammar.specs.declared.levels.Level.TheVariants as level
 

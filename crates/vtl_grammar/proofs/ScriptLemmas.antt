@@ -1,5 +1,5 @@
 -- What reading a script gives, and what it says of the tokens of a text.
-use Rattle.std.proofs.Common.{◌≡◌, ◌⊎◌, inl, inr, ◌≤◌, ◌+◌, ◌++◌, ◌∙◌, ℕ, zero, suc, Option, None, Some, List, [], ◌∷◌, append_assoc, append-nil, arith, length, refl, sym, ap, subst}
+use Rattle.std.proofs.Common.{◌≡◌, ◌⊎◌, inl, inr, ◌≤◌, ◌++◌, ◌∙◌, ℕ, zero, suc, Option, None, Some, List, [], ◌∷◌, append_assoc, append-nil, arith, length, refl, sym, ap, subst}
 use Rattle.std.specs.List.{AllByRecursion}
 use Rattle.std.proofs.lemmas.List.{append_cancel_right, map-append}
 use Rattle.vtl_lexer.specs.declared.token.Token.{Token}
@@ -11,9 +11,8 @@ use Rattle.vtl_grammar.specs.ReadStatements.{script_read, statement_read, statem
 use Rattle.vtl_grammar.specs.Reading.{given}
 use Rattle.vtl_grammar.proofs.AppendExpressions.{script-append}
 use Rattle.vtl_grammar.proofs.CompleteStatements.{nothing_read, statement_some, statements_stop}
-use Rattle.vtl_grammar.proofs.SoundLists.{IsRead}
 use Rattle.vtl_grammar.proofs.SoundStatements.{statement_read-sound}
-use Rattle.vtl_grammar.proofs.UniqueLemmas.{front_script, greatest_read}
+use Rattle.vtl_grammar.proofs.UniqueLemmas.{greatest_read}
 
 -- ---- reading statement after statement
 

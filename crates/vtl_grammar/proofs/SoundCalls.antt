@@ -1,10 +1,9 @@
 -- Reading what stands between the brackets of a call gives the call, where reading an expression gives an expression.
-use Rattle.std.proofs.Common.{◌≡◌, ◌≤◌, ◌+◌, ◌-◌, ◌∙◌, ℕ, zero, suc, Option, None, Some, List, [], ◌∷◌, arith, true, false, length, refl, sym, ap, subst}
-use Rattle.std.specs.Prelude.{max, min, nat_le, if◌then◌else◌}
+use Rattle.std.proofs.Common.{◌≡◌, ◌≤◌, ◌+◌, ◌-◌, ℕ, suc, Option, None, Some, List, ◌∷◌, arith, true, length, refl}
+use Rattle.std.specs.Prelude.{max, min, nat_le}
 use Rattle.std.proofs.lemmas.Bool.Decides.{nat_tests}
 use Rattle.vtl_lexer.specs.declared.keyword.Keyword.TheVariants as keyword
 use Rattle.vtl_lexer.specs.declared.token.Sign.TheVariants as sign
-use Rattle.vtl_lexer.specs.declared.token.TokenKind.TheVariants as token
 use Rattle.vtl_syntax.specs.Depth.{exp_depth, group_depth, over_depth}
 use Rattle.vtl_syntax.specs.Trees as tree
 use Rattle.vtl_syntax.specs.Trees.{Exp, PartTree, exps_of, maybe_exp, maybe_made, parts_of}
@@ -29,7 +28,7 @@ use Rattle.vtl_grammar.specs.declared.levels.Level.TheVariants as level
 use Rattle.vtl_grammar.proofs.SoundForms.{IsExp, OptionalFits, operand_onto, optional_depth, exps-sound, join_parts-sound, made_part-sound, maybe_exp_after-sound, maybe_operand-sound}
 use Rattle.vtl_grammar.proofs.SoundGot.{IsGot, PartsTreeFit, exps_counted, parts_counted, parts_tree_depth, parts_tree_onto}
 use Rattle.vtl_grammar.proofs.SoundParts.{cast_part-sound, error_part-sound, group_part-sound, maybe_keeping-sound, maybe_renames-sound, over_part-sound, retain_part-sound, rule_part-sound, ruleset_part-sound, shift_part-sound, using_part-sound}
-use Rattle.vtl_grammar.proofs.SoundSteps.{Gives, either, either_way, follow, none_gives, some_gives, under_test, weaker}
+use Rattle.vtl_grammar.proofs.SoundSteps.{Gives, either, either_way, follow, none_gives, some_gives, under_test}
 use Rattle.vtl_grammar.proofs.SoundTables.{basic_out_table, check_out_table, hier_input_table, hier_out_table, mode_table}
 use Rattle.vtl_grammar.proofs.SoundTokens.{Spelled, after_keyword-sound, after_sign-sound, maybe_word-sound}
 

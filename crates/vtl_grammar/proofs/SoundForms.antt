@@ -1,16 +1,15 @@
 -- Reading clauses and optional expressions gives what stands there, where reading an expression does.
-use Rattle.std.proofs.Common.{◌≡◌, ◌≤◌, ◌+◌, ◌∙◌, ℕ, zero, suc, Option, None, Some, List, [], ◌∷◌, arith, true, false, length, refl, sym, subst, ap}
-use Rattle.std.specs.Prelude.{max, min, ◌||◌, if◌then◌else◌}
-use Rattle.std.specs.List.{AllByRecursion}
+use Rattle.std.proofs.Common.{◌≡◌, ◌+◌, ◌∙◌, ℕ, Option, None, Some, ◌∷◌, arith, refl, subst}
+use Rattle.std.specs.Prelude.{min}
 use Rattle.vtl_lexer.specs.declared.keyword.Keyword.{Keyword}
 use Rattle.vtl_lexer.specs.declared.keyword.Keyword.TheVariants as keyword
 use Rattle.vtl_lexer.specs.declared.token.Sign.TheVariants as sign
 use Rattle.vtl_lexer.specs.declared.token.TokenKind.TheVariants as token
-use Rattle.vtl_syntax.specs.Depth.{brack_depth, deepest, exp_depth, exps_depth, made_depth, maybe_depth, maybe_made_depth}
+use Rattle.vtl_syntax.specs.Depth.{brack_depth, exp_depth, made_depth, maybe_depth, maybe_made_depth}
 use Rattle.vtl_syntax.specs.Trees as tree
 use Rattle.vtl_syntax.specs.Trees.{CalcTree, Exp, Made, calcs_of, exps_of, maybe_exp, maybe_made, parts_of}
-use Rattle.vtl_grammar.specs.Fits.{BrackFits, ExpsFit, Filled, Fits, MadeFits, MaybeFilled, MaybeFits, MaybeKeepingFits, MaybeMadeFits}
-use Rattle.vtl_grammar.specs.Grammar.{Tokens, brack_onto, exp_onto, exps_onto, listed_onto, made_onto, maybe_exp_after_onto, maybe_exp_onto, maybe_after_onto, maybe_keeping_onto, maybe_made_onto, rename_part_onto}
+use Rattle.vtl_grammar.specs.Fits.{BrackFits, Fits, MadeFits, MaybeFilled, MaybeFits, MaybeKeepingFits, MaybeMadeFits}
+use Rattle.vtl_grammar.specs.Grammar.{Tokens, brack_onto, exp_onto, listed_onto, made_onto, maybe_exp_after_onto, maybe_exp_onto, maybe_after_onto, maybe_keeping_onto, maybe_made_onto, rename_part_onto}
 use Rattle.vtl_grammar.specs.Levels.{Within}
 use Rattle.vtl_grammar.specs.ReadExpressions.{aggr_made, calc_part, calc_parts, clause, exps, join_part, join_parts, made_part, maybe_exp_after, maybe_operand, name_clause, no_operand}
 use Rattle.vtl_grammar.specs.ReadParts.{alias_part, group_part, maybe_keeping, maybe_renames, sub_parts, two_comps}
@@ -19,7 +18,6 @@ use Rattle.vtl_grammar.specs.Words.{comp_at, written_role_at, written_role_token
 use Rattle.vtl_grammar.specs.declared.levels.Level.{Level}
 use Rattle.vtl_grammar.specs.declared.levels.Level.TheVariants as level
 use Rattle.vtl_grammar.proofs.SoundGot.{CalcFits, CalcsTreeFit, ExpsTreeFit, IsGot, PartFits, PartsTreeFit, calc_depth, calc_item_onto, calcs_as_tree, calcs_tree_depth, calcs_tree_onto, exps_as_tree, exps_tree_depth, exps_tree_onto, got_listed-sound, part_depth, part_item_onto, parts_as_tree, parts_tree_depth, parts_tree_onto}
-use Rattle.vtl_grammar.proofs.SoundLists.{IsRead}
 use Rattle.vtl_grammar.proofs.SoundParts.{alias_part-sound, comp-sound, group_part-sound, maybe_keeping-sound, maybe_renames-sound, sub_parts-sound, two_comps-sound}
 use Rattle.vtl_grammar.proofs.SoundSteps.{Gives, either, follow, itself, some_gives, under_test, weaker}
 use Rattle.vtl_grammar.proofs.SoundTables.{written_role_table}

@@ -1,5 +1,5 @@
 -- Reading parts that have a depth gives what stands there, and what is left of the budget.
-use Rattle.std.proofs.Common.{◌≡◌, ◌≤◌, ◌+◌, ◌++◌, ◌∙◌, ℕ, zero, suc, Option, None, Some, List, [], ◌∷◌, append_assoc, append-nil, arith, length, refl, sym, ap}
+use Rattle.std.proofs.Common.{◌≡◌, ◌≤◌, ◌+◌, ◌++◌, ◌∙◌, ℕ, zero, suc, List, [], ◌∷◌, append_assoc, append-nil, arith, length, refl, sym, ap}
 use Rattle.std.specs.Prelude.{max, min}
 use Rattle.std.specs.List.{AllByRecursion}
 use Rattle.vtl_lexer.specs.declared.token.Sign.TheVariants as sign

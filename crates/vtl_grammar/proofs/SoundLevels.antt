@@ -1,6 +1,6 @@
 -- Reading an expression gives one that stands there, may stand at the place and is as deep as the budget says.
-use Rattle.std.proofs.Common.{◌≡◌, ◌≤◌, ◌+◌, ◌∙◌, ℕ, zero, suc, Bool, true, false, Option, None, Some, List, [], ◌∷◌, arith, length, refl, sym, ap, subst}
-use Rattle.std.specs.Prelude.{max, min, nat_eq, option_map, if◌then◌else◌}
+use Rattle.std.proofs.Common.{◌≡◌, ◌≤◌, ◌∙◌, ℕ, zero, suc, Bool, Option, None, Some, [], ◌∷◌, arith, length, refl, ap, subst}
+use Rattle.std.specs.Prelude.{min, nat_eq, option_map}
 use Rattle.vtl_lexer.specs.declared.keyword.Keyword.TheVariants as keyword
 use Rattle.vtl_lexer.specs.declared.token.Sign.TheVariants as sign
 use Rattle.vtl_lexer.specs.declared.token.TokenKind.{TokenKind}
@@ -10,22 +10,21 @@ use Rattle.vtl_syntax.specs.Trees as tree
 use Rattle.vtl_syntax.specs.Trees.{Exp}
 use Rattle.vtl_syntax.specs.declared.word_groups.BinaryOp.{BinaryOp}
 use Rattle.vtl_grammar.specs.Fits.{Fits}
-use Rattle.vtl_grammar.specs.Grammar.{Tokens, close_bracket, constant_onto, exp_onto, open_bracket, set_onto}
+use Rattle.vtl_grammar.specs.Grammar.{Tokens, constant_onto, exp_onto, open_bracket}
 use Rattle.vtl_grammar.specs.Levels.{Within, level_of, looseness, operator_level, tighter}
 use Rattle.vtl_grammar.specs.ReadExpressions.{add_at, and_at, around, bracketed, call, chain, compare_at, choice, choice_or, clause, closed, formed, leaf_at, membership_at, more_operands, more_postfix, multiply_at, operator_at, or_at, postfix, prefixed, primary, read, read_level, unary_at}
 use Rattle.vtl_grammar.specs.ReadParts.{literal_set}
-use Rattle.vtl_grammar.specs.Reading.{Gets, Got, after_keyword, after_sign, got, given, word, ◌>>=◌}
-use Rattle.vtl_grammar.specs.Words.{binary_op_at, binary_op_token, comp_at, comp_token, constant_at, form_at, form_token, in_at, in_token, unary_op_at, unary_op_token}
-use Rattle.vtl_grammar.specs.declared.call_forms.CallForm.{CallForm}
+use Rattle.vtl_grammar.specs.Reading.{Gets, Got, after_keyword, after_sign, got, word}
+use Rattle.vtl_grammar.specs.Words.{binary_op_at, binary_op_token, comp_at, constant_at, form_at, form_token, in_token, unary_op_at, unary_op_token}
 use Rattle.vtl_grammar.specs.declared.levels.Level.{Level}
 use Rattle.vtl_grammar.specs.declared.levels.Level.TheVariants as level
 use Rattle.vtl_grammar.proofs.Places.{level_by_test}
-use Rattle.vtl_grammar.proofs.SoundCalls.{IsCall, call-sound}
+use Rattle.vtl_grammar.proofs.SoundCalls.{call-sound}
 use Rattle.vtl_grammar.proofs.SoundForms.{IsExp, clause-sound}
 use Rattle.vtl_grammar.proofs.SoundParts.{comp-sound, literal_set-sound}
 use Rattle.vtl_grammar.proofs.SoundSteps.{Gives, either, follow, none_gives, some_gives, under_test, weaker}
 use Rattle.vtl_grammar.proofs.SoundTables.{binary_op_table, comp_table, constant_table, form_table, in_table, unary_op_table}
-use Rattle.vtl_grammar.proofs.SoundTokens.{Spelled, after_keyword-sound, after_sign-sound, word-sound, word_onto-sound}
+use Rattle.vtl_grammar.proofs.SoundTokens.{after_keyword-sound, after_sign-sound, word-sound}
 
 -- what may stand at a place may stand at each looser one
 pub looser : (a b : Level) (n : ℕ) (ts : Tokens) (g : Got Exp) → looseness a ≤ looseness b → IsExp a n ts g → IsExp b n ts g

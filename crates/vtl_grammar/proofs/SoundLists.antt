@@ -1,10 +1,10 @@
 -- Reading lists gives what stands there.
-use Rattle.std.proofs.Common.{◌≡◌, ◌≤◌, ◌++◌, ◌∙◌, ℕ, zero, suc, Option, None, Some, List, [], ◌∷◌, append_assoc, append-nil, arith, length, refl, sym}
+use Rattle.std.proofs.Common.{◌≡◌, ◌++◌, ◌∙◌, ℕ, zero, suc, Option, None, Some, List, [], ◌∷◌, append_assoc, append-nil, arith, length, refl, sym}
 use Rattle.vtl_lexer.specs.declared.keyword.Keyword.{Keyword}
 use Rattle.vtl_lexer.specs.declared.token.Sign.TheVariants as sign
 use Rattle.vtl_lexer.specs.declared.token.TokenKind.TheVariants as token
 use Rattle.vtl_grammar.specs.Fits.{Filled}
-use Rattle.vtl_grammar.specs.Grammar.{Tokens, comma, listed_onto, maybe_after_onto, more_onto}
+use Rattle.vtl_grammar.specs.Grammar.{Tokens, listed_onto, maybe_after_onto, more_onto}
 use Rattle.vtl_grammar.specs.Reading.{Reads, after_keyword, after_sign, listed, maybe_after, more_items}
 use Rattle.vtl_grammar.proofs.SoundSteps.{Gives, either, follow, some_gives, weaker}
 use Rattle.vtl_grammar.proofs.SoundTokens.{Reading, after_keyword-sound, after_sign-sound}

@@ -1,5 +1,5 @@
 -- Reading the parts that hold no expression gives what stands there.
-use Rattle.std.proofs.Common.{◌≡◌, ◌∙◌, ℕ, true, false, Option, None, Some, List, [], ◌∷◌, arith, length, refl, sym}
+use Rattle.std.proofs.Common.{◌≡◌, ◌∙◌, ℕ, true, false, Option, None, Some, List, ◌∷◌, refl}
 use Rattle.vtl_lexer.specs.declared.keyword.Keyword.TheVariants as keyword
 use Rattle.vtl_lexer.specs.declared.token.Sign.TheVariants as sign
 use Rattle.vtl_lexer.specs.declared.token.TokenKind.TheVariants as token
@@ -15,15 +15,14 @@ use Rattle.vtl_syntax.specs.declared.parts.Literal.TheVariants as literals
 use Rattle.vtl_syntax.specs.declared.parts.Reference.TheVariants as references
 use Rattle.vtl_syntax.specs.declared.word_groups.CastKind.{CastKind}
 use Rattle.vtl_grammar.specs.Fits.{Filled, GroupFits, MaybeFilled, MaybeKeepingFits, OverFits}
-use Rattle.vtl_grammar.specs.Grammar.{Tokens, close_bracket, comma, comp_onto, comps_onto, constant_onto, error_onto, group_onto, integer_onto, limit_onto, listed_onto, literal_onto, maybe_after_onto, maybe_keeping_onto, maybe_onto, name_onto, open_bracket, order_onto, order_part_onto, over_onto, partition_onto, points_onto, reference_onto, rename_part_onto, retain_onto, set_onto, string_onto, sub_part_onto}
-use Rattle.vtl_grammar.specs.ReadParts as reads
+use Rattle.vtl_grammar.specs.Grammar.{Tokens, comma, comp_onto, comps_onto, constant_onto, error_onto, group_onto, integer_onto, limit_onto, listed_onto, literal_onto, maybe_after_onto, maybe_keeping_onto, name_onto, order_onto, order_part_onto, over_onto, partition_onto, points_onto, reference_onto, rename_part_onto, retain_onto, set_onto, string_onto, sub_part_onto}
 use Rattle.vtl_grammar.specs.ReadParts.{alias_part, cast_literal, cast_part, comps, current, error_part, group_part, limit, limits_between, literal, literal_of, literal_set, literals_listed, maybe_keeping, maybe_renames, order_by_part, order_part, order_parts, over_part, partition_part, plain_name, points_part, reference, references_listed, rename_part, rename_parts, retain_part, rule_part, ruleset_part, shift_part, sub_part, sub_parts, two_comps, using_part}
 use Rattle.vtl_grammar.specs.Reading.{after_keyword, after_sign, maybe_after, maybe_word, word}
 use Rattle.vtl_grammar.specs.Words.{cast_kind_at, cast_kind_token, comp_at, comp_token, constant_at, direction_at, direction_token, group_kind_at, group_kind_token, integer_at, name_at, numeral_at, numeral_token, retain_at, retain_token, side_at, side_token, string_at}
 use Rattle.vtl_grammar.proofs.SoundLists.{IsRead, OptionAll, listed-sound, maybe_after_all-sound}
 use Rattle.vtl_grammar.proofs.SoundSteps.{Gives, either, either_way, follow, none_gives, some_gives, weaker}
 use Rattle.vtl_grammar.proofs.SoundTables.{cast_kind_table, comp_table, constant_table, direction_table, group_kind_table, integer_table, name_table, numeral_table, retain_table, side_table, string_table}
-use Rattle.vtl_grammar.proofs.SoundTokens.{Reading, Spelled, after_keyword-sound, after_sign-sound, maybe_after-sound, maybe_word-sound, word-sound, word_onto, word_onto-sound}
+use Rattle.vtl_grammar.proofs.SoundTokens.{Spelled, after_keyword-sound, after_sign-sound, maybe_after-sound, maybe_word-sound, word-sound, word_onto-sound}
 
 pub comp-sound : (ts : Tokens) → Gives (Spelled comp_onto ts) (word comp_at ts)
 comp-sound = word-sound comp_token comp_at comp_table

@@ -1,14 +1,14 @@
 -- Reading rules and statements gives what stands there, and it is in the grammar.
-use Rattle.std.proofs.Common.{◌≡◌, ◌≤◌, ◌+◌, ◌++◌, ◌∙◌, ℕ, zero, suc, Bool, true, false, Option, None, Some, List, [], ◌∷◌, append_assoc, append-nil, arith, length, refl, sym, ap, subst}
-use Rattle.std.specs.Prelude.{max, nat_le, if◌then◌else◌}
+use Rattle.std.proofs.Common.{◌≡◌, ◌≤◌, ◌++◌, ◌∙◌, ℕ, zero, suc, Bool, true, false, Option, None, Some, List, [], ◌∷◌, append_assoc, append-nil, arith, length, refl, sym}
+use Rattle.std.specs.Prelude.{nat_le}
 use Rattle.std.specs.List.{AllByRecursion}
 use Rattle.std.proofs.lemmas.Bool.Decides.{nat_tests}
 use Rattle.vtl_lexer.specs.declared.keyword.Keyword.{Keyword}
 use Rattle.vtl_lexer.specs.declared.keyword.Keyword.TheVariants as keyword
 use Rattle.vtl_lexer.specs.declared.token.Sign.TheVariants as sign
 use Rattle.vtl_lexer.specs.declared.token.TokenKind.TheVariants as token
-use Rattle.vtl_syntax.specs.Depth.{deepest, exp_depth, hier_rule_depth, option_depth, point_rule_depth, statement_depth}
-use Rattle.vtl_syntax.specs.Trees.{Exp, PointRuleTree, StatementTree, assignment, datapoint, hierarchical, point_rule}
+use Rattle.vtl_syntax.specs.Depth.{deepest, exp_depth, hier_rule_depth, option_depth, point_rule_depth}
+use Rattle.vtl_syntax.specs.Trees.{Exp, PointRuleTree, assignment, datapoint, hierarchical, point_rule}
 use Rattle.vtl_syntax.specs.declared.parts.Comp.{Comp}
 use Rattle.vtl_syntax.specs.declared.parts.SignedComp.{SignedComp}
 use Rattle.vtl_syntax.specs.declared.statements.HierRule.{HierRule}

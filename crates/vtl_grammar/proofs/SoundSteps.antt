@@ -1,6 +1,6 @@
 -- What holds of that which a reading gives, step by step.
 use Rattle.std.proofs.Common.{◌≡◌, Bool, true, false, Option, None, Some, refl, subst}
-use Rattle.std.specs.Prelude.{if◌then◌else◌, ℕ, zero, suc}
+use Rattle.std.specs.Prelude.{if◌then◌else◌}
 use Rattle.vtl_grammar.specs.Reading.{◌>>=◌, given}
 
 -- what is given, if anything is, is so

@@ -1,5 +1,5 @@
 -- What a token is, where a table gives a word for it.
-use Rattle.std.proofs.Common.{◌≡◌, ◌∷◌, Bool, true, false, None, Some, refl}
+use Rattle.std.proofs.Common.{◌≡◌, ◌∷◌, true, false, refl}
 use Rattle.vtl_lexer.specs.declared.keyword.Keyword.TheVariants as keyword
 use Rattle.vtl_lexer.specs.declared.token.Sign.TheVariants as sign
 use Rattle.vtl_lexer.specs.declared.token.TokenKind.{TokenKind}

@@ -1,12 +1,12 @@
 -- Reading tokens gives what stands there.
-use Rattle.std.proofs.Common.{◌≡◌, Bool, true, false, List, [], ◌∷◌, Option, None, Some, refl, ap, sym, ◌∙◌}
+use Rattle.std.proofs.Common.{◌≡◌, true, [], ◌∷◌, Option, None, Some, refl, ap}
 use Rattle.std.specs.Prelude.{option_map}
 use Rattle.vtl_lexer.specs.declared.keyword.Keyword.{Keyword}
 use Rattle.vtl_lexer.specs.declared.token.Sign.{Sign}
 use Rattle.vtl_lexer.specs.declared.token.TokenKind.{TokenKind}
 use Rattle.vtl_lexer.specs.declared.token.TokenKind.TheVariants as token
 use Rattle.vtl_grammar.specs.Grammar.{Tokens, maybe_onto, maybe_after_onto}
-use Rattle.vtl_grammar.specs.Reading.{Reads, after_keyword, after_sign, given, is_keyword, is_sign, maybe_after, maybe_word, word}
+use Rattle.vtl_grammar.specs.Reading.{Reads, after_keyword, after_sign, is_keyword, is_sign, maybe_after, maybe_word, word}
 use Rattle.vtl_grammar.proofs.Places.{keyword_by_test, sign_by_test}
 use Rattle.vtl_grammar.proofs.SoundSteps.{Gives, either, either_way, follow, none_gives, some_gives, under_test, weaker}
 
