@@ -1,15 +1,13 @@
 -- Expressions, rules, statements and scripts are written in front of what they are handed.
-use Rattle.std.proofs.Common.{◌≡◌, ℕ, true, false, Bool, List, [], ◌∷◌, ◌++◌, Option, Some, None, refl}
+use Rattle.std.proofs.Common.{◌≡◌, true, false, Bool, List, [], ◌∷◌, ◌++◌, Some, None, refl}
 use Rattle.vtl_lexer.specs.declared.keyword.Keyword.TheVariants as keyword
 use Rattle.vtl_lexer.specs.declared.token.Sign.TheVariants as sign
 use Rattle.vtl_lexer.specs.declared.token.TokenKind.{TokenKind}
 use Rattle.vtl_lexer.specs.declared.token.TokenKind.TheVariants as token
-use Rattle.vtl_syntax.specs.Trees.{Exp, if_then, binary, in_set, unary, clause, member, component, constant, brackets, function, aggregate, aggregate_over, value_window, shift, rank, set_op, difference, exists_in, check, check_datapoint, check_hierarchy, hierarchy, join, Exps, no_exps, exp, MaybeExp, no_exp, some_exp, Brack, filtering, making, keeping, renaming, fixing, pivot, unpivot, Made, calc, aggr, MaybeMade, no_made, some_made, Calcs, no_calcs, calc_part, Parts, no_parts, join_part, PointRuleTree, point_rule, StatementTree, assignment, datapoint, hierarchical, ScriptTree}
-use Rattle.vtl_syntax.specs.declared.parts.SignedComp.{SignedComp}
-use Rattle.vtl_syntax.specs.declared.statements.HierRule.{HierRule}
-use Rattle.vtl_grammar.specs.Grammar.{Tokens, comma, open_bracket, close_bracket, listed_onto, maybe_onto, maybe_after_onto, comp_onto, comps_onto, set_onto, name_onto, literal_onto, error_onto, group_onto, over_onto, maybe_keeping_onto, rename_part_onto, dataset_onto, retain_onto, exp_onto, exps_onto, more_exps_onto, maybe_exp_onto, maybe_exp_after_onto, brack_onto, made_onto, maybe_made_onto, calcs_onto, more_calcs_onto, parts_onto, more_parts_onto, rule_name_onto, when_onto, point_rule_onto, signed_onto, hier_rule_onto, more_rules_onto, rules_onto, statement_onto, script_onto}
+use Rattle.vtl_syntax.specs.Trees.{Exp, if_then, binary, in_set, unary, clause, member, component, constant, brackets, function, aggregate, aggregate_over, value_window, shift, rank, set_op, difference, exists_in, check, check_datapoint, check_hierarchy, hierarchy, join, Exps, no_exps, exp, MaybeExp, no_exp, some_exp, Brack, filtering, making, keeping, renaming, fixing, pivot, unpivot, Made, calc, aggr, MaybeMade, no_made, some_made, Calcs, no_calcs, calc_part, Parts, no_parts, join_part, point_rule, assignment, datapoint, hierarchical}
+use Rattle.vtl_grammar.specs.Grammar.{Tokens, comma, close_bracket, listed_onto, maybe_onto, maybe_after_onto, comp_onto, comps_onto, set_onto, name_onto, literal_onto, error_onto, group_onto, over_onto, maybe_keeping_onto, rename_part_onto, dataset_onto, retain_onto, exp_onto, exps_onto, more_exps_onto, maybe_exp_onto, maybe_exp_after_onto, brack_onto, made_onto, maybe_made_onto, calcs_onto, more_calcs_onto, parts_onto, more_parts_onto, rule_name_onto, when_onto, point_rule_onto, signed_onto, hier_rule_onto, more_rules_onto, rules_onto, statement_onto, script_onto}
 use Rattle.vtl_grammar.specs.Words.{binary_op_token, mode_token, basic_out_token, check_out_token, hier_input_token, hier_out_token, written_role_token, addition_token, comparison_token, comp_token, in_token}
-use Rattle.vtl_grammar.proofs.AppendParts.{Appends, listed-append, maybe-append, maybe_after-append, comp-append, comps-append, constant-append, literal-append, set-append, name-append, error-append, group-append, over-append, maybe_keeping-append, keeping-append, rename_part-append, renames-append, subs-append, dataset-append, retain-append}
+use Rattle.vtl_grammar.proofs.AppendParts.{Appends, maybe-append, maybe_after-append, comp-append, comps-append, constant-append, literal-append, set-append, name-append, error-append, group-append, over-append, maybe_keeping-append, keeping-append, renames-append, subs-append, dataset-append, retain-append}
 
 mutual
   pub exp-append : (e : Exp) (a b : Tokens) → exp_onto e (a ++ b) ≡ exp_onto e a ++ b

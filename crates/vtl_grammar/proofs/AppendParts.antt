@@ -1,29 +1,15 @@
 -- Parts are written in front of what they are handed.
-use Rattle.std.proofs.Common.{◌≡◌, ◌≤◌, ◌+◌, ℕ, true, false, Bool, List, [], ◌∷◌, ◌++◌, length, Option, Some, None, refl, arith, length-append}
+use Rattle.std.proofs.Common.{◌≡◌, true, false, [], ◌∷◌, ◌++◌, Some, None, refl, arith, length-append}
 use Rattle.vtl_lexer.specs.declared.keyword.Keyword.TheVariants as keyword
 use Rattle.vtl_lexer.specs.declared.token.Sign.TheVariants as sign
 use Rattle.vtl_lexer.specs.declared.token.TokenKind.{TokenKind}
 use Rattle.vtl_lexer.specs.declared.token.TokenKind.TheVariants as token
-use Rattle.vtl_syntax.specs.declared.parts.Comp.{Comp}
-use Rattle.vtl_syntax.specs.declared.parts.Constant.{Constant}
 use Rattle.vtl_syntax.specs.declared.parts.Constant.TheVariants as constants
-use Rattle.vtl_syntax.specs.declared.parts.DataPoints.{DataPoints}
-use Rattle.vtl_syntax.specs.declared.parts.ErrorPart.{ErrorPart}
-use Rattle.vtl_syntax.specs.declared.parts.GroupPart.{GroupPart}
-use Rattle.vtl_syntax.specs.declared.parts.Keeping.{Keeping}
 use Rattle.vtl_syntax.specs.declared.parts.Keeping.TheVariants as kept
-use Rattle.vtl_syntax.specs.declared.parts.Limit.{Limit}
 use Rattle.vtl_syntax.specs.declared.parts.Limit.TheVariants as limit
-use Rattle.vtl_syntax.specs.declared.parts.Literal.{Literal}
 use Rattle.vtl_syntax.specs.declared.parts.Literal.TheVariants as literal
-use Rattle.vtl_syntax.specs.declared.parts.OrderPart.{OrderPart}
-use Rattle.vtl_syntax.specs.declared.parts.OverPart.{OverPart}
-use Rattle.vtl_syntax.specs.declared.parts.Reference.{Reference}
 use Rattle.vtl_syntax.specs.declared.parts.Reference.TheVariants as reference
-use Rattle.vtl_syntax.specs.declared.parts.RenamePart.{RenamePart}
-use Rattle.vtl_syntax.specs.declared.parts.SubPart.{SubPart}
-use Rattle.vtl_syntax.specs.declared.word_groups.Retain.{Retain}
-use Rattle.vtl_grammar.specs.Grammar.{Tokens, comma, open_bracket, close_bracket, more_onto, listed_onto, maybe_onto, maybe_after_onto, comp_onto, comps_onto, constant_onto, literal_onto, set_onto, string_onto, integer_onto, name_onto, error_onto, group_onto, order_part_onto, limit_onto, partition_onto, order_onto, points_onto, over_onto, reference_onto, keeping_onto, maybe_keeping_onto, rename_part_onto, sub_part_onto, dataset_onto, retain_onto}
+use Rattle.vtl_grammar.specs.Grammar.{Tokens, close_bracket, more_onto, listed_onto, maybe_onto, maybe_after_onto, comp_onto, comps_onto, constant_onto, literal_onto, set_onto, string_onto, integer_onto, name_onto, error_onto, group_onto, order_part_onto, limit_onto, partition_onto, order_onto, points_onto, over_onto, reference_onto, keeping_onto, maybe_keeping_onto, rename_part_onto, sub_part_onto, dataset_onto, retain_onto}
 use Rattle.vtl_grammar.specs.Words.{direction_token}
 use Rattle.vtl_grammar.proofs.CompleteBase.{Grows}
 

@@ -1,16 +1,15 @@
 -- What lists of tokens begin with, and reading of words and lists.
-use Rattle.std.proofs.Common.{◌≡◌, ◌∙◌, ℕ, zero, suc, ◌≤◌, ◌-◌, ◌&&◌, max, min, Bool, true, false, List, [], ◌∷◌, ◌++◌, length, Option, Some, None, refl, sym, ap, arith, append_assoc}
+use Rattle.std.proofs.Common.{◌≡◌, ◌∙◌, ℕ, zero, suc, ◌≤◌, ◌-◌, max, min, Bool, true, false, List, [], ◌∷◌, ◌++◌, length, Option, Some, None, refl, arith, append_assoc}
 use Rattle.std.specs.List.{AllByRecursion}
 use Rattle.std.proofs.lemmas.List.{append-nil}
 use Rattle.vtl_lexer.specs.declared.keyword.Keyword.{Keyword}
 use Rattle.vtl_lexer.specs.declared.token.Sign.{Sign}
 use Rattle.vtl_lexer.specs.declared.token.Sign.TheVariants as sign
 use Rattle.vtl_lexer.specs.declared.token.TokenKind.{TokenKind}
-use Rattle.vtl_lexer.specs.declared.token.TokenKind.TheVariants as token
 use Rattle.vtl_syntax.specs.Depth.{deepest}
 use Rattle.vtl_grammar.specs.Fits.{Filled}
 use Rattle.vtl_grammar.specs.Grammar.{Tokens, comma, more_onto, listed_onto, maybe_onto, maybe_after_onto}
-use Rattle.vtl_grammar.specs.Reading.{Reads, Gets, Got, got, ◌>>=◌, given, is_keyword, is_sign, after_keyword, after_sign, word, maybe_word, maybe_after, more_items, listed, more_got, got_listed}
+use Rattle.vtl_grammar.specs.Reading.{Reads, Gets, got, is_keyword, is_sign, after_keyword, after_sign, word, maybe_word, more_items, listed, more_got, got_listed}
 
 -- ---- the first token
 

@@ -1,13 +1,12 @@
 -- The calls are read up to the bracket that closes them, where the expressions that are their parts are read.
-use Rattle.std.proofs.Common.{◌≡◌, ℕ, suc, ◌+◌, ◌≤◌, ◌-◌, max, min, Bool, true, false, List, [], ◌∷◌, length, Option, Some, None, refl, arith}
-use Rattle.std.specs.Prelude.{if◌then◌else◌, nat_le}
+use Rattle.std.proofs.Common.{◌≡◌, ℕ, ◌≤◌, ◌-◌, max, min, Bool, true, false, List, ◌∷◌, length, Option, Some, None, refl, arith}
+use Rattle.std.specs.Prelude.{nat_le}
 use Rattle.std.proofs.lemmas.Bool.{le-leb}
-use Rattle.vtl_lexer.specs.declared.keyword.Keyword.{Keyword}
 use Rattle.vtl_lexer.specs.declared.keyword.Keyword.TheVariants as keyword
 use Rattle.vtl_lexer.specs.declared.token.Sign.TheVariants as sign
 use Rattle.vtl_lexer.specs.declared.token.TokenKind.{TokenKind}
 use Rattle.vtl_lexer.specs.declared.token.TokenKind.TheVariants as token
-use Rattle.vtl_syntax.specs.Depth.{exp_depth, exps_depth, maybe_depth, maybe_made_depth, parts_depth, group_depth, over_depth, names_depth}
+use Rattle.vtl_syntax.specs.Depth.{exp_depth, exps_depth, maybe_depth, maybe_made_depth, parts_depth, group_depth, over_depth}
 use Rattle.vtl_syntax.specs.Trees as tree
 use Rattle.vtl_syntax.specs.Trees.{Exp, Exps, MaybeExp, MaybeMade, Parts, exps_of, parts_of, maybe_exp, maybe_made}
 use Rattle.vtl_syntax.specs.declared.parts.Comp.{Comp}
@@ -34,17 +33,17 @@ use Rattle.vtl_syntax.specs.declared.word_groups.ShiftName.{ShiftName}
 use Rattle.vtl_syntax.specs.declared.word_groups.ValueWindowName.{ValueWindowName}
 use Rattle.vtl_grammar.specs.Fits.{Fits, OverFits, exps_count, parts_count}
 use Rattle.vtl_grammar.specs.Grammar.{Tokens, comma, close_bracket, listed_onto, maybe_onto, maybe_after_onto, comp_onto, comps_onto, string_onto, integer_onto, literal_onto, error_onto, group_onto, over_onto, maybe_keeping_onto, rename_part_onto, dataset_onto, retain_onto, exp_onto, exps_onto, maybe_exp_onto, maybe_exp_after_onto, maybe_made_onto, parts_onto}
-use Rattle.vtl_grammar.specs.Reading.{Gets, Got, got, ◌>>=◌, given, is_keyword, is_sign, after_keyword, after_sign, word, maybe_word, spared}
+use Rattle.vtl_grammar.specs.Reading.{Gets, got, is_keyword, is_sign, after_keyword, after_sign, spared}
 use Rattle.vtl_grammar.specs.ReadExpressions.{no_operand, function_call, set_op_call, over_call, group_call, aggregate_call, value_window_call, shift_call, rank_call, two_exps, difference_call, exists_in_call, check_call, check_datapoint_call, dataset_part, check_hierarchy_call, hierarchy_call, join_body, join_call}
 use Rattle.vtl_grammar.specs.ReadParts.{rule_part}
 use Rattle.vtl_grammar.specs.Words.{comp_at, mode_at, mode_token, basic_out_at, basic_out_token, check_out_at, check_out_token, hier_input_at, hier_input_token, hier_out_at, hier_out_token}
 use Rattle.vtl_grammar.specs.declared.levels.Level.TheVariants as level
-use Rattle.vtl_grammar.proofs.CompleteBase.{first_is, Lacks, in_table, lacks_keyword, maybe_lacks, maybe_after_lacks, maybe_word_complete, CompleteGets}
+use Rattle.vtl_grammar.proofs.CompleteBase.{Lacks, in_table, lacks_keyword, maybe_lacks, maybe_after_lacks, maybe_word_complete, CompleteGets}
 use Rattle.vtl_grammar.proofs.CompleteForms.{maybe_exp_after_lacks, group_lacks, made_lacks, maybe_exp_after_complete, maybe_operand_complete, exps_complete, made_complete, join_parts_complete}
 use Rattle.vtl_grammar.proofs.CompleteLevels.{goes_on}
 use Rattle.vtl_grammar.proofs.CompleteParts.{error_complete, group_complete, over_complete, maybe_keeping_complete, maybe_renames_complete, using_complete, shift_complete, retain_complete, ruleset_complete, rule_complete, rule_lacks, rule_alone}
 use Rattle.vtl_grammar.proofs.CompleteTables.{mode_read, mode_lacks, basic_out_read, basic_out_lacks, check_out_read, check_out_lacks, hier_input_read, hier_input_lacks, hier_out_read, hier_out_lacks}
-use Rattle.vtl_grammar.proofs.CompleteTrees.{exp_option, made_option, exp_list, exps_of-list, exps_count-list, part_list, parts_of-list, parts_count-list, maybe_exp-option, maybe_made-option}
+use Rattle.vtl_grammar.proofs.CompleteTrees.{exp_option, exp_list, exps_of-list, exps_count-list, part_list, parts_of-list, parts_count-list, maybe_exp-option, maybe_made-option}
 
 spared_is : (n depth : ℕ) → depth ≤ n → spared n depth ≡ Some (n - depth)
 spared_is n depth h = rw (le-leb depth n h) refl
@@ -134,7 +133,7 @@ module _ (n : ℕ) (part : Gets Exp) (reads : CompleteGets n part exp_onto Fits 
       let having : Tokens = maybe_exp_after_onto (token.Keyword keyword.Having) h (close_bracket ∷ rest) in
       let group : Tokens = group_onto g having in
       let after : (p : TokenKind → Bool) → p (token.Keyword keyword.Group) ≡ false → p (token.Keyword keyword.Having) ≡ false → p close_bracket ≡ false → Lacks p group =
-          λ p own next other. group_lacks p own g having (maybe_exp_after_lacks p (token.Keyword keyword.Having) next h (close_bracket ∷ rest) other) in
+      λ p own next other. group_lacks p own g having (maybe_exp_after_lacks p (token.Keyword keyword.Having) next h (close_bracket ∷ rest) other) in
       rw (maybe_operand_complete n part reads e group fits.0 (omega arith) (ends_group g h rest) (after (goes_on level.Expression) refl refl refl), lacks_keyword keyword.Over group (after (is_keyword keyword.Over) refl refl refl))
       (group_call_complete f e g h rest fits (omega arith))
 
@@ -181,9 +180,9 @@ module _ (n : ℕ) (part : Gets Exp) (reads : CompleteGets n part exp_onto Fits 
       let out : Tokens = maybe_onto basic_out_token o (close_bracket ∷ rest) in
       let imbalance : Tokens = maybe_exp_after_onto (token.Keyword keyword.Imbalance) i out in
       let after_imbalance : (p : TokenKind → Bool) → p (token.Keyword keyword.Invalid) ≡ false → p (token.Keyword keyword.All) ≡ false → p close_bracket ≡ false → Lacks p out =
-          λ p no_invalid no_all no_close. maybe_lacks p basic_out_token (basic_out_lacks p no_invalid no_all) o (close_bracket ∷ rest) no_close in
+      λ p no_invalid no_all no_close. maybe_lacks p basic_out_token (basic_out_lacks p no_invalid no_all) o (close_bracket ∷ rest) no_close in
       let after_error : (p : TokenKind → Bool) → p (token.Keyword keyword.Imbalance) ≡ false → p (token.Keyword keyword.Invalid) ≡ false → p (token.Keyword keyword.All) ≡ false → p close_bracket ≡ false → Lacks p imbalance =
-          λ p own no_invalid no_all no_close. maybe_exp_after_lacks p (token.Keyword keyword.Imbalance) own i out (after_imbalance p no_invalid no_all no_close) in
+      λ p own no_invalid no_all no_close. maybe_exp_after_lacks p (token.Keyword keyword.Imbalance) own i out (after_imbalance p no_invalid no_all no_close) in
       let stops : Lacks (goes_on level.Expression) (error_onto err imbalance) = error_lacks (goes_on level.Expression) refl refl err imbalance (after_error (goes_on level.Expression) refl refl refl refl) in
       let s : min (n - exp_depth e) (n - maybe_depth i) ≡ n - max (exp_depth e) (maybe_depth i) = omega arith in
       rw (reads e (error_onto err imbalance) fits.0 (omega arith) stops, error_complete err imbalance (after_error (is_keyword keyword.Errorcode) refl refl refl refl) (after_error (is_keyword keyword.Errorlevel) refl refl refl refl), maybe_exp_after_complete n part reads keyword.Imbalance refl i out fits.1 (omega arith) (after_imbalance (is_keyword keyword.Imbalance) refl refl refl) (after_imbalance (goes_on level.Expression) refl refl refl), maybe_word_complete basic_out_at basic_out_token basic_out_read o (close_bracket ∷ rest) refl, s, maybe_exp-option i)
@@ -206,9 +205,9 @@ module _ (n : ℕ) (part : Gets Exp) (reads : CompleteGets n part exp_onto Fits 
       let mode : Tokens = maybe_onto mode_token m dataset in
       let rule : Tokens = maybe_after_onto (token.Keyword keyword.Rule) comp_onto r mode in
       let outs : (p : TokenKind → Bool) → p (token.Keyword keyword.Invalid) ≡ false → p (token.Keyword keyword.All) ≡ false → p (token.Keyword keyword.AllMeasures) ≡ false → p close_bracket ≡ false → Lacks p out =
-          λ p a b c no_close. maybe_lacks p check_out_token (check_out_lacks p a b c) o (close_bracket ∷ rest) no_close in
+      λ p a b c no_close. maybe_lacks p check_out_token (check_out_lacks p a b c) o (close_bracket ∷ rest) no_close in
       let datasets : (p : TokenKind → Bool) → p (token.Keyword keyword.Dataset) ≡ false → p (token.Keyword keyword.Invalid) ≡ false → p (token.Keyword keyword.All) ≡ false → p (token.Keyword keyword.AllMeasures) ≡ false → p close_bracket ≡ false → Lacks p dataset =
-          λ p own a b c no_close. dataset_lacks p own d out (outs p a b c no_close) in
+      λ p own a b c no_close. dataset_lacks p own d out (outs p a b c no_close) in
       let no_rule = mode_no_rule m dataset (rule_lacks dataset (datasets (is_keyword keyword.Rule) refl refl refl refl refl)) in
       rw (reads e (comma ∷ token.Name name ∷ rule) fits shallow refl, ruleset_complete name rule, rule_complete r mode no_rule, maybe_word_complete mode_at mode_token mode_read m dataset (datasets (in_table mode_at) refl refl refl refl refl), dataset_complete d out (outs (is_keyword keyword.Dataset) refl refl refl refl), maybe_word_complete check_out_at check_out_token check_out_read o (close_bracket ∷ rest) refl)
       refl
@@ -223,7 +222,7 @@ module _ (n : ℕ) (part : Gets Exp) (reads : CompleteGets n part exp_onto Fits 
       let mode : Tokens = maybe_onto mode_token m input in
       let rule : Tokens = maybe_after_onto (token.Keyword keyword.Rule) comp_onto r mode in
       let outs : (p : TokenKind → Bool) → p (token.Keyword keyword.Computed) ≡ false → p (token.Keyword keyword.All) ≡ false → p close_bracket ≡ false → Lacks p out =
-          λ p a b no_close. maybe_lacks p hier_out_token (hier_out_lacks p a b) o (close_bracket ∷ rest) no_close in
+      λ p a b no_close. maybe_lacks p hier_out_token (hier_out_lacks p a b) o (close_bracket ∷ rest) no_close in
       let inputs : Lacks (in_table mode_at) input = maybe_lacks (in_table mode_at) hier_input_token (hier_input_lacks (in_table mode_at) refl refl refl) i out (outs (in_table mode_at) refl refl refl) in
       let no_rule = mode_no_rule m input (input_no_rule i out (outs (is_keyword keyword.Rule) refl refl refl) (outs (in_table comp_at) refl refl refl)) in
       rw (reads e (comma ∷ token.Name name ∷ rule) fits shallow refl, ruleset_complete name rule, rule_complete r mode no_rule, maybe_word_complete mode_at mode_token mode_read m input inputs, maybe_word_complete hier_input_at hier_input_token hier_input_read i out (outs (in_table hier_input_at) refl refl refl), maybe_word_complete hier_out_at hier_out_token hier_out_read o (close_bracket ∷ rest) refl)
@@ -245,15 +244,15 @@ module _ (n : ℕ) (part : Gets Exp) (reads : CompleteGets n part exp_onto Fits 
       let filter : Tokens = maybe_exp_after_onto (token.Keyword keyword.Filter) f made in
       let using : Tokens = maybe_after_onto (token.Keyword keyword.Using) comps_onto u filter in
       let at_renames : (p : TokenKind → Bool) → p (token.Keyword keyword.Rename) ≡ false → p close_bracket ≡ false → Lacks p renames =
-          λ p no_rename no_close. maybe_after_lacks p (token.Keyword keyword.Rename) (listed_onto rename_part_onto) no_rename rs after no_close in
+      λ p no_rename no_close. maybe_after_lacks p (token.Keyword keyword.Rename) (listed_onto rename_part_onto) no_rename rs after no_close in
       let at_keep : (p : TokenKind → Bool) → p (token.Keyword keyword.Keep) ≡ false → p (token.Keyword keyword.Drop) ≡ false → p (token.Keyword keyword.Rename) ≡ false → p close_bracket ≡ false → Lacks p keep =
-          λ p no_keep no_drop no_rename no_close. keeping_lacks p no_keep no_drop kept renames (at_renames p no_rename no_close) in
+      λ p no_keep no_drop no_rename no_close. keeping_lacks p no_keep no_drop kept renames (at_renames p no_rename no_close) in
       let at_made : (p : TokenKind → Bool) → p (token.Keyword keyword.Calc) ≡ false → p (token.Keyword keyword.Aggr) ≡ false → p (token.Keyword keyword.Keep) ≡ false → p (token.Keyword keyword.Drop) ≡ false → p (token.Keyword keyword.Rename) ≡ false → p close_bracket ≡ false → Lacks p made =
-          λ p no_calc no_aggr no_keep no_drop no_rename no_close. made_lacks p no_calc no_aggr m keep (at_keep p no_keep no_drop no_rename no_close) in
+      λ p no_calc no_aggr no_keep no_drop no_rename no_close. made_lacks p no_calc no_aggr m keep (at_keep p no_keep no_drop no_rename no_close) in
       let at_filter : (p : TokenKind → Bool) → p (token.Keyword keyword.Filter) ≡ false → p (token.Keyword keyword.Calc) ≡ false → p (token.Keyword keyword.Aggr) ≡ false → p (token.Keyword keyword.Keep) ≡ false → p (token.Keyword keyword.Drop) ≡ false → p (token.Keyword keyword.Rename) ≡ false → p close_bracket ≡ false → Lacks p filter =
-          λ p no_filter no_calc no_aggr no_keep no_drop no_rename no_close. maybe_exp_after_lacks p (token.Keyword keyword.Filter) no_filter f made (at_made p no_calc no_aggr no_keep no_drop no_rename no_close) in
+      λ p no_filter no_calc no_aggr no_keep no_drop no_rename no_close. maybe_exp_after_lacks p (token.Keyword keyword.Filter) no_filter f made (at_made p no_calc no_aggr no_keep no_drop no_rename no_close) in
       let at_using : (p : TokenKind → Bool) → p (token.Keyword keyword.Using) ≡ false → p (token.Keyword keyword.Filter) ≡ false → p (token.Keyword keyword.Calc) ≡ false → p (token.Keyword keyword.Aggr) ≡ false → p (token.Keyword keyword.Keep) ≡ false → p (token.Keyword keyword.Drop) ≡ false → p (token.Keyword keyword.Rename) ≡ false → p close_bracket ≡ false → Lacks p using =
-          λ p no_using no_filter no_calc no_aggr no_keep no_drop no_rename no_close. maybe_after_lacks p (token.Keyword keyword.Using) comps_onto no_using u filter (at_filter p no_filter no_calc no_aggr no_keep no_drop no_rename no_close) in
+      λ p no_using no_filter no_calc no_aggr no_keep no_drop no_rename no_close. maybe_after_lacks p (token.Keyword keyword.Using) comps_onto no_using u filter (at_filter p no_filter no_calc no_aggr no_keep no_drop no_rename no_close) in
       let s : min (n - parts_depth ps) (min (n - maybe_depth f) (n - maybe_made_depth m)) ≡ n - max (parts_depth ps) (max (maybe_depth f) (maybe_made_depth m)) = omega arith in
       rw (join_parts_complete n part reads ps using (omega arith) fits.1 (omega arith) (at_using (is_sign sign.Comma) refl refl refl refl refl refl refl refl) (at_using (is_keyword keyword.As) refl refl refl refl refl refl refl refl) (at_using (goes_on level.Expression) refl refl refl refl refl refl refl refl), enough, using_complete u filter fits.2 (at_filter (is_keyword keyword.Using) refl refl refl refl refl refl refl) (at_filter (is_sign sign.Comma) refl refl refl refl refl refl refl), maybe_exp_after_complete n part reads keyword.Filter refl f made fits.3 (omega arith) (at_made (is_keyword keyword.Filter) refl refl refl refl refl refl) (at_made (goes_on level.Expression) refl refl refl refl refl refl), made_complete n part reads m keep fits.4 (omega arith) (at_keep (is_keyword keyword.Calc) refl refl refl refl) (at_keep (is_keyword keyword.Aggr) refl refl refl refl) (at_keep (is_sign sign.Comma) refl refl refl refl) (at_keep (is_keyword keyword.Group) refl refl refl refl) (at_keep (is_keyword keyword.Having) refl refl refl refl) (at_keep (goes_on level.Expression) refl refl refl refl), maybe_keeping_complete kept renames fits.5 (at_renames (is_keyword keyword.Keep) refl refl) (at_renames (is_keyword keyword.Drop) refl refl) (at_renames (is_sign sign.Comma) refl refl) (at_renames (is_sign sign.Hash) refl refl), maybe_renames_complete rs after fits.6 refl refl, s, parts_of-list ps, maybe_exp-option f, maybe_made-option m)
       refl

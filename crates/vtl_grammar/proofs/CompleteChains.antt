@@ -1,8 +1,7 @@
 -- Clauses, members, signs and operators are read: what is read of a left operand goes on at the tokens behind it.
-use Rattle.std.proofs.Common.{◌≡◌, ◌∙◌, ◌⊎◌, ℕ, zero, suc, ◌+◌, ◌≤◌, ◌<◌, ◌-◌, max, min, Bool, true, false, List, [], ◌∷◌, length, Option, Some, None, refl, arith, inl, inr}
+use Rattle.std.proofs.Common.{◌≡◌, ◌∙◌, ◌⊎◌, ℕ, zero, suc, ◌≤◌, ◌<◌, ◌-◌, max, min, Bool, List, ◌∷◌, length, Some, None, refl, arith, inl, inr}
 use Rattle.std.specs.Prelude.{nat_le}
 use Rattle.std.proofs.lemmas.Bool.{cases_Bool, leb-false, leb-true}
-use Rattle.vtl_lexer.specs.declared.keyword.Keyword.TheVariants as keyword
 use Rattle.vtl_lexer.specs.declared.token.Sign.TheVariants as sign
 use Rattle.vtl_lexer.specs.declared.token.TokenKind.TheVariants as token
 use Rattle.vtl_syntax.specs.Depth.{exp_depth, brack_depth}
@@ -11,20 +10,19 @@ use Rattle.vtl_syntax.specs.Trees.{Exp, Brack}
 use Rattle.vtl_syntax.specs.declared.parts.Comp.{Comp}
 use Rattle.vtl_syntax.specs.declared.parts.Literal.{Literal}
 use Rattle.vtl_syntax.specs.declared.word_groups.BinaryOp.{BinaryOp}
-use Rattle.vtl_syntax.specs.declared.word_groups.UnaryOp.{UnaryOp}
 use Rattle.vtl_grammar.specs.Fits.{Fits}
 use Rattle.vtl_grammar.specs.Grammar.{Tokens, set_onto, brack_onto, exp_onto}
 use Rattle.vtl_grammar.specs.Levels.{looseness, tighter, operator_level, level_of, Within}
-use Rattle.vtl_grammar.specs.Reading.{Gets, Got, got, ◌>>=◌, given, is_keyword, is_sign, after_keyword, after_sign, word}
-use Rattle.vtl_grammar.specs.ReadExpressions.{primary, around, more_postfix, postfix, prefixed, operator_at, membership_at, more_operands, chain, choice, choice_or, clause}
-use Rattle.vtl_grammar.specs.Words.{binary_op_token, unary_op_at, unary_op_token, comp_at, comp_token, in_token}
+use Rattle.vtl_grammar.specs.Reading.{Gets, got, is_sign, after_sign, word}
+use Rattle.vtl_grammar.specs.ReadExpressions.{more_postfix, postfix, prefixed, more_operands, chain}
+use Rattle.vtl_grammar.specs.Words.{binary_op_token, unary_op_at, comp_token, in_token}
 use Rattle.vtl_grammar.specs.declared.levels.Level.{Level}
 use Rattle.vtl_grammar.specs.declared.levels.Level.TheVariants as level
 use Rattle.vtl_grammar.proofs.AppendExpressions.{exp-append, brack-append}
 use Rattle.vtl_grammar.proofs.AppendParts.{grows, set-append}
-use Rattle.vtl_grammar.proofs.CompleteBase.{first_is, Lacks, in_table, lacks_word, lacks_sign, lacks_keyword, CompleteGets}
+use Rattle.vtl_grammar.proofs.CompleteBase.{Lacks, in_table, lacks_word, lacks_sign, CompleteGets}
 use Rattle.vtl_grammar.proofs.CompleteForms.{clause_complete}
-use Rattle.vtl_grammar.proofs.CompleteLevels.{goes_on, tighter_is, within_all, stops_within, operator_loose, operator_stops, in_stops, operator_read, operator_none, membership_none, membership_read, in_operator_none, postfix_stops, starts, unary_start, if_start}
+use Rattle.vtl_grammar.proofs.CompleteLevels.{goes_on, tighter_is, stops_within, operator_loose, operator_stops, in_stops, operator_read, operator_none, membership_none, membership_read, in_operator_none, postfix_stops, starts, unary_start}
 use Rattle.vtl_grammar.proofs.CompleteParts.{comp_read, literal_set_complete}
 use Rattle.vtl_grammar.proofs.CompletePrimary.{primary_complete}
 use Rattle.vtl_grammar.proofs.CompleteTables.{unary_op_read}
@@ -127,9 +125,10 @@ operands_stop l right (suc turns) e spare rest stops = rw (operator_none l rest 
 -- an expression of a level stands at a tighter one, or its operator is of the level
 tight_or_own : (x l : ℕ) → 3 ≤ l → x ≤ l → (x ≤ l - 1) ⊎ (x ≡ l)
 tight_or_own x l low h =
-    elim (cases_Bool (nat_le x (l - 1)))
-    [ inl below ↦ inl (leb-true x (l - 1) below)
-    | inr above ↦ inr (let far : l - 1 < x = leb-false x (l - 1) above in omega arith) ]
+    elim (cases_Bool (nat_le x (l - 1))) [
+      | inl below ↦ inl (leb-true x (l - 1) below)
+      | inr above ↦ inr (let far : l - 1 < x = leb-false x (l - 1) above in omega arith)
+    ]
 
 module _ (n : ℕ) (l : Level) (low : 3 ≤ looseness l) (high : looseness l ≤ 7) (first right : Gets Exp) (reads_first : CompleteAt (suc n) (tighter l) first) (reads_right : CompleteAt n (tighter l) right) where
   tight_going : (e : Exp) (rest : Tokens) → looseness (level_of e) ≤ looseness l - 1 → Fits e → exp_depth e ≤ suc n → Lacks (goes_on (tighter l)) rest → Going n l first right e rest
@@ -173,18 +172,20 @@ module _ (n : ℕ) (l : Level) (low : 3 ≤ looseness l) (high : looseness l ≤
   going : (e : Exp) (rest : Tokens) → Within l e → Fits e → exp_depth e ≤ suc n → Lacks (goes_on (tighter l)) rest → Going n l first right e rest
   going (tree.binary a o b) rest within fits shallow stops =
       let within_left : Within (operator_level o) a = fits.0 in
-      elim (tight_or_own (looseness (operator_level o)) (looseness l) low within)
-      [ inl tight ↦ tight_going (tree.binary a o b) rest tight fits shallow stops
-      | inr same ↦
-          (let g : Going n l first right a (binary_op_token o ∷ exp_onto b rest) = going a (binary_op_token o ∷ exp_onto b rest) (omega arith) fits.1 (omega arith) (operator_stops o (tighter l) (omega (arith, tighter_is l))) in
-          binary_step a o b rest same fits shallow stops g.turns g.enough g.is) ]
+      elim (tight_or_own (looseness (operator_level o)) (looseness l) low within) [
+        | inl tight ↦ tight_going (tree.binary a o b) rest tight fits shallow stops
+        | inr same ↦
+            (let g : Going n l first right a (binary_op_token o ∷ exp_onto b rest) = going a (binary_op_token o ∷ exp_onto b rest) (omega arith) fits.1 (omega arith) (operator_stops o (tighter l) (omega (arith, tighter_is l))) in
+            binary_step a o b rest same fits shallow stops g.turns g.enough g.is)
+      ]
   going (tree.in_set e negated ls) rest within fits shallow stops =
       let within_left : Within level.Compare e = fits.0 in
-      elim (tight_or_own 5 (looseness l) low within)
-      [ inl tight ↦ tight_going (tree.in_set e negated ls) rest tight fits shallow stops
-      | inr same ↦
-          (let g : Going n l first right e (in_token negated ∷ set_onto ls rest) = going e (in_token negated ∷ set_onto ls rest) (omega arith) fits.1 (omega arith) (in_stops negated (tighter l) (omega (arith, tighter_is l))) in
-          in_step e negated ls rest (omega arith) fits shallow g.turns g.enough g.is) ]
+      elim (tight_or_own 5 (looseness l) low within) [
+        | inl tight ↦ tight_going (tree.in_set e negated ls) rest tight fits shallow stops
+        | inr same ↦
+            (let g : Going n l first right e (in_token negated ∷ set_onto ls rest) = going e (in_token negated ∷ set_onto ls rest) (omega arith) fits.1 (omega arith) (in_stops negated (tighter l) (omega (arith, tighter_is l))) in
+            in_step e negated ls rest (omega arith) fits shallow g.turns g.enough g.is)
+      ]
   going e rest within fits shallow stops = tight_going e rest (omega arith) fits shallow stops
 
   pub chain_complete : CompleteAt (suc n) l (chain l first right)

@@ -1,5 +1,5 @@
 -- Each expression that may stand at a level is read there at a budget of its depth, where what follows does not go on with it.
-use Rattle.std.proofs.Common.{◌≡◌, ◌∙◌, ℕ, zero, suc, ◌+◌, ◌≤◌, ◌<◌, ◌-◌, max, min, Bool, true, false, List, [], ◌∷◌, length, Option, Some, None, refl, arith}
+use Rattle.std.proofs.Common.{◌≡◌, ◌∙◌, ℕ, zero, suc, ◌≤◌, ◌-◌, max, min, ◌∷◌, Some, None, refl, arith}
 use Rattle.vtl_lexer.specs.declared.keyword.Keyword.TheVariants as keyword
 use Rattle.vtl_lexer.specs.declared.token.TokenKind.TheVariants as token
 use Rattle.vtl_syntax.specs.Depth.{exp_depth}
@@ -7,9 +7,9 @@ use Rattle.vtl_syntax.specs.Trees as tree
 use Rattle.vtl_syntax.specs.Trees.{Exp}
 use Rattle.vtl_grammar.specs.Fits.{Fits}
 use Rattle.vtl_grammar.specs.Grammar.{Tokens, exp_onto}
-use Rattle.vtl_grammar.specs.Levels.{looseness, level_of, Within}
-use Rattle.vtl_grammar.specs.Reading.{Gets, Got, got, ◌>>=◌, given, is_keyword, after_keyword}
-use Rattle.vtl_grammar.specs.ReadExpressions.{choice, choice_or, postfix, unary_at, multiply_at, add_at, compare_at, and_at, or_at, read_level, read}
+use Rattle.vtl_grammar.specs.Levels.{Within}
+use Rattle.vtl_grammar.specs.Reading.{Gets, got, is_keyword, after_keyword}
+use Rattle.vtl_grammar.specs.ReadExpressions.{choice, choice_or, unary_at, multiply_at, add_at, compare_at, and_at, or_at, read_level, read}
 use Rattle.vtl_grammar.specs.declared.levels.Level.{Level}
 use Rattle.vtl_grammar.specs.declared.levels.Level.TheVariants as level
 use Rattle.vtl_grammar.proofs.CompleteBase.{Lacks, lacks_keyword, CompleteGets}

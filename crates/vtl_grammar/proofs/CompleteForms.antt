@@ -1,5 +1,5 @@
 -- The forms with expressions are read, where the expressions that are their parts are.
-use Rattle.std.proofs.Common.{◌≡◌, ℕ, suc, ◌+◌, ◌≤◌, ◌-◌, max, min, Bool, true, false, List, [], ◌∷◌, length, Option, Some, None, refl, arith}
+use Rattle.std.proofs.Common.{◌≡◌, ℕ, ◌≤◌, ◌-◌, max, min, Bool, true, false, [], ◌∷◌, length, Option, Some, None, refl, arith}
 use Rattle.std.specs.Prelude.{◌||◌}
 use Rattle.std.proofs.lemmas.Bool.{or_parts}
 use Rattle.vtl_lexer.specs.declared.keyword.Keyword.{Keyword}
@@ -10,25 +10,23 @@ use Rattle.vtl_lexer.specs.declared.token.TokenKind.TheVariants as token
 use Rattle.vtl_syntax.specs.Depth.{exp_depth, exps_depth, maybe_depth, brack_depth, made_depth, maybe_made_depth, calcs_depth, parts_depth}
 use Rattle.vtl_syntax.specs.Trees as tree
 use Rattle.vtl_syntax.specs.Trees.{Exp, Exps, MaybeExp, Brack, Made, MaybeMade, Calcs, Parts, CalcTree, PartTree, exps_of, calcs_of, parts_of, maybe_exp, maybe_made}
-use Rattle.vtl_syntax.specs.declared.parts.Comp.{Comp}
 use Rattle.vtl_syntax.specs.declared.parts.Constant.{Constant}
 use Rattle.vtl_syntax.specs.declared.parts.Constant.TheVariants as constants
 use Rattle.vtl_syntax.specs.declared.parts.GroupPart.{GroupPart}
 use Rattle.vtl_syntax.specs.declared.parts.Keeping.{Keeping}
 use Rattle.vtl_syntax.specs.declared.parts.Keeping.TheVariants as kept
-use Rattle.vtl_grammar.specs.Fits.{Fits, ExpsFit, MaybeFits, BrackFits, MadeFits, MaybeMadeFits, CalcsFit, PartsFit, GroupFits, exps_count, calcs_count, parts_count}
-use Rattle.vtl_grammar.specs.Grammar.{Tokens, comma, maybe_onto, maybe_after_onto, name_onto, constant_onto, group_onto, exp_onto, exps_onto, maybe_exp_onto, maybe_exp_after_onto, brack_onto, made_onto, maybe_made_onto, calcs_onto, parts_onto}
-use Rattle.vtl_grammar.specs.Levels.{looseness}
-use Rattle.vtl_grammar.specs.Reading.{Gets, Got, got, ◌>>=◌, given, is_keyword, is_sign, after_keyword, after_sign, word, maybe_word}
+use Rattle.vtl_grammar.specs.Fits.{Fits, ExpsFit, MaybeFits, BrackFits, MadeFits, MaybeMadeFits, CalcsFit, PartsFit, exps_count, calcs_count, parts_count}
+use Rattle.vtl_grammar.specs.Grammar.{Tokens, maybe_after_onto, name_onto, constant_onto, group_onto, exp_onto, exps_onto, maybe_exp_onto, maybe_exp_after_onto, brack_onto, made_onto, maybe_made_onto, calcs_onto, parts_onto}
+use Rattle.vtl_grammar.specs.Reading.{Gets, got, is_keyword, is_sign, after_keyword, after_sign}
 use Rattle.vtl_grammar.specs.ReadExpressions.{maybe_exp_after, no_operand, ends_operand, maybe_operand, exps, calc_part, calc_parts, join_part, join_parts, aggr_made, made_part, name_clause, clause}
 use Rattle.vtl_grammar.specs.ReadParts.{maybe_renames, maybe_keeping}
-use Rattle.vtl_grammar.specs.Words.{written_role_at, written_role_token, comp_at, comp_token}
+use Rattle.vtl_grammar.specs.Words.{written_role_at, written_role_token, comp_token}
 use Rattle.vtl_grammar.specs.declared.levels.Level.TheVariants as level
 use Rattle.vtl_grammar.proofs.AppendExpressions.{exp-append}
 use Rattle.vtl_grammar.proofs.AppendParts.{grows}
-use Rattle.vtl_grammar.proofs.CompleteBase.{first_is, Lacks, in_table, lacks_keyword, maybe_after_lacks, maybe_word_complete, CompleteGets, got_listed_complete}
+use Rattle.vtl_grammar.proofs.CompleteBase.{Lacks, in_table, lacks_keyword, maybe_after_lacks, maybe_word_complete, CompleteGets, got_listed_complete}
 use Rattle.vtl_grammar.proofs.CompleteLevels.{goes_on, within_all, starts, operand_start}
-use Rattle.vtl_grammar.proofs.CompleteParts.{comp_read, comp_lacks, group_complete, maybe_keeping_complete, maybe_renames_complete, rename_parts_complete, sub_parts_complete, two_comps_complete, alias_complete}
+use Rattle.vtl_grammar.proofs.CompleteParts.{comp_read, comp_lacks, group_complete, maybe_keeping_complete, rename_parts_complete, sub_parts_complete, two_comps_complete, alias_complete}
 use Rattle.vtl_grammar.proofs.CompleteTables.{written_role_read}
 use Rattle.vtl_grammar.proofs.CompleteTrees.{exp_option, made_option, exp_list, exps_depth-list, exps_count-list, exps_fit-list, exps-list, calc_list, calc_onto, calc-append, calc_depth, CalcFits, calcs_of-list, calcs_depth-list, calcs_count-list, calcs_fit-list, calcs-list, part_list, part_onto, part-append, part_depth, PartFits, parts_depth-list, parts_count-list, parts_fit-list, parts-list, maybe_exp-option}
 

@@ -1,7 +1,7 @@
 -- The tokens that an operand goes on with, and the tokens that an expression begins with.
-use Rattle.std.proofs.Common.{◌≡◌, ℕ, suc, ◌≤◌, ◌<◌, ◌-◌, Bool, true, false, List, [], ◌∷◌, Option, Some, None, refl, arith, inl, inr}
+use Rattle.std.proofs.Common.{◌≡◌, ℕ, ◌≤◌, ◌<◌, ◌-◌, Bool, true, false, List, [], ◌∷◌, Some, None, refl, arith, inl, inr}
 use Rattle.std.specs.Prelude.{nat_le, nat_eq}
-use Rattle.std.proofs.lemmas.Bool.{cases_Bool, leb-false, leb-true, lt-leb, eqb-true, eq-eqb}
+use Rattle.std.proofs.lemmas.Bool.{cases_Bool, leb-false, lt-leb, eqb-true, eq-eqb}
 use Rattle.vtl_lexer.specs.declared.keyword.Keyword.TheVariants as keyword
 use Rattle.vtl_lexer.specs.declared.token.Sign.{Sign}
 use Rattle.vtl_lexer.specs.declared.token.Sign.TheVariants as sign
@@ -27,7 +27,7 @@ use Rattle.vtl_grammar.specs.declared.call_forms.CallForm.{CallForm}
 use Rattle.vtl_grammar.specs.declared.call_forms.CallForm.TheVariants as form
 use Rattle.vtl_grammar.specs.declared.levels.Level.{Level}
 use Rattle.vtl_grammar.specs.declared.levels.Level.TheVariants as level
-use Rattle.vtl_grammar.proofs.CompleteBase.{first_is, Lacks, is_some, in_table, lacks_word}
+use Rattle.vtl_grammar.proofs.CompleteBase.{Lacks, in_table}
 use Rattle.vtl_grammar.proofs.CompleteParts.{comp_lacks}
 use Rattle.vtl_grammar.proofs.CompleteTables.{form_read, binary_op_read}
 
@@ -154,9 +154,10 @@ operator_read o l same = rw (binary_op_read o, eq-eqb (looseness (operator_level
 
 apart : (k : ℕ) (l : Level) → nat_le k (looseness l) ≡ false → nat_eq k (looseness l) ≡ false
 apart k l h =
-    elim (cases_Bool (nat_eq k (looseness l)))
-    [ inl same ↦ (let e : k ≡ looseness l = eqb-true k (looseness l) same in let far : looseness l < k = leb-false k (looseness l) h in absurd (omega arith))
-    | inr other ↦ other ]
+    elim (cases_Bool (nat_eq k (looseness l))) [
+      | inl same ↦ (let e : k ≡ looseness l = eqb-true k (looseness l) same in let far : looseness l < k = leb-false k (looseness l) h in absurd (omega arith))
+      | inr other ↦ other
+    ]
 
 at_none : (l : Level) (t : TokenKind) → goes_on l t ≡ false → operator_at l t ≡ None
 at_none l (token.Keyword keyword.Or) h = rw (apart 7 l h) refl
@@ -261,9 +262,10 @@ starts l p lacks (join k ps u f m kept rs) within fits rest = lacks.no_form (for
 
 pub form_lacks : (p : TokenKind → Bool) → ((t : TokenKind) → p t ≡ true → form_at t ≡ None) → (f : CallForm) → p (form_token f) ≡ false
 form_lacks p other f =
-    elim (cases_Bool (p (form_token f)))
-    [ inl passes ↦ (let e : form_at (form_token f) ≡ None = other (form_token f) passes in let g : form_at (form_token f) ≡ Some f = form_read f in cc)
-    | inr fails ↦ fails ]
+    elim (cases_Bool (p (form_token f))) [
+      | inl passes ↦ (let e : form_at (form_token f) ≡ None = other (form_token f) passes in let g : form_at (form_token f) ≡ Some f = form_read f in cc)
+      | inr fails ↦ fails
+    ]
 
 unary_apart : (t : TokenKind) → in_table unary_op_at t ≡ true → form_at t ≡ None
 unary_apart (token.Keyword keyword.Not) h = refl

@@ -1,5 +1,5 @@
 -- The parts that hold no expression are read, each where what follows it does not go on with it.
-use Rattle.std.proofs.Common.{◌≡◌, ℕ, Bool, true, false, List, [], ◌∷◌, Option, Some, None, refl}
+use Rattle.std.proofs.Common.{◌≡◌, ℕ, Bool, true, false, List, ◌∷◌, Option, Some, None, refl}
 use Rattle.vtl_lexer.specs.declared.keyword.Keyword.{Keyword}
 use Rattle.vtl_lexer.specs.declared.keyword.Keyword.TheVariants as keyword
 use Rattle.vtl_lexer.specs.declared.token.Sign.TheVariants as sign
@@ -16,7 +16,6 @@ use Rattle.vtl_syntax.specs.declared.parts.Limit.{Limit}
 use Rattle.vtl_syntax.specs.declared.parts.Limit.TheVariants as limits
 use Rattle.vtl_syntax.specs.declared.parts.Literal.{Literal}
 use Rattle.vtl_syntax.specs.declared.parts.Literal.TheVariants as literals
-use Rattle.vtl_syntax.specs.declared.parts.Numeral.{Numeral}
 use Rattle.vtl_syntax.specs.declared.parts.Numeral.TheVariants as numeral
 use Rattle.vtl_syntax.specs.declared.parts.OrderPart.{OrderPart}
 use Rattle.vtl_syntax.specs.declared.parts.OverPart.{OverPart}
@@ -26,13 +25,13 @@ use Rattle.vtl_syntax.specs.declared.parts.RenamePart.{RenamePart}
 use Rattle.vtl_syntax.specs.declared.parts.SubPart.{SubPart}
 use Rattle.vtl_syntax.specs.declared.word_groups.CastKind.{CastKind}
 use Rattle.vtl_syntax.specs.declared.word_groups.Retain.{Retain}
-use Rattle.vtl_grammar.specs.Fits.{Filled, MaybeFilled, GroupFits, OverFits, KeepingFits, MaybeKeepingFits}
-use Rattle.vtl_grammar.specs.Grammar.{Tokens, comma, open_bracket, close_bracket, listed_onto, maybe_onto, maybe_after_onto, comp_onto, comps_onto, literal_onto, set_onto, string_onto, integer_onto, name_onto, error_onto, group_onto, order_part_onto, limit_onto, partition_onto, order_onto, points_onto, over_onto, reference_onto, keeping_onto, maybe_keeping_onto, rename_part_onto, sub_part_onto, dataset_onto, retain_onto}
-use Rattle.vtl_grammar.specs.Reading.{Reads, ◌>>=◌, given, is_keyword, is_sign, after_keyword, after_sign, word, maybe_word, maybe_after, listed}
+use Rattle.vtl_grammar.specs.Fits.{Filled, MaybeFilled, GroupFits, OverFits, MaybeKeepingFits}
+use Rattle.vtl_grammar.specs.Grammar.{Tokens, comma, close_bracket, listed_onto, maybe_after_onto, comp_onto, comps_onto, literal_onto, set_onto, string_onto, integer_onto, name_onto, error_onto, group_onto, order_part_onto, limit_onto, partition_onto, order_onto, points_onto, over_onto, reference_onto, maybe_keeping_onto, rename_part_onto, sub_part_onto, retain_onto}
+use Rattle.vtl_grammar.specs.Reading.{Reads, is_keyword, is_sign, after_keyword, after_sign, word, maybe_after}
 use Rattle.vtl_grammar.specs.ReadParts.{cast_part, cast_literal, literal, literals_listed, literal_set, comps, error_part, group_part, order_part, order_parts, current, limit, partition_part, order_by_part, limits_between, points_part, over_part, reference, references_listed, rename_part, rename_parts, maybe_renames, sub_part, sub_parts, maybe_keeping, two_comps, using_part, alias_part, shift_part, retain_part, ruleset_part, rule_part}
-use Rattle.vtl_grammar.specs.Words.{name_at, string_at, integer_at, comp_at, comp_token, numeral_at, numeral_token, cast_kind_at, cast_kind_token, direction_at, direction_token, retain_at, retain_token, boolean_token, constant_at}
+use Rattle.vtl_grammar.specs.Words.{name_at, string_at, integer_at, comp_at, comp_token, cast_kind_token, direction_at, direction_token, boolean_token}
 use Rattle.vtl_grammar.proofs.AppendParts.{grows, literal-append, comp-append, order_part-append, reference-append, rename_part-append, sub_part-append}
-use Rattle.vtl_grammar.proofs.CompleteBase.{first_is, Lacks, in_table, never, lacks_never, lacks_keyword, lacks_sign, lacks_word, maybe_lacks, maybe_after_lacks, maybe_word_complete, Complete, listed_complete}
+use Rattle.vtl_grammar.proofs.CompleteBase.{Lacks, in_table, never, lacks_never, lacks_keyword, lacks_sign, lacks_word, maybe_after_lacks, maybe_word_complete, Complete, listed_complete}
 use Rattle.vtl_grammar.proofs.CompleteTables.{cast_kind_read, group_kind_read, side_read, direction_read, retain_read}
 
 pub comp_read : (c : Comp) → comp_at (comp_token c) ≡ Some c
@@ -141,7 +140,7 @@ over_complete o rest fits =
     let order : Tokens = order_onto o.order points in
     let after_points : (p : TokenKind → Bool) → p (token.Keyword keyword.Data) ≡ false → p close_bracket ≡ false → Lacks p points = λ p no_data no_close. points_lacks p no_data o.points after no_close in
     let after_order : (p : TokenKind → Bool) → p (token.Keyword keyword.Order) ≡ false → p (token.Keyword keyword.Data) ≡ false → p close_bracket ≡ false → Lacks p order =
-        λ p no_order no_data no_close. order_lacks p no_order o.order points (after_points p no_data no_close) in
+    λ p no_order no_data no_close. order_lacks p no_order o.order points (after_points p no_data no_close) in
     let partitioned = partition_complete o.partition order fits.0 (after_order (is_keyword keyword.Partition) refl refl refl) (after_order (is_sign sign.Comma) refl refl refl) in
     let ordered = order_complete o.order points fits.1 (after_points (is_keyword keyword.Order) refl refl) (after_points (is_sign sign.Comma) refl refl) (after_points (in_table direction_at) refl refl) in
     rw (partitioned, ordered, points_complete o.points after refl) refl

@@ -1,33 +1,25 @@
 -- What may stand alone is read.
-use Rattle.std.proofs.Common.{◌≡◌, ◌∙◌, ℕ, zero, suc, ◌+◌, ◌≤◌, ◌<◌, ◌-◌, max, min, Bool, true, false, List, [], ◌∷◌, length, Option, Some, None, option_map, refl, arith}
-use Rattle.vtl_lexer.specs.declared.keyword.Keyword.TheVariants as keyword
+use Rattle.std.proofs.Common.{◌≡◌, ℕ, suc, ◌≤◌, ◌-◌, max, Bool, true, false, ◌∷◌, Some, refl, arith}
 use Rattle.vtl_lexer.specs.declared.token.Sign.TheVariants as sign
-use Rattle.vtl_lexer.specs.declared.token.TokenKind.{TokenKind}
-use Rattle.vtl_lexer.specs.declared.token.TokenKind.TheVariants as token
-use Rattle.vtl_syntax.specs.Depth.{exp_depth, exps_depth, maybe_depth, maybe_made_depth, parts_depth, group_depth, over_depth, brack_depth}
+use Rattle.vtl_syntax.specs.Depth.{exp_depth, exps_depth, maybe_depth, maybe_made_depth, parts_depth, group_depth, over_depth}
 use Rattle.vtl_syntax.specs.Trees as tree
 use Rattle.vtl_syntax.specs.Trees.{Exp, Brack}
 use Rattle.vtl_syntax.specs.declared.parts.Comp.{Comp}
 use Rattle.vtl_syntax.specs.declared.parts.Constant.{Constant}
 use Rattle.vtl_syntax.specs.declared.parts.Constant.TheVariants as constants
-use Rattle.vtl_syntax.specs.declared.parts.Numeral.{Numeral}
 use Rattle.vtl_syntax.specs.declared.parts.Numeral.TheVariants as numeral
 use Rattle.vtl_grammar.specs.Fits.{Fits}
-use Rattle.vtl_grammar.specs.Grammar.{Tokens, open_bracket, close_bracket, brack_onto, exp_onto}
-use Rattle.vtl_grammar.specs.Levels.{looseness, level_of, Within}
-use Rattle.vtl_grammar.specs.Reading.{Gets, Got, got, ◌>>=◌, given, is_keyword, is_sign, after_keyword, after_sign, word}
-use Rattle.vtl_grammar.specs.ReadExpressions.{call, cast_call, closed, leaf_at, bracketed, formed, primary, around, more_postfix, postfix}
-use Rattle.vtl_grammar.specs.Words.{comp_at, comp_token, form_at, form_token, boolean_token}
+use Rattle.vtl_grammar.specs.Grammar.{Tokens, open_bracket, close_bracket, exp_onto}
+use Rattle.vtl_grammar.specs.Levels.{Within}
+use Rattle.vtl_grammar.specs.Reading.{Gets, got, is_sign, after_sign}
+use Rattle.vtl_grammar.specs.ReadExpressions.{call, cast_call, closed, leaf_at, bracketed, formed, primary}
+use Rattle.vtl_grammar.specs.Words.{comp_token, form_token, boolean_token}
 use Rattle.vtl_grammar.specs.declared.call_forms.CallForm.{CallForm}
 use Rattle.vtl_grammar.specs.declared.call_forms.CallForm.TheVariants as form
-use Rattle.vtl_grammar.specs.declared.levels.Level.{Level}
 use Rattle.vtl_grammar.specs.declared.levels.Level.TheVariants as level
-use Rattle.vtl_grammar.proofs.AppendExpressions.{exp-append, brack-append}
-use Rattle.vtl_grammar.proofs.AppendParts.{grows}
-use Rattle.vtl_grammar.proofs.CompleteBase.{first_is, Lacks, in_table, lacks_word, lacks_sign, CompleteGets}
+use Rattle.vtl_grammar.proofs.CompleteBase.{lacks_word, CompleteGets}
 use Rattle.vtl_grammar.proofs.CompleteCalls.{function_complete, set_op_complete, aggregate_complete, aggregate_over_complete, value_window_complete, shift_call_complete, rank_complete, difference_complete, exists_in_complete, check_complete, check_datapoint_complete, check_hierarchy_complete, hierarchy_complete, join_complete}
-use Rattle.vtl_grammar.proofs.CompleteForms.{clause_complete}
-use Rattle.vtl_grammar.proofs.CompleteLevels.{goes_on, form_no_leaf, form_lacks, operator_loose, sign_apart, postfix_stops}
+use Rattle.vtl_grammar.proofs.CompleteLevels.{goes_on, form_no_leaf, form_lacks, operator_loose, sign_apart}
 use Rattle.vtl_grammar.proofs.CompleteParts.{comp_read, cast_part_complete}
 use Rattle.vtl_grammar.proofs.CompleteTables.{form_read}
 

@@ -1,7 +1,7 @@
 -- The rules of rulesets are read.
-use Rattle.std.proofs.Common.{◌≡◌, ◌∙◌, ℕ, zero, suc, ◌+◌, ◌≤◌, ◌-◌, max, Bool, true, false, List, [], ◌∷◌, ◌++◌, length, Option, Some, None, refl, arith, append_assoc}
+use Rattle.std.proofs.Common.{◌≡◌, ◌∙◌, ℕ, zero, suc, ◌≤◌, max, Bool, true, false, List, [], ◌∷◌, ◌++◌, length, Option, Some, None, refl, arith, append_assoc}
 use Rattle.std.specs.List.{AllByRecursion}
-use Rattle.std.specs.Prelude.{◌||◌, nat_le, if◌then◌else◌}
+use Rattle.std.specs.Prelude.{◌||◌, nat_le}
 use Rattle.std.proofs.lemmas.Bool.{or_parts, le-leb}
 use Rattle.std.proofs.lemmas.List.{append-nil}
 use Rattle.vtl_lexer.specs.declared.keyword.Keyword.TheVariants as keyword
@@ -15,7 +15,6 @@ use Rattle.vtl_syntax.specs.declared.parts.Comp.{Comp}
 use Rattle.vtl_syntax.specs.declared.parts.Comp.TheVariants as comp
 use Rattle.vtl_syntax.specs.declared.parts.Constant.{Constant}
 use Rattle.vtl_syntax.specs.declared.parts.Constant.TheVariants as constants
-use Rattle.vtl_syntax.specs.declared.parts.ErrorPart.{ErrorPart}
 use Rattle.vtl_syntax.specs.declared.parts.Numeral.TheVariants as numeral
 use Rattle.vtl_syntax.specs.declared.parts.SignedComp.{SignedComp}
 use Rattle.vtl_syntax.specs.declared.statements.HierRule.{HierRule}
@@ -23,21 +22,20 @@ use Rattle.vtl_syntax.specs.declared.word_groups.BinaryOp.{BinaryOp}
 use Rattle.vtl_syntax.specs.declared.word_groups.UnaryOp.{UnaryOp}
 use Rattle.vtl_syntax.specs.declared.word_groups.UnaryOp.TheVariants as unary_op
 use Rattle.vtl_grammar.specs.Fits.{Filled, Fits, PointRuleFits, OptionFits}
-use Rattle.vtl_grammar.specs.Grammar.{Tokens, open_bracket, maybe_onto, set_onto, brack_onto, error_onto, exp_onto, constant_onto, rule_name_onto, when_onto, point_rule_onto, signed_onto, hier_rule_onto, more_rules_onto, rules_onto}
-use Rattle.vtl_grammar.specs.Reading.{Reads, ◌>>=◌, given, is_keyword, is_sign, after_keyword, after_sign, word, maybe_word}
+use Rattle.vtl_grammar.specs.Grammar.{Tokens, maybe_onto, set_onto, brack_onto, error_onto, exp_onto, constant_onto, rule_name_onto, when_onto, point_rule_onto, signed_onto, hier_rule_onto, more_rules_onto, rules_onto}
+use Rattle.vtl_grammar.specs.Reading.{Reads, is_keyword, is_sign, after_keyword, after_sign}
 use Rattle.vtl_grammar.specs.ReadStatements.{whole_exp, rule_name, when_part, point_rule_read, more_signed, right_side, hier_rule_read, ends_rules, more_rules, rules_read, point_rules, hier_rules}
-use Rattle.vtl_grammar.specs.Words.{binary_op_token, unary_op_token, name_at, comp_at, comp_token, comparison_at, comparison_token, addition_at, addition_token, in_token, boolean_token, form_token}
+use Rattle.vtl_grammar.specs.Words.{binary_op_token, unary_op_token, name_at, comp_token, comparison_token, addition_at, addition_token, in_token}
 use Rattle.vtl_grammar.specs.declared.call_forms.CallForm.TheVariants as form
 use Rattle.vtl_grammar.specs.declared.levels.Level.TheVariants as level
 use Rattle.vtl_grammar.proofs.AppendExpressions.{point_rule-append, hier_rule-append}
 use Rattle.vtl_grammar.proofs.AppendParts.{grows}
-use Rattle.vtl_grammar.proofs.CompleteBase.{first_is, Lacks, is_some, in_table, lacks_keyword, lacks_sign, lacks_word, maybe_lacks, maybe_word_complete, Grows}
+use Rattle.vtl_grammar.proofs.CompleteBase.{first_is, Lacks, in_table, lacks_keyword, lacks_sign, lacks_word, maybe_word_complete, Grows}
 use Rattle.vtl_grammar.proofs.CompleteCalls.{error_lacks}
 use Rattle.vtl_grammar.proofs.CompleteExpressions.{read_complete}
-use Rattle.vtl_grammar.proofs.CompleteForms.{exp_some}
 use Rattle.vtl_grammar.proofs.CompleteLevels.{goes_on, within_all, starts, when_start, end_start, form_no_name}
 use Rattle.vtl_grammar.proofs.CompleteParts.{comp_read, comp_lacks, error_complete}
-use Rattle.vtl_grammar.proofs.CompleteTables.{binary_op_lacks, comparison_read, comparison_lacks, addition_read, addition_lacks}
+use Rattle.vtl_grammar.proofs.CompleteTables.{binary_op_lacks, comparison_read, comparison_lacks, addition_read}
 
 pub whole_complete : (e : Exp) (rest : Tokens) → Fits e → exp_depth e ≤ 128 → Lacks (goes_on level.Expression) rest → whole_exp (exp_onto e rest) ≡ Some (e, rest)
 unfolding whole_exp

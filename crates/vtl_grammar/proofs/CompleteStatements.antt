@@ -1,5 +1,5 @@
 -- Each statement of the grammar is read whatever follows it, and each script.
-use Rattle.std.proofs.Common.{◌≡◌, ◌∙◌, ℕ, zero, suc, ◌+◌, ◌≤◌, ◌-◌, max, Bool, true, false, List, [], ◌∷◌, ◌++◌, length, Option, Some, None, refl, sym, ap, arith, append_assoc, length-append}
+use Rattle.std.proofs.Common.{◌≡◌, ◌∙◌, ℕ, zero, suc, ◌+◌, ◌≤◌, List, [], ◌∷◌, ◌++◌, length, Option, Some, None, refl, arith, append_assoc, length-append}
 use Rattle.std.specs.List.{AllByRecursion}
 use Rattle.std.proofs.lemmas.List.{append-nil}
 use Rattle.vtl_lexer.specs.declared.keyword.Keyword.TheVariants as keyword
@@ -7,18 +7,14 @@ use Rattle.vtl_lexer.specs.declared.token.Sign.TheVariants as sign
 use Rattle.vtl_lexer.specs.declared.token.TokenKind.TheVariants as token
 use Rattle.vtl_syntax.specs.Depth.{deepest, point_rule_depth, hier_rule_depth}
 use Rattle.vtl_syntax.specs.Trees.{Exp, PointRuleTree, StatementTree, assignment, datapoint, hierarchical, ScriptTree}
-use Rattle.vtl_syntax.specs.declared.parts.Comp.{Comp}
-use Rattle.vtl_syntax.specs.declared.statements.HierRule.{HierRule}
 use Rattle.vtl_syntax.specs.declared.word_groups.AssignKind.{AssignKind}
-use Rattle.vtl_grammar.specs.Fits.{Fits, Filled, PointRuleFits, StatementFits, InGrammar}
-use Rattle.vtl_grammar.specs.Grammar.{Tokens, close_bracket, comps_onto, exp_onto, point_rule_onto, hier_rule_onto, rules_onto, statement_onto, script_onto}
-use Rattle.vtl_grammar.specs.Reading.{◌>>=◌, given, after_keyword, after_sign, word}
+use Rattle.vtl_grammar.specs.Fits.{PointRuleFits, StatementFits, InGrammar}
+use Rattle.vtl_grammar.specs.Grammar.{Tokens, close_bracket, point_rule_onto, rules_onto, statement_onto, script_onto}
+use Rattle.vtl_grammar.specs.Reading.{given, after_keyword, after_sign}
 use Rattle.vtl_grammar.specs.ReadStatements.{assignment_read, ruleset_head, ruleset_is, ruleset_end, datapoint_read, hierarchical_read, statement_read, statements_read, script_read}
-use Rattle.vtl_grammar.specs.Words.{assign_kind_at, assign_kind_token, comp_token}
 use Rattle.vtl_grammar.proofs.AppendExpressions.{statement-append}
-use Rattle.vtl_grammar.proofs.AppendParts.{grows}
 use Rattle.vtl_grammar.proofs.CompleteParts.{comp_read, comps_complete}
-use Rattle.vtl_grammar.proofs.CompleteRules.{whole_complete, PointRuleIs, HierRuleIs, point_rules_complete, hier_rules_complete}
+use Rattle.vtl_grammar.proofs.CompleteRules.{whole_complete, PointRuleIs, point_rules_complete, hier_rules_complete}
 use Rattle.vtl_grammar.proofs.CompleteTables.{assign_kind_read}
 
 shallow_all : {A : Type 0} (depth : A → ℕ) (n : ℕ) (xs : List A) → deepest depth xs ≤ n → AllByRecursion (λ x. depth x ≤ n) xs

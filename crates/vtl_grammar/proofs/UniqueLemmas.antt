@@ -1,12 +1,12 @@
 -- Tokens spell one script at most, no statement's tokens begin another's, and a text has one fault at most.
-use Rattle.std.proofs.Common.{◌≡◌, ◌∙◌, ℕ, zero, suc, ◌+◌, ◌≤◌, Bool, List, [], ◌∷◌, ◌++◌, length, map, Option, Some, None, refl, sym, ap, subst, arith, append_assoc, length-append}
+use Rattle.std.proofs.Common.{◌≡◌, ◌∙◌, ℕ, ◌≤◌, List, [], ◌∷◌, ◌++◌, length, Option, Some, None, refl, sym, ap, arith, length-append}
 use Rattle.std.specs.List.{AllByRecursion}
-use Rattle.std.proofs.lemmas.List.{append-nil}
+use Rattle.std.proofs.lemmas.List.{append-nil, length-map, map-append}
 use Rattle.vtl_lexer.specs.declared.token.Token.{Token}
 use Rattle.vtl_syntax.specs.Trees.{StatementTree, ScriptTree}
 use Rattle.vtl_grammar.specs.Faults.{kinds, byte_of, SyntaxFault, WholeScript}
 use Rattle.vtl_grammar.specs.Fits.{InGrammar, Spells}
-use Rattle.vtl_grammar.specs.Grammar.{Tokens, statement_onto, script_onto, tokens_of}
+use Rattle.vtl_grammar.specs.Grammar.{Tokens, statement_onto, script_onto}
 use Rattle.vtl_grammar.specs.ReadStatements.{statement_read, script_read}
 use Rattle.vtl_grammar.proofs.AppendExpressions.{statement-append, script-append}
 use Rattle.vtl_grammar.proofs.CompleteStatements.{statement_complete, script_complete, script_greatest, script_grows, nothing_read}
@@ -52,15 +52,13 @@ longer_script (x ∷ a) (y ∷ b) us vs all_a all_b h e =
 
 -- ---- over tokens with places
 
-pub kinds-append : (a b : List Token) → kinds (a ++ b) ≡ kinds a ++ kinds b
+kinds-append : (a b : List Token) → kinds (a ++ b) ≡ kinds a ++ kinds b
 unfolding kinds
-kinds-append [] b = refl
-kinds-append (t ∷ a) b = rw (kinds-append a b) refl
+kinds-append a b = map-append (λ t. t.kind) a b
 
-pub kinds-length : (a : List Token) → length (kinds a) ≡ length a
+kinds-length : (a : List Token) → length (kinds a) ≡ length a
 unfolding kinds
-kinds-length [] = refl
-kinds-length (t ∷ a) = rw (kinds-length a) refl
+kinds-length a = length-map a (λ t. t.kind)
 
 -- a script at the front of the tokens, and the kinds of the others
 pub front_script : (ts front rest : List Token) (script : ScriptTree) → ts ≡ front ++ rest → Spells (kinds front) script → kinds ts ≡ script_onto script (kinds rest)
@@ -113,7 +111,3 @@ whole_no_fault ts bad script d byte whole f =
     let on : GoesOn script f.script [] (kinds f.rest) = longer_script script f.script [] (kinds f.rest) whole.spelled.each f.spelled.each (omega arith) (sym whole.spelled.is ∙ e) in
     let some : 1 ≤ length f.rest = rest_some f.rest bad byte whole.whole f.at in
     absurd (omega (arith, ap length on.left, script_grows on.more (kinds f.rest), kinds-length f.rest))
-
--- and spells one alone
-pub whole_determined : (ts : List Token) (bad : Option ℕ) (a b : ScriptTree) → WholeScript ts bad a → WholeScript ts bad b → a ≡ b
-whole_determined ts bad a b whole_a whole_b = spells_unique (kinds ts) a b whole_a.spelled whole_b.spelled
