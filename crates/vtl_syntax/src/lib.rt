@@ -1,0 +1,19 @@
+//! Syntax trees of scripts: what is written, with brackets and every word that may be left out.
+#![tactic(auto)]
+
+mod expressions;
+mod parts;
+mod statements;
+mod word_groups;
+
+pub use expressions::{CalcPart, Clause, Expr, JoinPart, Targets};
+pub use parts::{
+    Comp, Constant, DataPoints, ErrorPart, GroupPart, Keeping, Limit, Literal, Numeral, OrderPart,
+    OverPart, Reference, RenamePart, SignedComp, SubPart,
+};
+pub use statements::{HierRule, PointRule, Script, Statement};
+pub use word_groups::{
+    Addition, AggregateName, AssignKind, BasicOut, BinaryOp, CastKind, CheckOut, Comparison,
+    DifferenceName, Direction, FunctionName, GroupKind, HierInput, HierOut, JoinKind, Mode, Retain,
+    SetOpName, ShiftName, Side, UnaryOp, ValueWindowName, WrittenRole,
+};

@@ -1,0 +1,68 @@
+// Scripts, statements and rules.
+
+use crate::{Addition, AssignKind, Comp, Comparison, ErrorPart, Expr, SignedComp};
+use vtl_text::{List, Txt};
+
+/// A script.
+#[derive(Drop)]
+pub struct Script {
+    /// Its statements, in order.
+    pub statements: List<Statement>,
+}
+
+/// A statement.
+#[derive(Drop)]
+pub enum Statement {
+    /// `name := value;` or `name <- value;`
+    Assignment {
+        name: Txt,
+        kind: AssignKind,
+        value: Expr,
+    },
+    /// `define datapoint ruleset name (variable variables) is rules end datapoint ruleset;`
+    Datapoint {
+        name: Txt,
+        variables: List<Comp>,
+        rules: List<PointRule>,
+        last_semicolon: bool,
+    },
+    /// `define hierarchical ruleset name (variable rule item) is rules end hierarchical ruleset;`
+    Hierarchical {
+        name: Txt,
+        item: Comp,
+        rules: List<HierRule>,
+        last_semicolon: bool,
+    },
+}
+
+/// `name: when condition then holds error`
+#[derive(Drop)]
+pub struct PointRule {
+    /// The name, where one is written.
+    pub name: Option<Txt>,
+    /// The condition, where one is written.
+    pub when: Option<Expr>,
+    /// What has to hold.
+    pub holds: Expr,
+    /// The error code and level.
+    pub error: ErrorPart,
+}
+
+/// `name: item comparison sign first others error`
+#[derive(Debug, Drop)]
+pub struct HierRule {
+    /// The name, where one is written.
+    pub name: Option<Txt>,
+    /// The item on the left.
+    pub item: Comp,
+    /// How the sides compare.
+    pub comparison: Comparison,
+    /// The sign before the first item on the right, where one is written.
+    pub sign: Option<Addition>,
+    /// The first item on the right.
+    pub first: Comp,
+    /// The items after it.
+    pub others: List<SignedComp>,
+    /// The error code and level.
+    pub error: ErrorPart,
+}
