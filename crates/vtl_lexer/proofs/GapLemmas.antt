@@ -1,10 +1,8 @@
 -- At the front of a text stands one gap, or a token, and not both.
-use Rattle.std.proofs.Common.{◌≡◌, ◌≢◌, ◌≤◌, ◌<◌, ◌+◌, ◌∷◌, ◌++◌, ◌∙◌, ◌&&◌, ◌||◌, ◌==◌, [], ℕ, suc, List, Bool, true, false, not, cond, length, drop, codes, sym, ap, subst, refl, arith, append_assoc}
+use Rattle.std.proofs.Common.{◌≡◌, ◌≢◌, ◌∷◌, ◌++◌, ◌∙◌, ◌||◌, ◌==◌, [], ℕ, List, true, false, not, length, drop, codes, sym, ap, refl, arith, append_assoc}
 use Rattle.std.specs.Char.{is_ascii_alphabetic, is_ascii_digit}
-use Rattle.std.specs.List.{list_all}
 use Rattle.std.proofs.lemmas.Bool.{false≢true}
 use Rattle.std.proofs.lemmas.Bool.Decides.{nat_tests}
-use Rattle.vtl_text.specs.Words.{is_word_character}
 use Rattle.vtl_lexer.specs.Gaps.{HasNoEnd, IsGap, block_comment, is_white_space, line_comment, white_space}
 use Rattle.vtl_lexer.specs.Spelling.{Lacks, Spells, spelling}
 use Rattle.vtl_lexer.specs.Tokens.{IsToken, begins_with, goes_on}
@@ -13,7 +11,9 @@ use Rattle.vtl_lexer.specs.declared.token.Sign.TheVariants as s
 use Rattle.vtl_lexer.specs.declared.token.TokenKind.{TokenKind}
 use Rattle.vtl_lexer.specs.declared.token.TokenKind.TheVariants as k
 use Rattle.vtl_lexer.proofs.ListLemmas.{front-same, run-same}
-use Rattle.vtl_lexer.proofs.SpellingLemmas.{Class, class_at, class_kind, class_of, front-class, letter, quote, digit, double, other}
+use Rattle.vtl_lexer.specs.Leads.{lead_byte_of, lead_of}
+use Rattle.vtl_lexer.specs.declared.lead.Lead.TheVariants.{Other}
+use Rattle.vtl_lexer.proofs.SpellingLemmas.{front-lead, lead_kind}
 
 pub gap-some : (bytes rest : List ℕ) → IsGap bytes rest → bytes ≢ []
 gap-some bytes rest (white_space byte is white) e = cc (is, e)
@@ -132,8 +132,8 @@ sign-first : (sign : Sign) (rest : List ℕ) → first_of (spelling sign ++ rest
 sign-first s.Assign rest = refl
 sign-first _ rest = refl
 
-white-class : (byte : ℕ) → is_white_space byte ≡ true → class_of byte ≡ other
-white-class byte e =
+white-lead : (byte : ℕ) → is_white_space byte ≡ true → lead_byte_of byte ≡ Other
+white-lead byte e =
     let a : is_ascii_alphabetic byte ≡ false = grind (arith, nat_tests, e) in
     let b : (byte == 39) ≡ false = grind (arith, nat_tests, e) in
     let c : is_ascii_digit byte ≡ false = grind (arith, nat_tests, e) in
@@ -142,18 +142,18 @@ white-class byte e =
 
 -- what begins a gap: white space, or `/` and one more byte of `/` and `*`
 pub data Opening (text : List ℕ) : Type 0 where
-  space : is_white_space (first_of text) ≡ true → class_at text ≡ other → Opening text
+  space : is_white_space (first_of text) ≡ true → lead_of text ≡ Other → Opening text
   comment : (byte : ℕ) (rest : List ℕ) → text ≡ 47 ∷ byte ∷ rest → (byte == 42 || byte == 47) ≡ true → Opening text
 
 gap-opening : (text bytes rest : List ℕ) → text ≡ bytes ++ rest → IsGap bytes rest → Opening text
 gap-opening text bytes rest e (white_space byte is white) =
     let whole : text ≡ byte ∷ rest = e ∙ ap (λ l. l ++ rest) is in
-    space (ap (λ l. is_white_space (first_of l)) whole ∙ white) (ap class_at whole ∙ white-class byte white)
+    space (ap (λ l. is_white_space (first_of l)) whole ∙ white) (ap lead_of whole ∙ white-lead byte white)
 gap-opening text bytes rest e (line_comment inner is lacks stops) = comment 47 (inner ++ rest) (e ∙ ap (λ l. l ++ rest) is) refl
 gap-opening text bytes rest e (block_comment inner is none) = comment 42 ((inner ++ codes "*/") ++ rest) (e ∙ ap (λ l. l ++ rest) is) refl
 
 no-sign : (text : List ℕ) (sign : Sign) (rest : List ℕ) → text ≡ spelling sign ++ rest → begins_with (goes_on (k.Sign sign)) rest ≡ false → Opening text → ⊥
-no-sign text sign rest e ends (space white class) =
+no-sign text sign rest e ends (space white lead) =
     false≢true (sym (sign-no_white sign) ∙ ap is_white_space (sym (sign-first sign rest)) ∙ ap (λ l. is_white_space (first_of l)) (sym e) ∙ white)
 no-sign text sign rest e ends (comment byte behind is opens) =
     let slash : sign ≡ s.Slash = slash-only sign (ap (λ b. b == 47) (sym (sign-first sign rest) ∙ ap first_of (sym e ∙ is))) in
@@ -161,18 +161,18 @@ no-sign text sign rest e ends (comment byte behind is opens) =
     let tails : rest ≡ byte ∷ behind = cc whole in
     false≢true (sym ends ∙ ap (λ g. begins_with (goes_on (k.Sign g)) rest) slash ∙ ap (begins_with (goes_on (k.Sign s.Slash))) tails ∙ opens)
 
-opening-class : (text : List ℕ) → Opening text → class_at text ≡ other
-opening-class text (space white class) = class
-opening-class text (comment byte rest is opens) = ap class_at is
+opening-lead : (text : List ℕ) → Opening text → lead_of text ≡ Other
+opening-lead text (space white lead) = lead
+opening-lead text (comment byte rest is opens) = ap lead_of is
 
 -- no token starts where a gap does
 pub token-no_opening : (kind : TokenKind) (text bytes rest : List ℕ) → text ≡ bytes ++ rest → IsToken kind bytes rest → Opening text → ⊥
 token-no_opening kind text bytes rest e token opening =
-    by kind (sym (front-class kind text bytes rest e token.spelled) ∙ opening-class text opening) token.spelled token.ends
+    by kind (sym (front-lead kind text bytes rest e token.spelled) ∙ opening-lead text opening) token.spelled token.ends
   where
-    by : (kind : TokenKind) → class_kind kind ≡ other → Spells kind bytes → begins_with (goes_on kind) rest ≡ false → ⊥
-    by (k.Sign sign) class spelled ends = no-sign text sign rest (e ∙ ap (λ l. l ++ rest) spelled) ends opening
-    by other_kind class spelled ends = cc class
+    by : (kind : TokenKind) → lead_kind kind ≡ Other → Spells kind bytes → begins_with (goes_on kind) rest ≡ false → ⊥
+    by (k.Sign sign) lead spelled ends = no-sign text sign rest (e ∙ ap (λ l. l ++ rest) spelled) ends opening
+    by other_kind lead spelled ends = cc lead
 
 pub gap-no_token : (kind : TokenKind) (text bytes rest more behind : List ℕ) → text ≡ bytes ++ rest → text ≡ more ++ behind → IsGap bytes rest → IsToken kind more behind → ⊥
 gap-no_token kind text bytes rest more behind e f gap token = token-no_opening kind text more behind f token (gap-opening text bytes rest e gap)

@@ -1,19 +1,17 @@
 -- The gap at the front of a text, from its first bytes and what a search found.
-use Rattle.std.proofs.Common.{◌≡◌, ◌≢◌, ◌≤◌, ◌<◌, ◌+◌, ◌∷◌, ◌++◌, ◌∙◌, ◌&&◌, ◌==◌, [], ℕ, suc, List, Bool, Option, Some, None, true, false, not, length, take, drop, get_or, codes, sym, ap, subst, refl, arith, append_assoc, length-append, MatchOption, nat_eq}
+use Rattle.std.proofs.Common.{◌≡◌, ◌+◌, ◌∷◌, ◌++◌, ◌∙◌, ◌==◌, [], ℕ, List, Option, Some, None, true, not, length, take, drop, codes, sym, ap, subst, refl, arith, append_assoc, length-append, MatchOption, nat_eq}
 use Rattle.std.specs.Cmp.Lexicographic.{pointwise}
 use Rattle.std.specs.Option.{unwrap_or}
-use Rattle.std.specs.List.{list_all, slice_get}
+use Rattle.std.specs.List.{slice_get}
 use Rattle.std.proofs.Math.Seq.{take-append_seam, drop-append_seam}
-use Rattle.std.proofs.lemmas.Bool.{and_parts, false≢true}
+use Rattle.std.proofs.lemmas.Bool.{and_parts}
 use Rattle.std.proofs.lemmas.List.{append-nil, take-append-drop, length-take-le}
 use Rattle.std.proofs.lemmas.Slice.Eq.{bytes_eq-Decides}
 use Rattle.vtl_lexer.specs.Found.{IsGapOf}
-use Rattle.vtl_lexer.specs.Gaps.{HasNoEnd, IsGap, NoGap, block_comment, is_white_space, line_comment, white_space}
+use Rattle.vtl_lexer.specs.Gaps.{IsGap, block_comment, is_white_space, line_comment, white_space}
 use Rattle.vtl_lexer.specs.Searches.{EndsFirst, StandsFirst}
 use Rattle.vtl_lexer.specs.Spelling.{Lacks}
-use Rattle.vtl_lexer.specs.Tokens.{begins_with}
 use Rattle.vtl_lexer.proofs.GapLemmas.{first_of, second_of}
-use Rattle.vtl_lexer.proofs.SearchLemmas.{take-whole}
 
 -- a gap that the text is parted into
 pub gap-of : (text bytes rest : List ℕ) → text ≡ bytes ++ rest → IsGap bytes rest → IsGapOf text (length bytes)

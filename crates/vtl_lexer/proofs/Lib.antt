@@ -1,7 +1,16 @@
+pub mod CutLemmas
+pub mod FoundLemmas
 pub mod GapLemmas
 pub mod GapSearchLemmas
+pub mod LeadLemmas
 pub mod LexedLemmas
 pub mod ListLemmas
+pub mod NumberLemmas
+pub mod QuoteLemmas
 pub mod ReservedLemmas
 pub mod SearchLemmas
+pub mod SignLemmas
 pub mod SpellingLemmas
+pub mod StringLemmas
+pub mod UndoubleLemmas
+pub mod WordLemmas

@@ -1,9 +1,9 @@
 -- Reserved words and their places.
-use Rattle.std.proofs.Common.{◌≡◌, ◌≢◌, ◌<◌, ◌∷◌, ◌++◌, ◌∙◌, ◌&&◌, ◌||◌, [], ℕ, zero, suc, ◌+◌, List, option_map, arith, ◌≤◌, not, cond, nat_lt, length, Bool, Option, Some, None, true, false, nat_eq, get_or, map, sym, ap, subst, refl, inl, inr}
+use Rattle.std.proofs.Common.{◌≡◌, ◌<◌, ◌∷◌, ◌∙◌, ◌||◌, [], ℕ, zero, suc, ◌+◌, List, option_map, arith, ◌≤◌, not, cond, nat_lt, length, Bool, Option, Some, None, true, false, nat_eq, get_or, map, sym, ap, subst, refl}
 use lib.Utf8.{encode}
 use Rattle.std.specs.Cmp.Lexicographic.{pointwise}
 use Rattle.std.specs.List.{list_all, list_any, position, position_or_len, slice_get}
-use Rattle.std.proofs.lemmas.Bool.{and_parts, cases_Bool, false≢true}
+use Rattle.std.proofs.lemmas.Bool.{and_parts}
 use Rattle.std.proofs.lemmas.Bool.Decides.{nat_tests}
 use Rattle.std.proofs.lemmas.List.Sums.{passes_at_first, prefix_len-le-length}
 use Rattle.std.proofs.lemmas.Option.{get_or_from_slice_get, slice_get-get_or, slice_get-map}

@@ -1,9 +1,8 @@
 -- What searches find.
-use Rattle.std.proofs.Common.{◌≡◌, ◌≢◌, ◌≤◌, ◌<◌, ◌+◌, ◌∷◌, ◌++◌, ◌∙◌, ◌&&◌, ◌==◌, [], ℕ, zero, suc, List, Bool, Option, Some, None, true, false, not, cond, length, take, drop, get_or, codes, sym, ap, subst, refl, arith, inl, inr, eqb-true, add-one, append_assoc, length-append, MatchOption}
+use Rattle.std.proofs.Common.{◌≡◌, ◌≤◌, ◌<◌, ◌+◌, ◌∷◌, ◌++◌, ◌∙◌, ◌==◌, [], ℕ, zero, suc, List, Bool, Option, Some, None, true, false, not, length, take, drop, get_or, codes, sym, ap, subst, refl, arith, inl, inr, eqb-true, add-one, append_assoc, length-append, MatchOption}
 use Rattle.std.specs.List.{list_all, prefix_len}
 use Rattle.std.proofs.Math.Seq.{split_at}
-use Rattle.std.proofs.lemmas.Bool.{and_from, cases_Bool, false≢true}
-use Rattle.std.proofs.lemmas.Bool.Decides.{nat_tests}
+use Rattle.std.proofs.lemmas.Bool.{and_from, cases_Bool}
 use Rattle.std.proofs.lemmas.List.{take-append-drop, drop_at, length-take-le}
 use Rattle.std.proofs.lemmas.List.Prefix.{at_reads, at_from_reads}
 use Rattle.std.proofs.lemmas.List.Sums.{prefix_len-le-length}
@@ -45,7 +44,7 @@ run-from_prefix test text size e =
       stops = prefix-stops test text;
     })
 
-lacks-below : (byte : ℕ) (text : List ℕ) (n : ℕ) → ((i : ℕ) → i < n → (get_or text i 0 == byte) ≡ true → ⊥) → Lacks byte (take n text)
+pub lacks-below : (byte : ℕ) (text : List ℕ) (n : ℕ) → ((i : ℕ) → i < n → (get_or text i 0 == byte) ≡ true → ⊥) → Lacks byte (take n text)
 lacks-below byte text zero none = refl
 lacks-below byte [] (suc n) none = refl
 lacks-below byte (first ∷ rest) (suc n) none =
@@ -100,3 +99,7 @@ stands-result byte text (Some place) found = stands-first byte text place found
 pub ends-result : (text : List ℕ) (r : Option ℕ) → FindsNeedle text (codes "*/") 0 r → MatchOption r (HasNoEnd text) (λ place. EndsFirst text place)
 ends-result text None found = ends-nowhere text found
 ends-result text (Some place) found = ends-first text place found
+
+-- the same of the bytes of a text
+pub run-of_text : (test : ℕ → Bool) (text bytes : List ℕ) (size : ℕ) → size ≡ prefix_len test bytes → bytes ≡ text → IsRun test text size
+run-of_text test text bytes size e is = run-from_prefix test text size (e ∙ ap (prefix_len test) is)

@@ -1,15 +1,16 @@
 -- What the first byte of a token tells of its kind, and that a spelling has one kind.
-use Rattle.std.proofs.Common.{◌≡◌, ◌≢◌, ◌≤◌, ◌<◌, ◌+◌, ◌∷◌, ◌++◌, ◌∙◌, ◌&&◌, ◌||◌, ◌==◌, [], ℕ, suc, List, Bool, Option, Some, None, true, false, not, cond, length, chars, sym, ap, subst, refl, arith, inl, inr, length-append, append_assoc}
+use Rattle.std.proofs.Common.{◌≡◌, ◌≢◌, ◌<◌, ◌∷◌, ◌++◌, ◌∙◌, ◌==◌, [], ℕ, List, Bool, Option, Some, None, true, false, not, cond, length, chars, sym, ap, subst, refl, arith, inl, inr, length-append}
 use Rattle.std.specs.Char.{is_ascii_alphabetic, is_ascii_digit}
-use Rattle.std.specs.List.{list_all, slice_get}
-use Rattle.std.proofs.lemmas.Bool.{and_parts, and_from, cases_Bool, false≢true}
+use Rattle.std.specs.List.{list_all}
+use Rattle.std.proofs.lemmas.Bool.{and_parts, cases_Bool, false≢true}
 use Rattle.std.proofs.lemmas.Bool.Decides.{nat_tests}
 use Rattle.std.proofs.lemmas.List.Folds.{list_all-append}
-use Rattle.vtl_text.specs.Words.{fits_name, is_component_name, is_name, is_reserved, is_word, is_word_character, quoted, reserved_words, starts_with_letter}
-use Rattle.vtl_lexer.specs.Keywords.{place_of}
+use Rattle.vtl_text.specs.Words.{fits_name, is_name, is_reserved, is_word, is_word_character, starts_with_letter}
+use Rattle.vtl_lexer.specs.Leads.{lead_byte_of, lead_of}
+use Rattle.vtl_lexer.specs.declared.lead.Lead.{Lead}
+use Rattle.vtl_lexer.specs.declared.lead.Lead.TheVariants.{Nothing, Letter, Digit, Quote, DoubleQuote, Other}
 use Rattle.vtl_lexer.specs.Signs.{sign_of_one, sign_of_two}
-use Rattle.vtl_lexer.specs.Spelling.{IsDigits, Lacks, Spells, doubled, spelling}
-use Rattle.vtl_lexer.specs.declared.keyword.Keyword.{Keyword}
+use Rattle.vtl_lexer.specs.Spelling.{IsDigits, Spells, doubled, spelling}
 use Rattle.vtl_lexer.specs.declared.token.Sign.{Sign}
 use Rattle.vtl_lexer.specs.declared.token.Sign.TheVariants as s
 use Rattle.vtl_lexer.specs.declared.token.TokenKind.{TokenKind}
@@ -17,42 +18,30 @@ use Rattle.vtl_lexer.specs.declared.token.TokenKind.TheVariants as k
 use Rattle.vtl_lexer.proofs.ListLemmas.{front-same}
 use Rattle.vtl_lexer.proofs.ReservedLemmas.{keyword-reserved, keyword-word, one-keyword}
 
--- what a text begins with
-pub data Class : Type 0 where
-  nothing letter quote digit double other : Class
+-- what a token of each kind begins with
+abbrev pub lead_kind : TokenKind → Lead
+lead_kind (k.Name word) = Letter
+lead_kind (k.Keyword keyword) = Letter
+lead_kind (k.QuotedName name) = Quote
+lead_kind (k.Integer digits) = Digit
+lead_kind (k.Decimal number) = Digit
+lead_kind (k.String text) = DoubleQuote
+lead_kind (k.Sign sign) = Other
 
-abbrev pub class_of : ℕ → Class
-class_of byte =
-    cond (is_ascii_alphabetic byte) letter (cond (byte == 39) quote (cond (is_ascii_digit byte) digit (cond (byte == 34) double other)))
+pub letter-lead : (byte : ℕ) → is_ascii_alphabetic byte ≡ true → lead_byte_of byte ≡ Letter
+letter-lead byte e = rw e refl
 
-abbrev pub class_at : List ℕ → Class
-class_at [] = nothing
-class_at (byte ∷ bytes) = class_of byte
-
-abbrev pub class_kind : TokenKind → Class
-class_kind (k.Name word) = letter
-class_kind (k.Keyword keyword) = letter
-class_kind (k.QuotedName name) = quote
-class_kind (k.Integer digits) = digit
-class_kind (k.Decimal number) = digit
-class_kind (k.String text) = double
-class_kind (k.Sign sign) = other
-
-pub letter-class : (byte : ℕ) → is_ascii_alphabetic byte ≡ true → class_of byte ≡ letter
-letter-class byte e = rw e refl
-
-pub digit-class : (byte : ℕ) → is_ascii_digit byte ≡ true → class_of byte ≡ digit
-digit-class byte e =
+pub digit-lead : (byte : ℕ) → is_ascii_digit byte ≡ true → lead_byte_of byte ≡ Digit
+digit-lead byte e =
     let a : is_ascii_alphabetic byte ≡ false = grind (arith, nat_tests, e) in
-    let b : (byte == 39) ≡ false = grind (arith, nat_tests, e) in
-    rw (a, b, e) refl
+    rw (a, e) refl
 
-word-class : (bytes : List ℕ) → is_word bytes ≡ true → class_at bytes ≡ letter
+word-lead : (bytes : List ℕ) → is_word bytes ≡ true → lead_of bytes ≡ Letter
 unfolding is_word
-word-class [] e = absurd (false≢true (and_parts (fits_name []) _ e).1)
-word-class (byte ∷ bytes) e =
+word-lead [] e = absurd (false≢true (and_parts (fits_name []) _ e).1)
+word-lead (byte ∷ bytes) e =
     let rest = (and_parts (fits_name (byte ∷ bytes)) _ e).1 in
-    letter-class byte (and_parts (is_ascii_alphabetic byte) (list_all is_word_character (byte ∷ bytes)) rest).0
+    letter-lead byte (and_parts (is_ascii_alphabetic byte) (list_all is_word_character (byte ∷ bytes)) rest).0
 
 -- a word has word characters only
 pub word-characters : (bytes : List ℕ) → is_word bytes ≡ true → list_all is_word_character bytes ≡ true
@@ -66,55 +55,55 @@ name-word bytes e =
     let parts = and_parts (is_word bytes) (not (is_reserved bytes)) e in
     (parts.0, elim (cases_Bool (is_reserved bytes)) [ inl e ↦ absurd (false≢true (rw e at parts.1)) | inr none ↦ none ])
 
-digits-class : (bytes : List ℕ) → IsDigits bytes → class_at bytes ≡ digit
-digits-class [] d = absurd (omega (arith, d.0))
-digits-class (byte ∷ bytes) d = digit-class byte (and_parts (is_ascii_digit byte) (list_all is_ascii_digit bytes) d.1).0
+digits-lead : (bytes : List ℕ) → IsDigits bytes → lead_of bytes ≡ Digit
+digits-lead [] d = absurd (omega (arith, d.0))
+digits-lead (byte ∷ bytes) d = digit-lead byte (and_parts (is_ascii_digit byte) (list_all is_ascii_digit bytes) d.1).0
 
-class-append : (bytes rest : List ℕ) → class_at bytes ≢ nothing → class_at (bytes ++ rest) ≡ class_at bytes
-class-append [] rest some = absurd (some refl)
-class-append (byte ∷ bytes) rest some = refl
+lead-append : (bytes rest : List ℕ) → lead_of bytes ≢ Nothing → lead_of (bytes ++ rest) ≡ lead_of bytes
+lead-append [] rest some = absurd (some refl)
+lead-append (byte ∷ bytes) rest some = refl
 
-sign-class : (sign : Sign) → class_at (spelling sign) ≡ other
-sign-class s.Assign = refl
-sign-class _ = refl
+sign-lead : (sign : Sign) → lead_of (spelling sign) ≡ Other
+sign-lead s.Assign = refl
+sign-lead _ = refl
 
-class-some : (kind : TokenKind) → class_kind kind ≢ nothing
-class-some (k.Name word) e = cc e
-class-some kind e = cc e
+pub lead-some : (kind : TokenKind) → lead_kind kind ≢ Nothing
+lead-some (k.Name word) e = cc e
+lead-some kind e = cc e
 
--- the first byte of a spelling tells its class
-spelled-class : (kind : TokenKind) (bytes : List ℕ) → Spells kind bytes → class_at bytes ≡ class_kind kind
-spelled-class (k.Name word) bytes h = word-class bytes (subst (λ w. is_word w ≡ true) (sym h.0) (name-word word h.1).0)
-spelled-class (k.Keyword keyword) bytes h = word-class bytes (keyword-word keyword bytes h)
-spelled-class (k.QuotedName name) bytes h = ap class_at h.1
-spelled-class (k.Integer digits) bytes h = ap class_at h.0 ∙ digits-class digits h.1
-spelled-class (k.Decimal number) bytes h =
+-- the first byte of a spelling tells its kind's lead
+spelled-lead : (kind : TokenKind) (bytes : List ℕ) → Spells kind bytes → lead_of bytes ≡ lead_kind kind
+spelled-lead (k.Name word) bytes h = word-lead bytes (subst (λ w. is_word w ≡ true) (sym h.0) (name-word word h.1).0)
+spelled-lead (k.Keyword keyword) bytes h = word-lead bytes (keyword-word keyword bytes h)
+spelled-lead (k.QuotedName name) bytes h = ap lead_of h.1
+spelled-lead (k.Integer digits) bytes h = ap lead_of h.0 ∙ digits-lead digits h.1
+spelled-lead (k.Decimal number) bytes h =
     let (whole, part, is, parts, d, f) = h in
-    let first = digits-class whole d in
-    let some : class_at whole ≢ nothing = λ e. absurd (cc (first, e)) in
-    ap class_at (is ∙ parts) ∙ class-append whole (46 ∷ part) some ∙ first
-spelled-class (k.String text) bytes h = ap class_at h.1
-spelled-class (k.Sign sign) bytes h = ap class_at h ∙ sign-class sign
+    let first = digits-lead whole d in
+    let some : lead_of whole ≢ Nothing = λ e. absurd (cc (first, e)) in
+    ap lead_of (is ∙ parts) ∙ lead-append whole (46 ∷ part) some ∙ first
+spelled-lead (k.String text) bytes h = ap lead_of h.1
+spelled-lead (k.Sign sign) bytes h = ap lead_of h ∙ sign-lead sign
 
 -- and so does that of a text that begins with it
-pub front-class : (kind : TokenKind) (text bytes rest : List ℕ) → text ≡ bytes ++ rest → Spells kind bytes → class_at text ≡ class_kind kind
-front-class kind text bytes rest e h =
-    let first = spelled-class kind bytes h in
-    let some : class_at bytes ≢ nothing = λ none. class-some kind (sym first ∙ none) in
-    ap class_at e ∙ class-append bytes rest some ∙ first
+pub front-lead : (kind : TokenKind) (text bytes rest : List ℕ) → text ≡ bytes ++ rest → Spells kind bytes → lead_of text ≡ lead_kind kind
+front-lead kind text bytes rest e h =
+    let first = spelled-lead kind bytes h in
+    let some : lead_of bytes ≢ Nothing = λ none. lead-some kind (sym first ∙ none) in
+    ap lead_of e ∙ lead-append bytes rest some ∙ first
 
 pub spelled-some : (kind : TokenKind) (bytes : List ℕ) → Spells kind bytes → 0 < length bytes
-spelled-some kind [] h = absurd (class-some kind (sym (spelled-class kind [] h)))
+spelled-some kind [] h = absurd (lead-some kind (sym (spelled-lead kind [] h)))
 spelled-some kind (byte ∷ bytes) h = omega arith
 
 -- a sign is told by its spelling
-abbrev sign_of : List ℕ → Option Sign
+abbrev pub sign_of : List ℕ → Option Sign
 sign_of [] = None
 sign_of (first ∷ []) = sign_of_one first
 sign_of (first ∷ second ∷ []) = sign_of_two first second
 sign_of (first ∷ second ∷ third ∷ rest) = None
 
-sign_of-spelling : (sign : Sign) → sign_of (spelling sign) ≡ Some sign
+pub sign_of-spelling : (sign : Sign) → sign_of (spelling sign) ≡ Some sign
 sign_of-spelling s.Assign = refl
 sign_of-spelling _ = refl
 
@@ -170,7 +159,7 @@ digits-no_point whole part e =
     false≢true (and_parts (list_all is_ascii_digit whole) false (sym (list_all-append is_ascii_digit whole (46 ∷ part)) ∙ e)).1
 
 -- a spelling is that of one kind
-pub one-kind : (a b : TokenKind) (bytes : List ℕ) → class_kind a ≡ class_kind b → Spells a bytes → Spells b bytes → a ≡ b
+pub one-kind : (a b : TokenKind) (bytes : List ℕ) → lead_kind a ≡ lead_kind b → Spells a bytes → Spells b bytes → a ≡ b
 one-kind (k.Name v) (k.Name w) bytes e g h = let same : v ≡ w = sym g.0 ∙ h.0 in ap k.Name same
 one-kind (k.Name v) (k.Keyword b) bytes e g h =
     absurd (false≢true (sym (name-word v g.1).1 ∙ ap is_reserved (sym g.0) ∙ keyword-reserved b bytes h))

@@ -1,8 +1,12 @@
 -- What stands at the front of a text, with its size in bytes.
-use Rattle.std.specs.Prelude.{◌≤◌, ℕ, List, Option, None, Some, length, take, drop}
+use Rattle.std.specs.Prelude.{◌≡◌, ◌≤◌, ◌+◌, ◌∷◌, ◌++◌, false, ℕ, List, Option, None, Some, length, take, drop}
+use Rattle.std.specs.Char.{is_ascii_digit}
 use Rattle.std.specs.Str.{IsCharBoundary}
+use Rattle.vtl_text.specs.Words.{is_word_character}
 use Rattle.vtl_lexer.specs.Gaps.{IsGap, NoGap}
-use Rattle.vtl_lexer.specs.Tokens.{IsToken, NoToken}
+use Rattle.vtl_lexer.specs.Spelling.{IsDigits, Spells}
+use Rattle.vtl_lexer.specs.Tokens.{IsToken, NoToken, begins_with, goes_on}
+use Rattle.vtl_lexer.specs.declared.token.TokenKind.{TokenKind}
 use Rattle.vtl_lexer.specs.declared.finding.Piece.{Piece}
 use Rattle.vtl_lexer.specs.declared.finding.Piece.TheVariants as p
 use Rattle.vtl_lexer.specs.declared.token.Found.{Found}
@@ -24,3 +28,21 @@ abbrev pub IsPieceOf : List ℕ → Piece → Type 0
 IsPieceOf text (p.Gap size) = IsGapOf text size × IsCharBoundary text size
 IsPieceOf text (p.Token found) = IsTokenOf text found × IsCharBoundary text found.size
 IsPieceOf text p.Fault = NoGap text × NoToken text
+
+-- the kind is that of a word
+pub record IsWordKind (kind : TokenKind) (bytes : List ℕ) : Type 0 where
+  pub spelled : Spells kind bytes
+  pub goes_on : (byte : ℕ) → goes_on kind byte ≡ is_word_character byte
+
+-- a point and digits, all that follow
+pub record IsFractionOf (text : List ℕ) (size : ℕ) : Type 0 where
+  pub digits : List ℕ
+  pub rest : List ℕ
+  pub split : text ≡ 46 ∷ digits ++ rest
+  pub some : IsDigits digits
+  pub stops : begins_with is_ascii_digit rest ≡ false
+  pub is : size ≡ length digits + 1
+
+-- no digits follow a point at the front
+abbrev pub HasNoFraction : List ℕ → Type 0
+HasNoFraction text = (digits rest : List ℕ) → text ≡ 46 ∷ digits ++ rest → IsDigits digits → ⊥

@@ -14,9 +14,9 @@ HasNoEnd bytes = (before behind : List ℕ) → bytes ≡ before ++ (codes "*/" 
 -- these bytes are white space or a comment, before this rest of the text
 pub data IsGap (bytes rest : List ℕ) : Type 0 where
   white_space : (byte : ℕ) → bytes ≡ byte ∷ [] → is_white_space byte ≡ true → IsGap bytes rest
-  -- to the end of the line or the text
+  -- up to the line feed, 10, or the end of the text
   line_comment : (inner : List ℕ) → bytes ≡ codes "//" ++ inner → Lacks 10 inner → begins_with (λ byte. not (byte == 10)) rest ≡ false → IsGap bytes rest
-  -- to the first `*/`
+  -- up to and with the first `*/`
   block_comment : (inner : List ℕ) → bytes ≡ codes "/*" ++ (inner ++ codes "*/") → HasNoEnd inner → IsGap bytes rest
 
 -- neither starts at the front of this text

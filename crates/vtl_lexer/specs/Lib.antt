@@ -1,3 +1,4 @@
+pub mod Answered
 pub mod Found
 pub mod Gaps
 pub mod Keywords
@@ -6,4 +7,5 @@ pub mod Lexed
 pub mod Searches
 pub mod Signs
 pub mod Spelling
+pub mod Strings
 pub mod Tokens

@@ -1,5 +1,5 @@
 -- Which sign one byte or two bytes are.
-use Rattle.std.specs.Prelude.{◌==◌, ◌&&◌, ℕ, Option, Some, None, if◌then◌else◌}
+use Rattle.std.specs.Prelude.{◌==◌, ◌&&◌, ◌||◌, ℕ, Bool, Option, Some, None, if◌then◌else◌}
 use Rattle.vtl_lexer.specs.declared.token.Sign.{Sign}
 use Rattle.vtl_lexer.specs.declared.token.Sign.TheVariants as s
 
@@ -33,3 +33,7 @@ sign_of_one byte =
     else if byte == 58 then Some s.Colon
     else if byte == 35 then Some s.Hash
     else None
+
+-- whether two bytes begin a comment
+abbrev pub begins_comment : ℕ → ℕ → Bool
+begins_comment first second = first == 47 && (second == 42 || second == 47)

@@ -1,10 +1,9 @@
--- How each kind of token is spelled. A text is the list of its bytes in UTF-8.
-use Rattle.std.specs.Prelude.{◌≡◌, ◌<◌, ◌==◌, ℕ, Bool, true, not, List, [], ◌∷◌, ◌++◌, Some, length, chars, codes, slice_get, if◌then◌else◌}
+-- How each kind of token is spelled. A text is the list of its bytes in UTF-8: 34 is `"`, 39 is `'`, 46 is `.`.
+use Rattle.std.specs.Prelude.{◌≡◌, ◌<◌, ◌==◌, ℕ, true, not, List, [], ◌∷◌, ◌++◌, Some, length, chars, codes, slice_get, if◌then◌else◌}
 use Rattle.std.specs.Char.{is_ascii_digit}
 use Rattle.std.specs.List.{list_all}
 use Rattle.vtl_text.specs.Words.{is_component_name, is_name, quoted, reserved_words}
 use Rattle.vtl_lexer.specs.Keywords.{place_of}
-use Rattle.vtl_lexer.specs.declared.keyword.Keyword.{Keyword}
 use Rattle.vtl_lexer.specs.declared.token.Sign.{Sign}
 use Rattle.vtl_lexer.specs.declared.token.Sign.TheVariants as s
 use Rattle.vtl_lexer.specs.declared.token.TokenKind.{TokenKind}
@@ -48,7 +47,7 @@ abbrev pub doubled : List ℕ → List ℕ
 doubled [] = []
 doubled (byte ∷ bytes) = if byte == 34 then 34 ∷ 34 ∷ doubled bytes else byte ∷ doubled bytes
 
--- these bytes spell a token of this kind, which holds the characters between its quotes or all of its characters
+-- these bytes spell a token of this kind, which holds what stands between its quotes, or else the whole. A name has at most 64 bytes (`is_name`), and so has what a quoted name holds (`is_component_name`).
 abbrev pub Spells : TokenKind → List ℕ → Type 0
 Spells (k.Name word) bytes = (bytes ≡ word) × (is_name word ≡ true)
 Spells (k.Keyword keyword) bytes = slice_get reserved_words (place_of keyword) ≡ Some bytes

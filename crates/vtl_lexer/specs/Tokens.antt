@@ -1,5 +1,5 @@
 -- Which token starts at the front of a text.
-use Rattle.std.specs.Prelude.{◌≡◌, ◌≤◌, ◌==◌, ◌||◌, ℕ, Bool, true, false, List, [], ◌∷◌, ◌++◌, length}
+use Rattle.std.specs.Prelude.{◌≡◌, ◌≤◌, ◌==◌, ◌||◌, ℕ, Bool, false, List, [], ◌∷◌, ◌++◌, length}
 use Rattle.vtl_text.specs.Words.{is_word_character}
 use Rattle.vtl_lexer.specs.Spelling.{Spells}
 use Rattle.vtl_lexer.specs.declared.token.Sign.TheVariants as s
@@ -11,14 +11,14 @@ abbrev pub begins_with : (ℕ → Bool) → List ℕ → Bool
 begins_with test [] = false
 begins_with test (byte ∷ rest) = test byte
 
--- whether a byte behind the token makes another thing of it: a longer word, or the start of a comment
+-- whether a byte right behind it makes the token a part of something else: of a longer word, or of the start of a comment (42 is `*`, 47 is `/`)
 abbrev pub goes_on : TokenKind → ℕ → Bool
 goes_on (k.Name word) byte = is_word_character byte
 goes_on (k.Keyword keyword) byte = is_word_character byte
 goes_on (k.Sign s.Slash) byte = byte == 42 || byte == 47
 goes_on kind byte = false
 
--- these bytes are a token before this rest of the text: no other front of the text that is spelled as a token is longer
+-- these bytes are a token before this rest of the text: it ends here, and no front of the text that spells a token is longer
 pub record IsToken (kind : TokenKind) (bytes rest : List ℕ) : Type 0 where
   pub spelled : Spells kind bytes
   pub ends : begins_with (goes_on kind) rest ≡ false

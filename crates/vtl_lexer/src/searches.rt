@@ -1,5 +1,6 @@
 // Searches in bytes.
-ghost use Rattle.std.specs.Prelude.{◌≡◌, ℕ, MatchOption};
+ghost use Rattle.std.specs.Prelude.{◌≡◌, ℕ, MatchOption, slice_get};
+ghost use Rattle.std.specs.Option.{unwrap_or};
 ghost use Rattle.std.specs.Char.{is_ascii_digit};
 ghost use Rattle.std.specs.List.{prefix_len};
 ghost use Rattle.vtl_text.specs.Words.{is_word_character};
@@ -41,4 +42,11 @@ pub(crate) fn digits_len(text: &[u8]) -> usize
     ensures { result ≡ prefix_len is_ascii_digit text.now }
 {
     text.iter().take_while(|byte| byte.is_ascii_digit()).count()
+}
+
+// The byte at a place. The end of the text parts as a space does.
+pub(crate) fn byte_or_space(text: &[u8], place: usize) -> u8
+    ensures { result ≡ unwrap_or (slice_get text.now place) 32 }
+{
+    text.get(place).copied().unwrap_or(b' ')
 }

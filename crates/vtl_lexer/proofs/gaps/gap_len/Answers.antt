@@ -1,4 +1,4 @@
-use Rattle.std.proofs.Common.{◌≡◌, ◌++◌, ◌∙◌, drop, codes, sym, subst}
+use Rattle.std.proofs.Common.{◌∙◌, drop, codes, sym, subst}
 use Rattle.vtl_lexer.proofs.GapSearchLemmas.{block-found, first-splits, line-found, start-splits, white-found}
 use Rattle.std.proofs.lemmas.List.{take_rest}
 use Rattle.vtl_lexer.specs.Searches.{EndsFirst}

@@ -1,0 +1,105 @@
+// The tokens of a text.
+ghost use Rattle.std.specs.Prelude.{◌≡◌, ℕ, List as Items, Option, None, IfOk, MatchResult};
+ghost use Rattle.vtl_lexer.specs.Answered.{IsErrorOf, IsFault};
+ghost use Rattle.vtl_lexer.specs.Lexed.{IsLexed, mark_len};
+
+use crate::Token;
+use crate::finding::{Piece, piece_at_front};
+use std::alloc::{AllocError, Global};
+use vtl_text::List;
+
+/// Why a text was not read as tokens.
+#[derive(Debug, Drop)]
+pub enum LexErr {
+    /// No token starts at this byte of the text, and neither white space nor a comment.
+    Bad {
+        /// The place of the byte, from 0.
+        byte: usize,
+    },
+    /// No memory was found.
+    OutOfMemory,
+}
+
+impl From<AllocError> for LexErr {
+    ghost use Rattle.vtl_lexer.specs.declared.lexing.LexErr.TheVariants.{OutOfMemory};
+
+    ghost from_gives = { λ e r. r ≡ OutOfMemory };
+
+    fn from(_: AllocError) -> LexErr {
+        LexErr::OutOfMemory
+    }
+}
+
+/// The tokens of a text before the first byte from which none starts.
+#[derive(Debug, Drop)]
+pub struct Lexed {
+    /// The tokens, in order.
+    pub tokens: List<Token>,
+    /// The place of that byte, if there is one; else the tokens are all of the text.
+    pub bad: Option<usize>,
+}
+
+/// The tokens of `text`, each with the bytes where it starts and ends. It fails at the first byte from which no token starts, and for want of memory.
+pub fn lex(alloc: Global, text: &str) -> Result<Vec<Token>, LexErr>
+    ensures answer { MatchResult result (λ tokens. IsLexed text.now tokens.items None) (λ error. IsFault text.now error) }
+    ensures only { (tokens : Items Token) (bad : Option ℕ) → IsLexed text.now tokens bad
+        → MatchResult result (λ read. (read.items ≡ tokens) × (bad ≡ None)) (λ error. IsErrorOf bad error) }
+{
+    let lexed = tokens_before_fault(alloc, text)?;
+    match lexed.bad {
+        Some(byte) => Err(LexErr::Bad { byte }),
+        None => Ok(lexed.tokens.into_vec()),
+    }
+}
+
+/// The tokens of `text` before the first byte from which none starts, and that byte. It fails only for want of memory.
+pub fn tokens_before_fault(alloc: Global, text: &str) -> Result<Lexed, AllocError>
+    ensures { IfOk result (λ lexed. IsLexed text.now lexed.tokens lexed.bad) }
+{
+    let mut tokens = Vec::new(alloc);
+    let mut at = mark_len(text);
+    let mut rest = &text[at..];
+    while !rest.is_empty() {
+        let size = match piece_at_front(alloc, rest)? {
+            Piece::Gap(size) => size,
+            Piece::Token(found) => {
+                let end = at + found.size;
+                tokens.push(Token {
+                    kind: found.kind,
+                    start: at,
+                    end,
+                })?;
+                found.size
+            }
+            Piece::Fault => {
+                return Ok(Lexed {
+                    tokens: List::of(tokens),
+                    bad: Some(at),
+                });
+            }
+        };
+        rest = &rest[size..];
+        at += size;
+    }
+    Ok(Lexed {
+        tokens: List::of(tokens),
+        bad: None,
+    })
+}
+
+// The bytes of the mark at the start.
+fn mark_len(text: &str) -> usize
+    ensures { result ≡ mark_len text.now }
+{
+    if text.as_bytes().starts_with(b"\xef\xbb\xbf") {
+        3
+    } else {
+        0
+    }
+}
+
+/// A text has one list of tokens: two answers for it are equal.
+pub fn tokens_are_determined()
+    ensures { (text : Items ℕ) (tokens others : Items Token) (bad worse : Option ℕ)
+        → IsLexed text tokens bad → IsLexed text others worse → (tokens ≡ others) × (bad ≡ worse) }
+{}
