@@ -2,11 +2,13 @@
 #![tactic(auto)]
 
 mod expressions;
+mod laws;
 mod parts;
 mod statements;
 mod word_groups;
 
 pub use expressions::{CalcPart, Clause, Expr, JoinPart, Targets};
+pub use laws::trees_have_a_depth;
 pub use parts::{
     Comp, Constant, DataPoints, ErrorPart, GroupPart, Keeping, Limit, Literal, Numeral, OrderPart,
     OverPart, Reference, RenamePart, SignedComp, SubPart,
