@@ -4,6 +4,7 @@ use std::alloc::{AllocError, Global};
 use std::test::Fail;
 use vtl_cell::{Cell, Kind, ScalarOp, is_same};
 use vtl_decimal::{Profile, Rounding};
+use vtl_scalar::ScalarErr;
 use vtl_text::{List, Txt};
 
 fn text(alloc: Global, text: &str) -> Result<Cell, AllocError> {
