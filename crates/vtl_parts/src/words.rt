@@ -9,7 +9,7 @@ use crate::front::{Front, next};
 use vtl_grammar::CallForm;
 use vtl_lexer::{Keyword, Sign, Token, TokenKind};
 use vtl_syntax::{
-    Addition, AggregateName, AssignKind, BasicOut, CastKind, CheckOut, Comparison, DifferenceName,
+    Addition, AggregateName, AssignKind, BasicOut, BinaryOp, CastKind, CheckOut, Comparison, DifferenceName,
     Direction, FunctionName, GroupKind, HierInput, HierOut, JoinKind, Mode, Retain, SetOpName,
     ShiftName, Side, UnaryOp, ValueWindowName, WrittenRole,
 };
@@ -253,6 +253,32 @@ impl WordGroup for AssignKind {
         match kind {
             TokenKind::Sign(Sign::Assign) => Some(AssignKind::Temporary),
             TokenKind::Sign(Sign::Persist) => Some(AssignKind::Persistent),
+            _ => None,
+        }
+    }
+}
+
+impl WordGroup for BinaryOp {
+    ghost use Rattle.vtl_grammar.specs.Words.{binary_op_at};
+
+    ghost spelled = { binary_op_at };
+
+    fn spelled_by(kind: &TokenKind) -> Option<BinaryOp> {
+        match kind {
+            TokenKind::Keyword(Keyword::Or) => Some(BinaryOp::Or),
+            TokenKind::Keyword(Keyword::Xor) => Some(BinaryOp::Xor),
+            TokenKind::Keyword(Keyword::And) => Some(BinaryOp::And),
+            TokenKind::Sign(Sign::Equal) => Some(BinaryOp::Equal),
+            TokenKind::Sign(Sign::NotEqual) => Some(BinaryOp::NotEqual),
+            TokenKind::Sign(Sign::Less) => Some(BinaryOp::Less),
+            TokenKind::Sign(Sign::LessOrEqual) => Some(BinaryOp::LessOrEqual),
+            TokenKind::Sign(Sign::Greater) => Some(BinaryOp::Greater),
+            TokenKind::Sign(Sign::GreaterOrEqual) => Some(BinaryOp::GreaterOrEqual),
+            TokenKind::Sign(Sign::Plus) => Some(BinaryOp::Add),
+            TokenKind::Sign(Sign::Minus) => Some(BinaryOp::Subtract),
+            TokenKind::Sign(Sign::Concat) => Some(BinaryOp::Concat),
+            TokenKind::Sign(Sign::Star) => Some(BinaryOp::Multiply),
+            TokenKind::Sign(Sign::Slash) => Some(BinaryOp::Divide),
             _ => None,
         }
     }

@@ -1,0 +1,52 @@
+// Expressions at any budget.
+ghost use Rattle.vtl_grammar.specs.Faults.{kinds};
+ghost use Rattle.vtl_grammar.specs.ReadExpressions.{read};
+ghost use Rattle.vtl_grammar.specs.ReadStatements.{whole_exp};
+ghost use Rattle.vtl_expressions.specs.Reads.{Answers, box_tree};
+ghost use Rattle.vtl_parts.specs.Answers.{AnswersBy};
+ghost use Rattle.vtl_syntax.specs.View.{expr_tree};
+
+use crate::grammar::Grammar;
+use crate::reads::Read;
+use std::alloc::Global;
+use vtl_grammar::Level;
+use vtl_lexer::Token;
+use vtl_parts::{Front, Unread};
+use vtl_syntax::Expr;
+
+const DEPTH_LIMIT: usize = 128;
+
+// The expression at the front that may stand at the level, of at most that depth.
+fn read(
+    alloc: Global,
+    budget: usize,
+    level: Level,
+    tokens: &[Token],
+) -> Result<Read<'_, Box<Expr>>, Unread>
+    ensures { Answers box_tree (read budget level (kinds tokens.now)) result }
+{
+    if budget == 0 {
+        return Err(Unread::Absent);
+    }
+    let inner = budget - 1;
+    let grammar = Grammar {
+        alloc,
+        budget: inner,
+        read: |level: Level, tokens: &[Token]| -> Result<Read<'_, Box<Expr>>, Unread>
+            ensures { Answers box_tree (read inner level (kinds tokens.now)) result }
+        { read(alloc, inner, level, tokens) },
+    };
+    grammar.level(level, tokens)
+}
+
+/// The expression at the front of the tokens, the longest of depth 128 at most.
+#[tactic(auto, unfolding(vtl_grammar::specs::ReadStatements::whole_exp))]
+pub fn whole_expression(alloc: Global, tokens: &[Token]) -> Result<Front<'_, Expr>, Unread>
+    ensures { AnswersBy expr_tree (whole_exp (kinds tokens.now)) result }
+{
+    let Read { tree, rest, .. } = read(alloc, DEPTH_LIMIT, Level::Expression, tokens)?;
+    Ok(Front {
+        part: Box::into_inner(tree),
+        rest,
+    })
+}
