@@ -1,8 +1,6 @@
 -- What follows an operand, turn by turn.
-use Rattle.std.specs.Prelude.{◌≡◌, ℕ, zero, suc, min, Option, None, Some, Result, Ok, Err, Box}
-use Rattle.std.specs.declared.alloc.Global.{Global}
+use Rattle.std.specs.Prelude.{◌≡◌, ℕ, zero, suc, min, Option, None, Some, Result, Ok, Err}
 use Rattle.vtl_lexer.specs.declared.token.Sign.TheVariants as sign
-use Rattle.vtl_grammar.specs.Grammar.{Tokens}
 use Rattle.vtl_grammar.specs.ReadExpressions.{around, clause, membership_at, operator_at}
 use Rattle.vtl_grammar.specs.ReadParts.{literal_set}
 use Rattle.vtl_grammar.specs.Reading.{Got, Gets, got, given, ◌>>=◌, after_sign, word}

@@ -3,7 +3,6 @@ ghost use Rattle.std.specs.Prelude.{◌≡◌, Some};
 ghost use Rattle.std.specs.Option.{option_map};
 ghost use Rattle.vtl_grammar.specs.Faults.{kinds};
 ghost use Rattle.vtl_grammar.specs.ReadExpressions.{aggregate_call, ends_operand, group_call, maybe_exp_after, maybe_operand, no_operand, over_call, read};
-ghost use Rattle.vtl_grammar.specs.Reading.{is_keyword, is_sign};
 ghost use Rattle.vtl_grammar.specs.declared.levels.Level.TheVariants as level;
 ghost use Rattle.vtl_lexer.specs.declared.keyword.Keyword.{Keyword};
 ghost use Rattle.vtl_expressions.specs.Reads.{Answers, Nests, box_tree, got_of};
@@ -13,8 +12,8 @@ use crate::calls::{over_depth, spared};
 use crate::grammar::{Grammar, node};
 use crate::reads::Read;
 use vtl_grammar::Level;
-use vtl_lexer::{Keyword, Sign, Token};
-use vtl_parts::{Unread, after_keyword, after_sign, group_part, over_part};
+use vtl_lexer::{Keyword, Sign, Token, TokenKind};
+use vtl_parts::{Unread, after_keyword, group_part, next, over_part};
 use vtl_syntax::{AggregateName, Expr, GroupPart};
 
 // How deep the names of a grouping make it.
@@ -27,22 +26,35 @@ fn group_depth(group: &Option<GroupPart>) -> usize
     }
 }
 
+// No operand of an aggregate begins with the token.
+fn ends_operand(kind: &TokenKind) -> bool
+    ensures { result ≡ ends_operand kind.now }
+{
+    matches!(
+        kind,
+        TokenKind::Sign(Sign::CloseBracket)
+            | TokenKind::Keyword(Keyword::Group | Keyword::Having | Keyword::Over)
+    )
+}
+
 // No operand of an aggregate begins here.
-#[tactic(auto, unfolding(vtl_grammar::specs::Reading::after_keyword, vtl_grammar::specs::Reading::after_sign))]
 fn no_operand(tokens: &[Token]) -> bool
     ensures { result ≡ no_operand (kinds tokens.now) }
 {
-    tokens.is_empty()
-        || after_sign(tokens, Sign::CloseBracket).is_some()
-        || after_keyword(tokens, Keyword::Group).is_some()
-        || after_keyword(tokens, Keyword::Having).is_some()
-        || after_keyword(tokens, Keyword::Over).is_some()
+    match next(tokens) {
+        Some((first, _)) => ends_operand(first),
+        None => true,
+    }
 }
 
 impl<F: Fn(Level, &[Token]) -> Result<Read<'_, Box<Expr>>, Unread>> Grammar<F> {
     // `keyword expression`, if it stands there
     #[tactic(auto, unfolding(vtl_grammar::specs::ReadExpressions::maybe_exp_after))]
-    pub(crate) fn maybe_after<'t>(&self, keyword: Keyword, tokens: &'t [Token]) -> Result<Read<'t, Option<Box<Expr>>>, Unread>
+    pub(crate) fn maybe_after<'t>(
+        &self,
+        keyword: Keyword,
+        tokens: &'t [Token],
+    ) -> Result<Read<'t, Option<Box<Expr>>>, Unread>
         requires { Nests self.now.budget (F.pre self.now.read) (F.post self.now.read) }
         ensures { Answers (option_map box_tree) (maybe_exp_after self.now.budget (read self.now.budget level.Expression) keyword (kinds tokens.now)) result }
     {
@@ -59,7 +71,10 @@ impl<F: Fn(Level, &[Token]) -> Result<Read<'_, Box<Expr>>, Unread>> Grammar<F> {
 
     // The operand of an aggregate, where there is one
     #[tactic(auto, unfolding(vtl_grammar::specs::ReadExpressions::maybe_operand))]
-    pub(crate) fn maybe_operand<'t>(&self, tokens: &'t [Token]) -> Result<Read<'t, Option<Box<Expr>>>, Unread>
+    pub(crate) fn maybe_operand<'t>(
+        &self,
+        tokens: &'t [Token],
+    ) -> Result<Read<'t, Option<Box<Expr>>>, Unread>
         requires { Nests self.now.budget (F.pre self.now.read) (F.post self.now.read) }
         ensures { Answers (option_map box_tree) (maybe_operand self.now.budget (read self.now.budget level.Expression) (kinds tokens.now)) result }
     {
@@ -89,7 +104,11 @@ impl<F: Fn(Level, &[Token]) -> Result<Read<'_, Box<Expr>>, Unread>> Grammar<F> {
 
     // An aggregate over a window, after its operand
     #[tactic(auto, using(crate::proofs::Views::views), unfolding(vtl_grammar::specs::ReadExpressions::over_call))]
-    pub(crate) fn over_call<'t>(&self, function: AggregateName, operand: Read<'t, Option<Box<Expr>>>) -> Result<Read<'t, Box<Expr>>, Unread>
+    pub(crate) fn over_call<'t>(
+        &self,
+        function: AggregateName,
+        operand: Read<'t, Option<Box<Expr>>>,
+    ) -> Result<Read<'t, Box<Expr>>, Unread>
         requires { Nests self.now.budget (F.pre self.now.read) (F.post self.now.read) }
         ensures { Answers box_tree (over_call self.now.budget function (got_of (option_map box_tree) operand.entry)) result }
     {
@@ -105,7 +124,11 @@ impl<F: Fn(Level, &[Token]) -> Result<Read<'_, Box<Expr>>, Unread>> Grammar<F> {
 
     // An aggregate with its grouping, after its operand
     #[tactic(auto, using(crate::proofs::Views::views), unfolding(vtl_grammar::specs::ReadExpressions::group_call))]
-    pub(crate) fn group_call<'t>(&self, function: AggregateName, operand: Read<'t, Option<Box<Expr>>>) -> Result<Read<'t, Box<Expr>>, Unread>
+    pub(crate) fn group_call<'t>(
+        &self,
+        function: AggregateName,
+        operand: Read<'t, Option<Box<Expr>>>,
+    ) -> Result<Read<'t, Box<Expr>>, Unread>
         requires { Nests self.now.budget (F.pre self.now.read) (F.post self.now.read) }
         ensures { Answers box_tree (group_call self.now.budget (read self.now.budget level.Expression) function (got_of (option_map box_tree) operand.entry)) result }
     {
@@ -118,12 +141,21 @@ impl<F: Fn(Level, &[Token]) -> Result<Read<'_, Box<Expr>>, Unread>> Grammar<F> {
             group: group.part,
             having: having.tree,
         };
-        node(self.alloc, tree, operand.spare.min(spare.min(having.spare)), having.rest)
+        node(
+            self.alloc,
+            tree,
+            operand.spare.min(spare.min(having.spare)),
+            having.rest,
+        )
     }
 
     // An aggregate
     #[tactic(auto, unfolding(vtl_grammar::specs::ReadExpressions::aggregate_call))]
-    pub(crate) fn aggregate_call<'t>(&self, function: AggregateName, tokens: &'t [Token]) -> Result<Read<'t, Box<Expr>>, Unread>
+    pub(crate) fn aggregate_call<'t>(
+        &self,
+        function: AggregateName,
+        tokens: &'t [Token],
+    ) -> Result<Read<'t, Box<Expr>>, Unread>
         requires { Nests self.now.budget (F.pre self.now.read) (F.post self.now.read) }
         ensures { Answers box_tree (aggregate_call self.now.budget (read self.now.budget level.Expression) function (kinds tokens.now)) result }
     {

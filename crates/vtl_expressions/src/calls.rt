@@ -55,7 +55,11 @@ fn dataset_part(tokens: &[Token]) -> Front<'_, bool>
 impl<F: Fn(Level, &[Token]) -> Result<Read<'_, Box<Expr>>, Unread>> Grammar<F> {
     // `function(operands)`
     #[tactic(auto, using(crate::proofs::Views::views), unfolding(vtl_grammar::specs::ReadExpressions::function_call, vtl_grammar::specs::ReadExpressions::exps))]
-    pub(crate) fn function_call<'t>(&self, function: FunctionName, tokens: &'t [Token]) -> Result<Read<'t, Box<Expr>>, Unread>
+    pub(crate) fn function_call<'t>(
+        &self,
+        function: FunctionName,
+        tokens: &'t [Token],
+    ) -> Result<Read<'t, Box<Expr>>, Unread>
         requires { Nests self.now.budget (F.pre self.now.read) (F.post self.now.read) }
         ensures { Answers box_tree (function_call (read self.now.budget level.Expression) function (kinds tokens.now)) result }
     {
@@ -69,7 +73,11 @@ impl<F: Fn(Level, &[Token]) -> Result<Read<'_, Box<Expr>>, Unread>> Grammar<F> {
 
     // `operator(operands)` with two operands at least
     #[tactic(auto, using(crate::proofs::Views::views), unfolding(vtl_grammar::specs::ReadExpressions::set_op_call, vtl_grammar::specs::ReadExpressions::exps))]
-    pub(crate) fn set_op_call<'t>(&self, operator: SetOpName, tokens: &'t [Token]) -> Result<Read<'t, Box<Expr>>, Unread>
+    pub(crate) fn set_op_call<'t>(
+        &self,
+        operator: SetOpName,
+        tokens: &'t [Token],
+    ) -> Result<Read<'t, Box<Expr>>, Unread>
         requires { Nests self.now.budget (F.pre self.now.read) (F.post self.now.read) }
         ensures { Answers box_tree (set_op_call (read self.now.budget level.Expression) operator (kinds tokens.now)) result }
     {
@@ -86,7 +94,11 @@ impl<F: Fn(Level, &[Token]) -> Result<Read<'_, Box<Expr>>, Unread>> Grammar<F> {
 
     // `function(operand over)`
     #[tactic(auto, using(crate::proofs::Views::views), unfolding(vtl_grammar::specs::ReadExpressions::value_window_call))]
-    pub(crate) fn value_window_call<'t>(&self, function: ValueWindowName, tokens: &'t [Token]) -> Result<Read<'t, Box<Expr>>, Unread>
+    pub(crate) fn value_window_call<'t>(
+        &self,
+        function: ValueWindowName,
+        tokens: &'t [Token],
+    ) -> Result<Read<'t, Box<Expr>>, Unread>
         requires { Nests self.now.budget (F.pre self.now.read) (F.post self.now.read) }
         ensures { Answers box_tree (value_window_call (read self.now.budget level.Expression) function (kinds tokens.now)) result }
     {
@@ -102,7 +114,11 @@ impl<F: Fn(Level, &[Token]) -> Result<Read<'_, Box<Expr>>, Unread>> Grammar<F> {
 
     // `function(operand, points, default over)`
     #[tactic(auto, using(crate::proofs::Views::views), unfolding(vtl_grammar::specs::ReadExpressions::shift_call))]
-    pub(crate) fn shift_call<'t>(&self, function: ShiftName, tokens: &'t [Token]) -> Result<Read<'t, Box<Expr>>, Unread>
+    pub(crate) fn shift_call<'t>(
+        &self,
+        function: ShiftName,
+        tokens: &'t [Token],
+    ) -> Result<Read<'t, Box<Expr>>, Unread>
         requires { Nests self.now.budget (F.pre self.now.read) (F.post self.now.read) }
         ensures { Answers box_tree (shift_call (read self.now.budget level.Expression) function (kinds tokens.now)) result }
     {
@@ -133,7 +149,11 @@ impl<F: Fn(Level, &[Token]) -> Result<Read<'_, Box<Expr>>, Unread>> Grammar<F> {
 
     // `operator(left, right)`
     #[tactic(auto, using(crate::proofs::Views::views), unfolding(vtl_grammar::specs::ReadExpressions::difference_call, vtl_grammar::specs::ReadExpressions::two_exps))]
-    pub(crate) fn difference_call<'t>(&self, operator: DifferenceName, tokens: &'t [Token]) -> Result<Read<'t, Box<Expr>>, Unread>
+    pub(crate) fn difference_call<'t>(
+        &self,
+        operator: DifferenceName,
+        tokens: &'t [Token],
+    ) -> Result<Read<'t, Box<Expr>>, Unread>
         requires { Nests self.now.budget (F.pre self.now.read) (F.post self.now.read) }
         ensures { Answers box_tree (difference_call (read self.now.budget level.Expression) operator (kinds tokens.now)) result }
     {
@@ -150,7 +170,10 @@ impl<F: Fn(Level, &[Token]) -> Result<Read<'_, Box<Expr>>, Unread>> Grammar<F> {
 
     // `exists_in(left, right, retain)`
     #[tactic(auto, using(crate::proofs::Views::views), unfolding(vtl_grammar::specs::ReadExpressions::exists_in_call, vtl_grammar::specs::ReadExpressions::two_exps))]
-    pub(crate) fn exists_in_call<'t>(&self, tokens: &'t [Token]) -> Result<Read<'t, Box<Expr>>, Unread>
+    pub(crate) fn exists_in_call<'t>(
+        &self,
+        tokens: &'t [Token],
+    ) -> Result<Read<'t, Box<Expr>>, Unread>
         requires { Nests self.now.budget (F.pre self.now.read) (F.post self.now.read) }
         ensures { Answers box_tree (exists_in_call (read self.now.budget level.Expression) (kinds tokens.now)) result }
     {
@@ -182,12 +205,20 @@ impl<F: Fn(Level, &[Token]) -> Result<Read<'_, Box<Expr>>, Unread>> Grammar<F> {
             imbalance: imbalance.tree,
             output: output.part,
         };
-        node(self.alloc, tree, operand.spare.min(imbalance.spare), output.rest)
+        node(
+            self.alloc,
+            tree,
+            operand.spare.min(imbalance.spare),
+            output.rest,
+        )
     }
 
     // `check_datapoint(operand, ruleset output)`
     #[tactic(auto, using(crate::proofs::Views::views), unfolding(vtl_grammar::specs::ReadExpressions::check_datapoint_call))]
-    pub(crate) fn check_datapoint_call<'t>(&self, tokens: &'t [Token]) -> Result<Read<'t, Box<Expr>>, Unread>
+    pub(crate) fn check_datapoint_call<'t>(
+        &self,
+        tokens: &'t [Token],
+    ) -> Result<Read<'t, Box<Expr>>, Unread>
         requires { Nests self.now.budget (F.pre self.now.read) (F.post self.now.read) }
         ensures { Answers box_tree (check_datapoint_call (read self.now.budget level.Expression) (kinds tokens.now)) result }
     {
@@ -204,7 +235,10 @@ impl<F: Fn(Level, &[Token]) -> Result<Read<'_, Box<Expr>>, Unread>> Grammar<F> {
 
     // `check_hierarchy(operand, ruleset rule component mode dataset output)`
     #[tactic(auto, using(crate::proofs::Views::views), unfolding(vtl_grammar::specs::ReadExpressions::check_hierarchy_call))]
-    pub(crate) fn check_hierarchy_call<'t>(&self, tokens: &'t [Token]) -> Result<Read<'t, Box<Expr>>, Unread>
+    pub(crate) fn check_hierarchy_call<'t>(
+        &self,
+        tokens: &'t [Token],
+    ) -> Result<Read<'t, Box<Expr>>, Unread>
         requires { Nests self.now.budget (F.pre self.now.read) (F.post self.now.read) }
         ensures { Answers box_tree (check_hierarchy_call (read self.now.budget level.Expression) (kinds tokens.now)) result }
     {
@@ -227,7 +261,10 @@ impl<F: Fn(Level, &[Token]) -> Result<Read<'_, Box<Expr>>, Unread>> Grammar<F> {
 
     // `hierarchy(operand, ruleset rule component mode input output)`
     #[tactic(auto, using(crate::proofs::Views::views), unfolding(vtl_grammar::specs::ReadExpressions::hierarchy_call))]
-    pub(crate) fn hierarchy_call<'t>(&self, tokens: &'t [Token]) -> Result<Read<'t, Box<Expr>>, Unread>
+    pub(crate) fn hierarchy_call<'t>(
+        &self,
+        tokens: &'t [Token],
+    ) -> Result<Read<'t, Box<Expr>>, Unread>
         requires { Nests self.now.budget (F.pre self.now.read) (F.post self.now.read) }
         ensures { Answers box_tree (hierarchy_call (read self.now.budget level.Expression) (kinds tokens.now)) result }
     {

@@ -11,7 +11,9 @@ use crate::grammar::Grammar;
 use crate::reads::Read;
 use vtl_grammar::Level;
 use vtl_lexer::{Keyword, Token};
-use vtl_parts::{Unread, after_keyword, group_part, maybe_keeping, maybe_renames, sub_parts, two_comps};
+use vtl_parts::{
+    Front, Unread, after_keyword, group_part, maybe_keeping, maybe_renames, sub_parts, two_comps,
+};
 use vtl_syntax::{Clause, Expr, Targets};
 
 impl<F: Fn(Level, &[Token]) -> Result<Read<'_, Box<Expr>>, Unread>> Grammar<F> {
@@ -37,7 +39,10 @@ impl<F: Fn(Level, &[Token]) -> Result<Read<'_, Box<Expr>>, Unread>> Grammar<F> {
 
     // `calc` or `aggr` with what it makes, if one stands there
     #[tactic(auto, using(crate::proofs::Views::views), unfolding(vtl_grammar::specs::ReadExpressions::made_part, vtl_grammar::specs::ReadExpressions::calc_parts))]
-    pub(crate) fn made_part<'t>(&self, tokens: &'t [Token]) -> Result<Read<'t, Option<Targets>>, Unread>
+    pub(crate) fn made_part<'t>(
+        &self,
+        tokens: &'t [Token],
+    ) -> Result<Read<'t, Option<Targets>>, Unread>
         requires { Nests self.now.budget (F.pre self.now.read) (F.post self.now.read) }
         ensures { Answers (option_map targets_tree) (made_part self.now.budget (read self.now.budget level.Expression) (kinds tokens.now)) result }
     {
@@ -107,13 +112,13 @@ impl<F: Fn(Level, &[Token]) -> Result<Read<'_, Box<Expr>>, Unread>> Grammar<F> {
         requires { Nests self.now.budget (F.pre self.now.read) (F.post self.now.read) }
         ensures { Answers clause_tree (name_clause self.now.budget (kinds tokens.now)) result }
     {
-        let keeping = maybe_keeping(self.alloc, tokens)?;
-        if let Some(kept) = keeping.part {
-            return Ok(self.leaf_clause(Clause::Keeping(kept), keeping.rest));
+        let Front { part, rest } = maybe_keeping(self.alloc, tokens)?;
+        if let Some(kept) = part {
+            return Ok(self.leaf_clause(Clause::Keeping(kept), rest));
         }
-        let renames = maybe_renames(self.alloc, tokens)?;
-        if let Some(parts) = renames.part {
-            return Ok(self.leaf_clause(Clause::Rename(parts), renames.rest));
+        let Front { part, rest } = maybe_renames(self.alloc, tokens)?;
+        if let Some(renames) = part {
+            return Ok(self.leaf_clause(Clause::Rename(renames), rest));
         }
         if let Some(after) = after_keyword(tokens, Keyword::Sub) {
             let parts = sub_parts(self.alloc, after)?;
@@ -128,20 +133,20 @@ impl<F: Fn(Level, &[Token]) -> Result<Read<'_, Box<Expr>>, Unread>> Grammar<F> {
         requires { Nests self.now.budget (F.pre self.now.read) (F.post self.now.read) }
         ensures { Answers clause_tree (clause self.now.budget (read self.now.budget level.Expression) (kinds tokens.now)) result }
     {
-        let filter = self.maybe_after(Keyword::Filter, tokens)?;
-        if let Some(condition) = filter.tree {
+        let Read { tree, spare, rest } = self.maybe_after(Keyword::Filter, tokens)?;
+        if let Some(condition) = tree {
             return Ok(Read {
                 tree: Clause::Filter(condition),
-                spare: filter.spare,
-                rest: filter.rest,
+                spare,
+                rest,
             });
         }
-        let made = self.made_part(tokens)?;
-        if let Some(targets) = made.tree {
+        let Read { tree, spare, rest } = self.made_part(tokens)?;
+        if let Some(targets) = tree {
             return Ok(Read {
                 tree: Clause::Targets(targets),
-                spare: made.spare,
-                rest: made.rest,
+                spare,
+                rest,
             });
         }
         self.name_clause(tokens)

@@ -16,7 +16,11 @@ use vtl_syntax::{Expr, JoinKind, JoinPart};
 impl<F: Fn(Level, &[Token]) -> Result<Read<'_, Box<Expr>>, Unread>> Grammar<F> {
     // The body of a join after its operands
     #[tactic(auto, using(crate::proofs::Views::views), unfolding(vtl_grammar::specs::ReadExpressions::join_body))]
-    fn join_body<'t>(&self, kind: JoinKind, operands: Read<'t, Vec<JoinPart>>) -> Result<Read<'t, Box<Expr>>, Unread>
+    fn join_body<'t>(
+        &self,
+        kind: JoinKind,
+        operands: Read<'t, Vec<JoinPart>>,
+    ) -> Result<Read<'t, Box<Expr>>, Unread>
         requires { Nests self.now.budget (F.pre self.now.read) (F.post self.now.read) }
         ensures { Answers box_tree (join_body self.now.budget (read self.now.budget level.Expression) kind (got_of (list_view part_tree) operands.entry)) result }
     {
@@ -40,7 +44,11 @@ impl<F: Fn(Level, &[Token]) -> Result<Read<'_, Box<Expr>>, Unread>> Grammar<F> {
 
     // A join of two operands at least
     #[tactic(auto, using(crate::proofs::Views::views), unfolding(vtl_grammar::specs::ReadExpressions::join_call, vtl_grammar::specs::ReadExpressions::join_parts))]
-    pub(crate) fn join_call<'t>(&self, kind: JoinKind, tokens: &'t [Token]) -> Result<Read<'t, Box<Expr>>, Unread>
+    pub(crate) fn join_call<'t>(
+        &self,
+        kind: JoinKind,
+        tokens: &'t [Token],
+    ) -> Result<Read<'t, Box<Expr>>, Unread>
         requires { Nests self.now.budget (F.pre self.now.read) (F.post self.now.read) }
         ensures { Answers box_tree (join_call self.now.budget (read self.now.budget level.Expression) kind (kinds tokens.now)) result }
     {

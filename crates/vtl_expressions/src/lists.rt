@@ -123,7 +123,10 @@ impl Nested for JoinPart {
 
 impl<F: Fn(Level, &[Token]) -> Result<Read<'_, Box<Expr>>, Unread>> Grammar<F> {
     // One part, and those that follow it behind commas.
-    pub(crate) fn list<'t, P: Nested>(&self, tokens: &'t [Token]) -> Result<Read<'t, Vec<P>>, Unread>
+    pub(crate) fn list<'t, P: Nested>(
+        &self,
+        tokens: &'t [Token],
+    ) -> Result<Read<'t, Vec<P>>, Unread>
         requires { Nests self.now.budget (F.pre self.now.read) (F.post self.now.read) }
         ensures { Answers (list_view P.view) (got_listed (P.reads (read self.now.budget level.Expression)) (kinds tokens.now)) result }
     {

@@ -29,9 +29,13 @@ fn read(
         return Err(Unread::Absent);
     }
     let inner = budget - 1;
-    let grammar = Grammar::new(alloc, inner, |level, tokens| {
-        read(alloc, inner, level, tokens)
-    });
+    let grammar = Grammar::new(
+        alloc,
+        inner,
+        move |level, tokens|
+            ensures { Answers box_tree (read inner level (kinds tokens.now)) result }
+        { read(alloc, inner, level, tokens) },
+    );
     grammar.level(level, tokens)
 }
 

@@ -1,0 +1,5 @@
+pub mod ParsedLemmas
+pub mod RuleTurns
+pub mod SignedTurns
+pub mod StatementTurns
+pub mod Texts

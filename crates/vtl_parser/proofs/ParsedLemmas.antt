@@ -1,0 +1,33 @@
+-- The clauses of `parse`, from the answer for the tokens.
+use Rattle.std.proofs.Common.{◌≡◌, ℕ, List, Option, Result, Ok, Err, MatchResult}
+use Rattle.vtl_grammar.specs.Faults.{WholeScript}
+use Rattle.vtl_lexer.specs.Lexed.{IsLexed}
+use Rattle.vtl_lexer.specs.declared.token.Token.{Token}
+use Rattle.vtl_syntax.specs.Trees.{ScriptTree}
+use Rattle.vtl_syntax.specs.View.{script_tree}
+use Rattle.vtl_syntax.specs.declared.statements.Script.{Script}
+use Rattle.vtl_parser.specs.Parsed.{IsErrorOf, IsFault, IsFaultOf, IsFaulty, IsMemory, IsScript}
+use Rattle.vtl_parser.specs.declared.parsing.ParseErr.{ParseErr}
+use Rattle.vtl_parser.specs.declared.parsing.ParseErr.TheVariants as e
+use Rattle.vtl_parser.proofs.Texts.{not_both, one_fault, one_script}
+
+abbrev pub Answered : List ℕ → Result Script ParseErr → Type 0
+Answered text r = MatchResult r (λ script. IsScript text (script_tree script)) (λ error. IsFault text error)
+
+abbrev pub TokensAnswered : List Token → Option ℕ → Result Script ParseErr → Type 0
+TokensAnswered tokens bad r = MatchResult r (λ script. WholeScript tokens bad (script_tree script)) (λ error. IsFaultOf tokens bad error)
+
+pub answered : (text : List ℕ) (tokens : List Token) (bad : Option ℕ) (r : Result Script ParseErr) → IsLexed text tokens bad → TokensAnswered tokens bad r → Answered text r
+answered text tokens bad (Ok script) lexed a = record { tokens = tokens; bad = bad; lexed = lexed; whole = a }
+answered text tokens bad (Err (e.Syntax done byte)) lexed a = record { tokens = tokens; bad = bad; lexed = lexed; fault = a }
+answered text tokens bad (Err e.OutOfMemory) lexed a = tt
+
+pub answers_scripts : (text : List ℕ) (r : Result Script ParseErr) → Answered text r → (script : ScriptTree) → IsScript text script → MatchResult r (λ read. script_tree read ≡ script) (λ error. IsMemory error)
+answers_scripts text (Ok read) a script is = one_script text (script_tree read) script a is
+answers_scripts text (Err (e.Syntax done byte)) a script is = not_both text script done byte is a
+answers_scripts text (Err e.OutOfMemory) a script is = tt
+
+pub answers_faults : (text : List ℕ) (r : Result Script ParseErr) → Answered text r → (done byte : ℕ) → IsFaulty text done byte → MatchResult r (λ read. ⊥) (λ error. IsErrorOf done byte error)
+answers_faults text (Ok read) a done byte is = not_both text (script_tree read) done byte a is
+answers_faults text (Err (e.Syntax d b)) a done byte is = one_fault text d b done byte a is
+answers_faults text (Err e.OutOfMemory) a done byte is = tt
