@@ -1,11 +1,10 @@
 pub mod FilterLemmas
-pub mod FrontLemmas
 pub mod MeantLemmas
 pub mod OutputLemmas
 pub mod PlaceLemmas
 pub mod ReadStructures
+pub mod ReadScripts
 pub mod RunLemmas
 pub mod SinkLemmas
-pub mod SpellingLemmas
-pub mod StatementLemmas
+pub mod StatusLemmas
 pub mod StructureLemmas

@@ -8,13 +8,13 @@ use Rattle.std.proofs.lemmas.Bool.Decides.{nat_tests}
 use Rattle.csv.specs.Reading.{default_config, records, strip_bom}
 use Rattle.vtl_lists.specs.Apart.{all_apart}
 use Rattle.vtl_lists.specs.Each.{cons_if, each_some}
+use Rattle.vtl_tree.specs.Built.{Compared, Filter}
 use Rattle.vtl_tree.specs.declared.structure.Component.{Component}
 use Rattle.vtl_tree.specs.declared.structure.Structure.{Structure}
 use Rattle.vtl_tree.specs.Structure.{IsStructure, key_width, names_of, same_name}
 use Rattle.vtl_csv.specs.PlainText.{plain_lines}
 use Rattle.vtl_csv.proofs.DataSetLemmas.{some_same}
-use Rattle.vtl_top.specs.StructuresFile.{component_of, components_in, components_of_records, is_declared, is_header, is_identifier, is_int_named, structure_of, structure_with}
-use Rattle.vtl_top.specs.declared.statement.Statement.{Statement}
+use Rattle.vtl_top.specs.StructuresFile.{component_of, components_in, components_of_records, is_declared, is_header, is_compared, is_identifier, structure_of, structure_with}
 
 -- as many values as items
 each_some-length : {X Y : Type 0} (f : X → Option Y) (xs : List X) (ys : List Y) → each_some f xs ≡ Some ys → length ys ≡ length xs
@@ -45,7 +45,7 @@ few_components operand text cs e = go (plain_lines text) e
     go false q = cc
 
 -- the components of a structure that is read are those of the text, and what they have to be
-read_as : (compared : List ℕ) (o : Option (List Component)) (t : Structure) → option_and_then (structure_with compared) o ≡ Some t → (o ≡ Some t.components) × (is_declared compared t.components ≡ true)
+read_as : (compared : Compared) (o : Option (List Component)) (t : Structure) → option_and_then (structure_with compared) o ≡ Some t → (o ≡ Some t.components) × (is_declared compared t.components ≡ true)
 read_as compared None t e = cc
 read_as compared (Some cs) t e = go (is_declared compared cs) refl e
   where
@@ -67,12 +67,12 @@ some_kept p (x ∷ xs) e = go (p x) (some_kept p xs) e
     go true h q = omega arith
     go false h q = h q
 
-module _ (s : Statement) (text : List ℕ) (t : Structure) (read : structure_of s text ≡ Some t) where
-  parts : (components_in (encode_utf8_all s.operand) text ≡ Some t.components) × (is_declared s.component t.components ≡ true)
-  parts = read_as s.component (components_in (encode_utf8_all s.operand) text) t read
+module _ (s : Filter) (text : List ℕ) (t : Structure) (read : structure_of s text ≡ Some t) where
+  parts : (components_in (encode_utf8_all s.operand) text ≡ Some t.components) × (is_declared s.condition t.components ≡ true)
+  parts = read_as s.condition (components_in (encode_utf8_all s.operand) text) t read
 
-  front : ((all_apart same_name (names_of t.components) && list_any is_identifier t.components) ≡ true) × (list_any (is_int_named s.component) t.components ≡ true)
-  front = and_parts (all_apart same_name (names_of t.components) && list_any is_identifier t.components) (list_any (is_int_named s.component) t.components) parts.1
+  front : ((all_apart same_name (names_of t.components) && list_any is_identifier t.components) ≡ true) × (list_any (is_compared s.condition) t.components ≡ true)
+  front = and_parts (all_apart same_name (names_of t.components) && list_any is_identifier t.components) (list_any (is_compared s.condition) t.components) parts.1
 
   apart : (all_apart same_name (names_of t.components) ≡ true) × (list_any is_identifier t.components ≡ true)
   apart = and_parts (all_apart same_name (names_of t.components)) (list_any is_identifier t.components) front.0
@@ -87,5 +87,5 @@ module _ (s : Statement) (text : List ℕ) (t : Structure) (read : structure_of 
   pub read_has_identifier : 1 ≤ key_width t
   read_has_identifier = some_kept is_identifier t.components apart.1
 
-  pub read_has_compared : list_any (is_int_named s.component) t.components ≡ true
+  pub read_has_compared : list_any (is_compared s.condition) t.components ≡ true
   read_has_compared = front.1

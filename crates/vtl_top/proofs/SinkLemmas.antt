@@ -1,5 +1,5 @@
 -- Bytes that a sink takes in several pieces.
-use Rattle.std.proofs.Common.{◌≡◌, ℕ, List, [], ◌++◌, Option, Some, None, Result, Ok, Err, refl, sym, ap, ◌∙◌, append_assoc}
+use Rattle.std.proofs.Common.{◌≡◌, ℕ, List, [], ◌++◌, Option, Some, None, Result, Ok, Err, refl, sym, ap, subst, ◌∙◌, append_assoc}
 use Rattle.std.specs.Result.{OnOk, OnErr}
 use Rattle.std.specs.Option.{option_map}
 use Rattle.std.proofs.lemmas.List.{append-nil}
@@ -51,3 +51,27 @@ front_anyway (Err e) t u a all front = front
 pub ok_always : {T E P : Type 0} (r : Result T E) → P → OnOk r P
 ok_always (Ok x) p = p
 ok_always (Err e) p = tt
+
+pub all_after : (t u v : Option (List ℕ)) (a b : List ℕ) → TakesAll t u a → TakesAll u v b → TakesAll t v (a ++ b)
+all_after t u v a b first then = then ∙ ap (option_map (λ x. x ++ b)) first ∙ taken_twice t a b
+
+pub ok_leads : {T E P Q : Type 0} (r : Result T E) → (P → Q) → OnOk r P → OnOk r Q
+ok_leads (Ok x) f p = f p
+ok_leads (Err e) f p = tt
+
+-- a line of a lead, two numbers with a text between them, and an end
+module _ (t u v : Option (List ℕ)) (lead first between second end done byte : List ℕ) (is_done : first ≡ done) (is_byte : second ≡ byte) where
+  abbrev line : List ℕ
+  line = lead ++ ((done ++ (between ++ byte)) ++ end)
+
+  pieces : (lead ++ first) ++ (between ++ (second ++ end)) ≡ line
+  pieces = rw (is_done, is_byte) (simp append_assoc)
+
+  pub fault_whole : TakesAll t u (lead ++ first) → TakesAll u v (between ++ (second ++ end)) → TakesAll t v line
+  fault_whole a b = subst (λ l. TakesAll t v l) pieces (all_after t u v (lead ++ first) (between ++ (second ++ end)) a b)
+
+  pub fault_front : TakesAll t u (lead ++ first) → TakesFront u v (between ++ (second ++ end)) → TakesFront t v line
+  fault_front a b = subst (λ l. TakesFront t v l) pieces (front_after t u v (lead ++ first) (between ++ (second ++ end)) a b)
+
+  pub fault_start : TakesFront t u (lead ++ first) → TakesFront t u line
+  fault_start a = subst (λ l. TakesFront t u l) pieces (front_before t u (lead ++ first) (between ++ (second ++ end)) a)

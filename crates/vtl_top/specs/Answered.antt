@@ -2,7 +2,8 @@
 use Rattle.std.specs.Prelude.{◌≡◌, ◌≤◌, ◌⊎◌, ℕ, Bool, false, List, [], ◌∷◌, ◌++◌, Option, Some, None, Result, Ok, Err, chars}
 use Rattle.std.specs.Option.{option_map}
 use Rattle.vtl_files.specs.Outside.{Rose, FaultAt}
-use Rattle.vtl_top.specs.Expected.{Run, expected, first, reads}
+use Rattle.vtl_top.specs.Expected.{IsExpected, Run, content, from_parsed, reads_from_parsed, script_limit}
+use Rattle.vtl_top.specs.ScriptFile.{IsParsed, Parsed}
 use Rattle.vtl_top.specs.declared.status.Status.{Status}
 use Rattle.vtl_top.specs.declared.status.Status.TheVariants as st
 
@@ -49,6 +50,8 @@ Refuses before now (st.WriteFault path) = ⊥
 Refuses before now st.Done = ⊥
 Refuses before now st.Usage = ⊥
 Refuses before now (st.TooLong path) = Unit {0}
+Refuses before now (st.NotText path) = Unit {0}
+Refuses before now (st.Syntax done byte) = Unit {0}
 Refuses before now (st.Unbuilt path) = Unit {0}
 Refuses before now st.Memory = Unit {0}
 
@@ -66,31 +69,55 @@ Meets view wanted paths (Err st.Done) = wanted ≡ Err st.Done
 Meets view wanted paths (Err st.Usage) = wanted ≡ Err st.Usage
 Meets view wanted paths (Err (st.NoFile path)) = wanted ≡ Err (st.NoFile path)
 Meets view wanted paths (Err (st.TooLong path)) = wanted ≡ Err (st.TooLong path)
+Meets view wanted paths (Err (st.NotText path)) = wanted ≡ Err (st.NotText path)
+Meets view wanted paths (Err (st.Syntax done byte)) = wanted ≡ Err (st.Syntax done byte)
 Meets view wanted paths (Err (st.WriteFault path)) = wanted ≡ Err (st.WriteFault path)
 Meets view wanted paths (Err (st.Unbuilt path)) = wanted ≡ Err (st.Unbuilt path)
 
+-- The same where the script file has these bytes, by what they are read as.
+abbrev pub MeetsText : {X : Type 0} → (X → List ℕ × List ℕ) → Run → List (List ℕ × List ℕ) → List ℕ → Result X Status → Type 0
+MeetsText view r held bytes (Err st.Memory) = Unit {0}
+MeetsText view r held bytes answer = (parsed : Parsed) × IsParsed bytes parsed × Meets view (from_parsed parsed r held) (reads_from_parsed parsed r held) answer
+
 -- ---- the whole call
--- a run reads this path before its first refusal or at it
+-- The run reads this path before its first refusal or at it: the script's, or one that comes after what the script file is read as.
+abbrev pub IsReadIn : Run → List (List ℕ × List ℕ) → List ℕ → Type 0
+IsReadIn r held path = (path ≡ chars r.script) ⊎ ((parsed : Parsed) × (bytes : List ℕ) × (content r.script script_limit held ≡ Ok bytes) × IsParsed bytes parsed × IsOneOf (reads_from_parsed parsed r held) path)
+
 abbrev pub IsRead : Option Run → List (List ℕ × List ℕ) → List ℕ → Type 0
 IsRead None held path = ⊥
-IsRead (Some r) held path = IsOneOf (reads r held) path
+IsRead (Some r) held path = IsReadIn r held path
 
 -- the output that the words and the held bytes give
 abbrev pub IsOutput : Option Run → List (List ℕ × List ℕ) → List ℕ × List ℕ → Type 0
 IsOutput None held output = ⊥
-IsOutput (Some r) held output = expected r held ≡ Ok output
+IsOutput (Some r) held output = IsExpected r held (Ok output)
 
--- The status is the first refusal, or Done where there is none; or a fault at a path that the run reads up to there;
--- or a fault at the output, where there is no refusal; or want of memory.
+-- the first refusal of the words and the held bytes
+abbrev pub IsRefused : Option Run → List (List ℕ × List ℕ) → Status → Type 0
+IsRefused None held status = status ≡ st.Usage
+IsRefused (Some r) held status = IsExpected r held (Err status)
+
+-- The answer of a run is what the held bytes give, or tells of a fault at a path that is read, or of want of memory.
+abbrev pub MeetsRun : {X : Type 0} → (X → List ℕ × List ℕ) → Run → List (List ℕ × List ℕ) → Result X Status → Type 0
+MeetsRun view r held (Ok x) = IsExpected r held (Ok (view x))
+MeetsRun view r held (Err st.Memory) = Unit {0}
+MeetsRun view r held (Err (st.ReadFault path)) = IsReadIn r held path
+MeetsRun view r held (Err status) = IsExpected r held (Err status)
+
+-- The status is the first refusal, or Done where there is an output; or a fault at a path that the run reads up to there;
+-- or a fault at the output, where there is one; or want of memory.
 abbrev pub StatusFits : Option Run → List (List ℕ × List ℕ) → Status → Type 0
 StatusFits run held st.Memory = Unit {0}
 StatusFits run held (st.ReadFault path) = IsRead run held path
 StatusFits run held (st.WriteFault path) = (output : List ℕ × List ℕ) × IsOutput run held output × (path ≡ chars output.0)
-StatusFits run held st.Done = first run held ≡ st.Done
-StatusFits run held st.Usage = first run held ≡ st.Usage
-StatusFits run held (st.NoFile path) = first run held ≡ st.NoFile path
-StatusFits run held (st.TooLong path) = first run held ≡ st.TooLong path
-StatusFits run held (st.Unbuilt path) = first run held ≡ st.Unbuilt path
+StatusFits run held st.Done = (output : List ℕ × List ℕ) × IsOutput run held output
+StatusFits run held st.Usage = IsRefused run held st.Usage
+StatusFits run held (st.NoFile path) = IsRefused run held (st.NoFile path)
+StatusFits run held (st.TooLong path) = IsRefused run held (st.TooLong path)
+StatusFits run held (st.NotText path) = IsRefused run held (st.NotText path)
+StatusFits run held (st.Syntax done byte) = IsRefused run held (st.Syntax done byte)
+StatusFits run held (st.Unbuilt path) = IsRefused run held (st.Unbuilt path)
 
 -- The cause of a status, by the counts of the files.
 abbrev pub HasCause : Outside → Outside → Status → Type 0
@@ -100,6 +127,8 @@ HasCause before now (st.WriteFault path) = Faulted before now path
 HasCause before now st.Done = Unit {0}
 HasCause before now st.Usage = Unit {0}
 HasCause before now (st.TooLong path) = Unit {0}
+HasCause before now (st.NotText path) = Unit {0}
+HasCause before now (st.Syntax done byte) = Unit {0}
 HasCause before now (st.Unbuilt path) = Unit {0}
 HasCause before now st.Memory = Unit {0}
 
@@ -108,6 +137,8 @@ abbrev pub IsClosed : Bool → Status → Type 0
 IsClosed creating (st.WriteFault path) = Unit {0}
 IsClosed creating (st.NoFile path) = creating ≡ false
 IsClosed creating (st.TooLong path) = creating ≡ false
+IsClosed creating (st.NotText path) = creating ≡ false
+IsClosed creating (st.Syntax done byte) = creating ≡ false
 IsClosed creating (st.ReadFault path) = creating ≡ false
 IsClosed creating (st.Unbuilt path) = creating ≡ false
 IsClosed creating st.Usage = creating ≡ false
@@ -134,6 +165,8 @@ Writes run before now (st.WriteFault path) = (file : List ℕ × List ℕ) × Is
 Writes run before now st.Usage = now.written ≡ before.written
 Writes run before now (st.NoFile path) = now.written ≡ before.written
 Writes run before now (st.TooLong path) = now.written ≡ before.written
+Writes run before now (st.NotText path) = now.written ≡ before.written
+Writes run before now (st.Syntax done byte) = now.written ≡ before.written
 Writes run before now (st.ReadFault path) = now.written ≡ before.written
 Writes run before now (st.Unbuilt path) = now.written ≡ before.written
 Writes run before now st.Memory = now.written ≡ before.written
@@ -145,6 +178,8 @@ IsWritten file before now (st.WriteFault path) = (path ≡ chars file.0) × Faul
 IsWritten file before now st.Usage = ⊥
 IsWritten file before now (st.NoFile path) = ⊥
 IsWritten file before now (st.TooLong path) = ⊥
+IsWritten file before now (st.NotText path) = ⊥
+IsWritten file before now (st.Syntax done byte) = ⊥
 IsWritten file before now (st.ReadFault path) = ⊥
 IsWritten file before now (st.Unbuilt path) = ⊥
 IsWritten file before now st.Memory = ⊥

@@ -6,8 +6,6 @@ pub mod Meant
 pub mod OutputView
 pub mod Refusal
 pub mod RunView
-pub mod Statement
-pub mod StatementParts
-pub mod StatementSpelling
+pub mod ScriptFile
 pub mod StatusLine
 pub mod StructuresFile

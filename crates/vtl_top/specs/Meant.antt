@@ -1,32 +1,38 @@
 -- The output of a run in the words of the language: what the script means over its input.
-use Rattle.std.specs.Prelude.{◌≡◌, ℕ, List, [], ◌∷◌, Ok}
+use Rattle.std.specs.Prelude.{◌≡◌, ℕ, List, [], ◌∷◌, Ok, Some, IsUtf8}
 use Rattle.vtl_cell.specs.Row.{Row}
+use Rattle.vtl_syntax.specs.Trees.{ScriptTree}
+use Rattle.vtl_parser.specs.Parsed.{IsScript}
+use Rattle.vtl_tree.specs.Built.{Filter, filter_in}
 use Rattle.vtl_tree.specs.Meaning.{DataSet, Statement, named, filtered, meaning}
 use Rattle.vtl_tree.specs.Structure.{columns_of}
 use Rattle.vtl_tree.specs.declared.structure.Structure.{Structure}
 use Rattle.vtl_top.specs.Condition.{condition_in}
 use Rattle.vtl_csv.specs.CsvText.{csv_of}
-use Rattle.vtl_top.specs.Expected.{Run, csv_limit, file_in, input_path, script_limit, stage, structures_limit}
+use Rattle.vtl_top.specs.Expected.{Run, content, csv_limit, file_in, input_path, script_limit, stage, structures_limit}
 use Rattle.vtl_csv.specs.Points.{points_of}
-use Rattle.vtl_top.specs.Statement.{statement_of}
 use Rattle.vtl_top.specs.StructuresFile.{structure_of}
-use Rattle.vtl_top.specs.declared.statement.Statement.{Statement as Filter}
 
--- the script of the one statement `R <- D [filter C > L];`, over the structure of D
+-- the script of the one statement `R <- D [filter C op L];`, over the structure of D
 abbrev pub script_of : Filter → Structure → List Statement
-script_of s structure = record { result = s.result; node = filtered (named s.operand structure) (condition_in (columns_of structure) s) } ∷ []
+script_of s structure = record { result = s.result; node = filtered (named s.operand structure) (condition_in (columns_of structure) s.condition) } ∷ []
 
 abbrev pub data_set : Structure → List Row → DataSet
 data_set structure points = record { structure = structure; points = points }
 
--- The script, the structure and the points are those of the files; the script means one data set over them; and the
+-- The script's tree, the structure and the points are those of the files; the script is built, and means one data set over them; and the
 -- file is named after its result and holds its CSV text.
 pub record IsMeant (r : Run) (held : List (List ℕ × List ℕ)) (file : List ℕ × List ℕ) : Type 0 where
+  pub text : List ℕ
+  pub tree : ScriptTree
   pub statement : Filter
   pub structure : Structure
   pub points : List Row
   pub kept : List Row
-  pub script : stage r.script script_limit statement_of held ≡ Ok statement
+  pub script : content r.script script_limit held ≡ Ok text
+  pub utf8 : IsUtf8 text
+  pub parsed : IsScript text tree
+  pub built : filter_in tree ≡ Some statement
   pub declared : stage r.structures structures_limit (structure_of statement) held ≡ Ok structure
   pub input : stage (input_path r statement) csv_limit (points_of r.settings structure) held ≡ Ok points
   pub means : meaning r.settings (script_of statement structure) ((statement.operand, data_set structure points) ∷ []) ≡ Ok ((statement.result, data_set structure kept) ∷ [])

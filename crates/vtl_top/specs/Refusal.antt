@@ -3,6 +3,8 @@ use Rattle.std.specs.Prelude.{◌≡◌, List, ℕ, chars, Option, Some, None, R
 use Rattle.std.specs.declared.alloc.AllocError.{AllocError}
 use Rattle.vtl_files.specs.declared.read_err.ReadErr.{ReadErr}
 use Rattle.vtl_files.specs.declared.read_err.ReadErr.TheVariants as e
+use Rattle.vtl_parser.specs.declared.parsing.ParseErr.{ParseErr}
+use Rattle.vtl_parser.specs.declared.parsing.ParseErr.TheVariants as parse
 use Rattle.vtl_top.specs.declared.status.Status.{Status}
 use Rattle.vtl_top.specs.declared.status.Status.TheVariants as st
 
@@ -19,3 +21,13 @@ abbrev pub IsFormed : {A : Type 0} → List ℕ → Result (Option A) AllocError
 IsFormed path read (Ok x) = read ≡ Ok (Some x)
 IsFormed path read (Err st.Memory) = Unit {0}
 IsFormed path read (Err status) = (read ≡ Ok None) × (status ≡ st.Unbuilt (chars path))
+
+-- this status, or want of memory
+abbrev pub IsOrMemory : Status → Status → Type 0
+IsOrMemory wanted st.Memory = Unit {0}
+IsOrMemory wanted status = status ≡ wanted
+
+-- the fault of the text, or want of memory
+abbrev pub IsUnparsed : ParseErr → Status → Type 0
+IsUnparsed (parse.Syntax done byte) status = status ≡ st.Syntax done byte
+IsUnparsed parse.OutOfMemory status = status ≡ st.Memory

@@ -8,6 +8,8 @@ use Rattle.vtl_lists.specs.Each.{each_some}
 use Rattle.vtl_text.specs.Words.{is_name}
 use Rattle.vtl_cell.specs.declared.kind.Kind.{Kind}
 use Rattle.vtl_cell.specs.declared.kind.Kind.TheVariants as k
+use Rattle.vtl_cell.specs.Kinds.{kind_of}
+use Rattle.vtl_tree.specs.Built.{Compared, Filter}
 use Rattle.vtl_tree.specs.declared.structure.Role.{Role}
 use Rattle.vtl_tree.specs.declared.structure.Role.TheVariants as r
 use Rattle.vtl_tree.specs.declared.structure.Component.{Component}
@@ -15,7 +17,6 @@ use Rattle.vtl_tree.specs.declared.structure.Structure.{Structure}
 use Rattle.vtl_tree.specs.Structure.{names_of, same_name, same_role}
 use Rattle.vtl_csv.specs.Fields.{is_ascii}
 use Rattle.vtl_csv.specs.PlainText.{plain_lines}
-use Rattle.vtl_top.specs.declared.statement.Statement.{Statement}
 
 -- the most components that a structure may have
 abbrev pub max_components : ℕ
@@ -77,24 +78,30 @@ components_of_records operand (header ∷ rest) = if is_header header && nat_le 
 abbrev pub components_in : List ℕ → List ℕ → Option (List Component)
 components_in operand text = if plain_lines text then components_of_records operand (records default_config (strip_bom text)) else None
 
-abbrev pub is_int : Kind → Bool
-is_int k.Int = true
-is_int _ = false
-
 abbrev pub is_identifier : Component → Bool
 is_identifier x = same_role x.role r.Identifier
 
--- the component of this name, of whole numbers
-abbrev pub is_int_named : List ℕ → Component → Bool
-is_int_named name x = same_name x.name name && is_int x.kind
+abbrev pub same_kind : Kind → Kind → Bool
+same_kind k.Null k.Null = true
+same_kind k.Bool k.Bool = true
+same_kind k.Int k.Int = true
+same_kind k.Num k.Num = true
+same_kind k.Text k.Text = true
+same_kind k.Day k.Day = true
+same_kind k.Period k.Period = true
+same_kind _ _ = false
 
--- distinct names, some identifier, and whole numbers by the name that the statement compares
-abbrev pub is_declared : List ℕ → List Component → Bool
-is_declared compared cs = all_apart same_name (names_of cs) && list_any is_identifier cs && list_any (is_int_named compared) cs
+-- the component that the statement compares, which has the kind of the literal
+abbrev pub is_compared : Compared → Component → Bool
+is_compared compared x = same_name x.name compared.component && same_kind x.kind (kind_of compared.literal)
 
-abbrev pub structure_with : List ℕ → List Component → Option Structure
+-- distinct names, some identifier, and the component that the statement compares
+abbrev pub is_declared : Compared → List Component → Bool
+is_declared compared cs = all_apart same_name (names_of cs) && list_any is_identifier cs && list_any (is_compared compared) cs
+
+abbrev pub structure_with : Compared → List Component → Option Structure
 structure_with compared cs = if is_declared compared cs then Some (record { components = cs }) else None
 
 -- the structure that a text gives the statement's data set
-abbrev pub structure_of : Statement → List ℕ → Option Structure
-structure_of statement text = option_and_then (structure_with statement.component) (components_in (encode_utf8_all statement.operand) text)
+abbrev pub structure_of : Filter → List ℕ → Option Structure
+structure_of statement text = option_and_then (structure_with statement.condition) (components_in (encode_utf8_all statement.operand) text)

@@ -1,34 +1,34 @@
 // The condition of the statement, over the columns of its operand.
 ghost use Rattle.std.specs.Prelude.{◌≡◌, IfOk};
+ghost use Rattle.vtl_tree.specs.BuiltView.{compared_view};
 ghost use Rattle.vtl_tree.specs.Shown.{shown};
 ghost use Rattle.vtl_tree.specs.Structure.{same_name};
 ghost use Rattle.vtl_tree.specs.View.{exp_of};
 ghost use Rattle.vtl_top.specs.Condition.{condition_in, place_of};
 
-use crate::statement::Statement;
 use std::alloc::{AllocError, Global};
-use vtl_cell::{Cell, Kind, ScalarOp};
+use vtl_cell::Kind;
 use vtl_csv::column;
 use vtl_text::Txt;
-use vtl_tree::{CompExpr, Component};
+use vtl_tree::{CompExpr, Component, FilterCondition};
 
 /// The condition of the statement over these columns.
 pub fn condition(
     alloc: Global,
     columns: &[&Component],
-    statement: &Statement,
+    compared: FilterCondition<'_>,
 ) -> Result<CompExpr, AllocError>
-    ensures { IfOk result (λ e. exp_of e ≡ condition_in (shown columns.now) statement.now) }
+    ensures { IfOk result (λ e. exp_of e ≡ condition_in (shown columns.now) (compared_view compared.entry)) }
 {
     let mut args = Vec::new(alloc);
     args.push(CompExpr::Column {
-        place: place(columns, &statement.component),
-        name: statement.component.share()?,
-        kind: Kind::Int,
+        place: place(columns, compared.component),
+        name: compared.component.share()?,
+        kind: compared.literal.kind(),
     })?;
-    args.push(CompExpr::Const(Cell::Int(statement.bound)))?;
+    args.push(CompExpr::Const(compared.literal.cell()?))?;
     Ok(CompExpr::Apply {
-        op: ScalarOp::Greater,
+        op: compared.op.scalar(),
         kind: Kind::Bool,
         args,
     })

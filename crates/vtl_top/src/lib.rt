@@ -1,5 +1,5 @@
-//! The top of the program: the call that carries out the words of a command line, with its statuses. The readers of
-//! the script and of the structures file are private parts of it so far.
+//! The top of the program: the call that carries out the words of a command line, with its statuses. The reader of
+//! the structures file is a private part of it so far.
 #![tactic(auto)]
 
 mod condition;
@@ -7,7 +7,6 @@ mod filtering;
 mod laws;
 mod output;
 mod run;
-mod statement;
 mod status;
 mod structures;
 #[cfg(test)]
@@ -15,8 +14,7 @@ mod tests;
 mod top;
 mod words;
 
-pub use laws::output_is_meant;
-pub use statement::{Statement, statements_are_spelled};
+pub use laws::{expected_is_determined, output_is_meant};
 pub use status::{Status, tell};
 pub use structures::read_structures_are_structures;
 pub use top::vtl;

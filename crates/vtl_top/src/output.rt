@@ -1,6 +1,7 @@
 // The output of a run, and how it is written.
 ghost use Rattle.std.specs.Prelude.{◌≡◌, ◌≤◌, false, IfOk, OnOk, OnErr, string_bytes};
 ghost use Rattle.vtl_files.specs.Outside.{FaultAt};
+ghost use Rattle.vtl_tree.specs.BuiltView.{compared_view};
 ghost use Rattle.vtl_tree.specs.Clauses.{kept};
 ghost use Rattle.vtl_tree.specs.Rows.{rows_of};
 ghost use Rattle.vtl_tree.specs.Shown.{shown};
@@ -10,7 +11,6 @@ ghost use Rattle.vtl_csv.specs.CsvText.{csv_rows};
 
 use crate::condition::condition;
 use crate::filtering::filter;
-use crate::statement::Statement;
 use std::alloc::{AllocError, Global};
 use vtl_cell::Cell;
 use vtl_csv::csv_text;
@@ -18,7 +18,7 @@ use vtl_decimal::Profile;
 use vtl_files::{Failed, Files, write_all};
 use vtl_scalar::ScalarErr;
 use vtl_text::Txt;
-use vtl_tree::Component;
+use vtl_tree::{Component, FilterCondition};
 
 /// What a run writes. All of it is made before anything is created.
 #[derive(Drop)]
@@ -35,13 +35,13 @@ pub struct Output {
 pub fn output_text(
     alloc: Global,
     columns: &[&Component],
-    statement: &Statement,
+    compared: FilterCondition<'_>,
     rows: Vec<Vec<Cell>>,
     profile: &Profile,
 ) -> Result<Vec<u8>, AllocError>
-    ensures { IfOk result (λ text. text.items ≡ csv_rows profile.now (shown columns.now) (kept profile.now (condition_in (shown columns.now) statement.now) (rows_of rows.items))) }
+    ensures { IfOk result (λ text. text.items ≡ csv_rows profile.now (shown columns.now) (kept profile.now (condition_in (shown columns.now) (compared_view compared.entry)) (rows_of rows.items))) }
 {
-    let condition = condition(alloc, columns, statement)?;
+    let condition = condition(alloc, columns, compared)?;
     match filter(alloc, rows, &condition, profile) {
         Ok(kept) => csv_text(alloc, columns, &kept, profile),
         Err(error) => Err(want_of_memory(error)),

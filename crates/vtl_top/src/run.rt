@@ -1,7 +1,9 @@
 // The run of a script, from the paths of its files to the text of its output.
-ghost use Rattle.std.specs.Prelude.{◌≡◌, ◌∷◌, [], IfOk, IfErr, IfSome, string_bytes, option_map};
+ghost use Rattle.std.specs.Prelude.{◌≡◌, ◌∷◌, [], IfOk, IfErr, IfSome, chars, string_bytes, option_map};
 ghost use Rattle.vtl_lists.specs.Sorting.{le_by, sorted_by};
 ghost use Rattle.vtl_cell.specs.Row.{row_cmp};
+ghost use Rattle.vtl_syntax.specs.View.{script_tree};
+ghost use Rattle.vtl_tree.specs.BuiltView.{filter_view};
 ghost use Rattle.vtl_tree.specs.Clauses.{kept};
 ghost use Rattle.vtl_tree.specs.Rows.{rows_of};
 ghost use Rattle.vtl_tree.specs.Shown.{shown};
@@ -10,25 +12,27 @@ ghost use Rattle.vtl_top.specs.Condition.{condition_in};
 ghost use Rattle.vtl_csv.specs.CsvText.{csv_rows};
 ghost use Rattle.vtl_top.specs.OutputView.{NamesPath, output_view};
 ghost use Rattle.vtl_csv.specs.Points.{points_in};
-ghost use Rattle.vtl_top.specs.Answered.{Meets, OnlyReads, Refuses, told};
-ghost use Rattle.vtl_top.specs.Expected.{content, csv_limit, expected, file_in, from_columns, from_input, from_structures, input_path, reads, reads_from_structures, script_limit, stage, structures_limit};
-ghost use Rattle.vtl_top.specs.Refusal.{IsFormed, IsRefusal};
+ghost use Rattle.vtl_top.specs.Answered.{Meets, MeetsRun, MeetsText, OnlyReads, Refuses, told};
+ghost use Rattle.vtl_top.specs.Expected.{content, csv_limit, file_in, from_columns, from_input, from_parsed, from_structures, input_path, reads_from_parsed, reads_from_structures, stage, structures_limit};
+ghost use Rattle.vtl_top.specs.Refusal.{IsFormed, IsOrMemory, IsRefusal, IsUnparsed};
 ghost use Rattle.vtl_top.specs.RunView.{run_view};
-ghost use Rattle.vtl_top.specs.Statement.{statement_of};
+ghost use Rattle.vtl_top.specs.ScriptFile.{whole};
 ghost use Rattle.vtl_top.specs.StructuresFile.{structure_of};
 
 use crate::output::{Output, output_text};
-use crate::statement::{Statement, read_statement};
 use crate::status::Status;
 use crate::structures::structure;
 use crate::words::Run;
 use std::alloc::{AllocError, Global};
+use std::str;
 use vtl_cell::Cell;
 use vtl_csv::points;
 use vtl_decimal::Profile;
 use vtl_files::{Files, ReadErr, read_all};
+use vtl_parser::{ParseErr, parse};
+use vtl_syntax::Script;
 use vtl_text::Txt;
-use vtl_tree::{Component, Structure};
+use vtl_tree::{Component, FilterStatement, Structure, filter_statement};
 
 const SCRIPT_LIMIT: usize = 65_536;
 
@@ -102,16 +106,34 @@ fn formed<T: Drop>(
     }
 }
 
-// The statement of the script.
-fn read_script<F: Files>(alloc: Global, files: &mut F, path: &str) -> Result<Statement, Status>
-    ensures reads { OnlyReads (told F.held F.written F.faults F.absences F.misuses F.creating F.place F.mark files.old)
-        (told F.held F.written F.faults F.absences F.misuses F.creating F.place F.mark files.new) }
-    ensures cause { IfErr result (Refuses (told F.held F.written F.faults F.absences F.misuses F.creating F.place F.mark files.old)
-        (told F.held F.written F.faults F.absences F.misuses F.creating F.place F.mark files.new)) }
-    ensures meets { IfSome (F.held files.old) (λ held. Meets (λ s. s) (stage path.now script_limit statement_of held) (path.now ∷ []) result) }
+// The status of a file of a form that is not built.
+fn unbuilt(alloc: Global, path: &str) -> Status
+    ensures { IsOrMemory (Status.Unbuilt (chars path.now)) result }
 {
-    let bytes = read_file(alloc, files, path, SCRIPT_LIMIT)?;
-    formed(alloc, path, read_statement(alloc, &bytes))
+    match Txt::new(alloc, path) {
+        Ok(path) => Status::Unbuilt(path),
+        Err(_) => Status::Memory,
+    }
+}
+
+// The status of a file that is not UTF-8.
+fn not_text(alloc: Global, path: &str) -> Status
+    ensures { IsOrMemory (Status.NotText (chars path.now)) result }
+{
+    match Txt::new(alloc, path) {
+        Ok(path) => Status::NotText(path),
+        Err(_) => Status::Memory,
+    }
+}
+
+// The status of a script file whose text is no script.
+fn unparsed(error: ParseErr) -> Status
+    ensures { IsUnparsed error result }
+{
+    match error {
+        ParseErr::Syntax { done, byte } => Status::Syntax { done, byte },
+        ParseErr::OutOfMemory => Status::Memory,
+    }
 }
 
 // The structure of the statement's operand.
@@ -119,13 +141,13 @@ fn read_structure<F: Files>(
     alloc: Global,
     files: &mut F,
     path: &str,
-    statement: &Statement,
+    statement: &FilterStatement<'_>,
 ) -> Result<Structure, Status>
     ensures reads { OnlyReads (told F.held F.written F.faults F.absences F.misuses F.creating F.place F.mark files.old)
         (told F.held F.written F.faults F.absences F.misuses F.creating F.place F.mark files.new) }
     ensures cause { IfErr result (Refuses (told F.held F.written F.faults F.absences F.misuses F.creating F.place F.mark files.old)
         (told F.held F.written F.faults F.absences F.misuses F.creating F.place F.mark files.new)) }
-    ensures meets { IfSome (F.held files.old) (λ held. Meets (λ s. s) (stage path.now structures_limit (structure_of statement.now) held) (path.now ∷ []) result) }
+    ensures meets { IfSome (F.held files.old) (λ held. Meets (λ s. s) (stage path.now structures_limit (structure_of (filter_view statement.now)) held) (path.now ∷ []) result) }
 {
     let bytes = read_file(alloc, files, path, STRUCTURES_LIMIT)?;
     formed(alloc, path, structure(alloc, statement, &bytes))
@@ -162,13 +184,13 @@ fn read_points<F: Files>(
 fn make_output(
     alloc: Global,
     folder: &str,
-    statement: &Statement,
+    statement: &FilterStatement<'_>,
     bytes: Vec<u8>,
 ) -> Result<Output, AllocError>
-    ensures view { IfOk result (λ o. output_view o ≡ (file_in folder.now statement.now.result, bytes.items)) }
+    ensures view { IfOk result (λ o. output_view o ≡ (file_in folder.now (filter_view statement.now).result, bytes.items)) }
     ensures named { IfOk result NamesPath }
 {
-    let path = file_in(alloc, folder, &statement.result)?;
+    let path = file_in(alloc, folder, statement.result)?;
     let named = Txt::new(alloc, path.as_str())?;
     Ok(Output { path, named, bytes })
 }
@@ -178,13 +200,13 @@ fn output_from(
     alloc: Global,
     columns: &[&Component],
     run: Run,
-    statement: &Statement,
+    statement: &FilterStatement<'_>,
     rows: Vec<Vec<Cell>>,
 ) -> Result<Output, AllocError>
-    ensures view { IfOk result (λ o. output_view o ≡ (file_in (run_view run.entry).output statement.now.result, csv_rows (run_view run.entry).settings (shown columns.now) (kept (run_view run.entry).settings (condition_in (shown columns.now) statement.now) (rows_of rows.items)))) }
+    ensures view { IfOk result (λ o. output_view o ≡ (file_in (run_view run.entry).output (filter_view statement.now).result, csv_rows (run_view run.entry).settings (shown columns.now) (kept (run_view run.entry).settings (condition_in (shown columns.now) (filter_view statement.now).condition) (rows_of rows.items)))) }
     ensures named { IfOk result NamesPath }
 {
-    let bytes = output_text(alloc, columns, statement, rows, run.profile)?;
+    let bytes = output_text(alloc, columns, statement.condition, rows, run.profile)?;
     make_output(alloc, run.output, statement, bytes)
 }
 
@@ -200,7 +222,7 @@ fn read_columns<F: Files>(
     alloc: Global,
     files: &mut F,
     run: Run,
-    statement: &Statement,
+    statement: &FilterStatement<'_>,
     columns: &[&Component],
     keys: usize,
 ) -> Result<Output, Status>
@@ -208,14 +230,14 @@ fn read_columns<F: Files>(
         (told F.held F.written F.faults F.absences F.misuses F.creating F.place F.mark files.new) }
     ensures cause { IfErr result (Refuses (told F.held F.written F.faults F.absences F.misuses F.creating F.place F.mark files.old)
         (told F.held F.written F.faults F.absences F.misuses F.creating F.place F.mark files.new)) }
-    ensures meets { IfSome (F.held files.old) (λ held. Meets output_view (from_columns (run_view run.entry) statement.now (shown columns.now) keys held) (input_path (run_view run.entry) statement.now ∷ []) result) }
+    ensures meets { IfSome (F.held files.old) (λ held. Meets output_view (from_columns (run_view run.entry) (filter_view statement.now) (shown columns.now) keys held) (input_path (run_view run.entry) (filter_view statement.now) ∷ []) result) }
     ensures named { IfOk result NamesPath }
 {
     let rows = read_points(
         alloc,
         files,
         run.input,
-        &statement.operand,
+        statement.operand,
         columns,
         keys,
         run.profile,
@@ -229,14 +251,14 @@ fn read_input<F: Files>(
     alloc: Global,
     files: &mut F,
     run: Run,
-    statement: &Statement,
+    statement: &FilterStatement<'_>,
     structure: &Structure,
 ) -> Result<Output, Status>
     ensures reads { OnlyReads (told F.held F.written F.faults F.absences F.misuses F.creating F.place F.mark files.old)
         (told F.held F.written F.faults F.absences F.misuses F.creating F.place F.mark files.new) }
     ensures cause { IfErr result (Refuses (told F.held F.written F.faults F.absences F.misuses F.creating F.place F.mark files.old)
         (told F.held F.written F.faults F.absences F.misuses F.creating F.place F.mark files.new)) }
-    ensures meets { IfSome (F.held files.old) (λ held. Meets output_view (from_input (run_view run.entry) statement.now structure.now held) (input_path (run_view run.entry) statement.now ∷ []) result) }
+    ensures meets { IfSome (F.held files.old) (λ held. Meets output_view (from_input (run_view run.entry) (filter_view statement.now) structure.now held) (input_path (run_view run.entry) (filter_view statement.now) ∷ []) result) }
     ensures named { IfOk result NamesPath }
 {
     let columns = structure.columns(alloc)?;
@@ -249,17 +271,77 @@ fn read_declared<F: Files>(
     alloc: Global,
     files: &mut F,
     run: Run,
-    statement: &Statement,
+    statement: &FilterStatement<'_>,
 ) -> Result<Output, Status>
     ensures reads { OnlyReads (told F.held F.written F.faults F.absences F.misuses F.creating F.place F.mark files.old)
         (told F.held F.written F.faults F.absences F.misuses F.creating F.place F.mark files.new) }
     ensures cause { IfErr result (Refuses (told F.held F.written F.faults F.absences F.misuses F.creating F.place F.mark files.old)
         (told F.held F.written F.faults F.absences F.misuses F.creating F.place F.mark files.new)) }
-    ensures meets { IfSome (F.held files.old) (λ held. Meets output_view (from_structures (run_view run.entry) statement.now held) (reads_from_structures (run_view run.entry) statement.now held) result) }
+    ensures meets { IfSome (F.held files.old) (λ held. Meets output_view (from_structures (run_view run.entry) (filter_view statement.now) held) (reads_from_structures (run_view run.entry) (filter_view statement.now) held) result) }
     ensures named { IfOk result NamesPath }
 {
     let structure = read_structure(alloc, files, run.structures, statement)?;
     read_input(alloc, files, run, statement, &structure)
+}
+
+// The script's statement is that of its tree; then the structures file and the input, and the output that they give.
+fn read_built<F: Files>(
+    alloc: Global,
+    files: &mut F,
+    run: Run,
+    script: &Script,
+) -> Result<Output, Status>
+    ensures reads { OnlyReads (told F.held F.written F.faults F.absences F.misuses F.creating F.place F.mark files.old)
+        (told F.held F.written F.faults F.absences F.misuses F.creating F.place F.mark files.new) }
+    ensures cause { IfErr result (Refuses (told F.held F.written F.faults F.absences F.misuses F.creating F.place F.mark files.old)
+        (told F.held F.written F.faults F.absences F.misuses F.creating F.place F.mark files.new)) }
+    ensures meets { IfSome (F.held files.old) (λ held. Meets output_view (from_parsed (whole (script_tree script.now)) (run_view run.entry) held) (reads_from_parsed (whole (script_tree script.now)) (run_view run.entry) held) result) }
+    ensures named { IfOk result NamesPath }
+{
+    match filter_statement(script) {
+        Some(statement) => read_declared(alloc, files, run, &statement),
+        None => Err(unbuilt(alloc, run.script)),
+    }
+}
+
+// The script's text, and the output that it and the other files give.
+fn read_parsed<F: Files>(
+    alloc: Global,
+    files: &mut F,
+    run: Run,
+    text: &str,
+) -> Result<Output, Status>
+    ensures reads { OnlyReads (told F.held F.written F.faults F.absences F.misuses F.creating F.place F.mark files.old)
+        (told F.held F.written F.faults F.absences F.misuses F.creating F.place F.mark files.new) }
+    ensures cause { IfErr result (Refuses (told F.held F.written F.faults F.absences F.misuses F.creating F.place F.mark files.old)
+        (told F.held F.written F.faults F.absences F.misuses F.creating F.place F.mark files.new)) }
+    ensures meets { IfSome (F.held files.old) (λ held. MeetsText output_view (run_view run.entry) held text.now result) }
+    ensures named { IfOk result NamesPath }
+{
+    match parse(alloc, text) {
+        Ok(script) => read_built(alloc, files, run, &script),
+        Err(error) => Err(unparsed(error)),
+    }
+}
+
+// The bytes of the script, and the output that they and the other files give.
+fn read_script<F: Files>(
+    alloc: Global,
+    files: &mut F,
+    run: Run,
+    bytes: &[u8],
+) -> Result<Output, Status>
+    ensures reads { OnlyReads (told F.held F.written F.faults F.absences F.misuses F.creating F.place F.mark files.old)
+        (told F.held F.written F.faults F.absences F.misuses F.creating F.place F.mark files.new) }
+    ensures cause { IfErr result (Refuses (told F.held F.written F.faults F.absences F.misuses F.creating F.place F.mark files.old)
+        (told F.held F.written F.faults F.absences F.misuses F.creating F.place F.mark files.new)) }
+    ensures meets { IfSome (F.held files.old) (λ held. MeetsText output_view (run_view run.entry) held bytes.now result) }
+    ensures named { IfOk result NamesPath }
+{
+    match str::from_utf8(bytes) {
+        Ok(text) => read_parsed(alloc, files, run, text),
+        Err(_) => Err(not_text(alloc, run.script)),
+    }
 }
 
 /// Reads the files of a run, and makes its output: nothing is created. The answer is the output, or the first refusal
@@ -269,9 +351,9 @@ pub fn prepare<F: Files>(alloc: Global, files: &mut F, run: Run) -> Result<Outpu
         (told F.held F.written F.faults F.absences F.misuses F.creating F.place F.mark files.new) }
     ensures cause { IfErr result (Refuses (told F.held F.written F.faults F.absences F.misuses F.creating F.place F.mark files.old)
         (told F.held F.written F.faults F.absences F.misuses F.creating F.place F.mark files.new)) }
-    ensures meets { IfSome (F.held files.old) (λ held. Meets output_view (expected (run_view run.entry) held) (reads (run_view run.entry) held) result) }
+    ensures meets { IfSome (F.held files.old) (λ held. MeetsRun output_view (run_view run.entry) held result) }
     ensures named { IfOk result NamesPath }
 {
-    let statement = read_script(alloc, files, run.script)?;
-    read_declared(alloc, files, run, &statement)
+    let bytes = read_file(alloc, files, run.script, SCRIPT_LIMIT)?;
+    read_script(alloc, files, run, &bytes)
 }

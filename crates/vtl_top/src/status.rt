@@ -1,9 +1,10 @@
 // What the program answers, with its code and its line.
-ghost use Rattle.std.specs.Prelude.{◌≡◌, ◌≤◌, ◌≢◌, ◌++◌, OnErr, OnOk, codes, encode_utf8_all};
+ghost use Rattle.std.specs.Prelude.{◌≡◌, ◌≤◌, ◌≢◌, ◌++◌, OnErr, OnOk, codes, decimal, encode_utf8_all};
 ghost use Rattle.vtl_files.specs.Outside.{Rose, TakesAll};
 ghost use Rattle.vtl_files.specs.Whole.{TakesFront};
 ghost use Rattle.vtl_top.specs.StatusLine.{code_of, lead_of, line_of, path_of};
 
+use itoa::Buffer;
 use std::alloc::AllocError;
 use vtl_files::{Failed, Sink, sink_all};
 use vtl_text::Txt;
@@ -15,6 +16,15 @@ pub enum Status {
     Done,
     /// The words have none of the forms.
     Usage,
+    /// The script is none: so many statements stand at its front, and what follows them starts at the byte, from 0.
+    Syntax {
+        /// How many statements stand at the front.
+        done: usize,
+        /// Where what follows them starts.
+        byte: usize,
+    },
+    /// The file at the path is not text in UTF-8.
+    NotText(Txt),
     /// There is no file at the path.
     NoFile(Txt),
     /// The file at the path has more bytes than its limit.
@@ -30,13 +40,14 @@ pub enum Status {
 }
 
 impl Status {
-    /// The exit code: 0 done, 1 usage, 4 no file or too long, 6 a fault of reading or writing, 7 memory, 8 not built.
+    /// The exit code: 0 done, 1 usage, 2 no script or no text, 4 no file or too long, 6 a fault of reading or writing, 7 memory, 8 not built.
     pub fn code(&self) -> u8
         ensures { result ≡ code_of self.now }
     {
         match self {
             Status::Done => 0,
             Status::Usage => 1,
+            Status::Syntax { .. } | Status::NotText(_) => 2,
             Status::NoFile(_) | Status::TooLong(_) => 4,
             Status::ReadFault(_) | Status::WriteFault(_) => 6,
             Status::Memory => 7,
@@ -50,6 +61,8 @@ impl Status {
         match self {
             Status::Done => "",
             Status::Usage => "error: usage",
+            Status::Syntax { .. } => "error: syntax after ",
+            Status::NotText(_) => "error: not text: ",
             Status::NoFile(_) => "error: no file: ",
             Status::TooLong(_) => "error: too long: ",
             Status::ReadFault(_) => "error: read fault: ",
@@ -63,8 +76,9 @@ impl Status {
         ensures { result.now ≡ encode_utf8_all (path_of self.now) }
     {
         match self {
-            Status::Done | Status::Usage | Status::Memory => "",
-            Status::NoFile(path)
+            Status::Done | Status::Usage | Status::Syntax { .. } | Status::Memory => "",
+            Status::NotText(path)
+            | Status::NoFile(path)
             | Status::TooLong(path)
             | Status::ReadFault(path)
             | Status::WriteFault(path)
@@ -91,7 +105,43 @@ pub fn tell<O: Sink>(status: &Status, out: &mut O)
     ensures whole { ¬ Rose (O.faults out.old) (O.faults out.new) → TakesAll (O.taken out.old) (O.taken out.new) (line_of status.now) }
     ensures front { TakesFront (O.taken out.old) (O.taken out.new) (line_of status.now) }
 {
-    let _ = write_line(status.lead(), status.path(), out);
+    let _ = write_status(status, out);
+}
+
+fn write_status<O: Sink>(status: &Status, out: &mut O) -> Result<(), Failed>
+    ensures faults { O.faults out.old ≤ O.faults out.new }
+    ensures failed { OnErr result (Rose (O.faults out.old) (O.faults out.new)) }
+    ensures whole { OnOk result (TakesAll (O.taken out.old) (O.taken out.new) (line_of status.now)) }
+    ensures front { OnErr result (TakesFront (O.taken out.old) (O.taken out.new) (line_of status.now)) }
+{
+    match status {
+        Status::Syntax { done, byte } => write_fault(status.lead(), *done, *byte, out),
+        _ => write_line(status.lead(), status.path(), out),
+    }
+}
+
+// A line of a lead and two numbers.
+fn write_fault<O: Sink>(lead: &str, done: usize, byte: usize, out: &mut O) -> Result<(), Failed>
+    ensures faults { O.faults out.old ≤ O.faults out.new }
+    ensures failed { OnErr result (Rose (O.faults out.old) (O.faults out.new)) }
+    ensures whole { OnOk result (TakesAll (O.taken out.old) (O.taken out.new) (lead.now ++ ((decimal done ++ (codes " statements at byte " ++ decimal byte)) ++ codes "\n"))) }
+    ensures front { OnErr result (TakesFront (O.taken out.old) (O.taken out.new) (lead.now ++ ((decimal done ++ (codes " statements at byte " ++ decimal byte)) ++ codes "\n"))) }
+{
+    let mut digits = Buffer::new();
+    write_text(lead, digits.format(done), out)?;
+    let mut digits = Buffer::new();
+    write_line(" statements at byte ", digits.format(byte), out)
+}
+
+// Two pieces of a line.
+fn write_text<O: Sink>(lead: &str, said: &str, out: &mut O) -> Result<(), Failed>
+    ensures faults { O.faults out.old ≤ O.faults out.new }
+    ensures failed { OnErr result (Rose (O.faults out.old) (O.faults out.new)) }
+    ensures whole { OnOk result (TakesAll (O.taken out.old) (O.taken out.new) (lead.now ++ said.now)) }
+    ensures front { OnErr result (TakesFront (O.taken out.old) (O.taken out.new) (lead.now ++ said.now)) }
+{
+    sink_all(out, lead.as_bytes())?;
+    sink_all(out, said.as_bytes())
 }
 
 fn write_line<O: Sink>(lead: &str, path: &str, out: &mut O) -> Result<(), Failed>

@@ -6,18 +6,18 @@ ghost use Rattle.vtl_lists.specs.Apart.{all_apart};
 ghost use Rattle.vtl_lists.specs.Each.{each_some};
 ghost use Rattle.vtl_tree.specs.Structure.{IsStructure, key_width, names_of, same_name};
 ghost use Rattle.vtl_tree.specs.declared.structure.Structure.{Structure};
-ghost use Rattle.vtl_top.specs.declared.statement.Statement.{Statement};
+ghost use Rattle.vtl_tree.specs.Built.{Filter};
+ghost use Rattle.vtl_tree.specs.BuiltView.{compared_view, filter_view};
 ghost use Rattle.vtl_top.specs.DeclarationFields.{declaration_fields};
-ghost use Rattle.vtl_top.specs.StructuresFile.{component_of, components_in, declaration_of, declared_by, is_declared, is_header, is_heading, is_identifier, is_int, is_int_named, max_components, measure_kind, name_in, role_and_kind, structure_of};
+ghost use Rattle.vtl_top.specs.StructuresFile.{component_of, components_in, declaration_of, declared_by, is_declared, is_compared, is_header, is_heading, is_identifier, same_kind, max_components, measure_kind, name_in, role_and_kind, structure_of};
 
-use crate::statement::Statement;
 use csv::ByteRecord;
 use std::alloc::{AllocError, Global};
 use std::str;
 use vtl_cell::Kind;
 use vtl_csv::{RecordReader, has_plain_lines};
 use vtl_text::{List, Txt, is_name};
-use vtl_tree::{Component, Role, Structure};
+use vtl_tree::{Component, FilterCondition, FilterStatement, Role, Structure};
 
 // The most components that a structure may have.
 const MAX_COMPONENTS: usize = 64;
@@ -218,11 +218,17 @@ fn names_are_apart(components: &[Component]) -> bool
     true
 }
 
-fn is_int(kind: Kind) -> bool
-    ensures { result ≡ is_int kind }
+fn is_same_kind(a: Kind, b: Kind) -> bool
+    ensures { result ≡ same_kind a b }
 {
-    match kind {
-        Kind::Int => true,
+    match (a, b) {
+        (Kind::Null, Kind::Null) => true,
+        (Kind::Bool, Kind::Bool) => true,
+        (Kind::Int, Kind::Int) => true,
+        (Kind::Num, Kind::Num) => true,
+        (Kind::Text, Kind::Text) => true,
+        (Kind::Day, Kind::Day) => true,
+        (Kind::Period, Kind::Period) => true,
         _ => false,
     }
 }
@@ -247,38 +253,44 @@ fn has_identifier(components: &[Component]) -> bool
     false
 }
 
-// Whether there are whole numbers under this name.
-fn has_int_named(components: &[Component], name: &Txt) -> bool
-    ensures { result ≡ list_any (is_int_named name.now) components.now }
+// Whether it is the component that the statement compares.
+fn is_compared(component: &Component, compared: FilterCondition<'_>) -> bool
+    ensures { result ≡ is_compared (compared_view compared.entry) component.now }
+{
+    component.name == *compared.component && is_same_kind(component.kind, compared.literal.kind())
+}
+
+fn has_compared(components: &[Component], compared: FilterCondition<'_>) -> bool
+    ensures { result ≡ list_any (is_compared (compared_view compared.entry)) components.now }
 {
     for component in components {
-        if component.name == *name && is_int(component.kind) {
+        if is_compared(component, compared) {
             return true;
         }
     }
     false
 }
 
-fn is_declared(components: &[Component], compared: &Txt) -> bool
-    ensures { result ≡ is_declared compared.now components.now }
+fn is_declared(components: &[Component], compared: FilterCondition<'_>) -> bool
+    ensures { result ≡ is_declared (compared_view compared.entry) components.now }
 {
-    names_are_apart(components) && has_identifier(components) && has_int_named(components, compared)
+    names_are_apart(components) && has_identifier(components) && has_compared(components, compared)
 }
 
 /// The structure that a structures file gives the statement's data set: 1 to 64 components with distinct names, at
-/// least one of them an identifier, and whole numbers under the name that the statement compares. None: `text`,
-/// the file's, is not of the form that is read so far. It fails only for want of memory.
+/// least one of them an identifier, and the component that the statement compares, of the kind of its literal. None:
+/// `text`, the file's, is not of the form that is read so far. It fails only for want of memory.
 pub fn structure(
     alloc: Global,
-    statement: &Statement,
+    statement: &FilterStatement<'_>,
     text: &[u8],
 ) -> Result<Option<Structure>, AllocError>
-    ensures { IfOk result (λ o. o ≡ structure_of statement.now text.now) }
+    ensures { IfOk result (λ o. o ≡ structure_of (filter_view statement.now) text.now) }
 {
-    let Some(components) = read_components(alloc, &statement.operand, text)? else {
+    let Some(components) = read_components(alloc, statement.operand, text)? else {
         return Ok(None);
     };
-    if !is_declared(&components, &statement.component) {
+    if !is_declared(&components, statement.condition) {
         return Ok(None);
     }
     Ok(Some(Structure {
@@ -286,24 +298,64 @@ pub fn structure(
     }))
 }
 
-/// A structure that is read is one, with at least one identifier, and has whole numbers under the name that the
-/// statement compares.
+/// A structure that is read is one, with at least one identifier, and has the component that the statement compares, of
+/// the kind of its literal.
 pub fn read_structures_are_structures()
-    ensures structure { (s : Statement) (text : Items ℕ) (t : Structure) → structure_of s text ≡ Some t → IsStructure t }
-    ensures identifier { (s : Statement) (text : Items ℕ) (t : Structure) → structure_of s text ≡ Some t → 1 ≤ key_width t }
-    ensures compared { (s : Statement) (text : Items ℕ) (t : Structure) → structure_of s text ≡ Some t → list_any (is_int_named s.component) t.components ≡ true }
+    ensures structure { (s : Filter) (text : Items ℕ) (t : Structure) → structure_of s text ≡ Some t → IsStructure t }
+    ensures identifier { (s : Filter) (text : Items ℕ) (t : Structure) → structure_of s text ≡ Some t → 1 ≤ key_width t }
+    ensures compared { (s : Filter) (text : Items ℕ) (t : Structure) → structure_of s text ≡ Some t → list_any (is_compared s.condition) t.components ≡ true }
 {}
 
 #[cfg(test)]
 mod tests {
     use super::*;
-    use crate::statement::read_statement;
     use std::test::Fail;
+    use vtl_tree::{CompareOp, FilterLiteral};
+
+    // By the statement `DS_r <- DS_1 [filter NAME > literal];`
+    fn read_for(
+        rt: &HostRuntime,
+        name: &str,
+        literal: FilterLiteral<'_>,
+        text: &str,
+    ) -> Result<Option<Structure>, Fail> {
+        let target = Txt::new(rt.alloc(), "DS_r")?;
+        let operand = Txt::new(rt.alloc(), "DS_1")?;
+        let name = Txt::new(rt.alloc(), name)?;
+        let condition = FilterCondition {
+            component: &name,
+            op: CompareOp::Greater,
+            literal,
+        };
+        let statement = FilterStatement {
+            result: &target,
+            operand: &operand,
+            condition,
+        };
+        Ok(structure(rt.alloc(), &statement, text.as_bytes())?)
+    }
 
     fn read(rt: &HostRuntime, text: &str) -> Result<Option<Structure>, Fail> {
-        let script = b"DS_r <- DS_1 [filter Me_1 > 5];";
-        let statement = read_statement(rt.alloc(), script)?.ok_or("no statement")?;
-        Ok(structure(rt.alloc(), &statement, text.as_bytes())?)
+        read_for(rt, "Me_1", FilterLiteral::Int(5), text)
+    }
+
+    #[test]
+    fn wants_the_kind_of_the_literal(rt: HostRuntime) -> Result<(), Fail> {
+        let text =
+            "dataset,component,role,type,codes\nDS_1,Id_1,identifier,string,\nDS_1,Me_1,measure,integer,\nDS_1,Me_2,measure,string,\n";
+        let some = Txt::new(rt.alloc(), "a")?;
+        for (name, as_integer, as_string) in [
+            ("Id_1", false, true),
+            ("Me_1", true, false),
+            ("Me_2", false, true),
+            ("Me_3", false, false),
+        ] {
+            let integer = read_for(&rt, name, FilterLiteral::Int(5), text)?;
+            let string = read_for(&rt, name, FilterLiteral::Text(&some), text)?;
+            assert_eq!(rt; integer.is_some(), as_integer, "{name}");
+            assert_eq!(rt; string.is_some(), as_string, "{name}");
+        }
+        Ok(())
     }
 
     #[test]

@@ -1,15 +1,15 @@
 // The top call over files in memory.
 use crate::condition::condition;
-use crate::statement::read_statement;
 use crate::structures::structure;
-use crate::{Status, vtl};
+use crate::{Status, tell, vtl};
 use std::alloc::{AllocError, Global};
 use std::process::Abort;
 use std::test::Fail;
 use vtl_csv::{csv_text, points};
 use vtl_decimal::{Profile, Rounding};
 use vtl_files::{FailAt, MemFile, MemFiles, MemSink, Method};
-use vtl_tree::filter_points;
+use vtl_text::Txt;
+use vtl_tree::{CompareOp, FilterCondition, FilterLiteral, FilterStatement, filter_points};
 
 const SCRIPT: &str = "DS_r <- DS_1 [filter Me_1 > 5];";
 
@@ -41,8 +41,17 @@ fn file(alloc: Global, name: &str, text: &str) -> Result<MemFile, AllocError> {
 }
 
 fn held(alloc: Global, structures: &str, points: &str) -> Result<Vec<MemFile>, AllocError> {
+    held_by(alloc, SCRIPT, structures, points)
+}
+
+fn held_by(
+    alloc: Global,
+    script: &str,
+    structures: &str,
+    points: &str,
+) -> Result<Vec<MemFile>, AllocError> {
     let mut files = Vec::new(alloc);
-    files.push(file(alloc, "script.vtl", SCRIPT)?)?;
+    files.push(file(alloc, "script.vtl", script)?)?;
     files.push(file(alloc, "structures.csv", structures)?)?;
     files.push(file(alloc, "in/DS_1.csv", points)?)?;
     Ok(files)
@@ -56,12 +65,20 @@ fn gives(
     points: &str,
     expected: &str,
 ) -> Result<(), AllocError> {
-    let mut files = MemFiles::new(
-        alloc,
-        held(alloc, structures, points)?,
-        chunk.max(1),
-        Vec::new(alloc),
-    );
+    let held = held(alloc, structures, points)?;
+    gives_from(rt, alloc, chunk, held, points, expected)
+}
+
+// The output of the files that are held; `said` tells the case.
+fn gives_from(
+    rt: &impl Abort,
+    alloc: Global,
+    chunk: usize,
+    held: Vec<MemFile>,
+    said: &str,
+    expected: &str,
+) -> Result<(), AllocError> {
+    let mut files = MemFiles::new(alloc, held, chunk.max(1), Vec::new(alloc));
     let mut out = MemSink::new(alloc, 8, Vec::new(alloc));
     let status = vtl(
         alloc,
@@ -69,13 +86,13 @@ fn gives(
         &mut files,
         &mut out,
     );
-    assert_eq!(rt; status.code(), 0, "{points}");
+    assert_eq!(rt; status.code(), 0, "{said}");
     assert_eq!(rt; out.taken(), b"".as_slice());
     let written = files.written();
     assert_eq!(rt; written.len(), 1);
     let output = &written[0];
     assert_eq!(rt; output.name.as_str(), "out/DS_r.csv");
-    assert_eq!(rt; output.bytes.as_slice(), expected.as_bytes(), "{points}");
+    assert_eq!(rt; output.bytes.as_slice(), expected.as_bytes(), "{said}");
     Ok(())
 }
 
@@ -118,12 +135,23 @@ fn gives_the_points_that_pass(rt: HostRuntime) -> Result<(), Fail> {
 fn gives_what_the_plain_interpreter_gives(rt: HostRuntime) -> Result<(), Fail> {
     let alloc = rt.alloc();
     let text = b"Id_1,Me_1\nb,7\na,9\nc,3\nd,\ne,6\nf,5\n";
-    let statement = read_statement(alloc, SCRIPT.as_bytes())?.ok_or("not a script")?;
+    let (target, operand) = (Txt::new(alloc, "DS_r")?, Txt::new(alloc, "DS_1")?);
+    let component = Txt::new(alloc, "Me_1")?;
+    let compared = FilterCondition {
+        component: &component,
+        op: CompareOp::Greater,
+        literal: FilterLiteral::Int(5),
+    };
+    let statement = FilterStatement {
+        result: &target,
+        operand: &operand,
+        condition: compared,
+    };
     let structure = structure(alloc, &statement, STRUCTURES.as_bytes())?.ok_or("no structure")?;
     let columns = structure.columns(alloc)?;
     let profile = Profile::new(6, Rounding::HalfUp).ok_or("no profile")?;
     let rows = points(alloc, &columns, 1, text, &profile)?.ok_or("no points")?;
-    let condition = condition(alloc, &columns, &statement)?;
+    let condition = condition(alloc, &columns, compared)?;
     let kept = filter_points(alloc, rows.as_slice(), &condition, &profile).map_err(|_| "a fault")?;
     let kept = csv_text(alloc, &columns, kept.as_slice(), &profile)?;
     gives(
@@ -404,6 +432,227 @@ fn a_sink_may_fail(rt: HostRuntime) -> Result<(), Fail> {
         let mut out = MemSink::new(alloc, 8, fail);
         let status = vtl(alloc, &[], &mut files, &mut out);
         is_told(&rt, &status, &out, 1, line);
+    }
+    Ok(())
+}
+
+// An identifier, an integer and a string; the letters name the points.
+const MIXED: &str =
+    "dataset,component,role,type,codes\nDS_1,Id_1,identifier,string,\nDS_1,Me_1,measure,integer,\nDS_1,Me_2,measure,string,\n";
+
+static MIXED_POINTS: [&str; 5] = ["Id_1,Me_1,Me_2\n", "a,5,x\n", "b,6,y\n", "c,,\n", "d,7,x\n"];
+
+// What is compared, and the points at which it is true.
+static COMPARED: [(&str, &str); 17] = [
+    ("Me_1 = 5", "a"),
+    ("Me_1 <> 5", "bd"),
+    ("Me_1 < 6", "a"),
+    ("Me_1 <= 6", "ab"),
+    ("Me_1 > 6", "d"),
+    ("Me_1 >= 6", "bd"),
+    ("Me_1 < 999999999999", "abd"),
+    (
+        "Me_1 = 0000000000000000000000000000000000000000000000000000000000000007",
+        "d",
+    ),
+    ("'Me_1' = 5", "a"),
+    ("Me_2 = \"x\"", "ad"),
+    ("Me_2 <> \"x\"", "b"),
+    ("Me_2 < \"y\"", "ad"),
+    ("Me_2 <= \"x\"", "ad"),
+    ("Me_2 > \"x\"", "b"),
+    ("Me_2 >= \"x\"", "abd"),
+    ("Me_2 > \"\"", "abd"),
+    ("Id_1 = \"c\"", "c"),
+];
+
+// The header, and the points that these letters name.
+fn some_points(alloc: Global, letters: &str) -> Result<String, AllocError> {
+    let mut text = String::from_str(alloc, MIXED_POINTS[0])?;
+    for point in &MIXED_POINTS[1..] {
+        if letters.contains(&point[..1]) {
+            text.push_str(point)?;
+        }
+    }
+    Ok(text)
+}
+
+#[test]
+fn keeps_what_each_comparison_keeps(rt: HostRuntime) -> Result<(), Fail> {
+    let alloc = rt.alloc();
+    let points = some_points(alloc, "abcd")?;
+    for (compared, letters) in COMPARED {
+        let script = format!(in alloc; "DS_r <- DS_1 [filter {compared}];")?;
+        let held = held_by(alloc, script.as_str(), MIXED, points.as_str())?;
+        let kept = some_points(alloc, letters)?;
+        gives_from(&rt, alloc, 8, held, compared, kept.as_str())?;
+    }
+    Ok(())
+}
+
+// Other spellings of the same script.
+static SPELLED: [&str; 5] = [
+    "DS_r<-DS_1[filter Me_1>5];",
+    "\tDS_r\r\n<-\nDS_1 [ filter\tMe_1 > 5 ]\n;\n",
+    "// c\nDS_r /* c */ <- DS_1 [filter Me_1 > 05]; // \u{e9}",
+    "\u{feff}DS_r <- DS_1 [filter Me_1 > 5];",
+    "DS_r <- DS_1 [filter 'Me_1' > 5];/**/",
+];
+
+#[test]
+fn reads_each_spelling(rt: HostRuntime) -> Result<(), Fail> {
+    let alloc = rt.alloc();
+    for script in SPELLED {
+        let held = held_by(alloc, script, STRUCTURES, POINTS)?;
+        gives_from(&rt, alloc, 3, held, script, KEPT)?;
+    }
+    Ok(())
+}
+
+// Scripts that are not built.
+static NOT_BUILT: [&str; 27] = [
+    "",
+    "// c",
+    "DS_r <- DS_1;",
+    "DS_r := DS_1 [filter Me_1 > 5];",
+    "DS_1 <- DS_1 [filter Me_1 > 5];",
+    "DS_r <- DS_1 [filter Me_1 > 5]; DS_q <- DS_1 [filter Me_1 > 5];",
+    "DS_r <- DS_1 [filter Me_1 > 5.0];",
+    "DS_r <- DS_1 [filter Me_1 > -5];",
+    "DS_r <- DS_1 [filter Me_1 > +5];",
+    "DS_r <- DS_1 [filter Me_1 > 1000000000000];",
+    "DS_r <- DS_1 [filter Me_1 > 18446744073709551621];",
+    "DS_r <- DS_1 [filter Me_1 > null];",
+    "DS_r <- DS_1 [filter Me_1 = true];",
+    "DS_r <- DS_1 [filter Me_1 = cast(\"2020-01-01\", date)];",
+    "DS_r <- DS_1 [filter (Me_1 > 5)];",
+    "DS_r <- DS_1 [filter Me_1 > (5)];",
+    "DS_r <- DS_1 [filter not Me_1];",
+    "DS_r <- DS_1 [filter Me_1 + 1 > 5];",
+    "DS_r <- DS_1 [filter 5 > Me_1];",
+    "DS_r <- DS_1 [filter Me_1 > Me_1];",
+    "DS_r <- DS_1 [filter Me_1 > 5 and Me_1 < 9];",
+    "DS_r <- DS_1 [filter Me_1 in {5}];",
+    "DS_r <- DS_1 [filter DS_1#Me_1 > 5];",
+    "DS_r <- 'DS_1' [filter Me_1 > 5];",
+    "DS_r <- (DS_1) [filter Me_1 > 5];",
+    "DS_r <- DS_1 [filter Me_1 > 5] [filter Me_1 > 5];",
+    "DS_r <- DS_1 [keep Me_1];",
+];
+
+#[test]
+fn refuses_what_is_not_built(rt: HostRuntime) -> Result<(), Fail> {
+    let alloc = rt.alloc();
+    for script in NOT_BUILT {
+        let held = held_by(alloc, script, STRUCTURES, POINTS)?;
+        let line = "error: unbuilt: script.vtl\n";
+        refuses(&rt, alloc, &WORDS, held, Vec::new(alloc), 8, line)?;
+    }
+    Ok(())
+}
+
+// Texts that are no script, each with its fault.
+static FAULTY: [(&str, usize, usize); 12] = [
+    ("DS_r <- DS_1; DS_x <- ;", 1, 14),
+    ("DS_r <- DS_1 [filter Me_1 > 5]", 0, 0),
+    ("DS_r <- DS_1 [filterMe_1 > 5];", 0, 0),
+    ("DS_r < - DS_1 [filter Me_1 > 5];", 0, 0),
+    ("sum <- DS_1 [filter Me_1 > 5];", 0, 0),
+    ("DS_r <- DS_1 [filter sum > 5];", 0, 0),
+    ("'DS_r' <- DS_1 [filter Me_1 > 5];", 0, 0),
+    ("  \u{e9}DS_r <- DS_1 [filter Me_1 > 5];", 0, 2),
+    ("DS_r <- DS_1 [filter Me_1 > 5]; DS_q", 1, 32),
+    ("DS_r <- DS_1 [filter Me_1 > 5]; ?", 1, 32),
+    ("DS_r <- DS_1; DS_q <- DS_1; /* c", 2, 28),
+    (
+        "N23456789_123456789_123456789_123456789_123456789_123456789_12345 <- DS_1;",
+        0,
+        0,
+    ),
+];
+
+#[test]
+fn refuses_what_is_no_script(rt: HostRuntime) -> Result<(), Fail> {
+    let alloc = rt.alloc();
+    for (script, done, byte) in FAULTY {
+        let held = held_by(alloc, script, STRUCTURES, POINTS)?;
+        let line = format!(in alloc; "error: syntax after {done} statements at byte {byte}\n")?;
+        refuses(&rt, alloc, &WORDS, held, Vec::new(alloc), 2, line.as_str())?;
+    }
+    Ok(())
+}
+
+// Bytes that are no text are refused before the structures file is opened.
+#[test]
+fn refuses_what_is_no_text(rt: HostRuntime) -> Result<(), Fail> {
+    let alloc = rt.alloc();
+    let cases: [&[u8]; 4] = [
+        b"\xff",
+        b"DS_r <- DS_1 [filter Me_1 > 5]; // \xe9",
+        b"\xef\xbb",
+        b"\xed\xa0\x80",
+    ];
+    for bytes in cases {
+        let mut held = held(alloc, STRUCTURES, POINTS)?;
+        held.truncate(1);
+        if let Some(file) = held.get_mut(0) {
+            file.bytes = Vec::from_slice(alloc, bytes)?;
+        }
+        let line = "error: not text: script.vtl\n";
+        refuses(&rt, alloc, &WORDS, held, Vec::new(alloc), 2, line)?;
+    }
+    Ok(())
+}
+
+fn tells(rt: &impl Abort, alloc: Global, status: &Status, code: u8, line: &str) {
+    let mut out = MemSink::new(alloc, 5, Vec::new(alloc));
+    tell(status, &mut out);
+    is_told(rt, status, &out, code, line);
+}
+
+#[test]
+fn tells_each_status(rt: HostRuntime) -> Result<(), Fail> {
+    let alloc = rt.alloc();
+    let path = || Txt::new(alloc, "a/\u{e9}.csv");
+    let (done, byte) = (1, 14);
+    let syntax = Status::Syntax { done, byte };
+    let line = "error: syntax after 1 statements at byte 14\n";
+    tells(&rt, alloc, &syntax, 2, line);
+    let (done, byte) = (0, 65_535);
+    let syntax = Status::Syntax { done, byte };
+    let line = "error: syntax after 0 statements at byte 65535\n";
+    tells(&rt, alloc, &syntax, 2, line);
+    for (status, code, line) in [
+        (Status::Usage, 1, "error: usage\n"),
+        (Status::Memory, 7, "error: memory\n"),
+        (
+            Status::NotText(path()?),
+            2,
+            "error: not text: a/\u{e9}.csv\n",
+        ),
+        (Status::NoFile(path()?), 4, "error: no file: a/\u{e9}.csv\n"),
+        (
+            Status::TooLong(path()?),
+            4,
+            "error: too long: a/\u{e9}.csv\n",
+        ),
+        (
+            Status::ReadFault(path()?),
+            6,
+            "error: read fault: a/\u{e9}.csv\n",
+        ),
+        (
+            Status::WriteFault(path()?),
+            6,
+            "error: write fault: a/\u{e9}.csv\n",
+        ),
+        (
+            Status::Unbuilt(path()?),
+            8,
+            "error: unbuilt: a/\u{e9}.csv\n",
+        ),
+    ] {
+        tells(&rt, alloc, &status, code, line);
     }
     Ok(())
 }

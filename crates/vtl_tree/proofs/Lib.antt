@@ -1,3 +1,4 @@
+pub mod DigitLemmas
 pub mod Faults
 pub mod LookUps
 pub mod Values

@@ -1,3 +1,5 @@
+pub mod Built
+pub mod BuiltView
 pub mod Clauses
 pub mod DataSet
 pub mod Exp

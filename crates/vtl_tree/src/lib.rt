@@ -1,6 +1,7 @@
 //! What the language speaks of: structures, data sets and component expressions, with their meaning.
 #![tactic(auto)]
 
+mod built_form;
 mod evaluation;
 mod expression;
 mod laws;
@@ -8,6 +9,9 @@ mod plain;
 mod seen;
 mod structure;
 
+pub use built_form::{
+    CompareOp, FilterCondition, FilterLiteral, FilterStatement, built, filter_statement,
+};
 pub use evaluation::eval;
 pub use expression::CompExpr;
 pub use laws::{filter_is_a_clause, points_are_a_map};

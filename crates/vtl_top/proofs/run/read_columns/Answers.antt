@@ -2,6 +2,7 @@ use Rattle.std.proofs.Common.{◌≡◌, Ok, List, sym, ap, ◌∙◌}
 use Rattle.vtl_cell.specs.Row.{Row}
 use Rattle.vtl_tree.specs.Clauses.{kept}
 use Rattle.vtl_tree.specs.Rows.{rows_of}
+use Rattle.vtl_tree.specs.BuiltView.{filter_view}
 use Rattle.vtl_tree.specs.Shown.{shown}
 use Rattle.vtl_top.specs.Condition.{condition_in}
 use Rattle.vtl_csv.specs.CsvText.{csv_rows}
@@ -16,12 +17,12 @@ use Rattle.vtl_top.proofs.run.read_columns.Goals as goal
 pub returns-clause-meets : goal.returns-clause-meets
 returns-clause-meets g c =
     let cols = shown c.args.columns.now in
-    let s = c.args.statement.now in
+    let s = filter_view c.args.statement.now in
     let r = run_view c.args.run in
     let rows = rows_of c.in_ok-rows.rows.items in
     let out = output_view c.in_ok-output.output in
     let made = λ (x : List Row) (same : in_order x ≡ rows).
-    ap (λ (l : List Row). (file_in r.output s.result, csv_rows r.settings cols l)) (sym (kept_in_order r.settings (condition_in cols s) x) ∙ ap (kept r.settings (condition_in cols s)) same) ∙ sym c.in_ok-output.ensures.view in
+    ap (λ (l : List Row). (file_in r.output s.result, csv_rows r.settings cols l)) (sym (kept_in_order r.settings (condition_in cols s.condition) x) ∙ ap (kept r.settings (condition_in cols s.condition)) same) ∙ sym c.in_ok-output.ensures.view in
     if_some_map (g.F.Files.held c.args.files.now)
     (λ held. stage (file_in r.input s.operand) csv_limit (λ text. option_map in_order (points_in r.settings cols c.args.keys text)) held ≡ Ok rows)
     (λ held. from_columns r s cols c.args.keys held ≡ Ok out)
