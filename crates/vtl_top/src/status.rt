@@ -1,10 +1,9 @@
 // What the program answers, with its code and its line.
-ghost use Rattle.std.specs.Prelude.{◌≡◌, ◌≤◌, ◌≢◌, ◌++◌, OnErr, OnOk, codes, decimal, encode_utf8_all};
+ghost use Rattle.std.specs.Prelude.{◌≡◌, ◌≤◌, ◌<◌, ◌≢◌, ◌+◌, ◌∷◌, [], ◌++◌, OnErr, OnOk, codes, decimal, encode_utf8_all};
 ghost use Rattle.vtl_files.specs.Outside.{Rose, TakesAll};
 ghost use Rattle.vtl_files.specs.Whole.{TakesFront};
 ghost use Rattle.vtl_top.specs.StatusLine.{code_of, lead_of, line_of, path_of};
 
-use itoa::Buffer;
 use std::alloc::AllocError;
 use vtl_files::{Failed, Sink, sink_all};
 use vtl_text::Txt;
@@ -127,21 +126,55 @@ fn write_fault<O: Sink>(lead: &str, done: usize, byte: usize, out: &mut O) -> Re
     ensures whole { OnOk result (TakesAll (O.taken out.old) (O.taken out.new) (lead.now ++ ((decimal done ++ (codes " statements at byte " ++ decimal byte)) ++ codes "\n"))) }
     ensures front { OnErr result (TakesFront (O.taken out.old) (O.taken out.new) (lead.now ++ ((decimal done ++ (codes " statements at byte " ++ decimal byte)) ++ codes "\n"))) }
 {
-    let mut digits = Buffer::new();
-    write_text(lead, digits.format(done), out)?;
-    let mut digits = Buffer::new();
-    write_line(" statements at byte ", digits.format(byte), out)
+    write_counted(lead, done, out)?;
+    write_counted_line(" statements at byte ", byte, out)
 }
 
-// Two pieces of a line.
-fn write_text<O: Sink>(lead: &str, said: &str, out: &mut O) -> Result<(), Failed>
+// A piece of a line that ends with a number.
+fn write_counted<O: Sink>(lead: &str, number: usize, out: &mut O) -> Result<(), Failed>
     ensures faults { O.faults out.old ≤ O.faults out.new }
     ensures failed { OnErr result (Rose (O.faults out.old) (O.faults out.new)) }
-    ensures whole { OnOk result (TakesAll (O.taken out.old) (O.taken out.new) (lead.now ++ said.now)) }
-    ensures front { OnErr result (TakesFront (O.taken out.old) (O.taken out.new) (lead.now ++ said.now)) }
+    ensures whole { OnOk result (TakesAll (O.taken out.old) (O.taken out.new) (lead.now ++ decimal number)) }
+    ensures front { OnErr result (TakesFront (O.taken out.old) (O.taken out.new) (lead.now ++ decimal number)) }
 {
     sink_all(out, lead.as_bytes())?;
-    sink_all(out, said.as_bytes())
+    write_number(number, out)
+}
+
+// The end of a line, with a number.
+fn write_counted_line<O: Sink>(lead: &str, number: usize, out: &mut O) -> Result<(), Failed>
+    ensures faults { O.faults out.old ≤ O.faults out.new }
+    ensures failed { OnErr result (Rose (O.faults out.old) (O.faults out.new)) }
+    ensures whole { OnOk result (TakesAll (O.taken out.old) (O.taken out.new) (lead.now ++ (decimal number ++ codes "\n"))) }
+    ensures front { OnErr result (TakesFront (O.taken out.old) (O.taken out.new) (lead.now ++ (decimal number ++ codes "\n"))) }
+{
+    sink_all(out, lead.as_bytes())?;
+    write_number(number, out)?;
+    sink_all(out, b"\n")
+}
+
+// A number digit by digit, the highest first, since no memory is taken.
+fn write_number<O: Sink>(number: usize, out: &mut O) -> Result<(), Failed>
+    ensures faults { O.faults out.old ≤ O.faults out.new }
+    ensures failed { OnErr result (Rose (O.faults out.old) (O.faults out.new)) }
+    ensures whole { OnOk result (TakesAll (O.taken out.old) (O.taken out.new) (decimal number)) }
+    ensures front { OnErr result (TakesFront (O.taken out.old) (O.taken out.new) (decimal number)) }
+{
+    if number < 10 {
+        return write_digit(number, out);
+    }
+    write_number(number / 10, out)?;
+    write_digit(number % 10, out)
+}
+
+fn write_digit<O: Sink>(digit: usize, out: &mut O) -> Result<(), Failed>
+    requires { digit < 10 }
+    ensures faults { O.faults out.old ≤ O.faults out.new }
+    ensures failed { OnErr result (Rose (O.faults out.old) (O.faults out.new)) }
+    ensures whole { OnOk result (TakesAll (O.taken out.old) (O.taken out.new) ((48 + digit) ∷ [])) }
+    ensures front { OnErr result (TakesFront (O.taken out.old) (O.taken out.new) ((48 + digit) ∷ [])) }
+{
+    sink_all(out, &[b'0' + digit as u8])
 }
 
 fn write_line<O: Sink>(lead: &str, path: &str, out: &mut O) -> Result<(), Failed>
