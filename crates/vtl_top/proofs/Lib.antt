@@ -8,3 +8,4 @@ pub mod RunLemmas
 pub mod SinkLemmas
 pub mod StatusLemmas
 pub mod StructureLemmas
+mod NumberText
