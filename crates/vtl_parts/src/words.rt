@@ -9,9 +9,9 @@ use crate::front::{Front, next};
 use vtl_grammar::CallForm;
 use vtl_lexer::{Keyword, Sign, Token, TokenKind};
 use vtl_syntax::{
-    Addition, AggregateName, AssignKind, BasicOut, BinaryOp, CastKind, CheckOut, Comparison, DifferenceName,
-    Direction, FunctionName, GroupKind, HierInput, HierOut, JoinKind, Mode, Retain, SetOpName,
-    ShiftName, Side, UnaryOp, ValueWindowName, WrittenRole,
+    Addition, AggregateName, AssignKind, BasicOut, BinaryOp, CastKind, CheckOut, Comparison,
+    DifferenceName, Direction, FunctionName, GroupKind, HierInput, HierOut, JoinKind, Mode, Retain,
+    SetOpName, ShiftName, Side, UnaryOp, ValueWindowName, WrittenRole,
 };
 
 /// A word or a sign that is one of a group.
