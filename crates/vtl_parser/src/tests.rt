@@ -7,8 +7,8 @@ use std::process::Abort;
 use std::test::Fail;
 use vtl_syntax::{
     CalcPart, Clause, Comp, Constant, ErrorPart, Expr, GroupPart, HierRule, Keeping, Limit,
-    Literal, Numeral, OrderPart, OverPart, PointRule, Reference, RenamePart, Script, Statement,
-    Targets,
+    Literal, Mode, Numeral, OrderPart, OverPart, PointRule, Reference, RenamePart, Script,
+    Statement, Targets,
 };
 use vtl_text::Txt;
 
@@ -238,33 +238,11 @@ fn error(out: &mut String, e: &ErrorPart) -> Shown {
 #[cycle(show)]
 fn expr(out: &mut String, e: &Expr) -> Shown {
     match e {
-        Expr::If {
-            condition,
-            then,
-            other,
-        } => {
-            open(out, "if")?;
-            expr(out, condition)?;
-            expr(out, then)?;
-            expr(out, other)?;
-        }
-        Expr::Binary { left, op, right } => {
-            open_word(out, op)?;
-            expr(out, left)?;
-            expr(out, right)?;
-        }
-        Expr::InSet {
-            operand,
-            negated,
-            literals: found,
-        } => {
-            open(out, if *negated { "not_in" } else { "in" })?;
-            expr(out, operand)?;
-            literals(out, found.as_slice())?;
-        }
-        Expr::Unary { op, operand } => {
-            open_word(out, op)?;
-            expr(out, operand)?;
+        Expr::Component(c) => return comp(out, c),
+        Expr::Constant(c) => return constant(out, c),
+        Expr::Brackets(inner) => {
+            open(out, "brackets")?;
+            expr(out, inner)?;
         }
         Expr::Clause { operand, clause: c } => {
             open(out, "clause")?;
@@ -276,15 +254,48 @@ fn expr(out: &mut String, e: &Expr) -> Shown {
             expr(out, operand)?;
             comp(out, component)?;
         }
-        Expr::Component(c) => return comp(out, c),
-        Expr::Constant(c) => return constant(out, c),
-        Expr::Brackets(inner) => {
-            open(out, "brackets")?;
-            expr(out, inner)?;
-        }
+        Expr::If { .. } | Expr::Binary { .. } | Expr::InSet { .. } | Expr::Unary { .. } => operator(
+            out, e,
+        )?,
         _ => call(out, e)?,
     }
     close(out)
+}
+
+// An operator with its operands, but for the bracket at its end.
+#[cycle(show)]
+fn operator(out: &mut String, e: &Expr) -> Shown {
+    match e {
+        Expr::If {
+            condition,
+            then,
+            other,
+        } => {
+            open(out, "if")?;
+            expr(out, condition)?;
+            expr(out, then)?;
+            expr(out, other)
+        }
+        Expr::Binary { left, op, right } => {
+            open_word(out, op)?;
+            expr(out, left)?;
+            expr(out, right)
+        }
+        Expr::InSet {
+            operand,
+            negated,
+            literals: found,
+        } => {
+            open(out, if *negated { "not_in" } else { "in" })?;
+            expr(out, operand)?;
+            literals(out, found.as_slice())
+        }
+        Expr::Unary { op, operand } => {
+            open_word(out, op)?;
+            expr(out, operand)
+        }
+        _ => push(out, "?"),
+    }
 }
 
 // A call, but for the bracket at its end.
@@ -319,65 +330,127 @@ fn call(out: &mut String, e: &Expr) -> Shown {
             maybe_word(out, retain)
         }
         Expr::Join { .. } => join(out, e),
-        Expr::Aggregate { .. }
-        | Expr::AggregateOver { .. }
+        Expr::Aggregate { .. } => grouped(out, e),
+        Expr::AggregateOver { .. }
         | Expr::ValueWindow { .. }
         | Expr::Shift { .. }
-        | Expr::Rank(_) => aggregate(out, e),
+        | Expr::Rank(_) => windowed(out, e),
         _ => check(out, e),
     }
 }
 
-#[cycle(show)]
-fn aggregate(out: &mut String, e: &Expr) -> Shown {
+// What stands behind the operand of a call over a window.
+fn window(out: &mut String, e: &Expr) -> Shown {
     match e {
-        Expr::Aggregate {
-            function,
-            operand,
-            group: g,
-            having,
-        } => {
-            open_word(out, function)?;
-            maybe(out, "of", operand)?;
-            group(out, g)?;
-            maybe(out, "having", having)
-        }
-        Expr::AggregateOver {
-            function,
-            operand,
-            over: o,
-        } => {
-            open_word(out, function)?;
-            maybe(out, "of", operand)?;
-            over(out, o)
-        }
-        Expr::ValueWindow {
-            function,
-            operand,
-            over: o,
-        } => {
-            open_word(out, function)?;
-            expr(out, operand)?;
-            over(out, o)
-        }
+        Expr::AggregateOver { over: o, .. } | Expr::ValueWindow { over: o, .. } | Expr::Rank(o) =>
+            over(out, o),
         Expr::Shift {
-            function,
-            operand,
             points,
             default,
             over: o,
+            ..
         } => {
-            open_word(out, function)?;
-            expr(out, operand)?;
             push(out, points.as_str())?;
             if let Some(l) = default {
                 literal(out, l)?;
             }
             over(out, o)
         }
-        Expr::Rank(o) => {
-            open(out, "rank")?;
-            over(out, o)
+        _ => push(out, "?"),
+    }
+}
+
+#[cycle(show)]
+fn grouped(out: &mut String, e: &Expr) -> Shown {
+    let Expr::Aggregate {
+        function,
+        operand,
+        group: g,
+        having,
+    } = e
+    else {
+        return push(out, "?");
+    };
+    open_word(out, function)?;
+    maybe(out, "of", operand)?;
+    group(out, g)?;
+    maybe(out, "having", having)
+}
+
+#[cycle(show)]
+fn windowed(out: &mut String, e: &Expr) -> Shown {
+    match e {
+        Expr::AggregateOver {
+            function,
+            operand,
+            ..
+        } => {
+            open_word(out, function)?;
+            maybe(out, "of", operand)?;
+        }
+        Expr::ValueWindow {
+            function,
+            operand,
+            ..
+        } => {
+            open_word(out, function)?;
+            expr(out, operand)?;
+        }
+        Expr::Shift {
+            function,
+            operand,
+            ..
+        } => {
+            open_word(out, function)?;
+            expr(out, operand)?;
+        }
+        _ => open(out, "rank")?,
+    }
+    window(out, e)
+}
+
+fn ruleset_by(out: &mut String, ruleset: &Txt, rule: &Option<Comp>, mode: &Option<Mode>) -> Shown {
+    push(out, ruleset.as_str())?;
+    maybe_comp(out, "rule", rule)?;
+    maybe_word(out, mode)
+}
+
+// What stands behind the operand of a check by a ruleset.
+fn ruled(out: &mut String, e: &Expr) -> Shown {
+    match e {
+        Expr::CheckDatapoint {
+            ruleset,
+            output,
+            ..
+        } => {
+            push(out, ruleset.as_str())?;
+            maybe_word(out, output)
+        }
+        Expr::CheckHierarchy {
+            ruleset,
+            rule,
+            mode,
+            dataset,
+            output,
+            ..
+        } => {
+            ruleset_by(out, ruleset, rule, mode)?;
+            if *dataset {
+                push(out, "Dataset")?;
+            }
+            maybe_word(out, output)
+        }
+        Expr::Hierarchy {
+            ruleset,
+            rule,
+            mode,
+            input,
+            output,
+            ..
+        } => {
+            ruleset_by(out, ruleset, rule, mode)?;
+            maybe_word(out, input)?;
+            maybe_word(out, output)
         }
         _ => push(out, "?"),
     }
@@ -396,54 +469,23 @@ fn check(out: &mut String, e: &Expr) -> Shown {
             expr(out, operand)?;
             error(out, part)?;
             maybe(out, "imbalance", imbalance)?;
-            maybe_word(out, output)
+            return maybe_word(out, output);
         }
-        Expr::CheckDatapoint {
-            operand,
-            ruleset,
-            output,
-        } => {
+        Expr::CheckDatapoint { operand, .. } => {
             open(out, "check_datapoint")?;
             expr(out, operand)?;
-            push(out, ruleset.as_str())?;
-            maybe_word(out, output)
         }
-        Expr::CheckHierarchy {
-            operand,
-            ruleset,
-            rule,
-            mode,
-            dataset,
-            output,
-        } => {
+        Expr::CheckHierarchy { operand, .. } => {
             open(out, "check_hierarchy")?;
             expr(out, operand)?;
-            push(out, ruleset.as_str())?;
-            maybe_comp(out, "rule", rule)?;
-            maybe_word(out, mode)?;
-            if *dataset {
-                push(out, "Dataset")?;
-            }
-            maybe_word(out, output)
         }
-        Expr::Hierarchy {
-            operand,
-            ruleset,
-            rule,
-            mode,
-            input,
-            output,
-        } => {
+        Expr::Hierarchy { operand, .. } => {
             open(out, "hierarchy")?;
             expr(out, operand)?;
-            push(out, ruleset.as_str())?;
-            maybe_comp(out, "rule", rule)?;
-            maybe_word(out, mode)?;
-            maybe_word(out, input)?;
-            maybe_word(out, output)
         }
-        _ => push(out, "?"),
+        _ => return push(out, "?"),
     }
+    ruled(out, e)
 }
 
 #[cycle(show)]
@@ -1621,18 +1663,19 @@ fn nest(alloc: Global, parts: &[&str; 5], levels: usize) -> Result<String, Fail>
     Ok(out)
 }
 
+fn nested(alloc: Global, parts: &[&str; 5], levels: usize) -> Result<(usize, Option<usize>), Fail> {
+    let text = nest(alloc, parts, levels)?;
+    outcome(alloc, text.as_str())
+}
+
 #[test]
 fn depth_has_an_edge(rt: HostRuntime) -> Result<(), Fail> {
     for (parts, most) in NESTS.iter() {
-        let fits = nest(rt.alloc(), parts, *most)?;
-        assert_eq!(rt; outcome(rt.alloc(), fits.as_str())?, (1, None), "{parts:?}");
+        let fits = nested(rt.alloc(), parts, *most)?;
+        assert_eq!(rt; fits, (1, None), "{:?}", parts[1]);
         for more in [1, 2, 1000] {
-            let deeper = nest(rt.alloc(), parts, most.saturating_add(more))?;
-            assert_eq!(rt;
-                outcome(rt.alloc(), deeper.as_str())?,
-                (0, Some(0)),
-                "{parts:?}"
-            );
+            let deeper = nested(rt.alloc(), parts, most.saturating_add(more))?;
+            assert_eq!(rt; deeper, (0, Some(0)), "{:?}", parts[1]);
         }
     }
     Ok(())
