@@ -11,3 +11,6 @@ mod statements;
 
 pub use laws::texts_are_read_once;
 pub use parsing::{ParseErr, parse};
+
+#[cfg(test)]
+mod tests;
