@@ -13,4 +13,14 @@ pub use laws::texts_are_read_once;
 pub use parsing::{ParseErr, parse};
 
 #[cfg(test)]
-mod tests;
+mod answers;
+#[cfg(test)]
+mod depth_tests;
+#[cfg(test)]
+mod fault_tests;
+#[cfg(test)]
+mod prefix_tests;
+#[cfg(test)]
+mod shown;
+#[cfg(test)]
+mod tree_tests;
