@@ -2,11 +2,7 @@
 # Times a run of the program over a million rows. The times are printed, and nothing is asserted of them.
 # The program is the one that ../vtl builds; another may be given as the only word.
 top=$(dirname -- "$(readlink -f -- "$0")")/..
-program=${1:-$top/crates/vtl/out/vtl}
-if [ ! -x "$program" ]; then
-    echo "million.sh: there is no program at $program; build it by a call of vtl at the top" >&2
-    exit 1
-fi
+. "$top/bench/program.sh"
 
 made=$(mktemp -d) || exit 1
 trap 'rm -rf "$made"' EXIT

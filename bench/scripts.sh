@@ -3,11 +3,7 @@
 # The times are printed with the line that the program answers, and nothing is asserted of them.
 # The program is the one that ../vtl builds; another may be given as the only word.
 top=$(dirname -- "$(readlink -f -- "$0")")/..
-program=${1:-$top/crates/vtl/out/vtl}
-if [ ! -x "$program" ]; then
-    echo "scripts.sh: there is no program at $program; build it by a call of vtl at the top" >&2
-    exit 1
-fi
+. "$top/bench/program.sh"
 
 made=$(mktemp -d) || exit 1
 trap 'rm -rf "$made"' EXIT
