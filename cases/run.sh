@@ -1,0 +1,127 @@
+#!/bin/sh
+# Runs all of cases/ and examples/ by the built programs, in a few seconds: cases/run.sh [NAME ..], where a NAME is a folder
+# of cases/, or `examples`. Prints what differs, and at the end 'N passed, M failed'.
+top=$(CDPATH='' cd -- "$(dirname -- "$0")/.." && pwd) || exit 1
+vtl=$top/crates/vtl/out/vtl
+probe=$top/crates/vtl_probe/out/vtl_probe
+made=$(mktemp -d) || exit 1
+trap 'chmod -R u+rwx "$made"; rm -rf "$made"' EXIT
+passed=0
+failed=0
+
+pass() { passed=$((passed + 1)); }
+
+fail() {
+    failed=$((failed + 1))
+    echo "$1"
+}
+
+# A table: the program compares each of its lines.
+table() {
+    "$probe" "$@" >"$made/said" 2>"$made/told"
+    code=$?
+    counts=$(tail -n 1 "$made/said" | sed -n 's/^\([0-9]*\) passed, \([0-9]*\) failed$/\1 \2/p')
+    if [ -z "$counts" ] || [ "$code" -gt 1 ]; then
+        fail "$*: no verdict, exit code $code: $(tail -n 1 "$made/told")"
+        return
+    fi
+    passed=$((passed + ${counts% *}))
+    failed=$((failed + ${counts#* }))
+    case $code:$counts in
+        0:0\ 0) fail "$2: no line" ;;
+        0:*\ 0) ;;
+        0:* | 1:*\ 0) fail "$2: exit code $code with the counts $counts" ;;
+        *) sed "s|^|$2: |" "$made/said" ;;
+    esac
+}
+
+# A file beside what the probe prints of it.
+printed() {
+    "$probe" "$1" "$2" >"$made/said" 2>"$made/told"
+    code=$?
+    if [ "$code" -le 1 ] && [ ! -s "$made/told" ] && cmp -s "$3" "$made/said"; then
+        pass
+    else
+        fail "$2: exit code $code"
+        diff "$3" "$made/said" | head -n 10
+        cat "$made/told"
+    fi
+}
+
+# The words of a run, one a line, and then the run in the folder; its standard output and exit code are left in files.
+called() {
+    set --
+    while IFS= read -r word || [ "$word" ]; do set -- "$@" "$word"; done <"$words"
+    (cd "$folder" && "$vtl" "$@" >"$made/said" 2>"$made/told" </dev/null)
+}
+
+# A whole run: a folder with its files, and what is wanted.
+run() {
+    case=$1
+    folder=$made/folder
+    rm -rf "$folder"
+    cp -R "$case" "$folder"
+    rm -rf "$folder/expected" "$folder/line" "$folder/code" "$folder/words" "$folder/setup" "$folder/out"
+    mkdir "$folder/out"
+    if [ -e "$case/setup" ] && ! (cd "$folder" && sh "$case/setup"); then
+        fail "$case: setup failed"
+        return
+    fi
+    words=$case/words
+    if [ ! -e "$words" ]; then
+        words=$made/words
+        printf '%s\n' run script.vtl structures.csv in out >"$words"
+    fi
+    called
+    code=$?
+    wanted_code=$(cat "$case/code" 2>/dev/null || echo 0)
+    wanted_line=$case/line
+    [ -e "$wanted_line" ] || wanted_line=/dev/null
+    if [ "$code" != "$wanted_code" ]; then
+        fail "$case: exit code $code, wanted $wanted_code: $(head -n 1 "$made/said")"
+    elif ! cmp -s "$wanted_line" "$made/said" || [ -s "$made/told" ]; then
+        fail "$case: printed $(head -n 1 "$made/said") $(head -n 1 "$made/told")"
+    elif ! written "$case/expected" "$folder/out"; then
+        fail "$case: other files were written"
+    else
+        pass
+    fi
+}
+
+# Whether the folder written to holds exactly the files that are wanted.
+written() {
+    if [ -d "$1" ]; then
+        diff -r "$1" "$2"
+    else
+        [ ! -d "$2" ] || [ -z "$(ls -A "$2")" ]
+    fi
+}
+
+wanted() { [ -z "$names" ] || case " $names " in *" $1 "*) ;; *) return 1 ;; esac; }
+
+names=$*
+for program in "$vtl" "$probe"; do
+    [ -x "$program" ] || fail "there is no program at $program; scripts/build.sh $(basename "$program") builds it"
+done
+cd "$top" || exit 1
+for folder in cases/*/; do
+    word=$(basename "$folder")
+    wanted "$word" || continue
+    case $word in
+        run) for case in cases/run/*/; do run "$top/${case%/}"; done ;;
+        tokens | tree)
+            for file in "cases/$word"/*."$word"; do
+                for given in "${file%.*}".txt "${file%.*}".vtl; do
+                    [ -e "$given" ] && printed "$word" "$given" "$file"
+                done
+            done
+            ;;
+        prefix) for file in cases/prefix/*.csv; do table prefixes "${file%.*}.vtl" "$file"; done ;;
+        *) for file in "cases/$word"/*.csv; do table "$word" "$file"; done ;;
+    esac
+done
+if wanted examples; then
+    for case in examples/*/; do run "$top/${case%/}"; done
+fi
+echo "$passed passed, $failed failed"
+[ "$failed" = 0 ]
