@@ -16,6 +16,3 @@ pub use operator::{AggKind, ScalarOp};
 pub use reading::read_cell;
 pub use row::{is_same_key, is_same_row};
 pub use writing::write_cell;
-
-#[cfg(test)]
-mod tests;

@@ -34,20 +34,3 @@ pub fn has_plain_lines(text: &[u8]) -> bool
 pub fn plain_lines_are_lines()
     ensures { (text : List ℕ) → (plain_lines text ≡ true) ↔ IsMadeOfPlainLines text }
 {}
-
-#[cfg(test)]
-mod tests {
-    use super::*;
-
-    #[test]
-    fn tells_plain_lines(rt: HostRuntime) {
-        assert!(rt; has_plain_lines(b"Id_1,Me_1\nb,7\n"));
-        assert!(rt; has_plain_lines(b""));
-        assert!(rt; !has_plain_lines(b"a\nb"));
-        assert!(rt; !has_plain_lines(b"a\n\nb\n"));
-        assert!(rt; !has_plain_lines(b"\na\n"));
-        assert!(rt; !has_plain_lines(b"\"a\"\n"));
-        assert!(rt; !has_plain_lines(b"a\r\n"));
-        assert!(rt; !has_plain_lines(b"\xc3\xa9\n"));
-    }
-}

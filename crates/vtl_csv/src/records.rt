@@ -74,24 +74,3 @@ impl<'a> RecordReader<'a> {
         }
     }
 }
-
-#[cfg(test)]
-mod tests {
-    use super::*;
-    use std::test::Fail;
-
-    #[test]
-    fn reads_each_record(rt: HostRuntime) -> Result<(), Fail> {
-        let mut reader = RecordReader::new(rt.alloc(), b"Id_1,Me_1\nb,7\na\n");
-        let mut fields = ByteRecord::new(rt.alloc());
-        assert!(rt; reader.next(&mut fields)?);
-        assert_eq!(rt; fields.get(1), Some(b"Me_1".as_slice()));
-        assert!(rt; reader.next(&mut fields)?);
-        assert_eq!(rt; fields.get(0), Some(b"b".as_slice()));
-        assert!(rt; reader.next(&mut fields)?);
-        assert_eq!(rt; fields.len(), 1);
-        assert!(rt; !reader.next(&mut fields)?);
-        assert!(rt; !reader.next(&mut fields)?);
-        Ok(())
-    }
-}

@@ -71,23 +71,3 @@ impl RowWriter {
         }
     }
 }
-
-#[cfg(test)]
-mod tests {
-    use super::*;
-    use std::test::Fail;
-
-    #[test]
-    fn writes_each_record(rt: HostRuntime) -> Result<(), Fail> {
-        let mut writer = RowWriter::new(rt.alloc());
-        let header = ByteRecord::from_fields(rt.alloc(), &[b"Id_1", b"Me_1"])?;
-        let row = ByteRecord::from_fields(rt.alloc(), &[b"a,b"])?;
-        writer.write(&header)?;
-        writer.write(&row)?;
-        assert_eq!(rt;
-            writer.into_bytes()?.as_slice(),
-            b"Id_1,Me_1\n\"a,b\"\n".as_slice()
-        );
-        Ok(())
-    }
-}

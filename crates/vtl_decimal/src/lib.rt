@@ -22,6 +22,3 @@ pub use settings::{Profile, Rounding};
 pub use total::Sum;
 pub use wholes::{ceil, floor, of_whole, round, trunc, whole};
 pub use writing::{write, write_whole};
-
-#[cfg(test)]
-mod tests;

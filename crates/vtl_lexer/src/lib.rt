@@ -16,6 +16,3 @@ mod words;
 pub use keyword::{Keyword, is_same_keyword, keyword_of};
 pub use lexing::{LexErr, Lexed, lex, tokens_are_determined, tokens_before_fault};
 pub use token::{Sign, Token, TokenKind};
-
-#[cfg(test)]
-mod tests;

@@ -11,16 +11,3 @@ mod statements;
 
 pub use laws::texts_are_read_once;
 pub use parsing::{ParseErr, parse};
-
-#[cfg(test)]
-mod answers;
-#[cfg(test)]
-mod depth_tests;
-#[cfg(test)]
-mod fault_tests;
-#[cfg(test)]
-mod prefix_tests;
-#[cfg(test)]
-mod shown;
-#[cfg(test)]
-mod tree_tests;

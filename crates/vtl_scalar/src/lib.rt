@@ -17,6 +17,3 @@ pub use laws::{
     integers_are_numbers, null_gives_null, other_operators_have_no_fault, values_are_of_their_kind,
 };
 pub use operators::apply;
-
-#[cfg(test)]
-mod tests;

@@ -12,6 +12,3 @@ pub use operators::{concat, length, ltrim, rtrim, substr, trim};
 pub use searches::{instr, replace};
 pub use shared_text::Txt;
 pub use words::{is_component_name, is_name, is_reserved, is_word, reserved_place};
-
-#[cfg(test)]
-mod tests;

@@ -7,6 +7,3 @@ mod periods;
 
 pub use days::{Day, read_day, write_day};
 pub use periods::{Frequency, Period, read_period, shift, write_period};
-
-#[cfg(test)]
-mod tests;

@@ -1,0 +1,72 @@
+//! Runs one layer on files, for the tests of this repository: tables of cases, the tokens and the tree of a script, and
+//! operations that are timed. It is no part of `vtl`.
+//!
+//! A table is a CSV file, each line of it a case. What differs is printed, and then `N passed, M failed`; the exit code
+//! is 1 where a case failed. Other words, and a file that cannot be read, are told on standard error with the exit code 2.
+#![tactic(auto)]
+
+mod files;
+mod lines;
+mod notation;
+mod operands;
+mod order;
+mod report;
+mod rows;
+mod runs;
+mod sums;
+mod syntax;
+mod tables;
+mod times;
+mod tokens;
+mod tree;
+mod trouble;
+mod values;
+mod words;
+
+use report::Report;
+use std::alloc::Global;
+use std::process::ExitCode;
+use std::{env, io};
+use trouble::Trouble;
+use vtl_files::{DiskFiles, Files};
+use words::{Command, command_of};
+
+fn main(rt: HostRuntime) -> io::Result<ExitCode> {
+    let words: Vec<String> = env::args(&rt)?.skip(1).collect(rt.alloc())?;
+    let mut files = DiskFiles::new(rt.alloc(), &rt);
+    match carried_out(rt.alloc(), &words, &mut files) {
+        Ok(report) => {
+            print!(rt; "{}", report.text)?;
+            Ok(ExitCode::from(report.code))
+        }
+        Err(trouble) => {
+            eprintln!(rt; "vtl_probe: {trouble}")?;
+            Ok(ExitCode::from(2))
+        }
+    }
+}
+
+// What the words ask for.
+fn carried_out<F: Files>(
+    alloc: Global,
+    words: &[String],
+    files: &mut F,
+) -> Result<Report, Trouble> {
+    let Some(command) = command_of(words) else {
+        return Err(Trouble::Usage);
+    };
+    match command {
+        Command::Time(order) => runs::report(alloc, order),
+        Command::Table { table, path } => {
+            let text = files::text(alloc, files, path)?;
+            tables::report(alloc, table, "", &text)
+        }
+        Command::Prefixes { script, path } => {
+            let script = files::text(alloc, files, script)?;
+            let text = files::text(alloc, files, path)?;
+            tables::report(alloc, tables::Table::Prefixes, &script, &text)
+        }
+        Command::Tokens(path) => tokens::report(alloc, &files::text(alloc, files, path)?),
+        Command::Tree(path) => syntax::report(alloc, &files::text(alloc, files, path)?),
+    }
+}

@@ -1,0 +1,120 @@
+// How tables write profiles, kinds and values.
+use crate::trouble::Trouble;
+use std::alloc::{AllocError, Global};
+use vtl_cell::{Cell, Kind, read_cell, write_cell};
+use vtl_decimal::{Profile, Rounding};
+
+pub(crate) fn profile(scale: &str, rounding: &str) -> Result<Profile, Trouble> {
+    let scale: u8 = scale.parse().map_err(|_| Trouble::Value("no scale"))?;
+    let rounding = match rounding {
+        "half_up" => Rounding::HalfUp,
+        "half_even" => Rounding::HalfEven,
+        "down" => Rounding::Down,
+        _ => return Err(Trouble::Value("no rounding")),
+    };
+    Profile::new(scale, rounding).ok_or(Trouble::Value("no scale"))
+}
+
+// The scale, half away from zero, of tables that name none.
+pub(crate) fn default_profile() -> Result<Profile, Trouble> {
+    Profile::new(6, Rounding::HalfUp).ok_or(Trouble::Value("no scale"))
+}
+
+// Kinds have the words of the structures file, and the literal null has its own.
+pub(crate) fn kind(word: &str) -> Result<Kind, Trouble> {
+    Ok(match word {
+        "null" => Kind::Null,
+        "boolean" => Kind::Bool,
+        "integer" => Kind::Int,
+        "number" => Kind::Num,
+        "string" => Kind::Text,
+        "date" => Kind::Day,
+        "time_period" => Kind::Period,
+        _ => return Err(Trouble::Value("no kind")),
+    })
+}
+
+fn kind_word(cell: &Cell) -> &'static str {
+    match cell {
+        Cell::Null => "null",
+        Cell::Bool(_) => "boolean",
+        Cell::Int(_) => "integer",
+        Cell::Num(_) => "number",
+        Cell::Text(_) => "string",
+        Cell::Day(_) => "date",
+        Cell::Period(_) => "time_period",
+    }
+}
+
+// The value of a kind that a text stands for. An integer may be one that no profile has.
+pub(crate) fn cell(
+    alloc: Global,
+    kind: Kind,
+    text: &str,
+    profile: &Profile,
+) -> Result<Cell, Trouble> {
+    match kind {
+        Kind::Null => Ok(Cell::Null),
+        Kind::Int => Ok(Cell::Int(text.parse().map_err(|_| Trouble::Value("no integer"))?)),
+        _ => match read_cell(alloc, kind, text, profile)? {
+            Some(cell) => Ok(cell),
+            None => Err(Trouble::Value("no value of the kind")),
+        },
+    }
+}
+
+// The value that `KIND:TEXT` or `null` stands for.
+pub(crate) fn value(alloc: Global, text: &str, profile: &Profile) -> Result<Cell, Trouble> {
+    match text.split_once(":") {
+        Some((word, rest)) => cell(alloc, kind(word)?, rest, profile),
+        None if text == "null" => Ok(Cell::Null),
+        None => Err(Trouble::Value("no kind before a value")),
+    }
+}
+
+// The text of a value.
+pub(crate) fn text(alloc: Global, cell: &Cell, profile: &Profile) -> Result<String, Trouble> {
+    let mut out = Vec::new(alloc);
+    write_cell(cell, profile, &mut out)?;
+    String::from_utf8(out).map_err(|_| Trouble::Value("a value's text is not UTF-8"))
+}
+
+// A value as tables write it.
+pub(crate) fn shown(alloc: Global, cell: &Cell, profile: &Profile) -> Result<String, Trouble> {
+    let mut out = String::from_str(alloc, kind_word(cell))?;
+    if !matches!(cell, Cell::Null) {
+        out.push_str(":")?;
+        escape(&text(alloc, cell, profile)?, &mut out)?;
+    }
+    Ok(out)
+}
+
+fn escape(text: &str, out: &mut String) -> Result<(), AllocError> {
+    for c in text.chars() {
+        if c == '|' || c == '\\' {
+            out.push('\\')?;
+        }
+        out.push(c)?;
+    }
+    Ok(())
+}
+
+// The parts between `|`; of a text in which `\` stands before a `|` or `\` that is meant.
+pub(crate) fn parts(alloc: Global, text: &str) -> Result<Vec<String>, AllocError> {
+    let mut found = Vec::new(alloc);
+    let mut part = String::new(alloc);
+    let mut is_escaped = false;
+    for c in text.chars() {
+        if !is_escaped && c == '|' {
+            found.push(part)?;
+            part = String::new(alloc);
+        } else if !is_escaped && c == '\\' {
+            is_escaped = true;
+        } else {
+            part.push(c)?;
+            is_escaped = false;
+        }
+    }
+    found.push(part)?;
+    Ok(found)
+}

@@ -1,0 +1,43 @@
+// The fields of a case.
+use crate::trouble::Trouble;
+use csv::StringRecord;
+use std::alloc::{AllocError, Global};
+
+// A case: the fields of a line.
+#[derive(Clone, Copy)]
+pub(crate) struct Row<'a> {
+    pub(crate) fields: &'a StringRecord,
+}
+
+impl<'a> Row<'a> {
+    // A field that is not there is empty.
+    pub(crate) fn field(&self, place: usize) -> &'a str {
+        self.fields.get(place).unwrap_or("")
+    }
+
+    // A whole number.
+    pub(crate) fn whole(&self, place: usize) -> Result<i64, Trouble> {
+        self.field(place)
+            .parse()
+            .map_err(|_| Trouble::Value("no whole number"))
+    }
+
+    // A number of levels or bytes.
+    pub(crate) fn size(&self, place: usize) -> Result<usize, Trouble> {
+        self.field(place)
+            .parse()
+            .map_err(|_| Trouble::Value("no size"))
+    }
+
+    // The fields from a place on, with commas between them.
+    pub(crate) fn from(&self, alloc: Global, place: usize) -> Result<String, AllocError> {
+        let mut out = String::new(alloc);
+        for (at, field) in self.fields.iter().skip(place).enumerate() {
+            if at > 0 {
+                out.push_str(",")?;
+            }
+            out.push_str(field)?;
+        }
+        Ok(out)
+    }
+}

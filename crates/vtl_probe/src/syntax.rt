@@ -1,0 +1,97 @@
+// What is read of texts of scripts.
+use crate::lines::Lines;
+use crate::report::Report;
+use crate::rows::Row;
+use crate::tree::script;
+use crate::trouble::Trouble;
+use std::alloc::{AllocError, Global};
+use vtl_parser::{ParseErr, parse};
+
+// What is read of a text: what is told of the script, or its fault.
+enum Answer {
+    Script(String),
+    Fault { done: usize, byte: usize },
+}
+
+// The one owner of trees. The script is told by its tree, or by the number of its statements.
+fn answer(alloc: Global, text: &str, with_tree: bool) -> Result<Answer, Trouble> {
+    match parse(alloc, text) {
+        Ok(read) => {
+            let mut lines = Lines::new(alloc);
+            if with_tree {
+                script(&mut lines, &read)?;
+            } else {
+                lines.word(&read.statements.as_slice().len())?;
+            }
+            Ok(Answer::Script(lines.text))
+        }
+        Err(ParseErr::Syntax { done, byte }) => Ok(Answer::Fault { done, byte }),
+        Err(ParseErr::OutOfMemory) => Err(Trouble::Memory(AllocError)),
+    }
+}
+
+// The tree of the text, or the line of its fault.
+pub(crate) fn report(alloc: Global, text: &str) -> Result<Report, Trouble> {
+    match answer(alloc, text, true)? {
+        Answer::Script(text) => Ok(Report { text, code: 0 }),
+        Answer::Fault { done, byte } => {
+            let text = format!(in alloc; "error: syntax after {done} statements at byte {byte}\n")?;
+            Ok(Report { text, code: 1 })
+        }
+    }
+}
+
+// The number of statements, a comma, and the byte of the fault where there is one.
+pub(crate) fn outcome(alloc: Global, text: &str) -> Result<String, Trouble> {
+    Ok(match answer(alloc, text, false)? {
+        Answer::Script(count) => format!(in alloc; "{},", count.trim_end())?,
+        Answer::Fault { done, byte } => format!(in alloc; "{done},{byte}")?,
+    })
+}
+
+// Nothing where the nest is a statement at the most levels, and a fault of the first byte beyond.
+pub(crate) fn nested(alloc: Global, row: &Row) -> Result<String, Trouble> {
+    let most = row.size(5)?;
+    let mut out = String::new(alloc);
+    for more in [0, 1, 2, 1000] {
+        let wanted = if more == 0 { "1," } else { "0,0" };
+        let found = outcome(alloc, &nest(alloc, row, most.saturating_add(more))?)?;
+        if found.as_str() != wanted {
+            write!(out, "{found} at {more} more levels ")?;
+        }
+    }
+    Ok(out)
+}
+
+// A head, what opens a level, the middle, what closes a level, a tail.
+fn nest(alloc: Global, row: &Row, levels: usize) -> Result<String, AllocError> {
+    let mut out = String::from_str(alloc, row.field(0))?;
+    for _ in 0..levels {
+        out.push_str(row.field(1))?;
+    }
+    out.push_str(row.field(2))?;
+    for _ in 0..levels {
+        out.push_str(row.field(3))?;
+    }
+    out.push_str(row.field(4))?;
+    Ok(out)
+}
+
+// What the fronts of the script have in common whose sizes are in the row's range, ends included. No front ends within
+// a character.
+pub(crate) fn fronts(alloc: Global, script: &str, row: &Row) -> Result<String, Trouble> {
+    let mut common: Option<String> = None;
+    for size in row.size(0)?..=row.size(1)? {
+        let Some(front) = script.get(..size) else {
+            continue;
+        };
+        let found = outcome(alloc, front)?;
+        match common {
+            Some(before) if before != found => {
+                return Ok(format!(in alloc; "{before} and then {found} at {size}")?);
+            }
+            _ => common = Some(found),
+        }
+    }
+    common.ok_or(Trouble::Value("no front of the script has such a size"))
+}

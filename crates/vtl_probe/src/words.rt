@@ -1,0 +1,45 @@
+// The words of the command line.
+use crate::tables::Table;
+use crate::times::{Order, order_of};
+
+// What is asked for.
+pub(crate) enum Command<'a> {
+    Table { table: Table, path: &'a str },
+    Prefixes { script: &'a str, path: &'a str },
+    Tokens(&'a str),
+    Tree(&'a str),
+    Time(Order),
+}
+
+// The command that the words are.
+pub(crate) fn command_of(words: &[String]) -> Option<Command> {
+    let name = words.first()?.as_str();
+    let first = words.get(1)?.as_str();
+    match words.len() {
+        2 => with_one(name, first),
+        3 => with_two(name, first, words.get(2)?.as_str()),
+        _ => None,
+    }
+}
+
+fn with_one<'a>(name: &str, path: &'a str) -> Option<Command<'a>> {
+    match name {
+        "tokens" => Some(Command::Tokens(path)),
+        "tree" => Some(Command::Tree(path)),
+        _ => Some(Command::Table {
+            table: Table::named(name)?,
+            path,
+        }),
+    }
+}
+
+fn with_two<'a>(name: &str, first: &'a str, second: &'a str) -> Option<Command<'a>> {
+    match name {
+        "prefixes" => Some(Command::Prefixes {
+            script: first,
+            path: second,
+        }),
+        "time" => Some(Command::Time(order_of(first, second)?)),
+        _ => None,
+    }
+}
