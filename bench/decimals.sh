@@ -1,17 +1,17 @@
 #!/bin/sh
 # Times each operation on decimal numbers. The times are printed, and nothing is asserted of them.
-# The program is the one built in crates/vtl_bench; another may be given as the only word.
+# The program is the one built in crates/vtl_probe; another may be given as the only word.
 top=$(dirname -- "$(readlink -f -- "$0")")/..
-program=${1:-$top/crates/vtl_bench/out/vtl_bench}
+program=${1:-$top/crates/vtl_probe/out/vtl_probe}
 if [ ! -x "$program" ]; then
-    echo "decimals.sh: there is no program at $program; build it by: cd crates/vtl_bench && rt run" >&2
+    echo "decimals.sh: there is no program at $program; scripts/build.sh vtl_probe builds it" >&2
     exit 1
 fi
 
 # Runs an operation a number of times, and prints how long it took.
 time_run() {
     start=$(date +%s%N)
-    "$program" "$1" "$2" >/dev/null || exit
+    "$program" time "$1" "$2" >/dev/null || exit
     end=$(date +%s%N)
     awk -v operation="$1" -v count="$2" -v nanoseconds=$((end - start)) 'BEGIN {
         printf "%-10s %11d %8d %14.0f\n", operation, count, nanoseconds / 1e6, count * 1e9 / nanoseconds

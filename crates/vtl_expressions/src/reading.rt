@@ -4,7 +4,6 @@ ghost use Rattle.vtl_grammar.specs.ReadExpressions.{read};
 ghost use Rattle.vtl_grammar.specs.ReadStatements.{whole_exp};
 ghost use Rattle.vtl_expressions.specs.Reads.{Answers, box_tree};
 ghost use Rattle.vtl_parts.specs.Answers.{AnswersBy};
-ghost use Rattle.vtl_syntax.specs.View.{expr_tree};
 
 use crate::grammar::Grammar;
 use crate::reads::Read;
@@ -39,14 +38,15 @@ fn read(
     grammar.level(level, tokens)
 }
 
-/// The expression at the front of the tokens, the longest of depth 128 at most.
+/// The expression at the front of the tokens, the longest of depth 128 at most; in its box, since a tree that is moved
+/// by value is dear to check.
 #[tactic(auto, unfolding(vtl_grammar::specs::ReadStatements::whole_exp))]
-pub fn whole_expression(alloc: Global, tokens: &[Token]) -> Result<Front<'_, Expr>, Unread>
-    ensures { AnswersBy expr_tree (whole_exp (kinds tokens.now)) result }
+pub fn whole_expression(alloc: Global, tokens: &[Token]) -> Result<Front<'_, Box<Expr>>, Unread>
+    ensures { AnswersBy box_tree (whole_exp (kinds tokens.now)) result }
 {
     let Read { tree, rest, .. } = read(alloc, DEPTH_LIMIT, Level::Expression, tokens)?;
     Ok(Front {
-        part: Box::into_inner(tree),
+        part: tree,
         rest,
     })
 }

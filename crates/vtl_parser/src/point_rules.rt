@@ -1,10 +1,11 @@
 // Rules of datapoint rulesets.
-ghost use Rattle.std.specs.Prelude.{option_map};
+ghost use Rattle.std.specs.Prelude.{◌≡◌, option_map};
 ghost use Rattle.vtl_grammar.specs.Faults.{kinds};
 ghost use Rattle.vtl_grammar.specs.ReadStatements.{point_rule_read, when_part};
 ghost use Rattle.vtl_parser.specs.RuleParts.{first_by, holds_read, rule_behind};
 ghost use Rattle.vtl_parts.specs.Answers.{AnswersBy};
 ghost use Rattle.vtl_syntax.specs.View.{expr_tree, point_rule_tree};
+ghost use Rattle.vtl_expressions.specs.Reads.{box_tree};
 
 use crate::heads::rule_name;
 use crate::rules::Rule;
@@ -17,8 +18,8 @@ use vtl_text::Txt;
 
 // `when condition then`, if it stands there.
 #[tactic(auto, unfolding(vtl_grammar::specs::ReadStatements::when_part))]
-fn when_part(alloc: Global, tokens: &[Token]) -> Result<Front<'_, Option<Expr>>, Unread>
-    ensures { AnswersBy (option_map expr_tree) (when_part (kinds tokens.now)) result }
+fn when_part(alloc: Global, tokens: &[Token]) -> Result<Front<'_, Option<Box<Expr>>>, Unread>
+    ensures { AnswersBy (option_map box_tree) (when_part (kinds tokens.now)) result }
 {
     let Some(after) = after_keyword(tokens, Keyword::When) else {
         return Ok(Front {
@@ -36,8 +37,8 @@ fn when_part(alloc: Global, tokens: &[Token]) -> Result<Front<'_, Option<Expr>>,
 
 // What has to hold, and its error.
 #[tactic(auto, unfolding(crate::specs::RuleParts::holds_read))]
-fn holds(alloc: Global, tokens: &[Token]) -> Result<Front<'_, (Expr, ErrorPart)>, Unread>
-    ensures { AnswersBy (first_by expr_tree) (holds_read (kinds tokens.now)) result }
+fn holds(alloc: Global, tokens: &[Token]) -> Result<Front<'_, (Box<Expr>, ErrorPart)>, Unread>
+    ensures { AnswersBy (first_by box_tree) (holds_read (kinds tokens.now)) result }
 {
     let value = whole_expression(alloc, tokens)?;
     let error = error_part(value.rest)?;
@@ -52,21 +53,30 @@ fn holds(alloc: Global, tokens: &[Token]) -> Result<Front<'_, (Expr, ErrorPart)>
 fn rule_behind(
     alloc: Global,
     name: Option<Txt>,
-    when: Option<Expr>,
+    when: Option<Box<Expr>>,
     tokens: &[Token],
 ) -> Result<Front<'_, PointRule>, Unread>
-    ensures { AnswersBy point_rule_tree (rule_behind name (option_map expr_tree when) (kinds tokens.now)) result }
+    ensures { AnswersBy point_rule_tree (rule_behind name (option_map box_tree when) (kinds tokens.now)) result }
 {
     let Front { part, rest } = holds(alloc, tokens)?;
     Ok(Front {
         part: PointRule {
             name,
-            when,
-            holds: part.0,
+            when: unboxed(when),
+            holds: Box::into_inner(part.0),
             error: part.1,
         },
         rest,
     })
+}
+
+fn unboxed(when: Option<Box<Expr>>) -> Option<Expr>
+    ensures { option_map expr_tree result ≡ option_map box_tree when }
+{
+    match when {
+        Some(condition) => Some(Box::into_inner(condition)),
+        None => None,
+    }
 }
 
 // `name: when condition then holds error`

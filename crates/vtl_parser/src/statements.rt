@@ -4,7 +4,8 @@ ghost use Rattle.vtl_grammar.specs.Faults.{kinds};
 ghost use Rattle.vtl_grammar.specs.ReadStatements.{assignment_read, datapoint_read, hierarchical_read, script_read, statement_read};
 ghost use Rattle.vtl_parser.specs.RuleParts.{value_read};
 ghost use Rattle.vtl_parts.specs.Answers.{AnswersBy};
-ghost use Rattle.vtl_syntax.specs.View.{expr_tree, statement_tree};
+ghost use Rattle.vtl_expressions.specs.Reads.{box_tree};
+ghost use Rattle.vtl_syntax.specs.View.{statement_tree};
 
 use crate::heads::ruleset_head;
 use crate::rules::rules_between;
@@ -17,8 +18,8 @@ use vtl_text::List;
 
 // An expression, with a semicolon behind it.
 #[tactic(auto, unfolding(crate::specs::RuleParts::value_read))]
-fn value(alloc: Global, tokens: &[Token]) -> Result<Front<'_, Expr>, Unread>
-    ensures { AnswersBy expr_tree (value_read (kinds tokens.now)) result }
+fn value(alloc: Global, tokens: &[Token]) -> Result<Front<'_, Box<Expr>>, Unread>
+    ensures { AnswersBy box_tree (value_read (kinds tokens.now)) result }
 {
     let Front { part, rest } = whole_expression(alloc, tokens)?;
     let rest = after_sign(rest, Sign::Semicolon).ok_or(Unread::Absent)?;
@@ -37,7 +38,7 @@ fn assignment(alloc: Global, tokens: &[Token]) -> Result<Front<'_, Statement>, U
         part: Statement::Assignment {
             name: named.part,
             kind: kind.part,
-            value: part,
+            value: Box::into_inner(part),
         },
         rest,
     })

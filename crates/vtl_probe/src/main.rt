@@ -56,17 +56,17 @@ fn carried_out<F: Files>(
         return Err(Trouble::Usage);
     };
     match command {
-        Command::Time(order) => runs::report(alloc, order),
+        Command::Time(order) => runs::printed(alloc, order),
         Command::Table { table, path } => {
             let text = files::text(alloc, files, path)?;
-            tables::report(alloc, table, "", &text)
+            tables::verdict(alloc, table, "", &text)
         }
         Command::Prefixes { script, path } => {
             let script = files::text(alloc, files, script)?;
             let text = files::text(alloc, files, path)?;
-            tables::report(alloc, tables::Table::Prefixes, &script, &text)
+            tables::verdict(alloc, tables::Table::Prefixes, &script, &text)
         }
-        Command::Tokens(path) => tokens::report(alloc, &files::text(alloc, files, path)?),
-        Command::Tree(path) => syntax::report(alloc, &files::text(alloc, files, path)?),
+        Command::Tokens(path) => tokens::printed(alloc, &files::text(alloc, files, path)?),
+        Command::Tree(path) => syntax::printed(alloc, &files::text(alloc, files, path)?),
     }
 }

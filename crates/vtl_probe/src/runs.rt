@@ -80,7 +80,7 @@ fn checksum(alloc: Global, order: Order) -> Result<i64, AllocError> {
 }
 
 // The checksum of an order's results, on a line.
-pub(crate) fn report(alloc: Global, order: Order) -> Result<Report, Trouble> {
+pub(crate) fn printed(alloc: Global, order: Order) -> Result<Report, Trouble> {
     let sum = checksum(alloc, order)?;
     let text = format!(in alloc; "{sum}\n")?;
     Ok(Report { text, code: 0 })

@@ -14,14 +14,14 @@ enum Answer {
 }
 
 // The one owner of trees. The script is told by its tree, or by the number of its statements.
-fn answer(alloc: Global, text: &str, with_tree: bool) -> Result<Answer, Trouble> {
+fn read(alloc: Global, text: &str, with_tree: bool) -> Result<Answer, Trouble> {
     match parse(alloc, text) {
-        Ok(read) => {
+        Ok(found) => {
             let mut lines = Lines::new(alloc);
             if with_tree {
-                script(&mut lines, &read)?;
+                script(&mut lines, &found)?;
             } else {
-                lines.word(&read.statements.as_slice().len())?;
+                lines.word(&found.statements.as_slice().len())?;
             }
             Ok(Answer::Script(lines.text))
         }
@@ -31,8 +31,8 @@ fn answer(alloc: Global, text: &str, with_tree: bool) -> Result<Answer, Trouble>
 }
 
 // The tree of the text, or the line of its fault.
-pub(crate) fn report(alloc: Global, text: &str) -> Result<Report, Trouble> {
-    match answer(alloc, text, true)? {
+pub(crate) fn printed(alloc: Global, text: &str) -> Result<Report, Trouble> {
+    match read(alloc, text, true)? {
         Answer::Script(text) => Ok(Report { text, code: 0 }),
         Answer::Fault { done, byte } => {
             let text = format!(in alloc; "error: syntax after {done} statements at byte {byte}\n")?;
@@ -43,7 +43,7 @@ pub(crate) fn report(alloc: Global, text: &str) -> Result<Report, Trouble> {
 
 // The number of statements, a comma, and the byte of the fault where there is one.
 pub(crate) fn outcome(alloc: Global, text: &str) -> Result<String, Trouble> {
-    Ok(match answer(alloc, text, false)? {
+    Ok(match read(alloc, text, false)? {
         Answer::Script(count) => format!(in alloc; "{},", count.trim_end())?,
         Answer::Fault { done, byte } => format!(in alloc; "{done},{byte}")?,
     })

@@ -82,7 +82,7 @@ impl Table {
 }
 
 // The verdict on a table.
-pub(crate) fn report(
+pub(crate) fn verdict(
     alloc: Global,
     table: Table,
     script: &str,

@@ -1,20 +1,25 @@
 // The tokens of a text.
 use crate::report::Report;
 use crate::trouble::Trouble;
-use std::alloc::Global;
-use vtl_lexer::{Lexed, tokens_before_fault};
+use std::alloc::{AllocError, Global};
+use vtl_lexer::{LexErr, Token, lex, tokens_before_fault};
 
 // Each token with the bytes where it starts and ends, and the byte from which none starts; a separator behind each.
-fn listed(alloc: Global, lexed: &Lexed, separator: &str) -> Result<String, Trouble> {
+fn listed(
+    alloc: Global,
+    tokens: &[Token],
+    bad: Option<usize>,
+    separator: &str,
+) -> Result<String, AllocError> {
     let mut out = String::new(alloc);
-    for token in lexed.tokens.as_slice() {
+    for token in tokens {
         write!(
             out,
             "{:?} {} {}{separator}",
             token.kind, token.start, token.end
         )?;
     }
-    if let Some(byte) = lexed.bad {
+    if let Some(byte) = bad {
         write!(out, "error: no token at byte {byte}{separator}")?;
     }
     Ok(out)
@@ -22,13 +27,24 @@ fn listed(alloc: Global, lexed: &Lexed, separator: &str) -> Result<String, Troub
 
 // The tokens on one line.
 pub(crate) fn shown(alloc: Global, text: &str) -> Result<String, Trouble> {
-    listed(alloc, &tokens_before_fault(alloc, text)?, ";")
+    let lexed = tokens_before_fault(alloc, text)?;
+    Ok(listed(alloc, lexed.tokens.as_slice(), lexed.bad, ";")?)
 }
 
 // The tokens, a line each.
-pub(crate) fn report(alloc: Global, text: &str) -> Result<Report, Trouble> {
-    let lexed = tokens_before_fault(alloc, text)?;
-    let text = listed(alloc, &lexed, "\n")?;
-    let code = if lexed.bad.is_some() { 1 } else { 0 };
-    Ok(Report { text, code })
+pub(crate) fn printed(alloc: Global, text: &str) -> Result<Report, Trouble> {
+    match lex(alloc, text) {
+        Ok(tokens) => Ok(Report {
+            text: listed(alloc, &tokens, None, "\n")?,
+            code: 0,
+        }),
+        Err(LexErr::Bad { byte }) => {
+            let lexed = tokens_before_fault(alloc, text)?;
+            Ok(Report {
+                text: listed(alloc, lexed.tokens.as_slice(), Some(byte), "\n")?,
+                code: 1,
+            })
+        }
+        Err(LexErr::OutOfMemory) => Err(Trouble::Memory(AllocError)),
+    }
 }
