@@ -99,21 +99,29 @@ fn escape(text: &str, out: &mut String) -> Result<(), AllocError> {
     Ok(())
 }
 
-// The parts between `|`; of a text in which `\` stands before a `|` or `\` that is meant.
-pub(crate) fn parts(alloc: Global, text: &str) -> Result<Vec<String>, AllocError> {
+// The parts between `|`; of a text in which `\` stands before a `|` or `\` that is meant, and before nothing else.
+pub(crate) fn parts(alloc: Global, text: &str) -> Result<Vec<String>, Trouble> {
     let mut found = Vec::new(alloc);
     let mut part = String::new(alloc);
     let mut is_escaped = false;
     for c in text.chars() {
-        if !is_escaped && c == '|' {
+        if is_escaped {
+            if c != '|' && c != '\\' {
+                return Err(Trouble::Value("a \\ before another character"));
+            }
+            part.push(c)?;
+            is_escaped = false;
+        } else if c == '|' {
             found.push(part)?;
             part = String::new(alloc);
-        } else if !is_escaped && c == '\\' {
+        } else if c == '\\' {
             is_escaped = true;
         } else {
             part.push(c)?;
-            is_escaped = false;
         }
+    }
+    if is_escaped {
+        return Err(Trouble::Value("a \\ before nothing"));
     }
     found.push(part)?;
     Ok(found)

@@ -3,7 +3,7 @@ use crate::report::{Report, Tally};
 use crate::rows::Row;
 use crate::trouble::Trouble;
 use crate::{order, sums, syntax, tokens, values};
-use csv::{ReaderBuilder, StringRecord};
+use csv::{Error, ErrorKind, ReaderBuilder, StringRecord};
 use std::alloc::{AllocError, Global};
 
 // What the cases of a table are about.
@@ -90,16 +90,16 @@ pub(crate) fn verdict(
 ) -> Result<Report, Trouble> {
     let mut reader = ReaderBuilder::new()
         .has_headers(false)
-        .flexible(true)
         .from_reader(alloc, text.as_bytes());
     let mut fields = StringRecord::new(alloc);
     let mut tally = Tally::new(alloc);
     let (header, given) = table.header();
     for case in 0..=text.len() {
-        if !reader
+        let is_read = reader
             .read_record(&mut fields)
-            .map_err(|_| Trouble::Memory(AllocError))?
-        {
+            .map_err(|error| unread(&error, case))?;
+        // An empty file has an empty header.
+        if !is_read && case > 0 {
             break;
         }
         let row = Row { fields: &fields };
@@ -110,6 +110,17 @@ pub(crate) fn verdict(
         }
     }
     Ok(tally.report()?)
+}
+
+// Why a line is no case.
+fn unread(error: &Error, case: usize) -> Trouble {
+    match error.kind() {
+        ErrorKind::UnequalLengths { .. } => Trouble::Case {
+            case,
+            why: "not as many fields as the header has",
+        },
+        _ => Trouble::Memory(AllocError),
+    }
 }
 
 fn judge(
