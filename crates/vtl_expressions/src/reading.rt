@@ -45,8 +45,5 @@ pub fn whole_expression(alloc: Global, tokens: &[Token]) -> Result<Front<'_, Box
     ensures { AnswersBy box_tree (whole_exp (kinds tokens.now)) result }
 {
     let Read { tree, rest, .. } = read(alloc, DEPTH_LIMIT, Level::Expression, tokens)?;
-    Ok(Front {
-        part: tree,
-        rest,
-    })
+    Ok(Front { part: tree, rest })
 }
