@@ -117,7 +117,7 @@ pub(crate) fn remainder(operands: Pair, p: &Profile) -> Result<Cell, Fault>
 }
 
 pub(crate) fn floor(a: &Cell, p: &Profile) -> Result<Cell, Fault>
-    ensures { result ≡ row.floor_of p.now a.now }
+    ensures { result ≡ row.whole_below p.now a.now }
 {
     match number_in(a, p)? {
         Some(k) => Ok(Cell::Int(vtl_decimal::floor(k, p)?)),
@@ -126,7 +126,7 @@ pub(crate) fn floor(a: &Cell, p: &Profile) -> Result<Cell, Fault>
 }
 
 pub(crate) fn ceil(a: &Cell, p: &Profile) -> Result<Cell, Fault>
-    ensures { result ≡ row.ceil_of p.now a.now }
+    ensures { result ≡ row.whole_above p.now a.now }
 {
     match number_in(a, p)? {
         Some(k) => Ok(Cell::Int(vtl_decimal::ceil(k, p)?)),
