@@ -62,15 +62,19 @@ pub choice_has_three : (o : ScalarOp) (n : ℕ) → is_choice o n ≡ true → n
 choice_has_three op.If n h = eqb-true n 3 h
 choice_has_three other n h = cc
 
-no_choice : (p : Settings) (kind : Kind) (o : ScalarOp) (ms : List (Outcome Cell)) → is_choice o (length ms) ≡ false → called p kind o ms ≡ after (all_of ms) (result_of p o kind)
+no_choice : (p : Settings) (kind : Kind) (o : ScalarOp) (ms : List (Outcome Cell)) → is_choice o (length ms) ≡ false → called p kind ms o ≡ after (all_of ms) (result_of p o kind)
 no_choice p kind op.If (x ∷ y ∷ z ∷ []) h = cc
-no_choice p kind o ms h = refl
+no_choice p kind o [] h = refl
+no_choice p kind o (x ∷ []) h = refl
+no_choice p kind o (x ∷ y ∷ []) h = refl
+no_choice p kind o (x ∷ y ∷ z ∷ []) h = refl
+no_choice p kind o (x ∷ y ∷ z ∷ w ∷ more) h = refl
 
 as_many : (p : Settings) (items : List CompExpr) (row : List Cell) → length (values p (exps_of (map exp_of items)) row) ≡ length items
 as_many p [] row = refl
 as_many p (x ∷ xs) row = ap suc (as_many p xs row)
 
-three_items : (p : Settings) (kind : Kind) (row : List Cell) (o : ScalarOp) (items : List CompExpr) → is_choice o (length items) ≡ true → (x y z : CompExpr) → called p kind o (values p (exps_of (map exp_of items)) row) ≡ after (value p (exp_of (get_or items 0 x)) row) (λ t. after (branch (first_chosen t) (value p (exp_of (get_or items 1 y)) row) (value p (exp_of (get_or items 2 z)) row)) (as_kind p kind))
+three_items : (p : Settings) (kind : Kind) (row : List Cell) (o : ScalarOp) (items : List CompExpr) → is_choice o (length items) ≡ true → (x y z : CompExpr) → called p kind (values p (exps_of (map exp_of items)) row) o ≡ after (value p (exp_of (get_or items 0 x)) row) (λ t. after (branch (first_chosen t) (value p (exp_of (get_or items 1 y)) row) (value p (exp_of (get_or items 2 z)) row)) (as_kind p kind))
 three_items p kind row op.If (a ∷ b ∷ c ∷ []) h x y z = refl
 three_items p kind row op.If [] h x y z = cc
 three_items p kind row op.If (a ∷ []) h x y z = cc
@@ -80,8 +84,8 @@ three_items p kind row o items h x y z = cc
 
 -- the value of a whole call, whose operands are these items
 module _ (p : Settings) (e : CompExpr) (o : ScalarOp) (kind : Kind) (args : Vec CompExpr Global) (row : List Cell) (is : e ≡ Apply o kind args) (items : List CompExpr) (same : items ≡ args.items) where
-  called-is : value p (exp_of e) row ≡ called p kind o (values p (exps_of (map exp_of items)) row)
-  called-is = ap (λ x. value p (exp_of x) row) is ∙ ap (λ x. value p x row) (exp_of-Apply o kind args) ∙ ap (λ l. called p kind o (values p (exps_of (map exp_of l)) row)) (sym same)
+  called-is : value p (exp_of e) row ≡ called p kind (values p (exps_of (map exp_of items)) row) o
+  called-is = ap (λ x. value p (exp_of x) row) is ∙ ap (λ x. value p x row) (exp_of-Apply o kind args) ∙ ap (λ l. called p kind (values p (exps_of (map exp_of l)) row) o) (sym same)
 
   -- of a choice
   abbrev chosen : Outcome Cell → Outcome Cell → Cell → Outcome Cell

@@ -39,15 +39,15 @@ is_choice op.If n = n == 3
 is_choice other n = false
 
 -- the value of an operator whose operands have these values or faults: the branch that `if` does not choose counts for nothing
-abbrev pub called : Settings → Kind → ScalarOp → List (Outcome Cell) → Outcome Cell
-called p kind op.If (test ∷ a ∷ b ∷ []) = after test (λ t. after (branch (first_chosen t) a b) (as_kind p kind))
-called p kind o operands = after (all_of operands) (result_of p o kind)
+abbrev pub called : Settings → Kind → List (Outcome Cell) → ScalarOp → Outcome Cell
+called p kind (test ∷ a ∷ b ∷ []) op.If = after test (λ t. after (branch (first_chosen t) a b) (as_kind p kind))
+called p kind operands o = after (all_of operands) (result_of p o kind)
 
 abbrev mutual
   pub value : Settings → Exp → Row → Outcome Cell
   value p (column place name kind) row = Ok (column_of place row)
   value p (const v) row = Ok v
-  value p (call o kind args) row = called p kind o (values p args row)
+  value p (call o kind args) row = called p kind (values p args row) o
 
   -- of each operand
   pub values : Settings → Exps → Row → List (Outcome Cell)
