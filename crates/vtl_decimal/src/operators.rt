@@ -68,7 +68,9 @@ pub fn div(a: Dec, b: Dec, p: &Profile) -> Result<Dec, Fault>
 /// What is left of `a` where `b` is taken away as often as the floor of `a / b` says: zero, or of
 /// the sign of `b` and smaller. It is `a` where `b` is zero.
 pub fn modulo(a: Dec, b: Dec) -> Dec
-    ensures { result ≡ remainder a b }
+    ensures value { result ≡ remainder a b }
+    ensures above { pos 0 <ℤ b → (pos 0 ≤ℤ result) × (result <ℤ b) }
+    ensures below { b <ℤ pos 0 → (b <ℤ result) × (result ≤ℤ pos 0) }
 {
     Dec::of(modulo_whole(a.k(), b.k()))
 }
