@@ -11,7 +11,7 @@ use Rattle.std.proofs.lemmas.Nat.{from_le_bytes-to_le_bytes_2, from_le_bytes-to_
 use Rattle.std.proofs.lemmas.Str.{chars-encodes}
 use mir.Val.{of_z, to_z}
 use Rattle.vtl_time.specs.Days.{CalendarDay, is_calendar_day}
-use Rattle.vtl_time.specs.Periods.{YearPart, is_year_part, rank_of as frequency_rank}
+use Rattle.vtl_time.specs.Periods.{YearPart, is_year_part, frequency_rank}
 use Rattle.vtl_time.specs.declared.periods.Frequency.{Frequency}
 use Rattle.vtl_time.specs.declared.periods.Frequency.TheVariants.{Annual, Semester, Quarter, Month}
 use Rattle.vtl_cell.proofs.Rows.{split_and}
