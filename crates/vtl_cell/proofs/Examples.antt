@@ -8,7 +8,7 @@ use Rattle.vtl_cell.specs.declared.cell.Cell.TheVariants.{Null, Int, Num}
 use Rattle.vtl_cell.specs.declared.operator.AggKind.TheVariants.{Sum, Avg, Count, Min, Max, Median}
 use Rattle.vtl_cell.specs.Outcome.{DivZero, Range}
 use Rattle.vtl_cell.specs.Groups.{group_value, count_of_points, ratio_of}
-use Rattle.vtl_cell.specs.Sorted.{Key, rising, by_keys, in_order, rank_of}
+use Rattle.vtl_cell.specs.Sorted.{Key, rising, by_keys, in_order, row_rank}
 use Rattle.vtl_cell.specs.Frames.{UnboundedPreceding, Preceding, Current, Following, UnboundedFollowing, frame_of, first_cell, last_cell, lag_of, lead_of}
 use Rattle.vtl_cell.specs.Row.{Row}
 
@@ -95,10 +95,10 @@ falls = refl
 ties : by_keys (rising 0 ∷ []) (row (Int (pos 2)) 0) (row (Int (pos 2)) 1) ≡ Equal
 ties = refl
 
-ranked_with_ties : rank_of scale_six (rising 0 ∷ []) (row (Int (pos 2)) 1) rows ≡ Ok (Int (pos 2))
+ranked_with_ties : row_rank scale_six (rising 0 ∷ []) (row (Int (pos 2)) 1) rows ≡ Ok (Int (pos 2))
 ranked_with_ties = refl
 
-ranked_falling : rank_of scale_six (falling 0 ∷ []) (row Null 2) rows ≡ Ok (Int (pos 4))
+ranked_falling : row_rank scale_six (falling 0 ∷ []) (row Null 2) rows ≡ Ok (Int (pos 4))
 ranked_falling = refl
 
 -- ---- frames

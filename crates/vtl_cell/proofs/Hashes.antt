@@ -11,13 +11,13 @@ use Rattle.std.proofs.lemmas.Nat.{from_le_bytes-to_le_bytes_2, from_le_bytes-to_
 use Rattle.std.proofs.lemmas.Str.{chars-encodes}
 use mir.Val.{of_z, to_z}
 use Rattle.vtl_time.specs.Days.{CalendarDay, is_calendar_day}
-use Rattle.vtl_time.specs.Periods.{YearPart, is_year_part, rank_of as frequency_rank}
+use Rattle.vtl_time.specs.Periods.{YearPart, is_year_part, frequency_rank}
 use Rattle.vtl_time.specs.declared.periods.Frequency.{Frequency}
 use Rattle.vtl_time.specs.declared.periods.Frequency.TheVariants.{Annual, Semester, Quarter, Month}
 use Rattle.vtl_cell.proofs.Rows.{split_and}
 use Rattle.vtl_cell.proofs.Times.{day_of_parts, period_of_parts, rank_apart}
 use Rattle.vtl_cell.specs.Held.{IsHeld}
-use Rattle.vtl_cell.specs.Order.{rank_of}
+use Rattle.vtl_cell.specs.Order.{kind_rank}
 use Rattle.vtl_cell.specs.declared.cell.Cell.{Cell}
 use Rattle.vtl_cell.specs.declared.cell.Cell.TheVariants as c
 use Rattle.vtl_cell.specs.contracts.cell.CellHash.TheImpl.{hash_input-value}
@@ -47,7 +47,7 @@ unfolding le_bytes
 short_same m n h k e = sym (from_le_bytes-to_le_bytes_2 m h) ∙ ap (from_le_bytes w16) e ∙ from_le_bytes-to_le_bytes_2 n k
 
 -- ---- the kind comes first
-kind_fed : (x : Cell) → first (fed x) ≡ le_bytes 8 (rank_of x)
+kind_fed : (x : Cell) → first (fed x) ≡ le_bytes 8 (kind_rank x)
 kind_fed c.Null = refl
 kind_fed (c.Bool b) = refl
 kind_fed (c.Int n) = refl
@@ -56,7 +56,7 @@ kind_fed (c.Text t) = refl
 kind_fed (c.Day d) = refl
 kind_fed (c.Period q) = refl
 
-rank_small : (x : Cell) → rank_of x < 2 ^ 64
+rank_small : (x : Cell) → kind_rank x < 2 ^ 64
 rank_small c.Null = omega arith
 rank_small (c.Bool b) = omega arith
 rank_small (c.Int n) = omega arith
@@ -65,8 +65,8 @@ rank_small (c.Text t) = omega arith
 rank_small (c.Day d) = omega arith
 rank_small (c.Period q) = omega arith
 
-same_kind : (x y : Cell) → fed x ≡ fed y → rank_of x ≡ rank_of y
-same_kind x y e = wide_same (rank_of x) (rank_of y) (rank_small x) (rank_small y) (sym (kind_fed x) ∙ ap first e ∙ kind_fed y)
+same_kind : (x y : Cell) → fed x ≡ fed y → kind_rank x ≡ kind_rank y
+same_kind x y e = wide_same (kind_rank x) (kind_rank y) (rank_small x) (rank_small y) (sym (kind_fed x) ∙ ap first e ∙ kind_fed y)
 
 -- ---- then the value
 bits_small : (n : ℤ) → FitsSigned w64 n → of_z w64 n < 2 ^ 64

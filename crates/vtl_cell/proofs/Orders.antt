@@ -6,7 +6,7 @@ use Rattle.std.specs.Cmp.{IsTotalOrder}
 use Rattle.std.specs.FinMap.{nat_cmp-IsAntisymmetric, int_cmp-IsAntisymmetric, slice_cmp-IsAntisymmetric}
 use Rattle.std.specs.Ordering.{bool_cmp, nat_cmp, ordering_then}
 use Rattle.vtl_time.specs.Days.{CalendarDay, day_cmp}
-use Rattle.vtl_time.specs.Periods.{YearPart, period_cmp, rank_of}
+use Rattle.vtl_time.specs.Periods.{YearPart, period_cmp, frequency_rank}
 use Rattle.vtl_time.specs.declared.periods.Frequency.{Frequency}
 use Rattle.vtl_cell.proofs.Times.{day_of_parts, period_of_parts, rank_apart}
 use Rattle.vtl_cell.specs.Order.{cell_cmp}
@@ -89,12 +89,12 @@ day_ties x y e =
     let b = then_ties (nat_cmp x.month y.month) (nat_cmp x.day y.day) a.1 in
     day_of_parts x y (nat_cmp-IsAntisymmetric x.year y.year a.0) (nat_cmp-IsAntisymmetric x.month y.month b.0) (nat_cmp-IsAntisymmetric x.day y.day b.1)
 
-rank_ties : (f g : Frequency) → nat_cmp (rank_of f) (rank_of g) ≡ Equal → f ≡ g
-rank_ties f g e = rank_apart f g (nat_cmp-IsAntisymmetric (rank_of f) (rank_of g) e)
+rank_ties : (f g : Frequency) → nat_cmp (frequency_rank f) (frequency_rank g) ≡ Equal → f ≡ g
+rank_ties f g e = rank_apart f g (nat_cmp-IsAntisymmetric (frequency_rank f) (frequency_rank g) e)
 
 period_ties : (x y : YearPart) → period_cmp x y ≡ Equal → x ≡ y
 period_ties x y e =
-    let a = then_ties (nat_cmp (rank_of x.frequency) (rank_of y.frequency)) (ordering_then (nat_cmp x.year y.year) (nat_cmp x.part y.part)) e in
+    let a = then_ties (nat_cmp (frequency_rank x.frequency) (frequency_rank y.frequency)) (ordering_then (nat_cmp x.year y.year) (nat_cmp x.part y.part)) e in
     let b = then_ties (nat_cmp x.year y.year) (nat_cmp x.part y.part) a.1 in
     period_of_parts x y (rank_ties x.frequency y.frequency a.0) (nat_cmp-IsAntisymmetric x.year y.year b.0) (nat_cmp-IsAntisymmetric x.part y.part b.1)
 

@@ -10,8 +10,7 @@ use Rattle.std.specs.Cmp.Lexicographic.{lists_total}
 use Rattle.std.specs.FinMap.{slice_cmp-IsAntisymmetric}
 use Rattle.vtl_lists.specs.Sorting.{IsOrder, le_by}
 use Rattle.vtl_lists.proofs.Sorts.{IsOrder-le_by}
-use Rattle.vtl_cell.specs.Equal.{same_cell}
-use Rattle.vtl_cell.specs.Order.{cell_cmp}
+use Rattle.vtl_cell.specs.Order.{cell_cmp, same_cell}
 use Rattle.vtl_cell.specs.Row.{Row, same_row, same_key, row_cmp}
 use Rattle.vtl_cell.proofs.Cells.{same_cell-is, same_cell-refl}
 use Rattle.vtl_cell.proofs.Orders.{cell_cmp_total, cell_cmp-ties}

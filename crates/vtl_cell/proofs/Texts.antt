@@ -1,17 +1,16 @@
 -- The text of a value stands for the value.
-use Rattle.std.proofs.Common.{ℕ, suc, ℤ, pos, negsuc, ◌≡◌, ◌-◌, ◌*◌, ◌/◌, ◌%◌, ◌^◌, ◌<◌, ◌≤◌, Bool, true, false, cond, List, [], ◌∷◌, ◌++◌, length, Option, Some, None, Ok, Err, refl, ap, sym, ◌∙◌, arith, rules, append-nil, length-append}
+use Rattle.std.proofs.Common.{ℕ, suc, ℤ, pos, negsuc, ◌≡◌, ◌-◌, ◌*◌, ◌/◌, ◌%◌, ◌^◌, ◌<◌, ◌≤◌, Bool, true, false, cond, List, [], ◌∷◌, ◌++◌, length, Option, Some, None, Ok, Err, refl, ap, sym, ◌∙◌, arith, append-nil, length-append}
 use Rattle.std.specs.Prelude.{unsigned_abs, nat_lt, option_and_then, option_map, ◌==◌}
-use Rattle.std.specs.Char.{is_ascii_digit}
 use Rattle.std.specs.Fmt.{decimal, signed_decimal}
-use Rattle.std.specs.List.{list_all}
 use Rattle.std.specs.Result.{result_ok}
+use Rattle.std.specs.Str.{all_ascii_digits}
 use Rattle.std.specs.Str.Parse.{digits_value}
 use Rattle.std.proofs.Math.Nat.{pow-le-pow_right}
 use Rattle.std.proofs.lemmas.Bool.{eq-eqb, ltb-true}
 use Rattle.std.proofs.lemmas.Fmt.{decimal_nonempty, digits_decimal, digits_value-decimal, length-decimal-le}
 use Rattle.std.proofs.lemmas.Str.{chars-IsAscii}
-use Rattle.std.proofs.lemmas.Str.Parse.{IsNumeralModel, numerals_by_value}
-use Rattle.vtl_decimal.specs.Numeral.{Numeral, Spells, IsSign, no_sign, minus, no_point, no_exponent, signed, numerator, integer_of, integer_read}
+use Rattle.std.proofs.lemmas.Str.Parse.{IsNumeralModel, numerals_by_value, tells_all_ascii_digits}
+use Rattle.vtl_decimal.specs.Numeral.{Numeral, SpellsNumeral, IsSign, no_sign, minus, no_point, no_exponent, signed, numerator, integer_of, integer_read}
 use Rattle.vtl_decimal.specs.Range.{fit_integer}
 use Rattle.vtl_decimal.specs.Settings.{Settings}
 use Rattle.vtl_decimal.specs.declared.number.Fault.TheVariants.{Range}
@@ -25,8 +24,8 @@ use Rattle.vtl_cell.specs.Writing.{ReadsBack}
 use Rattle.vtl_cell.specs.declared.cell.Cell.TheVariants as c
 
 -- ---- integers
-own : IsNumeralModel (λ t. list_all is_ascii_digit t ≡ true) (digits_value 10)
-own = numerals_by_value (λ t. list_all is_ascii_digit t ≡ true) (search rules)
+own : IsNumeralModel (λ t. all_ascii_digits t ≡ true) (digits_value 10)
+own = numerals_by_value (λ t. all_ascii_digits t ≡ true) tells_all_ascii_digits
 
 abbrev whole_numeral : Bool → ℕ → Numeral
 whole_numeral negative n = record {
@@ -36,7 +35,7 @@ whole_numeral negative n = record {
   exponent = pos 0;
 }
 
-whole_spelled : (sign : List ℕ) (negative : Bool) (n : ℕ) → IsSign sign negative → length sign ≤ 1 → n < 10 ^ 18 → Spells (sign ++ decimal n) (whole_numeral negative n)
+whole_spelled : (sign : List ℕ) (negative : Bool) (n : ℕ) → IsSign sign negative → length sign ≤ 1 → n < 10 ^ 18 → SpellsNumeral (sign ++ decimal n) (whole_numeral negative n)
 whole_spelled sign negative n is few small = record {
   sign = sign;
   separator = [];

@@ -1,7 +1,7 @@
 -- A day and a period are known by their parts.
 use Rattle.std.proofs.Common.{◌≡◌, refl, arith}
 use Rattle.vtl_time.specs.Days.{CalendarDay}
-use Rattle.vtl_time.specs.Periods.{YearPart, rank_of}
+use Rattle.vtl_time.specs.Periods.{YearPart, frequency_rank}
 use Rattle.vtl_time.specs.declared.periods.Frequency.{Frequency}
 use Rattle.vtl_time.specs.declared.periods.Frequency.TheVariants.{Annual, Semester, Quarter, Month}
 
@@ -11,7 +11,7 @@ day_of_parts x y a b c = λ i. record { year = a i; month = b i; day = c i }
 pub period_of_parts : (x y : YearPart) → x.frequency ≡ y.frequency → x.year ≡ y.year → x.part ≡ y.part → x ≡ y
 period_of_parts x y a b c = λ i. record { frequency = a i; year = b i; part = c i }
 
-pub rank_apart : (f g : Frequency) → rank_of f ≡ rank_of g → f ≡ g
+pub rank_apart : (f g : Frequency) → frequency_rank f ≡ frequency_rank g → f ≡ g
 rank_apart Annual Annual e = refl
 rank_apart Annual Semester e = absurd (omega (arith, e))
 rank_apart Annual Quarter e = absurd (omega (arith, e))

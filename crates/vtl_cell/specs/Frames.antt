@@ -38,7 +38,8 @@ first_cell cells = column_of 0 cells
 abbrev pub last_cell : List Cell → Cell
 last_cell cells = column_of (length cells - 1) cells
 
--- the cell n places before the place i, and n places behind it, or the default where there is no such place
+-- the cell n places before the place i, and n places behind it, or the default where there is no such place; the caller has
+-- made an integer default beside numbers the equal number before, by `as_kind`
 abbrev pub lag_of : ℕ → Cell → ℕ → List Cell → Cell
 lag_of n default i cells = if nat_le n i then slice_index_or cells (i - n) default else default
 

@@ -16,13 +16,7 @@ use Rattle.vtl_cell.specs.Kinds.{is_null}
 use Rattle.vtl_cell.specs.Order.{cell_cmp}
 use Rattle.vtl_cell.specs.Outcome.{Outcome, after}
 use Rattle.vtl_cell.specs.Row.{column_of}
-
--- the integer n and the number of k units, where they are in range
-abbrev pub integer : Settings → ℤ → Outcome Cell
-integer p n = after (fit_integer p.scale n) (λ m. Ok (c.Int m))
-
-abbrev pub number : ℤ → Outcome Cell
-number k = after (fit_number k) (λ m. Ok (c.Num m))
+use Rattle.vtl_cell.specs.ScalarArithmetic.{integer, number}
 
 -- the values of a list, without its nulls
 abbrev pub values_of : List Cell → List Cell
@@ -61,15 +55,15 @@ abbrev pub numbers_of : ℕ → List Cell → List ℤ
 numbers_of s xs = map (units_of s) xs
 
 -- the exact total: an integer of integers, and otherwise a number
-abbrev pub sum_of : Settings → List Cell → Outcome Cell
-sum_of p xs =
-    if list_all is_integer xs then integer p (tally_of (wholes_of xs)).total
-    else number (tally_of (numbers_of p.scale xs)).total
+abbrev pub total_of : Settings → List Cell → Outcome Cell
+total_of p xs =
+    if list_all is_integer xs then integer (fit_integer p.scale (tally_of (wholes_of xs)).total)
+    else number (fit_number (tally_of (numbers_of p.scale xs)).total)
 
 -- ---- means and middles
 abbrev pub number_or_null : Option ℤ → Outcome Cell
 number_or_null None = Ok c.Null
-number_or_null (Some k) = number k
+number_or_null (Some k) = number (fit_number k)
 
 -- the exact total divided by the count, rounded once
 abbrev pub mean_value : Settings → List Cell → Outcome Cell
@@ -87,7 +81,7 @@ middle_of p ks =
     else rounded_quotient p.rounding (at ks (n / 2 - 1) +ℤ at ks (n / 2)) (pos 2)
 
 abbrev pub median_of : Settings → List Cell → Outcome Cell
-median_of p xs = unless_empty xs (number (middle_of p (sorted_by int_le (numbers_of p.scale xs))))
+median_of p xs = unless_empty xs (number (fit_number (middle_of p (sorted_by int_le (numbers_of p.scale xs)))))
 
 -- ---- first and last in order
 abbrev pub least : List Cell → Cell
@@ -98,9 +92,9 @@ greatest xs = column_of 0 (sorted_by (λ x y. le_by cell_cmp y x) xs)
 
 -- ---- aggregates
 abbrev pub aggregate : Settings → AggKind → List Cell → Outcome Cell
-aggregate p agg.Sum xs = unless_empty xs (sum_of p xs)
+aggregate p agg.Sum xs = unless_empty xs (total_of p xs)
 aggregate p agg.Avg xs = mean_value p xs
-aggregate p agg.Count xs = integer p (pos (length xs))
+aggregate p agg.Count xs = integer (fit_integer p.scale (pos (length xs)))
 aggregate p agg.Min xs = Ok (least xs)
 aggregate p agg.Max xs = Ok (greatest xs)
 aggregate p agg.Median xs = median_of p xs
@@ -111,11 +105,11 @@ group_value p kind cells = aggregate p kind (values_of cells)
 
 -- how many points there are, nulls or not
 abbrev pub count_of_points : {A : Type 0} → Settings → List A → Outcome Cell
-count_of_points p points = integer p (pos (length points))
+count_of_points p points = integer (fit_integer p.scale (pos (length points)))
 
 -- a value divided by the total of its partition, rounded once; null for null
 abbrev pub ratio_of : Settings → Cell → List Cell → Outcome Cell
 ratio_of p x cells =
     if is_null x then Ok c.Null
     else after (fit_number (tally_of (numbers_of p.scale (values_of cells))).total) (λ total.
-    after (quotient p.rounding p.scale (units_of p.scale x) total) (λ k. Ok (c.Num k)))
+    number (quotient p.rounding p.scale (units_of p.scale x) total))

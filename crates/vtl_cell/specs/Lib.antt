@@ -1,5 +1,4 @@
 pub mod Conversion
-pub mod Equal
 pub mod Frames
 pub mod Groups
 pub mod Held

@@ -101,12 +101,12 @@ remainder_of p (numbers a b) = Ok (c.Num (remainder a b))
 remainder_of p neither = Ok c.Null
 
 -- floor(a)
-abbrev pub floor_of : Settings → Cell → Outcome Cell
-floor_of p a = after (number_in p a) (on_number (λ k. integer (fit_integer p.scale (floor_quotient k (10 ^ p.scale)))))
+abbrev pub whole_below : Settings → Cell → Outcome Cell
+whole_below p a = after (number_in p a) (on_number (λ k. integer (fit_integer p.scale (floor_quotient k (10 ^ p.scale)))))
 
 -- ceil(a)
-abbrev pub ceil_of : Settings → Cell → Outcome Cell
-ceil_of p a = after (number_in p a) (on_number (λ k. integer (fit_integer p.scale (ceil_quotient k (10 ^ p.scale)))))
+abbrev pub whole_above : Settings → Cell → Outcome Cell
+whole_above p a = after (number_in p a) (on_number (λ k. integer (fit_integer p.scale (ceil_quotient k (10 ^ p.scale)))))
 
 -- the digits that may be asked for: -9 to 9
 abbrev pub digits_in : Cell → Option ℤ

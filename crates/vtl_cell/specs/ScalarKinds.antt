@@ -1,5 +1,6 @@
 -- The kinds that scalar operators take, and the kind of what they give.
-use Rattle.std.specs.Prelude.{Bool, true, false, ◌&&◌, List, [], ◌∷◌, Option, Some, None, option_and_then, if◌then◌else◌}
+use Rattle.std.specs.Prelude.{Bool, true, false, ◌&&◌, List, [], ◌∷◌, Option, Some, None, is_some, option_and_then, if◌then◌else◌}
+use Rattle.std.specs.List.{list_all}
 use Rattle.std.specs.Option.{option_map}
 use Rattle.vtl_cell.specs.declared.kind.Kind.{Kind}
 use Rattle.vtl_cell.specs.declared.kind.Kind.TheVariants as k
@@ -61,6 +62,16 @@ common_kind (a ∷ rest) = option_and_then (shared_kind a) (common_kind rest)
 abbrev pub truth_of_alike : List Kind → Option Kind
 truth_of_alike kinds = option_map (λ kind. k.Bool) (common_kind kinds)
 
+-- whether a set may stand behind `in`: each member meets the kind of the operand, so that an integer stands for a number and
+-- no number for an integer; beside a null operand the members share a kind
+abbrev pub is_set_of : Kind → List Kind → Bool
+is_set_of k.Null members = is_some (common_kind members)
+is_set_of a members = list_all (meets a) members
+
+-- a boolean, where the members are a set of the operand's kind
+abbrev pub truth_of_set : Kind → List Kind → Option Kind
+truth_of_set a members = if is_set_of a members then Some k.Bool else None
+
 -- of integers an integer, of numbers a number
 abbrev pub numeric_one : List Alternative
 numeric_one = to (k.Int ∷ []) k.Int ∷ to (k.Num ∷ []) k.Num ∷ []
@@ -72,7 +83,8 @@ numeric_two = to (k.Int ∷ k.Int ∷ []) k.Int ∷ to (k.Num ∷ k.Num ∷ []) 
 abbrev pub only : List Kind → Kind → List Alternative
 only wanted given = to wanted given ∷ []
 
--- the kind of the operator's value, where operands of these kinds meet its row
+-- the kind of the operator's value, where operands of these kinds meet its row in VTL; SQL has the same rows, but that its
+-- REPLACE takes exactly three operands
 abbrev pub kinds_of : ScalarOp → List Kind → Option Kind
 kinds_of op.Identity kinds = first_met numeric_one kinds
 kinds_of op.Negate kinds = first_met numeric_one kinds
@@ -101,8 +113,8 @@ kinds_of op.LessOrEqual (a ∷ b ∷ []) = truth_of_alike (a ∷ b ∷ [])
 kinds_of op.Greater (a ∷ b ∷ []) = truth_of_alike (a ∷ b ∷ [])
 kinds_of op.GreaterOrEqual (a ∷ b ∷ []) = truth_of_alike (a ∷ b ∷ [])
 kinds_of op.Between (a ∷ x ∷ y ∷ []) = truth_of_alike (a ∷ x ∷ y ∷ [])
-kinds_of op.In (a ∷ x ∷ members) = truth_of_alike (a ∷ x ∷ members)
-kinds_of op.NotIn (a ∷ x ∷ members) = truth_of_alike (a ∷ x ∷ members)
+kinds_of op.In (a ∷ x ∷ members) = truth_of_set a (x ∷ members)
+kinds_of op.NotIn (a ∷ x ∷ members) = truth_of_set a (x ∷ members)
 kinds_of op.And kinds = first_met (only (k.Bool ∷ k.Bool ∷ []) k.Bool) kinds
 kinds_of op.Or kinds = first_met (only (k.Bool ∷ k.Bool ∷ []) k.Bool) kinds
 kinds_of op.Xor kinds = first_met (only (k.Bool ∷ k.Bool ∷ []) k.Bool) kinds

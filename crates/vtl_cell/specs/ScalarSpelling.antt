@@ -1,4 +1,5 @@
--- How the scalar operators are spelled in VTL and in SQL, as ASCII codes.
+-- How the scalar operators are spelled in VTL and in SQL, as ASCII codes. SQL's REPLACE has exactly three operands, where
+-- VTL's may have two.
 use Rattle.std.specs.Prelude.{ℕ, List, codes}
 use Rattle.vtl_cell.specs.declared.operator.ScalarOp.{ScalarOp}
 use Rattle.vtl_cell.specs.declared.operator.ScalarOp.TheVariants as op

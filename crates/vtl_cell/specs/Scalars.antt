@@ -6,7 +6,7 @@ use Rattle.vtl_decimal.specs.Settings.{Settings}
 use Rattle.vtl_cell.specs.Kinds.{is_null}
 use Rattle.vtl_cell.specs.Logic.{not_of, and_of, or_of, xor_of}
 use Rattle.vtl_cell.specs.Outcome.{Outcome, after}
-use Rattle.vtl_cell.specs.ScalarArithmetic.{pair_of, identity_of, negation_of, absolute_of, sum_of, difference_of, product_of, quotient_of, remainder_of, floor_of, ceil_of, rounded_of, truncated_of}
+use Rattle.vtl_cell.specs.ScalarArithmetic.{pair_of, identity_of, negation_of, absolute_of, sum_of, difference_of, product_of, quotient_of, remainder_of, whole_below, whole_above, rounded_of, truncated_of}
 use Rattle.vtl_cell.specs.ScalarComparison.{compared, between_of, membership_of, truth}
 use Rattle.vtl_cell.specs.ScalarTexts.{on_text, joined_of, count_in, part_from, part_within, replaced_of, position_of, length_of}
 use Rattle.vtl_cell.specs.ScalarChoice.{truth_in, on_truth, on_truths, value_or, chosen_of}
@@ -24,8 +24,8 @@ abbrev pub unary_of : Settings → ScalarOp → Cell → Outcome Cell
 unary_of p op.Identity a = Ok (identity_of a)
 unary_of p op.Negate a = negation_of p a
 unary_of p op.Absolute a = absolute_of p a
-unary_of p op.Floor a = floor_of p a
-unary_of p op.Ceil a = ceil_of p a
+unary_of p op.Floor a = whole_below p a
+unary_of p op.Ceil a = whole_above p a
 unary_of p op.Trim a = Ok (on_text trim_of a)
 unary_of p op.TrimLeft a = Ok (on_text ltrim_of a)
 unary_of p op.TrimRight a = Ok (on_text rtrim_of a)

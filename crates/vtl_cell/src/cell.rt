@@ -2,9 +2,8 @@
 ghost use Rattle.std.specs.Prelude.{◌≡◌, ℕ, IfOk, List, true};
 ghost use Rattle.std.specs.Cmp.{IsTotalOrder};
 ghost use Rattle.vtl_lists.specs.Sorting.{IsOrder, le_by};
-ghost use Rattle.vtl_cell.specs.Equal.{same_cell};
 ghost use Rattle.vtl_cell.specs.Held.{IsHeld};
-ghost use Rattle.vtl_cell.specs.Order.{cell_cmp};
+ghost use Rattle.vtl_cell.specs.Order.{cell_cmp, same_cell};
 ghost use Rattle.vtl_cell.specs.Row.{row_cmp};
 ghost use Rattle.vtl_cell.specs.Sorted.{Key, by_keys, window_cmp};
 
@@ -60,7 +59,7 @@ pub fn clone_cell(c: &Cell) -> Result<Cell, AllocError>
 pub fn is_same(a: &Cell, b: &Cell) -> bool
     ensures { result ≡ same_cell a.now b.now }
 {
-    a == b
+    compare(a, b).is_eq()
 }
 
 /// The order of two cells.

@@ -5,7 +5,7 @@ use Rattle.std.specs.Option.{option_map}
 use Rattle.std.specs.Str.Parse.{digits_value}
 use Rattle.vtl_decimal.specs.Numeral.{Numeral, signed, IsExponent, no_exponent, times_ten_to, numeral_of}
 use Rattle.vtl_decimal.specs.declared.parse.Numeral.{Numeral as Parsed}
-use Rattle.vtl_decimal.specs.Parsed.{IsParsed, numeral_view}
+use Rattle.vtl_decimal.specs.Parsed.{IsTakenApart, numeral_view}
 use Rattle.vtl_decimal.proofs.DigitLemmas.{value_of_three}
 use Rattle.vtl_decimal.proofs.SpellingLemmas.{numeral_spelled}
 
@@ -21,7 +21,7 @@ exponent_small _ _ (times_ten_to mark sign digits negative marked signs h some f
 parts_short : (a b c d e : List ℕ) → length (a ++ (b ++ (c ++ (d ++ e)))) ≤ 64 → length b + length d ≤ 64
 parts_short a b c d e h = omega (arith, length-append a (b ++ (c ++ (d ++ e))), length-append b (c ++ (d ++ e)), length-append c (d ++ e), length-append d e)
 
-pub numeral_parsed : (t : List ℕ) (n : Numeral) → numeral_of t ≡ Some n → IsParsed n
+pub numeral_parsed : (t : List ℕ) (n : Numeral) → numeral_of t ≡ Some n → IsTakenApart n
 numeral_parsed t n h =
     let s = numeral_spelled t n h in
     record {
@@ -31,6 +31,6 @@ numeral_parsed t n h =
       exponent_fits = exponent_small s.power n.exponent s.exponents;
     }
 
-pub parsed_if : (o : Option Parsed) (t : List ℕ) → option_map numeral_view o ≡ numeral_of t → IfSome o (λ n. IsParsed (numeral_view n))
+pub parsed_if : (o : Option Parsed) (t : List ℕ) → option_map numeral_view o ≡ numeral_of t → IfSome o (λ n. IsTakenApart (numeral_view n))
 parsed_if (Some n) t h = numeral_parsed t (numeral_view n) (sym h)
 parsed_if None t h = tt

@@ -8,8 +8,9 @@ use Rattle.std.proofs.lemmas.Bool.{cases_order, ltb-true, ltb-false}
 use Rattle.std.proofs.lemmas.Nat.{div-mul-add, div-add-mod', pow-add}
 use Rattle.vtl_decimal.specs.declared.quotient.Rest.TheVariants.{Zero, BelowHalf}
 use Rattle.vtl_decimal.specs.declared.quotient.Divided.{Divided}
-use Rattle.vtl_decimal.specs.Divided.{rest_of, IsDivided, has_nonzero}
-use Rattle.vtl_decimal.specs.Numeral.{are_digits, raised, lowered}
+use Rattle.vtl_decimal.specs.Divided.{place_of_rest, IsDivided, has_nonzero}
+use Rattle.std.specs.Str.{all_ascii_digits}
+use Rattle.vtl_decimal.specs.Numeral.{raised, lowered}
 use Rattle.vtl_decimal.proofs.DigitLemmas.{value-append, value-lt}
 use Rattle.vtl_decimal.proofs.RestLemmas.{below_half, at_half, above_half, has_nonzero-is}
 use Rattle.vtl_decimal.proofs.RoundingLemmas.{zero_or_more}
@@ -24,10 +25,10 @@ rest-mul-add z q r small =
     omega (arith, parts, same)
 
 -- a number with its quotient and rest
-pub divided : (z q r : ℕ) (d : Divided) → r < q → d.units ≡ z → d.rest ≡ rest_of r q → z < 10 ^ 18 → IsDivided (z * q + r) q d
+pub divided : (z q r : ℕ) (d : Divided) → r < q → d.units ≡ z → d.rest ≡ place_of_rest r q → z < 10 ^ 18 → IsDivided (z * q + r) q d
 divided z q r d small units rest bound = record {
   units = units ∙ sym (div-mul-add z q r small);
-  rest = rest ∙ ap (λ v. rest_of v q) (sym (rest-mul-add z q r small));
+  rest = rest ∙ ap (λ v. place_of_rest v q) (sym (rest-mul-add z q r small));
   small = omega (arith, units);
 }
 
@@ -35,12 +36,12 @@ zero_times : (c : ℕ) → 0 * c ≡ 0
 zero_times c = omega arith
 
 -- the rest stands where it stood, if both it and the divisor are a number of times as large
-rest_of-mul : (r q c : ℕ) → 0 < c → rest_of (r * c) (q * c) ≡ rest_of r q
-rest_of-mul r q c h =
+place_of_rest-mul : (r q c : ℕ) → 0 < c → place_of_rest (r * c) (q * c) ≡ place_of_rest r q
+place_of_rest-mul r q c h =
     elim (zero_or_more r) [
       | inl none ↦
           let nothing : r * c ≡ 0 = ap (λ v. v * c) none ∙ zero_times c in
-          ap (λ v. rest_of v (q * c)) nothing ∙ ap (λ v. rest_of v q) (sym none)
+          ap (λ v. place_of_rest v (q * c)) nothing ∙ ap (λ v. place_of_rest v q) (sym none)
       | inr some ↦
           let some' : 0 < r * c = omega (arith, zero_times c, mul-lt-mul_of_pos_right {m = 0} {n = r} {k = c} some h) in
           elim (cases_order (2 * r) q) [
@@ -55,44 +56,44 @@ rest_of-mul r q c h =
 -- ---- the digits cut in two
 
 -- the quotient is the front, and the rest stands where the back does
-pub cut_divides : (xs ys : List ℕ) (d : Divided) → IsTrue (are_digits xs) → IsTrue (are_digits ys) → d.units ≡ digits_value 10 xs → d.units < 10 ^ 18 → d.rest ≡ rest_of (digits_value 10 ys) (10 ^ length ys) → IsDivided (digits_value 10 (xs ++ ys)) (10 ^ length ys) d
+pub cut_divides : (xs ys : List ℕ) (d : Divided) → IsTrue (all_ascii_digits xs) → IsTrue (all_ascii_digits ys) → d.units ≡ digits_value 10 xs → d.units < 10 ^ 18 → d.rest ≡ place_of_rest (digits_value 10 ys) (10 ^ length ys) → IsDivided (digits_value 10 (xs ++ ys)) (10 ^ length ys) d
 cut_divides xs ys d h k units bound rest =
     rw (value-append xs ys)
     (divided (digits_value 10 xs) (10 ^ length ys) (digits_value 10 ys) d (value-lt ys k) units rest (omega (arith, units)))
 
-pub cut_too_large : (xs ys : List ℕ) → IsTrue (are_digits ys) → 10 ^ 18 ≤ digits_value 10 xs → 10 ^ 18 ≤ digits_value 10 (xs ++ ys) / 10 ^ length ys
+pub cut_too_large : (xs ys : List ℕ) → IsTrue (all_ascii_digits ys) → 10 ^ 18 ≤ digits_value 10 xs → 10 ^ 18 ≤ digits_value 10 (xs ++ ys) / 10 ^ length ys
 cut_too_large xs ys k large =
     let whole = ap (λ v. v / 10 ^ length ys) (value-append xs ys) ∙ div-mul-add (digits_value 10 xs) (10 ^ length ys) (digits_value 10 ys) (value-lt ys k) in
     omega (arith, whole)
 
 -- ---- fewer digits than places
 
-ten_times_below : (ds : List ℕ) (n : ℕ) → IsTrue (are_digits ds) → length ds < n → digits_value 10 ds * 10 < 10 ^ n
+ten_times_below : (ds : List ℕ) (n : ℕ) → IsTrue (all_ascii_digits ds) → length ds < n → digits_value 10 ds * 10 < 10 ^ n
 ten_times_below ds n h short =
     let most = pow-le-pow_right {n = 10} (omega arith) {i = length ds + 1} {j = n} (omega arith) in
     let step : 10 ^ (length ds + 1) ≡ 10 ^ length ds * 10 = pow-add 10 (length ds) 1 in
     omega (arith, most, step, value-lt ds h)
 
-divided_below : (q v : ℕ) (d : Divided) → v < q → d.units ≡ 0 → d.rest ≡ rest_of v q → IsDivided v q d
+divided_below : (q v : ℕ) (d : Divided) → v < q → d.units ≡ 0 → d.rest ≡ place_of_rest v q → IsDivided v q d
 divided_below q v d small units rest =
     let same : 0 * q + v ≡ v = omega arith in
     let P : ℕ → Type 0 = λ p. IsDivided p q d in
     subst P same (divided 0 q v d small units rest (omega arith))
 
-pub below_one_nonzero : (ds : List ℕ) (n : ℕ) (d : Divided) → IsTrue (are_digits ds) → length ds < n → has_nonzero ds ≡ true → d.units ≡ 0 → d.rest ≡ BelowHalf → IsDivided (digits_value 10 ds) (10 ^ n) d
+pub below_one_nonzero : (ds : List ℕ) (n : ℕ) (d : Divided) → IsTrue (all_ascii_digits ds) → length ds < n → has_nonzero ds ≡ true → d.units ≡ 0 → d.rest ≡ BelowHalf → IsDivided (digits_value 10 ds) (10 ^ n) d
 below_one_nonzero ds n d h short some units rest =
     let v = digits_value 10 ds in
     let low = ten_times_below ds n h short in
     let more : 0 < v = ltb-true 0 v (sym (has_nonzero-is ds h) ∙ some) in
     divided_below (10 ^ n) v d (omega arith) units (rest ∙ sym (below_half v (10 ^ n) more (omega arith)))
 
-pub below_one_zero : (ds : List ℕ) (n : ℕ) (d : Divided) → IsTrue (are_digits ds) → length ds < n → has_nonzero ds ≡ false → d.units ≡ 0 → d.rest ≡ Zero → IsDivided (digits_value 10 ds) (10 ^ n) d
+pub below_one_zero : (ds : List ℕ) (n : ℕ) (d : Divided) → IsTrue (all_ascii_digits ds) → length ds < n → has_nonzero ds ≡ false → d.units ≡ 0 → d.rest ≡ Zero → IsDivided (digits_value 10 ds) (10 ^ n) d
 below_one_zero ds n d h short none units rest =
     let v = digits_value 10 ds in
     let low = ten_times_below ds n h short in
     let nothing : v ≤ 0 = ltb-false 0 v (sym (has_nonzero-is ds h) ∙ none) in
     let is_zero : v ≡ 0 = omega arith in
-    divided_below (10 ^ n) v d (omega arith) units (rest ∙ ap (λ x. rest_of x (10 ^ n)) (sym is_zero))
+    divided_below (10 ^ n) v d (omega arith) units (rest ∙ ap (λ x. place_of_rest x (10 ^ n)) (sym is_zero))
 
 -- ---- powers of ten on both sides
 
@@ -106,7 +107,7 @@ divided-mul p q c d some more h =
     let low : p % q * c < q * c = mul-lt-mul_of_pos_right small more in
     let whole : p / q * (q * c) + p % q * c ≡ p * c = regroup (p / q) (p % q) q c ∙ ap (λ v. v * c) parts in
     let P : ℕ → Type 0 = λ v. IsDivided v (q * c) d in
-    subst P whole (divided (p / q) (q * c) (p % q * c) d low h.units (h.rest ∙ sym (rest_of-mul (p % q) q c more)) (omega (arith, h.units, h.small)))
+    subst P whole (divided (p / q) (q * c) (p % q * c) d low h.units (h.rest ∙ sym (place_of_rest-mul (p % q) q c more)) (omega (arith, h.units, h.small)))
 
 by_option : (p q c : ℕ) (o : Option Divided) → 0 < q → 0 < c → MatchOption o (10 ^ 18 ≤ p / q) (IsDivided p q) → MatchOption o (10 ^ 18 ≤ p * c / (q * c)) (IsDivided (p * c) (q * c))
 by_option p q c (Some d) some more h = divided-mul p q c d some more h

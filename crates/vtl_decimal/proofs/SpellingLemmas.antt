@@ -5,7 +5,8 @@ use Rattle.std.specs.List.{before_first}
 use Rattle.std.specs.Str.Parse.{digits_value, starts_with_minus, without_leading_sign}
 use Rattle.std.proofs.lemmas.Bool.{cases_Bool, cases_eq, ne_eqb, eqb-true, and_parts, or_cases, ltb-true, leb-true}
 use Rattle.std.proofs.lemmas.Option.{cond_some, none-some}
-use Rattle.vtl_decimal.specs.Numeral.{Numeral, signed, IsSign, no_sign, plus, minus, IsPoint, no_point, point, IsMark, small, capital, IsExponent, no_exponent, times_ten_to, Spells, are_digits, is_mark, is_point, from_first, power_of, exponent_of, with_digits, unsigned_numeral_of, numeral_of}
+use Rattle.std.specs.Str.{all_ascii_digits}
+use Rattle.vtl_decimal.specs.Numeral.{Numeral, signed, IsSign, no_sign, plus, minus, IsPoint, no_point, point, IsMark, small, capital, IsExponent, no_exponent, times_ten_to, SpellsNumeral, is_mark, is_decimal_point, from_first, power_of, exponent_of, with_digits, unsigned_numeral_of, numeral_of}
 use Rattle.vtl_decimal.proofs.SplitLemmas.{before_and_from, from_first_cases}
 
 pub and_then_some : {A B : Type 0} (f : A → Option B) (o : Option A) (y : B) → option_and_then f o ≡ Some y → (x : A) × (o ≡ Some x) × (f x ≡ Some y)
@@ -39,10 +40,10 @@ record PointedText (rest : List ℕ) : Type 0 where
   parts : rest ≡ separator ++ drop 1 rest
   points : IsPoint separator (drop 1 rest)
 
-point_split : (t : List ℕ) → PointedText (from_first is_point t)
+point_split : (t : List ℕ) → PointedText (from_first is_decimal_point t)
 point_split t =
     let P : List ℕ → Type 0 = λ xs. PointedText xs in
-    elim (from_first_cases is_point t) [
+    elim (from_first_cases is_decimal_point t) [
       | inl e ↦ subst P (sym e) (record { separator = []; parts = refl; points = no_point })
       | inr w ↦
           let at : w.0 ≡ 46 = eqb-true w.0 46 w.3 in
@@ -61,8 +62,8 @@ power_is : (mark : ℕ) (t : List ℕ) (e : ℤ) → is_mark mark ≡ true → p
 power_is mark t e marked h =
     let s = sign_split t in
     let ds = without_leading_sign t in
-    let given = cond_some (are_digits ds && (nat_lt 0 (length ds) && nat_le (length ds) 3)) (signed (starts_with_minus t) (digits_value 10 ds)) e h in
-    let facts = and_parts (are_digits ds) (nat_lt 0 (length ds) && nat_le (length ds) 3) given.0 in
+    let given = cond_some (all_ascii_digits ds && (nat_lt 0 (length ds) && nat_le (length ds) 3)) (signed (starts_with_minus t) (digits_value 10 ds)) e h in
+    let facts = and_parts (all_ascii_digits ds) (nat_lt 0 (length ds) && nat_le (length ds) 3) given.0 in
     let bounds = and_parts (nat_lt 0 (length ds)) (nat_le (length ds) 3) facts.1 in
     let spelled = times_ten_to mark s.sign ds (starts_with_minus t) (mark_is mark marked) s.signs facts.0 (ltb-true 0 (length ds) bounds.0) (leb-true (length ds) 3 bounds.1) in
     let P : List ℕ → ℤ → Type 0 = λ text v. IsExponent (mark ∷ text) v in
@@ -80,21 +81,21 @@ exponent_split t e h =
     all h
 
 -- ---- together
-unsigned_spelled : (sign body : List ℕ) (negative : Bool) (n : Numeral) → IsSign sign negative → length (sign ++ body) ≤ 64 → unsigned_numeral_of negative body ≡ Some n → Spells (sign ++ body) n
+unsigned_spelled : (sign body : List ℕ) (negative : Bool) (n : Numeral) → IsSign sign negative → length (sign ++ body) ≤ 64 → unsigned_numeral_of negative body ≡ Some n → SpellsNumeral (sign ++ body) n
 unsigned_spelled sign body negative n signs short h =
     let mantissa = before_first is_mark body in
-    let whole = before_first is_point mantissa in
-    let fraction = drop 1 (from_first is_point mantissa) in
+    let whole = before_first is_decimal_point mantissa in
+    let fraction = drop 1 (from_first is_decimal_point mantissa) in
     let found = and_then_some (with_digits negative whole fraction) (exponent_of (from_first is_mark body)) n h in
     let e = found.0 in
-    let given = cond_some (are_digits whole && (are_digits fraction && nat_lt 0 (length whole + length fraction))) (record { negative = negative; whole = whole; fraction = fraction; exponent = e }) n found.2 in
-    let facts = and_parts (are_digits whole) (are_digits fraction && nat_lt 0 (length whole + length fraction)) given.0 in
-    let more = and_parts (are_digits fraction) (nat_lt 0 (length whole + length fraction)) facts.1 in
+    let given = cond_some (all_ascii_digits whole && (all_ascii_digits fraction && nat_lt 0 (length whole + length fraction))) (record { negative = negative; whole = whole; fraction = fraction; exponent = e }) n found.2 in
+    let facts = and_parts (all_ascii_digits whole) (all_ascii_digits fraction && nat_lt 0 (length whole + length fraction)) given.0 in
+    let more = and_parts (all_ascii_digits fraction) (nat_lt 0 (length whole + length fraction)) facts.1 in
     let p = point_split mantissa in
-    let inner : mantissa ≡ whole ++ (p.separator ++ fraction) = before_and_from is_point mantissa ∙ ap (λ xs. whole ++ xs) p.parts in
+    let inner : mantissa ≡ whole ++ (p.separator ++ fraction) = before_and_from is_decimal_point mantissa ∙ ap (λ xs. whole ++ xs) p.parts in
     let outer : body ≡ (whole ++ (p.separator ++ fraction)) ++ from_first is_mark body = before_and_from is_mark body ∙ ap (λ xs. xs ++ from_first is_mark body) inner in
     let parts : body ≡ whole ++ (p.separator ++ (fraction ++ from_first is_mark body)) = outer ∙ (append_assoc whole (p.separator ++ fraction) (from_first is_mark body) ∙ ap (λ xs. whole ++ xs) (append_assoc p.separator fraction (from_first is_mark body))) in
-    subst (Spells (sign ++ body)) given.1 (record {
+    subst (SpellsNumeral (sign ++ body)) given.1 (record {
       sign = sign;
       separator = p.separator;
       power = from_first is_mark body;
@@ -109,10 +110,10 @@ unsigned_spelled sign body negative n signs short h =
     })
 
 -- the numeral that is read is one that the text spells
-pub numeral_spelled : (t : List ℕ) (n : Numeral) → numeral_of t ≡ Some n → Spells t n
+pub numeral_spelled : (t : List ℕ) (n : Numeral) → numeral_of t ≡ Some n → SpellsNumeral t n
 numeral_spelled t n h =
     let s = sign_split t in
-    let P : List ℕ → Type 0 = λ text. Spells text n in
+    let P : List ℕ → Type 0 = λ text. SpellsNumeral text n in
     elim (cases_Bool (nat_le (length t) 64)) [
       | inl fits ↦
           let given : unsigned_numeral_of (starts_with_minus t) (without_leading_sign t) ≡ Some n = sym (rw fits refl) ∙ h in

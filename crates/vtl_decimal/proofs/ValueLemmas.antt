@@ -1,20 +1,19 @@
 -- The number of a numeral, from its quotient with a rest.
 use Rattle.std.proofs.Common.{ℕ, zero, suc, ℤ, pos, neg_ℤ, ◌≡◌, ◌+◌, ◌-◌, ◌/◌, ◌%◌, ◌^◌, ◌<◌, ◌≤◌, Bool, true, false, cond, List, Option, Some, None, Result, Ok, Err, refl, ap, sym, ◌∙◌, arith, rules}
-use Rattle.std.specs.Prelude.{unsigned_abs, ◌==◌, nat_lt, option_and_then, IfOk, OnErr}
+use Rattle.std.specs.Prelude.{unsigned_abs, nat_lt, option_and_then, IfOk, OnErr}
 use Rattle.std.specs.Option.{ok_or}
 use Rattle.std.specs.Result.{result_ok}
 use Rattle.std.proofs.Math.Nat.{one-le-pow, pow-le-pow_right}
 use Rattle.std.proofs.lemmas.Bool.{le-ltb}
 use Rattle.vtl_decimal.specs.declared.settings.Rounding.{Rounding}
-use Rattle.vtl_decimal.specs.declared.quotient.Rest.{Rest}
 use Rattle.vtl_decimal.specs.declared.quotient.Divided.{Divided}
-use Rattle.vtl_decimal.specs.Divided.{rest_of, rounds_up_from, IsDivided}
-use Rattle.vtl_decimal.specs.Numeral.{Numeral, Spells, signed, numeral_of, number_of, integer_of, numerator, denominator}
+use Rattle.vtl_decimal.specs.Divided.{IsDivided}
+use Rattle.vtl_decimal.specs.Numeral.{Numeral, SpellsNumeral, signed, numeral_of, number_of, integer_of, numerator, denominator}
 use Rattle.vtl_decimal.specs.Range.{fit_number}
-use Rattle.vtl_decimal.specs.Rounding.{rounded_size, rounded_quotient}
+use Rattle.vtl_decimal.specs.Rounding.{rounds_up, rounded_size, rounded_quotient}
 use Rattle.vtl_decimal.specs.Settings.{Settings}
 use Rattle.vtl_decimal.proofs.ReadingLemmas.{spelled_numeral}
-use Rattle.vtl_decimal.proofs.RoundingLemmas.{rounded_size_within, rounds_up_is}
+use Rattle.vtl_decimal.proofs.RoundingLemmas.{rounded_size_within}
 use Rattle.vtl_decimal.proofs.SpellingLemmas.{and_then_some, numeral_spelled}
 
 pub denominator_some : (n : Numeral) → 0 < denominator n
@@ -34,19 +33,13 @@ rounded_signed m true zero q h =
     ap pos none ∙ ap (λ v. neg_ℤ (pos v)) (sym none)
 rounded_signed m true (suc p) q h = ap (λ v. neg_ℤ (pos (rounded_size m v q))) (one_after p)
 
--- the rounded size, from the quotient with its rest
-rounded_from : (m : Rounding) (p q : ℕ) (d : Divided) → 0 < q → IsDivided p q d → rounded_size m p q ≡ d.units + cond (rounds_up_from m (d.units % 2 == 1) d.rest) 1 0
-rounded_from m p q d h is =
-    let size : ℕ → Rest → ℕ = λ z r. z + cond (rounds_up_from m (z % 2 == 1) r) 1 0 in
-    ap (λ b. p / q + cond b 1 0) (rounds_up_is m (p / q) (p % q) q h)
-    ∙ ap (λ z. size z (rest_of (p % q) q)) (sym is.units)
-    ∙ ap (size d.units) (sym is.rest)
-
-pub number_from : (s : Settings) (n : Numeral) (d : Divided) → IsDivided (numerator s.scale n) (denominator n) d → result_ok (fit_number (signed n.negative (d.units + cond (rounds_up_from s.rounding (d.units % 2 == 1) d.rest) 1 0))) ≡ number_of s n
-number_from s n d is =
-    let some = denominator_some n in
-    let size = rounded_from s.rounding (numerator s.scale n) (denominator n) d some is in
-    ap (λ v. result_ok (fit_number v)) (ap (signed n.negative) (sym size) ∙ sym (rounded_signed s.rounding n.negative (numerator s.scale n) (denominator n) some))
+-- the number, from the quotient with its rest
+pub number_from : (s : Settings) (n : Numeral) (d : Divided) (up : Bool) → IsDivided (numerator s.scale n) (denominator n) d → up ≡ rounds_up s.rounding (numerator s.scale n / denominator n) (numerator s.scale n % denominator n) (denominator n) → result_ok (fit_number (signed n.negative (d.units + cond up 1 0))) ≡ number_of s n
+number_from s n d up is goes =
+    let v = numerator s.scale n in
+    let q = denominator n in
+    let size : d.units + cond up 1 0 ≡ rounded_size s.rounding v q = ap (λ z. z + cond up 1 0) is.units ∙ ap (λ b. v / q + cond b 1 0) goes in
+    ap (λ k. result_ok (fit_number k)) (ap (signed n.negative) size ∙ sym (rounded_signed s.rounding n.negative v q (denominator_some n)))
 
 pub signed_size : (negative : Bool) (n : ℕ) → unsigned_abs (signed negative n) ≡ n
 signed_size false n = refl
@@ -65,13 +58,13 @@ integer_too_large s n large =
     rw refused (search rules)
 
 -- what a text spells, from what is read
-pub spelled_if : {E : Type 0} (f : Numeral → Option ℤ) (t : List ℕ) (r : Result ℤ E) → result_ok r ≡ option_and_then f (numeral_of t) → IfOk r (λ k. (n : Numeral) × Spells t n × (f n ≡ Some k))
+pub spelled_if : {E : Type 0} (f : Numeral → Option ℤ) (t : List ℕ) (r : Result ℤ E) → result_ok r ≡ option_and_then f (numeral_of t) → IfOk r (λ k. (n : Numeral) × SpellsNumeral t n × (f n ≡ Some k))
 spelled_if f t (Ok k) h =
     let found = and_then_some f (numeral_of t) k (sym h) in
     (found.0, numeral_spelled t found.0 found.1, found.2)
 spelled_if f t (Err e) h = tt
 
-pub refused_if : {E : Type 0} (f : Numeral → Option ℤ) (t : List ℕ) (r : Result ℤ E) → result_ok r ≡ option_and_then f (numeral_of t) → OnErr r ((n : Numeral) → Spells t n → f n ≡ None)
+pub refused_if : {E : Type 0} (f : Numeral → Option ℤ) (t : List ℕ) (r : Result ℤ E) → result_ok r ≡ option_and_then f (numeral_of t) → OnErr r ((n : Numeral) → SpellsNumeral t n → f n ≡ None)
 refused_if f t (Ok k) h = tt
 refused_if f t (Err e) h = λ n spells. sym (ap (option_and_then f) (spelled_numeral t n spells)) ∙ sym h
 

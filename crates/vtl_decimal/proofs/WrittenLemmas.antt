@@ -1,10 +1,8 @@
 -- The text that is written spells the number that it was written for.
 use Rattle.std.proofs.Common.{ℕ, zero, suc, ℤ, pos, negsuc, ◌≡◌, ◌≢◌, ◌+◌, ◌-◌, ◌*◌, ◌/◌, ◌%◌, ◌^◌, ◌<◌, ◌≤◌, inl, inr, Bool, true, false, cond, List, [], ◌∷◌, ◌++◌, length, get_or, Some, Ok, Err, refl, ap, sym, subst, ◌∙◌, arith, rules, append-nil, length-append, pow-suc, add-zero}
 use Rattle.std.specs.Prelude.{unsigned_abs, nat_lt, option_and_then, IsTrue}
-use Rattle.std.specs.Char.{is_ascii_digit}
 use Rattle.std.specs.Fmt.{decimal}
 use Rattle.std.specs.Int.{is_negative}
-use Rattle.std.specs.List.{list_all}
 use Rattle.std.specs.Result.{result_ok}
 use Rattle.std.specs.Str.Parse.{digits_value}
 use Rattle.std.proofs.Math.Nat.{one-le-pow, div-le_self, mul-mod_left}
@@ -14,39 +12,40 @@ use Rattle.std.proofs.lemmas.Fmt.{decimal_nonempty, digits_decimal, digits_value
 use Rattle.std.proofs.lemmas.Int.Digits.{digits_value_push}
 use Rattle.std.proofs.lemmas.Nat.{div-add-mod', div-mul-add}
 use Rattle.std.proofs.lemmas.Str.Parse.{IsNumeralModel, numerals_by_value}
-use Rattle.vtl_decimal.specs.Numeral.{Numeral, signed, IsSign, no_sign, minus, IsPoint, no_point, point, no_exponent, Spells, are_digits, number_of, number_read, numerator, denominator}
+use Rattle.std.specs.Str.{all_ascii_digits}
+use Rattle.vtl_decimal.specs.Numeral.{Numeral, signed, IsSign, no_sign, minus, IsPoint, no_point, point, no_exponent, SpellsNumeral, number_of, number_read, numerator, denominator}
 use Rattle.vtl_decimal.specs.Range.{fit_number}
 use Rattle.vtl_decimal.specs.declared.number.Fault.TheVariants.{Range}
 use Rattle.vtl_decimal.specs.declared.settings.Rounding.{Rounding}
 use Rattle.vtl_decimal.specs.Rounding.{rounds_up, rounded_size}
 use Rattle.vtl_decimal.specs.Settings.{Settings}
 use Rattle.vtl_decimal.specs.Written.{last_digits, shortest_digits, behind_point, sign_text, number_text, HasNoNeedlessDigit}
-use Rattle.vtl_decimal.proofs.DigitLemmas.{are_digits-append, value-append, digit_value_is}
+use Rattle.vtl_decimal.proofs.DigitLemmas.{all_ascii_digits-append, value-append, digit_value_is}
 use Rattle.vtl_decimal.proofs.ReadingLemmas.{spelled_numeral}
 use Rattle.vtl_decimal.proofs.RoundingLemmas.{rounds_up_no_rest, zero_or_more}
 use Rattle.vtl_decimal.proofs.ValueLemmas.{rounded_signed}
 use Rattle.vtl_decimal.proofs.WritingLemmas.{last_digits-suc, last_digits-none, length-last_digits, shortest_digits_zero, shortest_digits_nonzero, shortest_digits-none}
 
 -- ---- the digits are digits
-own : IsNumeralModel (λ t. list_all is_ascii_digit t ≡ true) (digits_value 10)
-own = numerals_by_value (λ t. list_all is_ascii_digit t ≡ true) (search rules)
+own : IsNumeralModel (λ t. all_ascii_digits t ≡ true) (digits_value 10)
+own = numerals_by_value (λ t. all_ascii_digits t ≡ true) (search rules)
 
-one_digit : (n : ℕ) → IsTrue (are_digits ((48 + n % 10) ∷ []))
+one_digit : (n : ℕ) → IsTrue (all_ascii_digits ((48 + n % 10) ∷ []))
 one_digit n = grind arith
 
-last_are_digits : (w n : ℕ) → IsTrue (are_digits (last_digits w n))
-last_are_digits zero n = ap are_digits (last_digits-none n)
+last_are_digits : (w n : ℕ) → IsTrue (all_ascii_digits (last_digits w n))
+last_are_digits zero n = ap all_ascii_digits (last_digits-none n)
 last_are_digits (suc w) n =
-    ap are_digits (last_digits-suc w n) ∙ are_digits-append (last_digits w (n / 10)) ((48 + n % 10) ∷ []) (last_are_digits w (n / 10)) (one_digit n)
+    ap all_ascii_digits (last_digits-suc w n) ∙ all_ascii_digits-append (last_digits w (n / 10)) ((48 + n % 10) ∷ []) (last_are_digits w (n / 10)) (one_digit n)
 
-shortest_are_digits : (w n : ℕ) → IsTrue (are_digits (shortest_digits w n))
-shortest_are_digits zero n = ap are_digits (shortest_digits-none n)
+shortest_are_digits : (w n : ℕ) → IsTrue (all_ascii_digits (shortest_digits w n))
+shortest_are_digits zero n = ap all_ascii_digits (shortest_digits-none n)
 shortest_are_digits (suc w) n =
     elim (zero_or_more (n % 10)) [
       | inl none ↦
           let less : suc w - 1 ≡ w = omega arith in
-          ap are_digits (shortest_digits_zero (suc w) n (omega arith) none) ∙ ap (λ k. are_digits (shortest_digits k (n / 10))) less ∙ shortest_are_digits w (n / 10)
-      | inr some ↦ ap are_digits (shortest_digits_nonzero (suc w) n (omega arith) some) ∙ last_are_digits (suc w) n
+          ap all_ascii_digits (shortest_digits_zero (suc w) n (omega arith) none) ∙ ap (λ k. all_ascii_digits (shortest_digits k (n / 10))) less ∙ shortest_are_digits w (n / 10)
+      | inr some ↦ ap all_ascii_digits (shortest_digits_nonzero (suc w) n (omega arith) some) ∙ last_are_digits (suc w) n
     ]
 
 length-shortest_digits-le : (w n : ℕ) → length (shortest_digits w n) ≤ w
@@ -134,7 +133,7 @@ length-sign : (k : ℤ) → length (sign_text k) ≤ 1
 length-sign (pos n) = let not_below : is_negative (pos n) ≡ false = grind arith in rw not_below (omega arith)
 length-sign (negsuc n) = omega arith
 
-pub text_spelled : (s : ℕ) (k : ℤ) → s ≤ 9 → unsigned_abs k < 10 ^ 18 → Spells (number_text s k) (written_numeral s k)
+pub text_spelled : (s : ℕ) (k : ℤ) → s ≤ 9 → unsigned_abs k < 10 ^ 18 → SpellsNumeral (number_text s k) (written_numeral s k)
 text_spelled s k low small =
     let n = written_numeral s k in
     let fit : unsigned_abs k / 10 ^ s < 10 ^ 18 = omega (arith, div-le_self (unsigned_abs k) (10 ^ s)) in
@@ -247,7 +246,7 @@ no_needless_digit s k small = record {
   plain = refl;
 }
 
-pub shortest_spelled : (s : ℕ) (k : ℤ) → s ≤ 9 → unsigned_abs k < 10 ^ 18 → (n : Numeral) × Spells (number_text s k) n × HasNoNeedlessDigit n
+pub shortest_spelled : (s : ℕ) (k : ℤ) → s ≤ 9 → unsigned_abs k < 10 ^ 18 → (n : Numeral) × SpellsNumeral (number_text s k) n × HasNoNeedlessDigit n
 shortest_spelled s k low small = (written_numeral s k, text_spelled s k low small, no_needless_digit s k small)
 
 pub ruleset written_laws = (reads_back, shortest_spelled)

@@ -1,8 +1,8 @@
 -- The texts that are numerals, and the number that each stands for.
 use Rattle.std.specs.Prelude.{ℕ, ◌+◌, ◌*◌, ◌/◌, ◌%◌, ◌^◌, ◌<◌, ◌≤◌, ◌≡◌, Bool, true, false, ◌&&◌, ◌||◌, ◌==◌, nat_lt, nat_le, if◌then◌else◌, IsTrue, ℤ, pos, negsuc, neg_ℤ, List, [], ◌∷◌, ◌++◌, length, drop, Option, Some, None, option_and_then}
-use Rattle.std.specs.List.{position_or_len, before_first, list_all}
+use Rattle.std.specs.List.{position_or_len, before_first}
 use Rattle.std.specs.Result.{result_ok}
-use Rattle.std.specs.Char.{is_ascii_digit}
+use Rattle.std.specs.Str.{all_ascii_digits}
 use Rattle.std.specs.Str.Parse.{digits_value, starts_with_minus, without_leading_sign}
 use Rattle.vtl_decimal.specs.Range.{fit_number, fit_integer}
 use Rattle.vtl_decimal.specs.Rounding.{rounded_quotient}
@@ -19,10 +19,6 @@ pub record Numeral : Type 0 where
 abbrev pub signed : Bool → ℕ → ℤ
 signed false n = pos n
 signed true n = neg_ℤ (pos n)
-
--- each byte is one of `0` to `9`
-abbrev pub are_digits : List ℕ → Bool
-are_digits t = list_all is_ascii_digit t
 
 -- ---- the grammar
 
@@ -45,19 +41,19 @@ pub data IsMark : ℕ → Type 0 where
 -- an exponent may be missing; otherwise it is a mark, a sign that may be missing, and one to three digits
 pub data IsExponent : List ℕ → ℤ → Type 0 where
   no_exponent : IsExponent [] (pos 0)
-  times_ten_to : (mark : ℕ) (sign digits : List ℕ) (negative : Bool) → IsMark mark → IsSign sign negative → IsTrue (are_digits digits) → 0 < length digits → length digits ≤ 3 → IsExponent (mark ∷ (sign ++ digits)) (signed negative (digits_value 10 digits))
+  times_ten_to : (mark : ℕ) (sign digits : List ℕ) (negative : Bool) → IsMark mark → IsSign sign negative → IsTrue (all_ascii_digits digits) → 0 < length digits → length digits ≤ 3 → IsExponent (mark ∷ (sign ++ digits)) (signed negative (digits_value 10 digits))
 
 -- a text of at most 64 bytes is a sign, digits, a point, digits and an exponent, with a digit on one side of the point
-pub record Spells (text : List ℕ) (n : Numeral) : Type 0 where
+pub record SpellsNumeral (text : List ℕ) (n : Numeral) : Type 0 where
   pub sign : List ℕ
   pub separator : List ℕ
   pub power : List ℕ
   pub parts : text ≡ sign ++ (n.whole ++ (separator ++ (n.fraction ++ power)))
   pub short : length text ≤ 64
   pub signs : IsSign sign n.negative
-  pub whole_digits : IsTrue (are_digits n.whole)
+  pub whole_digits : IsTrue (all_ascii_digits n.whole)
   pub points : IsPoint separator n.fraction
-  pub fraction_digits : IsTrue (are_digits n.fraction)
+  pub fraction_digits : IsTrue (all_ascii_digits n.fraction)
   pub some_digit : 0 < length n.whole + length n.fraction
   pub exponents : IsExponent power n.exponent
 
@@ -66,8 +62,8 @@ pub record Spells (text : List ℕ) (n : Numeral) : Type 0 where
 abbrev pub is_mark : ℕ → Bool
 is_mark b = (b == 101) || (b == 69)
 
-abbrev pub is_point : ℕ → Bool
-is_point b = b == 46
+abbrev pub is_decimal_point : ℕ → Bool
+is_decimal_point b = b == 46
 
 -- what stands from the first element on that passes the test
 abbrev pub from_first : (ℕ → Bool) → List ℕ → List ℕ
@@ -75,7 +71,7 @@ from_first p xs = drop (position_or_len p xs) xs
 
 -- the power of ten after the mark, where one to three digits spell it
 abbrev pub power_of : List ℕ → Option ℤ
-power_of t = if are_digits (without_leading_sign t) && (nat_lt 0 (length (without_leading_sign t)) && nat_le (length (without_leading_sign t)) 3) then Some (signed (starts_with_minus t) (digits_value 10 (without_leading_sign t))) else None
+power_of t = if all_ascii_digits (without_leading_sign t) && (nat_lt 0 (length (without_leading_sign t)) && nat_le (length (without_leading_sign t)) 3) then Some (signed (starts_with_minus t) (digits_value 10 (without_leading_sign t))) else None
 
 -- the exponent that stands behind the digits, if one does
 abbrev pub exponent_of : List ℕ → Option ℤ
@@ -84,13 +80,13 @@ exponent_of (mark ∷ t) = power_of t
 
 -- the digits on both sides of the point, where they are digits and there is one
 abbrev pub with_digits : Bool → List ℕ → List ℕ → ℤ → Option Numeral
-with_digits negative whole fraction exponent = if are_digits whole && (are_digits fraction && nat_lt 0 (length whole + length fraction)) then Some (record { negative = negative; whole = whole; fraction = fraction; exponent = exponent }) else None
+with_digits negative whole fraction exponent = if all_ascii_digits whole && (all_ascii_digits fraction && nat_lt 0 (length whole + length fraction)) then Some (record { negative = negative; whole = whole; fraction = fraction; exponent = exponent }) else None
 
 -- the numeral of a text without its sign
 abbrev pub unsigned_numeral_of : Bool → List ℕ → Option Numeral
 unsigned_numeral_of negative t =
     let mantissa = before_first is_mark t in
-    option_and_then (with_digits negative (before_first is_point mantissa) (drop 1 (from_first is_point mantissa))) (exponent_of (from_first is_mark t))
+    option_and_then (with_digits negative (before_first is_decimal_point mantissa) (drop 1 (from_first is_decimal_point mantissa))) (exponent_of (from_first is_mark t))
 
 -- the numeral that the text spells
 abbrev pub numeral_of : List ℕ → Option Numeral

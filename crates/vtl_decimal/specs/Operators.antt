@@ -5,7 +5,7 @@ use Rattle.vtl_decimal.specs.declared.number.Fault.{Fault}
 use Rattle.vtl_decimal.specs.declared.number.Fault.TheVariants.{DivZero}
 use Rattle.vtl_decimal.specs.declared.settings.Rounding.{Rounding}
 use Rattle.vtl_decimal.specs.Range.{fit_number}
-use Rattle.vtl_decimal.specs.Rounding.{rounded_quotient, floor_of}
+use Rattle.vtl_decimal.specs.Rounding.{rounded_quotient, floor_of_quotient}
 
 abbrev pub product : Rounding → ℕ → ℤ → ℤ → Result ℤ Fault
 product m s a b = fit_number (rounded_quotient m (a *ℤ b) (pos (10 ^ s)))
@@ -15,7 +15,7 @@ quotient m s a b = if unsigned_abs b == 0 then Err DivZero else fit_number (roun
 
 -- what is left of a where b is taken away as often as the floor of a / b says
 abbrev pub remainder : ℤ → ℤ → ℤ
-remainder a b = if unsigned_abs b == 0 then a else a -ℤ (b *ℤ floor_of a b)
+remainder a b = if unsigned_abs b == 0 then a else a -ℤ (b *ℤ floor_of_quotient a b)
 
 -- the units of the last place that is kept, where d digits after the point are
 abbrev pub place_value : ℕ → ℤ → ℕ

@@ -30,9 +30,9 @@ abbrev pub ceil_quotient : ℤ → ℕ → ℤ
 ceil_quotient p q = neg_ℤ (floor_quotient (neg_ℤ p) q)
 
 -- the greatest whole number that is at most a / b, for b of either sign
-abbrev pub floor_of : ℤ → ℤ → ℤ
-floor_of a (pos b) = floor_quotient a b
-floor_of a (negsuc b) = floor_quotient (neg_ℤ a) (b + 1)
+abbrev pub floor_of_quotient : ℤ → ℤ → ℤ
+floor_of_quotient a (pos b) = floor_quotient a b
+floor_of_quotient a (negsuc b) = floor_quotient (neg_ℤ a) (b + 1)
 
 -- ---- the same rules without quotient and rest, as a law of the above
 

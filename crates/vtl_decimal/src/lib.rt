@@ -16,9 +16,9 @@ mod wholes;
 mod writing;
 
 pub use number::{Dec, Fault};
-pub use operators::{abs, add, div, modulo, mul, neg, sub};
+pub use operators::{abs, add, div, modulo, modulo_whole, mul, neg, sub};
 pub use reading::{BadNumber, read, read_whole};
 pub use settings::{Profile, Rounding};
 pub use total::Sum;
-pub use wholes::{ceil, floor, of_whole, round, trunc, whole};
+pub use wholes::{ceil, floor, from_whole, round, trunc, whole};
 pub use writing::{write, write_whole};

@@ -72,12 +72,30 @@ pub fn modulo(a: Dec, b: Dec) -> Dec
     ensures above { pos 0 <ℤ b → (pos 0 ≤ℤ result) × (result <ℤ b) }
     ensures below { b <ℤ pos 0 → (b <ℤ result) × (result ≤ℤ pos 0) }
 {
-    let divisor = b.k();
-    if divisor > 0 {
-        Dec::of(a.k().rem_euclid(divisor))
-    } else if divisor < 0 {
-        Dec::of(-(-a.k()).rem_euclid(-divisor))
+    Dec::of(modulo_whole(a.k(), b.k()))
+}
+
+/// The same of two whole numbers.
+pub fn modulo_whole(a: i64, b: i64) -> i64
+    ensures value { result ≡ remainder a b }
+    ensures above { pos 0 <ℤ b → (pos 0 ≤ℤ result) × (result <ℤ b) }
+    ensures below { b <ℤ pos 0 → (b <ℤ result) × (result ≤ℤ pos 0) }
+{
+    if b > 0 {
+        a.rem_euclid(b)
+    } else if b < 0 {
+        modulo_negative(a, b) as i64
     } else {
         a
     }
+}
+
+// The same by a number below zero, with room for the opposite of the least number.
+fn modulo_negative(a: i64, b: i64) -> i128
+    requires { b <ℤ pos 0 }
+    ensures value { result ≡ remainder a b }
+    ensures low { b <ℤ result }
+    ensures high { result ≤ℤ pos 0 }
+{
+    -(-i128::from(a)).rem_euclid(-i128::from(b))
 }

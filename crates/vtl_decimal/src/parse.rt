@@ -1,9 +1,11 @@
 ghost use Rattle.std.specs.Prelude.{◌≡◌, ◌<◌, ◌≤◌, ◌+◌, ◌*◌, length, drop, pos, unsigned_abs, IsTrue, MatchOption, IfSome};
 ghost use Rattle.std.specs.Option.{option_map};
-ghost use Rattle.std.specs.List.{before_first, position};
+ghost use Rattle.std.specs.Char.{is_ascii_digit};
+ghost use Rattle.std.specs.List.{before_first, list_all, position};
 ghost use Rattle.std.specs.Str.Parse.{digits_value, starts_with_minus, without_leading_sign};
-ghost use Rattle.vtl_decimal.specs.Numeral.{are_digits, is_mark, is_point, from_first, power_of, exponent_of, with_digits, unsigned_numeral_of, numeral_of};
-ghost use Rattle.vtl_decimal.specs.Parsed.{numeral_view, IsParsed};
+ghost use Rattle.std.specs.Str.{all_ascii_digits};
+ghost use Rattle.vtl_decimal.specs.Numeral.{is_mark, is_decimal_point, from_first, power_of, exponent_of, with_digits, unsigned_numeral_of, numeral_of};
+ghost use Rattle.vtl_decimal.specs.Parsed.{numeral_view, IsTakenApart};
 
 use crate::digits::value_onto;
 
@@ -18,7 +20,13 @@ pub(crate) struct Numeral<'a> {
 
 // Whether every byte is a digit.
 fn all_digits(text: &[u8]) -> bool
-    ensures { result ≡ are_digits text.now }
+    ensures { result ≡ all_ascii_digits text.now }
+{
+    each_is_digit(text)
+}
+
+fn each_is_digit(text: &[u8]) -> bool
+    ensures { result ≡ list_all is_ascii_digit text.now }
 {
     text.iter().all(|byte| byte.is_ascii_digit())
 }
@@ -53,7 +61,7 @@ fn split_at_mark(text: &[u8]) -> (&[u8], &[u8])
 
 // Where the point stands.
 fn place_of_point(text: &[u8]) -> Option<usize>
-    ensures { result ≡ position is_point text.now }
+    ensures { result ≡ position is_decimal_point text.now }
 {
     text.iter().position(|byte| *byte == b'.')
 }
@@ -61,8 +69,8 @@ fn place_of_point(text: &[u8]) -> Option<usize>
 // What stands before the point, and what from it on.
 #[tactic(auto, using(crate::proofs::TextLemmas::text_facts))]
 fn split_at_point(text: &[u8]) -> (&[u8], &[u8])
-    ensures before { result.0.now ≡ before_first is_point text.now }
-    ensures rest { result.1.now ≡ from_first is_point text.now }
+    ensures before { result.0.now ≡ before_first is_decimal_point text.now }
+    ensures rest { result.1.now ≡ from_first is_decimal_point text.now }
 {
     text.split_at(place_of_point(text).unwrap_or(text.len()))
 }
@@ -70,7 +78,7 @@ fn split_at_point(text: &[u8]) -> (&[u8], &[u8])
 // The number that at most three digits write.
 #[tactic(auto, using(crate::proofs::DigitLemmas::value_of_three))]
 fn small_value(digits: &[u8]) -> i16
-    requires digits { IsTrue (are_digits digits.now) }
+    requires digits { IsTrue (all_ascii_digits digits.now) }
     requires few { length digits.now ≤ 3 }
     ensures value { result ≡ pos (digits_value 10 digits.now) }
     ensures bound { unsigned_abs result < 1000 }
@@ -146,7 +154,7 @@ fn unsigned_numeral(negative: bool, text: &[u8]) -> Option<Numeral<'_>>
 #[tactic(auto, using(crate::proofs::ParsedLemmas::numeral_parsed))]
 pub(crate) fn parse_numeral(text: &[u8]) -> Option<Numeral<'_>>
     ensures value { option_map numeral_view result ≡ numeral_of text.now }
-    ensures parsed { IfSome result (λ n. IsParsed (numeral_view n)) }
+    ensures parsed { IfSome result (λ n. IsTakenApart (numeral_view n)) }
 {
     if text.len() > 64 {
         return None;

@@ -1,6 +1,6 @@
-ghost use Rattle.std.specs.Prelude.{◌≡◌, ◌≢◌, ◌^◌, ◌<◌, ◌≤◌, pos, unsigned_abs};
-ghost use Rattle.vtl_decimal.specs.Rounding.{rounded_size, rounded_quotient};
-ghost use Rattle.vtl_decimal.specs.Divided.{rest_of, rounds_up_from};
+ghost use Rattle.std.specs.Prelude.{◌≡◌, ◌%◌, ◌==◌, ◌^◌, ◌<◌, ◌≤◌, ℕ, pos, unsigned_abs};
+ghost use Rattle.vtl_decimal.specs.Rounding.{rounds_up, rounded_size, rounded_quotient};
+ghost use Rattle.vtl_decimal.specs.Divided.{place_of_rest};
 
 use crate::settings::Rounding;
 
@@ -23,7 +23,7 @@ pub(crate) struct Divided {
 // Where a rest stands.
 fn classify(rest: u128, divisor: u128) -> Rest
     requires { rest < 2 ^ 127 }
-    ensures { result ≡ rest_of rest divisor }
+    ensures { result ≡ place_of_rest rest divisor }
 {
     if rest == 0 {
         Rest::Zero
@@ -37,8 +37,9 @@ fn classify(rest: u128, divisor: u128) -> Rest
 }
 
 // Whether the rounding adds one to a quotient with this rest.
+#[tactic(auto, using(crate::proofs::RoundingLemmas::rounds_up_by_rest))]
 pub(crate) fn goes_up(rounding: Rounding, is_odd: bool, rest: Rest) -> bool
-    ensures { result ≡ rounds_up_from rounding is_odd rest }
+    ensures { (z r q : ℕ) → 0 < q → is_odd ≡ (z % 2 == 1) → rest ≡ place_of_rest r q → result ≡ rounds_up rounding z r q }
 {
     match rest {
         Rest::Zero | Rest::BelowHalf => false,
@@ -55,7 +56,7 @@ pub(crate) fn goes_up(rounding: Rounding, is_odd: bool, rest: Rest) -> bool
 }
 
 // The size of a quotient, rounded.
-#[tactic(auto, using(crate::proofs::RoundingLemmas::rounds_up_is))]
+#[tactic(auto, using(std::proofs::lemmas::Int::ints))]
 fn rounded_size_of(rounding: Rounding, dividend: u128, divisor: u128) -> u128
     requires divisor_not_zero { 0 < divisor }
     requires divisor_fits { divisor < 2 ^ 127 }

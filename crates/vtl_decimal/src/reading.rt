@@ -1,7 +1,7 @@
 ghost use Rattle.std.specs.Prelude.{◌≡◌, ◌≤◌, ◌^◌, Some, None, IfOk, OnErr};
 ghost use Rattle.std.specs.Result.{result_ok};
-ghost use Rattle.vtl_decimal.specs.Numeral.{Numeral as NumeralSpec, Spells, signed, number_of, integer_of, number_read, integer_read};
-ghost use Rattle.vtl_decimal.specs.Parsed.{numeral_view, IsParsed};
+ghost use Rattle.vtl_decimal.specs.Numeral.{Numeral as NumeralSpec, SpellsNumeral, signed, number_of, integer_of, number_read, integer_read};
+ghost use Rattle.vtl_decimal.specs.Parsed.{numeral_view, IsTakenApart};
 
 use crate::number::{Dec, fit};
 use crate::parse::{Numeral, parse_numeral};
@@ -25,7 +25,7 @@ fn with_sign(negative: bool, size: u64) -> i64
 
 // The number of a numeral, rounded once.
 fn number(n: &Numeral, p: &Profile) -> Option<Dec>
-    requires { IsParsed (numeral_view n.now) }
+    requires { IsTakenApart (numeral_view n.now) }
     ensures { result ≡ number_of p.now (numeral_view n.now) }
 {
     let divided = scaled(n, p.scale())?;
@@ -36,7 +36,7 @@ fn number(n: &Numeral, p: &Profile) -> Option<Dec>
 
 // The integer of a numeral.
 fn integer(n: &Numeral, p: &Profile) -> Option<i64>
-    requires { IsParsed (numeral_view n.now) }
+    requires { IsTakenApart (numeral_view n.now) }
     ensures { result ≡ integer_of p.now.scale (numeral_view n.now) }
 {
     let divided = scaled(n, 0)?;
@@ -69,8 +69,8 @@ fn integer_in(text: &str, p: &Profile) -> Option<i64>
 /// bytes. BadNumber where the text is no numeral, or its rounded value has more than 18 digits.
 pub fn read(text: &str, p: &Profile) -> Result<Dec, BadNumber>
     ensures value { result_ok result ≡ number_read p.now text.now }
-    ensures spelled { IfOk result (λ k. (n : NumeralSpec) × Spells text.now n × (number_of p.now n ≡ Some k)) }
-    ensures refused { OnErr result ((n : NumeralSpec) → Spells text.now n → number_of p.now n ≡ None) }
+    ensures spelled { IfOk result (λ k. (n : NumeralSpec) × SpellsNumeral text.now n × (number_of p.now n ≡ Some k)) }
+    ensures refused { OnErr result ((n : NumeralSpec) → SpellsNumeral text.now n → number_of p.now n ≡ None) }
 {
     number_in(text, p).ok_or(BadNumber)
 }
@@ -81,8 +81,8 @@ pub fn read(text: &str, p: &Profile) -> Result<Dec, BadNumber>
 /// the profile.
 pub fn read_whole(text: &str, p: &Profile) -> Result<i64, BadNumber>
     ensures value { result_ok result ≡ integer_read p.now.scale text.now }
-    ensures spelled { IfOk result (λ k. (n : NumeralSpec) × Spells text.now n × (integer_of p.now.scale n ≡ Some k)) }
-    ensures refused { OnErr result ((n : NumeralSpec) → Spells text.now n → integer_of p.now.scale n ≡ None) }
+    ensures spelled { IfOk result (λ k. (n : NumeralSpec) × SpellsNumeral text.now n × (integer_of p.now.scale n ≡ Some k)) }
+    ensures refused { OnErr result ((n : NumeralSpec) → SpellsNumeral text.now n → integer_of p.now.scale n ≡ None) }
 {
     integer_in(text, p).ok_or(BadNumber)
 }

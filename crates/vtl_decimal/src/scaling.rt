@@ -1,8 +1,9 @@
 ghost use Rattle.std.specs.Prelude.{◌≡◌, pos, ◌+ℤ◌, ◌-ℤ◌, unsigned_abs, ◌≤◌, ◌<◌, ◌+◌, ◌-◌, ◌*◌, ◌/◌, ◌%◌, ◌^◌, ℕ, nat_lt, ◌++◌, List, [], length, IsTrue, MatchOption, IfSome};
 ghost use Rattle.std.specs.Str.Parse.{digits_value};
-ghost use Rattle.vtl_decimal.specs.Numeral.{are_digits, numerator, denominator};
-ghost use Rattle.vtl_decimal.specs.Parsed.{numeral_view, IsParsed};
-ghost use Rattle.vtl_decimal.specs.Divided.{rest_of, IsDivided, has_nonzero};
+ghost use Rattle.std.specs.Str.{all_ascii_digits};
+ghost use Rattle.vtl_decimal.specs.Numeral.{numerator, denominator};
+ghost use Rattle.vtl_decimal.specs.Parsed.{numeral_view, IsTakenApart};
+ghost use Rattle.vtl_decimal.specs.Divided.{place_of_rest, IsDivided, has_nonzero};
 
 use crate::digits::value_onto;
 use crate::number::LIMIT;
@@ -29,7 +30,7 @@ fn any_nonzero_of(first: &[u8], second: &[u8]) -> bool
 fn rest_from_lead(lead: u8, more: bool) -> Rest
     requires digit_from { 48 ≤ lead }
     requires digit_to { lead ≤ 57 }
-    ensures { (n t : ℕ) → t < 10 ^ n → more ≡ nat_lt 0 t → result ≡ rest_of ((lead - 48) * 10 ^ n + t) (10 ^ n * 10) }
+    ensures { (n t : ℕ) → t < 10 ^ n → more ≡ nat_lt 0 t → result ≡ place_of_rest ((lead - 48) * 10 ^ n + t) (10 ^ n * 10) }
 {
     match lead {
         b'0' => { if more { Rest::BelowHalf } else { Rest::Zero } }
@@ -42,9 +43,9 @@ fn rest_from_lead(lead: u8, more: bool) -> Rest
 // Where the rest stands that the digits write, and those behind them, of which one is not `0`
 // where `more` says so.
 fn rest_with_tail(digits: &[u8], more: bool) -> Rest
-    requires digits { IsTrue (are_digits digits.now) }
+    requires digits { IsTrue (all_ascii_digits digits.now) }
     requires some_digit { 0 < length digits.now }
-    ensures { (behind : List ℕ) → IsTrue (are_digits behind) → has_nonzero behind ≡ more → result ≡ rest_of (digits_value 10 (digits.now ++ behind)) (10 ^ length (digits.now ++ behind)) }
+    ensures { (behind : List ℕ) → IsTrue (all_ascii_digits behind) → has_nonzero behind ≡ more → result ≡ place_of_rest (digits_value 10 (digits.now ++ behind)) (10 ^ length (digits.now ++ behind)) }
 {
     let more = any_nonzero(&digits[1..]) || more;
     rest_from_lead(digits[0], more)
@@ -52,9 +53,9 @@ fn rest_with_tail(digits: &[u8], more: bool) -> Rest
 
 // Where the rest stands that the digits of two texts write, against one before them.
 fn rest_of_digits(first: &[u8], second: &[u8]) -> Rest
-    requires first_digits { IsTrue (are_digits first.now) }
-    requires second_digits { IsTrue (are_digits second.now) }
-    ensures { result ≡ rest_of (digits_value 10 (first.now ++ second.now)) (10 ^ length (first.now ++ second.now)) }
+    requires first_digits { IsTrue (all_ascii_digits first.now) }
+    requires second_digits { IsTrue (all_ascii_digits second.now) }
+    ensures { result ≡ place_of_rest (digits_value 10 (first.now ++ second.now)) (10 ^ length (first.now ++ second.now)) }
 {
     if !first.is_empty() {
         rest_with_tail(first, any_nonzero(second))
@@ -68,8 +69,8 @@ fn rest_of_digits(first: &[u8], second: &[u8]) -> Rest
 // The number that the digits of two texts write, where it has at most 18 digits.
 #[tactic(auto, using(crate::proofs::DigitLemmas::joined_digits))]
 fn joined_value(first: &[u8], second: &[u8]) -> Option<u64>
-    requires first_digits { IsTrue (are_digits first.now) }
-    requires second_digits { IsTrue (are_digits second.now) }
+    requires first_digits { IsTrue (all_ascii_digits first.now) }
+    requires second_digits { IsTrue (all_ascii_digits second.now) }
     ensures value { MatchOption result (10 ^ 18 ≤ digits_value 10 (first.now ++ second.now)) (λ v. v ≡ digits_value 10 (first.now ++ second.now)) }
     ensures bound { IfSome result (λ v. v < 10 ^ 18) }
 {
@@ -78,10 +79,10 @@ fn joined_value(first: &[u8], second: &[u8]) -> Option<u64>
 
 // The digits of the first two texts divided by the power of ten that makes those of the others its rest.
 fn cut(kept: &[u8], more_kept: &[u8], dropped: &[u8], more_dropped: &[u8]) -> Option<Divided>
-    requires kept_digits { IsTrue (are_digits kept.now) }
-    requires more_kept_digits { IsTrue (are_digits more_kept.now) }
-    requires dropped_digits { IsTrue (are_digits dropped.now) }
-    requires more_dropped_digits { IsTrue (are_digits more_dropped.now) }
+    requires kept_digits { IsTrue (all_ascii_digits kept.now) }
+    requires more_kept_digits { IsTrue (all_ascii_digits more_kept.now) }
+    requires dropped_digits { IsTrue (all_ascii_digits dropped.now) }
+    requires more_dropped_digits { IsTrue (all_ascii_digits more_dropped.now) }
     ensures { MatchOption result (10 ^ 18 ≤ digits_value 10 ((kept.now ++ more_kept.now) ++ (dropped.now ++ more_dropped.now)) / 10 ^ length (dropped.now ++ more_dropped.now)) (IsDivided (digits_value 10 ((kept.now ++ more_kept.now) ++ (dropped.now ++ more_dropped.now))) (10 ^ length (dropped.now ++ more_dropped.now))) }
 {
     let units = joined_value(kept, more_kept)?;
@@ -91,8 +92,8 @@ fn cut(kept: &[u8], more_kept: &[u8], dropped: &[u8], more_dropped: &[u8]) -> Op
 
 // The digits divided by a power of ten that has more places than they.
 fn cut_all(whole: &[u8], fraction: &[u8], dropped: usize) -> Divided
-    requires whole_digits { IsTrue (are_digits whole.now) }
-    requires fraction_digits { IsTrue (are_digits fraction.now) }
+    requires whole_digits { IsTrue (all_ascii_digits whole.now) }
+    requires fraction_digits { IsTrue (all_ascii_digits fraction.now) }
     requires more { length whole.now + length fraction.now < dropped }
     ensures { IsDivided (digits_value 10 (whole.now ++ fraction.now)) (10 ^ dropped) result }
 {
@@ -105,9 +106,10 @@ fn cut_all(whole: &[u8], fraction: &[u8], dropped: usize) -> Divided
 }
 
 // The digits divided by a power of ten.
+#[tactic(auto, using(crate::proofs::DigitLemmas::digit_parts))]
 fn divided_by_power(whole: &[u8], fraction: &[u8], dropped: usize) -> Option<Divided>
-    requires whole_digits { IsTrue (are_digits whole.now) }
-    requires fraction_digits { IsTrue (are_digits fraction.now) }
+    requires whole_digits { IsTrue (all_ascii_digits whole.now) }
+    requires fraction_digits { IsTrue (all_ascii_digits fraction.now) }
     requires short { length whole.now + length fraction.now ≤ 64 }
     ensures { MatchOption result (10 ^ 18 ≤ digits_value 10 (whole.now ++ fraction.now) / 10 ^ dropped) (IsDivided (digits_value 10 (whole.now ++ fraction.now)) (10 ^ dropped)) }
 {
@@ -127,8 +129,8 @@ fn divided_by_power(whole: &[u8], fraction: &[u8], dropped: usize) -> Option<Div
 
 // The digits times a power of ten.
 fn times_power(whole: &[u8], fraction: &[u8], zeros: u32) -> Option<u64>
-    requires whole_digits { IsTrue (are_digits whole.now) }
-    requires fraction_digits { IsTrue (are_digits fraction.now) }
+    requires whole_digits { IsTrue (all_ascii_digits whole.now) }
+    requires fraction_digits { IsTrue (all_ascii_digits fraction.now) }
     ensures value { MatchOption result (10 ^ 18 ≤ digits_value 10 (whole.now ++ fraction.now) * 10 ^ zeros) (λ v. v ≡ digits_value 10 (whole.now ++ fraction.now) * 10 ^ zeros) }
     ensures bound { IfSome result (λ v. v < 10 ^ 18) }
 {
@@ -151,7 +153,7 @@ fn times_power(whole: &[u8], fraction: &[u8], zeros: u32) -> Option<u64>
 // the scale.
 fn places_to_left(n: &Numeral, scale: u8) -> i32
     requires scale_in_range { scale ≤ 9 }
-    requires parsed { IsParsed (numeral_view n.now) }
+    requires parsed { IsTakenApart (numeral_view n.now) }
     ensures value { result ≡ (pos scale +ℤ n.now.exponent) -ℤ pos (length n.now.fraction.now) }
     ensures bound { unsigned_abs result < 2000 }
 {
@@ -161,7 +163,7 @@ fn places_to_left(n: &Numeral, scale: u8) -> i32
 // The numeral in units of the scale, with the rest behind them.
 pub(crate) fn scaled(n: &Numeral, scale: u8) -> Option<Divided>
     requires scale_in_range { scale ≤ 9 }
-    requires parsed { IsParsed (numeral_view n.now) }
+    requires parsed { IsTakenApart (numeral_view n.now) }
     ensures { MatchOption result (10 ^ 18 ≤ numerator scale (numeral_view n.now) / denominator (numeral_view n.now)) (IsDivided (numerator scale (numeral_view n.now)) (denominator (numeral_view n.now))) }
 {
     let shift = places_to_left(n, scale);

@@ -70,13 +70,13 @@ pub fn whole(n: i128, p: &Profile) -> Result<i64, Fault>
     }
 }
 
-/// The number that is equal to an integer of the profile, as `whole` and `read_whole` give it.
-#[tactic(auto, using(crate::proofs::PowerLemmas::units_fit))]
-pub fn of_whole(n: i64, p: &Profile) -> Dec
-    requires { unsigned_abs n < 10 ^ (18 - p.now.scale) }
-    ensures { result ≡ n *ℤ pos (10 ^ p.now.scale) }
+/// The number that is equal to the integer `n`.
+///
+/// Range where it has more than 18 digits. An integer of the profile, as `whole` and `read_whole` give it, always has such a number.
+pub fn from_whole(n: i64, p: &Profile) -> Result<Dec, Fault>
+    ensures { result ≡ fit_number (n *ℤ pos (10 ^ p.now.scale)) }
 {
-    Dec::of(exact_product(n, power_of_ten(p.scale())) as i64)
+    fit(exact_product(n, power_of_ten(p.scale())))
 }
 
 // The least whole number that is at least a quotient by a positive number.

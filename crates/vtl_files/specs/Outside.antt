@@ -63,9 +63,9 @@ CountsMisuse true false before now = Rose before now
 CountsMisuse false true before now = Rose before now
 
 -- `read` takes the first bytes of what is left, and puts them at the front of the buffer.
-abbrev pub Reads : Option (List ℕ) → Option (List ℕ) → List ℕ → Result ℕ Failed → Type 0
-Reads before now buf (Ok count) = before ≡ option_map (λ rest. take count buf ++ rest) now
-Reads before now buf (Err failed) = now ≡ before
+abbrev pub ReadsFront : Option (List ℕ) → Option (List ℕ) → List ℕ → Result ℕ Failed → Type 0
+ReadsFront before now buf (Ok count) = before ≡ option_map (λ rest. take count buf ++ rest) now
+ReadsFront before now buf (Err failed) = now ≡ before
 
 -- `create` adds an empty file of this name at the end.
 abbrev pub Creates : Option (List (List ℕ × List ℕ)) → Option (List (List ℕ × List ℕ)) → List ℕ → Result Unit Failed → Type 0
@@ -73,9 +73,9 @@ Creates before now name (Ok done) = now ≡ option_map (λ files. files ++ (name
 Creates before now name (Err failed) = now ≡ before
 
 -- `write` appends so many first bytes of the piece to the last file.
-abbrev pub Writes : Option (List (List ℕ × List ℕ)) → Option (List (List ℕ × List ℕ)) → List ℕ → Result ℕ Failed → Type 0
-Writes before now piece (Ok count) = AppendsAll before now (take count piece)
-Writes before now piece (Err failed) = now ≡ before
+abbrev pub WritesFront : Option (List (List ℕ × List ℕ)) → Option (List (List ℕ × List ℕ)) → List ℕ → Result ℕ Failed → Type 0
+WritesFront before now piece (Ok count) = AppendsAll before now (take count piece)
+WritesFront before now piece (Err failed) = now ≡ before
 
 -- A sink takes so many first bytes of the piece.
 abbrev pub Takes : Option (List ℕ) → Option (List ℕ) → List ℕ → Result ℕ Failed → Type 0

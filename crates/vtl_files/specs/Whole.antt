@@ -21,12 +21,12 @@ abbrev pub TakesFront : Option (List ℕ) → Option (List ℕ) → List ℕ →
 TakesFront before now bytes = (rest : List ℕ) × AddsUpTo (λ front taken. taken ++ front) before now bytes rest
 
 -- what `read_all` answers for a file with these bytes, or with none of its name
-abbrev pub Answers : Option (List ℕ) → ℕ → Result (Vec ℕ) ReadErr → Type 0
-Answers bytes limit (Ok read) = bytes ≡ Some read.items
-Answers bytes limit (Err Absent) = bytes ≡ None
-Answers bytes limit (Err TooLong) = IsSomeAnd bytes (λ all. limit < length all)
-Answers bytes limit (Err Failed) = ⊤
-Answers bytes limit (Err OutOfMemory) = ⊤
+abbrev pub ReadsAll : Option (List ℕ) → ℕ → Result (Vec ℕ) ReadErr → Type 0
+ReadsAll bytes limit (Ok read) = bytes ≡ Some read.items
+ReadsAll bytes limit (Err Absent) = bytes ≡ None
+ReadsAll bytes limit (Err TooLong) = IsSomeAnd bytes (λ all. limit < length all)
+ReadsAll bytes limit (Err Failed) = ⊤
+ReadsAll bytes limit (Err OutOfMemory) = ⊤
 
 -- `absences` rises where the answer is that the file is absent, and nowhere else.
 abbrev pub CountsAbsent : Result (Vec ℕ) ReadErr → ℕ → ℕ → Type 0

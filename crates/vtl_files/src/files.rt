@@ -1,6 +1,6 @@
 ghost use Rattle.std.specs.Prelude.{◌≡◌, ◌≤◌, ◌<◌, ℕ, List, Bool, true, false, Option, Ok, length, is_ok, IsErr, OnOk, OnErr, IfOk, IfSome, string_bytes, []};
 ghost use Rattle.std.specs.Result.{result_unwrap_or};
-ghost use Rattle.vtl_files.specs.Outside.{Rose, Opens, Reads, Creates, Writes, LeavesNothing, CountsAbsence, CountsMisuse};
+ghost use Rattle.vtl_files.specs.Outside.{Rose, Opens, ReadsFront, Creates, WritesFront, LeavesNothing, CountsAbsence, CountsMisuse};
 
 use crate::failed::Failed;
 
@@ -77,7 +77,7 @@ pub trait Files {
         ensures opened { opened self.new ≡ opened self.old }
         ensures not_opened { opened self.old ≡ false → result ≡ Ok 0 }
         ensures bound { IfOk result (λ count. count ≤ length buf.new) }
-        ensures left { Reads (left self.old) (left self.new) buf.new result }
+        ensures left { ReadsFront (left self.old) (left self.new) buf.new result }
         ensures end { IfOk result (λ count. count ≡ 0 → 0 < length buf.new → IfSome (left self.old) (λ rest. rest ≡ [])) };
 
     /// Creates an empty file of this name, to be written. The opened file is closed.
@@ -108,7 +108,7 @@ pub trait Files {
     /// The file could not be written, or none is being created.
     fn write(&mut self, piece: &[u8]) -> Result<usize, Failed>
         ensures held { held self.new ≡ held self.old }
-        ensures written { Writes (written self.old) (written self.new) piece.now result }
+        ensures written { WritesFront (written self.old) (written self.new) piece.now result }
         ensures faults { faults self.old ≤ faults self.new }
         ensures failed { OnErr result (Rose (faults self.old) (faults self.new)) }
         ensures absences { absences self.new ≡ absences self.old }

@@ -1,6 +1,6 @@
 ghost use Rattle.std.specs.Prelude.{◌≡◌, ◌≢◌, ◌≤◌, ◌<◌, true, Err, OnOk, OnErr, IfOk, IfSome, length, vec_len};
 ghost use Rattle.vtl_files.specs.Outside.{Rose, FaultAt, bytes_at, AppendsAll, TakesAll};
-ghost use Rattle.vtl_files.specs.Whole.{Answers, CountsAbsent, AppendsFront, TakesFront};
+ghost use Rattle.vtl_files.specs.Whole.{ReadsAll, CountsAbsent, AppendsFront, TakesFront};
 
 use crate::failed::Failed;
 use crate::files::Files;
@@ -11,7 +11,7 @@ use std::alloc::{AllocError, Global};
 /// How many bytes are asked for at a time.
 const BLOCK: usize = 65536;
 
-/// Reads the file `name` whole, if it has at most `limit` bytes. It stops at the first read that goes
+/// ReadsFront the file `name` whole, if it has at most `limit` bytes. It stops at the first read that goes
 /// beyond the limit; each read takes at least one byte.
 ///
 /// # Errors
@@ -30,7 +30,7 @@ pub fn read_all<F: Files>(
     ensures faults { F.faults f.old ≤ F.faults f.new }
     ensures absences { F.absences f.old ≤ F.absences f.new }
     ensures within { IfOk result (λ read. vec_len read ≤ limit) }
-    ensures told { IfSome (F.held f.old) (λ files. Answers (bytes_at name.now files) limit result) }
+    ensures told { IfSome (F.held f.old) (λ files. ReadsAll (bytes_at name.now files) limit result) }
     ensures absent { CountsAbsent result (F.absences f.old) (F.absences f.new) }
     ensures failed { result ≡ Err ReadErr.Failed
         → FaultAt (F.faults f.old) (F.faults f.new) (F.mark f.new) (F.place f.new) name.now }
@@ -44,7 +44,7 @@ pub fn read_all<F: Files>(
     read_rest(alloc, f, &mut room, limit)
 }
 
-/// Writes all bytes to the file that is being created.
+/// WritesFront all bytes to the file that is being created.
 ///
 /// # Errors
 ///
@@ -104,7 +104,7 @@ fn block(alloc: Global) -> Result<Vec<u8>, AllocError>
     vec![in alloc; 0u8; BLOCK]
 }
 
-// Reads what is left of the opened file by way of `room`, if it has at most `limit` bytes.
+// ReadsFront what is left of the opened file by way of `room`, if it has at most `limit` bytes.
 fn read_rest<F: Files>(
     alloc: Global,
     f: &mut F,

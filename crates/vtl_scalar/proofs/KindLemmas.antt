@@ -2,7 +2,7 @@
 use Rattle.std.proofs.Common.{◌≡◌, Bool, true, false, List, [], ◌∷◌, Option, Some, None, ◌⊎◌, inl, inr, refl, subst}
 use Rattle.std.specs.Prelude.{◌&&◌, if◌then◌else◌}
 use Rattle.std.specs.Option.{option_map}
-use Rattle.vtl_cell.specs.ScalarKinds.{meets, meet, to, only, first_met, shared_kind, common_kind, truth_of_alike}
+use Rattle.vtl_cell.specs.ScalarKinds.{meets, meet, to, only, first_met, shared_kind, common_kind, truth_of_alike, is_set_of, truth_of_set}
 use Rattle.vtl_cell.specs.declared.kind.Kind.{Kind}
 use Rattle.vtl_cell.specs.declared.kind.Kind.TheVariants as k
 
@@ -94,12 +94,15 @@ first_or false false g j kind h = cc
 pub two_give : (ws vs kinds : List Kind) (g j kind : Kind) → first_met (to ws g ∷ to vs j ∷ []) kinds ≡ Some kind → ((meet ws kinds ≡ true) × (g ≡ kind)) ⊎ (j ≡ kind)
 two_give ws vs kinds g j kind h = first_or (meet ws kinds) (meet vs kinds) g j kind h
 
+given : (b : Bool) (g kind : Kind) → (if b then Some g else None) ≡ Some kind → g ≡ kind
+given true g kind e = cc
+given false g kind e = cc
+
 pub only_gives : (ws kinds : List Kind) (g kind : Kind) → first_met (only ws g) kinds ≡ Some kind → g ≡ kind
-only_gives ws kinds g kind h = go (meet ws kinds) h
-  where
-    go : (b : Bool) → (if b then Some g else None) ≡ Some kind → g ≡ kind
-    go true e = cc
-    go false e = cc
+only_gives ws kinds g kind h = given (meet ws kinds) g kind h
+
+pub set_gives : (a : Kind) (members : List Kind) (kind : Kind) → truth_of_set a members ≡ Some kind → k.Bool ≡ kind
+set_gives a members kind h = given (is_set_of a members) k.Bool kind h
 
 pub alike_give : (kinds : List Kind) (kind : Kind) → truth_of_alike kinds ≡ Some kind → k.Bool ≡ kind
 alike_give kinds kind h = go (common_kind kinds) h

@@ -3,7 +3,7 @@ use Rattle.std.proofs.Common.{ℕ, zero, suc, ◌+◌, ◌*◌, ◌/◌, ◌<◌
 use Rattle.std.specs.Prelude.{unsigned_abs}
 use Rattle.std.proofs.lemmas.Int.{ints}
 use Rattle.std.proofs.Math.IntN.{pos-*ℤ-negsuc, negsuc-*ℤ-pos, neg_ℤ-neg_ℤ}
-use Rattle.vtl_decimal.specs.Rounding.{floor_of, floor_quotient}
+use Rattle.vtl_decimal.specs.Rounding.{floor_of_quotient, floor_quotient}
 use Rattle.vtl_decimal.specs.Operators.{remainder}
 
 -- what a divisor above zero leaves
@@ -29,7 +29,7 @@ left_by_negative a q =
     let f = floor_quotient (neg_ℤ a) (suc q) in
     rw (negative_times q f) (turned a (pos (suc q) *ℤ f))
 
-remainder_by_nonzero : (a b : ℤ) → 0 < unsigned_abs b → remainder a b ≡ a -ℤ (b *ℤ floor_of a b)
+remainder_by_nonzero : (a b : ℤ) → 0 < unsigned_abs b → remainder a b ≡ a -ℤ (b *ℤ floor_of_quotient a b)
 remainder_by_nonzero a b h = grind arith
 
 pub remainder_is_small : (a b : ℤ) (m : ℕ) → unsigned_abs a < m → unsigned_abs b < m → unsigned_abs (remainder a b) < m

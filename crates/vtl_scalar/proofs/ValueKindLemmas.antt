@@ -26,7 +26,7 @@ use Rattle.vtl_cell.specs.declared.kind.Kind.TheVariants as k
 use Rattle.vtl_cell.specs.declared.operator.ScalarOp.{ScalarOp}
 use Rattle.vtl_cell.specs.declared.operator.ScalarOp.TheVariants as op
 use Rattle.vtl_scalar.specs.KindLaws.{IsOfKind, HasKind}
-use Rattle.vtl_scalar.proofs.KindLemmas.{both, meet_through, common_left, common_right, two_give, only_gives, alike_give}
+use Rattle.vtl_scalar.proofs.KindLemmas.{both, meet_through, common_left, common_right, two_give, only_gives, alike_give, set_gives}
 
 -- ---- whole numbers and numbers
 
@@ -360,8 +360,8 @@ value_is_of_kind p op.LessOrEqual (a ∷ b ∷ []) args kind e met = alike_is p 
 value_is_of_kind p op.Greater (a ∷ b ∷ []) args kind e met = alike_is p op.Greater (a ∷ b ∷ []) args kind e (scalar_is p op.Greater args refl)
 value_is_of_kind p op.GreaterOrEqual (a ∷ b ∷ []) args kind e met = alike_is p op.GreaterOrEqual (a ∷ b ∷ []) args kind e (scalar_is p op.GreaterOrEqual args refl)
 value_is_of_kind p op.Between (a ∷ x ∷ y ∷ []) args kind e met = alike_is p op.Between (a ∷ x ∷ y ∷ []) args kind e (scalar_is p op.Between args refl)
-value_is_of_kind p op.In (a ∷ x ∷ members) args kind e met = alike_is p op.In (a ∷ x ∷ members) args kind e (scalar_is p op.In args refl)
-value_is_of_kind p op.NotIn (a ∷ x ∷ members) args kind e met = alike_is p op.NotIn (a ∷ x ∷ members) args kind e (scalar_is p op.NotIn args refl)
+value_is_of_kind p op.In (a ∷ x ∷ members) args kind e met = to_kind k.Bool kind (scalar_of p op.In args) (set_gives a (x ∷ members) kind e) (scalar_is p op.In args refl)
+value_is_of_kind p op.NotIn (a ∷ x ∷ members) args kind e met = to_kind k.Bool kind (scalar_of p op.NotIn args) (set_gives a (x ∷ members) kind e) (scalar_is p op.NotIn args refl)
 value_is_of_kind p op.And kinds args kind e met = only_is p kinds args kind met op.And (k.Bool ∷ k.Bool ∷ []) k.Bool e (scalar_is p op.And args refl)
 value_is_of_kind p op.Or kinds args kind e met = only_is p kinds args kind met op.Or (k.Bool ∷ k.Bool ∷ []) k.Bool e (scalar_is p op.Or args refl)
 value_is_of_kind p op.Xor kinds args kind e met = only_is p kinds args kind met op.Xor (k.Bool ∷ k.Bool ∷ []) k.Bool e (scalar_is p op.Xor args refl)

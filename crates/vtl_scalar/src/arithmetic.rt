@@ -1,7 +1,6 @@
 // The operators on integers and numbers. None of them takes memory.
 ghost use Rattle.std.specs.Prelude.{◌≡◌};
 ghost use Rattle.vtl_cell.specs.ScalarArithmetic as row;
-ghost use Rattle.vtl_decimal.specs.Operators.{remainder};
 ghost use Rattle.vtl_decimal.specs.Range.{fit_integer};
 ghost use Rattle.vtl_scalar.specs.Operands.{pair_view};
 
@@ -92,32 +91,18 @@ pub(crate) fn quotient(operands: Pair, p: &Profile) -> Result<Cell, Fault>
     }
 }
 
-// What is left of an integer where another is taken away as often as the floor of their quotient says.
-fn rest(a: i64, b: i64) -> i128
-    ensures { result ≡ remainder a b }
-{
-    let (a, b) = (i128::from(a), i128::from(b));
-    if b > 0 {
-        a.rem_euclid(b)
-    } else if b < 0 {
-        -(-a).rem_euclid(-b)
-    } else {
-        a
-    }
-}
-
 pub(crate) fn remainder(operands: Pair, p: &Profile) -> Result<Cell, Fault>
     ensures { result ≡ row.remainder_of p.now (pair_view operands) }
 {
     match operands {
-        Pair::Integers(a, b) => integer(rest(a, b), p),
+        Pair::Integers(a, b) => integer(i128::from(vtl_decimal::modulo_whole(a, b)), p),
         Pair::Numbers(a, b) => Ok(Cell::Num(vtl_decimal::modulo(a, b))),
         Pair::Neither => Ok(Cell::Null),
     }
 }
 
 pub(crate) fn floor(a: &Cell, p: &Profile) -> Result<Cell, Fault>
-    ensures { result ≡ row.floor_of p.now a.now }
+    ensures { result ≡ row.whole_below p.now a.now }
 {
     match number_in(a, p)? {
         Some(k) => Ok(Cell::Int(vtl_decimal::floor(k, p)?)),
@@ -126,7 +111,7 @@ pub(crate) fn floor(a: &Cell, p: &Profile) -> Result<Cell, Fault>
 }
 
 pub(crate) fn ceil(a: &Cell, p: &Profile) -> Result<Cell, Fault>
-    ensures { result ≡ row.ceil_of p.now a.now }
+    ensures { result ≡ row.whole_above p.now a.now }
 {
     match number_in(a, p)? {
         Some(k) => Ok(Cell::Int(vtl_decimal::ceil(k, p)?)),

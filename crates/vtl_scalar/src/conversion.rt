@@ -1,18 +1,17 @@
 // Values as those of the kind that an expression has.
+ghost use Rattle.std.specs.Prelude.{◌≡◌};
 ghost use Rattle.vtl_cell.specs.Conversion.{as_kind};
-ghost use Rattle.vtl_scalar.specs.Answers.{Answers};
 
-use crate::error::ScalarErr;
 use crate::operands::as_number;
 use vtl_cell::{Cell, Kind};
-use vtl_decimal::Profile;
+use vtl_decimal::{Fault, Profile};
 
 /// The value as one of an expression of this kind: an integer where the kind is that of numbers is the number that
 /// equals it, and every other value stays.
 ///
 /// Range for an integer that is none of the profile.
-pub fn to_kind(kind: Kind, value: Cell, p: &Profile) -> Result<Cell, ScalarErr>
-    ensures { Answers result (as_kind p.now kind value) }
+pub fn to_kind(kind: Kind, value: Cell, p: &Profile) -> Result<Cell, Fault>
+    ensures { result ≡ as_kind p.now kind value }
 {
     match (kind, value) {
         (Kind::Num, Cell::Int(n)) => Ok(Cell::Num(as_number(n, p)?)),

@@ -26,10 +26,7 @@ pub(crate) fn units(n: i64, p: &Profile) -> i128
 pub(crate) fn as_number(n: i64, p: &Profile) -> Result<Dec, Fault>
     ensures { result ≡ as_number p.now n }
 {
-    match i64::try_from(units(n, p)) {
-        Ok(k) => Dec::from_k(k).ok_or(Fault::Range),
-        Err(_) => Err(Fault::Range),
-    }
+    vtl_decimal::from_whole(n, p)
 }
 
 // The number that an operand stands for.

@@ -10,5 +10,5 @@ mod words;
 pub use item_list::List;
 pub use operators::{concat, length, ltrim, rtrim, substr, trim};
 pub use searches::{instr, replace};
-pub use shared_text::Txt;
+pub use shared_text::{Txt, order_is_of_bytes};
 pub use words::{is_component_name, is_name, is_reserved, is_word, reserved_place};

@@ -1,5 +1,7 @@
 // A shared text, its order and its hash.
-ghost use Rattle.std.specs.Prelude.{◌≡◌, IfOk, IsTrue, IsUtf8, chars, encode_utf8_all};
+ghost use Rattle.std.specs.Cmp.Lexicographic.{slice_cmp};
+ghost use Rattle.std.specs.Ordering.{nat_cmp};
+ghost use Rattle.std.specs.Prelude.{◌≡◌, ℕ, List, IfOk, IsTrue, IsUtf8, chars, encode_utf8_all};
 ghost use Rattle.std.specs.Str.{all_scalars};
 ghost use Rattle.std.specs.String.{string_bytes};
 
@@ -119,10 +121,16 @@ impl Ord for Txt {
 
     ghost matches_eq = { λ x y. texts_ties x y };
 
+    // Their bytes have the order of the characters.
     fn cmp(&self, other: &Self) -> Ordering {
-        self.as_str().chars().cmp(other.as_str().chars())
+        self.as_str().cmp(other.as_str())
     }
 }
+
+/// The order of texts by their characters is the order of their bytes in UTF-8, in which a database keeps them.
+pub fn order_is_of_bytes()
+    ensures { (s t : List ℕ) → slice_cmp nat_cmp s t ≡ slice_cmp nat_cmp (encode_utf8_all s) (encode_utf8_all t) }
+{}
 
 impl Hash for Txt {
     ghost use Rattle.std.specs.Hash as fed;

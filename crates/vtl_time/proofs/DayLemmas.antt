@@ -9,8 +9,8 @@ use Rattle.std.proofs.lemmas.List.{take-append-drop, drop-drop, drop_more, lengt
 use Rattle.std.proofs.lemmas.Str.{IsAscii-append}
 use Rattle.std.proofs.lemmas.Str.Ascii.{IsAscii-cons}
 use Rattle.vtl_time.specs.Days.{CalendarDay, is_leap_year, days_in_month, is_calendar_day, day_of, day_text, has_day_shape, read_day_of}
-use Rattle.vtl_time.specs.Numerals.{number_of, two_digits, four_digits}
-use Rattle.vtl_time.proofs.NumeralLemmas.{both, number_of-two, number_of-four, number_ascii, chosen_value, two_digits_are, four_digits_are}
+use Rattle.vtl_time.specs.Numerals.{number_in_digits, two_digits, four_digits}
+use Rattle.vtl_time.proofs.NumeralLemmas.{both, number_in_digits-two, number_in_digits-four, number_ascii, chosen_value, two_digits_are, four_digits_are}
 
 five_hold : (y m d last : ℕ) → y ≤ 9999 → 1 ≤ m → m ≤ 12 → 1 ≤ d → d ≤ last → nat_le y 9999 && (nat_le 1 m && (nat_le m 12 && (nat_le 1 d && nat_le d last))) ≡ true
 five_hold y m d last a b c e f = grind (arith, nat_tests)
@@ -89,31 +89,31 @@ shape_of cs h = shape_parts (length cs) (get_or cs 4 0) (get_or cs 7 0) h
 
 -- what follows the year, and what follows the month
 abbrev after_month : List ℕ → ℕ → ℕ → Option CalendarDay
-after_month cs y m = option_and_then (λ d. day_of y m d) (number_of (drop 8 cs))
+after_month cs y m = option_and_then (λ d. day_of y m d) (number_in_digits (drop 8 cs))
 
 abbrev after_year : List ℕ → ℕ → Option CalendarDay
-after_year cs y = option_and_then (λ m. after_month cs y m) (number_of (take 2 (drop 5 cs)))
+after_year cs y = option_and_then (λ m. after_month cs y m) (number_in_digits (take 2 (drop 5 cs)))
 
-read_shaped : (cs : List ℕ) → has_day_shape cs ≡ true → read_day_of cs ≡ option_and_then (λ y. after_year cs y) (number_of (take 4 cs))
+read_shaped : (cs : List ℕ) → has_day_shape cs ≡ true → read_day_of cs ≡ option_and_then (λ y. after_year cs y) (number_in_digits (take 4 cs))
 unfolding read_day_of
-read_shaped cs h = ap (λ b. cond b (option_and_then (λ y. after_year cs y) (number_of (take 4 cs))) None) h
+read_shaped cs h = ap (λ b. cond b (option_and_then (λ y. after_year cs y) (number_in_digits (take 4 cs))) None) h
 
 pub read_shapeless : (cs : List ℕ) → (has_day_shape cs ≡ true → ⊥) → read_day_of cs ≡ None
 unfolding read_day_of
-read_shapeless cs h = ap (λ b. cond b (option_and_then (λ y. after_year cs y) (number_of (take 4 cs))) None) (not_from (has_day_shape cs) h)
+read_shapeless cs h = ap (λ b. cond b (option_and_then (λ y. after_year cs y) (number_in_digits (take 4 cs))) None) (not_from (has_day_shape cs) h)
 
 module _ (cs : List ℕ) (shape : has_day_shape cs ≡ true) where
-  pub read_no_year : number_of (take 4 cs) ≡ None → read_day_of cs ≡ None
+  pub read_no_year : number_in_digits (take 4 cs) ≡ None → read_day_of cs ≡ None
   read_no_year p = read_shaped cs shape ∙ ap (option_and_then (λ y. after_year cs y)) p
 
-  pub read_no_month : (y : ℕ) → number_of (take 4 cs) ≡ Some y → number_of (take 2 (drop 5 cs)) ≡ None → read_day_of cs ≡ None
+  pub read_no_month : (y : ℕ) → number_in_digits (take 4 cs) ≡ Some y → number_in_digits (take 2 (drop 5 cs)) ≡ None → read_day_of cs ≡ None
   read_no_month y p q = read_shaped cs shape ∙ ap (option_and_then (λ k. after_year cs k)) p ∙ ap (option_and_then (λ m. after_month cs y m)) q
 
-  pub read_no_day : (y m : ℕ) → number_of (take 4 cs) ≡ Some y → number_of (take 2 (drop 5 cs)) ≡ Some m → number_of (drop 8 cs) ≡ None → read_day_of cs ≡ None
+  pub read_no_day : (y m : ℕ) → number_in_digits (take 4 cs) ≡ Some y → number_in_digits (take 2 (drop 5 cs)) ≡ Some m → number_in_digits (drop 8 cs) ≡ None → read_day_of cs ≡ None
   read_no_day y m p q r =
       read_shaped cs shape ∙ ap (option_and_then (λ k. after_year cs k)) p ∙ ap (option_and_then (λ k. after_month cs y k)) q ∙ ap (option_and_then (λ d. day_of y m d)) r
 
-  pub read_numbers : (y m d : ℕ) → number_of (take 4 cs) ≡ Some y → number_of (take 2 (drop 5 cs)) ≡ Some m → number_of (drop 8 cs) ≡ Some d → read_day_of cs ≡ day_of y m d
+  pub read_numbers : (y m d : ℕ) → number_in_digits (take 4 cs) ≡ Some y → number_in_digits (take 2 (drop 5 cs)) ≡ Some m → number_in_digits (drop 8 cs) ≡ Some d → read_day_of cs ≡ day_of y m d
   read_numbers y m d p q r =
       read_shaped cs shape ∙ ap (option_and_then (λ k. after_year cs k)) p ∙ ap (option_and_then (λ k. after_month cs y k)) q ∙ ap (option_and_then (λ k. day_of y m k)) r
 
@@ -122,9 +122,9 @@ pub reads_back : (d : CalendarDay) → is_calendar_day d.year d.month d.day ≡ 
 reads_back d h =
     let f = day_numbers d.year d.month d.day h in
     read_numbers (day_text d) refl d.year d.month d.day
-    (number_of-four d.year (omega (arith, f.year)))
-    (number_of-two d.month (omega (arith, f.month_to)))
-    (number_of-two d.day (omega (arith, f.day_to, days_in_month_bound d.year d.month)))
+    (number_in_digits-four d.year (omega (arith, f.year)))
+    (number_in_digits-two d.month (omega (arith, f.month_to)))
+    (number_in_digits-two d.day (omega (arith, f.day_to, days_in_month_bound d.year d.month)))
     ∙ day_of-some d.year d.month d.day h
 
 some_of : {X : Type 0} (r : Option ℕ) (f : ℕ → Option X) (x : X) → option_and_then f r ≡ Some x → (n : ℕ) × (r ≡ Some n) × (f n ≡ Some x)
@@ -151,18 +151,18 @@ record IsRead (cs : List ℕ) (x : CalendarDay) : Type 0 where
   m : ℕ
   d : ℕ
   shape : has_day_shape cs ≡ true
-  year : number_of (take 4 cs) ≡ Some y
-  month : number_of (take 2 (drop 5 cs)) ≡ Some m
-  day : number_of (drop 8 cs) ≡ Some d
+  year : number_in_digits (take 4 cs) ≡ Some y
+  month : number_in_digits (take 2 (drop 5 cs)) ≡ Some m
+  day : number_in_digits (drop 8 cs) ≡ Some d
   is : day_of y m d ≡ Some x
 
 is_read : (cs : List ℕ) (x : CalendarDay) → read_day_of cs ≡ Some x → IsRead cs x
 unfolding read_day_of
 is_read cs x h =
-    let shaped = shape_chosen (has_day_shape cs) (option_and_then (λ y. after_year cs y) (number_of (take 4 cs))) x h in
-    let year = some_of (number_of (take 4 cs)) (λ y. after_year cs y) x shaped.1 in
-    let month = some_of (number_of (take 2 (drop 5 cs))) (λ m. after_month cs year.0 m) x year.2 in
-    let day = some_of (number_of (drop 8 cs)) (λ d. day_of year.0 month.0 d) x month.2 in
+    let shaped = shape_chosen (has_day_shape cs) (option_and_then (λ y. after_year cs y) (number_in_digits (take 4 cs))) x h in
+    let year = some_of (number_in_digits (take 4 cs)) (λ y. after_year cs y) x shaped.1 in
+    let month = some_of (number_in_digits (take 2 (drop 5 cs))) (λ m. after_month cs year.0 m) x year.2 in
+    let day = some_of (number_in_digits (drop 8 cs)) (λ d. day_of year.0 month.0 d) x month.2 in
     record { y = year.0; m = month.0; d = day.0; shape = shaped.0; year = year.1; month = month.1; day = day.1; is = day.2 }
 
 pub read_day_ascii : (cs : List ℕ) (x : CalendarDay) → read_day_of cs ≡ Some x → IsAscii cs

@@ -6,7 +6,14 @@ use Rattle.std.proofs.lemmas.Str.Ascii.{IsAscii-nil, IsAscii-cons}
 use Rattle.std.proofs.Math.Nat.{pow-suc, pow-le-pow_right}
 use Rattle.std.proofs.lemmas.Bool.{false≢true}
 use Rattle.std.proofs.lemmas.Bool.Decides.{nat_tests}
-use Rattle.vtl_time.specs.Numerals.{value_of, number_of, two_digits, four_digits}
+use Rattle.std.specs.Str.Parse.{digits_value}
+use Rattle.std.proofs.lemmas.Str.Parse.{numerals_by_weight, tells_all_ascii_digits}
+use Rattle.vtl_time.specs.Numerals.{number_in_digits, two_digits, four_digits}
+
+-- what digits stand for, each by its place
+abbrev value_of : List ℕ → ℕ
+value_of [] = 0
+value_of (d ∷ ds) = (d - 48) * 10 ^ length ds + value_of ds
 
 -- the digits read one by one, after the number so far
 abbrev pub number_from : ℕ → List ℕ → Option ℕ
@@ -36,9 +43,22 @@ number_from_is n (d ∷ ds) =
     let sum : (n * 10 + (d - 48)) * 10 ^ length ds + value_of ds ≡ n * 10 ^ suc (length ds) + ((d - 48) * 10 ^ length ds + value_of ds) = rw power (grind arith) in
     both_digits (is_ascii_digit d) (all_ascii_digits ds) _ _ _ (number_from_is (n * 10 + (d - 48)) ds) sum
 
-pub number_of-from : (ds : List ℕ) → number_of ds ≡ number_from 0 ds
-unfolding number_of
-number_of-from ds = sym (number_from_is 0 ds ∙ ap (λ v. cond (all_ascii_digits ds) (Some v) None) (omega arith))
+-- the same, as std weighs digits
+same_value : (ds : List ℕ) → all_ascii_digits ds ≡ true → value_of ds ≡ digits_value 10 ds
+same_value ds h =
+    let own = numerals_by_weight (λ t. all_ascii_digits t ≡ true) tells_all_ascii_digits value_of (record { empty = refl; more = λ c cs k. refl }) in
+    own.same ds (own.to ds h)
+
+when_chosen : (b : Bool) (x y : ℕ) → (b ≡ true → x ≡ y) → cond b (Some x) None ≡ cond b (Some y) None
+when_chosen true x y e = ap Some (e refl)
+when_chosen false x y e = refl
+
+weighed : (cs : List ℕ) → number_in_digits cs ≡ cond (all_ascii_digits cs) (Some (value_of cs)) None
+unfolding number_in_digits
+weighed cs = when_chosen (all_ascii_digits cs) (digits_value 10 cs) (value_of cs) (λ h. sym (same_value cs h))
+
+pub number_in_digits-from : (ds : List ℕ) → number_in_digits ds ≡ number_from 0 ds
+number_in_digits-from ds = weighed ds ∙ sym (number_from_is 0 ds ∙ ap (λ v. cond (all_ascii_digits ds) (Some v) None) (omega arith))
 
 -- one digit more
 pub digit_more : (v d i : ℕ) → v < 10 ^ i → d < 10 → v * 10 + d < 10 ^ (i + 1)
@@ -60,24 +80,23 @@ all_of_two a b p q = ap (λ k. k && (b && true)) p ∙ ap (λ k. k && true) q
 all_of_four : (a b c d : Bool) → a ≡ true → b ≡ true → c ≡ true → d ≡ true → a && (b && (c && (d && true))) ≡ true
 all_of_four a b c d p q r s = ap (λ k. k && (b && (c && (d && true)))) p ∙ ap (λ k. k && (c && (d && true))) q ∙ all_of_two c d r s
 
-number_of_digits : (cs : List ℕ) (n : ℕ) → all_ascii_digits cs ≡ true → value_of cs ≡ n → number_of cs ≡ Some n
-unfolding number_of
-number_of_digits cs n digits value = ap (λ b. cond b (Some (value_of cs)) None) digits ∙ ap Some value
+number_of_digits : (cs : List ℕ) (n : ℕ) → all_ascii_digits cs ≡ true → value_of cs ≡ n → number_in_digits cs ≡ Some n
+number_of_digits cs n digits value = weighed cs ∙ ap (λ b. cond b (Some (value_of cs)) None) digits ∙ ap Some value
 
-pub number_of-two : (n : ℕ) → n < 100 → number_of (two_digits n) ≡ Some n
-number_of-two n small =
+pub number_in_digits-two : (n : ℕ) → n < 100 → number_in_digits (two_digits n) ≡ Some n
+number_in_digits-two n small =
     number_of_digits (two_digits n) n
     (all_of_two _ _ (digit_is (n / 10 % 10) (omega arith)) (digit_is (n % 10) (omega arith)))
     (omega arith)
 
-pub number_of-four : (n : ℕ) → n < 10000 → number_of (four_digits n) ≡ Some n
-number_of-four n small =
+pub number_in_digits-four : (n : ℕ) → n < 10000 → number_in_digits (four_digits n) ≡ Some n
+number_in_digits-four n small =
     number_of_digits (four_digits n) n
     (all_of_four _ _ _ _ (digit_is (n / 1000 % 10) (omega arith)) (digit_is (n / 100 % 10) (omega arith)) (digit_is (n / 10 % 10) (omega arith)) (digit_is (n % 10) (omega arith)))
     (omega arith)
 
-pub number_of-one : (n : ℕ) → n < 10 → number_of ((48 + n) ∷ []) ≡ Some n
-number_of-one n small = number_of_digits ((48 + n) ∷ []) n (ap (λ k. k && true) (digit_is n small)) (omega arith)
+pub number_in_digits-one : (n : ℕ) → n < 10 → number_in_digits ((48 + n) ∷ []) ≡ Some n
+number_in_digits-one n small = number_of_digits ((48 + n) ∷ []) n (ap (λ k. k && true) (digit_is n small)) (omega arith)
 
 digits_ascii : (cs : List ℕ) → all_ascii_digits cs ≡ true → IsAscii cs
 digits_ascii [] h = IsAscii-nil
@@ -85,9 +104,8 @@ digits_ascii (c ∷ cs) h =
     let parts = both (is_ascii_digit c) (all_ascii_digits cs) h in
     IsAscii-cons c cs (digit_below c parts.0) (digits_ascii cs parts.1)
 
-pub number_ascii : (cs : List ℕ) (n : ℕ) → number_of cs ≡ Some n → IsAscii cs
-unfolding number_of
-number_ascii cs n h = digits_ascii cs (chosen (all_ascii_digits cs) (value_of cs) n h)
+pub number_ascii : (cs : List ℕ) (n : ℕ) → number_in_digits cs ≡ Some n → IsAscii cs
+number_ascii cs n h = digits_ascii cs (chosen (all_ascii_digits cs) (value_of cs) n (sym (weighed cs) ∙ h))
 
 -- the digits of a number that was read are its digits
 digit_range : (c : ℕ) → is_ascii_digit c ≡ true → (48 ≤ c) × (c ≤ 57)
@@ -100,41 +118,38 @@ chosen_value false x y h = cc
 cons_same : (a b : ℕ) (xs ys : List ℕ) → a ≡ b → xs ≡ ys → a ∷ xs ≡ b ∷ ys
 cons_same a b xs ys p q = ap (λ c. c ∷ xs) p ∙ ap (λ l. b ∷ l) q
 
-pub one_digit_is : (cs : List ℕ) (n : ℕ) → length cs ≡ 1 → number_of cs ≡ Some n → cs ≡ (48 + n) ∷ []
-unfolding number_of
+pub one_digit_is : (cs : List ℕ) (n : ℕ) → length cs ≡ 1 → number_in_digits cs ≡ Some n → cs ≡ (48 + n) ∷ []
 one_digit_is [] n size h = absurd (omega arith)
 one_digit_is (a ∷ []) n size h =
-    let digits = both (is_ascii_digit a) true (chosen (all_ascii_digits (a ∷ [])) (value_of (a ∷ [])) n h) in
-    let value = chosen_value (all_ascii_digits (a ∷ [])) (value_of (a ∷ [])) n h in
+    let digits = both (is_ascii_digit a) true (chosen (all_ascii_digits (a ∷ [])) (value_of (a ∷ [])) n (sym (weighed (a ∷ [])) ∙ h)) in
+    let value = chosen_value (all_ascii_digits (a ∷ [])) (value_of (a ∷ [])) n (sym (weighed (a ∷ [])) ∙ h) in
     cons_same a (48 + n) [] [] (omega (arith, digit_range a digits.0, value)) refl
 one_digit_is (a ∷ b ∷ cs) n size h = absurd (omega arith)
 
-pub two_digits_are : (cs : List ℕ) (n : ℕ) → length cs ≡ 2 → number_of cs ≡ Some n → cs ≡ two_digits n
-unfolding number_of
+pub two_digits_are : (cs : List ℕ) (n : ℕ) → length cs ≡ 2 → number_in_digits cs ≡ Some n → cs ≡ two_digits n
 two_digits_are [] n size h = absurd (omega arith)
 two_digits_are (a ∷ []) n size h = absurd (omega arith)
 two_digits_are (a ∷ b ∷ []) n size h =
-    let digits = both (is_ascii_digit a) (is_ascii_digit b && true) (chosen (all_ascii_digits (a ∷ b ∷ [])) (value_of (a ∷ b ∷ [])) n h) in
+    let digits = both (is_ascii_digit a) (is_ascii_digit b && true) (chosen (all_ascii_digits (a ∷ b ∷ [])) (value_of (a ∷ b ∷ [])) n (sym (weighed (a ∷ b ∷ [])) ∙ h)) in
     let last = both (is_ascii_digit b) true digits.1 in
-    let value = chosen_value (all_ascii_digits (a ∷ b ∷ [])) (value_of (a ∷ b ∷ [])) n h in
+    let value = chosen_value (all_ascii_digits (a ∷ b ∷ [])) (value_of (a ∷ b ∷ [])) n (sym (weighed (a ∷ b ∷ [])) ∙ h) in
     let from_a = digit_range a digits.0 in
     let from_b = digit_range b last.0 in
     cons_same a (48 + n / 10 % 10) (b ∷ []) ((48 + n % 10) ∷ []) (omega arith) (cons_same b (48 + n % 10) [] [] (omega arith) refl)
 two_digits_are (a ∷ b ∷ c ∷ cs) n size h = absurd (omega arith)
 
-pub four_digits_are : (cs : List ℕ) (n : ℕ) → length cs ≡ 4 → number_of cs ≡ Some n → cs ≡ four_digits n
-unfolding number_of
+pub four_digits_are : (cs : List ℕ) (n : ℕ) → length cs ≡ 4 → number_in_digits cs ≡ Some n → cs ≡ four_digits n
 four_digits_are [] n size h = absurd (omega arith)
 four_digits_are (a ∷ []) n size h = absurd (omega arith)
 four_digits_are (a ∷ b ∷ []) n size h = absurd (omega arith)
 four_digits_are (a ∷ b ∷ c ∷ []) n size h = absurd (omega arith)
 four_digits_are (a ∷ b ∷ c ∷ d ∷ []) n size h =
     let all = a ∷ b ∷ c ∷ d ∷ [] in
-    let first = both (is_ascii_digit a) (is_ascii_digit b && (is_ascii_digit c && (is_ascii_digit d && true))) (chosen (all_ascii_digits all) (value_of all) n h) in
+    let first = both (is_ascii_digit a) (is_ascii_digit b && (is_ascii_digit c && (is_ascii_digit d && true))) (chosen (all_ascii_digits all) (value_of all) n (sym (weighed all) ∙ h)) in
     let second = both (is_ascii_digit b) (is_ascii_digit c && (is_ascii_digit d && true)) first.1 in
     let third = both (is_ascii_digit c) (is_ascii_digit d && true) second.1 in
     let fourth = both (is_ascii_digit d) true third.1 in
-    let value = chosen_value (all_ascii_digits all) (value_of all) n h in
+    let value = chosen_value (all_ascii_digits all) (value_of all) n (sym (weighed all) ∙ h) in
     let from_a = digit_range a first.0 in
     let from_b = digit_range b second.0 in
     let from_c = digit_range c third.0 in

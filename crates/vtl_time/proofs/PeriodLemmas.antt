@@ -14,17 +14,17 @@ use Rattle.std.proofs.lemmas.Int.{ints, to_z-of_z}
 use Rattle.std.proofs.lemmas.Nat.{div-mul-add, mod-mul-add, div-add-mod', mul-add-lt, div_below, mod_below}
 use Rattle.vtl_time.specs.declared.periods.Frequency.{Frequency}
 use Rattle.vtl_time.specs.declared.periods.Frequency.TheVariants.{Annual, Semester, Quarter, Month}
-use Rattle.vtl_time.specs.Numerals.{number_of, two_digits, four_digits}
-use Rattle.vtl_time.specs.Periods.{YearPart, parts_of, is_year_part, period_of, period_cmp, rank_of, index_of, period_at, period_within, shift_of, period_text, part_text, short_part_text, Spells, letter_of, width_of, numbered_part_of, part_of, rest_of, read_period_of}
-use Rattle.vtl_time.proofs.NumeralLemmas.{both, number_of-one, number_of-two, number_of-four, number_ascii, chosen_value, one_digit_is, two_digits_are, four_digits_are}
+use Rattle.vtl_time.specs.Numerals.{number_in_digits, two_digits, four_digits}
+use Rattle.vtl_time.specs.Periods.{YearPart, parts_in_year, is_year_part, period_of, period_cmp, frequency_rank, index_of, period_at, period_within, shift_of, period_text, part_text, short_part_text, SpellsPeriod, letter_of, width_of, numbered_part_of, part_of, behind_year, read_period_of}
+use Rattle.vtl_time.proofs.NumeralLemmas.{both, number_in_digits-one, number_in_digits-two, number_in_digits-four, number_ascii, chosen_value, one_digit_is, two_digits_are, four_digits_are}
 
-pub parts_from : (f : Frequency) → 1 ≤ parts_of f
+pub parts_from : (f : Frequency) → 1 ≤ parts_in_year f
 parts_from Annual = omega arith
 parts_from Semester = omega arith
 parts_from Quarter = omega arith
 parts_from Month = omega arith
 
-pub parts_to : (f : Frequency) → parts_of f ≤ 12
+pub parts_to : (f : Frequency) → parts_in_year f ≤ 12
 parts_to Annual = omega arith
 parts_to Semester = omega arith
 parts_to Quarter = omega arith
@@ -33,7 +33,7 @@ parts_to Month = omega arith
 pub record ArePartNumbers (f : Frequency) (y n : ℕ) : Type 0 where
   pub year : y ≤ 9999
   pub from : 1 ≤ n
-  pub to : n ≤ parts_of f
+  pub to : n ≤ parts_in_year f
 
 three_are : (y n last : ℕ) → nat_le y 9999 && (nat_le 1 n && nat_le n last) ≡ true → (y ≤ 9999) × (1 ≤ n) × (n ≤ last)
 three_are y n last h =
@@ -47,12 +47,12 @@ three_hold y n last a b c = grind (arith, nat_tests)
 pub part_numbers : (f : Frequency) (y n : ℕ) → is_year_part f y n ≡ true → ArePartNumbers f y n
 unfolding is_year_part
 part_numbers f y n h =
-    let t = three_are y n (parts_of f) h in
+    let t = three_are y n (parts_in_year f) h in
     record { year = t.0; from = t.1; to = t.2 }
 
-pub part_holds : (f : Frequency) (y n : ℕ) → y ≤ 9999 → 1 ≤ n → n ≤ parts_of f → is_year_part f y n ≡ true
+pub part_holds : (f : Frequency) (y n : ℕ) → y ≤ 9999 → 1 ≤ n → n ≤ parts_in_year f → is_year_part f y n ≡ true
 unfolding is_year_part
-part_holds f y n a b c = three_hold y n (parts_of f) a b c
+part_holds f y n a b c = three_hold y n (parts_in_year f) a b c
 
 abbrev pub IsPart : YearPart → Type 0
 IsPart p = is_year_part p.frequency p.year p.part ≡ true
@@ -75,47 +75,47 @@ below_true a b h = grind (arith, nat_tests)
 below_false : (a b : ℕ) → b ≤ a → nat_lt a b ≡ false
 below_false a b h = grind (arith, nat_tests)
 
-past_words : (f : Frequency) (i : ℕ) → ¬ (i < 2 ^ 64) → 10000 * parts_of f ≤ i
+past_words : (f : Frequency) (i : ℕ) → ¬ (i < 2 ^ 64) → 10000 * parts_in_year f ≤ i
 past_words f i out = omega (arith, parts_to f)
 
 none_within : (f : Frequency) (z : ℤ) → ¬ FitsUnsigned w64 z → period_within f z ≡ None
 none_within f (pos i) out =
-    ap (λ b. cond b (Some (period_at f i)) None) (below_false i (10000 * parts_of f) (past_words f i (λ small. out (omega (arith, ints), omega (arith, ints)))))
+    ap (λ b. cond b (Some (period_at f i)) None) (below_false i (10000 * parts_in_year f) (past_words f i (λ small. out (omega (arith, ints), omega (arith, ints)))))
 none_within f (negsuc i) out = refl
 
 same_part : (f : Frequency) (y y' n n' : ℕ) → y ≡ y' → n ≡ n' → ◌≡◌ {A = YearPart} (record { frequency = f; year = y; part = n }) (record { frequency = f; year = y'; part = n' })
 same_part f y y' n n' a b = ap (λ (k : ℕ). part_with f k n) a ∙ ap (λ (k : ℕ). part_with f y' k) b
 
 -- the index of a period, and the period at an index, undo each other
-pub index_below : (p : YearPart) → IsPart p → index_of p < 10000 * parts_of p.frequency
+pub index_below : (p : YearPart) → IsPart p → index_of p < 10000 * parts_in_year p.frequency
 index_below p h =
     let is = part_numbers p.frequency p.year p.part h in
-    omega (arith, mul-add-lt p.year (parts_of p.frequency) (p.part - 1) 10000 (omega (arith, is.year)) (omega (arith, is.from, is.to)))
+    omega (arith, mul-add-lt p.year (parts_in_year p.frequency) (p.part - 1) 10000 (omega (arith, is.year)) (omega (arith, is.from, is.to)))
 
 pub period_at-index : (p : YearPart) → IsPart p → period_at p.frequency (index_of p) ≡ p
 period_at-index p h =
     let is = part_numbers p.frequency p.year p.part h in
-    let small : p.part - 1 < parts_of p.frequency = omega (arith, is.from, is.to) in
-    same_part p.frequency _ p.year _ p.part (div-mul-add p.year (parts_of p.frequency) (p.part - 1) small)
-    (omega (arith, is.from, mod-mul-add p.year (parts_of p.frequency) (p.part - 1) small))
+    let small : p.part - 1 < parts_in_year p.frequency = omega (arith, is.from, is.to) in
+    same_part p.frequency _ p.year _ p.part (div-mul-add p.year (parts_in_year p.frequency) (p.part - 1) small)
+    (omega (arith, is.from, mod-mul-add p.year (parts_in_year p.frequency) (p.part - 1) small))
 
 pub index-period_at : (f : Frequency) (i : ℕ) → index_of (period_at f i) ≡ i
-index-period_at f i = omega (arith, div-add-mod' i (parts_of f))
+index-period_at f i = omega (arith, div-add-mod' i (parts_in_year f))
 
-pub period_at_is : (f : Frequency) (i : ℕ) → i < 10000 * parts_of f → IsPart (period_at f i)
+pub period_at_is : (f : Frequency) (i : ℕ) → i < 10000 * parts_in_year f → IsPart (period_at f i)
 period_at_is f i below =
     let some = parts_from f in
-    part_holds f (i / parts_of f) (i % parts_of f + 1) (omega (arith, div_below i (parts_of f) 10000 some below)) (omega arith) (omega (arith, mod_below i (parts_of f) some))
+    part_holds f (i / parts_in_year f) (i % parts_in_year f + 1) (omega (arith, div_below i (parts_in_year f) 10000 some below)) (omega arith) (omega (arith, mod_below i (parts_in_year f) some))
 
 -- the periods of a frequency stand in the order of their indexes
-by_index : (f : Frequency) (y n z m : ℕ) → 1 ≤ n → n ≤ parts_of f → 1 ≤ m → m ≤ parts_of f
-    → ordering_then (nat_cmp y z) (nat_cmp n m) ≡ nat_cmp (y * parts_of f + (n - 1)) (z * parts_of f + (m - 1))
+by_index : (f : Frequency) (y n z m : ℕ) → 1 ≤ n → n ≤ parts_in_year f → 1 ≤ m → m ≤ parts_in_year f
+    → ordering_then (nat_cmp y z) (nat_cmp n m) ≡ nat_cmp (y * parts_in_year f + (n - 1)) (z * parts_in_year f + (m - 1))
 by_index Annual y n z m a b c d = grind (arith, nat_tests)
 by_index Semester y n z m a b c d = grind (arith, nat_tests)
 by_index Quarter y n z m a b c d = grind (arith, nat_tests)
 by_index Month y n z m a b c d = grind (arith, nat_tests)
 
-same_rank : (f : Frequency) (o : Ordering) → ordering_then (nat_cmp (rank_of f) (rank_of f)) o ≡ o
+same_rank : (f : Frequency) (o : Ordering) → ordering_then (nat_cmp (frequency_rank f) (frequency_rank f)) o ≡ o
 same_rank Annual o = refl
 same_rank Semester o = refl
 same_rank Quarter o = refl
@@ -131,7 +131,7 @@ period_cmp-index f y n z m p q =
 -- what a shift gives
 pub record IsShifted (p q : YearPart) (n : ℤ) (i : ℕ) : Type 0 where
   pub sum : pos (index_of p) +ℤ n ≡ pos i
-  pub below : i < 10000 * parts_of p.frequency
+  pub below : i < 10000 * parts_in_year p.frequency
   pub period : q ≡ period_at p.frequency i
 
 back_to : (p : YearPart) (n : ℤ) (i : ℕ) → IsPart p → pos (index_of p) +ℤ n ≡ pos i → shift_of (period_at p.frequency i) (neg_ℤ n) ≡ Some p
@@ -140,7 +140,7 @@ back_to p n i h sum =
     let index = index-period_at p.frequency i in
     let back : pos (index_of (period_at p.frequency i)) +ℤ neg_ℤ n ≡ pos (index_of p) = ap (λ k. pos k +ℤ neg_ℤ n) index ∙ omega (arith, ints, sum) in
     ap (period_within p.frequency) back
-    ∙ ap (λ b. cond b (Some (period_at p.frequency (index_of p))) None) (below_true (index_of p) (10000 * parts_of p.frequency) (index_below p h))
+    ∙ ap (λ b. cond b (Some (period_at p.frequency (index_of p))) None) (below_true (index_of p) (10000 * parts_in_year p.frequency) (index_below p h))
     ∙ ap Some (period_at-index p h)
 
 pub shift_back : (p q : YearPart) (n : ℤ) (i : ℕ) → IsPart p → IsShifted p q n i → shift_of q (neg_ℤ n) ≡ Some p
@@ -154,21 +154,21 @@ pub shift_order : (p q : YearPart) (n : ℤ) (i : ℕ) → IsPart p → IsShifte
 shift_order p q n i h s =
     let f = p.frequency in
     ap (period_cmp p) s.period
-    ∙ period_cmp-index f p.year p.part (i / parts_of f) (i % parts_of f + 1) h (period_at_is f i s.below)
+    ∙ period_cmp-index f p.year p.part (i / parts_in_year f) (i % parts_in_year f + 1) h (period_at_is f i s.below)
     ∙ ap (nat_cmp (index_of p)) (index-period_at f i)
     ∙ step_order (index_of p) i n s.sum
 
-pub shift_of-some : (p : YearPart) (n : ℤ) (i : ℕ) → pos (index_of p) +ℤ n ≡ pos i → i < 10000 * parts_of p.frequency → shift_of p n ≡ Some (period_at p.frequency i)
+pub shift_of-some : (p : YearPart) (n : ℤ) (i : ℕ) → pos (index_of p) +ℤ n ≡ pos i → i < 10000 * parts_in_year p.frequency → shift_of p n ≡ Some (period_at p.frequency i)
 unfolding shift_of
 shift_of-some p n i sum below =
     ap (period_within p.frequency) sum
-    ∙ ap (λ b. cond b (Some (period_at p.frequency i)) None) (below_true i (10000 * parts_of p.frequency) below)
+    ∙ ap (λ b. cond b (Some (period_at p.frequency i)) None) (below_true i (10000 * parts_in_year p.frequency) below)
 
-pub shift_of-past : (p : YearPart) (n : ℤ) (i : ℕ) → pos (index_of p) +ℤ n ≡ pos i → 10000 * parts_of p.frequency ≤ i → shift_of p n ≡ None
+pub shift_of-past : (p : YearPart) (n : ℤ) (i : ℕ) → pos (index_of p) +ℤ n ≡ pos i → 10000 * parts_in_year p.frequency ≤ i → shift_of p n ≡ None
 unfolding shift_of
 shift_of-past p n i sum past =
     ap (period_within p.frequency) sum
-    ∙ ap (λ b. cond b (Some (period_at p.frequency i)) None) (below_false i (10000 * parts_of p.frequency) past)
+    ∙ ap (λ b. cond b (Some (period_at p.frequency i)) None) (below_false i (10000 * parts_in_year p.frequency) past)
 
 -- no machine word holds the index of a period before the year 0
 pub shift_of-none : (p : YearPart) (n : ℤ) → ¬ FitsUnsigned w64 (pos (index_of p) +ℤ n) → shift_of p n ≡ None
@@ -183,30 +183,30 @@ pub period_of-none : (f : Frequency) (y n : ℕ) → (is_year_part f y n ≡ tru
 period_of-none f y n h = ap (λ b. cond b (Some (part_with f y n)) None) (not_from (is_year_part f y n) h)
 
 -- a text of at least four characters, by its year and by what follows
-pub read_long : (cs : List ℕ) → 4 ≤ length cs → read_period_of cs ≡ option_and_then (λ y. rest_of y (drop 4 cs)) (number_of (take 4 cs))
+pub read_long : (cs : List ℕ) → 4 ≤ length cs → read_period_of cs ≡ option_and_then (λ y. behind_year y (drop 4 cs)) (number_in_digits (take 4 cs))
 unfolding read_period_of
-read_long cs long = ap (λ b. cond b (option_and_then (λ y. rest_of y (drop 4 cs)) (number_of (take 4 cs))) None) (at_least 4 (length cs) long)
+read_long cs long = ap (λ b. cond b (option_and_then (λ y. behind_year y (drop 4 cs)) (number_in_digits (take 4 cs))) None) (at_least 4 (length cs) long)
 
 pub read_short : (cs : List ℕ) → length cs < 4 → read_period_of cs ≡ None
 unfolding read_period_of
-read_short cs short = ap (λ b. cond b (option_and_then (λ y. rest_of y (drop 4 cs)) (number_of (take 4 cs))) None) (less_than 4 (length cs) short)
+read_short cs short = ap (λ b. cond b (option_and_then (λ y. behind_year y (drop 4 cs)) (number_in_digits (take 4 cs))) None) (less_than 4 (length cs) short)
 
 -- a period's text reads as the period
-numbered : (f : Frequency) (y n : ℕ) (cs : List ℕ) → length cs ≡ width_of f → number_of cs ≡ Some n → is_year_part f y n ≡ true → numbered_part_of f y cs ≡ Some (part_with f y n)
+numbered : (f : Frequency) (y n : ℕ) (cs : List ℕ) → length cs ≡ width_of f → number_in_digits cs ≡ Some n → is_year_part f y n ≡ true → numbered_part_of f y cs ≡ Some (part_with f y n)
 numbered f y n cs width number h =
-    ap (λ b. cond b (option_and_then (λ k. period_of f y k) (number_of cs)) None) (eq-eqb (length cs) (width_of f) width)
+    ap (λ b. cond b (option_and_then (λ k. period_of f y k) (number_in_digits cs)) None) (eq-eqb (length cs) (width_of f) width)
     ∙ ap (option_and_then (λ k. period_of f y k)) number ∙ period_of-some f y n h
 
-rest_reads : (f : Frequency) (y n : ℕ) → is_year_part f y n ≡ true → rest_of y (45 ∷ (letter_of f ∷ part_text f n)) ≡ Some (part_with f y n)
-rest_reads Annual y n h = numbered Annual y n ((48 + n) ∷ []) refl (number_of-one n (omega (arith, (part_numbers Annual y n h).to))) h
-rest_reads Semester y n h = numbered Semester y n ((48 + n) ∷ []) refl (number_of-one n (omega (arith, (part_numbers Semester y n h).to))) h
-rest_reads Quarter y n h = numbered Quarter y n ((48 + n) ∷ []) refl (number_of-one n (omega (arith, (part_numbers Quarter y n h).to))) h
-rest_reads Month y n h = numbered Month y n (two_digits n) refl (number_of-two n (omega (arith, (part_numbers Month y n h).to))) h
+rest_reads : (f : Frequency) (y n : ℕ) → is_year_part f y n ≡ true → behind_year y (45 ∷ (letter_of f ∷ part_text f n)) ≡ Some (part_with f y n)
+rest_reads Annual y n h = numbered Annual y n ((48 + n) ∷ []) refl (number_in_digits-one n (omega (arith, (part_numbers Annual y n h).to))) h
+rest_reads Semester y n h = numbered Semester y n ((48 + n) ∷ []) refl (number_in_digits-one n (omega (arith, (part_numbers Semester y n h).to))) h
+rest_reads Quarter y n h = numbered Quarter y n ((48 + n) ∷ []) refl (number_in_digits-one n (omega (arith, (part_numbers Quarter y n h).to))) h
+rest_reads Month y n h = numbered Month y n (two_digits n) refl (number_in_digits-two n (omega (arith, (part_numbers Month y n h).to))) h
 
 pub reads_back : (p : YearPart) → IsPart p → read_period_of (period_text p) ≡ Some p
 reads_back p h =
     read_long (period_text p) (omega arith)
-    ∙ ap (option_and_then (λ y. rest_of y (45 ∷ (letter_of p.frequency ∷ part_text p.frequency p.part)))) (number_of-four p.year (omega (arith, (part_numbers p.frequency p.year p.part h).year)))
+    ∙ ap (option_and_then (λ y. behind_year y (45 ∷ (letter_of p.frequency ∷ part_text p.frequency p.part)))) (number_in_digits-four p.year (omega (arith, (part_numbers p.frequency p.year p.part h).year)))
     ∙ rest_reads p.frequency p.year p.part h
 
 -- a text that is read is ASCII
@@ -220,8 +220,8 @@ if_some false r x h = cc
 
 numbered_ascii : (f : Frequency) (y : ℕ) (cs : List ℕ) (x : YearPart) → numbered_part_of f y cs ≡ Some x → IsAscii cs
 numbered_ascii f y cs x h =
-    let wide = if_some (length cs == width_of f) (option_and_then (λ n. period_of f y n) (number_of cs)) x h in
-    let number = some_of (number_of cs) (λ n. period_of f y n) x wide.1 in
+    let wide = if_some (length cs == width_of f) (option_and_then (λ n. period_of f y n) (number_in_digits cs)) x h in
+    let number = some_of (number_in_digits cs) (λ n. period_of f y n) x wide.1 in
     number_ascii cs number.0 number.1
 
 -- a letter of its own, or what stands for any other character
@@ -242,7 +242,7 @@ part_ascii y (c ∷ cs) x h =
     (lettered c 81 cs x (numbered_part_of Quarter y cs) by_m (lit< tt) (numbered_ascii Quarter y cs x)
     (lettered c 77 cs x (numbered_part_of Month y cs) month (lit< tt) (numbered_ascii Month y cs x) (numbered_ascii Month y (c ∷ cs) x)))) h
 
-rest_ascii : (y : ℕ) (cs : List ℕ) (x : YearPart) → rest_of y cs ≡ Some x → IsAscii cs
+rest_ascii : (y : ℕ) (cs : List ℕ) (x : YearPart) → behind_year y cs ≡ Some x → IsAscii cs
 rest_ascii y [] x h = IsAscii-nil
 rest_ascii y (c ∷ cs) x h =
     let dash = if_some (c == 45) (part_of y cs) x h in
@@ -251,8 +251,8 @@ rest_ascii y (c ∷ cs) x h =
 pub read_period_ascii : (cs : List ℕ) (x : YearPart) → read_period_of cs ≡ Some x → IsAscii cs
 unfolding read_period_of
 read_period_ascii cs x h =
-    let long = if_some (nat_le 4 (length cs)) (option_and_then (λ y. rest_of y (drop 4 cs)) (number_of (take 4 cs))) x h in
-    let year = some_of (number_of (take 4 cs)) (λ y. rest_of y (drop 4 cs)) x long.1 in
+    let long = if_some (nat_le 4 (length cs)) (option_and_then (λ y. behind_year y (drop 4 cs)) (number_in_digits (take 4 cs))) x h in
+    let year = some_of (number_in_digits (take 4 cs)) (λ y. behind_year y (drop 4 cs)) x long.1 in
     subst IsAscii (take-append-drop 4 cs) (IsAscii-append (take 4 cs) (drop 4 cs) (number_ascii (take 4 cs) year.0 year.1) (rest_ascii year.0 (drop 4 cs) x year.2))
 
 -- the sum that a machine word holds
@@ -271,7 +271,7 @@ module _ (p : YearPart) (n : ℤ) (i : ℕ) (fits : FitsSigned w64 n) (i_is : i 
   no_sum out = shift_of-none p n (subst (λ z. ¬ FitsUnsigned w64 z) same_sum out)
 
 -- no part of a year but a month has two digits
-pub short_part : (f : Frequency) (y n : ℕ) → parts_of f ≤ 9 → is_year_part f y n ≡ true → n ≤ 9
+pub short_part : (f : Frequency) (y n : ℕ) → parts_in_year f ≤ 9 → is_year_part f y n ≡ true → n ≤ 9
 short_part f y n few h = omega (arith, (part_numbers f y n h).to)
 
 -- a period is read from its spellings alone
@@ -281,16 +281,16 @@ part_is f y n x h = chosen_value (is_year_part f y n) (part_with f y n) x h
 record IsNumbered (f : Frequency) (y : ℕ) (cs : List ℕ) (x : YearPart) : Type 0 where
   n : ℕ
   width : length cs ≡ width_of f
-  number : number_of cs ≡ Some n
+  number : number_in_digits cs ≡ Some n
   is : part_with f y n ≡ x
 
 is_numbered : (f : Frequency) (y : ℕ) (cs : List ℕ) (x : YearPart) → numbered_part_of f y cs ≡ Some x → IsNumbered f y cs x
 is_numbered f y cs x h =
-    let wide = if_some (length cs == width_of f) (option_and_then (λ n. period_of f y n) (number_of cs)) x h in
-    let number = some_of (number_of cs) (λ n. period_of f y n) x wide.1 in
+    let wide = if_some (length cs == width_of f) (option_and_then (λ n. period_of f y n) (number_in_digits cs)) x h in
+    let number = some_of (number_in_digits cs) (λ n. period_of f y n) x wide.1 in
     record { n = number.0; width = eqb-true (length cs) (width_of f) wide.0; number = number.1; is = part_is f y number.0 x number.2 }
 
-numbered_text : (f : Frequency) (n : ℕ) (cs : List ℕ) → length cs ≡ width_of f → number_of cs ≡ Some n → cs ≡ part_text f n
+numbered_text : (f : Frequency) (n : ℕ) (cs : List ℕ) → length cs ≡ width_of f → number_in_digits cs ≡ Some n → cs ≡ part_text f n
 numbered_text Annual n cs width number = one_digit_is cs n width number
 numbered_text Semester n cs width number = one_digit_is cs n width number
 numbered_text Quarter n cs width number = one_digit_is cs n width number
@@ -331,23 +331,23 @@ part_spells y (c ∷ cs) x h =
     (by_letter c 81 x (numbered_part_of Quarter y cs) by_m P (lettered_spells Quarter y c cs x)
     (by_letter c 77 x (numbered_part_of Month y cs) month P (lettered_spells Month y c cs x) (month_spells y (c ∷ cs) x)))) h
 
-rest_spells : (y : ℕ) (cs : List ℕ) (x : YearPart) → rest_of y cs ≡ Some x → SpellsRest y cs x
+rest_spells : (y : ℕ) (cs : List ℕ) (x : YearPart) → behind_year y cs ≡ Some x → SpellsRest y cs x
 rest_spells y [] x h = subst (λ p. SpellsRest y [] p) (part_is Annual y 1 x h) (refl, inr refl)
 rest_spells y (c ∷ cs) x h =
     let dash = if_some (c == 45) (part_of y cs) x h in
     subst (λ k. SpellsRest y (k ∷ cs) x) (sym (eqb-true c 45 dash.0)) (part_spells y cs x dash.1)
 
-pub read_period_spells : (cs : List ℕ) (x : YearPart) → read_period_of cs ≡ Some x → Spells cs x
+pub read_period_spells : (cs : List ℕ) (x : YearPart) → read_period_of cs ≡ Some x → SpellsPeriod cs x
 unfolding read_period_of
 read_period_spells cs x h =
-    let long = if_some (nat_le 4 (length cs)) (option_and_then (λ y. rest_of y (drop 4 cs)) (number_of (take 4 cs))) x h in
-    let year = some_of (number_of (take 4 cs)) (λ y. rest_of y (drop 4 cs)) x long.1 in
+    let long = if_some (nat_le 4 (length cs)) (option_and_then (λ y. behind_year y (drop 4 cs)) (number_in_digits (take 4 cs))) x h in
+    let year = some_of (number_in_digits (take 4 cs)) (λ y. behind_year y (drop 4 cs)) x long.1 in
     let rest = rest_spells year.0 (drop 4 cs) x year.2 in
     let digits : take 4 cs ≡ four_digits x.year =
     four_digits_are (take 4 cs) year.0 (length-take-le 4 cs (leb-true 4 (length cs) long.0)) year.1 ∙ ap four_digits (sym rest.0) in
     let split : cs ≡ four_digits x.year ++ drop 4 cs = sym (take-append-drop 4 cs) ∙ ap (λ l. l ++ drop 4 cs) digits in
     ⊎_elim (λ e. inl (split ∙ ap (λ l. four_digits x.year ++ l) e)) (λ e. inr (split ∙ ap (λ l. four_digits x.year ++ l) e)) rest.1
 
-pub spelled : (cs : List ℕ) (r : Option YearPart) → r ≡ read_period_of cs → IfSome r (Spells cs)
+pub spelled : (cs : List ℕ) (r : Option YearPart) → r ≡ read_period_of cs → IfSome r (SpellsPeriod cs)
 spelled cs None is = tt
 spelled cs (Some p) is = read_period_spells cs p (sym is)

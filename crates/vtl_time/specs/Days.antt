@@ -2,7 +2,7 @@
 use Rattle.std.specs.Prelude.{ℕ, zero, suc, ◌+◌, ◌-◌, ◌%◌, Bool, not, ◌&&◌, ◌||◌, ◌==◌, nat_le, List, ◌∷◌, ◌++◌, length, take, drop, slice_index, Option, None, Some, option_and_then, if◌then◌else◌}
 use Rattle.std.specs.declared.cmp.Ordering.{Ordering}
 use Rattle.std.specs.Ordering.{nat_cmp, on, then_cmp}
-use Rattle.vtl_time.specs.Numerals.{number_of, two_digits, four_digits}
+use Rattle.vtl_time.specs.Numerals.{number_in_digits, two_digits, four_digits}
 
 pub record CalendarDay : Type 0 where
   pub year : ℕ
@@ -59,7 +59,7 @@ read_day_of cs =
     option_and_then (λ y.
     option_and_then (λ m.
     option_and_then (λ d. day_of y m d)
-    (number_of (drop 8 cs)))
-    (number_of (take 2 (drop 5 cs))))
-    (number_of (take 4 cs))
+    (number_in_digits (drop 8 cs)))
+    (number_in_digits (take 2 (drop 5 cs))))
+    (number_in_digits (take 4 cs))
     else None

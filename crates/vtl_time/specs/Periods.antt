@@ -4,21 +4,21 @@ use Rattle.std.specs.declared.cmp.Ordering.{Ordering}
 use Rattle.std.specs.Ordering.{nat_cmp, on, then_cmp}
 use Rattle.vtl_time.specs.declared.periods.Frequency.{Frequency}
 use Rattle.vtl_time.specs.declared.periods.Frequency.TheVariants.{Annual, Semester, Quarter, Month}
-use Rattle.vtl_time.specs.Numerals.{number_of, two_digits, four_digits}
+use Rattle.vtl_time.specs.Numerals.{number_in_digits, two_digits, four_digits}
 
 -- the parts of a year, counted from 1
-abbrev pub parts_of : Frequency → ℕ
-parts_of Annual = 1
-parts_of Semester = 2
-parts_of Quarter = 4
-parts_of Month = 12
+abbrev pub parts_in_year : Frequency → ℕ
+parts_in_year Annual = 1
+parts_in_year Semester = 2
+parts_in_year Quarter = 4
+parts_in_year Month = 12
 
 -- years come before halves, these before quarters, and these before months
-abbrev pub rank_of : Frequency → ℕ
-rank_of Annual = 0
-rank_of Semester = 1
-rank_of Quarter = 2
-rank_of Month = 3
+abbrev pub frequency_rank : Frequency → ℕ
+frequency_rank Annual = 0
+frequency_rank Semester = 1
+frequency_rank Quarter = 2
+frequency_rank Month = 3
 
 pub record YearPart : Type 0 where
   pub frequency : Frequency
@@ -27,7 +27,7 @@ pub record YearPart : Type 0 where
 
 -- a part of one of the years 0 to 9999
 unfoldable pub is_year_part : Frequency → ℕ → ℕ → Bool
-is_year_part f y n = nat_le y 9999 && (nat_le 1 n && nat_le n (parts_of f))
+is_year_part f y n = nat_le y 9999 && (nat_le 1 n && nat_le n (parts_in_year f))
 
 -- the period with these numbers, where there is one
 abbrev pub period_of : Frequency → ℕ → ℕ → Option YearPart
@@ -35,19 +35,19 @@ period_of f y n = if is_year_part f y n then Some (record { frequency = f; year 
 
 -- by frequency, then by year, then by part
 abbrev pub period_cmp : YearPart → YearPart → Ordering
-period_cmp = then_cmp (on (λ p. rank_of p.frequency) nat_cmp) (then_cmp (on (λ p. p.year) nat_cmp) (on (λ p. p.part) nat_cmp))
+period_cmp = then_cmp (on (λ p. frequency_rank p.frequency) nat_cmp) (then_cmp (on (λ p. p.year) nat_cmp) (on (λ p. p.part) nat_cmp))
 
 -- how many periods of its frequency come before it from the year 0 on
 abbrev pub index_of : YearPart → ℕ
-index_of p = p.year * parts_of p.frequency + (p.part - 1)
+index_of p = p.year * parts_in_year p.frequency + (p.part - 1)
 
 -- the period that has so many of its frequency before it
 abbrev pub period_at : Frequency → ℕ → YearPart
-period_at f i = record { frequency = f; year = i / parts_of f; part = i % parts_of f + 1 }
+period_at f i = record { frequency = f; year = i / parts_in_year f; part = i % parts_in_year f + 1 }
 
 -- the same, where it lies in the years 0 to 9999
 abbrev pub period_within : Frequency → ℤ → Option YearPart
-period_within f (pos i) = if nat_lt i (10000 * parts_of f) then Some (period_at f i) else None
+period_within f (pos i) = if nat_lt i (10000 * parts_in_year f) then Some (period_at f i) else None
 period_within f (negsuc i) = None
 
 -- the n-th period of its frequency after it, or before it for a negative n
@@ -79,7 +79,7 @@ period_text p = four_digits p.year ++ (45 ∷ (letter_of p.frequency ∷ part_te
 
 -- the part that digits name, as many as the frequency has
 abbrev pub numbered_part_of : Frequency → ℕ → List ℕ → Option YearPart
-numbered_part_of f y cs = if length cs == width_of f then option_and_then (λ n. period_of f y n) (number_of cs) else None
+numbered_part_of f y cs = if length cs == width_of f then option_and_then (λ n. period_of f y n) (number_in_digits cs) else None
 
 -- what follows the year and `-`: a letter and digits, or the two digits of a month
 abbrev pub part_of : ℕ → List ℕ → Option YearPart
@@ -92,14 +92,14 @@ part_of y (c ∷ cs) =
     else numbered_part_of Month y (c ∷ cs))))
 
 -- what follows the year: nothing for the whole year, or `-` and a part
-abbrev pub rest_of : ℕ → List ℕ → Option YearPart
-rest_of y [] = period_of Annual y 1
-rest_of y (c ∷ cs) = if c == 45 then part_of y cs else None
+abbrev pub behind_year : ℕ → List ℕ → Option YearPart
+behind_year y [] = period_of Annual y 1
+behind_year y (c ∷ cs) = if c == 45 then part_of y cs else None
 
 -- the period that the text spells, if it does: as it is written, or as YYYY for the year and YYYY-MM for the month
 unfoldable pub read_period_of : List ℕ → Option YearPart
 read_period_of cs =
-    if nat_le 4 (length cs) then option_and_then (λ y. rest_of y (drop 4 cs)) (number_of (take 4 cs)) else None
+    if nat_le 4 (length cs) then option_and_then (λ y. behind_year y (drop 4 cs)) (number_in_digits (take 4 cs)) else None
 
 -- what follows the year in the short spelling; halves and quarters have none
 abbrev pub short_part_text : Frequency → ℕ → List ℕ
@@ -113,5 +113,5 @@ abbrev pub short_text : YearPart → List ℕ
 short_text p = four_digits p.year ++ short_part_text p.frequency p.part
 
 -- the text spells the period: as it is written, or in short
-abbrev pub Spells : List ℕ → YearPart → Type 0
-Spells cs p = (cs ≡ period_text p) ⊎ (cs ≡ short_text p)
+abbrev pub SpellsPeriod : List ℕ → YearPart → Type 0
+SpellsPeriod cs p = (cs ≡ period_text p) ⊎ (cs ≡ short_text p)

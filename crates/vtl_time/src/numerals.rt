@@ -1,11 +1,11 @@
 // Numbers in digits.
 ghost use Rattle.std.specs.Prelude.{◌≡◌, ◌^◌, ◌+◌, ◌*◌, ◌/◌, ◌%◌, ◌<◌, ◌≤◌, length, IfSome};
-ghost use Rattle.vtl_time.specs.Numerals.{number_of};
+ghost use Rattle.vtl_time.specs.Numerals.{number_in_digits};
 
 // The number that up to four digits stand for, and `None` where something else is among them.
 pub(crate) fn number(digits: &[u8]) -> Option<u16>
     requires { length digits.now ≤ 4 }
-    ensures value { result ≡ number_of digits.now }
+    ensures value { result ≡ number_in_digits digits.now }
     ensures bound { IfSome result (λ n. n < 10 ^ length digits.now) }
 {
     let mut value = 0;

@@ -25,11 +25,11 @@ pub enum Frequency {
 }
 
 impl Frequency {
-    ghost use Rattle.vtl_time.specs.Periods.{parts_of, rank_of, width_of};
+    ghost use Rattle.vtl_time.specs.Periods.{parts_in_year, frequency_rank, width_of};
 
     // How many periods a year has.
     fn parts(self) -> u8
-        ensures { result ≡ parts_of self }
+        ensures { result ≡ parts_in_year self }
     {
         match self {
             Frequency::Annual => 1,
@@ -41,7 +41,7 @@ impl Frequency {
 
     // The place among the frequencies.
     fn rank(self) -> u8
-        ensures { result ≡ rank_of self }
+        ensures { result ≡ frequency_rank self }
     {
         self as u8
     }
@@ -116,13 +116,13 @@ impl Ord for Period {
     }
 }
 
-ghost use Rattle.vtl_time.specs.Periods.{Spells, is_year_part, period_of, period_cmp, period_text, numbered_part_of, part_of, rest_of, read_period_of, shift_of};
+ghost use Rattle.vtl_time.specs.Periods.{SpellsPeriod, is_year_part, period_of, period_cmp, period_text, numbered_part_of, part_of, behind_year, read_period_of, shift_of};
 
 /// The period that `t` spells: `YYYY-A1`, `YYYY-S1` to `S2`, `YYYY-Q1` to `Q4`, `YYYY-M01` to `M12`, or as `YYYY` a year and as `YYYY-01` to `YYYY-12` a month.
 /// `None` for any other text.
 pub fn read_period(t: &str) -> Option<Period>
     ensures value { result ≡ read_period_of (chars t.now) }
-    ensures text { IfSome result (Spells (chars t.now)) }
+    ensures text { IfSome result (SpellsPeriod (chars t.now)) }
 {
     period_in(t.as_bytes())
 }
@@ -139,7 +139,7 @@ fn period_in(bytes: &[u8]) -> Option<Period>
 
 fn rest_in(year: u16, rest: &[u8]) -> Option<Period>
     requires { year ≤ 9999 }
-    ensures { result ≡ rest_of year rest.now }
+    ensures { result ≡ behind_year year rest.now }
 {
     match rest.first() {
         None => make_period(Frequency::Annual, year, 1),
@@ -187,7 +187,7 @@ fn make_period(frequency: Frequency, year: u16, part: u16) -> Option<Period>
 }
 
 impl Period {
-    ghost use Rattle.vtl_time.specs.Periods.{parts_of, index_of, period_at};
+    ghost use Rattle.vtl_time.specs.Periods.{parts_in_year, index_of, period_at};
 
     /// Whether it is a year, a half, a quarter or a month.
     pub fn frequency(self) -> Frequency
@@ -206,7 +206,7 @@ impl Period {
 
     // The period that has so many of its frequency before it.
     fn at_index(frequency: Frequency, index: u64) -> Period
-        requires { index < 10000 * parts_of frequency }
+        requires { index < 10000 * parts_in_year frequency }
         ensures { result ≡ period_at frequency index }
     {
         let parts = u64::from(frequency.parts());

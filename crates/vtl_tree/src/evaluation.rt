@@ -1,6 +1,9 @@
 // The value of an expression at a point.
+ghost use Rattle.std.specs.Prelude.{◌≡◌, length};
+ghost use Rattle.vtl_cell.specs.Conversion.{as_kind};
+ghost use Rattle.vtl_cell.specs.Outcome.{Outcome, after};
 ghost use Rattle.vtl_scalar.specs.Answers.{Answers};
-ghost use Rattle.vtl_tree.specs.Value.{result_of, value};
+ghost use Rattle.vtl_tree.specs.Value.{first_chosen, is_choice, value};
 ghost use Rattle.vtl_tree.specs.View.{exp_of};
 
 use crate::CompExpr;
@@ -9,8 +12,10 @@ use vtl_cell::{Cell, Kind, ScalarOp, clone_cell};
 use vtl_decimal::Profile;
 use vtl_scalar::{ScalarErr, apply, to_kind};
 
-/// The value of an expression at a point, whose cells stand in column order: every operand is evaluated,
-/// from left to right, and the first fault is the answer. A column past the last cell is null.
+/// The value of an expression at a point, whose cells stand in column order: the operands are evaluated from left to
+/// right, and the first fault is the answer; of `if` the condition and the branch that it chooses, and not the other
+/// one. A column past the last cell is null.
+#[tactic(auto, using(crate::proofs::Values::choice_has_three))]
 pub fn eval(alloc: Global, e: &CompExpr, row: &[Cell], p: &Profile) -> Result<Cell, ScalarErr>
     ensures { Answers result (value p.now (exp_of e.now) row.now) }
 {
@@ -21,26 +26,44 @@ pub fn eval(alloc: Global, e: &CompExpr, row: &[Cell], p: &Profile) -> Result<Ce
         },
         CompExpr::Const(c) => Ok(clone_cell(c)?),
         CompExpr::Apply { op, kind, args } => {
+            if is_choice(*op, args) {
+                return match first_chosen(eval(alloc, &args[0], row, p)?) {
+                    Some(true) => converted(eval(alloc, &args[1], row, p), *kind, p),
+                    Some(false) => converted(eval(alloc, &args[2], row, p), *kind, p),
+                    None => converted(Ok(Cell::Null), *kind, p),
+                };
+            }
             let mut values = Vec::new(alloc);
             for arg in args {
                 let v = eval(alloc, arg, row, p)?;
                 values.push(v)?;
             }
-            result(alloc, *op, *kind, &values, p)
+            converted(apply(alloc, *op, &values, p), *kind, p)
         }
     }
 }
 
-// The value of an operator at these operands, as a value of its kind.
-fn result(
-    alloc: Global,
-    op: ScalarOp,
-    kind: Kind,
-    values: &[Cell],
-    p: &Profile,
-) -> Result<Cell, ScalarErr>
-    ensures { Answers result (result_of p.now op kind values.now) }
+// Whether a call is `if` with its three operands.
+fn is_choice(op: ScalarOp, args: &[CompExpr]) -> bool
+    ensures { result ≡ is_choice op (length args.now) }
 {
-    let value = apply(alloc, op, values, p)?;
-    to_kind(kind, value, p)
+    matches!(op, ScalarOp::If) && args.len() == 3
+}
+
+// Whether a condition chooses the first branch. A value that is no boolean chooses none.
+fn first_chosen(test: Cell) -> Option<bool>
+    ensures { result ≡ first_chosen test }
+{
+    match test {
+        Cell::Bool(b) => Some(b),
+        Cell::Null => Some(false),
+        _ => None,
+    }
+}
+
+// What was answered, as a value of the kind.
+fn converted(answer: Result<Cell, ScalarErr>, kind: Kind, p: &Profile) -> Result<Cell, ScalarErr>
+    ensures { (m : Outcome Cell) → Answers answer m → Answers result (after m (as_kind p.now kind)) }
+{
+    Ok(to_kind(kind, answer?, p)?)
 }

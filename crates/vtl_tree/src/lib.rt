@@ -18,3 +18,6 @@ pub use laws::{filter_is_a_clause, points_are_a_map};
 pub use plain::filter_points;
 pub use seen::Seen;
 pub use structure::{Component, Role, Structure};
+
+#[cfg(test)]
+mod tests;

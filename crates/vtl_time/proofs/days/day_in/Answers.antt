@@ -1,6 +1,6 @@
 use Rattle.std.proofs.Common.{◌∙◌, sym, ap}
 use Rattle.std.proofs.lemmas.List.{take_rest}
-use Rattle.vtl_time.specs.Numerals.{number_of}
+use Rattle.vtl_time.specs.Numerals.{number_in_digits}
 use Rattle.vtl_time.proofs.DayLemmas.{shape_of, has_shape, read_shapeless, read_no_year, read_no_month, read_no_day, read_numbers}
 use Rattle.vtl_time.proofs.days.day_in.Goals as goal
 use Rattle.vtl_time.proofs.days.day_in.Goals.{then-bytes-ne10-via-then-bytes-ne10, then-bytes-ne10-via-else-bytes-ne10+then-bytes-ne45, then-bytes-ne10-via-else-bytes-ne10+else-bytes-ne45+then-bytes-ne45-2}
@@ -31,11 +31,11 @@ returns-in_err-day c =
     let bs = c.args.bytes.now in
     let shape = has_shape bs c.if-bytes-ne10.false c.if-bytes-ne45.false c.if-bytes-ne45-2.false in
     c.from_residual-in_err-day.ensures
-    ∙ sym (read_no_day bs shape c.in_ok-year.year c.in_ok-month.month (sym c.in_ok-year.ensures.value) (sym c.in_ok-month.ensures.value) (sym (c.in_err-day.ensures.value ∙ ap number_of (take_rest bs 8))))
+    ∙ sym (read_no_day bs shape c.in_ok-year.year c.in_ok-month.month (sym c.in_ok-year.ensures.value) (sym c.in_ok-month.ensures.value) (sym (c.in_err-day.ensures.value ∙ ap number_in_digits (take_rest bs 8))))
 
 pub returns : goal.returns
 returns c =
     let bs = c.args.bytes.now in
     let shape = has_shape bs c.if-bytes-ne10.false c.if-bytes-ne45.false c.if-bytes-ne45-2.false in
     c.make_day.ensures
-    ∙ sym (read_numbers bs shape c.in_ok-year.year c.in_ok-month.month c.in_ok-day.day (sym c.in_ok-year.ensures.value) (sym c.in_ok-month.ensures.value) (sym (c.in_ok-day.ensures.value ∙ ap number_of (take_rest bs 8))))
+    ∙ sym (read_numbers bs shape c.in_ok-year.year c.in_ok-month.month c.in_ok-day.day (sym c.in_ok-year.ensures.value) (sym c.in_ok-month.ensures.value) (sym (c.in_ok-day.ensures.value ∙ ap number_in_digits (take_rest bs 8))))

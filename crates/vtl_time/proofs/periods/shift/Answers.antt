@@ -1,5 +1,5 @@
 use Rattle.std.proofs.Common.{◌∙◌, ◌*◌, ◌<◌, ◌≤◌, ℕ, Some, sym, ap, subst}
-use Rattle.vtl_time.specs.Periods.{parts_of, period_at}
+use Rattle.vtl_time.specs.Periods.{parts_in_year, period_at}
 use Rattle.vtl_time.proofs.PeriodLemmas.{IsShifted, sum_is, no_sum, shift_of-some, shift_of-past, shift_back, shift_order}
 use Rattle.vtl_time.proofs.periods.shift.Goals as goal
 
@@ -13,7 +13,7 @@ returns-then-index-end c =
     let i = c.in_ok-index.index in
     let shifted : IsShifted p c.at_index.result c.args.n i = record {
       sum = sum_is p c.args.n c.index.result c.ranges.n c.index.ensures.value i c.in_ok-index.ensures.0 c.in_ok-index.ensures.1;
-      below = subst (λ (k : ℕ). i < 10000 * k) (c.from-end.ensures ∙ c.parts.ensures ∙ ap parts_of c.frequency.ensures) c.if-index-end.true;
+      below = subst (λ (k : ℕ). i < 10000 * k) (c.from-end.ensures ∙ c.parts.ensures ∙ ap parts_in_year c.frequency.ensures) c.if-index-end.true;
       period = c.at_index.ensures ∙ ap (λ f. period_at f i) c.frequency-then-index-end.ensures;
     } in
     record {
@@ -28,4 +28,4 @@ returns-else-index-end-clause-value c =
     let i = c.in_ok-index.index in
     sym (shift_of-past p c.args.n i
     (sum_is p c.args.n c.index.result c.ranges.n c.index.ensures.value i c.in_ok-index.ensures.0 c.in_ok-index.ensures.1)
-    (subst (λ (k : ℕ). 10000 * k ≤ i) (c.from-end.ensures ∙ c.parts.ensures ∙ ap parts_of c.frequency.ensures) c.if-index-end.false))
+    (subst (λ (k : ℕ). 10000 * k ≤ i) (c.from-end.ensures ∙ c.parts.ensures ∙ ap parts_in_year c.frequency.ensures) c.if-index-end.false))

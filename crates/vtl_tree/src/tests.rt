@@ -1,0 +1,50 @@
+// Of `if` the branch that is not chosen counts for nothing: what no script that is built can show yet.
+use crate::{CompExpr, eval};
+use std::alloc::{AllocError, Global};
+use std::test::Fail;
+use vtl_cell::{Cell, Kind, ScalarOp, is_same};
+use vtl_decimal::{Dec, Profile, Rounding};
+use vtl_scalar::ScalarErr;
+
+fn whole(n: i64) -> CompExpr {
+    CompExpr::Const(Cell::Int(n))
+}
+
+// 1 / 0
+fn faulty(alloc: Global) -> Result<CompExpr, AllocError> {
+    let mut args = Vec::new(alloc);
+    args.push(whole(1))?;
+    args.push(whole(0))?;
+    Ok(CompExpr::Apply {
+        op: ScalarOp::Divide,
+        kind: Kind::Num,
+        args,
+    })
+}
+
+// if test then a else b
+fn choice(alloc: Global, test: bool, a: CompExpr, b: CompExpr) -> Result<CompExpr, AllocError> {
+    let mut args = Vec::new(alloc);
+    args.push(CompExpr::Const(Cell::Bool(test)))?;
+    args.push(a)?;
+    args.push(b)?;
+    Ok(CompExpr::Apply {
+        op: ScalarOp::If,
+        kind: Kind::Num,
+        args,
+    })
+}
+
+#[test]
+fn the_chosen_branch_alone_counts(rt: HostRuntime) -> Result<(), Fail> {
+    let alloc = rt.alloc();
+    let p = Profile::new(6, Rounding::HalfUp).ok_or("no profile")?;
+    let one = Cell::Num(Dec::from_k(1_000_000).ok_or("no number")?);
+    let first = choice(alloc, true, whole(1), faulty(alloc)?)?;
+    assert!(rt; is_same(&eval(alloc, &first, &[], &p)?, &one));
+    let second = choice(alloc, false, faulty(alloc)?, whole(1))?;
+    assert!(rt; is_same(&eval(alloc, &second, &[], &p)?, &one));
+    let fault = choice(alloc, true, faulty(alloc)?, whole(1))?;
+    assert!(rt; matches!(eval(alloc, &fault, &[], &p), Err(ScalarErr::DivZero)));
+    Ok(())
+}
