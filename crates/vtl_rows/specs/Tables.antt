@@ -1,0 +1,21 @@
+-- A table as contracts see it: its columns, and the list of its rows.
+use Rattle.std.specs.Prelude.{ℕ, Bool, true, false, ◌&&◌, List, [], ◌∷◌, map}
+use Rattle.vtl_cell.specs.declared.cell.Cell.{Cell}
+use Rattle.vtl_cell.specs.Kinds.{is_of}
+use Rattle.vtl_cell.specs.Row.{Row, column_of}
+use Rattle.vtl_rows.specs.declared.column.Column.{Column}
+
+pub record Listed : Type 0 where
+  pub columns : List Column
+  pub rows : List Row
+
+-- a row has one cell for each column, null or of its kind
+abbrev pub fits : List Column → Row → Bool
+fits [] [] = true
+fits [] (x ∷ xs) = false
+fits (k ∷ ks) [] = false
+fits (k ∷ ks) (x ∷ xs) = is_of k.kind x && fits ks xs
+
+-- the cells of a row at listed places
+abbrev pub cells_at : List ℕ → Row → Row
+cells_at places r = map (λ i. column_of i r) places

@@ -1,0 +1,8 @@
+//! Tables: columns, and rows of cells in a list.
+#![tactic(auto)]
+
+mod column;
+mod table;
+
+pub use column::{Column, SortKey};
+pub use table::Table;
