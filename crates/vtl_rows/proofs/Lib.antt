@@ -1,1 +1,4 @@
 pub mod Flats
+pub mod Gathers
+pub mod Placed
+pub mod Stable

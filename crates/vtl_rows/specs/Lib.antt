@@ -1,2 +1,4 @@
 pub mod Flat
+pub mod Keys
+pub mod Places
 pub mod Tables

@@ -2,6 +2,7 @@
 #![tactic(auto)]
 
 mod column;
+mod order;
 mod table;
 
 pub use column::{Column, SortKey};
