@@ -1,7 +1,7 @@
 -- Rows one after the other, and the rows at places.
 use Rattle.std.proofs.Common.{◌≡◌, ℕ, ◌*◌, ◌<◌, List, [], ◌∷◌, ◌++◌, map, length, length-append, get_or, drop, arith, refl, sym, ap, ◌∙◌, subst, All}
 use Rattle.std.specs.List.{AllByRecursion, flat_map, range_with_len}
-use Rattle.std.proofs.lemmas.List.{take_at, drop_at}
+use Rattle.std.proofs.lemmas.List.{take_at, drop_at, length-map}
 use Rattle.std.proofs.lemmas.List.Elements.{recursion_from_All}
 use Rattle.std.proofs.lemmas.List.FromFn.{get_or-range_with_len, length-range_with_len}
 use Rattle.std.proofs.lemmas.List.Sorted.{All-permutation, length_permutation}
@@ -12,7 +12,7 @@ use Rattle.vtl_rows.specs.declared.column.SortKey.{SortKey}
 use Rattle.vtl_rows.specs.Flat.{rows_of, IsFlat}
 use Rattle.vtl_rows.specs.Keys.{ordered}
 use Rattle.vtl_rows.specs.Places.{row_at, IsOrderOf}
-use Rattle.vtl_rows.specs.Tables.{cells_at}
+use Rattle.vtl_rows.specs.Tables.{cells_at, column_at}
 use Rattle.vtl_rows.proofs.Flats.{row_read, row_wide, length-rows_of}
 
 module _ {X : Type 0} (f : X → Row) (width : ℕ) where
@@ -72,8 +72,17 @@ all_chosen : (places : List ℕ) (rows : List Row) → AllByRecursion (λ r. len
 all_chosen places [] = tt
 all_chosen places (r ∷ rows) = (cells_count r places, all_chosen places rows)
 
-pub chosen_whole : (places : List ℕ) (rows : List Row) → length (flat_map (cells_at places) rows) ≡ length rows * length places
-chosen_whole places rows = length-flat_map_wide (cells_at places) (length places) rows (all_chosen places rows)
+module _ (chosen : List Column) (places : List ℕ) (rows : List Row) (n : ℕ) (cells : List Cell) (count : length chosen ≡ length places) (below : n ≡ length rows) (e : cells ≡ flat_map (cells_at places) rows) where
+  pub chosen_flat : 0 < length places → IsFlat chosen n cells
+  chosen_flat some = record {
+    wide = omega (arith, count, some);
+    whole = ap length e ∙ length-flat_map_wide (cells_at places) (length places) rows (all_chosen places rows) ∙ ap (λ k. k * length places) (sym below) ∙ ap (λ w. n * w) (sym count);
+  }
 
-pub chosen_rows : (places : List ℕ) (rows : List Row) → rows_of (length places) (length rows) (flat_map (cells_at places) rows) ≡ map (cells_at places) rows
-chosen_rows places rows = rows_of-flat_map (cells_at places) (length places) rows (all_chosen places rows)
+  pub chosen_rows : rows_of (length chosen) n cells ≡ map (cells_at places) rows
+  chosen_rows =
+      ap (λ w. rows_of w n cells) count ∙ ap (λ k. rows_of (length places) k cells) below ∙ ap (rows_of (length places) (length rows)) e
+      ∙ rows_of-flat_map (cells_at places) (length places) rows (all_chosen places rows)
+
+pub chosen_count : (columns : List Column) (places : List ℕ) (chosen : List Column) → chosen ≡ map (column_at columns) places → length chosen ≡ length places
+chosen_count columns places chosen e = let h : length (map (column_at columns) places) ≡ length places = simp length-map refl in ap length e ∙ h

@@ -1,4 +1,6 @@
 pub mod Flats
 pub mod Gathers
+pub mod Neighbours
 pub mod Placed
 pub mod Stable
+pub mod Ties

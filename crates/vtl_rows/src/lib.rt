@@ -3,6 +3,7 @@
 
 mod column;
 mod order;
+mod project;
 mod table;
 
 pub use column::{Column, SortKey};
