@@ -1,5 +1,6 @@
 pub mod Flats
 pub mod Gathers
+pub mod NamedLemmas
 pub mod Neighbours
 pub mod Placed
 pub mod Stable

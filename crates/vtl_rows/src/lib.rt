@@ -5,6 +5,8 @@ mod column;
 mod order;
 mod project;
 mod table;
+mod tables;
 
 pub use column::{Column, SortKey};
 pub use table::Table;
+pub use tables::{Inputs, Outputs, Tables};
