@@ -1,5 +1,6 @@
 pub mod Flats
 pub mod Gathers
+pub mod InOrder
 pub mod NamedLemmas
 pub mod Neighbours
 pub mod Placed
