@@ -1,0 +1,15 @@
+-- Rows of one width in one flat list of cells.
+use Rattle.std.specs.Prelude.{◌≡◌, ℕ, zero, suc, ◌*◌, ◌<◌, List, [], ◌∷◌, length, take, drop}
+use Rattle.vtl_cell.specs.declared.cell.Cell.{Cell}
+use Rattle.vtl_cell.specs.Row.{Row}
+use Rattle.vtl_rows.specs.declared.column.Column.{Column}
+
+-- the first n rows of a list of cells
+abbrev pub rows_of : ℕ → ℕ → List Cell → List Row
+rows_of width zero cells = []
+rows_of width (suc n) cells = take width cells ∷ rows_of width n (drop width cells)
+
+-- the cells are those of n whole rows
+pub record IsFlat (columns : List Column) (n : ℕ) (cells : List Cell) : Type 0 where
+  pub wide : 0 < length columns
+  pub whole : length cells ≡ n * length columns

@@ -1,0 +1,5 @@
+pub mod Flat
+pub mod Keys
+pub mod Named
+pub mod Places
+pub mod Tables

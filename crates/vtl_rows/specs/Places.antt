@@ -1,0 +1,18 @@
+-- Rows by their places in a table.
+use Rattle.std.specs.Prelude.{◌≡◌, ℕ, List, [], map, length, slice_index_or, IsPermutation}
+use Rattle.std.specs.List.{range_with_len}
+use Rattle.vtl_cell.specs.Row.{Row}
+use Rattle.vtl_cell.specs.Sorted.{by_keys}
+use Rattle.vtl_lists.specs.Sorting.{le_by, Rises}
+use Rattle.vtl_rows.specs.declared.column.SortKey.{SortKey}
+use Rattle.vtl_rows.specs.Keys.{key_of, ordered}
+
+-- the row at a place, or no cells past the last
+abbrev pub row_at : List Row → ℕ → Row
+row_at rows i = slice_index_or rows i []
+
+-- the places of a table's rows, in the order of the keys
+pub record IsOrderOf (keys : List SortKey) (rows : List Row) (places : List ℕ) : Type 0 where
+  pub all : IsPermutation (range_with_len 0 (length rows)) places
+  pub sorted : map (row_at rows) places ≡ ordered keys rows
+  pub rises : Rises (le_by (by_keys (map key_of keys))) (map (row_at rows) places)

@@ -1,0 +1,25 @@
+-- A table as contracts see it: its columns, and the list of its rows.
+use Rattle.std.specs.Prelude.{ℕ, Bool, true, false, ◌&&◌, List, [], ◌∷◌, map, slice_index_or}
+use Rattle.vtl_cell.specs.Kinds.{is_of}
+use Rattle.vtl_cell.specs.declared.kind.Kind.TheVariants as k
+use Rattle.vtl_cell.specs.Row.{Row, column_of}
+use Rattle.vtl_rows.specs.declared.column.Column.{Column}
+
+pub record Listed : Type 0 where
+  pub columns : List Column
+  pub rows : List Row
+
+-- a row has one cell for each column, null or of its kind
+abbrev pub fits : List Column → Row → Bool
+fits [] [] = true
+fits [] (x ∷ xs) = false
+fits (c ∷ cs) [] = false
+fits (c ∷ cs) (x ∷ xs) = is_of c.kind x && fits cs xs
+
+-- the cells of a row at listed places
+abbrev pub cells_at : List ℕ → Row → Row
+cells_at places r = map (λ i. column_of i r) places
+
+-- the column at a place; past the last one a column with no name, of the kind of null alone
+abbrev pub column_at : List Column → ℕ → Column
+column_at columns i = slice_index_or columns i (record { name = []; kind = k.Null })

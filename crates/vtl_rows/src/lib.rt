@@ -1,0 +1,12 @@
+//! Tables: columns, and rows of cells in a list.
+#![tactic(auto)]
+
+mod column;
+mod order;
+mod project;
+mod table;
+mod tables;
+
+pub use column::{Column, SortKey};
+pub use table::Table;
+pub use tables::{Inputs, Outputs, Tables};

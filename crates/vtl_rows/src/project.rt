@@ -1,0 +1,69 @@
+// Columns chosen from others, and the cells below them.
+ghost use Rattle.std.specs.Prelude.{◌≡◌, ◌<◌, ◌++◌, length, map, All, IfOk, OnOk};
+ghost use Rattle.std.specs.List.{flat_map};
+ghost use Rattle.vtl_cell.specs.Row.{column_of};
+ghost use Rattle.vtl_rows.specs.Tables.{cells_at, column_at};
+
+use crate::{Column, Table};
+use std::alloc::{AllocError, Global};
+use vtl_cell::{Cell, clone_cell};
+
+// The columns at places.
+pub(crate) fn chosen_columns(
+    alloc: Global,
+    columns: &[Column],
+    places: &[usize],
+) -> Result<Vec<Column>, AllocError>
+    requires { All (λ i. i < length columns.now) places.now }
+    ensures { IfOk result (λ chosen. chosen.items ≡ map (column_at columns.now) places.now) }
+{
+    let mut chosen = Vec::with_capacity(alloc, places.len())?;
+    for i in places {
+        chosen.push(copy_column(&columns[*i])?)?;
+    }
+    Ok(chosen)
+}
+
+fn copy_column(column: &Column) -> Result<Column, AllocError>
+    ensures { IfOk result (λ copy. copy ≡ column.now) }
+{
+    Ok(Column {
+        name: column.name.share()?,
+        kind: column.kind,
+    })
+}
+
+// The cells at places of every row, one row after the other.
+pub(crate) fn chosen_cells(
+    alloc: Global,
+    table: &Table,
+    places: &[usize],
+) -> Result<Vec<Cell>, AllocError>
+    ensures { IfOk result (λ cells. cells.items ≡ flat_map (cells_at places.now) table.now.rows) }
+{
+    let mut cells = Vec::new(alloc);
+    for i in 0..table.len() {
+        append_chosen(&mut cells, table.row(i), places)?;
+    }
+    Ok(cells)
+}
+
+// Puts the cells at places of a row behind others.
+fn append_chosen(cells: &mut Vec<Cell>, row: &[Cell], places: &[usize]) -> Result<(), AllocError>
+    ensures { OnOk result (cells.new.items ≡ cells.old.items ++ cells_at places.now row.now) }
+{
+    for place in places {
+        cells.push(copy_at(row, *place)?)?;
+    }
+    Ok(())
+}
+
+// An equal cell to the one at a place, or null past the last one.
+fn copy_at(row: &[Cell], place: usize) -> Result<Cell, AllocError>
+    ensures { IfOk result (λ copy. copy ≡ column_of place row.now) }
+{
+    match row.get(place) {
+        Some(cell) => clone_cell(cell),
+        None => Ok(Cell::Null),
+    }
+}

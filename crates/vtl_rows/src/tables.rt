@@ -1,0 +1,73 @@
+// Tables by name.
+ghost use Rattle.std.specs.Prelude.{◌≡◌, ◌<◌, ◌++◌, [], ◌∷◌, length, None, slice_index_or, OnOk, OnErr};
+ghost use Rattle.std.specs.Option.{option_copied};
+ghost use Rattle.vtl_rows.specs.Named.{table_of};
+
+use crate::Table;
+use indexmap::IndexMap;
+use std::alloc::{AllocError, Global};
+use std::marker::Model;
+use vtl_text::Txt;
+
+/// Named tables. A contract sees the list of the names with their tables, in the order in which they were put.
+#[derive(Drop)]
+pub struct Tables {
+    named: IndexMap<Txt, Table>,
+}
+
+/// The tables that a script reads.
+pub type Inputs = Tables;
+
+/// The tables that a script makes.
+pub type Outputs = Tables;
+
+impl Model for Tables {
+    ghost use Rattle.vtl_rows.specs.Named.{NamedTables};
+
+    ghost Value = { NamedTables };
+
+    ghost view = { λ t. t.named.entries };
+}
+
+impl Tables {
+    /// No tables.
+    pub fn new(alloc: Global) -> Tables
+        ensures { result ≡ [] }
+    {
+        Tables {
+            named: IndexMap::new(alloc),
+        }
+    }
+
+    /// Puts a table behind the others. It fails only for want of memory, and leaves the others as they were.
+    pub fn put(&mut self, name: Txt, table: Table) -> Result<(), AllocError>
+        requires { table_of name self.old ≡ None }
+        ensures put { OnOk result (self.new ≡ self.old ++ (name, table) ∷ []) }
+        ensures err { OnErr result (self.new ≡ self.old) }
+    {
+        self.named.insert(name, table)?;
+        Ok(())
+    }
+
+    /// The table of a name.
+    pub fn get(&self, name: &Txt) -> Option<&Table>
+        ensures { option_copied result ≡ table_of name.now self.now }
+    {
+        self.named.get(name)
+    }
+
+    /// The name and the table at a place.
+    pub fn at(&self, i: usize) -> (&Txt, &Table)
+        requires { i < length self.now }
+        ensures { (result.0.now, result.1.now) ≡ slice_index_or self.now i (result.0.now, result.1.now) }
+    {
+        self.named.get_index(i).unwrap()
+    }
+
+    /// The number of tables.
+    pub fn len(&self) -> usize
+        ensures { result ≡ length self.now }
+    {
+        self.named.len()
+    }
+}
