@@ -1,5 +1,6 @@
 pub mod DigitLemmas
 pub mod Faults
 pub mod LookUps
+pub mod StructuresLemmas
 pub mod Values
 pub mod Walks

@@ -10,5 +10,6 @@ pub mod SameResult
 pub mod Seen
 pub mod Shown
 pub mod Structure
+pub mod Structures
 pub mod Value
 pub mod View

@@ -8,6 +8,7 @@ mod laws;
 mod plain;
 mod seen;
 mod structure;
+mod structures;
 
 pub use built_form::{
     CompareOp, FilterCondition, FilterLiteral, FilterStatement, built, filter_statement,
@@ -18,6 +19,7 @@ pub use laws::{filter_is_a_clause, points_are_a_map};
 pub use plain::filter_points;
 pub use seen::Seen;
 pub use structure::{Component, Role, Structure};
+pub use structures::Structures;
 
 #[cfg(test)]
 mod tests;
