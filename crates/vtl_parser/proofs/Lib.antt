@@ -3,3 +3,4 @@ pub mod RuleTurns
 pub mod SignedTurns
 pub mod StatementTurns
 pub mod Texts
+pub mod WrittenLemmas

@@ -9,5 +9,5 @@ mod point_rules;
 mod rules;
 mod statements;
 
-pub use laws::texts_are_read_once;
+pub use laws::{scripts_are_written, texts_are_read_once};
 pub use parsing::{ParseErr, parse};
