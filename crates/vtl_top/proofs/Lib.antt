@@ -6,6 +6,6 @@ pub mod ReadStructures
 pub mod ReadScripts
 pub mod RunLemmas
 pub mod SinkLemmas
-pub mod StatusLemmas
+pub mod StepLemmas
 pub mod StructureLemmas
 mod NumberText

@@ -10,21 +10,17 @@ use Rattle.vtl_parser.specs.Parsed.{IsScript}
 use Rattle.vtl_tree.specs.Built.{Filter, filter_in}
 use Rattle.vtl_tree.specs.Clauses.{filter_of, kept}
 use Rattle.vtl_tree.specs.Meaning.{DataSet, found, data_of, meaning, stated}
-use Rattle.vtl_tree.specs.Structure.{columns_of}
+use Rattle.vtl_tree.specs.Structure.{columns_of, key_width}
 use Rattle.vtl_tree.specs.declared.structure.Structure.{Structure}
 use Rattle.vtl_top.specs.Condition.{condition_in}
-use Rattle.vtl_top.specs.Expected.{IsExpected, Run, content, csv_limit, formed, from_input, from_parsed, from_structures, go_on, input_path, output_in, script_limit, stage, statement_in, structures_limit}
-use Rattle.vtl_top.specs.ScriptFile.{IsParsed, IsReadAs, Parsed, faulty, no_text, whole}
-use Rattle.vtl_top.specs.Meant.{IsMeant, data_set, script_of}
+use Rattle.vtl_top.specs.Expected.{Run, csv_limit, formed, input_path, input_step, output_in, read, run_step, script_in, script_limit, script_of, script_step, stage, statement_step, structures_limit, structures_step}
+use Rattle.vtl_top.specs.Steps.{Behind, Held, Step, onward, settled}
+use Rattle.vtl_top.specs.ScriptFile.{IsParsed, Parsed, faulty, no_text, whole}
+use Rattle.vtl_top.specs.Meant.{IsMeant, data_set, script_of as meant_script}
 use Rattle.vtl_csv.specs.Points.{points_of}
 use Rattle.vtl_top.specs.StructuresFile.{structure_of}
 use Rattle.vtl_top.specs.declared.status.Status.{Status}
 use Rattle.vtl_top.proofs.OutputLemmas.{filter_is_kept}
-
--- a value that goes on is there
-went_on : {A B : Type 0} (m : Result A Status) (k : A → Result B Status) (y : B) → go_on m k ≡ Ok y → (x : A) × (m ≡ Ok x) × (k x ≡ Ok y)
-went_on (Ok x) k y e = (x, refl, e)
-went_on (Err s) k y e = cc
 
 -- the one data set of its environment
 own_data : (name : List ℕ) (d : DataSet) → data_of name ((name, d) ∷ []) ≡ Some d
@@ -35,7 +31,7 @@ abbrev filtered_by : Settings → Filter → Structure → DataSet → Outcome D
 filtered_by p s structure d = after (filter_of p (condition_in (columns_of structure) s.condition) d.points) (λ rows. Ok (record { structure = d.structure; points = rows }))
 
 pub statement_means : (p : Settings) (s : Filter) (structure : Structure) (points : List Row)
-    → meaning p (script_of s structure) ((s.operand, data_set structure points) ∷ []) ≡ Ok ((s.result, data_set structure (kept p (condition_in (columns_of structure) s.condition) points)) ∷ [])
+    → meaning p (meant_script s structure) ((s.operand, data_set structure points) ∷ []) ≡ Ok ((s.result, data_set structure (kept p (condition_in (columns_of structure) s.condition) points)) ∷ [])
 statement_means p s structure points =
     ap (λ d. stated s.result (filtered_by p s structure (found structure d)) (λ d. Ok [])) (own_data s.operand (data_set structure points))
     ∙ ap (λ m. stated s.result (after m (λ rows. Ok (data_set structure rows))) (λ d. Ok [])) (filter_is_kept p (columns_of structure) s.condition points)
@@ -51,34 +47,46 @@ record IsBuilt (text : List ℕ) (s : Filter) : Type 0 where
   parsed : IsScript text tree
   built : filter_in tree ≡ Some s
 
-built_from : (path text : List ℕ) (parsed : Parsed) (s : Filter) → IsParsed text parsed → statement_in path parsed ≡ Ok s → IsBuilt text s
-built_from path text no_text s is e = cc
-built_from path text (faulty done byte) s is e = cc
-built_from path text (whole tree) s is e = record { tree = tree; utf8 = is.0; parsed = is.1; built = formed_some path (filter_in tree) s e }
+built_from : (path text : List ℕ) (parsed : Parsed) (s : Filter) (tree : ScriptTree) → IsParsed text parsed → Ok tree ≡ script_in path parsed → formed path (filter_in tree) ≡ Ok s → IsBuilt text s
+built_from path text no_text s tree is e f = cc
+built_from path text (faulty done byte) s tree is e f = cc
+built_from path text (whole t) s tree is e f = let same : tree ≡ t = cc in record { tree = tree; utf8 = is.0; parsed = subst (λ x. IsScript text x) (sym same) is.1; built = formed_some path (filter_in tree) s f }
 
-pub meant : (r : Run) (held : List (List ℕ × List ℕ)) (file : List ℕ × List ℕ) → IsExpected r held (Ok file) → IsMeant r held file
-meant r held file x =
-    let t = went_on (content r.script script_limit held) (λ bytes. from_parsed x.parsed r held) file x.gives in
-    let is : IsParsed t.0 x.parsed = subst (λ (c : Result (List ℕ) Status). IsReadAs c x.parsed) t.1 x.script in
-    let a = went_on (statement_in r.script x.parsed) (λ s. from_structures r s held) file t.2 in
-    let script : IsBuilt t.0 a.0 = built_from r.script t.0 x.parsed a.0 is a.1 in
-    let b = went_on (stage r.structures structures_limit (structure_of a.0) held) (λ structure. from_input r a.0 structure held) file a.2 in
-    let c = went_on (stage (input_path r a.0) csv_limit (points_of r.settings b.0) held) (λ points. Ok (output_in r a.0 (columns_of b.0) points)) file b.2 in
-    let same : output_in r a.0 (columns_of b.0) c.0 ≡ file = cc in
-    record {
-      text = t.0;
-      tree = script.tree;
-      statement = a.0;
-      structure = b.0;
-      points = c.0;
-      kept = kept r.settings (condition_in (columns_of b.0) a.0.condition) c.0;
-      script = t.1;
-      utf8 = script.utf8;
-      parsed = script.parsed;
-      built = script.built;
-      declared = b.1;
-      input = c.1;
-      means = statement_means r.settings a.0 b.0 c.0;
-      path = sym (ap (λ (f : List ℕ × List ℕ). f.0) same);
-      bytes = sym (ap (λ (f : List ℕ × List ℕ). f.1) same);
-    }
+-- a value of two steps is a value of the first and then of the second
+went_on : {A B : Type 0} (step : Step A) (next : A → Step B) (held : Held) (y : B) → (onward step next).gives held (Ok y) → (x : A) × step.gives held (Ok x) × (next x).gives held (Ok y)
+went_on {A} step next held y (first, is, rest) = by_first first is rest
+  where
+    by_first : (first : Result A Status) → step.gives held first → Behind first (λ x. (next x).gives held) (Ok y) → (x : A) × step.gives held (Ok x) × (next x).gives held (Ok y)
+    by_first (Ok x) is rest = (x, is, rest)
+    by_first (Err status) is rest = cc
+
+pub meant : (r : Run) (held files : List (List ℕ × List ℕ)) → (run_step r).gives held (Ok files) → (file : List ℕ × List ℕ) × (files ≡ file ∷ []) × IsMeant r held file
+meant r held files g =
+    let a = went_on (script_step r.script) (statement_step r) held files g in
+    let t = went_on (read r.script script_limit) (script_of r.script) held a.0 a.1 in
+    let b = went_on (settled (formed r.script (filter_in a.0))) (structures_step r) held files a.2 in
+    let s = b.0 in
+    let script : IsBuilt t.0 s = built_from r.script t.0 t.2.0 s a.0 t.2.1 t.2.2 (sym b.1) in
+    let c = went_on (stage r.structures structures_limit (structure_of s)) (λ structure. input_step r s (columns_of structure) (key_width structure)) held files b.2 in
+    let d = went_on (stage (input_path r s) csv_limit (points_of r.settings c.0)) (λ points. settled (Ok (output_in r s (columns_of c.0) points ∷ []))) held files c.2 in
+    let same : files ≡ output_in r s (columns_of c.0) d.0 ∷ [] = cc in (
+      output_in r s (columns_of c.0) d.0,
+      same,
+      record {
+        text = t.0;
+        tree = script.tree;
+        statement = s;
+        structure = c.0;
+        points = d.0;
+        kept = kept r.settings (condition_in (columns_of c.0) s.condition) d.0;
+        script = sym t.1;
+        utf8 = script.utf8;
+        parsed = script.parsed;
+        built = script.built;
+        declared = c.1;
+        input = d.1;
+        means = statement_means r.settings s c.0 d.0;
+        path = refl;
+        bytes = refl;
+      },
+    )

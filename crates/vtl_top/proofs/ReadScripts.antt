@@ -9,11 +9,22 @@ use Rattle.vtl_syntax.specs.Trees.{ScriptTree}
 use Rattle.vtl_parser.specs.Parsed.{IsFault, IsFaulty, IsScript}
 use Rattle.vtl_parser.specs.declared.parsing.ParseErr.{ParseErr}
 use Rattle.vtl_parser.specs.declared.parsing.ParseErr.TheVariants as parse
-use Rattle.vtl_top.specs.Refusal.{IsUnparsed}
+use Rattle.vtl_top.specs.Refusal.{IsScriptOf}
 use Rattle.std.specs.Prelude.{IsUtf8}
-use Rattle.vtl_top.specs.Answered.{Meets, MeetsText}
-use Rattle.vtl_top.specs.Expected.{IsExpected, Run, content, from_parsed, go_on, reads_from_parsed, script_limit}
-use Rattle.vtl_top.specs.ScriptFile.{IsParsed, IsReadAs, Parsed, faulty, no_text, whole}
+use Rattle.vtl_files.specs.declared.files.Files.{Ghosts}
+use Rattle.vtl_syntax.specs.View.{script_tree}
+use Rattle.vtl_syntax.specs.declared.statements.Script.{Script}
+use Rattle.std.proofs.Common.{◌≤◌, ◌⊎◌, inl, inr, arith}
+use Rattle.std.specs.Prelude.{chars}
+use Rattle.vtl_top.specs.Answered.{Came, Gives, OnlyReads, Takes}
+use Rattle.vtl_top.specs.Steps.{Behind, Held, Step, onward, settled}
+use Rattle.vtl_tree.specs.Built.{filter_in}
+use Rattle.vtl_tree.specs.Structure.{columns_of, key_width}
+use Rattle.vtl_csv.specs.Points.{points_in}
+use Rattle.vtl_top.specs.StructuresFile.{structure_of}
+use Rattle.std.proofs.Common.{◌∷◌, []}
+use Rattle.vtl_top.specs.Expected.{Run, csv_limit, formed, input_path, input_step, output_in, read, run_step, script_in, script_limit, script_of, script_step, stage, statement_step, structures_limit, structures_step}
+use Rattle.vtl_top.specs.ScriptFile.{IsParsed, Parsed, faulty, no_text, whole}
 use Rattle.vtl_top.specs.declared.status.Status.{Status}
 use Rattle.vtl_top.specs.declared.status.Status.TheVariants as st
 
@@ -50,35 +61,55 @@ parsed_once bytes (whole s) no_text x y = absurd (y x.0)
 parsed_once bytes (whole s) (faulty d b) x y = absurd (no_both bytes s d b x.1 y.1)
 parsed_once bytes (whole s) (whole t) x y = ap whole (same_script bytes s t x.1 y.1)
 
-same_after : {B : Type 0} (c : Result (List ℕ) Status) (a b : Parsed) (k : Parsed → Result B Status) → IsReadAs c a → IsReadAs c b → go_on c (λ bytes. k a) ≡ go_on c (λ bytes. k b)
-same_after (Ok bytes) a b k x y = ap k (parsed_once bytes a b x y)
-same_after (Err refusal) a b k x y = refl
-
-pub determined : (r : Run) (held : List (List ℕ × List ℕ)) (given other : Result (List ℕ × List ℕ) Status) → IsExpected r held given → IsExpected r held other → given ≡ other
-determined r held given other x y =
-    sym x.gives ∙ same_after (content r.script script_limit held) x.parsed y.parsed (λ parsed. from_parsed parsed r held) x.script y.script ∙ y.gives
-
--- ---- what a run answers
-module _ {X : Type 0} (view : X → List ℕ × List ℕ) (r : Run) (held : List (List ℕ × List ℕ)) where
-  -- by what the bytes are read as
-  pub meets_text : (bytes : List ℕ) (parsed : Parsed) (answer : Result X Status) → IsParsed bytes parsed → Meets view (from_parsed parsed r held) (reads_from_parsed parsed r held) answer → MeetsText view r held bytes answer
-  meets_text bytes parsed (Ok x) is m = (parsed, is, m)
-  meets_text bytes parsed (Err st.Memory) is m = tt
-  meets_text bytes parsed (Err st.Done) is m = (parsed, is, m)
-  meets_text bytes parsed (Err st.Usage) is m = (parsed, is, m)
-  meets_text bytes parsed (Err (st.Syntax done byte)) is m = (parsed, is, m)
-  meets_text bytes parsed (Err (st.NotText path)) is m = (parsed, is, m)
-  meets_text bytes parsed (Err (st.NoFile path)) is m = (parsed, is, m)
-  meets_text bytes parsed (Err (st.TooLong path)) is m = (parsed, is, m)
-  meets_text bytes parsed (Err (st.ReadFault path)) is m = (parsed, is, m)
-  meets_text bytes parsed (Err (st.WriteFault path)) is m = (parsed, is, m)
-  meets_text bytes parsed (Err (st.Unbuilt path)) is m = (parsed, is, m)
-
-  -- where the text is no script
-  pub meets_fault : (text : List ℕ) (error : ParseErr) (status : Status) → IsUtf8 text → IsFault text error → IsUnparsed error status → MeetsText view r held text (Err status)
-  meets_fault text (parse.Syntax done byte) status utf8 fault is = subst (λ (s : Status). MeetsText view r held text (Err s)) (sym is) (faulty done byte, (utf8, fault), refl)
-  meets_fault text parse.OutOfMemory status utf8 fault is = subst (λ (s : Status). MeetsText view r held text (Err s)) (sym is) tt
-
+-- ---- a script file's bytes
 pub if_some_all : {H : Type 0} (o : Option H) (Q : H → Type 0) → ((h : H) → Q h) → IfSome o Q
 if_some_all None Q f = tt
 if_some_all (Some h) Q f = f h
+
+module _ {F : Type 0} (g : Ghosts F) (a : F) (path bytes : List ℕ) where
+  read_as : (status : Status) (parsed : Parsed) → IsParsed bytes parsed → Err status ≡ script_in path parsed → Gives g a (script_of path bytes) (Err status)
+  read_as status parsed is e = if_some_all (g.held a) (λ held. (script_of path bytes).gives held (Err status)) (λ held. (parsed, is, e))
+
+  came_of : (result : Result Script Status) → IsScriptOf path bytes result → Came g a a (script_of path bytes) script_tree result
+  came_of (Ok script) is = if_some_all (g.held a) (λ held. (script_of path bytes).gives held (Ok (script_tree script))) (λ held. (whole (script_tree script), is, refl))
+  came_of (Err status) (inl e) = subst (λ (s : Status). Came g a a (script_of path bytes) script_tree (Err s)) (sym e) tt
+  came_of (Err status) (inr (inl other)) = subst (λ (s : Status). Came g a a (script_of path bytes) script_tree (Err s)) (sym other.1) (read_as (st.NotText (chars path)) no_text other.0 refl)
+  came_of (Err status) (inr (inr f)) = subst (λ (s : Status). Came g a a (script_of path bytes) script_tree (Err s)) (sym f.4) (read_as (st.Syntax f.0 f.1) (faulty f.0 f.1) (f.2, f.3) refl)
+
+  pub script_given : (result : Result Script Status) → IsScriptOf path bytes result → Takes g a a (script_of path bytes) script_tree result
+  script_given result is = record {
+    reads = record { held = refl; written = refl; misuses = refl; creating = refl; faults = omega arith; absences = omega arith };
+    came = came_of result is;
+  }
+
+-- ---- what is settled, is one; and so is a step that follows one
+abbrev pub Once : {A : Type 0} → Step A → Held → Type 0
+Once {A} step held = (x y : Result A Status) → step.gives held x → step.gives held y → x ≡ y
+
+settled_once : {A : Type 0} (given : Result A Status) (held : Held) → Once (settled given) held
+settled_once given held x y p q = p ∙ sym q
+
+onward_once : {A B : Type 0} (step : Step A) (next : A → Step B) (held : Held) → Once step held → ((x : A) → Once (next x) held) → Once (onward step next) held
+onward_once {A} {B} step next held once each x y p q = by_first p.0 q.0 (once p.0 q.0 p.1 q.1) p.2 q.2
+  where
+    by_first : (m n : Result A Status) → m ≡ n → Behind m (λ z. (next z).gives held) x → Behind n (λ z. (next z).gives held) y → x ≡ y
+    by_first (Ok z) n e p q = each z x y p (subst (λ (m : Result A Status). Behind m (λ w. (next w).gives held) y) (sym e) q)
+    by_first (Err status) n e p q = p ∙ sym (subst (λ (m : Result A Status). Behind m (λ w. (next w).gives held) y) (sym e) q)
+
+read_once : (path : List ℕ) (limit : ℕ) (held : Held) → Once (read path limit) held
+read_once path limit held x y p q = p ∙ sym q
+
+stage_once : {A : Type 0} (path : List ℕ) (limit : ℕ) (form : List ℕ → Option A) (held : Held) → Once (stage path limit form) held
+stage_once path limit form held = onward_once (read path limit) (λ bytes. settled (formed path (form bytes))) held (read_once path limit held) (λ bytes. settled_once (formed path (form bytes)) held)
+
+script_once : (path bytes : List ℕ) (held : Held) → Once (script_of path bytes) held
+script_once path bytes held x y p q = p.2 ∙ ap (script_in path) (parsed_once bytes p.0 q.0 p.1 q.1) ∙ sym q.2
+
+pub determined : (r : Run) (held : Held) → Once (run_step r) held
+determined r held =
+    onward_once (script_step r.script) (statement_step r) held (onward_once (read r.script script_limit) (script_of r.script) held (read_once r.script script_limit held) (λ bytes. script_once r.script bytes held)) (λ script.
+    onward_once (settled (formed r.script (filter_in script))) (structures_step r) held (settled_once (formed r.script (filter_in script)) held) (λ s.
+    onward_once (stage r.structures structures_limit (structure_of s)) (λ structure. input_step r s (columns_of structure) (key_width structure)) held (stage_once r.structures structures_limit (structure_of s) held) (λ structure.
+    onward_once (stage (input_path r s) csv_limit (points_in r.settings (columns_of structure) (key_width structure))) (λ points. settled (Ok (output_in r s (columns_of structure) points ∷ []))) held
+    (stage_once (input_path r s) csv_limit (points_in r.settings (columns_of structure) (key_width structure)) held)
+    (λ points. settled_once (Ok (output_in r s (columns_of structure) points ∷ [])) held))))

@@ -1,10 +1,13 @@
 -- Bytes that a sink takes in several pieces.
-use Rattle.std.proofs.Common.{◌≡◌, ℕ, List, [], ◌++◌, Option, Some, None, Result, Ok, Err, refl, sym, ap, subst, ◌∙◌, append_assoc}
+use Rattle.std.proofs.Common.{◌≡◌, ◌≤◌, ◌<◌, ◌+◌, ℕ, List, [], ◌∷◌, ◌++◌, drop, get_or, length, Option, Some, None, Result, Ok, Err, refl, sym, ap, subst, ◌∙◌, append_assoc}
 use Rattle.std.specs.Result.{OnOk, OnErr}
 use Rattle.std.specs.Option.{option_map}
 use Rattle.std.proofs.lemmas.List.{append-nil}
 use Rattle.vtl_files.specs.Outside.{TakesAll}
-use Rattle.vtl_files.specs.Whole.{TakesFront}
+use Rattle.vtl_files.specs.Whole.{AddsUpTo, TakesFront}
+use Rattle.std.proofs.lemmas.List.{drop_all, drop_more}
+use Rattle.vtl_top.specs.PartView.{all_said, said_bytes}
+use Rattle.vtl_top.specs.declared.status.Part.{Part as Said}
 
 taken_twice : (t : Option (List ℕ)) (a b : List ℕ) → option_map (λ x. x ++ b) (option_map (λ x. x ++ a) t) ≡ option_map (λ x. x ++ (a ++ b)) t
 taken_twice None a b = refl
@@ -59,19 +62,25 @@ pub ok_leads : {T E P Q : Type 0} (r : Result T E) → (P → Q) → OnOk r P �
 ok_leads (Ok x) f p = f p
 ok_leads (Err e) f p = tt
 
--- a line of a lead, two numbers with a text between them, and an end
-module _ (t u v : Option (List ℕ)) (lead first between second end done byte : List ℕ) (is_done : first ≡ done) (is_byte : second ≡ byte) where
-  abbrev line : List ℕ
-  line = lead ++ ((done ++ (between ++ byte)) ++ end)
+-- ---- parts of a line, one after the other
+module _ (t u v : Option (List ℕ)) (parts : List Said) (i : ℕ) (other : Said) (h : i < length parts) (so_far : AddsUpTo (λ front taken. taken ++ front) t u (all_said parts) (all_said (drop i parts))) where
+  split : all_said parts ≡ so_far.front ++ (said_bytes (get_or parts i other) ++ all_said (drop (i + 1) parts))
+  split = so_far.whole ∙ ap (λ l. so_far.front ++ l) (ap all_said (drop_more parts i other h))
 
-  pieces : (lead ++ first) ++ (between ++ (second ++ end)) ≡ line
-  pieces = rw (is_done, is_byte) (simp append_assoc)
+  pub part_taken : TakesAll u v (said_bytes (get_or parts i other)) → AddsUpTo (λ front taken. taken ++ front) t v (all_said parts) (all_said (drop (i + 1) parts))
+  part_taken all = record {
+    front = so_far.front ++ said_bytes (get_or parts i other);
+    whole = split ∙ sym (append_assoc so_far.front (said_bytes (get_or parts i other)) (all_said (drop (i + 1) parts)));
+    told = all_after t u v so_far.front (said_bytes (get_or parts i other)) so_far.told all;
+  }
 
-  pub fault_whole : TakesAll t u (lead ++ first) → TakesAll u v (between ++ (second ++ end)) → TakesAll t v line
-  fault_whole a b = subst (λ l. TakesAll t v l) pieces (all_after t u v (lead ++ first) (between ++ (second ++ end)) a b)
+  pub part_front : TakesFront u v (said_bytes (get_or parts i other)) → TakesFront t v (all_said parts)
+  part_front f =
+      subst (λ l. TakesFront t v l) (sym split)
+      (front_after t u v so_far.front (said_bytes (get_or parts i other) ++ all_said (drop (i + 1) parts)) so_far.told (front_before u v (said_bytes (get_or parts i other)) (all_said (drop (i + 1) parts)) f))
 
-  pub fault_front : TakesAll t u (lead ++ first) → TakesFront u v (between ++ (second ++ end)) → TakesFront t v line
-  fault_front a b = subst (λ l. TakesFront t v l) pieces (front_after t u v (lead ++ first) (between ++ (second ++ end)) a b)
-
-  pub fault_start : TakesFront t u (lead ++ first) → TakesFront t u line
-  fault_start a = subst (λ l. TakesFront t u l) pieces (front_before t u (lead ++ first) (between ++ (second ++ end)) a)
+-- at the end nothing is left
+pub parts_taken : (t u : Option (List ℕ)) (parts : List Said) (i : ℕ) → length parts ≤ i → AddsUpTo (λ front taken. taken ++ front) t u (all_said parts) (all_said (drop i parts)) → TakesAll t u (all_said parts)
+parts_taken t u parts i le so_far =
+    let none : all_said (drop i parts) ≡ [] = ap all_said (drop_all i parts le) in
+    subst (λ l. TakesAll t u l) (sym (so_far.whole ∙ ap (λ l. so_far.front ++ l) none ∙ append-nil so_far.front)) so_far.told

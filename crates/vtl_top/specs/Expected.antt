@@ -12,17 +12,12 @@ use Rattle.vtl_tree.specs.declared.structure.Structure.{Structure}
 use Rattle.vtl_top.specs.Condition.{condition_in}
 use Rattle.vtl_csv.specs.CsvText.{csv_in}
 use Rattle.vtl_csv.specs.Points.{points_in}
-use Rattle.vtl_top.specs.ScriptFile.{IsReadAs, Parsed, faulty, no_text, whole}
+use Rattle.vtl_top.specs.ScriptFile.{IsParsed, Parsed, faulty, no_text, whole}
+use Rattle.vtl_top.specs.Steps.{File, Held, Step, onward, settled}
+use Rattle.vtl_syntax.specs.Trees.{ScriptTree}
 use Rattle.vtl_top.specs.StructuresFile.{structure_of}
 use Rattle.vtl_top.specs.declared.status.Status.{Status}
 use Rattle.vtl_top.specs.declared.status.Status.TheVariants as st
-
-abbrev pub Path : Type 0
-Path = List ℕ
-
--- names with bytes
-abbrev pub Held : Type 0
-Held = List (List ℕ × List ℕ)
 
 -- six digits after the point, and halves go away from zero
 abbrev pub default_settings : Settings
@@ -39,12 +34,16 @@ pub record Run : Type 0 where
 abbrev pub is_path : List ℕ → Bool
 is_path word = not (length word == 0)
 
--- `run SCRIPT STRUCTURES IN OUT`, each a path
-abbrev pub run_of : List (List ℕ) → Option Run
-run_of (command ∷ script ∷ structures ∷ input ∷ output ∷ []) =
+-- a command, with its paths and settings
+pub data Command : Type 0 where
+  run : Run → Command
+
+-- the command that the words are: `run SCRIPT STRUCTURES IN OUT`, each a path
+abbrev pub command_of : List (List ℕ) → Option Command
+command_of (command ∷ script ∷ structures ∷ input ∷ output ∷ []) =
     if same_name command (codes "run") && (is_path script && (is_path structures && (is_path input && is_path output)))
-    then Some (record { script = script; structures = structures; input = input; output = output; settings = default_settings }) else None
-run_of _ = None
+    then Some (run (record { script = script; structures = structures; input = input; output = output; settings = default_settings })) else None
+command_of _ = None
 
 -- the file of a data set in a folder
 abbrev pub file_in : List ℕ → List ℕ → List ℕ
@@ -60,17 +59,12 @@ structures_limit = 1048576
 abbrev pub csv_limit : ℕ
 csv_limit = 67108864
 
--- the value, and what comes of it, or the refusal
-abbrev pub go_on : {A B : Type 0} → Result A Status → (A → Result B Status) → Result B Status
-go_on (Ok x) next = next x
-go_on (Err refusal) next = Err refusal
-
 -- the bytes of a file
 abbrev pub sized : List ℕ → ℕ → Option (List ℕ) → Result (List ℕ) Status
 sized path limit None = Err (st.NoFile (chars path))
 sized path limit (Some bytes) = if nat_lt limit (length bytes) then Err (st.TooLong (chars path)) else Ok bytes
 
-abbrev pub content : List ℕ → ℕ → List (List ℕ × List ℕ) → Result (List ℕ) Status
+abbrev pub content : List ℕ → ℕ → Held → Result (List ℕ) Status
 content path limit held = sized path limit (bytes_at path held)
 
 -- what a file spells
@@ -78,58 +72,51 @@ abbrev pub formed : {A : Type 0} → List ℕ → Option A → Result A Status
 formed path None = Err (st.Unbuilt (chars path))
 formed path (Some x) = Ok x
 
--- the file's value, by what its form makes of its bytes
-abbrev pub stage : {A : Type 0} → List ℕ → ℕ → (List ℕ → Option A) → List (List ℕ × List ℕ) → Result A Status
-stage path limit form held = go_on (content path limit held) (λ bytes. formed path (form bytes))
+-- ---- the steps of a run
+-- the bytes of a file
+abbrev pub read : List ℕ → ℕ → Step (List ℕ)
+read path limit = record { gives = λ held given. given ≡ content path limit held; reads = λ held named. named ≡ chars path }
 
--- a file's name with its bytes
-abbrev pub File : Type 0
-File = List ℕ × List ℕ
+-- the value of a file, by what its form makes of its bytes
+abbrev pub stage : {A : Type 0} → List ℕ → ℕ → (List ℕ → Option A) → Step A
+stage path limit form = onward (read path limit) (λ bytes. settled (formed path (form bytes)))
+
+-- the tree of a script file, by what it is read as
+abbrev pub script_in : List ℕ → Parsed → Result ScriptTree Status
+script_in path no_text = Err (st.NotText (chars path))
+script_in path (faulty done byte) = Err (st.Syntax done byte)
+script_in path (whole script) = Ok script
+
+abbrev pub script_of : List ℕ → List ℕ → Step ScriptTree
+script_of path bytes = record { gives = λ held given. (parsed : Parsed) × IsParsed bytes parsed × (given ≡ script_in path parsed); reads = λ held named. ⊥ }
+
+abbrev pub script_step : List ℕ → Step ScriptTree
+script_step path = onward (read path script_limit) (script_of path)
 
 -- the output: the points at which the statement's condition is true
-abbrev pub output_in : Run → Filter → List Component → List Row → List ℕ × List ℕ
+abbrev pub output_in : Run → Filter → List Component → List Row → File
 output_in r s columns points = (file_in r.output s.result, csv_in r.settings columns (kept r.settings (condition_in columns s.condition) points))
 
 abbrev pub input_path : Run → Filter → List ℕ
 input_path r s = file_in r.input s.operand
 
 -- what the input gives in these columns, of which the first n are identifiers
-abbrev pub from_columns : Run → Filter → List Component → ℕ → List (List ℕ × List ℕ) → Result (List ℕ × List ℕ) Status
-from_columns r s columns n held = go_on (stage (input_path r s) csv_limit (points_in r.settings columns n) held) (λ points. Ok (output_in r s columns points))
+abbrev pub input_step : Run → Filter → List Component → ℕ → Step (List File)
+input_step r s columns n = onward (stage (input_path r s) csv_limit (points_in r.settings columns n)) (λ points. settled (Ok (output_in r s columns points ∷ [])))
 
--- what the input gives, then what the structures file gives, then what the script gives
-abbrev pub from_input : Run → Filter → Structure → List (List ℕ × List ℕ) → Result (List ℕ × List ℕ) Status
-from_input r s structure held = from_columns r s (columns_of structure) (key_width structure) held
+-- what the structures file and then the input give
+abbrev pub structures_step : Run → Filter → Step (List File)
+structures_step r s = onward (stage r.structures structures_limit (structure_of s)) (λ structure. input_step r s (columns_of structure) (key_width structure))
 
-abbrev pub from_structures : Run → Filter → List (List ℕ × List ℕ) → Result (List ℕ × List ℕ) Status
-from_structures r s held = go_on (stage r.structures structures_limit (structure_of s) held) (λ structure. from_input r s structure held)
+-- what follows the script's tree
+abbrev pub statement_step : Run → ScriptTree → Step (List File)
+statement_step r script = onward (settled (formed r.script (filter_in script))) (structures_step r)
 
--- the statement of a script file, by what it is read as
-abbrev pub statement_in : List ℕ → Parsed → Result Filter Status
-statement_in path no_text = Err (st.NotText (chars path))
-statement_in path (faulty done byte) = Err (st.Syntax done byte)
-statement_in path (whole script) = formed path (filter_in script)
+-- what a run gives: its outputs, or the first refusal
+abbrev pub run_step : Run → Step (List File)
+run_step r = onward (script_step r.script) (statement_step r)
 
-abbrev pub from_parsed : Parsed → Run → List (List ℕ × List ℕ) → Result (List ℕ × List ℕ) Status
-from_parsed parsed r held = go_on (statement_in r.script parsed) (λ s. from_structures r s held)
-
--- the output or the first refusal, by what the script file is read as
-abbrev pub expected : Parsed → Run → List (List ℕ × List ℕ) → Result (List ℕ × List ℕ) Status
-expected parsed r held = go_on (content r.script script_limit held) (λ bytes. from_parsed parsed r held)
-
--- what the run gives over the held bytes
-pub record IsExpected (r : Run) (held : List (List ℕ × List ℕ)) (given : Result (List ℕ × List ℕ) Status) : Type 0 where
-  pub parsed : Parsed
-  pub script : IsReadAs (content r.script script_limit held) parsed
-  pub gives : expected parsed r held ≡ given
-
--- the paths that are read up to the first refusal
-abbrev pub followed : {A : Type 0} → Result A Status → (A → List (List ℕ)) → List (List ℕ)
-followed (Ok x) next = next x
-followed (Err refusal) next = []
-
-abbrev pub reads_from_structures : Run → Filter → List (List ℕ × List ℕ) → List (List ℕ)
-reads_from_structures r s held = r.structures ∷ followed (stage r.structures structures_limit (structure_of s) held) (λ structure. input_path r s ∷ [])
-
-abbrev pub reads_from_parsed : Parsed → Run → List (List ℕ × List ℕ) → List (List ℕ)
-reads_from_parsed parsed r held = followed (statement_in r.script parsed) (λ s. reads_from_structures r s held)
+-- what the words ask for
+abbrev pub asked_step : Option Command → Step (List File)
+asked_step None = settled (Err st.Usage)
+asked_step (Some (run r)) = run_step r

@@ -2,10 +2,13 @@ pub mod Answered
 pub mod Condition
 pub mod DeclarationFields
 pub mod Expected
+pub mod Kinds
 pub mod Meant
 pub mod OutputView
+pub mod PartView
 pub mod Refusal
 pub mod RunView
 pub mod ScriptFile
 pub mod StatusLine
+pub mod Steps
 pub mod StructuresFile

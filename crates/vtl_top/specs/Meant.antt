@@ -33,8 +33,8 @@ pub record IsMeant (r : Run) (held : List (List ℕ × List ℕ)) (file : List �
   pub utf8 : IsUtf8 text
   pub parsed : IsScript text tree
   pub built : filter_in tree ≡ Some statement
-  pub declared : stage r.structures structures_limit (structure_of statement) held ≡ Ok structure
-  pub input : stage (input_path r statement) csv_limit (points_of r.settings structure) held ≡ Ok points
+  pub declared : (stage r.structures structures_limit (structure_of statement)).gives held (Ok structure)
+  pub input : (stage (input_path r statement) csv_limit (points_of r.settings structure)).gives held (Ok points)
   pub means : meaning r.settings (script_of statement structure) ((statement.operand, data_set structure points) ∷ []) ≡ Ok ((statement.result, data_set structure kept) ∷ [])
   pub path : file.0 ≡ file_in r.output statement.result
   pub bytes : file.1 ≡ csv_of r.settings structure kept

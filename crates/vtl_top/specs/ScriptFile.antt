@@ -1,8 +1,7 @@
 -- What the bytes of a script file are read as.
-use Rattle.std.specs.Prelude.{ℕ, List, Result, Ok, Err, IsUtf8}
+use Rattle.std.specs.Prelude.{ℕ, List, IsUtf8}
 use Rattle.vtl_syntax.specs.Trees.{ScriptTree}
 use Rattle.vtl_parser.specs.Parsed.{IsFaulty, IsScript}
-use Rattle.vtl_top.specs.declared.status.Status.{Status}
 
 -- no text; a text that is no script, with its fault; or a script
 pub data Parsed : Type 0 where
@@ -15,8 +14,3 @@ abbrev pub IsParsed : List ℕ → Parsed → Type 0
 IsParsed bytes no_text = ¬ IsUtf8 bytes
 IsParsed bytes (faulty done byte) = IsUtf8 bytes × IsFaulty bytes done byte
 IsParsed bytes (whole script) = IsUtf8 bytes × IsScript bytes script
-
--- what a file is read as, where there are bytes to read
-abbrev pub IsReadAs : Result (List ℕ) Status → Parsed → Type 0
-IsReadAs (Ok bytes) parsed = IsParsed bytes parsed
-IsReadAs (Err refusal) parsed = Unit {0}

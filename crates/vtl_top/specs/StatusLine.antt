@@ -1,5 +1,5 @@
 -- The exit code of a status, and the line that names it.
-use Rattle.std.specs.Prelude.{ℕ, List, [], ◌++◌, codes, decimal, encode_utf8_all}
+use Rattle.std.specs.Prelude.{ℕ, List, [], ◌∷◌, codes, decimal, encode_utf8_all, flat_map}
 use Rattle.vtl_top.specs.declared.status.Status.{Status}
 use Rattle.vtl_top.specs.declared.status.Status.TheVariants as st
 
@@ -15,36 +15,34 @@ code_of (st.WriteFault path) = 6
 code_of st.Memory = 7
 code_of (st.Unbuilt path) = 8
 
-abbrev pub lead_of : Status → List ℕ
-lead_of st.Done = []
-lead_of st.Usage = codes "error: usage"
-lead_of (st.Syntax done byte) = codes "error: syntax after "
-lead_of (st.NotText path) = codes "error: not text: "
-lead_of (st.NoFile path) = codes "error: no file: "
-lead_of (st.TooLong path) = codes "error: too long: "
-lead_of (st.ReadFault path) = codes "error: read fault: "
-lead_of (st.WriteFault path) = codes "error: write fault: "
-lead_of st.Memory = codes "error: memory"
-lead_of (st.Unbuilt path) = codes "error: unbuilt: "
+-- a part of a line: bytes, or a number in decimal digits
+pub data Part : Type 0 where
+  text : List ℕ → Part
+  number : ℕ → Part
 
--- the path that a status names, in characters
-abbrev pub path_of : Status → List ℕ
-path_of st.Done = []
-path_of st.Usage = []
-path_of (st.Syntax done byte) = []
-path_of (st.NotText path) = path
-path_of (st.NoFile path) = path
-path_of (st.TooLong path) = path
-path_of (st.ReadFault path) = path
-path_of (st.WriteFault path) = path
-path_of st.Memory = []
-path_of (st.Unbuilt path) = path
+abbrev pub bytes_of : Part → List ℕ
+bytes_of (text bytes) = bytes
+bytes_of (number n) = decimal n
 
--- what a line says behind its lead: numbers, or a path in UTF-8
-abbrev pub said_of : Status → List ℕ
-said_of (st.Syntax done byte) = decimal done ++ (codes " statements at byte " ++ decimal byte)
-said_of status = encode_utf8_all (path_of status)
+abbrev end : Part
+end = text (codes "\n")
 
--- the line that is written for a status other than Done
+-- what is said of a path, which is in UTF-8
+abbrev at : List ℕ → List ℕ → List Part
+at lead path = text lead ∷ text (encode_utf8_all path) ∷ end ∷ []
+
+abbrev pub parts_of : Status → List Part
+parts_of st.Done = []
+parts_of st.Usage = text (codes "error: usage") ∷ end ∷ []
+parts_of (st.Syntax done byte) = text (codes "error: syntax after ") ∷ number done ∷ text (codes " statements at byte ") ∷ number byte ∷ end ∷ []
+parts_of (st.NotText path) = at (codes "error: not text: ") path
+parts_of (st.NoFile path) = at (codes "error: no file: ") path
+parts_of (st.TooLong path) = at (codes "error: too long: ") path
+parts_of (st.ReadFault path) = at (codes "error: read fault: ") path
+parts_of (st.WriteFault path) = at (codes "error: write fault: ") path
+parts_of st.Memory = text (codes "error: memory") ∷ end ∷ []
+parts_of (st.Unbuilt path) = at (codes "error: unbuilt: ") path
+
+-- the line of a status: of Done there is none
 abbrev pub line_of : Status → List ℕ
-line_of status = lead_of status ++ (said_of status ++ codes "\n")
+line_of status = flat_map bytes_of (parts_of status)

@@ -1,16 +1,20 @@
 // The output of a run, and how it is written.
-ghost use Rattle.std.specs.Prelude.{◌≡◌, ◌≤◌, false, IfOk, OnOk, OnErr, string_bytes};
+ghost use Rattle.std.specs.Prelude.{◌≡◌, ◌∷◌, [], false, IfOk, OnOk, OnErr, string_bytes};
+ghost use Rattle.std.specs.List.{AllByRecursion};
 ghost use Rattle.vtl_files.specs.Outside.{FaultAt};
 ghost use Rattle.vtl_tree.specs.BuiltView.{compared_view};
 ghost use Rattle.vtl_tree.specs.Clauses.{kept};
 ghost use Rattle.vtl_tree.specs.Rows.{rows_of};
 ghost use Rattle.vtl_tree.specs.Shown.{shown};
-ghost use Rattle.vtl_top.specs.Answered.{Adds, AddsFront, Faulted, OnlyWrites, told};
+ghost use Rattle.vtl_top.specs.Answered.{Adds, AddsFront, OnlyWrites, WritesAs};
+ghost use Rattle.vtl_top.specs.Kinds.{told_by};
+ghost use Rattle.vtl_top.specs.OutputView.{NamesPath, outputs_view};
 ghost use Rattle.vtl_top.specs.Condition.{condition_in};
 ghost use Rattle.vtl_csv.specs.CsvText.{csv_rows};
 
 use crate::condition::condition;
 use crate::filtering::filter;
+use crate::status::Status;
 use std::alloc::{AllocError, Global};
 use vtl_cell::Cell;
 use vtl_csv::csv_text;
@@ -55,13 +59,29 @@ fn want_of_memory(_error: ScalarErr) -> AllocError
     AllocError
 }
 
-/// Creates the file at the path, writes the bytes and finishes it. It takes no memory.
-pub fn write_file<F: Files>(files: &mut F, path: String, bytes: &[u8]) -> Result<(), Failed>
+/// Writes the outputs in order, each whole before the next one is created. It takes no memory.
+pub fn write_outputs<F: Files>(files: &mut F, outputs: Vec<Output>) -> Status
+    requires idle { F.creating files.old ≡ false }
+    requires named { AllByRecursion NamesPath outputs.items }
+    ensures writes { OnlyWrites F.Files files.old files.new }
+    ensures written { WritesAs F.Files files.old files.new (outputs_view outputs) (told_by result) }
+{
+    for output in outputs {
+        let Output { path, named, bytes } = output;
+        match write_file(files, path, &bytes) {
+            Ok(()) => {}
+            Err(_) => return Status::WriteFault(named),
+        }
+    }
+    Status::Done
+}
+
+// Creates the file at the path, writes the bytes and finishes it. It takes no memory.
+fn write_file<F: Files>(files: &mut F, path: String, bytes: &[u8]) -> Result<(), Failed>
     requires { F.creating files.old ≡ false }
-    ensures writes { OnlyWrites (told F.held F.written F.faults F.absences F.misuses F.creating F.place F.mark files.old)
-        (told F.held F.written F.faults F.absences F.misuses F.creating F.place F.mark files.new) }
+    ensures writes { OnlyWrites F.Files files.old files.new }
     ensures finished { OnOk result (F.creating files.new ≡ false) }
-    ensures written { OnOk result (Adds (F.written files.old) (F.written files.new) (string_bytes path, bytes.now)) }
+    ensures written { OnOk result (Adds (F.written files.old) (F.written files.new) ((string_bytes path, bytes.now) ∷ [])) }
     ensures fault { OnErr result (FaultAt (F.faults files.old) (F.faults files.new) (F.mark files.new) (F.place files.new) (string_bytes path)) }
     ensures front { OnErr result (AddsFront (F.written files.old) (F.written files.new) (string_bytes path, bytes.now)) }
 {

@@ -1,5 +1,6 @@
 // The run of a script, from the paths of its files to the text of its output.
-ghost use Rattle.std.specs.Prelude.{◌≡◌, ◌∷◌, [], IfOk, IfErr, IfSome, chars, string_bytes, option_map};
+ghost use Rattle.std.specs.Prelude.{◌≡◌, ◌∷◌, [], IfOk, chars, string_bytes, option_map};
+ghost use Rattle.std.specs.List.{AllByRecursion};
 ghost use Rattle.vtl_lists.specs.Sorting.{le_by, sorted_by};
 ghost use Rattle.vtl_cell.specs.Row.{row_cmp};
 ghost use Rattle.vtl_syntax.specs.View.{script_tree};
@@ -7,16 +8,15 @@ ghost use Rattle.vtl_tree.specs.BuiltView.{filter_view};
 ghost use Rattle.vtl_tree.specs.Clauses.{kept};
 ghost use Rattle.vtl_tree.specs.Rows.{rows_of};
 ghost use Rattle.vtl_tree.specs.Shown.{shown};
-ghost use Rattle.vtl_tree.specs.Structure.{key_width};
-ghost use Rattle.vtl_top.specs.Condition.{condition_in};
+ghost use Rattle.vtl_tree.specs.Structure.{columns_of, key_width};
 ghost use Rattle.vtl_csv.specs.CsvText.{csv_rows};
-ghost use Rattle.vtl_top.specs.OutputView.{NamesPath, output_view};
 ghost use Rattle.vtl_csv.specs.Points.{points_in};
-ghost use Rattle.vtl_top.specs.Answered.{Meets, MeetsRun, MeetsText, OnlyReads, Refuses, told};
-ghost use Rattle.vtl_top.specs.Expected.{content, csv_limit, file_in, from_columns, from_input, from_parsed, from_structures, input_path, reads_from_parsed, reads_from_structures, stage, structures_limit};
-ghost use Rattle.vtl_top.specs.Refusal.{IsFormed, IsOrMemory, IsRefusal, IsUnparsed};
+ghost use Rattle.vtl_top.specs.Answered.{Takes};
+ghost use Rattle.vtl_top.specs.Condition.{condition_in};
+ghost use Rattle.vtl_top.specs.Expected.{csv_limit, file_in, input_step, read, run_step, script_step, stage, statement_step, structures_limit, structures_step};
+ghost use Rattle.vtl_top.specs.OutputView.{NamesPath, output_view, outputs_view};
+ghost use Rattle.vtl_top.specs.Refusal.{IsFormed, IsOrMemory, IsScriptOf, IsScriptOfText, fault_of, refusal_of};
 ghost use Rattle.vtl_top.specs.RunView.{run_view};
-ghost use Rattle.vtl_top.specs.ScriptFile.{whole};
 ghost use Rattle.vtl_top.specs.StructuresFile.{structure_of};
 
 use crate::output::{Output, output_text};
@@ -58,11 +58,7 @@ fn read_file<F: Files>(
     path: &str,
     limit: usize,
 ) -> Result<Vec<u8>, Status>
-    ensures reads { OnlyReads (told F.held F.written F.faults F.absences F.misuses F.creating F.place F.mark files.old)
-        (told F.held F.written F.faults F.absences F.misuses F.creating F.place F.mark files.new) }
-    ensures cause { IfErr result (Refuses (told F.held F.written F.faults F.absences F.misuses F.creating F.place F.mark files.old)
-        (told F.held F.written F.faults F.absences F.misuses F.creating F.place F.mark files.new)) }
-    ensures meets { IfSome (F.held files.old) (λ held. Meets (λ v. v.items) (content path.now limit held) (path.now ∷ []) result) }
+    ensures { Takes F.Files files.old files.new (read path.now limit) (λ v. v.items) result }
 {
     match read_all(alloc, files, path, limit) {
         Ok(bytes) => Ok(bytes),
@@ -72,7 +68,7 @@ fn read_file<F: Files>(
 
 // The status that names the path of a file which was not read.
 fn refusal(alloc: Global, error: ReadErr, path: &str) -> Status
-    ensures { IsRefusal error path.now result }
+    ensures { IsOrMemory (refusal_of path.now error) result }
 {
     if let ReadErr::OutOfMemory = error {
         return Status::Memory;
@@ -128,11 +124,40 @@ fn not_text(alloc: Global, path: &str) -> Status
 
 // The status of a script file whose text is no script.
 fn unparsed(error: ParseErr) -> Status
-    ensures { IsUnparsed error result }
+    ensures { result ≡ fault_of error }
 {
     match error {
         ParseErr::Syntax { done, byte } => Status::Syntax { done, byte },
         ParseErr::OutOfMemory => Status::Memory,
+    }
+}
+
+// The tree of the script file.
+fn read_script<F: Files>(alloc: Global, files: &mut F, path: &str) -> Result<Script, Status>
+    ensures { Takes F.Files files.old files.new (script_step path.now) script_tree result }
+{
+    match read_file(alloc, files, path, SCRIPT_LIMIT) {
+        Ok(bytes) => script_of(alloc, path, &bytes),
+        Err(status) => Err(status),
+    }
+}
+
+// The script that the bytes of a file are.
+fn script_of(alloc: Global, path: &str, bytes: &[u8]) -> Result<Script, Status>
+    ensures { IsScriptOf path.now bytes.now result }
+{
+    match str::from_utf8(bytes) {
+        Ok(text) => parsed(alloc, text),
+        Err(_) => Err(not_text(alloc, path)),
+    }
+}
+
+fn parsed(alloc: Global, text: &str) -> Result<Script, Status>
+    ensures { IsScriptOfText text.now result }
+{
+    match parse(alloc, text) {
+        Ok(script) => Ok(script),
+        Err(error) => Err(unparsed(error)),
     }
 }
 
@@ -143,11 +168,7 @@ fn read_structure<F: Files>(
     path: &str,
     statement: &FilterStatement<'_>,
 ) -> Result<Structure, Status>
-    ensures reads { OnlyReads (told F.held F.written F.faults F.absences F.misuses F.creating F.place F.mark files.old)
-        (told F.held F.written F.faults F.absences F.misuses F.creating F.place F.mark files.new) }
-    ensures cause { IfErr result (Refuses (told F.held F.written F.faults F.absences F.misuses F.creating F.place F.mark files.old)
-        (told F.held F.written F.faults F.absences F.misuses F.creating F.place F.mark files.new)) }
-    ensures meets { IfSome (F.held files.old) (λ held. Meets (λ s. s) (stage path.now structures_limit (structure_of (filter_view statement.now)) held) (path.now ∷ []) result) }
+    ensures { Takes F.Files files.old files.new (stage path.now structures_limit (structure_of (filter_view statement.now))) (λ s. s) result }
 {
     let bytes = read_file(alloc, files, path, STRUCTURES_LIMIT)?;
     formed(alloc, path, structure(alloc, statement, &bytes))
@@ -163,13 +184,9 @@ fn read_points<F: Files>(
     keys: usize,
     profile: &Profile,
 ) -> Result<Vec<Vec<Cell>>, Status>
-    ensures reads { OnlyReads (told F.held F.written F.faults F.absences F.misuses F.creating F.place F.mark files.old)
-        (told F.held F.written F.faults F.absences F.misuses F.creating F.place F.mark files.new) }
-    ensures cause { IfErr result (Refuses (told F.held F.written F.faults F.absences F.misuses F.creating F.place F.mark files.old)
-        (told F.held F.written F.faults F.absences F.misuses F.creating F.place F.mark files.new)) }
-    ensures meets { IfSome (F.held files.old) (λ held. Meets (λ v. rows_of v.items)
-        (stage (file_in folder.now name.now) csv_limit (λ text. option_map (sorted_by (le_by row_cmp)) (points_in profile.now (shown columns.now) keys text)) held)
-        (file_in folder.now name.now ∷ []) result) }
+    ensures { Takes F.Files files.old files.new
+        (stage (file_in folder.now name.now) csv_limit (λ text. option_map (sorted_by (le_by row_cmp)) (points_in profile.now (shown columns.now) keys text)))
+        (λ v. rows_of v.items) result }
 {
     let path = file_in(alloc, folder, name)?;
     let bytes = read_file(alloc, files, path.as_str(), CSV_LIMIT)?;
@@ -195,19 +212,22 @@ fn make_output(
     Ok(Output { path, named, bytes })
 }
 
-// The output that the rows of the input give.
-fn output_from(
+// The outputs that the rows of the input give.
+fn make_outputs(
     alloc: Global,
     columns: &[&Component],
     run: Run,
     statement: &FilterStatement<'_>,
     rows: Vec<Vec<Cell>>,
-) -> Result<Output, AllocError>
-    ensures view { IfOk result (λ o. output_view o ≡ (file_in (run_view run.entry).output (filter_view statement.now).result, csv_rows (run_view run.entry).settings (shown columns.now) (kept (run_view run.entry).settings (condition_in (shown columns.now) (filter_view statement.now).condition) (rows_of rows.items)))) }
-    ensures named { IfOk result NamesPath }
+) -> Result<Vec<Output>, AllocError>
+    ensures view { IfOk result (λ o. outputs_view o ≡ (file_in (run_view run.entry).output (filter_view statement.now).result, csv_rows (run_view run.entry).settings (shown columns.now) (kept (run_view run.entry).settings (condition_in (shown columns.now) (filter_view statement.now).condition) (rows_of rows.items))) ∷ []) }
+    ensures named { IfOk result (λ o. AllByRecursion NamesPath o.items) }
 {
     let bytes = output_text(alloc, columns, statement.condition, rows, run.profile)?;
-    make_output(alloc, run.output, statement, bytes)
+    let output = make_output(alloc, run.output, statement, bytes)?;
+    let mut outputs = Vec::new(alloc);
+    outputs.push(output)?;
+    Ok(outputs)
 }
 
 // How many components identify points.
@@ -217,21 +237,17 @@ fn key_count(alloc: Global, structure: &Structure) -> Result<usize, AllocError>
     Ok(structure.identifiers(alloc)?.len())
 }
 
-// The input in these columns, of which the first `keys` are identifiers, and the output that it gives.
-fn read_columns<F: Files>(
+// The input in these columns, of which the first `keys` are identifiers, and the outputs that it gives.
+fn read_input<F: Files>(
     alloc: Global,
     files: &mut F,
     run: Run,
     statement: &FilterStatement<'_>,
     columns: &[&Component],
     keys: usize,
-) -> Result<Output, Status>
-    ensures reads { OnlyReads (told F.held F.written F.faults F.absences F.misuses F.creating F.place F.mark files.old)
-        (told F.held F.written F.faults F.absences F.misuses F.creating F.place F.mark files.new) }
-    ensures cause { IfErr result (Refuses (told F.held F.written F.faults F.absences F.misuses F.creating F.place F.mark files.old)
-        (told F.held F.written F.faults F.absences F.misuses F.creating F.place F.mark files.new)) }
-    ensures meets { IfSome (F.held files.old) (λ held. Meets output_view (from_columns (run_view run.entry) (filter_view statement.now) (shown columns.now) keys held) (input_path (run_view run.entry) (filter_view statement.now) ∷ []) result) }
-    ensures named { IfOk result NamesPath }
+) -> Result<Vec<Output>, Status>
+    ensures takes { Takes F.Files files.old files.new (input_step (run_view run.entry) (filter_view statement.now) (shown columns.now) keys) outputs_view result }
+    ensures named { IfOk result (λ o. AllByRecursion NamesPath o.items) }
 {
     let rows = read_points(
         alloc,
@@ -242,118 +258,64 @@ fn read_columns<F: Files>(
         keys,
         run.profile,
     )?;
-    let output = output_from(alloc, columns, run, statement, rows)?;
-    Ok(output)
+    let outputs = make_outputs(alloc, columns, run, statement, rows)?;
+    Ok(outputs)
 }
 
-// The input, and the output that it gives.
-fn read_input<F: Files>(
-    alloc: Global,
-    files: &mut F,
-    run: Run,
-    statement: &FilterStatement<'_>,
-    structure: &Structure,
-) -> Result<Output, Status>
-    ensures reads { OnlyReads (told F.held F.written F.faults F.absences F.misuses F.creating F.place F.mark files.old)
-        (told F.held F.written F.faults F.absences F.misuses F.creating F.place F.mark files.new) }
-    ensures cause { IfErr result (Refuses (told F.held F.written F.faults F.absences F.misuses F.creating F.place F.mark files.old)
-        (told F.held F.written F.faults F.absences F.misuses F.creating F.place F.mark files.new)) }
-    ensures meets { IfSome (F.held files.old) (λ held. Meets output_view (from_input (run_view run.entry) (filter_view statement.now) structure.now held) (input_path (run_view run.entry) (filter_view statement.now) ∷ []) result) }
-    ensures named { IfOk result NamesPath }
-{
-    let columns = structure.columns(alloc)?;
-    let keys = key_count(alloc, structure)?;
-    read_columns(alloc, files, run, statement, &columns, keys)
-}
-
-// The structures file, and the output that it and the input give.
+// The input of a structure, and the outputs that it gives.
 fn read_declared<F: Files>(
     alloc: Global,
     files: &mut F,
     run: Run,
     statement: &FilterStatement<'_>,
-) -> Result<Output, Status>
-    ensures reads { OnlyReads (told F.held F.written F.faults F.absences F.misuses F.creating F.place F.mark files.old)
-        (told F.held F.written F.faults F.absences F.misuses F.creating F.place F.mark files.new) }
-    ensures cause { IfErr result (Refuses (told F.held F.written F.faults F.absences F.misuses F.creating F.place F.mark files.old)
-        (told F.held F.written F.faults F.absences F.misuses F.creating F.place F.mark files.new)) }
-    ensures meets { IfSome (F.held files.old) (λ held. Meets output_view (from_structures (run_view run.entry) (filter_view statement.now) held) (reads_from_structures (run_view run.entry) (filter_view statement.now) held) result) }
-    ensures named { IfOk result NamesPath }
+    structure: &Structure,
+) -> Result<Vec<Output>, Status>
+    ensures takes { Takes F.Files files.old files.new (input_step (run_view run.entry) (filter_view statement.now) (columns_of structure.now) (key_width structure.now)) outputs_view result }
+    ensures named { IfOk result (λ o. AllByRecursion NamesPath o.items) }
 {
-    let structure = read_structure(alloc, files, run.structures, statement)?;
-    read_input(alloc, files, run, statement, &structure)
+    let columns = structure.columns(alloc)?;
+    let keys = key_count(alloc, structure)?;
+    read_input(alloc, files, run, statement, &columns, keys)
 }
 
-// The script's statement is that of its tree; then the structures file and the input, and the output that they give.
-fn read_built<F: Files>(
+// The structures file and the input, and the outputs that they give.
+fn read_structures<F: Files>(
+    alloc: Global,
+    files: &mut F,
+    run: Run,
+    statement: &FilterStatement<'_>,
+) -> Result<Vec<Output>, Status>
+    ensures takes { Takes F.Files files.old files.new (structures_step (run_view run.entry) (filter_view statement.now)) outputs_view result }
+    ensures named { IfOk result (λ o. AllByRecursion NamesPath o.items) }
+{
+    let structure = read_structure(alloc, files, run.structures, statement)?;
+    read_declared(alloc, files, run, statement, &structure)
+}
+
+// What the files give by the script's tree.
+fn carry_out<F: Files>(
     alloc: Global,
     files: &mut F,
     run: Run,
     script: &Script,
-) -> Result<Output, Status>
-    ensures reads { OnlyReads (told F.held F.written F.faults F.absences F.misuses F.creating F.place F.mark files.old)
-        (told F.held F.written F.faults F.absences F.misuses F.creating F.place F.mark files.new) }
-    ensures cause { IfErr result (Refuses (told F.held F.written F.faults F.absences F.misuses F.creating F.place F.mark files.old)
-        (told F.held F.written F.faults F.absences F.misuses F.creating F.place F.mark files.new)) }
-    ensures meets { IfSome (F.held files.old) (λ held. Meets output_view (from_parsed (whole (script_tree script.now)) (run_view run.entry) held) (reads_from_parsed (whole (script_tree script.now)) (run_view run.entry) held) result) }
-    ensures named { IfOk result NamesPath }
+) -> Result<Vec<Output>, Status>
+    ensures takes { Takes F.Files files.old files.new (statement_step (run_view run.entry) (script_tree script.now)) outputs_view result }
+    ensures named { IfOk result (λ o. AllByRecursion NamesPath o.items) }
 {
     match filter_statement(script) {
-        Some(statement) => read_declared(alloc, files, run, &statement),
+        Some(statement) => read_structures(alloc, files, run, &statement),
         None => Err(unbuilt(alloc, run.script)),
     }
 }
 
-// The script's text, and the output that it and the other files give.
-fn read_parsed<F: Files>(
-    alloc: Global,
-    files: &mut F,
-    run: Run,
-    text: &str,
-) -> Result<Output, Status>
-    ensures reads { OnlyReads (told F.held F.written F.faults F.absences F.misuses F.creating F.place F.mark files.old)
-        (told F.held F.written F.faults F.absences F.misuses F.creating F.place F.mark files.new) }
-    ensures cause { IfErr result (Refuses (told F.held F.written F.faults F.absences F.misuses F.creating F.place F.mark files.old)
-        (told F.held F.written F.faults F.absences F.misuses F.creating F.place F.mark files.new)) }
-    ensures meets { IfSome (F.held files.old) (λ held. MeetsText output_view (run_view run.entry) held text.now result) }
-    ensures named { IfOk result NamesPath }
-{
-    match parse(alloc, text) {
-        Ok(script) => read_built(alloc, files, run, &script),
-        Err(error) => Err(unparsed(error)),
-    }
-}
-
-// The bytes of the script, and the output that they and the other files give.
-fn read_script<F: Files>(
-    alloc: Global,
-    files: &mut F,
-    run: Run,
-    bytes: &[u8],
-) -> Result<Output, Status>
-    ensures reads { OnlyReads (told F.held F.written F.faults F.absences F.misuses F.creating F.place F.mark files.old)
-        (told F.held F.written F.faults F.absences F.misuses F.creating F.place F.mark files.new) }
-    ensures cause { IfErr result (Refuses (told F.held F.written F.faults F.absences F.misuses F.creating F.place F.mark files.old)
-        (told F.held F.written F.faults F.absences F.misuses F.creating F.place F.mark files.new)) }
-    ensures meets { IfSome (F.held files.old) (λ held. MeetsText output_view (run_view run.entry) held bytes.now result) }
-    ensures named { IfOk result NamesPath }
-{
-    match str::from_utf8(bytes) {
-        Ok(text) => read_parsed(alloc, files, run, text),
-        Err(_) => Err(not_text(alloc, run.script)),
-    }
-}
-
-/// Reads the files of a run, and makes its output: nothing is created. The answer is the output, or the first refusal
+/// Reads the files of a run, and makes its outputs: nothing is created. The answer is the outputs, or the first refusal
 /// of the files in the order script, structures file, input; or want of memory at any place.
-pub fn prepare<F: Files>(alloc: Global, files: &mut F, run: Run) -> Result<Output, Status>
-    ensures reads { OnlyReads (told F.held F.written F.faults F.absences F.misuses F.creating F.place F.mark files.old)
-        (told F.held F.written F.faults F.absences F.misuses F.creating F.place F.mark files.new) }
-    ensures cause { IfErr result (Refuses (told F.held F.written F.faults F.absences F.misuses F.creating F.place F.mark files.old)
-        (told F.held F.written F.faults F.absences F.misuses F.creating F.place F.mark files.new)) }
-    ensures meets { IfSome (F.held files.old) (λ held. MeetsRun output_view (run_view run.entry) held result) }
-    ensures named { IfOk result NamesPath }
+pub fn prepare<F: Files>(alloc: Global, files: &mut F, run: Run) -> Result<Vec<Output>, Status>
+    ensures takes { Takes F.Files files.old files.new (run_step (run_view run.entry)) outputs_view result }
+    ensures named { IfOk result (λ o. AllByRecursion NamesPath o.items) }
 {
-    let bytes = read_file(alloc, files, run.script, SCRIPT_LIMIT)?;
-    read_script(alloc, files, run, &bytes)
+    match read_script(alloc, files, run.script) {
+        Ok(script) => carry_out(alloc, files, run, &script),
+        Err(status) => Err(status),
+    }
 }

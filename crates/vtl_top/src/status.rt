@@ -1,8 +1,9 @@
 // What the program answers, with its code and its line.
-ghost use Rattle.std.specs.Prelude.{◌≡◌, ◌≤◌, ◌<◌, ◌≢◌, ◌+◌, ◌∷◌, [], ◌++◌, OnErr, OnOk, codes, decimal, encode_utf8_all};
+ghost use Rattle.std.specs.Prelude.{◌≡◌, ◌≤◌, ◌<◌, ◌+◌, ◌∷◌, [], OnErr, OnOk, decimal};
 ghost use Rattle.vtl_files.specs.Outside.{Rose, TakesAll};
 ghost use Rattle.vtl_files.specs.Whole.{TakesFront};
-ghost use Rattle.vtl_top.specs.StatusLine.{code_of, lead_of, line_of, path_of};
+ghost use Rattle.vtl_top.specs.PartView.{all_said, said_bytes};
+ghost use Rattle.vtl_top.specs.StatusLine.{code_of, line_of};
 
 use std::alloc::AllocError;
 use vtl_files::{Failed, Sink, sink_all};
@@ -54,37 +55,79 @@ impl Status {
         }
     }
 
-    fn lead(&self) -> &'static str
-        ensures { result.now ≡ lead_of self.now }
+    // The parts of its line.
+    fn parts(&self) -> [Part<'_>; 5]
+        ensures { all_said result ≡ line_of self.now }
     {
         match self {
-            Status::Done => "",
-            Status::Usage => "error: usage",
-            Status::Syntax { .. } => "error: syntax after ",
-            Status::NotText(_) => "error: not text: ",
-            Status::NoFile(_) => "error: no file: ",
-            Status::TooLong(_) => "error: too long: ",
-            Status::ReadFault(_) => "error: read fault: ",
-            Status::WriteFault(_) => "error: write fault: ",
-            Status::Memory => "error: memory",
-            Status::Unbuilt(_) => "error: unbuilt: ",
-        }
-    }
-
-    fn path(&self) -> &str
-        ensures { result.now ≡ encode_utf8_all (path_of self.now) }
-    {
-        match self {
-            Status::Done | Status::Usage | Status::Syntax { .. } | Status::Memory => "",
-            Status::NotText(path)
-            | Status::NoFile(path)
-            | Status::TooLong(path)
-            | Status::ReadFault(path)
-            | Status::WriteFault(path)
-            | Status::Unbuilt(path) => path.as_str(),
+            Status::Done => [NOTHING, NOTHING, NOTHING, NOTHING, NOTHING],
+            Status::Usage => [Part::Text("error: usage"), END, NOTHING, NOTHING, NOTHING],
+            Status::Syntax { done, byte } => [
+                Part::Text("error: syntax after "),
+                Part::Number(*done),
+                Part::Text(" statements at byte "),
+                Part::Number(*byte),
+                END,
+            ],
+            Status::NotText(path) => [
+                Part::Text("error: not text: "),
+                Part::Text(path.as_str()),
+                END,
+                NOTHING,
+                NOTHING,
+            ],
+            Status::NoFile(path) => [
+                Part::Text("error: no file: "),
+                Part::Text(path.as_str()),
+                END,
+                NOTHING,
+                NOTHING,
+            ],
+            Status::TooLong(path) => [
+                Part::Text("error: too long: "),
+                Part::Text(path.as_str()),
+                END,
+                NOTHING,
+                NOTHING,
+            ],
+            Status::ReadFault(path) => [
+                Part::Text("error: read fault: "),
+                Part::Text(path.as_str()),
+                END,
+                NOTHING,
+                NOTHING,
+            ],
+            Status::WriteFault(path) => [
+                Part::Text("error: write fault: "),
+                Part::Text(path.as_str()),
+                END,
+                NOTHING,
+                NOTHING,
+            ],
+            Status::Memory => [Part::Text("error: memory"), END, NOTHING, NOTHING, NOTHING],
+            Status::Unbuilt(path) => [
+                Part::Text("error: unbuilt: "),
+                Part::Text(path.as_str()),
+                END,
+                NOTHING,
+                NOTHING,
+            ],
         }
     }
 }
+
+/// A part of a line.
+#[derive(Clone, Copy)]
+enum Part<'a> {
+    /// A text.
+    Text(&'a str),
+    /// A number, in decimal digits.
+    Number(usize),
+}
+
+const NOTHING: Part<'static> = Part::Text("");
+
+const END: Part<'static> = Part::Text("\n");
 
 impl From<AllocError> for Status {
     ghost use Rattle.std.specs.Prelude.{◌≡◌};
@@ -97,60 +140,39 @@ impl From<AllocError> for Status {
     }
 }
 
-/// Hands the line that names a status to the sink: whole, unless the sink fails, and then a front of it.
+/// Hands the line that names a status to the sink: whole, unless the sink fails, and then a front of it. Done has none.
 /// It takes no memory.
 pub fn tell<O: Sink>(status: &Status, out: &mut O)
     ensures faults { O.faults out.old ≤ O.faults out.new }
     ensures whole { ¬ Rose (O.faults out.old) (O.faults out.new) → TakesAll (O.taken out.old) (O.taken out.new) (line_of status.now) }
     ensures front { TakesFront (O.taken out.old) (O.taken out.new) (line_of status.now) }
 {
-    let _ = write_status(status, out);
+    let _ = write_parts(&status.parts(), out);
 }
 
-fn write_status<O: Sink>(status: &Status, out: &mut O) -> Result<(), Failed>
+// The parts, one after the other.
+fn write_parts<O: Sink>(parts: &[Part<'_>], out: &mut O) -> Result<(), Failed>
     ensures faults { O.faults out.old ≤ O.faults out.new }
     ensures failed { OnErr result (Rose (O.faults out.old) (O.faults out.new)) }
-    ensures whole { OnOk result (TakesAll (O.taken out.old) (O.taken out.new) (line_of status.now)) }
-    ensures front { OnErr result (TakesFront (O.taken out.old) (O.taken out.new) (line_of status.now)) }
+    ensures whole { OnOk result (TakesAll (O.taken out.old) (O.taken out.new) (all_said parts.now)) }
+    ensures front { OnErr result (TakesFront (O.taken out.old) (O.taken out.new) (all_said parts.now)) }
 {
-    match status {
-        Status::Syntax { done, byte } => write_fault(status.lead(), *done, *byte, out),
-        _ => write_line(status.lead(), status.path(), out),
+    for part in parts {
+        write_part(*part, out)?;
     }
+    Ok(())
 }
 
-// A line of a lead and two numbers.
-fn write_fault<O: Sink>(lead: &str, done: usize, byte: usize, out: &mut O) -> Result<(), Failed>
+fn write_part<O: Sink>(part: Part<'_>, out: &mut O) -> Result<(), Failed>
     ensures faults { O.faults out.old ≤ O.faults out.new }
     ensures failed { OnErr result (Rose (O.faults out.old) (O.faults out.new)) }
-    ensures whole { OnOk result (TakesAll (O.taken out.old) (O.taken out.new) (lead.now ++ ((decimal done ++ (codes " statements at byte " ++ decimal byte)) ++ codes "\n"))) }
-    ensures front { OnErr result (TakesFront (O.taken out.old) (O.taken out.new) (lead.now ++ ((decimal done ++ (codes " statements at byte " ++ decimal byte)) ++ codes "\n"))) }
+    ensures whole { OnOk result (TakesAll (O.taken out.old) (O.taken out.new) (said_bytes part.entry)) }
+    ensures front { OnErr result (TakesFront (O.taken out.old) (O.taken out.new) (said_bytes part.entry)) }
 {
-    write_counted(lead, done, out)?;
-    write_counted_line(" statements at byte ", byte, out)
-}
-
-// A piece of a line that ends with a number.
-fn write_counted<O: Sink>(lead: &str, number: usize, out: &mut O) -> Result<(), Failed>
-    ensures faults { O.faults out.old ≤ O.faults out.new }
-    ensures failed { OnErr result (Rose (O.faults out.old) (O.faults out.new)) }
-    ensures whole { OnOk result (TakesAll (O.taken out.old) (O.taken out.new) (lead.now ++ decimal number)) }
-    ensures front { OnErr result (TakesFront (O.taken out.old) (O.taken out.new) (lead.now ++ decimal number)) }
-{
-    sink_all(out, lead.as_bytes())?;
-    write_number(number, out)
-}
-
-// The end of a line, with a number.
-fn write_counted_line<O: Sink>(lead: &str, number: usize, out: &mut O) -> Result<(), Failed>
-    ensures faults { O.faults out.old ≤ O.faults out.new }
-    ensures failed { OnErr result (Rose (O.faults out.old) (O.faults out.new)) }
-    ensures whole { OnOk result (TakesAll (O.taken out.old) (O.taken out.new) (lead.now ++ (decimal number ++ codes "\n"))) }
-    ensures front { OnErr result (TakesFront (O.taken out.old) (O.taken out.new) (lead.now ++ (decimal number ++ codes "\n"))) }
-{
-    sink_all(out, lead.as_bytes())?;
-    write_number(number, out)?;
-    sink_all(out, b"\n")
+    match part {
+        Part::Text(text) => sink_all(out, text.as_bytes()),
+        Part::Number(number) => write_number(number, out),
+    }
 }
 
 // A number digit by digit, the highest first, since no memory is taken.
@@ -175,15 +197,4 @@ fn write_digit<O: Sink>(digit: usize, out: &mut O) -> Result<(), Failed>
     ensures front { OnErr result (TakesFront (O.taken out.old) (O.taken out.new) ((48 + digit) ∷ [])) }
 {
     sink_all(out, &[b'0' + digit as u8])
-}
-
-fn write_line<O: Sink>(lead: &str, path: &str, out: &mut O) -> Result<(), Failed>
-    ensures faults { O.faults out.old ≤ O.faults out.new }
-    ensures failed { OnErr result (Rose (O.faults out.old) (O.faults out.new)) }
-    ensures whole { OnOk result (TakesAll (O.taken out.old) (O.taken out.new) (lead.now ++ (path.now ++ codes "\n"))) }
-    ensures front { OnErr result (TakesFront (O.taken out.old) (O.taken out.new) (lead.now ++ (path.now ++ codes "\n"))) }
-{
-    sink_all(out, lead.as_bytes())?;
-    sink_all(out, path.as_bytes())?;
-    sink_all(out, b"\n")
 }

@@ -1,17 +1,16 @@
 // The top call.
-ghost use Rattle.std.specs.Prelude.{◌≡◌, ◌≢◌, ◌≤◌, ◌↔◌, None, Some, false, map, IfSome, IsTrue, string_bytes};
+ghost use Rattle.std.specs.Prelude.{◌≡◌, ◌≢◌, ◌≤◌, ◌↔◌, None, Some, false, map, IsTrue, string_bytes};
 ghost use Rattle.vtl_files.specs.Outside.{Rose, TakesAll};
 ghost use Rattle.vtl_files.specs.Whole.{TakesFront};
-ghost use Rattle.vtl_top.specs.Answered.{HasCause, IsClosed, IsWritten, StatusFits, Writes, told};
-ghost use Rattle.vtl_top.specs.Expected.{run_of};
-ghost use Rattle.vtl_top.specs.OutputView.{NamesPath, output_view};
-ghost use Rattle.vtl_top.specs.RunView.{run_view};
+ghost use Rattle.vtl_top.specs.Answered.{Ends};
+ghost use Rattle.vtl_top.specs.Expected.{asked_step, command_of, run_step};
+ghost use Rattle.vtl_top.specs.RunView.{command_view, run_view};
 ghost use Rattle.vtl_top.specs.StatusLine.{line_of};
 
-use crate::output::{Output, write_file};
+use crate::output::write_outputs;
 use crate::run::prepare;
 use crate::status::{Status, tell};
-use crate::words::{Run, default_profile, run_words};
+use crate::words::{Run, command_of, default_profile};
 use std::alloc::Global;
 use vtl_files::{Files, Sink};
 
@@ -28,26 +27,15 @@ pub fn vtl<F: Files, O: Sink>(alloc: Global, words: &[String], files: &mut F, ou
     ensures absences { F.absences files.old ≤ F.absences files.new }
 
     // The words alone tell whether they have a form.
-    ensures usage { (result ≡ Status.Usage) ↔ (run_of (map string_bytes words.now) ≡ None) }
+    ensures usage { (result ≡ Status.Usage) ↔ (command_of (map string_bytes words.now) ≡ None) }
 
-    // Where the held files are told, the status is the first refusal of the words and the held bytes, or Done; or a
-    // fault at a path that is read up to there, or at the output; or want of memory.
-    ensures status { IfSome (F.held files.old) (λ held. StatusFits (run_of (map string_bytes words.now)) held result) }
+    // How the call ended, by the kind of the status: what was written, what is closed, the cause, and where the held files
+    // are told, what the words and the held bytes give.
+    ensures ends { Ends F.Files files.old files.new (asked_step (command_of (map string_bytes words.now))) result }
 
-    // No file, and faults of reading and writing, come only by a count that rose, at the path that the status names.
-    ensures cause { HasCause (told F.held F.written F.faults F.absences F.misuses F.creating F.place F.mark files.old)
-        (told F.held F.written F.faults F.absences F.misuses F.creating F.place F.mark files.new) result }
-
-    // A file is left unfinished only after a fault of writing.
-    ensures closed { IsClosed (F.creating files.new) result }
-
-    // On Done exactly the output is written; after a fault of writing a front of it; else nothing.
-    ensures written { Writes (run_of (map string_bytes words.now)) (told F.held F.written F.faults F.absences F.misuses F.creating F.place F.mark files.old)
-        (told F.held F.written F.faults F.absences F.misuses F.creating F.place F.mark files.new) result }
-
-    // The line of a status other than Done, whole where the sink has not failed; on Done the sink is as before.
-    ensures line { result ≢ Status.Done → ¬ Rose (O.faults out.old) (O.faults out.new) → TakesAll (O.taken out.old) (O.taken out.new) (line_of result) }
-    ensures front { result ≢ Status.Done → TakesFront (O.taken out.old) (O.taken out.new) (line_of result) }
+    // The line of the status, whole where the sink has not failed; on Done the sink is as before.
+    ensures line { ¬ Rose (O.faults out.old) (O.faults out.new) → TakesAll (O.taken out.old) (O.taken out.new) (line_of result) }
+    ensures front { TakesFront (O.taken out.old) (O.taken out.new) (line_of result) }
     ensures quiet { result ≡ Status.Done → out.new ≡ out.old }
     ensures sink_faults { O.faults out.old ≤ O.faults out.new }
 {
@@ -71,16 +59,11 @@ fn answer<F: Files>(alloc: Global, words: &[String], files: &mut F) -> Status
     ensures misuses { F.misuses files.new ≡ F.misuses files.old }
     ensures faults { F.faults files.old ≤ F.faults files.new }
     ensures absences { F.absences files.old ≤ F.absences files.new }
-    ensures usage { (result ≡ Status.Usage) ↔ (run_of (map string_bytes words.now) ≡ None) }
-    ensures status { IfSome (F.held files.old) (λ held. StatusFits (run_of (map string_bytes words.now)) held result) }
-    ensures cause { HasCause (told F.held F.written F.faults F.absences F.misuses F.creating F.place F.mark files.old)
-        (told F.held F.written F.faults F.absences F.misuses F.creating F.place F.mark files.new) result }
-    ensures closed { IsClosed (F.creating files.new) result }
-    ensures written { Writes (run_of (map string_bytes words.now)) (told F.held F.written F.faults F.absences F.misuses F.creating F.place F.mark files.old)
-        (told F.held F.written F.faults F.absences F.misuses F.creating F.place F.mark files.new) result }
+    ensures usage { (result ≡ Status.Usage) ↔ (command_of (map string_bytes words.now) ≡ None) }
+    ensures ends { Ends F.Files files.old files.new (asked_step (command_of (map string_bytes words.now))) result }
 {
     let profile = default_profile();
-    match run_words(words, &profile) {
+    match command_of(words, &profile) {
         Some(run) => carry_out(alloc, files, run),
         None => Status::Usage,
     }
@@ -94,33 +77,10 @@ fn carry_out<F: Files>(alloc: Global, files: &mut F, run: Run) -> Status
     ensures faults { F.faults files.old ≤ F.faults files.new }
     ensures absences { F.absences files.old ≤ F.absences files.new }
     ensures usage { result ≢ Status.Usage }
-    ensures status { IfSome (F.held files.old) (λ held. StatusFits (Some (run_view run.entry)) held result) }
-    ensures cause { HasCause (told F.held F.written F.faults F.absences F.misuses F.creating F.place F.mark files.old)
-        (told F.held F.written F.faults F.absences F.misuses F.creating F.place F.mark files.new) result }
-    ensures closed { IsClosed (F.creating files.new) result }
-    ensures written { Writes (Some (run_view run.entry)) (told F.held F.written F.faults F.absences F.misuses F.creating F.place F.mark files.old)
-        (told F.held F.written F.faults F.absences F.misuses F.creating F.place F.mark files.new) result }
+    ensures ends { Ends F.Files files.old files.new (run_step (run_view run.entry)) result }
 {
     match prepare(alloc, files, run) {
-        Ok(output) => write_output(files, output),
+        Ok(outputs) => write_outputs(files, outputs),
         Err(status) => status,
-    }
-}
-
-// Writes the output. No memory is taken.
-fn write_output<F: Files>(files: &mut F, output: Output) -> Status
-    requires idle { F.creating files.old ≡ false }
-    requires named { NamesPath output }
-    ensures held { F.held files.new ≡ F.held files.old }
-    ensures misuses { F.misuses files.new ≡ F.misuses files.old }
-    ensures faults { F.faults files.old ≤ F.faults files.new }
-    ensures absences { F.absences files.new ≡ F.absences files.old }
-    ensures written { IsWritten (output_view output) (told F.held F.written F.faults F.absences F.misuses F.creating F.place F.mark files.old)
-        (told F.held F.written F.faults F.absences F.misuses F.creating F.place F.mark files.new) result }
-{
-    let Output { path, named, bytes } = output;
-    match write_file(files, path, &bytes) {
-        Ok(()) => Status::Done,
-        Err(_) => Status::WriteFault(named),
     }
 }

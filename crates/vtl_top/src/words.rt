@@ -1,7 +1,7 @@
 // The words of the command line.
 ghost use Rattle.std.specs.Prelude.{◌≡◌, ◌∷◌, [], map, option_map, string_bytes};
-ghost use Rattle.vtl_top.specs.Expected.{default_settings, is_path, run_of};
-ghost use Rattle.vtl_top.specs.RunView.{run_view};
+ghost use Rattle.vtl_top.specs.Expected.{command_of, default_settings, is_path};
+ghost use Rattle.vtl_top.specs.RunView.{command_view};
 
 use vtl_decimal::{Profile, Rounding};
 
@@ -21,16 +21,16 @@ fn is_path(word: &str) -> bool
     !word.is_empty()
 }
 
-/// The run that the words ask for: `run SCRIPT STRUCTURES IN OUT`, each a path that is not empty. It has this profile,
+/// The command that the words are, so far one: `run SCRIPT STRUCTURES IN OUT`, each a path that is not empty. It has this profile,
 /// which is the default one.
-pub fn run_words<'a>(words: &'a [String], profile: &'a Profile) -> Option<Run<'a>>
+pub fn command_of<'a>(words: &'a [String], profile: &'a Profile) -> Option<Run<'a>>
     requires { profile.now ≡ default_settings }
-    ensures { option_map run_view result ≡ run_of (map string_bytes words.now) }
+    ensures { option_map command_view result ≡ command_of (map string_bytes words.now) }
 {
     if words.len() != 5 {
         return None;
     }
-    paths(
+    run_of(
         words[0].as_str(),
         words[1].as_str(),
         words[2].as_str(),
@@ -40,7 +40,7 @@ pub fn run_words<'a>(words: &'a [String], profile: &'a Profile) -> Option<Run<'a
     )
 }
 
-fn paths<'a>(
+fn run_of<'a>(
     command: &str,
     script: &'a str,
     structures: &'a str,
@@ -49,7 +49,7 @@ fn paths<'a>(
     profile: &'a Profile,
 ) -> Option<Run<'a>>
     requires { profile.now ≡ default_settings }
-    ensures { option_map run_view result ≡ run_of (command.now ∷ script.now ∷ structures.now ∷ input.now ∷ output.now ∷ []) }
+    ensures { option_map command_view result ≡ command_of (command.now ∷ script.now ∷ structures.now ∷ input.now ∷ output.now ∷ []) }
 {
     if command == "run"
         && is_path(script)
