@@ -72,3 +72,7 @@ module _ (columns : List Column) (n : ℕ) (cells : List Cell) (rows : List Row)
 
   pub row_wide : (i : ℕ) → i < length rows → length (take width (drop (i * width) cells)) ≡ width
   row_wide i h = let w = row_within i h in let l = length-drop (i * width) cells in length-take-le width (drop (i * width) cells) (omega (arith, w, l))
+
+-- as many rows as cells at most
+pub rows_few : (columns : List Column) (n : ℕ) (cells : List Cell) → IsFlat columns n cells → n ≤ length cells
+rows_few columns n cells flat = let up = mul-le n 1 n (length columns) (le_refl n) flat.wide in omega (arith, up, flat.whole)
