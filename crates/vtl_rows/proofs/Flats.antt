@@ -1,14 +1,15 @@
 -- Rows in a flat list of cells.
 use Rattle.std.proofs.Common.{◌≡◌, ℕ, zero, suc, ◌+◌, ◌*◌, ◌<◌, ◌≤◌, List, [], ◌∷◌, ◌++◌, Bool, true, false, ◌&&◌, length, length-append, get_or, take, drop, arith, refl, sym, ap, subst, ◌∙◌, true≢false}
-use Rattle.std.proofs.lemmas.List.{take-append-le, drop-append-le, take_all, length-take-le, length-drop, drop-drop}
+use Rattle.std.proofs.lemmas.List.{length-map, take-append-le, drop-append-le, take_all, length-take-le, length-drop, drop-drop}
 use Rattle.std.proofs.lemmas.Nat.{mul-le}
 use Rattle.std.proofs.Math.Nat.{le_refl}
 use Rattle.vtl_cell.specs.declared.cell.Cell.{Cell}
 use Rattle.vtl_cell.specs.Kinds.{is_of}
+use Rattle.vtl_cell.specs.declared.kind.Kind.{Kind}
 use Rattle.vtl_cell.specs.Row.{Row}
 use Rattle.vtl_rows.specs.declared.column.Column.{Column}
 use Rattle.vtl_rows.specs.Flat.{rows_of, IsFlat}
-use Rattle.vtl_rows.specs.Tables.{fits}
+use Rattle.vtl_rows.specs.Tables.{fits, fits_kinds, kinds_of}
 
 pub length-rows_of : (width n : ℕ) (cells : List Cell) → length (rows_of width n cells) ≡ n
 length-rows_of width zero cells = refl
@@ -46,11 +47,14 @@ fits_both : (a b : Bool) → (a && b) ≡ true → b ≡ true
 fits_both true b e = e
 fits_both false b e = absurd (true≢false (sym e))
 
+fits_count : (kinds : List Kind) (row : Row) → fits_kinds kinds row ≡ true → length row ≡ length kinds
+fits_count [] [] e = refl
+fits_count [] (x ∷ xs) e = absurd (true≢false (sym e))
+fits_count (k ∷ ks) [] e = absurd (true≢false (sym e))
+fits_count (k ∷ ks) (x ∷ xs) e = let h = fits_count ks xs (fits_both (is_of k x) (fits_kinds ks xs) e) in omega (arith, h)
+
 pub fits_wide : (columns : List Column) (row : Row) → fits columns row ≡ true → length row ≡ length columns
-fits_wide [] [] e = refl
-fits_wide [] (x ∷ xs) e = absurd (true≢false (sym e))
-fits_wide (k ∷ ks) [] e = absurd (true≢false (sym e))
-fits_wide (k ∷ ks) (x ∷ xs) e = let h = fits_wide ks xs (fits_both (is_of k.kind x) (fits ks xs) e) in omega (arith, h)
+fits_wide columns row e = let l : length (kinds_of columns) ≡ length columns = simp length-map refl in fits_count (kinds_of columns) row e ∙ l
 
 pub IsFlat-push : (columns : List Column) (n : ℕ) (cells row : List Cell) → IsFlat columns n cells → length row ≡ length columns → IsFlat columns (n + 1) (cells ++ row)
 IsFlat-push columns n cells row flat h = let l = length-append cells row in record { wide = flat.wide; whole = omega (arith, l, h, flat.whole) }
@@ -68,3 +72,7 @@ module _ (columns : List Column) (n : ℕ) (cells : List Cell) (rows : List Row)
 
   pub row_wide : (i : ℕ) → i < length rows → length (take width (drop (i * width) cells)) ≡ width
   row_wide i h = let w = row_within i h in let l = length-drop (i * width) cells in length-take-le width (drop (i * width) cells) (omega (arith, w, l))
+
+-- as many rows as cells at most
+pub rows_few : (columns : List Column) (n : ℕ) (cells : List Cell) → IsFlat columns n cells → n ≤ length cells
+rows_few columns n cells flat = let up = mul-le n 1 n (length columns) (le_refl n) flat.wide in omega (arith, up, flat.whole)

@@ -1,29 +1,14 @@
 -- Rows that tie by keys agree in their columns, and stand together in order.
-use Rattle.std.proofs.Common.{◌≡◌, ℕ, List, [], ◌∷◌, map, Bool, true, false, not, ◌&&◌, refl, sym, ap, ◌∙◌, subst, true≢false}
-use Rattle.std.specs.Cmp.{IsTotalOrder}
+use Rattle.std.proofs.Common.{◌≡◌, ℕ, List, [], ◌∷◌, map, true, not, ◌&&◌, refl, sym, ap, ◌∙◌, true≢false}
+use Rattle.std.specs.Cmp.{IsTotalOrder, Equal-is}
 use Rattle.std.specs.Ordering.{is_lt, is_eq, ordering_then, ordering_reverse}
 use Rattle.std.specs.declared.cmp.Ordering.{Ordering}
 use Rattle.std.specs.declared.cmp.Ordering.TheVariants.{Less, Equal, Greater}
 use Rattle.vtl_lists.specs.Sorting.{le_by}
-use Rattle.vtl_cell.specs.declared.cell.Cell.{Cell}
-use Rattle.vtl_cell.specs.Equal.{same_cell}
-use Rattle.vtl_cell.specs.Order.{cell_cmp}
+use Rattle.vtl_cell.specs.Order.{cell_cmp, same_cell}
 use Rattle.vtl_cell.specs.Row.{Row, column_of}
 use Rattle.vtl_cell.specs.Sorted.{by_keys, rising}
-use Rattle.vtl_cell.proofs.Cells.{same_cell-is, same_cell-refl}
-use Rattle.vtl_cell.proofs.Orders.{cell_cmp_total, cell_cmp-ties}
 use Rattle.vtl_rows.specs.Keys.{agree}
-
--- ---- total orders
-self : (r : Ordering) → r ≡ ordering_reverse r → r ≡ Equal
-self Less e = cc
-self Equal e = refl
-self Greater e = cc
-
-is_Equal : (r : Ordering) → is_eq r ≡ true → r ≡ Equal
-is_Equal Less e = absurd (true≢false (sym e))
-is_Equal Equal e = refl
-is_Equal Greater e = absurd (true≢false (sym e))
 
 module _ {X : Type 0} {R : X → X → Ordering} (o : IsTotalOrder R) where
   pub ties_turn : (x y : X) → is_eq (R x y) ≡ is_eq (R y x)
@@ -37,7 +22,7 @@ module _ {X : Type 0} {R : X → X → Ordering} (o : IsTotalOrder R) where
   -- what lies between two that tie ties with them
   pub ties_between : (x y z : X) → le_by R x y ≡ true → le_by R y z ≡ true → is_eq (R x z) ≡ true → is_eq (R x y) ≡ true
   ties_between x y z e h t =
-      let one : R x y ≡ R z y = o.congr x z y (is_Equal (R x z) t) in
+      let one : R x y ≡ R z y = o.congr x z y ((Equal-is (R x z)).0 t) in
       squeezed (R x y) (R y x) (R z y) (o.antisymm x y) one e h
     where
       squeezed : (p q r : Ordering) → p ≡ ordering_reverse q → p ≡ r → not (is_lt q) ≡ true → not (is_lt r) ≡ true → is_eq p ≡ true
@@ -48,15 +33,6 @@ module _ {X : Type 0} {R : X → X → Ordering} (o : IsTotalOrder R) where
       squeezed Greater Greater r a b e h = cc
 
 -- ---- ties by rising keys
-same_by_order : (a b : Cell) → is_eq (cell_cmp a b) ≡ same_cell a b
-same_by_order a b = go (is_eq (cell_cmp a b)) refl (same_cell a b) refl
-  where
-    go : (p : Bool) → is_eq (cell_cmp a b) ≡ p → (q : Bool) → same_cell a b ≡ q → p ≡ q
-    go true e true h = refl
-    go true e false h = sym (subst (λ k. same_cell a k ≡ true) (cell_cmp-ties a b (is_Equal _ e)) (same_cell-refl a)) ∙ h
-    go false e true h = sym e ∙ subst (λ k. is_eq (cell_cmp a k) ≡ true) (same_cell-is a b h) (ap is_eq (self (cell_cmp a a) (cell_cmp_total.antisymm a a)))
-    go false e false h = refl
-
 both_tie : (r s : Ordering) → is_eq (ordering_then r s) ≡ (is_eq r && is_eq s)
 both_tie Less s = refl
 both_tie Equal s = refl
@@ -66,5 +42,4 @@ pub ties_agree : (places : List ℕ) (r s : Row) → is_eq (by_keys (map rising 
 ties_agree [] r s = refl
 ties_agree (i ∷ is) r s =
     both_tie (cell_cmp (column_of i r) (column_of i s)) (by_keys (map rising is) r s)
-    ∙ ap (λ b. b && is_eq (by_keys (map rising is) r s)) (same_by_order (column_of i r) (column_of i s))
     ∙ ap (λ b. same_cell (column_of i r) (column_of i s) && b) (ties_agree is r s)

@@ -1,6 +1,7 @@
 -- A table as contracts see it: its columns, and the list of its rows.
 use Rattle.std.specs.Prelude.{ℕ, Bool, true, false, ◌&&◌, List, [], ◌∷◌, map, slice_index_or}
 use Rattle.vtl_cell.specs.Kinds.{is_of}
+use Rattle.vtl_cell.specs.declared.kind.Kind.{Kind}
 use Rattle.vtl_cell.specs.declared.kind.Kind.TheVariants as k
 use Rattle.vtl_cell.specs.Row.{Row, column_of}
 use Rattle.vtl_rows.specs.declared.column.Column.{Column}
@@ -9,12 +10,19 @@ pub record Listed : Type 0 where
   pub columns : List Column
   pub rows : List Row
 
--- a row has one cell for each column, null or of its kind
+-- a row has one cell for each kind, null or of it
+abbrev pub fits_kinds : List Kind → Row → Bool
+fits_kinds [] [] = true
+fits_kinds [] (x ∷ xs) = false
+fits_kinds (kind ∷ kinds) [] = false
+fits_kinds (kind ∷ kinds) (x ∷ xs) = is_of kind x && fits_kinds kinds xs
+
+abbrev pub kinds_of : List Column → List Kind
+kinds_of columns = map (λ c. c.kind) columns
+
+-- one cell for each column, null or of its kind
 abbrev pub fits : List Column → Row → Bool
-fits [] [] = true
-fits [] (x ∷ xs) = false
-fits (c ∷ cs) [] = false
-fits (c ∷ cs) (x ∷ xs) = is_of c.kind x && fits cs xs
+fits columns row = fits_kinds (kinds_of columns) row
 
 -- the cells of a row at listed places
 abbrev pub cells_at : List ℕ → Row → Row

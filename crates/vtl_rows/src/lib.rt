@@ -6,6 +6,8 @@ mod order;
 mod project;
 mod table;
 mod tables;
+#[cfg(test)]
+mod tests;
 
 pub use column::{Column, SortKey};
 pub use table::Table;

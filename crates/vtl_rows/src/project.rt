@@ -41,7 +41,8 @@ pub(crate) fn chosen_cells(
 ) -> Result<Vec<Cell>, AllocError>
     ensures { IfOk result (λ cells. cells.items ≡ flat_map (cells_at places.now) table.now.rows) }
 {
-    let mut cells = Vec::new(alloc);
+    let count = table.len().saturating_mul(places.len());
+    let mut cells = Vec::with_capacity(alloc, count)?;
     for i in 0..table.len() {
         append_chosen(&mut cells, table.row(i), places)?;
     }
