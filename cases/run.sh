@@ -1,6 +1,6 @@
 #!/bin/sh
 # Runs all of cases/ and examples/ by the built programs, in a few seconds: cases/run.sh [NAME ..], where a NAME is a folder
-# of cases/, or `examples`. Prints what differs, and at the end 'N passed, M failed'.
+# of cases/, `examples` or `launcher`. Prints what differs, and at the end 'N passed, M failed'.
 top=$(CDPATH='' cd -- "$(dirname -- "$0")/.." && pwd) || exit 1
 vtl=$top/crates/vtl/out/vtl
 probe=$top/crates/vtl_probe/out/vtl_probe
@@ -52,7 +52,7 @@ printed() {
 called() {
     set --
     while IFS= read -r word || [ "$word" ]; do set -- "$@" "$word"; done <"$words"
-    (cd "$folder" && "$vtl" "$@" >"$made/said" 2>"$made/told" </dev/null)
+    (cd "$folder" && "$program" "$@" >"$made/said" 2>"$made/told" </dev/null)
 }
 
 # A whole run: a folder with its files, and what is wanted.
@@ -104,6 +104,7 @@ for program in "$vtl" "$probe"; do
     [ -x "$program" ] || fail "there is no program at $program; scripts/build.sh $(basename "$program") builds it"
 done
 cd "$top" || exit 1
+program=$vtl
 for folder in cases/*/; do
     word=$(basename "$folder")
     wanted "$word" || continue
@@ -122,6 +123,11 @@ for folder in cases/*/; do
 done
 if wanted examples; then
     for case in examples/*/; do run "$top/${case%/}"; done
+fi
+# The launcher hands its words on, and the exit code back.
+if wanted launcher && [ -x "$vtl" ]; then
+    program=$top/vtl
+    for case in words_none no_script filter_keeps_points_above_five; do run "$top/cases/run/$case"; done
 fi
 echo "$passed passed, $failed failed"
 [ "$failed" = 0 ]
