@@ -19,7 +19,7 @@ pub use laws::{filter_is_a_clause, points_are_a_map};
 pub use plain::filter_points;
 pub use seen::Seen;
 pub use structure::{Component, Role, Structure};
-pub use structures::Structures;
+pub use structures::{Structures, are_distinct};
 
 #[cfg(test)]
 mod tests;
