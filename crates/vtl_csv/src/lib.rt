@@ -1,5 +1,5 @@
-//! CSV texts of data sets: the points that a text holds, and the text of points. So far plain lines are read: ASCII
-//! without double quotes.
+//! CSV texts: the structures that a structures file declares, the points that a text holds, and the text of points. So
+//! far points are read from plain lines: ASCII without double quotes.
 #![tactic(auto)]
 
 mod declarations;
@@ -18,3 +18,6 @@ pub use reading::{column, points};
 pub use records::RecordReader;
 pub use structures::{StructErr, read_structures};
 pub use writing::csv_text;
+
+#[cfg(test)]
+mod tests;
