@@ -1,4 +1,5 @@
 pub mod DataSetLemmas
+pub mod DeclarationLemmas
 pub mod FieldLemmas
 pub mod KeyOrderLemmas
 pub mod PlainTextLemmas

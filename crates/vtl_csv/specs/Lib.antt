@@ -1,6 +1,10 @@
 pub mod CsvText
+pub mod DeclarationFields
+pub mod Declarations
+pub mod FaultFields
 pub mod Fields
 pub mod PlainText
 pub mod Points
 pub mod RecordsLeft
 pub mod RowsWritten
+pub mod StructuresFile

@@ -1,17 +1,23 @@
-//! CSV texts of data sets: the points that a text holds, and the text of points. So far plain lines are read: ASCII
-//! without double quotes.
+//! CSV texts: the structures that a structures file declares, the points that a text holds, and the text of points. So
+//! far points are read from plain lines: ASCII without double quotes.
 #![tactic(auto)]
 
+mod declarations;
 mod fields;
 mod laws;
 mod plain;
 mod reading;
 mod records;
 mod row_text;
+mod structures;
 mod writing;
 
 pub use laws::{output_rises_by_identifiers, points_are_a_data_set};
 pub use plain::{has_plain_lines, plain_lines_are_lines};
 pub use reading::{column, points};
 pub use records::RecordReader;
+pub use structures::{StructErr, read_structures};
 pub use writing::csv_text;
+
+#[cfg(test)]
+mod tests;

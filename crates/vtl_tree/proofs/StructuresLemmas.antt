@@ -1,5 +1,5 @@
 -- Named structures stay what they are as more are put, and as one of them gains a component.
-use Rattle.std.proofs.Common.{◌≡◌, ℕ, zero, suc, ◌≤◌, ◌<◌, ◌+◌, Bool, true, false, cond, not, ◌&&◌, ◌||◌, nat_le, List, [], ◌∷◌, ◌++◌, map, length, slice_get, Option, Some, None, Result, Ok, Err, subst, refl, sym, ap, ◌∙◌, true≢false, arith, if◌then◌else◌}
+use Rattle.std.proofs.Common.{◌≡◌, ℕ, zero, suc, ◌≤◌, ◌<◌, ◌+◌, Bool, true, false, cond, not, ◌&&◌, ◌||◌, nat_le, List, [], ◌∷◌, ◌++◌, map, length, slice_get, Option, Some, None, get_or, take, Result, Ok, Err, subst, refl, sym, ap, ◌∙◌, true≢false, arith, if◌then◌else◌}
 use Rattle.std.specs.Prelude.{OnOk, OnErr}
 use Rattle.std.specs.List.{list_all, list_any}
 use Rattle.std.specs.Map.{keys_of, lookup, set_value}
@@ -10,6 +10,8 @@ use Rattle.std.proofs.lemmas.List.Folds.{list_any-append}
 use Rattle.std.proofs.lemmas.Map.Steps.{set_value_same}
 use Rattle.std.specs.Cmp.Lexicographic.{nat_list_eq_equiv}
 use Rattle.indexmap.specs.IndexMap.{insert_entry}
+use Rattle.indexmap.specs.IndexSet.{insert_key}
+use Rattle.std.proofs.lemmas.List.{take_more}
 use Rattle.vtl_lists.specs.Apart.{all_apart}
 use Rattle.vtl_tree.specs.declared.structure.Component.{Component}
 use Rattle.vtl_tree.specs.declared.structure.Structure.{Structure}
@@ -197,3 +199,37 @@ pub began : {A E : Type 0} (xs old new : Named) (name : List ℕ) (x : Component
     → s ≡ structure_of (x ∷ []) → OnOk r (new ≡ old ++ (name, s) ∷ []) → OnOk r (new ≡ with_component name x xs)
 began xs old new name x s (Ok a) same none e q = q ∙ ap (λ l. l ++ (name, s) ∷ []) same ∙ ap (λ t. xs ++ (name, t) ∷ []) e ∙ sym (begins_data_set xs name x (not_there xs name none))
 began xs old new name x s (Err a) same none e q = tt
+
+any_at : (p : List ℕ → Bool) (xs : List (List ℕ)) (i : ℕ) (x : List ℕ) → i < length xs → x ≡ get_or xs i x → p x ≡ true → list_any p xs ≡ true
+any_at p [] i x h e t = absurd (omega (arith, h))
+any_at p (y ∷ ys) zero x h e t = ap (λ b. b || list_any p ys) (ap p (sym e) ∙ t)
+any_at p (y ∷ ys) (suc i) x h e t = ap (λ b. p y || b) (any_at p ys i x (omega (arith, h)) e t) ∙ or_true (p y)
+  where
+    or_true : (b : Bool) → (b || true) ≡ true
+    or_true true = refl
+    or_true false = refl
+
+-- a text that stands before is repeated
+pub repeated : (xs : List (List ℕ)) (i : ℕ) (x : List ℕ) → i < length xs → x ≡ get_or xs i x → list_any (same_name x) (take i xs) ≡ true → false ≡ all_apart same_name xs
+repeated [] i x h e t = absurd (omega (arith, h))
+repeated (y ∷ ys) zero x h e t = cc
+repeated (y ∷ ys) (suc i) x h e t = go (same_name x y) refl t (repeated ys i x (omega (arith, h)) e)
+  where
+    at : same_name x y ≡ true → list_any (same_name y) ys ≡ true
+    at s = any_at (same_name y) ys i x (omega (arith, h)) e (nat_list_eq_equiv.symm y x ∙ s)
+
+    and_false : (b : Bool) → false ≡ (b && false)
+    and_false true = refl
+    and_false false = refl
+
+    go : (b : Bool) → same_name x y ≡ b → (b || list_any (same_name x) (take i ys)) ≡ true → (list_any (same_name x) (take i ys) ≡ true → false ≡ all_apart same_name ys)
+        → false ≡ (not (list_any (same_name y) ys) && all_apart same_name ys)
+    go true s q ih = ap (λ b. not b && all_apart same_name ys) (sym (at s))
+    go false s q ih = and_false (not (list_any (same_name y) ys)) ∙ ap (λ b. not (list_any (same_name y) ys) && b) (ih q)
+
+-- one more text, which does not stand before
+pub one_more : (xs seen : List (List ℕ)) (i : ℕ) (x : List ℕ) → i < length xs → x ≡ get_or xs i x → seen ≡ take i xs → all_apart same_name seen ≡ true → list_any (same_name x) seen ≡ false
+    → (insert_key same_name seen x ≡ take (i + 1) xs) × (all_apart same_name (insert_key same_name seen x) ≡ true)
+one_more xs seen i x h e s a t =
+    let grown : insert_key same_name seen x ≡ seen ++ x ∷ [] = ap (λ b. if b then seen else seen ++ x ∷ []) t in
+    (grown ∙ ap (λ l. l ++ x ∷ []) s ∙ ap (λ y. take i xs ++ y ∷ []) e ∙ sym (take_more xs i x h), ap (all_apart same_name) grown ∙ apart_push seen x a t)

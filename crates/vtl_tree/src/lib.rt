@@ -2,6 +2,7 @@
 #![tactic(auto)]
 
 mod built_form;
+mod declarable;
 mod evaluation;
 mod expression;
 mod laws;
@@ -13,13 +14,14 @@ mod structures;
 pub use built_form::{
     CompareOp, FilterCondition, FilterLiteral, FilterStatement, built, filter_statement,
 };
+pub use declarable::is_declarable;
 pub use evaluation::eval;
 pub use expression::CompExpr;
 pub use laws::{filter_is_a_clause, points_are_a_map};
 pub use plain::filter_points;
 pub use seen::Seen;
 pub use structure::{Component, Role, Structure};
-pub use structures::Structures;
+pub use structures::{Structures, are_distinct};
 
 #[cfg(test)]
 mod tests;

@@ -127,3 +127,17 @@ fn one_component(alloc: Global, component: Component) -> Result<Structure, Alloc
         components: List::of(components),
     })
 }
+
+/// Whether no two texts are the same. It fails only for want of memory.
+pub fn are_distinct(alloc: Global, texts: &[Txt]) -> Result<bool, AllocError>
+    ensures { IfOk result (λ b. b ≡ all_apart same_name texts.now) }
+{
+    let mut seen = IndexSet::new(alloc);
+    for text in texts {
+        let (_, is_new) = seen.insert_full(text.share()?)?;
+        if !is_new {
+            return Ok(false);
+        }
+    }
+    Ok(true)
+}
