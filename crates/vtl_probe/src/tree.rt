@@ -206,7 +206,7 @@ fn expr(out: &mut Lines, e: &Expr) -> Shown {
             out.open("brackets")?;
             expr(out, inner)?;
         }
-        Expr::Clause { operand, clause: c } => {
+        Expr::WithClause { operand, clause: c } => {
             out.open("clause")?;
             expr(out, operand)?;
             clause(out, c)?;

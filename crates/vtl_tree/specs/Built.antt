@@ -6,7 +6,7 @@ use Rattle.std.specs.Str.Parse.{digits_value}
 use Rattle.vtl_cell.specs.declared.cell.Cell.{Cell}
 use Rattle.vtl_cell.specs.declared.cell.Cell.TheVariants as c
 use Rattle.vtl_syntax.specs.Trees as tree
-use Rattle.vtl_syntax.specs.Trees.{Brack, Exp, ScriptTree, StatementTree}
+use Rattle.vtl_syntax.specs.Trees.{ClauseTree, Exp, ScriptTree, StatementTree}
 use Rattle.vtl_syntax.specs.declared.parts.Comp.{Comp}
 use Rattle.vtl_syntax.specs.declared.parts.Comp.TheVariants as comp
 use Rattle.vtl_syntax.specs.declared.parts.Constant.{Constant}
@@ -88,8 +88,8 @@ compared_in (tree.binary left between right) = compared_with (component_in left)
 compared_in _ = None
 
 -- `filter C op L`
-abbrev pub filter_clause : Brack → Option Compared
-filter_clause (tree.filtering condition) = compared_in condition
+abbrev pub filter_clause : ClauseTree → Option Compared
+filter_clause (tree.filter condition) = compared_in condition
 filter_clause _ = None
 
 abbrev pub filter_with : List ℕ → Option (List ℕ) → Option Compared → Option Filter
@@ -101,7 +101,7 @@ filter_with result _ _ = None
 
 -- `D [filter C op L]`, as the value of R
 unfoldable pub value_of : List ℕ → Exp → Option Filter
-value_of result (tree.clause operand clause) = filter_with result (operand_in operand) (filter_clause clause)
+value_of result (tree.with_clause operand clause) = filter_with result (operand_in operand) (filter_clause clause)
 value_of result _ = None
 
 abbrev pub statement_of : StatementTree → Option Filter

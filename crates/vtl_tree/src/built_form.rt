@@ -245,7 +245,7 @@ fn filter_value<'a>(target: &'a Txt, value: &'a Expr) -> Option<FilterStatement<
     ensures { option_map filter_view result ≡ value_of target.now (expr_tree value.now) }
 {
     match value {
-        Expr::Clause {
+        Expr::WithClause {
             operand: filtered,
             clause,
         } => {
