@@ -2,8 +2,11 @@
 #![tactic(auto)]
 
 mod column;
+mod distinct;
+mod guess;
 mod order;
 mod project;
+mod ranking;
 mod table;
 mod tables;
 #[cfg(test)]
