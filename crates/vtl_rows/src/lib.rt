@@ -1,6 +1,7 @@
 //! Tables: columns, and rows of cells in a list.
 #![tactic(auto)]
 
+mod alphabets;
 mod column;
 mod distinct;
 mod guess;
