@@ -2,12 +2,12 @@
 use std::alloc::{AllocError, Global};
 use std::fmt;
 
-pub(crate) type Shown = Result<(), AllocError>;
-
+// A text that is made line by line. Want of memory is remembered, and told when the text is asked for.
 #[derive(Drop)]
 pub(crate) struct Lines {
-    pub(crate) text: String,
+    text: String,
     level: usize,
+    lacks_memory: bool,
 }
 
 impl Lines {
@@ -15,52 +15,66 @@ impl Lines {
         Lines {
             text: String::new(alloc),
             level: 0,
+            lacks_memory: false,
         }
     }
 
-    fn indent(&mut self) -> Shown {
-        for _ in 0..self.level {
-            self.text.push_str("  ")?;
+    // The lines, where there was memory for all of them.
+    pub(crate) fn into_text(self) -> Result<String, AllocError> {
+        if self.lacks_memory {
+            Err(AllocError)
+        } else {
+            Ok(self.text)
         }
-        Ok(())
+    }
+
+    fn add(&mut self, text: &str) {
+        if self.text.push_str(text).is_err() {
+            self.lacks_memory = true;
+        }
+    }
+
+    fn indent(&mut self) {
+        for _ in 0..self.level {
+            self.add("  ");
+        }
     }
 
     // A node without parts.
-    pub(crate) fn push(&mut self, text: &str) -> Shown {
-        self.pushed("", text, "")
+    pub(crate) fn push(&mut self, text: &str) {
+        self.pushed("", text, "");
     }
 
     // A node without parts, whose line is made of three texts.
-    pub(crate) fn pushed(&mut self, before: &str, text: &str, after: &str) -> Shown {
-        self.indent()?;
-        self.text.push_str(before)?;
-        self.text.push_str(text)?;
-        self.text.push_str(after)?;
-        self.text.push_str("\n")
+    pub(crate) fn pushed(&mut self, before: &str, text: &str, after: &str) {
+        self.indent();
+        self.add(before);
+        self.add(text);
+        self.add(after);
+        self.add("\n");
     }
 
     // A node without parts, named by what it is.
-    pub(crate) fn word<T: fmt::Debug>(&mut self, word: &T) -> Shown {
-        self.indent()?;
-        writeln!(self.text, "{word:?}")
+    pub(crate) fn word<T: fmt::Debug>(&mut self, word: &T) {
+        self.indent();
+        if writeln!(self.text, "{word:?}").is_err() {
+            self.lacks_memory = true;
+        }
     }
 
     // A node whose parts follow, up to `close`.
-    pub(crate) fn open(&mut self, head: &str) -> Shown {
-        self.push(head)?;
+    pub(crate) fn open(&mut self, head: &str) {
+        self.push(head);
         self.level = self.level.saturating_add(1);
-        Ok(())
     }
 
     // The same, named by what it is.
-    pub(crate) fn open_word<T: fmt::Debug>(&mut self, word: &T) -> Shown {
-        self.word(word)?;
+    pub(crate) fn open_word<T: fmt::Debug>(&mut self, word: &T) {
+        self.word(word);
         self.level = self.level.saturating_add(1);
-        Ok(())
     }
 
-    pub(crate) fn close(&mut self) -> Shown {
+    pub(crate) fn close(&mut self) {
         self.level = self.level.saturating_sub(1);
-        Ok(())
     }
 }

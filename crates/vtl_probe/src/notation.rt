@@ -34,15 +34,27 @@ pub(crate) fn kind(word: &str) -> Result<Kind, Trouble> {
     })
 }
 
-fn kind_word(cell: &Cell) -> &'static str {
+pub(crate) fn kind_word(kind: Kind) -> &'static str {
+    match kind {
+        Kind::Null => "null",
+        Kind::Bool => "boolean",
+        Kind::Int => "integer",
+        Kind::Num => "number",
+        Kind::Text => "string",
+        Kind::Day => "date",
+        Kind::Period => "time_period",
+    }
+}
+
+fn kind_of(cell: &Cell) -> Kind {
     match cell {
-        Cell::Null => "null",
-        Cell::Bool(_) => "boolean",
-        Cell::Int(_) => "integer",
-        Cell::Num(_) => "number",
-        Cell::Text(_) => "string",
-        Cell::Day(_) => "date",
-        Cell::Period(_) => "time_period",
+        Cell::Null => Kind::Null,
+        Cell::Bool(_) => Kind::Bool,
+        Cell::Int(_) => Kind::Int,
+        Cell::Num(_) => Kind::Num,
+        Cell::Text(_) => Kind::Text,
+        Cell::Day(_) => Kind::Day,
+        Cell::Period(_) => Kind::Period,
     }
 }
 
@@ -81,7 +93,7 @@ pub(crate) fn text(alloc: Global, cell: &Cell, profile: &Profile) -> Result<Stri
 
 // A value as tables write it.
 pub(crate) fn shown(alloc: Global, cell: &Cell, profile: &Profile) -> Result<String, Trouble> {
-    let mut out = String::from_str(alloc, kind_word(cell))?;
+    let mut out = String::from_str(alloc, kind_word(kind_of(cell)))?;
     if !matches!(cell, Cell::Null) {
         out.push_str(":")?;
         escape(&text(alloc, cell, profile)?, &mut out)?;

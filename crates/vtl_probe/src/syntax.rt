@@ -6,6 +6,7 @@ use crate::tree::script;
 use crate::trouble::Trouble;
 use std::alloc::{AllocError, Global};
 use vtl_parser::{ParseErr, parse};
+use vtl_syntax::Script;
 
 // What is read of a text: what is told of the script, or its fault.
 enum Answer {
@@ -16,18 +17,24 @@ enum Answer {
 // The one owner of trees. The script is told by its tree, or by the number of its statements.
 fn read(alloc: Global, text: &str, with_tree: bool) -> Result<Answer, Trouble> {
     match parse(alloc, text) {
-        Ok(found) => {
-            let mut lines = Lines::new(alloc);
-            if with_tree {
-                script(&mut lines, &found)?;
-            } else {
-                lines.word(&found.statements.as_slice().len())?;
-            }
-            Ok(Answer::Script(lines.text))
-        }
+        Ok(found) => answer(told(alloc, &found, with_tree)),
         Err(ParseErr::Syntax { done, byte }) => Ok(Answer::Fault { done, byte }),
         Err(ParseErr::OutOfMemory) => Err(Trouble::Memory(AllocError)),
     }
+}
+
+fn told(alloc: Global, found: &Script, with_tree: bool) -> Lines {
+    let mut lines = Lines::new(alloc);
+    if with_tree {
+        script(&mut lines, found);
+    } else {
+        lines.word(&found.statements.as_slice().len());
+    }
+    lines
+}
+
+fn answer(lines: Lines) -> Result<Answer, Trouble> {
+    Ok(Answer::Script(lines.into_text()?))
 }
 
 // The tree of the text, or the line of its fault.

@@ -2,7 +2,7 @@
 use crate::report::{Report, Tally};
 use crate::rows::Row;
 use crate::trouble::Trouble;
-use crate::{order, sums, syntax, tokens, values};
+use crate::{order, structures, sums, syntax, tokens, values};
 use csv::{Error, ErrorKind, ReaderBuilder, StringRecord};
 use std::alloc::{AllocError, Global};
 
@@ -29,6 +29,8 @@ pub(crate) enum Table {
     Depth,
     // The same as for `Syntax`, of the texts at the front of a script.
     Prefixes,
+    // What structures files declare, or their faults.
+    Structures,
 }
 
 impl Table {
@@ -44,6 +46,7 @@ impl Table {
             "lexed" => Table::Tokens,
             "syntax" => Table::Syntax,
             "depth" => Table::Depth,
+            "structures" => Table::Structures,
             _ => return None,
         })
     }
@@ -61,6 +64,7 @@ impl Table {
             Table::Syntax => ("text,done,byte", 1),
             Table::Depth => ("head,open,middle,close,tail,most", 6),
             Table::Prefixes => ("from,to,done,byte", 2),
+            Table::Structures => ("text,answer", 1),
         }
     }
 
@@ -77,6 +81,7 @@ impl Table {
             Table::Syntax => syntax::outcome(alloc, row.field(0)),
             Table::Depth => syntax::nested(alloc, row),
             Table::Prefixes => syntax::fronts(alloc, script, row),
+            Table::Structures => structures::declared(alloc, row.field(0)),
         }
     }
 }

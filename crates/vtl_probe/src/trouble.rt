@@ -5,11 +5,11 @@ use thiserror::Error;
 #[derive(Debug, Drop, Error)]
 pub(crate) enum Trouble {
     #[error("the words are one of
-  scalars|values|order|periods|names|sums|lexed|syntax|depth TABLE
+  scalars|values|order|periods|names|sums|lexed|syntax|depth|structures TABLE
   prefixes SCRIPT TABLE
   tokens FILE
   tree FILE
-  time add|mul|div|read|write COUNT")]
+  time add|mul|div|read|write|records|data_sets|codes COUNT")]
     Usage,
     #[error("no file: {0}")]
     NoFile(String),
