@@ -4,7 +4,7 @@ use crate::Table;
 use crate::order::cell_at;
 use std::alloc::{AllocError, Global};
 use std::hash::{FoldHasher, Hash, Hasher};
-use vtl_cell::{Cell, is_same};
+use vtl_cell::Cell;
 
 // More distinct cells than this are not told apart.
 const MAX_DISTINCT: usize = 65_536;
@@ -69,7 +69,7 @@ impl Distinct {
     // Whether the cell at a place is equal to this one.
     fn has(&self, table: &Table, place: usize, cell: &Cell) -> bool {
         match self.rows.get(place) {
-            Some(i) => cell_at(table, *i, self.column).is_some_and(|c| is_same(c, cell)),
+            Some(i) => cell_at(table, *i, self.column).is_some_and(|c| c == cell),
             None => false,
         }
     }
