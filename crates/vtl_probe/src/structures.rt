@@ -88,7 +88,7 @@ fn push_codes(
 
 // A field of a CSV file, in quotes where it has to be.
 fn push_field(out: &mut String, field: &str) -> Result<(), AllocError> {
-    if !field.chars().any(|c| matches!(c, ',' | '"' | '\n' | '\r')) {
+    if !needs_quotes(field) {
         return out.push_str(field);
     }
     out.push('"')?;
@@ -99,6 +99,15 @@ fn push_field(out: &mut String, field: &str) -> Result<(), AllocError> {
         out.push(c)?;
     }
     out.push('"')
+}
+
+fn needs_quotes(field: &str) -> bool {
+    for c in field.chars() {
+        if matches!(c, ',' | '"' | '\n' | '\r') {
+            return true;
+        }
+    }
+    false
 }
 
 // How many data sets are read of a large structures file, so many times.
