@@ -147,12 +147,15 @@ fn large(alloc: Global, filling: Filling) -> Result<String, AllocError> {
 
 fn push_part(out: &mut String, filling: Filling, part: usize) -> Result<(), AllocError> {
     match filling {
-        Filling::Records => {
-            let (dataset, place) = (part / 64, part % 64);
-            let role = if place == 0 { "identifier" } else { "measure" };
-            writeln!(out, "d{dataset},c{place},{role},date,")
-        }
+        Filling::Records => push_short_record(out, part / 64, part % 64),
         Filling::DataSets => writeln!(out, "d{part},c,identifier,date,"),
         Filling::Codes => write!(out, "|{part}"),
     }
+}
+
+// The first component of a data set is its identifier.
+fn push_short_record(out: &mut String, dataset: usize, place: usize) -> Result<(), AllocError> {
+    write!(out, "d{dataset},c{place},")?;
+    out.push_str(if place == 0 { "identifier" } else { "measure" })?;
+    out.push_str(",date,\n")
 }

@@ -17,9 +17,10 @@ enum Answer {
 // The one owner of trees. The script is told by its tree, or by the number of its statements.
 fn read(alloc: Global, text: &str, with_tree: bool) -> Result<Answer, Trouble> {
     match parse(alloc, text) {
-        Ok(found) => told(alloc, &found, with_tree)
-            .map(Answer::Script)
-            .map_err(Trouble::Memory),
+        Ok(found) => match told(alloc, &found, with_tree) {
+            Ok(text) => Ok(Answer::Script(text)),
+            Err(error) => Err(Trouble::Memory(error)),
+        },
         Err(ParseErr::Syntax { done, byte }) => Ok(Answer::Fault { done, byte }),
         Err(ParseErr::OutOfMemory) => Err(Trouble::Memory(AllocError)),
     }
