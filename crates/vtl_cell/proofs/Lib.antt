@@ -1,5 +1,8 @@
+pub mod Aggregates
 pub mod Cells
+pub mod Cuts
 pub mod Examples
+pub mod Extremes
 pub mod Hashes
 pub mod Keys
 pub mod Orders

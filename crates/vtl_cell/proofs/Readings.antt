@@ -1,5 +1,5 @@
 -- What is read is a value of its kind.
-use Rattle.std.proofs.Common.{◌≡◌, ℕ, List, Bool, true, false, Option, Some, None, refl}
+use Rattle.std.proofs.Common.{◌≡◌, ℕ, List, true, false, Option, Some, None, refl}
 use Rattle.std.specs.Prelude.{chars, option_map}
 use Rattle.vtl_decimal.specs.Numeral.{number_read, integer_read}
 use Rattle.vtl_decimal.specs.Settings.{Settings}

@@ -1,6 +1,6 @@
 -- The text of a value stands for the value.
 use Rattle.std.proofs.Common.{ℕ, suc, ℤ, pos, negsuc, ◌≡◌, ◌-◌, ◌*◌, ◌/◌, ◌%◌, ◌^◌, ◌<◌, ◌≤◌, Bool, true, false, cond, List, [], ◌∷◌, ◌++◌, length, Option, Some, None, Ok, Err, refl, ap, sym, ◌∙◌, arith, append-nil, length-append}
-use Rattle.std.specs.Prelude.{unsigned_abs, nat_lt, option_and_then, option_map, ◌==◌}
+use Rattle.std.specs.Prelude.{IsOk, unsigned_abs, nat_lt, option_and_then, option_map, ◌==◌}
 use Rattle.std.specs.Fmt.{decimal, signed_decimal}
 use Rattle.std.specs.Result.{result_ok}
 use Rattle.std.specs.Str.{all_ascii_digits}
@@ -78,8 +78,12 @@ integer_read_back s (pos n) fits = whole_read s [] false n no_sign (omega arith)
 integer_read_back s (negsuc n) fits = whole_read s (45 ∷ []) true (suc n) minus (omega arith) fits
 
 -- ---- values
+in_range : (b : Bool) (n : ℤ) → IsOk (cond b (Ok n) (Err Range)) → b ≡ true
+in_range true n h = refl
+in_range false n h = cc
+
 pub integer_reads_back : (p : Settings) (n : ℤ) → ReadsBack p (c.Int n)
-integer_reads_back p n some fits = ap (option_map c.Int) (integer_read_back p.scale n fits)
+integer_reads_back p n some fits = ap (option_map c.Int) (integer_read_back p.scale n (in_range (nat_lt (unsigned_abs n) (10 ^ (18 - p.scale))) n fits))
 
 pub day_reads_back : (p : Settings) (d : CalendarDay) → read_day_of (day_text d) ≡ Some d → ReadsBack p (c.Day d)
 day_reads_back p d e some fits =

@@ -1,5 +1,6 @@
 -- Which rows of a partition a window sees. A place is counted from 0.
-use Rattle.std.specs.Prelude.{ℕ, ◌+◌, ◌-◌, nat_le, List, length, take, drop, slice_index_or, if◌then◌else◌}
+use Rattle.std.specs.Prelude.{ℕ, ◌+◌, ◌-◌, ◌&&◌, nat_le, Bool, true, List, length, take, drop, filter, map, slice_index_or, if◌then◌else◌}
+use Rattle.std.specs.List.{range_with_len}
 use Rattle.vtl_cell.specs.declared.cell.Cell.{Cell}
 use Rattle.vtl_cell.specs.Row.{column_of}
 
@@ -30,6 +31,30 @@ up_to UnboundedFollowing n i = n
 -- the rows at places from the first bound to the last one, which are none where the first lies behind the last
 abbrev pub frame_of : {A : Type 0} → Bound → Bound → ℕ → List A → List A
 frame_of start end i rows = drop (before start (length rows) i) (take (up_to end (length rows) i) rows)
+
+-- whether the place j of n rows does not lie before the bound, seen from the row at place i
+abbrev pub is_from : Bound → ℕ → ℕ → ℕ → Bool
+is_from UnboundedPreceding n i j = true
+is_from (Preceding k) n i j = nat_le i (j + k)
+is_from Current n i j = nat_le i j
+is_from (Following k) n i j = nat_le (i + k) j
+is_from UnboundedFollowing n i j = nat_le n (j + 1)
+
+-- whether it does not lie behind the bound
+abbrev pub is_up_to : Bound → ℕ → ℕ → ℕ → Bool
+is_up_to UnboundedPreceding n i j = nat_le j 0
+is_up_to (Preceding k) n i j = nat_le (j + k) i
+is_up_to Current n i j = nat_le j i
+is_up_to (Following k) n i j = nat_le j (i + k)
+is_up_to UnboundedFollowing n i j = true
+
+-- whether the place lies between the bounds
+abbrev pub is_between : Bound → Bound → ℕ → ℕ → ℕ → Bool
+is_between start end n i j = is_from start n i j && is_up_to end n i j
+
+-- the rows at the places that pass a test; the default counts for nothing, since each place is one of the list
+abbrev pub rows_at : {A : Type 0} → (ℕ → Bool) → List A → A → List A
+rows_at test rows default = map (λ j. slice_index_or rows j default) (filter test (range_with_len 0 (length rows)))
 
 -- the first and the last cell, or null where there is none
 abbrev pub first_cell : List Cell → Cell

@@ -22,11 +22,6 @@ use Rattle.vtl_cell.specs.ScalarArithmetic.{integer, number}
 abbrev pub values_of : List Cell → List Cell
 values_of cells = filter (λ x. not (is_null x)) cells
 
--- nothing is aggregated to null
-abbrev pub unless_empty : List Cell → Outcome Cell → Outcome Cell
-unless_empty [] o = Ok c.Null
-unless_empty (x ∷ xs) o = o
-
 -- ---- totals
 abbrev pub is_integer : Cell → Bool
 is_integer (c.Int n) = true
@@ -81,7 +76,7 @@ middle_of p ks =
     else rounded_quotient p.rounding (at ks (n / 2 - 1) +ℤ at ks (n / 2)) (pos 2)
 
 abbrev pub median_of : Settings → List Cell → Outcome Cell
-median_of p xs = unless_empty xs (number (fit_number (middle_of p (sorted_by int_le (numbers_of p.scale xs)))))
+median_of p xs = number (fit_number (middle_of p (sorted_by int_le (numbers_of p.scale xs))))
 
 -- ---- first and last in order
 abbrev pub least : List Cell → Cell
@@ -91,15 +86,26 @@ abbrev pub greatest : List Cell → Cell
 greatest xs = column_of 0 (sorted_by (λ x y. le_by cell_cmp y x) xs)
 
 -- ---- aggregates
-abbrev pub aggregate : Settings → AggKind → List Cell → Outcome Cell
-aggregate p agg.Sum xs = unless_empty xs (total_of p xs)
-aggregate p agg.Avg xs = mean_value p xs
-aggregate p agg.Count xs = integer (fit_integer p.scale (pos (length xs)))
-aggregate p agg.Min xs = Ok (least xs)
-aggregate p agg.Max xs = Ok (greatest xs)
-aggregate p agg.Median xs = median_of p xs
 
--- nulls are passed over: an aggregate of no value is null, and the count of no value is 0
+-- of no value: the count is 0, and every other aggregate is null
+abbrev pub of_nothing : AggKind → Cell
+of_nothing agg.Count = c.Int (pos 0)
+of_nothing other = c.Null
+
+-- of some values
+abbrev pub of_values : Settings → AggKind → List Cell → Outcome Cell
+of_values p agg.Sum xs = total_of p xs
+of_values p agg.Avg xs = mean_value p xs
+of_values p agg.Count xs = integer (fit_integer p.scale (pos (length xs)))
+of_values p agg.Min xs = Ok (least xs)
+of_values p agg.Max xs = Ok (greatest xs)
+of_values p agg.Median xs = median_of p xs
+
+abbrev pub aggregate : Settings → AggKind → List Cell → Outcome Cell
+aggregate p kind [] = Ok (of_nothing kind)
+aggregate p kind (x ∷ xs) = of_values p kind (x ∷ xs)
+
+-- nulls are passed over
 abbrev pub group_value : Settings → AggKind → List Cell → Outcome Cell
 group_value p kind cells = aggregate p kind (values_of cells)
 

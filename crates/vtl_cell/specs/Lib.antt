@@ -6,6 +6,7 @@ pub mod Kinds
 pub mod Logic
 pub mod Order
 pub mod Outcome
+pub mod Profile
 pub mod Reading
 pub mod Row
 pub mod ScalarArithmetic

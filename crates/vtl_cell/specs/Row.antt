@@ -1,6 +1,6 @@
 -- Rows of cells.
-use Rattle.std.specs.Prelude.{ℕ, Bool, true, false, ◌&&◌, List, [], ◌∷◌, slice_index_or, take}
-use Rattle.std.specs.Cmp.Lexicographic.{slice_cmp}
+use Rattle.std.specs.Prelude.{ℕ, Bool, List, slice_index_or, take}
+use Rattle.std.specs.Cmp.Lexicographic.{pointwise, slice_cmp}
 use Rattle.std.specs.declared.cmp.Ordering.{Ordering}
 use Rattle.vtl_cell.specs.Order.{cell_cmp, same_cell}
 use Rattle.vtl_cell.specs.declared.cell.Cell.{Cell}
@@ -13,11 +13,9 @@ Row = List Cell
 abbrev pub column_of : ℕ → Row → Cell
 column_of i r = slice_index_or r i c.Null
 
+-- as many cells, and the same at each place
 abbrev pub same_row : Row → Row → Bool
-same_row [] [] = true
-same_row [] (y ∷ ys) = false
-same_row (x ∷ xs) [] = false
-same_row (x ∷ xs) (y ∷ ys) = same_cell x y && same_row xs ys
+same_row = pointwise same_cell
 
 -- cell by cell from the left
 abbrev pub row_cmp : Row → Row → Ordering

@@ -1,27 +1,27 @@
 -- The values of the comparisons, of `between` and of `in`.
-use Rattle.std.specs.Prelude.{Bool, false, ◌||◌, ◌&&◌, List, [], ◌∷◌, Option, Some, None}
+use Rattle.std.specs.Prelude.{Bool, false, not, ◌||◌, ◌&&◌, ◌==◌, if◌then◌else◌, List, [], ◌∷◌, Option, Some, None}
 use Rattle.std.specs.Option.{option_map}
 use Rattle.std.specs.declared.cmp.Ordering.{Ordering}
-use Rattle.std.specs.Ordering.{nat_cmp, int_cmp, bool_cmp, is_eq, is_le, is_ge}
-use Rattle.std.specs.Cmp.Lexicographic.{slice_cmp}
-use Rattle.vtl_time.specs.Days.{day_cmp}
-use Rattle.vtl_time.specs.Periods.{period_cmp}
+use Rattle.std.specs.Ordering.{is_eq, is_le, is_ge}
 use Rattle.vtl_decimal.specs.Settings.{Settings}
+use Rattle.vtl_cell.specs.Kinds.{is_null}
+use Rattle.vtl_cell.specs.Order.{cell_cmp, kind_rank}
 use Rattle.vtl_cell.specs.ScalarArithmetic.{units}
 use Rattle.vtl_cell.specs.declared.cell.Cell.{Cell}
 use Rattle.vtl_cell.specs.declared.cell.Cell.TheVariants as c
 
+-- a value as it stands beside another: an integer beside a number is the number that equals it, of any size
+abbrev pub as_beside : Settings → Cell → Cell → Cell
+as_beside p (c.Int n) (c.Num k) = c.Num (units p n)
+as_beside p v other = v
+
+-- their order, where the values are of one kind and not null
+abbrev pub order_within : Cell → Cell → Option Ordering
+order_within a b = if not (is_null a) && (kind_rank a == kind_rank b) then Some (cell_cmp a b) else None
+
 -- the order of two values of one kind, an integer beside a number by value; none with null or of two kinds
 abbrev pub order_of : Settings → Cell → Cell → Option Ordering
-order_of p (c.Bool a) (c.Bool b) = Some (bool_cmp a b)
-order_of p (c.Int a) (c.Int b) = Some (int_cmp a b)
-order_of p (c.Int a) (c.Num b) = Some (int_cmp (units p a) b)
-order_of p (c.Num a) (c.Int b) = Some (int_cmp a (units p b))
-order_of p (c.Num a) (c.Num b) = Some (int_cmp a b)
-order_of p (c.Text a) (c.Text b) = Some (slice_cmp nat_cmp a b)
-order_of p (c.Day a) (c.Day b) = Some (day_cmp a b)
-order_of p (c.Period a) (c.Period b) = Some (period_cmp a b)
-order_of p a b = None
+order_of p a b = order_within (as_beside p a b) (as_beside p b a)
 
 -- a boolean, or null
 abbrev pub truth : Option Bool → Cell

@@ -1,9 +1,8 @@
 -- The points that a file gives are those of a data set.
 use Rattle.std.proofs.Common.{◌≡◌, ℕ, suc, List, [], ◌∷◌, Bool, true, false, not, ◌&&◌, ◌||◌, nat_le, cond, Option, Some, None, option_map, length, arith, refl, sym, ap, ◌∙◌, subst}
 use Rattle.std.specs.Prelude.{◌==◌}
-use Rattle.std.specs.List.{list_any, list_all, zip, AllByRecursion}
+use Rattle.std.specs.List.{list_all, zip, AllByRecursion}
 use Rattle.std.specs.Option.{option_and_then}
-use Rattle.std.proofs.lemmas.Bool.{and_parts}
 use Rattle.std.proofs.lemmas.Bool.Decides.{nat_tests}
 use Rattle.csv.specs.Reading.{default_config, records, strip_bom}
 use Rattle.vtl_decimal.specs.Settings.{Settings}
@@ -15,7 +14,7 @@ use Rattle.vtl_cell.specs.declared.kind.Kind.{Kind}
 use Rattle.vtl_cell.specs.declared.kind.Kind.TheVariants as k
 use Rattle.vtl_cell.specs.Kinds.{is_of, is_null}
 use Rattle.vtl_cell.specs.Row.{Row, same_key}
-use Rattle.vtl_tree.specs.DataSet.{Apart, Distinct, IsDataSet, is_point}
+use Rattle.vtl_tree.specs.DataSet.{IsDataSet, is_point}
 use Rattle.vtl_tree.specs.declared.structure.Component.{Component}
 use Rattle.vtl_tree.specs.declared.structure.Role.{Role}
 use Rattle.vtl_tree.specs.declared.structure.Role.TheVariants as role
@@ -117,24 +116,6 @@ rows_good p columns text rows e =
     records_good p columns (records default_config (strip_bom text)) rows (if_some (plain_lines text) (rows_of_records p columns (records default_config (strip_bom text))) rows e).1
 
 -- ---- no two with the same identifiers
-none_same : (n : ℕ) (r : Row) (d : List Row) → list_any (same_key n r) d ≡ false → AllByRecursion (Apart n r) d
-none_same n r [] e = tt
-none_same n r (s ∷ d) e = go (same_key n r s) refl (none_same n r d) e
-  where
-    go : (b : Bool) → same_key n r s ≡ b → (list_any (same_key n r) d ≡ false → AllByRecursion (Apart n r) d) → (b || list_any (same_key n r) d) ≡ false → AllByRecursion (Apart n r) (s ∷ d)
-    go true t h q = cc
-    go false t h q = (t, h q)
-
-not_true : (b : Bool) → not b ≡ true → b ≡ false
-not_true true e = cc
-not_true false e = refl
-
-distinct_keys : (n : ℕ) (d : List Row) → all_apart (same_key n) d ≡ true → Distinct n d
-distinct_keys n [] e = tt
-distinct_keys n (r ∷ d) e =
-    let h = and_parts (not (list_any (same_key n r) d)) (all_apart (same_key n) d) e in
-    (none_same n r d (not_true (list_any (same_key n r) d) h.0), distinct_keys n d h.1)
-
 keyed_rows : (n : ℕ) (m : Option (List Row)) (points : List Row) → option_and_then (keyed n) m ≡ Some points → (m ≡ Some points) × (all_apart (same_key n) points ≡ true)
 keyed_rows n None points e = cc
 keyed_rows n (Some rows) points e =
@@ -147,5 +128,5 @@ points_are p s text points well e =
     record {
       well_formed = well;
       typed = rows_good p (columns_of s) text points h.0;
-      distinct = distinct_keys (key_width s) points h.1;
+      distinct = h.1;
     }

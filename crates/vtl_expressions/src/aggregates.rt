@@ -5,7 +5,7 @@ ghost use Rattle.vtl_grammar.specs.Faults.{kinds};
 ghost use Rattle.vtl_grammar.specs.ReadExpressions.{aggregate_call, ends_operand, group_call, maybe_exp_after, maybe_operand, no_operand, over_call, read};
 ghost use Rattle.vtl_grammar.specs.declared.levels.Level.TheVariants as level;
 ghost use Rattle.vtl_lexer.specs.declared.keyword.Keyword.{Keyword};
-ghost use Rattle.vtl_expressions.specs.Reads.{Answers, Nests, box_tree, got_of};
+ghost use Rattle.vtl_expressions.specs.Reads.{GetsBy, Nests, box_tree, got_of};
 ghost use Rattle.vtl_syntax.specs.Depth.{group_depth};
 
 use crate::calls::{over_depth, spared};
@@ -56,7 +56,7 @@ impl<F: Fn(Level, &[Token]) -> Result<Read<'_, Box<Expr>>, Unread>> Grammar<F> {
         tokens: &'t [Token],
     ) -> Result<Read<'t, Option<Box<Expr>>>, Unread>
         requires { Nests self.now.budget (F.pre self.now.read) (F.post self.now.read) }
-        ensures { Answers (option_map box_tree) (maybe_exp_after self.now.budget (read self.now.budget level.Expression) keyword (kinds tokens.now)) result }
+        ensures { GetsBy (option_map box_tree) (maybe_exp_after self.now.budget (read self.now.budget level.Expression) keyword (kinds tokens.now)) result }
     {
         let Some(after) = after_keyword(tokens, keyword) else {
             return Ok(self.none(tokens));
@@ -76,7 +76,7 @@ impl<F: Fn(Level, &[Token]) -> Result<Read<'_, Box<Expr>>, Unread>> Grammar<F> {
         tokens: &'t [Token],
     ) -> Result<Read<'t, Option<Box<Expr>>>, Unread>
         requires { Nests self.now.budget (F.pre self.now.read) (F.post self.now.read) }
-        ensures { Answers (option_map box_tree) (maybe_operand self.now.budget (read self.now.budget level.Expression) (kinds tokens.now)) result }
+        ensures { GetsBy (option_map box_tree) (maybe_operand self.now.budget (read self.now.budget level.Expression) (kinds tokens.now)) result }
     {
         if no_operand(tokens) {
             return Ok(self.none(tokens));
@@ -110,7 +110,7 @@ impl<F: Fn(Level, &[Token]) -> Result<Read<'_, Box<Expr>>, Unread>> Grammar<F> {
         operand: Read<'t, Option<Box<Expr>>>,
     ) -> Result<Read<'t, Box<Expr>>, Unread>
         requires { Nests self.now.budget (F.pre self.now.read) (F.post self.now.read) }
-        ensures { Answers box_tree (over_call self.now.budget function (got_of (option_map box_tree) operand.entry)) result }
+        ensures { GetsBy box_tree (over_call self.now.budget function (got_of (option_map box_tree) operand.entry)) result }
     {
         let over = over_part(self.alloc, operand.rest)?;
         let spare = spared(self.budget, over_depth(&over.part))?;
@@ -130,7 +130,7 @@ impl<F: Fn(Level, &[Token]) -> Result<Read<'_, Box<Expr>>, Unread>> Grammar<F> {
         operand: Read<'t, Option<Box<Expr>>>,
     ) -> Result<Read<'t, Box<Expr>>, Unread>
         requires { Nests self.now.budget (F.pre self.now.read) (F.post self.now.read) }
-        ensures { Answers box_tree (group_call self.now.budget (read self.now.budget level.Expression) function (got_of (option_map box_tree) operand.entry)) result }
+        ensures { GetsBy box_tree (group_call self.now.budget (read self.now.budget level.Expression) function (got_of (option_map box_tree) operand.entry)) result }
     {
         let group = group_part(self.alloc, operand.rest)?;
         let spare = spared(self.budget, group_depth(&group.part))?;
@@ -157,7 +157,7 @@ impl<F: Fn(Level, &[Token]) -> Result<Read<'_, Box<Expr>>, Unread>> Grammar<F> {
         tokens: &'t [Token],
     ) -> Result<Read<'t, Box<Expr>>, Unread>
         requires { Nests self.now.budget (F.pre self.now.read) (F.post self.now.read) }
-        ensures { Answers box_tree (aggregate_call self.now.budget (read self.now.budget level.Expression) function (kinds tokens.now)) result }
+        ensures { GetsBy box_tree (aggregate_call self.now.budget (read self.now.budget level.Expression) function (kinds tokens.now)) result }
     {
         let operand = self.maybe_operand(tokens)?;
         match after_keyword(operand.rest, Keyword::Over) {

@@ -5,8 +5,8 @@ ghost use Rattle.vtl_grammar.specs.Faults.{kinds};
 ghost use Rattle.vtl_grammar.specs.ReadExpressions.{cast_call, check_call, check_datapoint_call, check_hierarchy_call, dataset_part, difference_call, exists_in_call, function_call, hierarchy_call, rank_call, read, set_op_call, shift_call, value_window_call};
 ghost use Rattle.vtl_grammar.specs.Reading.{spared};
 ghost use Rattle.vtl_grammar.specs.declared.levels.Level.TheVariants as level;
-ghost use Rattle.vtl_expressions.specs.Reads.{Answers, Nests, box_tree};
-ghost use Rattle.vtl_parts.specs.Answers.{front_view, same};
+ghost use Rattle.vtl_expressions.specs.Reads.{GetsBy, Nests, box_tree};
+ghost use Rattle.vtl_parts.specs.Fronts.{front_view, same};
 ghost use Rattle.vtl_syntax.specs.Depth.{over_depth};
 
 use crate::grammar::{Grammar, node};
@@ -61,7 +61,7 @@ impl<F: Fn(Level, &[Token]) -> Result<Read<'_, Box<Expr>>, Unread>> Grammar<F> {
         tokens: &'t [Token],
     ) -> Result<Read<'t, Box<Expr>>, Unread>
         requires { Nests self.now.budget (F.pre self.now.read) (F.post self.now.read) }
-        ensures { Answers box_tree (function_call (read self.now.budget level.Expression) function (kinds tokens.now)) result }
+        ensures { GetsBy box_tree (function_call (read self.now.budget level.Expression) function (kinds tokens.now)) result }
     {
         let operands = self.list(tokens)?;
         let tree = Expr::Function {
@@ -79,7 +79,7 @@ impl<F: Fn(Level, &[Token]) -> Result<Read<'_, Box<Expr>>, Unread>> Grammar<F> {
         tokens: &'t [Token],
     ) -> Result<Read<'t, Box<Expr>>, Unread>
         requires { Nests self.now.budget (F.pre self.now.read) (F.post self.now.read) }
-        ensures { Answers box_tree (set_op_call (read self.now.budget level.Expression) operator (kinds tokens.now)) result }
+        ensures { GetsBy box_tree (set_op_call (read self.now.budget level.Expression) operator (kinds tokens.now)) result }
     {
         let operands = self.list(tokens)?;
         if operands.tree.len() < 2 {
@@ -100,7 +100,7 @@ impl<F: Fn(Level, &[Token]) -> Result<Read<'_, Box<Expr>>, Unread>> Grammar<F> {
         tokens: &'t [Token],
     ) -> Result<Read<'t, Box<Expr>>, Unread>
         requires { Nests self.now.budget (F.pre self.now.read) (F.post self.now.read) }
-        ensures { Answers box_tree (value_window_call (read self.now.budget level.Expression) function (kinds tokens.now)) result }
+        ensures { GetsBy box_tree (value_window_call (read self.now.budget level.Expression) function (kinds tokens.now)) result }
     {
         let operand = (self.read)(Level::Expression, tokens)?;
         let over = over_part(self.alloc, operand.rest)?;
@@ -120,7 +120,7 @@ impl<F: Fn(Level, &[Token]) -> Result<Read<'_, Box<Expr>>, Unread>> Grammar<F> {
         tokens: &'t [Token],
     ) -> Result<Read<'t, Box<Expr>>, Unread>
         requires { Nests self.now.budget (F.pre self.now.read) (F.post self.now.read) }
-        ensures { Answers box_tree (shift_call (read self.now.budget level.Expression) function (kinds tokens.now)) result }
+        ensures { GetsBy box_tree (shift_call (read self.now.budget level.Expression) function (kinds tokens.now)) result }
     {
         let operand = (self.read)(Level::Expression, tokens)?;
         let shift = shift_part(operand.rest)?;
@@ -140,7 +140,7 @@ impl<F: Fn(Level, &[Token]) -> Result<Read<'_, Box<Expr>>, Unread>> Grammar<F> {
     #[tactic(auto, using(crate::proofs::Views::views), unfolding(vtl_grammar::specs::ReadExpressions::rank_call))]
     pub(crate) fn rank_call<'t>(&self, tokens: &'t [Token]) -> Result<Read<'t, Box<Expr>>, Unread>
         requires { Nests self.now.budget (F.pre self.now.read) (F.post self.now.read) }
-        ensures { Answers box_tree (rank_call self.now.budget (kinds tokens.now)) result }
+        ensures { GetsBy box_tree (rank_call self.now.budget (kinds tokens.now)) result }
     {
         let over = over_part(self.alloc, tokens)?;
         let spare = spared(self.budget, over_depth(&over.part))?;
@@ -155,7 +155,7 @@ impl<F: Fn(Level, &[Token]) -> Result<Read<'_, Box<Expr>>, Unread>> Grammar<F> {
         tokens: &'t [Token],
     ) -> Result<Read<'t, Box<Expr>>, Unread>
         requires { Nests self.now.budget (F.pre self.now.read) (F.post self.now.read) }
-        ensures { Answers box_tree (difference_call (read self.now.budget level.Expression) operator (kinds tokens.now)) result }
+        ensures { GetsBy box_tree (difference_call (read self.now.budget level.Expression) operator (kinds tokens.now)) result }
     {
         let left = (self.read)(Level::Expression, tokens)?;
         let after = after_sign(left.rest, Sign::Comma).ok_or(Unread::Absent)?;
@@ -175,7 +175,7 @@ impl<F: Fn(Level, &[Token]) -> Result<Read<'_, Box<Expr>>, Unread>> Grammar<F> {
         tokens: &'t [Token],
     ) -> Result<Read<'t, Box<Expr>>, Unread>
         requires { Nests self.now.budget (F.pre self.now.read) (F.post self.now.read) }
-        ensures { Answers box_tree (exists_in_call (read self.now.budget level.Expression) (kinds tokens.now)) result }
+        ensures { GetsBy box_tree (exists_in_call (read self.now.budget level.Expression) (kinds tokens.now)) result }
     {
         let left = (self.read)(Level::Expression, tokens)?;
         let after = after_sign(left.rest, Sign::Comma).ok_or(Unread::Absent)?;
@@ -193,7 +193,7 @@ impl<F: Fn(Level, &[Token]) -> Result<Read<'_, Box<Expr>>, Unread>> Grammar<F> {
     #[tactic(auto, using(crate::proofs::Views::views), unfolding(vtl_grammar::specs::ReadExpressions::check_call))]
     pub(crate) fn check_call<'t>(&self, tokens: &'t [Token]) -> Result<Read<'t, Box<Expr>>, Unread>
         requires { Nests self.now.budget (F.pre self.now.read) (F.post self.now.read) }
-        ensures { Answers box_tree (check_call self.now.budget (read self.now.budget level.Expression) (kinds tokens.now)) result }
+        ensures { GetsBy box_tree (check_call self.now.budget (read self.now.budget level.Expression) (kinds tokens.now)) result }
     {
         let operand = (self.read)(Level::Expression, tokens)?;
         let error = error_part(operand.rest)?;
@@ -220,7 +220,7 @@ impl<F: Fn(Level, &[Token]) -> Result<Read<'_, Box<Expr>>, Unread>> Grammar<F> {
         tokens: &'t [Token],
     ) -> Result<Read<'t, Box<Expr>>, Unread>
         requires { Nests self.now.budget (F.pre self.now.read) (F.post self.now.read) }
-        ensures { Answers box_tree (check_datapoint_call (read self.now.budget level.Expression) (kinds tokens.now)) result }
+        ensures { GetsBy box_tree (check_datapoint_call (read self.now.budget level.Expression) (kinds tokens.now)) result }
     {
         let operand = (self.read)(Level::Expression, tokens)?;
         let ruleset = ruleset_part(operand.rest)?;
@@ -240,7 +240,7 @@ impl<F: Fn(Level, &[Token]) -> Result<Read<'_, Box<Expr>>, Unread>> Grammar<F> {
         tokens: &'t [Token],
     ) -> Result<Read<'t, Box<Expr>>, Unread>
         requires { Nests self.now.budget (F.pre self.now.read) (F.post self.now.read) }
-        ensures { Answers box_tree (check_hierarchy_call (read self.now.budget level.Expression) (kinds tokens.now)) result }
+        ensures { GetsBy box_tree (check_hierarchy_call (read self.now.budget level.Expression) (kinds tokens.now)) result }
     {
         let operand = (self.read)(Level::Expression, tokens)?;
         let ruleset = ruleset_part(operand.rest)?;
@@ -266,7 +266,7 @@ impl<F: Fn(Level, &[Token]) -> Result<Read<'_, Box<Expr>>, Unread>> Grammar<F> {
         tokens: &'t [Token],
     ) -> Result<Read<'t, Box<Expr>>, Unread>
         requires { Nests self.now.budget (F.pre self.now.read) (F.post self.now.read) }
-        ensures { Answers box_tree (hierarchy_call (read self.now.budget level.Expression) (kinds tokens.now)) result }
+        ensures { GetsBy box_tree (hierarchy_call (read self.now.budget level.Expression) (kinds tokens.now)) result }
     {
         let operand = (self.read)(Level::Expression, tokens)?;
         let ruleset = ruleset_part(operand.rest)?;
@@ -289,7 +289,7 @@ impl<F: Fn(Level, &[Token]) -> Result<Read<'_, Box<Expr>>, Unread>> Grammar<F> {
     #[tactic(auto, using(crate::proofs::Views::views), unfolding(vtl_grammar::specs::ReadExpressions::cast_call))]
     pub(crate) fn cast_call<'t>(&self, tokens: &'t [Token]) -> Result<Read<'t, Box<Expr>>, Unread>
         requires { Nests self.now.budget (F.pre self.now.read) (F.post self.now.read) }
-        ensures { Answers box_tree (cast_call self.now.budget (kinds tokens.now)) result }
+        ensures { GetsBy box_tree (cast_call self.now.budget (kinds tokens.now)) result }
     {
         let cast = cast_part(tokens)?;
         let (text, kind) = cast.part;

@@ -2,9 +2,9 @@
 ghost use Rattle.std.specs.Prelude.{◌≡◌};
 ghost use Rattle.std.specs.Option.{option_map};
 ghost use Rattle.vtl_grammar.specs.Faults.{kinds};
-ghost use Rattle.vtl_grammar.specs.ReadExpressions.{aggr_made, clause, made_part, name_clause, read};
+ghost use Rattle.vtl_grammar.specs.ReadExpressions.{aggr_targets, clause, name_clause, pivot_clause, read, targets_part};
 ghost use Rattle.vtl_grammar.specs.declared.levels.Level.TheVariants as level;
-ghost use Rattle.vtl_expressions.specs.Reads.{Answers, Nests, pivoting};
+ghost use Rattle.vtl_expressions.specs.Reads.{GetsBy, Nests};
 ghost use Rattle.vtl_syntax.specs.View.{clause_tree, targets_tree};
 
 use crate::grammar::Grammar;
@@ -18,10 +18,10 @@ use vtl_syntax::{Clause, Expr, Targets};
 
 impl<F: Fn(Level, &[Token]) -> Result<Read<'_, Box<Expr>>, Unread>> Grammar<F> {
     // What follows `aggr`
-    #[tactic(auto, using(crate::proofs::Views::views), unfolding(vtl_grammar::specs::ReadExpressions::aggr_made, vtl_grammar::specs::ReadExpressions::calc_parts))]
-    fn aggr_made<'t>(&self, tokens: &'t [Token]) -> Result<Read<'t, Targets>, Unread>
+    #[tactic(auto, using(crate::proofs::Views::views), unfolding(vtl_grammar::specs::ReadExpressions::aggr_targets, vtl_grammar::specs::ReadExpressions::calc_parts))]
+    fn aggr_targets<'t>(&self, tokens: &'t [Token]) -> Result<Read<'t, Targets>, Unread>
         requires { Nests self.now.budget (F.pre self.now.read) (F.post self.now.read) }
-        ensures { Answers targets_tree (aggr_made self.now.budget (read self.now.budget level.Expression) (kinds tokens.now)) result }
+        ensures { GetsBy targets_tree (aggr_targets self.now.budget (read self.now.budget level.Expression) (kinds tokens.now)) result }
     {
         let parts = self.list(tokens)?;
         let group = group_part(self.alloc, parts.rest)?;
@@ -38,13 +38,13 @@ impl<F: Fn(Level, &[Token]) -> Result<Read<'_, Box<Expr>>, Unread>> Grammar<F> {
     }
 
     // `calc` or `aggr` with what it makes, if one stands there
-    #[tactic(auto, using(crate::proofs::Views::views), unfolding(vtl_grammar::specs::ReadExpressions::made_part, vtl_grammar::specs::ReadExpressions::calc_parts))]
-    pub(crate) fn made_part<'t>(
+    #[tactic(auto, using(crate::proofs::Views::views), unfolding(vtl_grammar::specs::ReadExpressions::targets_part, vtl_grammar::specs::ReadExpressions::calc_parts))]
+    pub(crate) fn targets_part<'t>(
         &self,
         tokens: &'t [Token],
     ) -> Result<Read<'t, Option<Targets>>, Unread>
         requires { Nests self.now.budget (F.pre self.now.read) (F.post self.now.read) }
-        ensures { Answers (option_map targets_tree) (made_part self.now.budget (read self.now.budget level.Expression) (kinds tokens.now)) result }
+        ensures { GetsBy (option_map targets_tree) (targets_part self.now.budget (read self.now.budget level.Expression) (kinds tokens.now)) result }
     {
         if let Some(after) = after_keyword(tokens, Keyword::Calc) {
             let parts = self.list(after)?;
@@ -55,11 +55,11 @@ impl<F: Fn(Level, &[Token]) -> Result<Read<'_, Box<Expr>>, Unread>> Grammar<F> {
             });
         }
         if let Some(after) = after_keyword(tokens, Keyword::Aggr) {
-            let made = self.aggr_made(after)?;
+            let targets = self.aggr_targets(after)?;
             return Ok(Read {
-                tree: Some(made.tree),
-                spare: made.spare,
-                rest: made.rest,
+                tree: Some(targets.tree),
+                spare: targets.spare,
+                rest: targets.rest,
             });
         }
         Ok(self.none(tokens))
@@ -79,9 +79,9 @@ impl<F: Fn(Level, &[Token]) -> Result<Read<'_, Box<Expr>>, Unread>> Grammar<F> {
     }
 
     // `pivot` or `unpivot`
-    #[tactic(auto, using(crate::proofs::Views::views))]
-    fn pivoting_clause<'t>(&self, tokens: &'t [Token]) -> Result<Read<'t, Clause>, Unread>
-        ensures { Answers clause_tree (pivoting self.now.budget (kinds tokens.now)) result }
+    #[tactic(auto, using(crate::proofs::Views::views), unfolding(vtl_grammar::specs::ReadExpressions::pivot_clause))]
+    fn pivot_clause<'t>(&self, tokens: &'t [Token]) -> Result<Read<'t, Clause>, Unread>
+        ensures { GetsBy clause_tree (pivot_clause self.now.budget (kinds tokens.now)) result }
     {
         if let Some(after) = after_keyword(tokens, Keyword::Pivot) {
             let names = two_comps(after)?;
@@ -110,7 +110,7 @@ impl<F: Fn(Level, &[Token]) -> Result<Read<'_, Box<Expr>>, Unread>> Grammar<F> {
     #[tactic(auto, using(crate::proofs::Views::views), unfolding(vtl_grammar::specs::ReadExpressions::name_clause))]
     fn name_clause<'t>(&self, tokens: &'t [Token]) -> Result<Read<'t, Clause>, Unread>
         requires { Nests self.now.budget (F.pre self.now.read) (F.post self.now.read) }
-        ensures { Answers clause_tree (name_clause self.now.budget (kinds tokens.now)) result }
+        ensures { GetsBy clause_tree (name_clause self.now.budget (kinds tokens.now)) result }
     {
         let Front { part, rest } = maybe_keeping(self.alloc, tokens)?;
         if let Some(kept) = part {
@@ -124,14 +124,14 @@ impl<F: Fn(Level, &[Token]) -> Result<Read<'_, Box<Expr>>, Unread>> Grammar<F> {
             let parts = sub_parts(self.alloc, after)?;
             return Ok(self.leaf_clause(Clause::Sub(parts.part), parts.rest));
         }
-        self.pivoting_clause(tokens)
+        self.pivot_clause(tokens)
     }
 
     // What stands between `[` and `]`
     #[tactic(auto, using(crate::proofs::Views::views), unfolding(vtl_grammar::specs::ReadExpressions::clause))]
     pub(crate) fn clause<'t>(&self, tokens: &'t [Token]) -> Result<Read<'t, Clause>, Unread>
         requires { Nests self.now.budget (F.pre self.now.read) (F.post self.now.read) }
-        ensures { Answers clause_tree (clause self.now.budget (read self.now.budget level.Expression) (kinds tokens.now)) result }
+        ensures { GetsBy clause_tree (clause self.now.budget (read self.now.budget level.Expression) (kinds tokens.now)) result }
     {
         let Read { tree, spare, rest } = self.maybe_after(Keyword::Filter, tokens)?;
         if let Some(condition) = tree {
@@ -141,7 +141,7 @@ impl<F: Fn(Level, &[Token]) -> Result<Read<'_, Box<Expr>>, Unread>> Grammar<F> {
                 rest,
             });
         }
-        let Read { tree, spare, rest } = self.made_part(tokens)?;
+        let Read { tree, spare, rest } = self.targets_part(tokens)?;
         if let Some(targets) = tree {
             return Ok(Read {
                 tree: Clause::Targets(targets),

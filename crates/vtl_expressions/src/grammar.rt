@@ -2,7 +2,7 @@
 ghost use Rattle.std.specs.Prelude.{◌≡◌, Some};
 ghost use Rattle.vtl_grammar.specs.Faults.{kinds};
 ghost use Rattle.vtl_grammar.specs.Reading.{got};
-ghost use Rattle.vtl_expressions.specs.Reads.{Answers, box_tree};
+ghost use Rattle.vtl_expressions.specs.Reads.{GetsBy, box_tree};
 ghost use Rattle.vtl_syntax.specs.View.{expr_tree};
 
 use crate::reads::Read;
@@ -40,7 +40,7 @@ pub(crate) fn node(
     spare: usize,
     rest: &[Token],
 ) -> Result<Read<'_, Box<Expr>>, Unread>
-    ensures { Answers box_tree (Some (got (expr_tree tree) spare (kinds rest.now))) result }
+    ensures { GetsBy box_tree (Some (got (expr_tree tree) spare (kinds rest.now))) result }
 {
     Ok(Read {
         tree: Box::new(alloc, tree)?,

@@ -3,7 +3,7 @@ ghost use Rattle.std.specs.Prelude.{◌≤◌, length};
 ghost use Rattle.vtl_grammar.specs.Faults.{kinds};
 ghost use Rattle.vtl_grammar.specs.ReadExpressions.{join_body, join_call, read};
 ghost use Rattle.vtl_grammar.specs.declared.levels.Level.TheVariants as level;
-ghost use Rattle.vtl_expressions.specs.Reads.{Answers, Nests, box_tree, got_of, list_view};
+ghost use Rattle.vtl_expressions.specs.Reads.{GetsBy, Nests, box_tree, got_of, list_view};
 ghost use Rattle.vtl_syntax.specs.View.{part_tree};
 
 use crate::grammar::{Grammar, node};
@@ -22,23 +22,23 @@ impl<F: Fn(Level, &[Token]) -> Result<Read<'_, Box<Expr>>, Unread>> Grammar<F> {
         operands: Read<'t, Vec<JoinPart>>,
     ) -> Result<Read<'t, Box<Expr>>, Unread>
         requires { Nests self.now.budget (F.pre self.now.read) (F.post self.now.read) }
-        ensures { Answers box_tree (join_body self.now.budget (read self.now.budget level.Expression) kind (got_of (list_view part_tree) operands.entry)) result }
+        ensures { GetsBy box_tree (join_body self.now.budget (read self.now.budget level.Expression) kind (got_of (list_view part_tree) operands.entry)) result }
     {
         let using = using_part(self.alloc, operands.rest)?;
         let filter = self.maybe_after(Keyword::Filter, using.rest)?;
-        let made = self.made_part(filter.rest)?;
-        let keeping = maybe_keeping(self.alloc, made.rest)?;
+        let targets = self.targets_part(filter.rest)?;
+        let keeping = maybe_keeping(self.alloc, targets.rest)?;
         let renames = maybe_renames(self.alloc, keeping.rest)?;
         let tree = Expr::Join {
             kind,
             operands: operands.tree,
             using: using.part,
             filter: filter.tree,
-            targets: made.tree,
+            targets: targets.tree,
             keeping: keeping.part,
             renames: renames.part,
         };
-        let spare = operands.spare.min(filter.spare.min(made.spare));
+        let spare = operands.spare.min(filter.spare.min(targets.spare));
         node(self.alloc, tree, spare, renames.rest)
     }
 
@@ -50,7 +50,7 @@ impl<F: Fn(Level, &[Token]) -> Result<Read<'_, Box<Expr>>, Unread>> Grammar<F> {
         tokens: &'t [Token],
     ) -> Result<Read<'t, Box<Expr>>, Unread>
         requires { Nests self.now.budget (F.pre self.now.read) (F.post self.now.read) }
-        ensures { Answers box_tree (join_call self.now.budget (read self.now.budget level.Expression) kind (kinds tokens.now)) result }
+        ensures { GetsBy box_tree (join_call self.now.budget (read self.now.budget level.Expression) kind (kinds tokens.now)) result }
     {
         let operands = self.list(tokens)?;
         if operands.tree.len() < 2 {

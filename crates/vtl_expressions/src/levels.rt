@@ -4,8 +4,8 @@ ghost use Rattle.vtl_grammar.specs.Faults.{kinds};
 ghost use Rattle.vtl_grammar.specs.ReadExpressions.{add_at, and_at, bracketed, call, choice, choice_or, closed, compare_at, formed, leaf_at, multiply_at, or_at, postfix, primary, read, read_level, unary_at};
 ghost use Rattle.vtl_grammar.specs.Reading.{word};
 ghost use Rattle.vtl_grammar.specs.declared.levels.Level.TheVariants as level;
-ghost use Rattle.vtl_expressions.specs.Reads.{Answers, Nests, box_tree, got_of};
-ghost use Rattle.vtl_parts.specs.Answers.{AnswersBy};
+ghost use Rattle.vtl_expressions.specs.Reads.{GetsBy, Nests, box_tree, got_of};
+ghost use Rattle.vtl_parts.specs.Fronts.{ReadsBy};
 ghost use Rattle.vtl_syntax.specs.View.{expr_tree};
 
 use crate::grammar::{Grammar, node};
@@ -17,7 +17,7 @@ use vtl_syntax::{Expr, UnaryOp};
 
 // A name or a constant alone.
 fn leaf(tokens: &[Token]) -> Result<Front<'_, Expr>, Unread>
-    ensures { AnswersBy expr_tree (word leaf_at (kinds tokens.now)) result }
+    ensures { ReadsBy expr_tree (word leaf_at (kinds tokens.now)) result }
 {
     match comp(tokens) {
         Ok(front) => Ok(Front {
@@ -38,7 +38,7 @@ fn leaf(tokens: &[Token]) -> Result<Front<'_, Expr>, Unread>
 // The closing bracket after what was read.
 #[tactic(auto, unfolding(vtl_grammar::specs::ReadExpressions::closed))]
 fn closed(read: Read<'_, Box<Expr>>) -> Result<Read<'_, Box<Expr>>, Unread>
-    ensures { Answers box_tree (closed (got_of box_tree read.entry)) result }
+    ensures { GetsBy box_tree (closed (got_of box_tree read.entry)) result }
 {
     let rest = after_sign(read.rest, Sign::CloseBracket).ok_or(Unread::Absent)?;
     Ok(Read {
@@ -53,7 +53,7 @@ impl<F: Fn(Level, &[Token]) -> Result<Read<'_, Box<Expr>>, Unread>> Grammar<F> {
     #[tactic(auto, unfolding(vtl_grammar::specs::ReadExpressions::call))]
     fn call<'t>(&self, form: CallForm, tokens: &'t [Token]) -> Result<Read<'t, Box<Expr>>, Unread>
         requires { Nests self.now.budget (F.pre self.now.read) (F.post self.now.read) }
-        ensures { Answers box_tree (call self.now.budget (read self.now.budget level.Expression) form (kinds tokens.now)) result }
+        ensures { GetsBy box_tree (call self.now.budget (read self.now.budget level.Expression) form (kinds tokens.now)) result }
     {
         match form {
             CallForm::Function(function) => self.function_call(function, tokens),
@@ -77,7 +77,7 @@ impl<F: Fn(Level, &[Token]) -> Result<Read<'_, Box<Expr>>, Unread>> Grammar<F> {
     #[tactic(auto, using(crate::proofs::Views::views), unfolding(vtl_grammar::specs::ReadExpressions::bracketed))]
     fn bracketed<'t>(&self, tokens: &'t [Token]) -> Result<Read<'t, Box<Expr>>, Unread>
         requires { Nests self.now.budget (F.pre self.now.read) (F.post self.now.read) }
-        ensures { Answers box_tree (bracketed (read self.now.budget level.Expression) (kinds tokens.now)) result }
+        ensures { GetsBy box_tree (bracketed (read self.now.budget level.Expression) (kinds tokens.now)) result }
     {
         let inner = (self.read)(Level::Expression, tokens)?;
         closed(node(
@@ -92,7 +92,7 @@ impl<F: Fn(Level, &[Token]) -> Result<Read<'_, Box<Expr>>, Unread>> Grammar<F> {
     #[tactic(auto, unfolding(vtl_grammar::specs::ReadExpressions::formed))]
     fn formed<'t>(&self, tokens: &'t [Token]) -> Result<Read<'t, Box<Expr>>, Unread>
         requires { Nests self.now.budget (F.pre self.now.read) (F.post self.now.read) }
-        ensures { Answers box_tree (formed self.now.budget (read self.now.budget level.Expression) (kinds tokens.now)) result }
+        ensures { GetsBy box_tree (formed self.now.budget (read self.now.budget level.Expression) (kinds tokens.now)) result }
     {
         let form = word(tokens).ok_or(Unread::Absent)?;
         let inner = after_sign(form.rest, Sign::OpenBracket).ok_or(Unread::Absent)?;
@@ -103,7 +103,7 @@ impl<F: Fn(Level, &[Token]) -> Result<Read<'_, Box<Expr>>, Unread>> Grammar<F> {
     #[tactic(auto, unfolding(vtl_grammar::specs::ReadExpressions::primary))]
     pub(crate) fn primary<'t>(&self, tokens: &'t [Token]) -> Result<Read<'t, Box<Expr>>, Unread>
         requires { Nests self.now.budget (F.pre self.now.read) (F.post self.now.read) }
-        ensures { Answers box_tree (primary self.now.budget (read self.now.budget level.Expression) (kinds tokens.now)) result }
+        ensures { GetsBy box_tree (primary self.now.budget (read self.now.budget level.Expression) (kinds tokens.now)) result }
     {
         match leaf(tokens) {
             Ok(front) => node(self.alloc, front.part, self.budget, front.rest),
@@ -119,7 +119,7 @@ impl<F: Fn(Level, &[Token]) -> Result<Read<'_, Box<Expr>>, Unread>> Grammar<F> {
     #[tactic(auto, using(crate::proofs::Views::views), unfolding(vtl_grammar::specs::ReadExpressions::choice))]
     fn choice<'t>(&self, tokens: &'t [Token]) -> Result<Read<'t, Box<Expr>>, Unread>
         requires { Nests self.now.budget (F.pre self.now.read) (F.post self.now.read) }
-        ensures { Answers box_tree (choice (read self.now.budget level.Expression) (kinds tokens.now)) result }
+        ensures { GetsBy box_tree (choice (read self.now.budget level.Expression) (kinds tokens.now)) result }
     {
         let condition = (self.read)(Level::Expression, tokens)?;
         let after = after_keyword(condition.rest, Keyword::Then).ok_or(Unread::Absent)?;
@@ -139,17 +139,17 @@ impl<F: Fn(Level, &[Token]) -> Result<Read<'_, Box<Expr>>, Unread>> Grammar<F> {
     #[tactic(auto, unfolding(vtl_grammar::specs::ReadExpressions::postfix))]
     fn postfix<'t>(&self, tokens: &'t [Token]) -> Result<Read<'t, Box<Expr>>, Unread>
         requires { Nests self.now.budget (F.pre self.now.read) (F.post self.now.read) }
-        ensures { Answers box_tree (postfix self.now.budget (read self.now.budget level.Expression) (kinds tokens.now)) result }
+        ensures { GetsBy box_tree (postfix self.now.budget (read self.now.budget level.Expression) (kinds tokens.now)) result }
     {
         let operand = self.primary(tokens)?;
         self.more_postfix(operand)
     }
 
     // An operand with signs or `not` before it
-    #[tactic(auto, using(crate::proofs::Views::views), unfolding(vtl_grammar::specs::ReadExpressions::prefixed))]
+    #[tactic(auto, using(crate::proofs::Views::views), unfolding(vtl_grammar::specs::ReadExpressions::unary_at, vtl_grammar::specs::ReadExpressions::prefixed))]
     fn unary<'t>(&self, tokens: &'t [Token]) -> Result<Read<'t, Box<Expr>>, Unread>
         requires { Nests self.now.budget (F.pre self.now.read) (F.post self.now.read) }
-        ensures { Answers box_tree (unary_at self.now.budget (read self.now.budget) (kinds tokens.now)) result }
+        ensures { GetsBy box_tree (unary_at self.now.budget (read self.now.budget) (kinds tokens.now)) result }
     {
         let Some(op) = word(tokens) else {
             return self.postfix(tokens);
@@ -163,50 +163,50 @@ impl<F: Fn(Level, &[Token]) -> Result<Read<'_, Box<Expr>>, Unread>> Grammar<F> {
     }
 
     // `*` and `/`
-    #[tactic(auto, unfolding(vtl_grammar::specs::ReadExpressions::chain))]
+    #[tactic(auto, unfolding(vtl_grammar::specs::ReadExpressions::multiply_at, vtl_grammar::specs::ReadExpressions::chain))]
     fn multiply<'t>(&self, tokens: &'t [Token]) -> Result<Read<'t, Box<Expr>>, Unread>
         requires { Nests self.now.budget (F.pre self.now.read) (F.post self.now.read) }
-        ensures { Answers box_tree (multiply_at self.now.budget (read self.now.budget) (kinds tokens.now)) result }
+        ensures { GetsBy box_tree (multiply_at self.now.budget (read self.now.budget) (kinds tokens.now)) result }
     {
         let left = self.unary(tokens)?;
         self.more_operands(Level::Multiply, Level::Unary, left)
     }
 
     // `+`, `-` and `||`
-    #[tactic(auto, unfolding(vtl_grammar::specs::ReadExpressions::chain))]
+    #[tactic(auto, unfolding(vtl_grammar::specs::ReadExpressions::add_at, vtl_grammar::specs::ReadExpressions::chain))]
     fn add<'t>(&self, tokens: &'t [Token]) -> Result<Read<'t, Box<Expr>>, Unread>
         requires { Nests self.now.budget (F.pre self.now.read) (F.post self.now.read) }
-        ensures { Answers box_tree (add_at self.now.budget (read self.now.budget) (kinds tokens.now)) result }
+        ensures { GetsBy box_tree (add_at self.now.budget (read self.now.budget) (kinds tokens.now)) result }
     {
         let left = self.multiply(tokens)?;
         self.more_operands(Level::Add, Level::Multiply, left)
     }
 
     // Comparisons, `in` and `not_in`
-    #[tactic(auto, unfolding(vtl_grammar::specs::ReadExpressions::chain))]
+    #[tactic(auto, unfolding(vtl_grammar::specs::ReadExpressions::compare_at, vtl_grammar::specs::ReadExpressions::chain))]
     fn compare<'t>(&self, tokens: &'t [Token]) -> Result<Read<'t, Box<Expr>>, Unread>
         requires { Nests self.now.budget (F.pre self.now.read) (F.post self.now.read) }
-        ensures { Answers box_tree (compare_at self.now.budget (read self.now.budget) (kinds tokens.now)) result }
+        ensures { GetsBy box_tree (compare_at self.now.budget (read self.now.budget) (kinds tokens.now)) result }
     {
         let left = self.add(tokens)?;
         self.more_operands(Level::Compare, Level::Add, left)
     }
 
     // `and`
-    #[tactic(auto, unfolding(vtl_grammar::specs::ReadExpressions::chain))]
+    #[tactic(auto, unfolding(vtl_grammar::specs::ReadExpressions::and_at, vtl_grammar::specs::ReadExpressions::chain))]
     fn and<'t>(&self, tokens: &'t [Token]) -> Result<Read<'t, Box<Expr>>, Unread>
         requires { Nests self.now.budget (F.pre self.now.read) (F.post self.now.read) }
-        ensures { Answers box_tree (and_at self.now.budget (read self.now.budget) (kinds tokens.now)) result }
+        ensures { GetsBy box_tree (and_at self.now.budget (read self.now.budget) (kinds tokens.now)) result }
     {
         let left = self.compare(tokens)?;
         self.more_operands(Level::And, Level::Compare, left)
     }
 
     // `or` and `xor`
-    #[tactic(auto, unfolding(vtl_grammar::specs::ReadExpressions::chain))]
+    #[tactic(auto, unfolding(vtl_grammar::specs::ReadExpressions::or_at, vtl_grammar::specs::ReadExpressions::chain))]
     fn or<'t>(&self, tokens: &'t [Token]) -> Result<Read<'t, Box<Expr>>, Unread>
         requires { Nests self.now.budget (F.pre self.now.read) (F.post self.now.read) }
-        ensures { Answers box_tree (or_at self.now.budget (read self.now.budget) (kinds tokens.now)) result }
+        ensures { GetsBy box_tree (or_at self.now.budget (read self.now.budget) (kinds tokens.now)) result }
     {
         let left = self.and(tokens)?;
         self.more_operands(Level::Or, Level::And, left)
@@ -216,7 +216,7 @@ impl<F: Fn(Level, &[Token]) -> Result<Read<'_, Box<Expr>>, Unread>> Grammar<F> {
     #[tactic(auto, unfolding(vtl_grammar::specs::ReadExpressions::choice_or))]
     fn expression<'t>(&self, tokens: &'t [Token]) -> Result<Read<'t, Box<Expr>>, Unread>
         requires { Nests self.now.budget (F.pre self.now.read) (F.post self.now.read) }
-        ensures { Answers box_tree (choice_or (read self.now.budget level.Expression) (or_at self.now.budget (read self.now.budget)) (kinds tokens.now)) result }
+        ensures { GetsBy box_tree (choice_or (read self.now.budget level.Expression) (or_at self.now.budget (read self.now.budget)) (kinds tokens.now)) result }
     {
         match after_keyword(tokens, Keyword::If) {
             Some(after) => self.choice(after),
@@ -232,7 +232,7 @@ impl<F: Fn(Level, &[Token]) -> Result<Read<'_, Box<Expr>>, Unread>> Grammar<F> {
         tokens: &'t [Token],
     ) -> Result<Read<'t, Box<Expr>>, Unread>
         requires { Nests self.now.budget (F.pre self.now.read) (F.post self.now.read) }
-        ensures { Answers box_tree (read_level self.now.budget (read self.now.budget) level (kinds tokens.now)) result }
+        ensures { GetsBy box_tree (read_level self.now.budget (read self.now.budget) level (kinds tokens.now)) result }
     {
         match level {
             Level::Primary => self.primary(tokens),

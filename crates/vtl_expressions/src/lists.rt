@@ -1,17 +1,19 @@
 // Lists of parts that hold expressions, with a comma between them.
-ghost use Rattle.std.specs.Prelude.{length, map};
+ghost use Rattle.std.specs.Prelude.{◌≡◌, length, map};
 ghost use Rattle.vtl_grammar.specs.Faults.{kinds};
-ghost use Rattle.vtl_grammar.specs.ReadExpressions.{read};
+ghost use Rattle.vtl_grammar.specs.ReadExpressions.{calc_head, read};
 ghost use Rattle.vtl_grammar.specs.Reading.{got_listed, more_got};
 ghost use Rattle.vtl_grammar.specs.declared.levels.Level.TheVariants as level;
-ghost use Rattle.vtl_expressions.specs.Reads.{Answers, Nests, list_view};
+ghost use Rattle.vtl_expressions.specs.Reads.{GetsBy, Nests, box_tree, list_view};
+ghost use Rattle.vtl_parts.specs.Fronts.{ReadsAs};
+ghost use Rattle.vtl_syntax.specs.View.{calc_tree};
 
 use crate::grammar::Grammar;
 use crate::reads::Read;
 use vtl_grammar::Level;
 use vtl_lexer::{Sign, Token};
-use vtl_parts::{Unread, after_sign, alias_part, comp, maybe_word};
-use vtl_syntax::{CalcPart, Expr, JoinPart};
+use vtl_parts::{Front, Unread, after_sign, alias_part, comp, maybe_word};
+use vtl_syntax::{CalcPart, Comp, Expr, JoinPart, WrittenRole};
 
 // A part that holds an expression and stands in lists.
 pub(crate) trait Nested: Drop {
@@ -19,7 +21,7 @@ pub(crate) trait Nested: Drop {
     ghost use Rattle.vtl_grammar.specs.ReadExpressions.{read};
     ghost use Rattle.vtl_grammar.specs.Reading.{Gets};
     ghost use Rattle.vtl_grammar.specs.declared.levels.Level.TheVariants as level;
-    ghost use Rattle.vtl_expressions.specs.Reads.{Answers, Nests};
+    ghost use Rattle.vtl_expressions.specs.Reads.{GetsBy, Nests};
     ghost use Rattle.vtl_syntax.specs.Trees.{Exp};
 
     // Its tree in definitions, and how the grammar reads it.
@@ -34,7 +36,7 @@ pub(crate) trait Nested: Drop {
         tokens: &'t [Token],
     ) -> Result<Read<'t, Self>, Unread>
         requires { Nests grammar.now.budget (F.pre grammar.now.read) (F.post grammar.now.read) }
-        ensures { Answers view (reads (read grammar.now.budget level.Expression) (kinds tokens.now)) result };
+        ensures { GetsBy view (reads (read grammar.now.budget level.Expression) (kinds tokens.now)) result };
 }
 
 impl Nested for Expr {
@@ -60,6 +62,38 @@ impl Nested for Expr {
     }
 }
 
+// `role component :=`
+#[tactic(auto, unfolding(vtl_grammar::specs::ReadExpressions::calc_head))]
+fn calc_head(tokens: &[Token]) -> Result<Front<'_, (Option<WrittenRole>, Comp)>, Unread>
+    ensures { ReadsAs (calc_head (kinds tokens.now)) result }
+{
+    let role = maybe_word(tokens);
+    let component = comp(role.rest)?;
+    let rest = after_sign(component.rest, Sign::Assign).ok_or(Unread::Absent)?;
+    Ok(Front {
+        part: (role.part, component.part),
+        rest,
+    })
+}
+
+// A target, from what stands before `:=` and its value.
+#[tactic(auto, using(crate::proofs::Views::views))]
+fn calc_part(head: (Option<WrittenRole>, Comp), value: Read<'_, Box<Expr>>) -> Read<'_, CalcPart>
+    ensures tree { calc_tree result.tree ≡ record { role = head.0; component = head.1; value = box_tree value.entry.tree } }
+    ensures spare { result.spare ≡ value.entry.spare }
+    ensures rest { result.rest.now ≡ value.entry.rest.now }
+{
+    Read {
+        tree: CalcPart {
+            role: head.0,
+            component: head.1,
+            value: value.tree,
+        },
+        spare: value.spare,
+        rest: value.rest,
+    }
+}
+
 impl Nested for CalcPart {
     ghost use Rattle.vtl_grammar.specs.ReadExpressions.{calc_part};
     ghost use Rattle.vtl_syntax.specs.Trees.{CalcTree};
@@ -76,19 +110,9 @@ impl Nested for CalcPart {
         grammar: &Grammar<F>,
         tokens: &'t [Token],
     ) -> Result<Read<'t, CalcPart>, Unread> {
-        let role = maybe_word(tokens);
-        let component = comp(role.rest)?;
-        let after = after_sign(component.rest, Sign::Assign).ok_or(Unread::Absent)?;
-        let value = (grammar.read)(Level::Expression, after)?;
-        Ok(Read {
-            tree: CalcPart {
-                role: role.part,
-                component: component.part,
-                value: value.tree,
-            },
-            spare: value.spare,
-            rest: value.rest,
-        })
+        let head = calc_head(tokens)?;
+        let value = (grammar.read)(Level::Expression, head.rest)?;
+        Ok(calc_part(head.part, value))
     }
 }
 
@@ -128,7 +152,7 @@ impl<F: Fn(Level, &[Token]) -> Result<Read<'_, Box<Expr>>, Unread>> Grammar<F> {
         tokens: &'t [Token],
     ) -> Result<Read<'t, Vec<P>>, Unread>
         requires { Nests self.now.budget (F.pre self.now.read) (F.post self.now.read) }
-        ensures { Answers (list_view P.view) (got_listed (P.reads (read self.now.budget level.Expression)) (kinds tokens.now)) result }
+        ensures { GetsBy (list_view P.view) (got_listed (P.reads (read self.now.budget level.Expression)) (kinds tokens.now)) result }
     {
         let first = P::read(self, tokens)?;
         let mut items = Vec::new(self.alloc);
@@ -144,7 +168,7 @@ impl<F: Fn(Level, &[Token]) -> Result<Read<'_, Box<Expr>>, Unread>> Grammar<F> {
         tokens: &'t [Token],
     ) -> Result<Read<'t, Vec<P>>, Unread>
         requires { Nests self.now.budget (F.pre self.now.read) (F.post self.now.read) }
-        ensures { Answers (list_view P.view) (more_got (P.reads (read self.now.budget level.Expression)) (length (kinds tokens.now)) (map P.view items.items) spare (kinds tokens.now)) result }
+        ensures { GetsBy (list_view P.view) (more_got (P.reads (read self.now.budget level.Expression)) (length (kinds tokens.now)) (map P.view items.items) spare (kinds tokens.now)) result }
     {
         let mut least = spare;
         let mut rest = tokens;

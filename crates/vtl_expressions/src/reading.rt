@@ -2,8 +2,8 @@
 ghost use Rattle.vtl_grammar.specs.Faults.{kinds};
 ghost use Rattle.vtl_grammar.specs.ReadExpressions.{read};
 ghost use Rattle.vtl_grammar.specs.ReadStatements.{whole_exp};
-ghost use Rattle.vtl_expressions.specs.Reads.{Answers, box_tree};
-ghost use Rattle.vtl_parts.specs.Answers.{AnswersBy};
+ghost use Rattle.vtl_expressions.specs.Reads.{GetsBy, box_tree};
+ghost use Rattle.vtl_parts.specs.Fronts.{ReadsBy};
 
 use crate::grammar::Grammar;
 use crate::reads::Read;
@@ -22,7 +22,7 @@ fn read(
     level: Level,
     tokens: &[Token],
 ) -> Result<Read<'_, Box<Expr>>, Unread>
-    ensures { Answers box_tree (read budget level (kinds tokens.now)) result }
+    ensures { GetsBy box_tree (read budget level (kinds tokens.now)) result }
 {
     if budget == 0 {
         return Err(Unread::Absent);
@@ -32,7 +32,7 @@ fn read(
         alloc,
         inner,
         move |level, tokens|
-            ensures { Answers box_tree (read inner level (kinds tokens.now)) result }
+            ensures { GetsBy box_tree (read inner level (kinds tokens.now)) result }
         { read(alloc, inner, level, tokens) },
     );
     grammar.level(level, tokens)
@@ -42,7 +42,7 @@ fn read(
 /// by value is dear to check.
 #[tactic(auto, unfolding(vtl_grammar::specs::ReadStatements::whole_exp))]
 pub fn whole_expression(alloc: Global, tokens: &[Token]) -> Result<Front<'_, Box<Expr>>, Unread>
-    ensures { AnswersBy box_tree (whole_exp (kinds tokens.now)) result }
+    ensures { ReadsBy box_tree (whole_exp (kinds tokens.now)) result }
 {
     let Read { tree, rest, .. } = read(alloc, DEPTH_LIMIT, Level::Expression, tokens)?;
     Ok(Front { part: tree, rest })

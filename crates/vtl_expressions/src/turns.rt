@@ -2,13 +2,12 @@
 ghost use Rattle.std.specs.Prelude.{◌≡◌, ℕ, suc, length, MatchResult, Some, option_map};
 ghost use Rattle.vtl_grammar.specs.Faults.{kinds};
 ghost use Rattle.vtl_grammar.specs.Levels.{looseness, operator_level};
-ghost use Rattle.vtl_grammar.specs.ReadExpressions.{clause, membership_at, more_operands, more_postfix, operator_at, read};
-ghost use Rattle.vtl_grammar.specs.Reading.{Got, got, word};
+ghost use Rattle.vtl_grammar.specs.ReadExpressions.{clause_behind, in_turns, member_behind, membership_at, operand_behind, operand_step, operator_at, postfix_step, read, set_behind};
+ghost use Rattle.vtl_grammar.specs.Reading.{word};
 ghost use Rattle.vtl_grammar.specs.Words.{in_at};
 ghost use Rattle.vtl_grammar.specs.declared.levels.Level.TheVariants as level;
-ghost use Rattle.vtl_expressions.specs.Reads.{Answers, Nests, box_tree, got_of};
-ghost use Rattle.vtl_expressions.specs.Turns.{AnswersTurn, operand_step, postfix_step, with_clause, with_member, with_operand, with_set};
-ghost use Rattle.vtl_parts.specs.Answers.{front_view, same};
+ghost use Rattle.vtl_expressions.specs.Reads.{GetsBy, GetsTurn, Nests, box_tree, got_of};
+ghost use Rattle.vtl_parts.specs.Fronts.{front_view, same};
 
 use crate::grammar::{Grammar, node};
 use crate::reads::Read;
@@ -108,14 +107,14 @@ fn membership(level: Level, tokens: &[Token]) -> Option<Front<'_, bool>>
 }
 
 // `in` or `not_in` and the literals behind an operand.
-#[tactic(auto, using(crate::proofs::Views::views), unfolding(crate::specs::Turns::with_set))]
-fn with_set<'t>(
+#[tactic(auto, using(crate::proofs::Views::views), unfolding(vtl_grammar::specs::ReadExpressions::set_behind))]
+fn set_behind<'t>(
     alloc: Global,
     left: Read<'t, Box<Expr>>,
     negated: bool,
     after: &'t [Token],
 ) -> Result<Read<'t, Box<Expr>>, Unread>
-    ensures { Answers box_tree (with_set (got_of box_tree left.entry) negated (kinds after.now)) result }
+    ensures { GetsBy box_tree (set_behind (got_of box_tree left.entry) negated (kinds after.now)) result }
 {
     let spare = around(left.spare)?;
     let literals = literal_set(alloc, after)?;
@@ -128,13 +127,13 @@ fn with_set<'t>(
 }
 
 // `#component` behind an operand.
-#[tactic(auto, using(crate::proofs::Views::views), unfolding(crate::specs::Turns::with_member))]
-fn with_member<'t>(
+#[tactic(auto, using(crate::proofs::Views::views), unfolding(vtl_grammar::specs::ReadExpressions::member_behind))]
+fn member_behind<'t>(
     alloc: Global,
     operand: Read<'t, Box<Expr>>,
     after: &'t [Token],
 ) -> Result<Read<'t, Box<Expr>>, Unread>
-    ensures { Answers box_tree (with_member (got_of box_tree operand.entry) (kinds after.now)) result }
+    ensures { GetsBy box_tree (member_behind (got_of box_tree operand.entry) (kinds after.now)) result }
 {
     let spare = around(operand.spare)?;
     let component = comp(after)?;
@@ -147,35 +146,35 @@ fn with_member<'t>(
 
 impl<F: Fn(Level, &[Token]) -> Result<Read<'_, Box<Expr>>, Unread>> Grammar<F> {
     // `[clause]` behind an operand.
-    #[tactic(auto, using(crate::proofs::Views::views), unfolding(crate::specs::Turns::with_clause))]
-    fn with_clause<'t>(
+    #[tactic(auto, using(crate::proofs::Views::views), unfolding(vtl_grammar::specs::ReadExpressions::clause_behind))]
+    fn clause_behind<'t>(
         &self,
         operand: Read<'t, Box<Expr>>,
         after: &'t [Token],
     ) -> Result<Read<'t, Box<Expr>>, Unread>
         requires { Nests self.now.budget (F.pre self.now.read) (F.post self.now.read) }
-        ensures { Answers box_tree (with_clause self.now.budget (read self.now.budget level.Expression) (got_of box_tree operand.entry) (kinds after.now)) result }
+        ensures { GetsBy box_tree (clause_behind self.now.budget (read self.now.budget level.Expression) (got_of box_tree operand.entry) (kinds after.now)) result }
     {
         let spare = around(operand.spare)?;
         let clause = self.clause(after)?;
         let rest = after_sign(clause.rest, Sign::CloseSquare).ok_or(Unread::Absent)?;
-        let tree = Expr::Clause {
+        let tree = Expr::WithClause {
             operand: operand.tree,
             clause: Box::new(self.alloc, clause.tree)?,
         };
         node(self.alloc, tree, spare.min(clause.spare), rest)
     }
 
-    #[tactic(auto, unfolding(crate::specs::Turns::postfix_step))]
+    #[tactic(auto, unfolding(vtl_grammar::specs::ReadExpressions::postfix_step))]
     fn postfix_turn<'t>(&self, operand: Read<'t, Box<Expr>>) -> Result<Turn<'t>, Unread>
         requires { Nests self.now.budget (F.pre self.now.read) (F.post self.now.read) }
-        ensures { AnswersTurn (postfix_step self.now.budget (read self.now.budget level.Expression) (got_of box_tree operand.entry)) (got_of box_tree operand.entry) result }
+        ensures { GetsTurn (postfix_step self.now.budget (read self.now.budget level.Expression) (got_of box_tree operand.entry)) (got_of box_tree operand.entry) result }
     {
         if let Some(after) = after_sign(operand.rest, Sign::OpenSquare) {
-            return Ok(Turn::More(self.with_clause(operand, after)?));
+            return Ok(Turn::More(self.clause_behind(operand, after)?));
         }
         if let Some(after) = after_sign(operand.rest, Sign::Hash) {
-            return Ok(Turn::More(with_member(self.alloc, operand, after)?));
+            return Ok(Turn::More(member_behind(self.alloc, operand, after)?));
         }
         Ok(Turn::End(operand))
     }
@@ -186,7 +185,7 @@ impl<F: Fn(Level, &[Token]) -> Result<Read<'_, Box<Expr>>, Unread>> Grammar<F> {
         operand: Read<'t, Box<Expr>>,
     ) -> Result<Read<'t, Box<Expr>>, Unread>
         requires { Nests self.now.budget (F.pre self.now.read) (F.post self.now.read) }
-        ensures { Answers box_tree (more_postfix self.now.budget (read self.now.budget level.Expression) (length (kinds operand.entry.rest.now)) (box_tree operand.entry.tree) operand.entry.spare (kinds operand.entry.rest.now)) result }
+        ensures { GetsBy box_tree (in_turns (postfix_step self.now.budget (read self.now.budget level.Expression)) (length (kinds operand.entry.rest.now)) (got_of box_tree operand.entry)) result }
     {
         let tokens = operand.rest;
         let mut read = operand;
@@ -200,8 +199,8 @@ impl<F: Fn(Level, &[Token]) -> Result<Read<'_, Box<Expr>>, Unread>> Grammar<F> {
     }
 
     // An operator and its right operand behind a left one.
-    #[tactic(auto, using(crate::proofs::Views::views), unfolding(crate::specs::Turns::with_operand))]
-    fn with_operand<'t>(
+    #[tactic(auto, using(crate::proofs::Views::views), unfolding(vtl_grammar::specs::ReadExpressions::operand_behind))]
+    fn operand_behind<'t>(
         &self,
         right: Level,
         left: Read<'t, Box<Expr>>,
@@ -209,7 +208,7 @@ impl<F: Fn(Level, &[Token]) -> Result<Read<'_, Box<Expr>>, Unread>> Grammar<F> {
         after: &'t [Token],
     ) -> Result<Read<'t, Box<Expr>>, Unread>
         requires { Nests self.now.budget (F.pre self.now.read) (F.post self.now.read) }
-        ensures { Answers box_tree (with_operand (read self.now.budget right) (got_of box_tree left.entry) op (kinds after.now)) result }
+        ensures { GetsBy box_tree (operand_behind (read self.now.budget right) (got_of box_tree left.entry) op (kinds after.now)) result }
     {
         let spare = around(left.spare)?;
         let right = (self.read)(right, after)?;
@@ -221,7 +220,7 @@ impl<F: Fn(Level, &[Token]) -> Result<Read<'_, Box<Expr>>, Unread>> Grammar<F> {
         node(self.alloc, tree, spare.min(right.spare), right.rest)
     }
 
-    #[tactic(auto, unfolding(crate::specs::Turns::operand_step))]
+    #[tactic(auto, unfolding(vtl_grammar::specs::ReadExpressions::operand_step))]
     fn operand_turn<'t>(
         &self,
         level: Level,
@@ -229,13 +228,13 @@ impl<F: Fn(Level, &[Token]) -> Result<Read<'_, Box<Expr>>, Unread>> Grammar<F> {
         left: Read<'t, Box<Expr>>,
     ) -> Result<Turn<'t>, Unread>
         requires { Nests self.now.budget (F.pre self.now.read) (F.post self.now.read) }
-        ensures { AnswersTurn (operand_step level (read self.now.budget right) (got_of box_tree left.entry)) (got_of box_tree left.entry) result }
+        ensures { GetsTurn (operand_step level (read self.now.budget right) (got_of box_tree left.entry)) (got_of box_tree left.entry) result }
     {
         if let Some(Front { part, rest }) = operator(level, left.rest) {
-            return Ok(Turn::More(self.with_operand(right, left, part, rest)?));
+            return Ok(Turn::More(self.operand_behind(right, left, part, rest)?));
         }
         if let Some(Front { part, rest }) = membership(level, left.rest) {
-            return Ok(Turn::More(with_set(self.alloc, left, part, rest)?));
+            return Ok(Turn::More(set_behind(self.alloc, left, part, rest)?));
         }
         Ok(Turn::End(left))
     }
@@ -248,7 +247,7 @@ impl<F: Fn(Level, &[Token]) -> Result<Read<'_, Box<Expr>>, Unread>> Grammar<F> {
         left: Read<'t, Box<Expr>>,
     ) -> Result<Read<'t, Box<Expr>>, Unread>
         requires { Nests self.now.budget (F.pre self.now.read) (F.post self.now.read) }
-        ensures { Answers box_tree (more_operands level (read self.now.budget right) (length (kinds left.entry.rest.now)) (box_tree left.entry.tree) left.entry.spare (kinds left.entry.rest.now)) result }
+        ensures { GetsBy box_tree (in_turns (operand_step level (read self.now.budget right)) (length (kinds left.entry.rest.now)) (got_of box_tree left.entry)) result }
     {
         let tokens = left.rest;
         let mut read = left;

@@ -1,9 +1,8 @@
 use crate::{
-    DiskFiles, FailAt, Failed, Files, MemFile, MemFiles, MemSink, Method, ReadErr, Sink, StdSink,
-    read_all, sink_all, write_all,
+    FailAt, Failed, Files, MemFile, MemFiles, MemSink, Method, ReadErr, read_all, sink_all,
+    write_all,
 };
 use std::alloc::{AllocError, Global};
-use std::fs;
 use std::process::Abort;
 use std::test::Fail;
 
@@ -145,47 +144,5 @@ fn calls_out_of_turn_fail(rt: HostRuntime) -> Result<(), Fail> {
     create(&mut files, alloc, "one")?;
     assert_eq!(rt; create(&mut files, alloc, "two"), Err(Failed));
     assert_eq!(rt; files.written().len(), 1);
-    Ok(())
-}
-
-#[test]
-fn the_disk_gives_back_what_was_written(rt: HostRuntime) -> Result<(), Fail> {
-    let alloc = rt.alloc();
-    let mut files = DiskFiles::new(alloc, &rt);
-    refuses(&rt, alloc, &mut files, "disk_text", ReadErr::Absent);
-    assert_eq!(rt; files.read(&mut [0u8; 4]), Ok(0));
-    assert_eq!(rt; files.write(b"1"), Err(Failed));
-    create(&mut files, alloc, "disk_text")?;
-    write_all(&mut files, TEXT)?;
-    files.finish()?;
-    assert_eq!(rt; files.finish(), Err(Failed));
-    gives(&rt, alloc, &mut files, "disk_text", TEXT);
-    refuses(&rt, alloc, &mut files, "disk_text", ReadErr::TooLong);
-    fs::remove_file(&rt, "disk_text")?;
-    Ok(())
-}
-
-// Only where nothing is found is a file absent, and no folder is created.
-#[test]
-fn a_folder_is_no_file(rt: HostRuntime) -> Result<(), Fail> {
-    let alloc = rt.alloc();
-    fs::write(&rt, "plain", "text")?;
-    fs::create_dir(&rt, "folder")?;
-    let mut files = DiskFiles::new(alloc, &rt);
-    refuses(&rt, alloc, &mut files, "missing/text", ReadErr::Absent);
-    refuses(&rt, alloc, &mut files, "folder", ReadErr::Failed);
-    refuses(&rt, alloc, &mut files, "plain/text", ReadErr::Failed);
-    assert_eq!(rt; create(&mut files, alloc, "folder"), Err(Failed));
-    assert_eq!(rt; create(&mut files, alloc, "missing/text"), Err(Failed));
-    fs::remove_file(&rt, "plain")?;
-    fs::remove_dir(&rt, "folder")?;
-    Ok(())
-}
-
-#[test]
-fn standard_output_takes_bytes(rt: HostRuntime) -> Result<(), Fail> {
-    let mut out = StdSink::new(&rt);
-    sink_all(&mut out, b"taken\n")?;
-    assert_eq!(rt; out.write(b""), Ok(0));
     Ok(())
 }

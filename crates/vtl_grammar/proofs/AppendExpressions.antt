@@ -4,8 +4,8 @@ use Rattle.vtl_lexer.specs.declared.keyword.Keyword.TheVariants as keyword
 use Rattle.vtl_lexer.specs.declared.token.Sign.TheVariants as sign
 use Rattle.vtl_lexer.specs.declared.token.TokenKind.{TokenKind}
 use Rattle.vtl_lexer.specs.declared.token.TokenKind.TheVariants as token
-use Rattle.vtl_syntax.specs.Trees.{Exp, if_then, binary, in_set, unary, clause, member, component, constant, brackets, function, aggregate, aggregate_over, value_window, shift, rank, set_op, difference, exists_in, check, check_datapoint, check_hierarchy, hierarchy, join, Exps, no_exps, exp, MaybeExp, no_exp, some_exp, Brack, filtering, making, keeping, renaming, fixing, pivot, unpivot, Made, calc, aggr, MaybeMade, no_made, some_made, Calcs, no_calcs, calc_part, Parts, no_parts, join_part, point_rule, assignment, datapoint, hierarchical}
-use Rattle.vtl_grammar.specs.Grammar.{Tokens, comma, close_bracket, listed_onto, maybe_onto, maybe_after_onto, comp_onto, comps_onto, set_onto, name_onto, literal_onto, error_onto, group_onto, over_onto, maybe_keeping_onto, rename_part_onto, dataset_onto, retain_onto, exp_onto, exps_onto, more_exps_onto, maybe_exp_onto, maybe_exp_after_onto, brack_onto, made_onto, maybe_made_onto, calcs_onto, more_calcs_onto, parts_onto, more_parts_onto, rule_name_onto, when_onto, point_rule_onto, signed_onto, hier_rule_onto, more_rules_onto, rules_onto, statement_onto, script_onto}
+use Rattle.vtl_syntax.specs.Trees.{Exp, if_then, binary, in_set, unary, with_clause, member, component, constant, brackets, function, aggregate, aggregate_over, value_window, shift, rank, set_op, difference, exists_in, check, check_datapoint, check_hierarchy, hierarchy, join, Exps, no_exps, exp, MaybeExp, no_exp, some_exp, ClauseTree, filter, targets, keeping, rename, sub, pivot, unpivot, TargetsTree, calc, aggr, MaybeTargets, no_targets, some_targets, Calcs, no_calcs, calc_part, Parts, no_parts, join_part, point_rule, assignment, datapoint, hierarchical}
+use Rattle.vtl_grammar.specs.Grammar.{Tokens, comma, close_bracket, listed_onto, maybe_onto, maybe_after_onto, comp_onto, comps_onto, set_onto, name_onto, literal_onto, error_onto, group_onto, over_onto, maybe_keeping_onto, rename_part_onto, dataset_onto, retain_onto, exp_onto, exps_onto, more_exps_onto, maybe_exp_onto, maybe_exp_after_onto, clause_onto, targets_onto, maybe_targets_onto, calcs_onto, more_calcs_onto, parts_onto, more_parts_onto, rule_name_onto, when_onto, point_rule_onto, signed_onto, hier_rule_onto, more_rules_onto, rules_onto, statement_onto, script_onto}
 use Rattle.vtl_grammar.specs.Words.{binary_op_token, mode_token, basic_out_token, check_out_token, hier_input_token, hier_out_token, written_role_token, addition_token, comparison_token, comp_token, in_token}
 use Rattle.vtl_grammar.proofs.AppendParts.{Appends, maybe-append, maybe_after-append, comp-append, comps-append, constant-append, literal-append, set-append, name-append, error-append, group-append, over-append, maybe_keeping-append, keeping-append, renames-append, subs-append, dataset-append, retain-append}
 
@@ -18,9 +18,9 @@ mutual
   exp-append (binary l o r) a b = rw (exp-append r a b) (exp-append l (binary_op_token o ∷ exp_onto r a) b)
   exp-append (in_set e negated ls) a b = rw (set-append ls a b) (exp-append e (in_token negated ∷ set_onto ls a) b)
   exp-append (unary o e) a b = rw (exp-append e a b) refl
-  exp-append (clause e c) a b =
-      let inner : Tokens = brack_onto c (token.Sign sign.CloseSquare ∷ a) in
-      rw (brack-append c (token.Sign sign.CloseSquare ∷ a) b) (exp-append e (token.Sign sign.OpenSquare ∷ inner) b)
+  exp-append (with_clause e c) a b =
+      let inner : Tokens = clause_onto c (token.Sign sign.CloseSquare ∷ a) in
+      rw (clause-append c (token.Sign sign.CloseSquare ∷ a) b) (exp-append e (token.Sign sign.OpenSquare ∷ inner) b)
   exp-append (member e c) a b = exp-append e (token.Sign sign.Hash ∷ comp_token c ∷ a) b
   exp-append (component c) a b = refl
   exp-append (constant c) a b = constant-append c a b
@@ -65,10 +65,10 @@ mutual
   exp-append (join k ps u f m kept rs) a b =
       let renames : Tokens = maybe_after_onto (token.Keyword keyword.Rename) (listed_onto rename_part_onto) rs (close_bracket ∷ a) in
       let keep : Tokens = maybe_keeping_onto kept renames in
-      let made : Tokens = maybe_made_onto m keep in
-      let filter : Tokens = maybe_exp_after_onto (token.Keyword keyword.Filter) f made in
-      let using : Tokens = maybe_after_onto (token.Keyword keyword.Using) comps_onto u filter in
-      rw (maybe_after-append (token.Keyword keyword.Rename) (listed_onto rename_part_onto) renames-append rs (close_bracket ∷ a) b, maybe_keeping-append kept renames b, maybe_made-append m keep b, maybe_exp_after-append (token.Keyword keyword.Filter) f made b, maybe_after-append (token.Keyword keyword.Using) comps_onto comps-append u filter b, parts-append ps using b)
+      let made : Tokens = maybe_targets_onto m keep in
+      let filtered : Tokens = maybe_exp_after_onto (token.Keyword keyword.Filter) f made in
+      let using : Tokens = maybe_after_onto (token.Keyword keyword.Using) comps_onto u filtered in
+      rw (maybe_after-append (token.Keyword keyword.Rename) (listed_onto rename_part_onto) renames-append rs (close_bracket ∷ a) b, maybe_keeping-append kept renames b, maybe_targets-append m keep b, maybe_exp_after-append (token.Keyword keyword.Filter) f made b, maybe_after-append (token.Keyword keyword.Using) comps_onto comps-append u filtered b, parts-append ps using b)
       refl
 
   pub exps-append : (es : Exps) (a b : Tokens) → exps_onto es (a ++ b) ≡ exps_onto es a ++ b
@@ -87,24 +87,24 @@ mutual
   maybe_exp_after-append w no_exp a b = refl
   maybe_exp_after-append w (some_exp e) a b = rw (exp-append e a b) refl
 
-  pub brack-append : (c : Brack) (a b : Tokens) → brack_onto c (a ++ b) ≡ brack_onto c a ++ b
-  brack-append (filtering e) a b = rw (exp-append e a b) refl
-  brack-append (making m) a b = made-append m a b
-  brack-append (keeping k) a b = keeping-append k a b
-  brack-append (renaming rs) a b = rw (renames-append rs a b) refl
-  brack-append (fixing ss) a b = rw (subs-append ss a b) refl
-  brack-append (pivot x y) a b = refl
-  brack-append (unpivot x y) a b = refl
+  pub clause-append : (c : ClauseTree) (a b : Tokens) → clause_onto c (a ++ b) ≡ clause_onto c a ++ b
+  clause-append (filter e) a b = rw (exp-append e a b) refl
+  clause-append (targets m) a b = targets-append m a b
+  clause-append (keeping k) a b = keeping-append k a b
+  clause-append (rename rs) a b = rw (renames-append rs a b) refl
+  clause-append (sub ss) a b = rw (subs-append ss a b) refl
+  clause-append (pivot x y) a b = refl
+  clause-append (unpivot x y) a b = refl
 
-  pub made-append : (m : Made) (a b : Tokens) → made_onto m (a ++ b) ≡ made_onto m a ++ b
-  made-append (calc cs) a b = rw (calcs-append cs a b) refl
-  made-append (aggr cs g h) a b =
+  pub targets-append : (m : TargetsTree) (a b : Tokens) → targets_onto m (a ++ b) ≡ targets_onto m a ++ b
+  targets-append (calc cs) a b = rw (calcs-append cs a b) refl
+  targets-append (aggr cs g h) a b =
       let having : Tokens = maybe_exp_after_onto (token.Keyword keyword.Having) h a in
       rw (maybe_exp_after-append (token.Keyword keyword.Having) h a b, group-append g having b, calcs-append cs (group_onto g having) b) refl
 
-  pub maybe_made-append : (m : MaybeMade) (a b : Tokens) → maybe_made_onto m (a ++ b) ≡ maybe_made_onto m a ++ b
-  maybe_made-append no_made a b = refl
-  maybe_made-append (some_made m) a b = made-append m a b
+  pub maybe_targets-append : (m : MaybeTargets) (a b : Tokens) → maybe_targets_onto m (a ++ b) ≡ maybe_targets_onto m a ++ b
+  maybe_targets-append no_targets a b = refl
+  maybe_targets-append (some_targets m) a b = targets-append m a b
 
   pub calcs-append : (cs : Calcs) (a b : Tokens) → calcs_onto cs (a ++ b) ≡ calcs_onto cs a ++ b
   calcs-append no_calcs a b = refl

@@ -6,9 +6,9 @@ use Rattle.vtl_lexer.specs.declared.keyword.Keyword.TheVariants as keyword
 use Rattle.vtl_lexer.specs.declared.token.Sign.TheVariants as sign
 use Rattle.vtl_lexer.specs.declared.token.TokenKind.{TokenKind}
 use Rattle.vtl_lexer.specs.declared.token.TokenKind.TheVariants as token
-use Rattle.vtl_syntax.specs.Depth.{exp_depth, exps_depth, maybe_depth, maybe_made_depth, parts_depth, group_depth, over_depth}
+use Rattle.vtl_syntax.specs.Depth.{exp_depth, exps_depth, maybe_depth, maybe_targets_depth, parts_depth, group_depth, over_depth}
 use Rattle.vtl_syntax.specs.Trees as tree
-use Rattle.vtl_syntax.specs.Trees.{Exp, Exps, MaybeExp, MaybeMade, Parts, exps_of, parts_of, maybe_exp, maybe_made}
+use Rattle.vtl_syntax.specs.Trees.{Exp, Exps, MaybeExp, MaybeTargets, Parts, exps_of, parts_of, maybe_exp, maybe_targets}
 use Rattle.vtl_syntax.specs.declared.parts.Comp.{Comp}
 use Rattle.vtl_syntax.specs.declared.parts.ErrorPart.{ErrorPart}
 use Rattle.vtl_syntax.specs.declared.parts.GroupPart.{GroupPart}
@@ -32,18 +32,18 @@ use Rattle.vtl_syntax.specs.declared.word_groups.SetOpName.{SetOpName}
 use Rattle.vtl_syntax.specs.declared.word_groups.ShiftName.{ShiftName}
 use Rattle.vtl_syntax.specs.declared.word_groups.ValueWindowName.{ValueWindowName}
 use Rattle.vtl_grammar.specs.Fits.{Fits, OverFits, exps_count, parts_count}
-use Rattle.vtl_grammar.specs.Grammar.{Tokens, comma, close_bracket, listed_onto, maybe_onto, maybe_after_onto, comp_onto, comps_onto, string_onto, integer_onto, literal_onto, error_onto, group_onto, over_onto, maybe_keeping_onto, rename_part_onto, dataset_onto, retain_onto, exp_onto, exps_onto, maybe_exp_onto, maybe_exp_after_onto, maybe_made_onto, parts_onto}
+use Rattle.vtl_grammar.specs.Grammar.{Tokens, comma, close_bracket, listed_onto, maybe_onto, maybe_after_onto, comp_onto, comps_onto, string_onto, integer_onto, literal_onto, error_onto, group_onto, over_onto, maybe_keeping_onto, rename_part_onto, dataset_onto, retain_onto, exp_onto, exps_onto, maybe_exp_onto, maybe_exp_after_onto, maybe_targets_onto, parts_onto}
 use Rattle.vtl_grammar.specs.Reading.{Gets, got, is_keyword, is_sign, after_keyword, after_sign, spared}
 use Rattle.vtl_grammar.specs.ReadExpressions.{no_operand, function_call, set_op_call, over_call, group_call, aggregate_call, value_window_call, shift_call, rank_call, two_exps, difference_call, exists_in_call, check_call, check_datapoint_call, dataset_part, check_hierarchy_call, hierarchy_call, join_body, join_call}
 use Rattle.vtl_grammar.specs.ReadParts.{rule_part}
 use Rattle.vtl_grammar.specs.Words.{comp_at, mode_at, mode_token, basic_out_at, basic_out_token, check_out_at, check_out_token, hier_input_at, hier_input_token, hier_out_at, hier_out_token}
 use Rattle.vtl_grammar.specs.declared.levels.Level.TheVariants as level
 use Rattle.vtl_grammar.proofs.CompleteBase.{Lacks, in_table, lacks_keyword, maybe_lacks, maybe_after_lacks, maybe_word_complete, CompleteGets}
-use Rattle.vtl_grammar.proofs.CompleteForms.{maybe_exp_after_lacks, group_lacks, made_lacks, maybe_exp_after_complete, maybe_operand_complete, exps_complete, made_complete, join_parts_complete}
+use Rattle.vtl_grammar.proofs.CompleteForms.{maybe_exp_after_lacks, group_lacks, targets_lacks, maybe_exp_after_complete, maybe_operand_complete, exps_complete, targets_complete, join_parts_complete}
 use Rattle.vtl_grammar.proofs.CompleteLevels.{goes_on}
 use Rattle.vtl_grammar.proofs.CompleteParts.{error_complete, group_complete, over_complete, maybe_keeping_complete, maybe_renames_complete, using_complete, shift_complete, retain_complete, ruleset_complete, rule_complete, rule_lacks, rule_alone}
 use Rattle.vtl_grammar.proofs.CompleteTables.{mode_read, mode_lacks, basic_out_read, basic_out_lacks, check_out_read, check_out_lacks, hier_input_read, hier_input_lacks, hier_out_read, hier_out_lacks}
-use Rattle.vtl_grammar.proofs.CompleteTrees.{exp_option, exp_list, exps_of-list, exps_count-list, part_list, parts_of-list, parts_count-list, maybe_exp-option, maybe_made-option}
+use Rattle.vtl_grammar.proofs.CompleteTrees.{exp_option, exp_list, exps_of-list, exps_count-list, part_list, parts_of-list, parts_count-list, maybe_exp-option, maybe_targets-option}
 
 spared_is : (n depth : ℕ) → depth ≤ n → spared n depth ≡ Some (n - depth)
 spared_is n depth h = rw (le-leb depth n h) refl
@@ -228,10 +228,10 @@ module _ (n : ℕ) (part : Gets Exp) (reads : CompleteGets n part exp_onto Fits 
       rw (reads e (comma ∷ token.Name name ∷ rule) fits shallow refl, ruleset_complete name rule, rule_complete r mode no_rule, maybe_word_complete mode_at mode_token mode_read m input inputs, maybe_word_complete hier_input_at hier_input_token hier_input_read i out (outs (in_table hier_input_at) refl refl refl), maybe_word_complete hier_out_at hier_out_token hier_out_read o (close_bracket ∷ rest) refl)
       refl
 
-  pub join_complete : (k : JoinKind) (ps : Parts) (u : Option (List Comp)) (f : MaybeExp) (m : MaybeMade) (kept : Option Keeping) (rs : Option (List RenamePart)) (rest : Tokens)
-      → Fits (tree.join k ps u f m kept rs) → max (parts_depth ps) (max (maybe_depth f) (maybe_made_depth m)) ≤ n
-      → join_call n part k (parts_onto ps (maybe_after_onto (token.Keyword keyword.Using) comps_onto u (maybe_exp_after_onto (token.Keyword keyword.Filter) f (maybe_made_onto m (maybe_keeping_onto kept (maybe_after_onto (token.Keyword keyword.Rename) (listed_onto rename_part_onto) rs (close_bracket ∷ rest)))))))
-      ≡ Some (got (tree.join k ps u f m kept rs) (n - max (parts_depth ps) (max (maybe_depth f) (maybe_made_depth m))) (close_bracket ∷ rest))
+  pub join_complete : (k : JoinKind) (ps : Parts) (u : Option (List Comp)) (f : MaybeExp) (m : MaybeTargets) (kept : Option Keeping) (rs : Option (List RenamePart)) (rest : Tokens)
+      → Fits (tree.join k ps u f m kept rs) → max (parts_depth ps) (max (maybe_depth f) (maybe_targets_depth m)) ≤ n
+      → join_call n part k (parts_onto ps (maybe_after_onto (token.Keyword keyword.Using) comps_onto u (maybe_exp_after_onto (token.Keyword keyword.Filter) f (maybe_targets_onto m (maybe_keeping_onto kept (maybe_after_onto (token.Keyword keyword.Rename) (listed_onto rename_part_onto) rs (close_bracket ∷ rest)))))))
+      ≡ Some (got (tree.join k ps u f m kept rs) (n - max (parts_depth ps) (max (maybe_depth f) (maybe_targets_depth m))) (close_bracket ∷ rest))
   unfolding join_call join_body
   join_complete k ps u f m kept rs rest fits shallow =
       let two : 2 ≤ parts_count ps = fits.0 in
@@ -240,19 +240,19 @@ module _ (n : ℕ) (part : Gets Exp) (reads : CompleteGets n part exp_onto Fits 
       let after : Tokens = close_bracket ∷ rest in
       let renames : Tokens = maybe_after_onto (token.Keyword keyword.Rename) (listed_onto rename_part_onto) rs after in
       let keep : Tokens = maybe_keeping_onto kept renames in
-      let made : Tokens = maybe_made_onto m keep in
-      let filter : Tokens = maybe_exp_after_onto (token.Keyword keyword.Filter) f made in
+      let targets : Tokens = maybe_targets_onto m keep in
+      let filter : Tokens = maybe_exp_after_onto (token.Keyword keyword.Filter) f targets in
       let using : Tokens = maybe_after_onto (token.Keyword keyword.Using) comps_onto u filter in
       let at_renames : (p : TokenKind → Bool) → p (token.Keyword keyword.Rename) ≡ false → p close_bracket ≡ false → Lacks p renames =
       λ p no_rename no_close. maybe_after_lacks p (token.Keyword keyword.Rename) (listed_onto rename_part_onto) no_rename rs after no_close in
       let at_keep : (p : TokenKind → Bool) → p (token.Keyword keyword.Keep) ≡ false → p (token.Keyword keyword.Drop) ≡ false → p (token.Keyword keyword.Rename) ≡ false → p close_bracket ≡ false → Lacks p keep =
       λ p no_keep no_drop no_rename no_close. keeping_lacks p no_keep no_drop kept renames (at_renames p no_rename no_close) in
-      let at_made : (p : TokenKind → Bool) → p (token.Keyword keyword.Calc) ≡ false → p (token.Keyword keyword.Aggr) ≡ false → p (token.Keyword keyword.Keep) ≡ false → p (token.Keyword keyword.Drop) ≡ false → p (token.Keyword keyword.Rename) ≡ false → p close_bracket ≡ false → Lacks p made =
-      λ p no_calc no_aggr no_keep no_drop no_rename no_close. made_lacks p no_calc no_aggr m keep (at_keep p no_keep no_drop no_rename no_close) in
+      let at_targets : (p : TokenKind → Bool) → p (token.Keyword keyword.Calc) ≡ false → p (token.Keyword keyword.Aggr) ≡ false → p (token.Keyword keyword.Keep) ≡ false → p (token.Keyword keyword.Drop) ≡ false → p (token.Keyword keyword.Rename) ≡ false → p close_bracket ≡ false → Lacks p targets =
+      λ p no_calc no_aggr no_keep no_drop no_rename no_close. targets_lacks p no_calc no_aggr m keep (at_keep p no_keep no_drop no_rename no_close) in
       let at_filter : (p : TokenKind → Bool) → p (token.Keyword keyword.Filter) ≡ false → p (token.Keyword keyword.Calc) ≡ false → p (token.Keyword keyword.Aggr) ≡ false → p (token.Keyword keyword.Keep) ≡ false → p (token.Keyword keyword.Drop) ≡ false → p (token.Keyword keyword.Rename) ≡ false → p close_bracket ≡ false → Lacks p filter =
-      λ p no_filter no_calc no_aggr no_keep no_drop no_rename no_close. maybe_exp_after_lacks p (token.Keyword keyword.Filter) no_filter f made (at_made p no_calc no_aggr no_keep no_drop no_rename no_close) in
+      λ p no_filter no_calc no_aggr no_keep no_drop no_rename no_close. maybe_exp_after_lacks p (token.Keyword keyword.Filter) no_filter f targets (at_targets p no_calc no_aggr no_keep no_drop no_rename no_close) in
       let at_using : (p : TokenKind → Bool) → p (token.Keyword keyword.Using) ≡ false → p (token.Keyword keyword.Filter) ≡ false → p (token.Keyword keyword.Calc) ≡ false → p (token.Keyword keyword.Aggr) ≡ false → p (token.Keyword keyword.Keep) ≡ false → p (token.Keyword keyword.Drop) ≡ false → p (token.Keyword keyword.Rename) ≡ false → p close_bracket ≡ false → Lacks p using =
       λ p no_using no_filter no_calc no_aggr no_keep no_drop no_rename no_close. maybe_after_lacks p (token.Keyword keyword.Using) comps_onto no_using u filter (at_filter p no_filter no_calc no_aggr no_keep no_drop no_rename no_close) in
-      let s : min (n - parts_depth ps) (min (n - maybe_depth f) (n - maybe_made_depth m)) ≡ n - max (parts_depth ps) (max (maybe_depth f) (maybe_made_depth m)) = omega arith in
-      rw (join_parts_complete n part reads ps using (omega arith) fits.1 (omega arith) (at_using (is_sign sign.Comma) refl refl refl refl refl refl refl refl) (at_using (is_keyword keyword.As) refl refl refl refl refl refl refl refl) (at_using (goes_on level.Expression) refl refl refl refl refl refl refl refl), enough, using_complete u filter fits.2 (at_filter (is_keyword keyword.Using) refl refl refl refl refl refl refl) (at_filter (is_sign sign.Comma) refl refl refl refl refl refl refl), maybe_exp_after_complete n part reads keyword.Filter refl f made fits.3 (omega arith) (at_made (is_keyword keyword.Filter) refl refl refl refl refl refl) (at_made (goes_on level.Expression) refl refl refl refl refl refl), made_complete n part reads m keep fits.4 (omega arith) (at_keep (is_keyword keyword.Calc) refl refl refl refl) (at_keep (is_keyword keyword.Aggr) refl refl refl refl) (at_keep (is_sign sign.Comma) refl refl refl refl) (at_keep (is_keyword keyword.Group) refl refl refl refl) (at_keep (is_keyword keyword.Having) refl refl refl refl) (at_keep (goes_on level.Expression) refl refl refl refl), maybe_keeping_complete kept renames fits.5 (at_renames (is_keyword keyword.Keep) refl refl) (at_renames (is_keyword keyword.Drop) refl refl) (at_renames (is_sign sign.Comma) refl refl) (at_renames (is_sign sign.Hash) refl refl), maybe_renames_complete rs after fits.6 refl refl, s, parts_of-list ps, maybe_exp-option f, maybe_made-option m)
+      let s : min (n - parts_depth ps) (min (n - maybe_depth f) (n - maybe_targets_depth m)) ≡ n - max (parts_depth ps) (max (maybe_depth f) (maybe_targets_depth m)) = omega arith in
+      rw (join_parts_complete n part reads ps using (omega arith) fits.1 (omega arith) (at_using (is_sign sign.Comma) refl refl refl refl refl refl refl refl) (at_using (is_keyword keyword.As) refl refl refl refl refl refl refl refl) (at_using (goes_on level.Expression) refl refl refl refl refl refl refl refl), enough, using_complete u filter fits.2 (at_filter (is_keyword keyword.Using) refl refl refl refl refl refl refl) (at_filter (is_sign sign.Comma) refl refl refl refl refl refl refl), maybe_exp_after_complete n part reads keyword.Filter refl f targets fits.3 (omega arith) (at_targets (is_keyword keyword.Filter) refl refl refl refl refl refl) (at_targets (goes_on level.Expression) refl refl refl refl refl refl), targets_complete n part reads m keep fits.4 (omega arith) (at_keep (is_keyword keyword.Calc) refl refl refl refl) (at_keep (is_keyword keyword.Aggr) refl refl refl refl) (at_keep (is_sign sign.Comma) refl refl refl refl) (at_keep (is_keyword keyword.Group) refl refl refl refl) (at_keep (is_keyword keyword.Having) refl refl refl refl) (at_keep (goes_on level.Expression) refl refl refl refl), maybe_keeping_complete kept renames fits.5 (at_renames (is_keyword keyword.Keep) refl refl) (at_renames (is_keyword keyword.Drop) refl refl) (at_renames (is_sign sign.Comma) refl refl) (at_renames (is_sign sign.Hash) refl refl), maybe_renames_complete rs after fits.6 refl refl, s, parts_of-list ps, maybe_exp-option f, maybe_targets-option m)
       refl

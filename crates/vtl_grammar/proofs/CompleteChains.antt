@@ -4,21 +4,21 @@ use Rattle.std.specs.Prelude.{nat_le}
 use Rattle.std.proofs.lemmas.Bool.{cases_Bool, leb-false, leb-true}
 use Rattle.vtl_lexer.specs.declared.token.Sign.TheVariants as sign
 use Rattle.vtl_lexer.specs.declared.token.TokenKind.TheVariants as token
-use Rattle.vtl_syntax.specs.Depth.{exp_depth, brack_depth}
+use Rattle.vtl_syntax.specs.Depth.{exp_depth, clause_depth}
 use Rattle.vtl_syntax.specs.Trees as tree
-use Rattle.vtl_syntax.specs.Trees.{Exp, Brack}
+use Rattle.vtl_syntax.specs.Trees.{Exp, ClauseTree}
 use Rattle.vtl_syntax.specs.declared.parts.Comp.{Comp}
 use Rattle.vtl_syntax.specs.declared.parts.Literal.{Literal}
 use Rattle.vtl_syntax.specs.declared.word_groups.BinaryOp.{BinaryOp}
 use Rattle.vtl_grammar.specs.Fits.{Fits}
-use Rattle.vtl_grammar.specs.Grammar.{Tokens, set_onto, brack_onto, exp_onto}
+use Rattle.vtl_grammar.specs.Grammar.{Tokens, set_onto, clause_onto, exp_onto}
 use Rattle.vtl_grammar.specs.Levels.{looseness, tighter, operator_level, level_of, Within}
 use Rattle.vtl_grammar.specs.Reading.{Gets, got, is_sign, after_sign, word}
-use Rattle.vtl_grammar.specs.ReadExpressions.{more_postfix, postfix, prefixed, more_operands, chain}
+use Rattle.vtl_grammar.specs.ReadExpressions.{chain, clause_behind, in_turns, member_behind, operand_behind, operand_step, postfix, postfix_step, prefixed, set_behind}
 use Rattle.vtl_grammar.specs.Words.{binary_op_token, unary_op_at, comp_token, in_token}
 use Rattle.vtl_grammar.specs.declared.levels.Level.{Level}
 use Rattle.vtl_grammar.specs.declared.levels.Level.TheVariants as level
-use Rattle.vtl_grammar.proofs.AppendExpressions.{exp-append, brack-append}
+use Rattle.vtl_grammar.proofs.AppendExpressions.{exp-append, clause-append}
 use Rattle.vtl_grammar.proofs.AppendParts.{grows, set-append}
 use Rattle.vtl_grammar.proofs.CompleteBase.{Lacks, in_table, lacks_word, lacks_sign, CompleteGets}
 use Rattle.vtl_grammar.proofs.CompleteForms.{clause_complete}
@@ -40,34 +40,34 @@ deeper n d h = omega arith
 record PostfixGoing (n : ℕ) (part : Gets Exp) (e : Exp) (rest : Tokens) : Type 0 where
   turns : ℕ
   enough : length rest ≤ turns
-  is : postfix n part (exp_onto e rest) ≡ more_postfix n part turns e (suc n - exp_depth e) rest
+  is : postfix n part (exp_onto e rest) ≡ in_turns (postfix_step n part) turns (got e (suc n - exp_depth e) rest)
 
-postfix_stop : (n : ℕ) (part : Gets Exp) (turns : ℕ) (e : Exp) (spare : ℕ) (rest : Tokens) → Lacks (is_sign sign.OpenSquare) rest → Lacks (is_sign sign.Hash) rest → more_postfix n part turns e spare rest ≡ Some (got e spare rest)
-unfolding more_postfix
+postfix_stop : (n : ℕ) (part : Gets Exp) (turns : ℕ) (e : Exp) (spare : ℕ) (rest : Tokens) → Lacks (is_sign sign.OpenSquare) rest → Lacks (is_sign sign.Hash) rest → in_turns (postfix_step n part) turns (got e spare rest) ≡ Some (got e spare rest)
+unfolding postfix_step
 postfix_stop n part zero e spare rest no_square no_hash = refl
 postfix_stop n part (suc turns) e spare rest no_square no_hash = rw (lacks_sign sign.OpenSquare rest no_square, lacks_sign sign.Hash rest no_hash) refl
 
 module _ (n : ℕ) (part : Gets Exp) (reads : CompleteGets n part exp_onto Fits exp_depth (goes_on level.Expression)) where
-  clause_step : (e : Exp) (c : Brack) (rest : Tokens) → Fits (tree.clause e c) → exp_depth (tree.clause e c) ≤ suc n
-      → (turns : ℕ) → suc (length (brack_onto c (token.Sign sign.CloseSquare ∷ rest))) ≤ turns
-      → postfix n part (exp_onto (tree.clause e c) rest) ≡ more_postfix n part turns e (suc n - exp_depth e) (token.Sign sign.OpenSquare ∷ brack_onto c (token.Sign sign.CloseSquare ∷ rest))
-      → PostfixGoing n part (tree.clause e c) rest
-  unfolding more_postfix after_sign
+  clause_step : (e : Exp) (c : ClauseTree) (rest : Tokens) → Fits (tree.with_clause e c) → exp_depth (tree.with_clause e c) ≤ suc n
+      → (turns : ℕ) → suc (length (clause_onto c (token.Sign sign.CloseSquare ∷ rest))) ≤ turns
+      → postfix n part (exp_onto (tree.with_clause e c) rest) ≡ in_turns (postfix_step n part) turns (got e (suc n - exp_depth e) (token.Sign sign.OpenSquare ∷ clause_onto c (token.Sign sign.CloseSquare ∷ rest)))
+      → PostfixGoing n part (tree.with_clause e c) rest
+  unfolding postfix_step clause_behind after_sign
   clause_step e c rest fits shallow zero enough is = absurd (omega arith)
   clause_step e c rest fits shallow (suc turns) enough is =
       let own : exp_depth e ≤ n = omega arith in
-      let s : min (n - exp_depth e) (n - brack_depth c) ≡ suc n - suc (max (exp_depth e) (brack_depth c)) = omega arith in
+      let s : min (n - exp_depth e) (n - clause_depth c) ≡ suc n - suc (max (exp_depth e) (clause_depth c)) = omega arith in
       record {
         turns = turns;
-        enough = omega (arith, grows brack_onto brack-append c (token.Sign sign.CloseSquare ∷ rest));
+        enough = omega (arith, grows clause_onto clause-append c (token.Sign sign.CloseSquare ∷ rest));
         is = is ∙ rw (deeper n (exp_depth e) own, clause_complete n part reads c rest fits.2 (omega arith), s) refl;
       }
 
   member_step : (e : Exp) (c : Comp) (rest : Tokens) → exp_depth (tree.member e c) ≤ suc n
       → (turns : ℕ) → suc (suc (length rest)) ≤ turns
-      → postfix n part (exp_onto (tree.member e c) rest) ≡ more_postfix n part turns e (suc n - exp_depth e) (token.Sign sign.Hash ∷ comp_token c ∷ rest)
+      → postfix n part (exp_onto (tree.member e c) rest) ≡ in_turns (postfix_step n part) turns (got e (suc n - exp_depth e) (token.Sign sign.Hash ∷ comp_token c ∷ rest))
       → PostfixGoing n part (tree.member e c) rest
-  unfolding more_postfix after_sign
+  unfolding postfix_step member_behind after_sign
   member_step e c rest shallow zero enough is = absurd (omega arith)
   member_step e c rest shallow (suc turns) enough is =
       let own : exp_depth e ≤ n = omega arith in
@@ -79,8 +79,8 @@ module _ (n : ℕ) (part : Gets Exp) (reads : CompleteGets n part exp_onto Fits 
   primary_going e rest within fits shallow = record { turns = length rest; enough = omega arith; is = rw (primary_complete n part reads e rest within fits shallow) refl }
 
   postfix_going : (e : Exp) (rest : Tokens) → Within level.Postfix e → Fits e → exp_depth e ≤ suc n → PostfixGoing n part e rest
-  postfix_going (tree.clause e c) rest within fits shallow =
-      let g : PostfixGoing n part e (token.Sign sign.OpenSquare ∷ brack_onto c (token.Sign sign.CloseSquare ∷ rest)) = postfix_going e (token.Sign sign.OpenSquare ∷ brack_onto c (token.Sign sign.CloseSquare ∷ rest)) fits.0 fits.1 (omega arith) in
+  postfix_going (tree.with_clause e c) rest within fits shallow =
+      let g : PostfixGoing n part e (token.Sign sign.OpenSquare ∷ clause_onto c (token.Sign sign.CloseSquare ∷ rest)) = postfix_going e (token.Sign sign.OpenSquare ∷ clause_onto c (token.Sign sign.CloseSquare ∷ rest)) fits.0 fits.1 (omega arith) in
       clause_step e c rest fits shallow g.turns g.enough g.is
   postfix_going (tree.member e c) rest within fits shallow =
       let g : PostfixGoing n part e (token.Sign sign.Hash ∷ comp_token c ∷ rest) = postfix_going e (token.Sign sign.Hash ∷ comp_token c ∷ rest) fits.0 fits.1 (omega arith) in
@@ -115,10 +115,10 @@ module _ (n : ℕ) (part : Gets Exp) (reads : CompleteGets n part exp_onto Fits 
 record Going (n : ℕ) (l : Level) (first right : Gets Exp) (e : Exp) (rest : Tokens) : Type 0 where
   turns : ℕ
   enough : length rest ≤ turns
-  is : chain l first right (exp_onto e rest) ≡ more_operands l right turns e (suc n - exp_depth e) rest
+  is : chain l first right (exp_onto e rest) ≡ in_turns (operand_step l right) turns (got e (suc n - exp_depth e) rest)
 
-operands_stop : (l : Level) (right : Gets Exp) (turns : ℕ) (e : Exp) (spare : ℕ) (rest : Tokens) → Lacks (goes_on l) rest → more_operands l right turns e spare rest ≡ Some (got e spare rest)
-unfolding more_operands
+operands_stop : (l : Level) (right : Gets Exp) (turns : ℕ) (e : Exp) (spare : ℕ) (rest : Tokens) → Lacks (goes_on l) rest → in_turns (operand_step l right) turns (got e spare rest) ≡ Some (got e spare rest)
+unfolding operand_step
 operands_stop l right zero e spare rest stops = refl
 operands_stop l right (suc turns) e spare rest stops = rw (operator_none l rest stops, membership_none l rest stops) refl
 
@@ -139,9 +139,9 @@ module _ (n : ℕ) (l : Level) (low : 3 ≤ looseness l) (high : looseness l ≤
 
   binary_step : (a : Exp) (o : BinaryOp) (b : Exp) (rest : Tokens) → looseness (operator_level o) ≡ looseness l → Fits (tree.binary a o b) → exp_depth (tree.binary a o b) ≤ suc n → Lacks (goes_on (tighter l)) rest
       → (turns : ℕ) → suc (length (exp_onto b rest)) ≤ turns
-      → chain l first right (exp_onto (tree.binary a o b) rest) ≡ more_operands l right turns a (suc n - exp_depth a) (binary_op_token o ∷ exp_onto b rest)
+      → chain l first right (exp_onto (tree.binary a o b) rest) ≡ in_turns (operand_step l right) turns (got a (suc n - exp_depth a) (binary_op_token o ∷ exp_onto b rest))
       → Going n l first right (tree.binary a o b) rest
-  unfolding more_operands
+  unfolding operand_step operand_behind
   binary_step a o b rest same fits shallow stops zero enough is = absurd (omega arith)
   binary_step a o b rest same fits shallow stops (suc turns) enough is =
       let own : exp_depth a ≤ n = omega arith in
@@ -156,9 +156,9 @@ module _ (n : ℕ) (l : Level) (low : 3 ≤ looseness l) (high : looseness l ≤
 
   in_step : (e : Exp) (negated : Bool) (ls : List Literal) (rest : Tokens) → looseness l ≡ 5 → Fits (tree.in_set e negated ls) → exp_depth (tree.in_set e negated ls) ≤ suc n
       → (turns : ℕ) → suc (length (set_onto ls rest)) ≤ turns
-      → chain l first right (exp_onto (tree.in_set e negated ls) rest) ≡ more_operands l right turns e (suc n - exp_depth e) (in_token negated ∷ set_onto ls rest)
+      → chain l first right (exp_onto (tree.in_set e negated ls) rest) ≡ in_turns (operand_step l right) turns (got e (suc n - exp_depth e) (in_token negated ∷ set_onto ls rest))
       → Going n l first right (tree.in_set e negated ls) rest
-  unfolding more_operands
+  unfolding operand_step set_behind
   in_step e negated ls rest same fits shallow zero enough is = absurd (omega arith)
   in_step e negated ls rest same fits shallow (suc turns) enough is =
       let own : exp_depth e ≤ n = omega arith in

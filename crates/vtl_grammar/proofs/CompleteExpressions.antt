@@ -30,21 +30,27 @@ module _ (n : ℕ) (inner : Level → Gets Exp) (reads : AllComplete n inner) wh
   part_complete e rest fits shallow stops = reads level.Expression e rest (within_all e) fits shallow stops
 
   unary_complete : CompleteAt (suc n) level.Unary (unary_at n inner)
+  unfolding unary_at
   unary_complete = prefixed_complete n (inner level.Expression) part_complete (inner level.Unary) (reads level.Unary)
 
   multiply_complete : CompleteAt (suc n) level.Multiply (multiply_at n inner)
+  unfolding multiply_at
   multiply_complete = chain_complete n level.Multiply (omega arith) (omega arith) (unary_at n inner) (inner level.Unary) unary_complete (reads level.Unary)
 
   add_complete : CompleteAt (suc n) level.Add (add_at n inner)
+  unfolding add_at
   add_complete = chain_complete n level.Add (omega arith) (omega arith) (multiply_at n inner) (inner level.Multiply) multiply_complete (reads level.Multiply)
 
   compare_complete : CompleteAt (suc n) level.Compare (compare_at n inner)
+  unfolding compare_at
   compare_complete = chain_complete n level.Compare (omega arith) (omega arith) (add_at n inner) (inner level.Add) add_complete (reads level.Add)
 
   and_complete : CompleteAt (suc n) level.And (and_at n inner)
+  unfolding and_at
   and_complete = chain_complete n level.And (omega arith) (omega arith) (compare_at n inner) (inner level.Compare) compare_complete (reads level.Compare)
 
   or_complete : CompleteAt (suc n) level.Or (or_at n inner)
+  unfolding or_at
   or_complete = chain_complete n level.Or (omega arith) (omega arith) (and_at n inner) (inner level.And) and_complete (reads level.And)
 
   no_choice : (ts : Tokens) → after_keyword keyword.If ts ≡ None → choice_or (inner level.Expression) (or_at n inner) ts ≡ or_at n inner ts

@@ -7,7 +7,7 @@ use Rattle.vtl_lexer.specs.declared.token.Sign.{Sign}
 use Rattle.vtl_lexer.specs.declared.token.Sign.TheVariants as sign
 use Rattle.vtl_lexer.specs.declared.token.TokenKind.{TokenKind}
 use Rattle.vtl_lexer.specs.declared.token.TokenKind.TheVariants as token
-use Rattle.vtl_syntax.specs.Trees.{Exp, if_then, binary, in_set, unary, clause, member, component, constant, brackets, function, aggregate, aggregate_over, value_window, shift, rank, set_op, difference, exists_in, check, check_datapoint, check_hierarchy, hierarchy, join}
+use Rattle.vtl_syntax.specs.Trees.{Exp, if_then, binary, in_set, unary, with_clause, member, component, constant, brackets, function, aggregate, aggregate_over, value_window, shift, rank, set_op, difference, exists_in, check, check_datapoint, check_hierarchy, hierarchy, join}
 use Rattle.vtl_syntax.specs.declared.parts.Comp.{Comp}
 use Rattle.vtl_syntax.specs.declared.parts.Constant.{Constant}
 use Rattle.vtl_syntax.specs.declared.parts.Constant.TheVariants as constants
@@ -18,7 +18,7 @@ use Rattle.vtl_syntax.specs.declared.word_groups.BinaryOp.TheVariants as op
 use Rattle.vtl_syntax.specs.declared.word_groups.UnaryOp.{UnaryOp}
 use Rattle.vtl_syntax.specs.declared.word_groups.UnaryOp.TheVariants as unary_op
 use Rattle.vtl_grammar.specs.Fits.{Fits}
-use Rattle.vtl_grammar.specs.Grammar.{Tokens, open_bracket, set_onto, brack_onto, exp_onto}
+use Rattle.vtl_grammar.specs.Grammar.{Tokens, open_bracket, set_onto, clause_onto, exp_onto}
 use Rattle.vtl_grammar.specs.Levels.{looseness, tighter, operator_level, level_of, Within}
 use Rattle.vtl_grammar.specs.Reading.{is_keyword, is_sign, word}
 use Rattle.vtl_grammar.specs.ReadExpressions.{operator_at, membership_at, ends_operand, leaf_at}
@@ -238,7 +238,7 @@ starts l p lacks (if_then c a b) within fits rest = lacks.no_if within
 starts l p lacks (binary x o y) within fits rest = starts l p lacks x (let h : looseness (level_of x) ≤ looseness (operator_level o) = fits.0 in omega arith) fits.1 (binary_op_token o ∷ exp_onto y rest)
 starts l p lacks (in_set e negated ls) within fits rest = starts l p lacks e (let h : looseness (level_of e) ≤ 5 = fits.0 in omega arith) fits.1 (in_token negated ∷ set_onto ls rest)
 starts l p lacks (unary o e) within fits rest = lacks.no_unary within o
-starts l p lacks (clause e c) within fits rest = starts l p lacks e (let h : looseness (level_of e) ≤ 1 = fits.0 in omega arith) fits.1 (token.Sign sign.OpenSquare ∷ brack_onto c (token.Sign sign.CloseSquare ∷ rest))
+starts l p lacks (with_clause e c) within fits rest = starts l p lacks e (let h : looseness (level_of e) ≤ 1 = fits.0 in omega arith) fits.1 (token.Sign sign.OpenSquare ∷ clause_onto c (token.Sign sign.CloseSquare ∷ rest))
 starts l p lacks (member e c) within fits rest = starts l p lacks e (let h : looseness (level_of e) ≤ 1 = fits.0 in omega arith) fits.1 (token.Sign sign.Hash ∷ comp_token c ∷ rest)
 starts l p lacks (component c) within fits rest = lacks.no_comp c
 starts l p lacks (constant c) within fits rest = constant_start l p lacks c rest

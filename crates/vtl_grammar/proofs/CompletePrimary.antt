@@ -1,9 +1,9 @@
 -- What may stand alone is read.
 use Rattle.std.proofs.Common.{◌≡◌, ℕ, suc, ◌≤◌, ◌-◌, max, Bool, true, false, ◌∷◌, Some, refl, arith}
 use Rattle.vtl_lexer.specs.declared.token.Sign.TheVariants as sign
-use Rattle.vtl_syntax.specs.Depth.{exp_depth, exps_depth, maybe_depth, maybe_made_depth, parts_depth, group_depth, over_depth}
+use Rattle.vtl_syntax.specs.Depth.{exp_depth, exps_depth, maybe_depth, maybe_targets_depth, parts_depth, group_depth, over_depth}
 use Rattle.vtl_syntax.specs.Trees as tree
-use Rattle.vtl_syntax.specs.Trees.{Exp, Brack}
+use Rattle.vtl_syntax.specs.Trees.{Exp, ClauseTree}
 use Rattle.vtl_syntax.specs.declared.parts.Comp.{Comp}
 use Rattle.vtl_syntax.specs.declared.parts.Constant.{Constant}
 use Rattle.vtl_syntax.specs.declared.parts.Constant.TheVariants as constants
@@ -55,7 +55,7 @@ module _ (n : ℕ) (part : Gets Exp) (reads : CompleteGets n part exp_onto Fits 
   primary_complete (tree.binary l o r) rest within fits shallow = absurd (omega (arith, operator_loose o))
   primary_complete (tree.in_set e negated ls) rest within fits shallow = absurd (omega arith)
   primary_complete (tree.unary o e) rest within fits shallow = absurd (omega arith)
-  primary_complete (tree.clause e c) rest within fits shallow = absurd (omega arith)
+  primary_complete (tree.with_clause e c) rest within fits shallow = absurd (omega arith)
   primary_complete (tree.member e c) rest within fits shallow = absurd (omega arith)
   primary_complete (tree.component c) rest within fits shallow = let s : suc n - 1 ≡ n = omega arith in rw (leaf_read c, s) refl
   primary_complete (tree.constant c) rest within fits shallow = let s : suc n - 1 ≡ n = omega arith in rw (cast_complete c rest, s) refl
@@ -107,6 +107,6 @@ module _ (n : ℕ) (part : Gets Exp) (reads : CompleteGets n part exp_onto Fits 
       let s : suc n - suc (exp_depth e) ≡ n - exp_depth e = omega arith in
       rw s (formed_complete form.Hierarchy _ rest (tree.hierarchy e name r m i o) (n - exp_depth e) (hierarchy_complete n part reads e name r m i o rest fits (omega arith)))
   primary_complete (tree.join k ps u f m kept rs) rest within fits shallow =
-      let d : ℕ = max (parts_depth ps) (max (maybe_depth f) (maybe_made_depth m)) in
+      let d : ℕ = max (parts_depth ps) (max (maybe_depth f) (maybe_targets_depth m)) in
       let s : suc n - suc d ≡ n - d = omega arith in
       rw s (formed_complete (form.Join k) _ rest (tree.join k ps u f m kept rs) (n - d) (join_complete n part reads k ps u f m kept rs rest fits (omega arith)))

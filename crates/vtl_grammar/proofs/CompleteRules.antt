@@ -22,9 +22,9 @@ use Rattle.vtl_syntax.specs.declared.word_groups.BinaryOp.{BinaryOp}
 use Rattle.vtl_syntax.specs.declared.word_groups.UnaryOp.{UnaryOp}
 use Rattle.vtl_syntax.specs.declared.word_groups.UnaryOp.TheVariants as unary_op
 use Rattle.vtl_grammar.specs.Fits.{Filled, Fits, PointRuleFits, OptionFits}
-use Rattle.vtl_grammar.specs.Grammar.{Tokens, maybe_onto, set_onto, brack_onto, error_onto, exp_onto, constant_onto, rule_name_onto, when_onto, point_rule_onto, signed_onto, hier_rule_onto, more_rules_onto, rules_onto}
+use Rattle.vtl_grammar.specs.Grammar.{Tokens, maybe_onto, set_onto, clause_onto, error_onto, exp_onto, constant_onto, rule_name_onto, when_onto, point_rule_onto, signed_onto, hier_rule_onto, more_rules_onto, rules_onto}
 use Rattle.vtl_grammar.specs.Reading.{Reads, is_keyword, is_sign, after_keyword, after_sign}
-use Rattle.vtl_grammar.specs.ReadStatements.{whole_exp, rule_name, when_part, point_rule_read, more_signed, right_side, hier_rule_read, ends_rules, more_rules, rules_read, point_rules, hier_rules}
+use Rattle.vtl_grammar.specs.ReadStatements.{whole_exp, rule_name, when_part, holds_read, rule_behind, point_rule_read, more_signed, right_side, hier_rule_read, ends_rules, more_rules, rules_read, point_rules, hier_rules}
 use Rattle.vtl_grammar.specs.Words.{binary_op_token, unary_op_token, name_at, comp_token, comparison_token, addition_at, addition_token, in_token}
 use Rattle.vtl_grammar.specs.declared.call_forms.CallForm.TheVariants as form
 use Rattle.vtl_grammar.specs.declared.levels.Level.TheVariants as level
@@ -79,7 +79,7 @@ exp_no_rule_name (tree.if_then c a b) rest h = no_name _ _ refl
 exp_no_rule_name (tree.binary l o r) rest h = exp_no_rule_name l (binary_op_token o ∷ exp_onto r rest) (operator_no_colon o)
 exp_no_rule_name (tree.in_set e negated ls) rest h = exp_no_rule_name e (in_token negated ∷ set_onto ls rest) (in_no_colon negated)
 exp_no_rule_name (tree.unary o e) rest h = no_name _ _ (unary_no_name o)
-exp_no_rule_name (tree.clause e c) rest h = exp_no_rule_name e (token.Sign sign.OpenSquare ∷ brack_onto c (token.Sign sign.CloseSquare ∷ rest)) refl
+exp_no_rule_name (tree.with_clause e c) rest h = exp_no_rule_name e (token.Sign sign.OpenSquare ∷ clause_onto c (token.Sign sign.CloseSquare ∷ rest)) refl
 exp_no_rule_name (tree.member e c) rest h = exp_no_rule_name e (token.Sign sign.Hash ∷ comp_token c ∷ rest) refl
 exp_no_rule_name (tree.component c) rest h = comp_no_rule_name c rest h
 exp_no_rule_name (tree.constant c) rest h = constant_no_rule_name c rest
@@ -137,7 +137,7 @@ abbrev pub PointRuleIs : PointRuleTree → Type 0
 PointRuleIs r = PointRuleFits r × (point_rule_depth r ≤ 128)
 
 pub point_rule_complete : (r : PointRuleTree) (rest : Tokens) → PointRuleIs r → Lacks rule_goes_on rest → point_rule_read (point_rule_onto r rest) ≡ Some (r, rest)
-unfolding point_rule_read
+unfolding point_rule_read rule_behind holds_read
 point_rule_complete (point_rule n w e err) rest is stops =
     let shallow : max (option_depth w) (exp_depth e) ≤ 128 = is.1 in
     let ends = rule_ends rest stops in

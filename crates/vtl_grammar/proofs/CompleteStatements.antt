@@ -11,7 +11,7 @@ use Rattle.vtl_syntax.specs.declared.word_groups.AssignKind.{AssignKind}
 use Rattle.vtl_grammar.specs.Fits.{PointRuleFits, StatementFits, InGrammar}
 use Rattle.vtl_grammar.specs.Grammar.{Tokens, close_bracket, point_rule_onto, rules_onto, statement_onto, script_onto}
 use Rattle.vtl_grammar.specs.Reading.{given, after_keyword, after_sign}
-use Rattle.vtl_grammar.specs.ReadStatements.{assignment_read, ruleset_head, ruleset_is, ruleset_end, datapoint_read, hierarchical_read, statement_read, statements_read, script_read}
+use Rattle.vtl_grammar.specs.ReadStatements.{assignment_read, datapoint_read, hierarchical_read, rules_between, ruleset_end, ruleset_head, ruleset_is, script_read, statement_read, statements_read, value_read}
 use Rattle.vtl_grammar.proofs.AppendExpressions.{statement-append}
 use Rattle.vtl_grammar.proofs.CompleteParts.{comp_read, comps_complete}
 use Rattle.vtl_grammar.proofs.CompleteRules.{whole_complete, PointRuleIs, point_rules_complete, hier_rules_complete}
@@ -26,12 +26,12 @@ point_rules_are [] fits h = tt
 point_rules_are (r ∷ rs) fits h = ((fits.0, omega arith), point_rules_are rs fits.1 (omega arith))
 
 assignment_complete : (n : List ℕ) (k : AssignKind) (e : Exp) (rest : Tokens) → InGrammar (assignment n k e) → assignment_read (statement_onto (assignment n k e) rest) ≡ Some (assignment n k e, rest)
-unfolding assignment_read after_sign
+unfolding assignment_read value_read after_sign
 assignment_complete n k e rest is = rw (assign_kind_read k, whole_complete e (token.Sign sign.Semicolon ∷ rest) is.fits is.shallow refl) refl
 
 -- ---- every statement is read
 pub statement_complete : (s : StatementTree) (rest : Tokens) → InGrammar s → statement_read (statement_onto s rest) ≡ Some (s, rest)
-unfolding statement_read datapoint_read hierarchical_read ruleset_head ruleset_is ruleset_end after_keyword after_sign
+unfolding statement_read datapoint_read hierarchical_read rules_between ruleset_head ruleset_is ruleset_end after_keyword after_sign
 statement_complete (assignment n k e) rest is = assignment_complete n k e rest is
 statement_complete (datapoint n vs rs last) rest is =
     let fits : StatementFits (datapoint n vs rs last) = is.fits in

@@ -6,7 +6,7 @@ use Rattle.vtl_lexer.specs.declared.token.Sign.TheVariants as sign
 use Rattle.vtl_lexer.specs.declared.token.TokenKind.TheVariants as token
 use Rattle.vtl_syntax.specs.Depth.{exp_depth, exps_depth, calcs_depth, parts_depth, deepest}
 use Rattle.vtl_syntax.specs.Trees as tree
-use Rattle.vtl_syntax.specs.Trees.{Exp, Exps, MaybeExp, Made, MaybeMade, Calcs, Parts, CalcTree, PartTree, exps_of, calcs_of, parts_of, maybe_exp, maybe_made}
+use Rattle.vtl_syntax.specs.Trees.{Exp, Exps, MaybeExp, TargetsTree, MaybeTargets, Calcs, Parts, CalcTree, PartTree, exps_of, calcs_of, parts_of, maybe_exp, maybe_targets}
 use Rattle.vtl_grammar.specs.Fits.{Fits, ExpsFit, CalcsFit, PartsFit, exps_count, calcs_count, parts_count}
 use Rattle.vtl_grammar.specs.Grammar.{Tokens, more_onto, listed_onto, maybe_onto, maybe_after_onto, name_onto, exp_onto, exps_onto, more_exps_onto, calcs_onto, more_calcs_onto, parts_onto, more_parts_onto}
 use Rattle.vtl_grammar.specs.Words.{written_role_token, comp_token}
@@ -21,13 +21,13 @@ pub maybe_exp-option : (e : MaybeExp) → maybe_exp (exp_option e) ≡ e
 maybe_exp-option tree.no_exp = refl
 maybe_exp-option (tree.some_exp e) = refl
 
-abbrev pub made_option : MaybeMade → Option Made
-made_option tree.no_made = None
-made_option (tree.some_made m) = Some m
+abbrev pub targets_option : MaybeTargets → Option TargetsTree
+targets_option tree.no_targets = None
+targets_option (tree.some_targets m) = Some m
 
-pub maybe_made-option : (m : MaybeMade) → maybe_made (made_option m) ≡ m
-maybe_made-option tree.no_made = refl
-maybe_made-option (tree.some_made m) = refl
+pub maybe_targets-option : (m : MaybeTargets) → maybe_targets (targets_option m) ≡ m
+maybe_targets-option tree.no_targets = refl
+maybe_targets-option (tree.some_targets m) = refl
 
 -- ---- expressions
 

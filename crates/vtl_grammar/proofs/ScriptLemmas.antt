@@ -5,7 +5,7 @@ use Rattle.std.proofs.lemmas.List.{append_cancel_right, map-append}
 use Rattle.vtl_lexer.specs.declared.token.Token.{Token}
 use Rattle.vtl_syntax.specs.Trees.{ScriptTree, StatementTree}
 use Rattle.vtl_grammar.specs.Faults.{SyntaxFault, WholeScript, byte_of, kinds}
-use Rattle.vtl_grammar.specs.Fits.{InGrammar, Spells}
+use Rattle.vtl_grammar.specs.Fits.{InGrammar, SpellsScript}
 use Rattle.vtl_grammar.specs.Grammar.{Tokens, script_onto, statement_onto, tokens_of}
 use Rattle.vtl_grammar.specs.ReadStatements.{script_read, statement_read, statements_read}
 use Rattle.vtl_grammar.specs.Reading.{given}
@@ -57,7 +57,7 @@ script_read-sound ts = statements_read-sound (length ts) [] ts (omega arith)
 is_script : (ts : Tokens) (p : ScriptTree × Tokens) → script_read ts ≡ p → IsScript [] ts p
 is_script ts p e = subst (IsScript [] ts) e (script_read-sound ts)
 
-pub script_read-spells : (ts : Tokens) (script : ScriptTree) → script_read ts ≡ (script, []) → Spells ts script
+pub script_read-spells : (ts : Tokens) (script : ScriptTree) → script_read ts ≡ (script, []) → SpellsScript ts script
 script_read-spells ts script e =
     let is = is_script ts (script, []) e in
     record { is = rw is.all is.spelled; each = rw is.all is.each }

@@ -6,7 +6,7 @@ use Rattle.vtl_lexer.specs.declared.keyword.Keyword.TheVariants as keyword
 use Rattle.vtl_lexer.specs.declared.token.Sign.TheVariants as sign
 use Rattle.vtl_syntax.specs.Depth.{exp_depth, group_depth, over_depth}
 use Rattle.vtl_syntax.specs.Trees as tree
-use Rattle.vtl_syntax.specs.Trees.{Exp, PartTree, exps_of, maybe_exp, maybe_made, parts_of}
+use Rattle.vtl_syntax.specs.Trees.{Exp, PartTree, exps_of, maybe_exp, maybe_targets, parts_of}
 use Rattle.vtl_syntax.specs.declared.parts.Constant.TheVariants as constants
 use Rattle.vtl_syntax.specs.declared.word_groups.AggregateName.{AggregateName}
 use Rattle.vtl_syntax.specs.declared.word_groups.DifferenceName.{DifferenceName}
@@ -18,14 +18,14 @@ use Rattle.vtl_syntax.specs.declared.word_groups.ValueWindowName.{ValueWindowNam
 use Rattle.vtl_grammar.specs.Fits.{Fits, parts_count}
 use Rattle.vtl_grammar.specs.Grammar.{Tokens, close_bracket, comma, dataset_onto, exp_onto, maybe_onto, open_bracket}
 use Rattle.vtl_grammar.specs.Levels.{level_of}
-use Rattle.vtl_grammar.specs.ReadExpressions.{aggregate_call, call, cast_call, check_call, check_datapoint_call, check_hierarchy_call, dataset_part, difference_call, exists_in_call, exps, function_call, group_call, hierarchy_call, join_body, join_call, join_parts, made_part, maybe_exp_after, maybe_operand, over_call, rank_call, set_op_call, shift_call, two_exps, value_window_call}
+use Rattle.vtl_grammar.specs.ReadExpressions.{aggregate_call, call, cast_call, check_call, check_datapoint_call, check_hierarchy_call, dataset_part, difference_call, exists_in_call, exps, function_call, group_call, hierarchy_call, join_body, join_call, join_parts, targets_part, maybe_exp_after, maybe_operand, over_call, rank_call, set_op_call, shift_call, two_exps, value_window_call}
 use Rattle.vtl_grammar.specs.ReadParts.{cast_part, error_part, group_part, maybe_keeping, maybe_renames, over_part, retain_part, rule_part, ruleset_part, shift_part, using_part}
 use Rattle.vtl_grammar.specs.Reading.{Gets, Got, after_keyword, after_sign, got, maybe_word, spared}
 use Rattle.vtl_grammar.specs.Words.{basic_out_at, basic_out_token, check_out_at, check_out_token, form_token, hier_input_at, hier_input_token, hier_out_at, hier_out_token, mode_at, mode_token}
 use Rattle.vtl_grammar.specs.declared.call_forms.CallForm.{CallForm}
 use Rattle.vtl_grammar.specs.declared.call_forms.CallForm.TheVariants as form
 use Rattle.vtl_grammar.specs.declared.levels.Level.TheVariants as level
-use Rattle.vtl_grammar.proofs.SoundForms.{IsExp, OptionalFits, operand_onto, optional_depth, exps-sound, join_parts-sound, made_part-sound, maybe_exp_after-sound, maybe_operand-sound}
+use Rattle.vtl_grammar.proofs.SoundForms.{IsExp, OptionalFits, operand_onto, optional_depth, exps-sound, join_parts-sound, targets_part-sound, maybe_exp_after-sound, maybe_operand-sound}
 use Rattle.vtl_grammar.proofs.SoundGot.{IsGot, PartsTreeFit, exps_counted, parts_counted, parts_tree_depth, parts_tree_onto}
 use Rattle.vtl_grammar.proofs.SoundParts.{cast_part-sound, error_part-sound, group_part-sound, maybe_keeping-sound, maybe_renames-sound, over_part-sound, retain_part-sound, rule_part-sound, ruleset_part-sound, shift_part-sound, using_part-sound}
 use Rattle.vtl_grammar.proofs.SoundSteps.{Gives, either, either_way, follow, none_gives, some_gives, under_test}
@@ -216,10 +216,10 @@ module _ (n : ℕ) (part : Gets Exp) (h : (ts : Tokens) → Gives (IsExp level.E
   join_body-sound k ts ps two is =
       follow (using_part ps.rest) _ (using_part-sound ps.rest)
       (λ u iu. follow (maybe_exp_after n part keyword.Filter u.1) _ (maybe_exp_after-sound n part h keyword.Filter u.1)
-      (λ f iff. follow (made_part n part f.rest) _ (made_part-sound n part h f.rest)
+      (λ f iff. follow (targets_part n part f.rest) _ (targets_part-sound n part h f.rest)
       (λ m im. follow (maybe_keeping m.rest) _ (maybe_keeping-sound m.rest)
       (λ kept ik. follow (maybe_renames kept.1) _ (maybe_renames-sound kept.1)
-      (λ rs ir. some_gives (got (tree.join k (parts_of ps.tree) u.0 (maybe_exp f.tree) (maybe_made m.tree) kept.0 rs.0) (min ps.spare (min f.spare m.spare)) rs.1)
+      (λ rs ir. some_gives (got (tree.join k (parts_of ps.tree) u.0 (maybe_exp f.tree) (maybe_targets m.tree) kept.0 rs.0) (min ps.spare (min f.spare m.spare)) rs.1)
       (record { spelled = λ rest er. cc; tight = refl; fits = (two, is.fits, iu.fits, iff.fits, im.fits, ik.fits, ir.fits); deep = omega arith }))))))
 
   join_call-sound : (k : JoinKind) (ts : Tokens) → Gives (IsCall (form.Join k) n ts) (join_call n part k ts)

@@ -12,9 +12,9 @@ use Rattle.vtl_syntax.specs.declared.word_groups.BinaryOp.{BinaryOp}
 use Rattle.vtl_grammar.specs.Fits.{Fits}
 use Rattle.vtl_grammar.specs.Grammar.{Tokens, constant_onto, exp_onto, open_bracket}
 use Rattle.vtl_grammar.specs.Levels.{Within, level_of, looseness, operator_level, tighter}
-use Rattle.vtl_grammar.specs.ReadExpressions.{add_at, and_at, around, bracketed, call, chain, compare_at, choice, choice_or, clause, closed, formed, leaf_at, membership_at, more_operands, more_postfix, multiply_at, operator_at, or_at, postfix, prefixed, primary, read, read_level, unary_at}
+use Rattle.vtl_grammar.specs.ReadExpressions.{add_at, and_at, around, bracketed, call, chain, compare_at, choice, choice_or, clause, clause_behind, closed, formed, in_turns, leaf_at, member_behind, membership_at, multiply_at, one_more, operand_behind, operand_step, operator_at, or_at, postfix, postfix_step, prefixed, primary, read, read_level, set_behind, Step, unary_at}
 use Rattle.vtl_grammar.specs.ReadParts.{literal_set}
-use Rattle.vtl_grammar.specs.Reading.{Gets, Got, after_keyword, after_sign, got, word}
+use Rattle.vtl_grammar.specs.Reading.{Gets, Got, after_keyword, after_sign, given, got, word}
 use Rattle.vtl_grammar.specs.Words.{binary_op_at, binary_op_token, comp_at, constant_at, form_at, form_token, in_token, unary_op_at, unary_op_token}
 use Rattle.vtl_grammar.specs.declared.levels.Level.{Level}
 use Rattle.vtl_grammar.specs.declared.levels.Level.TheVariants as level
@@ -88,6 +88,25 @@ around-sound : {A : Type 0} {P : A → Type 0} (n : ℕ) (f : ℕ → Option A) 
 around-sound zero f h = none_gives
 around-sound (suc n) f h = h n refl
 
+-- ---- turns
+
+-- what a turn gives, if it gives one
+abbrev Turned : (Got Exp → Type 0) → Option (Got Exp) → Type 0
+Turned P None = Unit {0}
+Turned P (Some g) = P g
+
+one_more-sound : {P : Got Exp → Type 0} (r : Option (Got Exp)) → Gives P r → Gives (Turned P) (one_more r)
+one_more-sound r h = follow r _ h (λ g is. some_gives (Some g) is)
+
+-- what holds before each turn and after it, holds after all
+in_turns-sound : (P : Got Exp → Type 0) (step : Step) → ((g : Got Exp) → P g → Gives (Turned P) (step g)) → (k : ℕ) (g : Got Exp) → P g → Gives P (in_turns step k g)
+in_turns-sound P step h zero g is = some_gives g is
+in_turns-sound P step h (suc k) g is = follow (step g) _ (h g is) (λ o io. on (in_turns-sound P step h k) o io)
+  where
+    on : ((x : Got Exp) → P x → Gives P (in_turns step k x)) → (o : Option (Got Exp)) → Turned P o → Gives P (given o (in_turns step k) (Some g))
+    on again None io = some_gives g is
+    on again (Some x) io = again x io
+
 -- ---- operands
 
 module _ (n : ℕ) (part : Gets Exp) (h : (ts : Tokens) → Gives (IsExp level.Expression n ts) (part ts)) where
@@ -118,28 +137,27 @@ module _ (n : ℕ) (part : Gets Exp) (h : (ts : Tokens) → Gives (IsExp level.E
       (λ after e. weaker (bracketed-sound after) (λ g is. record { spelled = e ∙ is.spelled; within = is.within; fits = is.fits; deep = is.deep }))
       (formed-sound ts))
 
-  more_postfix-sound : (us : Tokens) (turns : ℕ) (e : Exp) (spare : ℕ) (ts : Tokens) → IsExp level.Postfix (suc n) us (got e spare ts) → Gives (IsExp level.Postfix (suc n) us) (more_postfix n part turns e spare ts)
-  unfolding more_postfix
-  more_postfix-sound us zero e spare ts is = some_gives (got e spare ts) is
-  more_postfix-sound us (suc turns) e spare ts is =
-      either (after_sign sign.OpenSquare ts) _ _ (after_sign-sound sign.OpenSquare ts)
-      (λ after ea. around-sound spare _
+  postfix_step-sound : (us : Tokens) (g : Got Exp) → IsExp level.Postfix (suc n) us g → Gives (Turned (IsExp level.Postfix (suc n) us)) (postfix_step n part g)
+  unfolding postfix_step clause_behind member_behind
+  postfix_step-sound us g is =
+      either (after_sign sign.OpenSquare g.rest) _ _ (after_sign-sound sign.OpenSquare g.rest)
+      (λ after ea. one_more-sound _ (around-sound g.spare _
       (λ s es. follow (clause n part after) _ (clause-sound n part h after)
       (λ c ic. follow (after_sign sign.CloseSquare c.rest) _ (after_sign-sound sign.CloseSquare c.rest)
-      (λ rest er. more_postfix-sound us turns (tree.clause e c.tree) (min s c.spare) rest
-      (record { spelled = cc; within = omega arith; fits = (is.within, is.fits, ic.fits); deep = omega arith })))))
-      (either (after_sign sign.Hash ts) _ _ (after_sign-sound sign.Hash ts)
-      (λ after ea. around-sound spare _
+      (λ rest er. some_gives (got (tree.with_clause g.tree c.tree) (min s c.spare) rest)
+      (record { spelled = cc; within = omega arith; fits = (is.within, is.fits, ic.fits); deep = omega arith }))))))
+      (either (after_sign sign.Hash g.rest) _ _ (after_sign-sound sign.Hash g.rest)
+      (λ after ea. one_more-sound _ (around-sound g.spare _
       (λ s es. follow (word comp_at after) _ (comp-sound after)
-      (λ c ec. more_postfix-sound us turns (tree.member e c.0) s c.1
-      (record { spelled = cc; within = omega arith; fits = (is.within, is.fits); deep = omega arith }))))
-      (some_gives (got e spare ts) is))
+      (λ c ec. some_gives (got (tree.member g.tree c.0) s c.1)
+      (record { spelled = cc; within = omega arith; fits = (is.within, is.fits); deep = omega arith })))))
+      (some_gives None tt))
 
   postfix-sound : (ts : Tokens) → Gives (IsExp level.Postfix (suc n) ts) (postfix n part ts)
   unfolding postfix
   postfix-sound ts =
       follow (primary n part ts) _ (primary-sound ts)
-      (λ g is. more_postfix-sound ts (length g.rest) g.tree g.spare g.rest (looser level.Primary level.Postfix (suc n) ts g (omega arith) is))
+      (λ g is. in_turns-sound (IsExp level.Postfix (suc n) ts) (postfix_step n part) (postfix_step-sound ts) (length g.rest) g (looser level.Primary level.Postfix (suc n) ts g (omega arith) is))
 
   prefixed-sound : (again : Gets Exp) → ((ts : Tokens) → Gives (IsExp level.Unary n ts) (again ts)) → (ts : Tokens) → Gives (IsExp level.Unary (suc n) ts) (prefixed n part again ts)
   unfolding prefixed
@@ -152,37 +170,36 @@ module _ (n : ℕ) (part : Gets Exp) (h : (ts : Tokens) → Gives (IsExp level.E
 -- ---- chains of operators
 
 module _ (n : ℕ) (l : Level) (right : Gets Exp) (hr : (ts : Tokens) → Gives (IsExp (tighter l) n ts) (right ts)) where
-  more_operands-sound : (us : Tokens) (turns : ℕ) (e : Exp) (spare : ℕ) (ts : Tokens) → IsExp l (suc n) us (got e spare ts) → Gives (IsExp l (suc n) us) (more_operands l right turns e spare ts)
-  unfolding more_operands
-  more_operands-sound us zero e spare ts is = some_gives (got e spare ts) is
-  more_operands-sound us (suc turns) e spare ts is =
-      either (word (operator_at l) ts) _ _ (first_word (IsOperator l) (operator_at l) (operator_table l) ts)
-      (λ o io. around-sound spare _
+  operand_step-sound : (us : Tokens) (g : Got Exp) → IsExp l (suc n) us g → Gives (Turned (IsExp l (suc n) us)) (operand_step l right g)
+  unfolding operand_step operand_behind set_behind
+  operand_step-sound us g is =
+      either (word (operator_at l) g.rest) _ _ (first_word (IsOperator l) (operator_at l) (operator_table l) g.rest)
+      (λ o io. one_more-sound _ (around-sound g.spare _
       (λ s es. follow (right o.1) _ (hr o.1)
-      (λ g ig. more_operands-sound us turns (tree.binary e o.0 g.tree) (min s g.spare) g.rest
+      (λ r ir. some_gives (got (tree.binary g.tree o.0 r.tree) (min s r.spare) r.rest)
       (record {
         spelled = let first = io.spelled in let sign = io.is.spelled in cc;
         within = rw io.is.at (omega arith);
-        fits = rw io.is.at (is.within, is.fits, ig.within, ig.fits);
+        fits = rw io.is.at (is.within, is.fits, ir.within, ir.fits);
         deep = omega arith;
-      }))))
-      (either (word (membership_at l) ts) _ _ (first_word (IsMembership l) (membership_at l) (membership_table l) ts)
-      (λ i ii. around-sound spare _
+      })))))
+      (either (word (membership_at l) g.rest) _ _ (first_word (IsMembership l) (membership_at l) (membership_table l) g.rest)
+      (λ i ii. one_more-sound _ (around-sound g.spare _
       (λ s es. follow (literal_set i.1) _ (literal_set-sound i.1)
-      (λ ls il. more_operands-sound us turns (tree.in_set e i.0 ls.0) s ls.1
+      (λ ls il. some_gives (got (tree.in_set g.tree i.0 ls.0) s ls.1)
       (record {
         spelled = let first = ii.spelled in let sign = ii.is.spelled in cc;
         within = rw ii.is.at (omega arith);
-        fits = (subst (λ x. Within x e) ii.is.at is.within, is.fits, il.fits);
+        fits = (subst (λ x. Within x g.tree) ii.is.at is.within, is.fits, il.fits);
         deep = omega arith;
-      }))))
-      (some_gives (got e spare ts) is))
+      })))))
+      (some_gives None tt))
 
   chain-sound : (first : Gets Exp) → ((ts : Tokens) → Gives (IsExp (tighter l) (suc n) ts) (first ts)) → looseness (tighter l) ≤ looseness l → (ts : Tokens) → Gives (IsExp l (suc n) ts) (chain l first right ts)
   unfolding chain
   chain-sound first hf le ts =
       follow (first ts) _ (hf ts)
-      (λ g is. more_operands-sound ts (length g.rest) g.tree g.spare g.rest (looser (tighter l) l (suc n) ts g le is))
+      (λ g is. in_turns-sound (IsExp l (suc n) ts) (operand_step l right) (operand_step-sound ts) (length g.rest) g (looser (tighter l) l (suc n) ts g le is))
 
 -- "if" expr "then" expr "else" expr
 module _ (n : ℕ) (part : Gets Exp) (h : (ts : Tokens) → Gives (IsExp level.Expression n ts) (part ts)) where
@@ -212,21 +229,27 @@ LevelsSound n reads = (l : Level) (ts : Tokens) → Gives (IsExp l n ts) (reads 
 
 module _ (n : ℕ) (inner : Level → Gets Exp) (h : LevelsSound n inner) where
   unary_at-sound : (ts : Tokens) → Gives (IsExp level.Unary (suc n) ts) (unary_at n inner ts)
+  unfolding unary_at
   unary_at-sound ts = prefixed-sound n (inner level.Expression) (h level.Expression) (inner level.Unary) (h level.Unary) ts
 
   multiply_at-sound : (ts : Tokens) → Gives (IsExp level.Multiply (suc n) ts) (multiply_at n inner ts)
+  unfolding multiply_at
   multiply_at-sound ts = chain-sound n level.Multiply (inner level.Unary) (h level.Unary) (unary_at n inner) unary_at-sound (omega arith) ts
 
   add_at-sound : (ts : Tokens) → Gives (IsExp level.Add (suc n) ts) (add_at n inner ts)
+  unfolding add_at
   add_at-sound ts = chain-sound n level.Add (inner level.Multiply) (h level.Multiply) (multiply_at n inner) multiply_at-sound (omega arith) ts
 
   compare_at-sound : (ts : Tokens) → Gives (IsExp level.Compare (suc n) ts) (compare_at n inner ts)
+  unfolding compare_at
   compare_at-sound ts = chain-sound n level.Compare (inner level.Add) (h level.Add) (add_at n inner) add_at-sound (omega arith) ts
 
   and_at-sound : (ts : Tokens) → Gives (IsExp level.And (suc n) ts) (and_at n inner ts)
+  unfolding and_at
   and_at-sound ts = chain-sound n level.And (inner level.Compare) (h level.Compare) (compare_at n inner) compare_at-sound (omega arith) ts
 
   or_at-sound : (ts : Tokens) → Gives (IsExp level.Or (suc n) ts) (or_at n inner ts)
+  unfolding or_at
   or_at-sound ts = chain-sound n level.Or (inner level.And) (h level.And) (and_at n inner) and_at-sound (omega arith) ts
 
   read_level-sound : LevelsSound (suc n) (read_level n inner)

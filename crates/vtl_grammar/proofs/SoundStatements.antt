@@ -10,14 +10,15 @@ use Rattle.vtl_lexer.specs.declared.token.TokenKind.TheVariants as token
 use Rattle.vtl_syntax.specs.Depth.{deepest, exp_depth, hier_rule_depth, option_depth, point_rule_depth}
 use Rattle.vtl_syntax.specs.Trees.{Exp, PointRuleTree, assignment, datapoint, hierarchical, point_rule}
 use Rattle.vtl_syntax.specs.declared.parts.Comp.{Comp}
+use Rattle.vtl_syntax.specs.declared.parts.ErrorPart.{ErrorPart}
 use Rattle.vtl_syntax.specs.declared.parts.SignedComp.{SignedComp}
 use Rattle.vtl_syntax.specs.declared.statements.HierRule.{HierRule}
 use Rattle.vtl_syntax.specs.declared.word_groups.Addition.{Addition}
 use Rattle.vtl_grammar.specs.Fits.{Filled, Fits, InGrammar, OptionFits, PointRuleFits}
-use Rattle.vtl_grammar.specs.Grammar.{Tokens, close_bracket, exp_onto, hier_rule_onto, maybe_onto, more_rules_onto, open_bracket, point_rule_onto, rule_name_onto, rules_onto, signed_onto, statement_onto, when_onto}
+use Rattle.vtl_grammar.specs.Grammar.{Tokens, close_bracket, error_onto, exp_onto, hier_rule_onto, maybe_onto, more_rules_onto, open_bracket, point_rule_onto, rule_name_onto, rules_onto, signed_onto, statement_onto, when_onto}
 use Rattle.vtl_grammar.specs.ReadParts.{comps, error_part}
 use Rattle.vtl_grammar.specs.ReadExpressions.{read}
-use Rattle.vtl_grammar.specs.ReadStatements.{assignment_read, datapoint_read, ends_rules, hier_rule_read, hier_rules, hierarchical_read, more_rules, more_signed, point_rule_read, point_rules, right_side, rule_name, rules_read, ruleset_end, ruleset_head, ruleset_is, statement_read, when_part, whole_exp}
+use Rattle.vtl_grammar.specs.ReadStatements.{assignment_read, datapoint_read, ends_rules, hier_rule_read, hier_rules, hierarchical_read, holds_read, more_rules, more_signed, point_rule_read, point_rules, right_side, rule_behind, rule_name, rules_between, rules_read, ruleset_end, ruleset_head, ruleset_is, statement_read, value_read, when_part, whole_exp}
 use Rattle.vtl_grammar.specs.Reading.{Reads, after_keyword, after_sign, maybe_word, word}
 use Rattle.vtl_grammar.specs.Words.{addition_at, addition_token, assign_kind_at, assign_kind_token, comp_at, comp_token, comparison_at, comparison_token, name_at}
 use Rattle.vtl_grammar.specs.declared.levels.Level.TheVariants as level
@@ -62,15 +63,28 @@ record WholePointRule (r : PointRuleTree) : Type 0 where
   fits : PointRuleFits r
   shallow : point_rule_depth r ≤ 128
 
+-- what has to hold, with its error
+abbrev holds_onto : Exp × ErrorPart → Tokens → Tokens
+holds_onto p ts = exp_onto p.0 (error_onto p.1 ts)
+
+abbrev WholeHolds : Exp × ErrorPart → Type 0
+WholeHolds p = Whole p.0
+
+holds_read-sound : (ts : Tokens) → Gives (IsRead holds_onto WholeHolds ts) (holds_read ts)
+unfolding holds_read
+holds_read-sound ts =
+    follow (whole_exp ts) _ (whole_exp-sound ts)
+    (λ e ie. follow (error_part e.1) _ (error_part-sound e.1)
+    (λ err ir. some_gives ((e.0, err.0), err.1) (record { spelled = cc; fits = ie.fits })))
+
 point_rule_read-sound : (ts : Tokens) → Gives (IsRead point_rule_onto WholePointRule ts) (point_rule_read ts)
-unfolding point_rule_read
+unfolding point_rule_read rule_behind
 point_rule_read-sound ts =
     let named = rule_name-sound ts in
     follow (when_part (rule_name ts).1) _ (when_part-sound (rule_name ts).1)
-    (λ w iw. follow (whole_exp w.1) _ (whole_exp-sound w.1)
-    (λ e ie. follow (error_part e.1) _ (error_part-sound e.1)
-    (λ err ir. some_gives (point_rule (rule_name ts).0 w.0 e.0 err.0, err.1)
-    (record { spelled = cc; fits = record { fits = (iw.fits.0, ie.fits.0); shallow = omega arith } }))))
+    (λ w iw. follow (holds_read w.1) _ (holds_read-sound w.1)
+    (λ h ih. some_gives (point_rule (rule_name ts).0 w.0 h.0.0 h.0.1, h.1)
+    (record { spelled = cc; fits = record { fits = (iw.fits.0, ih.fits.0); shallow = omega (arith, iw.fits.1, ih.fits.1) } })))
 
 -- the items so far, and some more that stand there
 record IsSigned (items : List SignedComp) (ts : Tokens) (p : List SignedComp × Tokens) : Type 0 where
@@ -200,25 +214,49 @@ ruleset_end-sound k ts =
     (λ b eb. follow (after_keyword keyword.Ruleset b) _ (after_keyword-sound keyword.Ruleset b)
     (λ c ec. weaker (after_sign-sound sign.Semicolon c) (λ rest e. cc))))
 
+abbrev value_onto : Exp → Tokens → Tokens
+value_onto e ts = exp_onto e (token.Sign sign.Semicolon ∷ ts)
+
+value_read-sound : (ts : Tokens) → Gives (IsRead value_onto Whole ts) (value_read ts)
+unfolding value_read
+value_read-sound ts =
+    follow (whole_exp ts) _ (whole_exp-sound ts)
+    (λ e ie. follow (after_sign sign.Semicolon e.1) _ (after_sign-sound sign.Semicolon e.1)
+    (λ rest er. some_gives (e.0, rest) (record { spelled = cc; fits = ie.fits })))
+
 assignment_read-sound : (ts : Tokens) → Gives (IsRead statement_onto InGrammar ts) (assignment_read ts)
 unfolding assignment_read
 assignment_read-sound ts =
     follow (word name_at ts) _ (name-sound ts)
     (λ n en. follow (word assign_kind_at n.1) _ (word-sound assign_kind_token assign_kind_at assign_kind_table n.1)
-    (λ k ek. follow (whole_exp k.1) _ (whole_exp-sound k.1)
-    (λ e ie. follow (after_sign sign.Semicolon e.1) _ (after_sign-sound sign.Semicolon e.1)
-    (λ rest er. some_gives (assignment n.0 k.0 e.0, rest) (record { spelled = cc; fits = record { fits = ie.fits.0; shallow = ie.fits.1 } })))))
+    (λ k ek. follow (value_read k.1) _ (value_read-sound k.1)
+    (λ e ie. some_gives (assignment n.0 k.0 e.0, e.1) (record { spelled = cc; fits = record { fits = ie.fits.0; shallow = ie.fits.1 } }))))
+
+-- the rules of a ruleset and its end
+abbrev end_onto : Keyword → Tokens → Tokens
+end_onto k ts = token.Keyword keyword.End ∷ token.Keyword k ∷ token.Keyword keyword.Ruleset ∷ token.Sign sign.Semicolon ∷ ts
+
+record IsBetween {A : Type 0} (k : Keyword) (onto : A → Tokens → Tokens) (Holds : A → Type 0) (ts : Tokens) (p : (List A × Bool) × Tokens) : Type 0 where
+  spelled : ts ≡ close_bracket ∷ token.Keyword keyword.Is ∷ rules_onto onto p.0.0 p.0.1 (end_onto k p.1)
+  some : Filled p.0.0
+  each : AllByRecursion Holds p.0.0
+
+rules_between-sound : {A : Type 0} (k : Keyword) (onto : A → Tokens → Tokens) (Holds : A → Type 0) (rules : Reads (List A × Bool)) → ((ts : Tokens) → Gives (IsRules onto Holds ts) (rules ts)) → (ts : Tokens) → Gives (IsBetween k onto Holds ts) (rules_between k rules ts)
+unfolding rules_between
+rules_between-sound k onto Holds rules h ts =
+    follow (ruleset_is ts) _ (ruleset_is-sound ts)
+    (λ a ea. follow (rules a) _ (h a)
+    (λ rs irs. follow (ruleset_end k rs.1) _ (ruleset_end-sound k rs.1)
+    (λ rest er. some_gives (rs.0, rest) (record { spelled = cc; some = irs.some; each = irs.each }))))
 
 datapoint_read-sound : (ts : Tokens) → Gives (IsRead statement_onto InGrammar (token.Keyword keyword.Define ∷ token.Keyword keyword.Datapoint ∷ ts)) (datapoint_read ts)
 unfolding datapoint_read
 datapoint_read-sound ts =
     follow (ruleset_head ts) _ (ruleset_head-sound ts)
     (λ n en. follow (comps n.1) _ (comps-sound n.1)
-    (λ cs ics. follow (ruleset_is cs.1) _ (ruleset_is-sound cs.1)
-    (λ a ea. follow (point_rules a) _ (point_rules-sound a)
-    (λ rs irs. follow (ruleset_end keyword.Datapoint rs.1) _ (ruleset_end-sound keyword.Datapoint rs.1)
-    (λ rest er. some_gives (datapoint n.0 cs.0 rs.0.0 rs.0.1, rest)
-    (record { spelled = cc; fits = record { fits = (ics.fits, irs.some, fitting rs.0.0 irs.each); shallow = points_shallow rs.0.0 irs.each } }))))))
+    (λ cs ics. follow (rules_between keyword.Datapoint point_rules cs.1) _ (rules_between-sound keyword.Datapoint point_rule_onto WholePointRule point_rules point_rules-sound cs.1)
+    (λ rs irs. some_gives (datapoint n.0 cs.0 rs.0.0 rs.0.1, rs.1)
+    (record { spelled = cc; fits = record { fits = (ics.fits, irs.some, fitting rs.0.0 irs.each); shallow = points_shallow rs.0.0 irs.each } }))))
 
 hierarchical_read-sound : (ts : Tokens) → Gives (IsRead statement_onto InGrammar (token.Keyword keyword.Define ∷ token.Keyword keyword.Hierarchical ∷ ts)) (hierarchical_read ts)
 unfolding hierarchical_read
@@ -226,11 +264,9 @@ hierarchical_read-sound ts =
     follow (ruleset_head ts) _ (ruleset_head-sound ts)
     (λ n en. follow (after_keyword keyword.Rule n.1) _ (after_keyword-sound keyword.Rule n.1)
     (λ a ea. follow (word comp_at a) _ (comp-sound a)
-    (λ c ec. follow (ruleset_is c.1) _ (ruleset_is-sound c.1)
-    (λ b eb. follow (hier_rules b) _ (hier_rules-sound b)
-    (λ rs irs. follow (ruleset_end keyword.Hierarchical rs.1) _ (ruleset_end-sound keyword.Hierarchical rs.1)
-    (λ rest er. some_gives (hierarchical n.0 c.0 rs.0.0 rs.0.1, rest)
-    (record { spelled = cc; fits = record { fits = irs.some; shallow = rules_shallow rs.0.0 irs.each } })))))))
+    (λ c ec. follow (rules_between keyword.Hierarchical hier_rules c.1) _ (rules_between-sound keyword.Hierarchical hier_rule_onto ShallowRule hier_rules hier_rules-sound c.1)
+    (λ rs irs. some_gives (hierarchical n.0 c.0 rs.0.0 rs.0.1, rs.1)
+    (record { spelled = cc; fits = record { fits = irs.some; shallow = rules_shallow rs.0.0 irs.each } })))))
 
 -- what is read is a statement of the grammar, and it stands there
 pub statement_read-sound : (ts : Tokens) → Gives (IsRead statement_onto InGrammar ts) (statement_read ts)

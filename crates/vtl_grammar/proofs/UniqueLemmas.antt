@@ -5,7 +5,7 @@ use Rattle.std.proofs.lemmas.List.{append-nil, length-map, map-append}
 use Rattle.vtl_lexer.specs.declared.token.Token.{Token}
 use Rattle.vtl_syntax.specs.Trees.{StatementTree, ScriptTree}
 use Rattle.vtl_grammar.specs.Faults.{kinds, byte_of, SyntaxFault, WholeScript}
-use Rattle.vtl_grammar.specs.Fits.{InGrammar, Spells}
+use Rattle.vtl_grammar.specs.Fits.{InGrammar, SpellsScript}
 use Rattle.vtl_grammar.specs.Grammar.{Tokens, statement_onto, script_onto}
 use Rattle.vtl_grammar.specs.ReadStatements.{statement_read, script_read}
 use Rattle.vtl_grammar.proofs.AppendExpressions.{statement-append, script-append}
@@ -27,11 +27,11 @@ pub statement_alone : (a b : StatementTree) (us : Tokens) → InGrammar a → In
 statement_alone a b us in_a in_b e = same_front a b us [] in_a in_b (statement-append a [] us ∙ e)
 
 -- a script that the tokens spell is what is read of them
-pub spelled_read : (ts : Tokens) (script : ScriptTree) → Spells ts script → script_read ts ≡ (script, [])
+pub spelled_read : (ts : Tokens) (script : ScriptTree) → SpellsScript ts script → script_read ts ≡ (script, [])
 spelled_read ts script spells = ap script_read spells.is ∙ script_complete script [] spells.each nothing_read
 
 -- tokens spell one script at most
-pub spells_unique : (ts : Tokens) (a b : ScriptTree) → Spells ts a → Spells ts b → a ≡ b
+pub spells_unique : (ts : Tokens) (a b : ScriptTree) → SpellsScript ts a → SpellsScript ts b → a ≡ b
 spells_unique ts a b spells_a spells_b = ap (λ q. q.0) (sym (spelled_read ts a spells_a) ∙ spelled_read ts b spells_b)
 
 -- of two scripts at the front of the same tokens, the longer goes on where the shorter ends
@@ -61,12 +61,12 @@ unfolding kinds
 kinds-length a = length-map a (λ t. t.kind)
 
 -- a script at the front of the tokens, and the kinds of the others
-pub front_script : (ts front rest : List Token) (script : ScriptTree) → ts ≡ front ++ rest → Spells (kinds front) script → kinds ts ≡ script_onto script (kinds rest)
+pub front_script : (ts front rest : List Token) (script : ScriptTree) → ts ≡ front ++ rest → SpellsScript (kinds front) script → kinds ts ≡ script_onto script (kinds rest)
 front_script ts front rest script split spells =
     ap kinds split ∙ kinds-append front rest ∙ ap (λ k. k ++ kinds rest) spells.is ∙ sym (script-append script [] (kinds rest))
 
 -- no front spells a longer script than what is read
-pub greatest_read : (ts front rest : List Token) (script : ScriptTree) → ts ≡ front ++ rest → Spells (kinds front) script → length script ≤ length (script_read (kinds ts)).0
+pub greatest_read : (ts front rest : List Token) (script : ScriptTree) → ts ≡ front ++ rest → SpellsScript (kinds front) script → length script ≤ length (script_read (kinds ts)).0
 greatest_read ts front rest script split spells = rw (front_script ts front rest script split spells) (script_greatest script (kinds rest) spells.each)
 
 -- lists that end in lists of one length end in the same list

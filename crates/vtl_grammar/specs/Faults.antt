@@ -3,7 +3,7 @@ use Rattle.std.specs.Prelude.{◌≡◌, ℕ, ◌≤◌, List, [], ◌∷◌, �
 use Rattle.vtl_lexer.specs.declared.token.Token.{Token}
 use Rattle.vtl_syntax.specs.Trees.{ScriptTree}
 use Rattle.vtl_grammar.specs.Grammar.{Tokens}
-use Rattle.vtl_grammar.specs.Fits.{Spells}
+use Rattle.vtl_grammar.specs.Fits.{SpellsScript}
 
 -- the tokens without their places
 unfoldable pub kinds : List Token → Tokens
@@ -20,12 +20,12 @@ pub record SyntaxFault (ts : List Token) (bad : Option ℕ) (done byte : ℕ) : 
   pub rest : List Token
   pub split : ts ≡ front ++ rest
   pub script : ScriptTree
-  pub spelled : Spells (kinds front) script
+  pub spelled : SpellsScript (kinds front) script
   pub counts : length script ≡ done
-  pub greatest : (f r : List Token) (s : ScriptTree) → ts ≡ f ++ r → Spells (kinds f) s → length s ≤ done
+  pub greatest : (f r : List Token) (s : ScriptTree) → ts ≡ f ++ r → SpellsScript (kinds f) s → length s ≤ done
   pub at : byte_of rest bad ≡ Some byte
 
 -- all of the text is tokens, and they spell the script
 pub record WholeScript (ts : List Token) (bad : Option ℕ) (script : ScriptTree) : Type 0 where
   pub whole : bad ≡ None
-  pub spelled : Spells (kinds ts) script
+  pub spelled : SpellsScript (kinds ts) script

@@ -2,7 +2,7 @@
 use Rattle.std.specs.Prelude.{◌≡◌, ℕ, suc, ◌≤◌, List, length, Option, None, Some}
 use Rattle.std.specs.List.{AllByRecursion}
 use Rattle.vtl_syntax.specs.Depth.{statement_depth}
-use Rattle.vtl_syntax.specs.Trees.{Exp, if_then, binary, in_set, unary, clause, member, component, constant, brackets, function, aggregate, aggregate_over, value_window, shift, rank, set_op, difference, exists_in, check, check_datapoint, check_hierarchy, hierarchy, join, Exps, no_exps, exp, MaybeExp, no_exp, some_exp, Brack, filtering, making, keeping, renaming, fixing, pivot, unpivot, Made, calc, aggr, MaybeMade, no_made, some_made, Calcs, no_calcs, calc_part, Parts, no_parts, join_part, PointRuleTree, point_rule, StatementTree, assignment, datapoint, hierarchical, ScriptTree}
+use Rattle.vtl_syntax.specs.Trees.{Exp, if_then, binary, in_set, unary, with_clause, member, component, constant, brackets, function, aggregate, aggregate_over, value_window, shift, rank, set_op, difference, exists_in, check, check_datapoint, check_hierarchy, hierarchy, join, Exps, no_exps, exp, MaybeExp, no_exp, some_exp, ClauseTree, filter, targets, keeping, rename, sub, pivot, unpivot, TargetsTree, calc, aggr, MaybeTargets, no_targets, some_targets, Calcs, no_calcs, calc_part, Parts, no_parts, join_part, PointRuleTree, point_rule, StatementTree, assignment, datapoint, hierarchical, ScriptTree}
 use Rattle.vtl_syntax.specs.declared.parts.GroupPart.{GroupPart}
 use Rattle.vtl_syntax.specs.declared.parts.Keeping.{Keeping}
 use Rattle.vtl_syntax.specs.declared.parts.Keeping.TheVariants as kept
@@ -53,7 +53,7 @@ abbrev mutual
   Fits (binary l o r) = Within (operator_level o) l × Fits l × Within (tighter (operator_level o)) r × Fits r
   Fits (in_set e negated ls) = Within level.Compare e × Fits e × Filled ls
   Fits (unary o e) = Within level.Unary e × Fits e
-  Fits (clause e c) = Within level.Postfix e × Fits e × BrackFits c
+  Fits (with_clause e c) = Within level.Postfix e × Fits e × ClauseFits c
   Fits (member e c) = Within level.Postfix e × Fits e
   Fits (component c) = Unit {0}
   Fits (constant c) = Unit {0}
@@ -71,7 +71,7 @@ abbrev mutual
   Fits (check_datapoint e n o) = Fits e
   Fits (check_hierarchy e n r m d o) = Fits e
   Fits (hierarchy e n r m i o) = Fits e
-  Fits (join k ps u f m kept rs) = (2 ≤ parts_count ps) × PartsFit ps × MaybeFilled u × MaybeFits f × MaybeMadeFits m × MaybeKeepingFits kept × MaybeFilled rs
+  Fits (join k ps u f m kept rs) = (2 ≤ parts_count ps) × PartsFit ps × MaybeFilled u × MaybeFits f × MaybeTargetsFit m × MaybeKeepingFits kept × MaybeFilled rs
 
   pub ExpsFit : Exps → Type 0
   ExpsFit no_exps = Unit {0}
@@ -81,22 +81,22 @@ abbrev mutual
   MaybeFits no_exp = Unit {0}
   MaybeFits (some_exp e) = Fits e
 
-  pub BrackFits : Brack → Type 0
-  BrackFits (filtering e) = Fits e
-  BrackFits (making m) = MadeFits m
-  BrackFits (keeping k) = KeepingFits k
-  BrackFits (renaming rs) = Filled rs
-  BrackFits (fixing ss) = Filled ss
-  BrackFits (pivot a b) = Unit {0}
-  BrackFits (unpivot a b) = Unit {0}
+  pub ClauseFits : ClauseTree → Type 0
+  ClauseFits (filter e) = Fits e
+  ClauseFits (targets m) = TargetsFit m
+  ClauseFits (keeping k) = KeepingFits k
+  ClauseFits (rename rs) = Filled rs
+  ClauseFits (sub ss) = Filled ss
+  ClauseFits (pivot a b) = Unit {0}
+  ClauseFits (unpivot a b) = Unit {0}
 
-  pub MadeFits : Made → Type 0
-  MadeFits (calc cs) = (1 ≤ calcs_count cs) × CalcsFit cs
-  MadeFits (aggr cs g h) = (1 ≤ calcs_count cs) × CalcsFit cs × GroupFits g × MaybeFits h
+  pub TargetsFit : TargetsTree → Type 0
+  TargetsFit (calc cs) = (1 ≤ calcs_count cs) × CalcsFit cs
+  TargetsFit (aggr cs g h) = (1 ≤ calcs_count cs) × CalcsFit cs × GroupFits g × MaybeFits h
 
-  pub MaybeMadeFits : MaybeMade → Type 0
-  MaybeMadeFits no_made = Unit {0}
-  MaybeMadeFits (some_made m) = MadeFits m
+  pub MaybeTargetsFit : MaybeTargets → Type 0
+  MaybeTargetsFit no_targets = Unit {0}
+  MaybeTargetsFit (some_targets m) = TargetsFit m
 
   pub CalcsFit : Calcs → Type 0
   CalcsFit no_calcs = Unit {0}
@@ -124,6 +124,6 @@ pub record InGrammar (s : StatementTree) : Type 0 where
   pub shallow : statement_depth s ≤ 128
 
 -- the tokens spell the script
-pub record Spells (ts : Tokens) (script : ScriptTree) : Type 0 where
+pub record SpellsScript (ts : Tokens) (script : ScriptTree) : Type 0 where
   pub is : ts ≡ tokens_of script
   pub each : AllByRecursion InGrammar script

@@ -2,7 +2,7 @@
 use Rattle.std.specs.Prelude.{ℕ, ◌≤◌}
 use Rattle.vtl_grammar.specs.declared.levels.Level.{Level}
 use Rattle.vtl_grammar.specs.declared.levels.Level.TheVariants as level
-use Rattle.vtl_syntax.specs.Trees.{Exp, if_then, binary, in_set, unary, clause, member}
+use Rattle.vtl_syntax.specs.Trees.{Exp, if_then, binary, in_set, unary, with_clause, member}
 use Rattle.vtl_syntax.specs.declared.word_groups.BinaryOp.{BinaryOp}
 use Rattle.vtl_syntax.specs.declared.word_groups.BinaryOp.TheVariants as op
 
@@ -52,7 +52,7 @@ level_of (if_then c a b) = level.Expression
 level_of (binary l o r) = operator_level o
 level_of (in_set e negated ls) = level.Compare
 level_of (unary o e) = level.Unary
-level_of (clause e c) = level.Postfix
+level_of (with_clause e c) = level.Postfix
 level_of (member e c) = level.Postfix
 level_of _ = level.Primary
 

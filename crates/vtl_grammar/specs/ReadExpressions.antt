@@ -6,7 +6,8 @@ use Rattle.vtl_lexer.specs.declared.token.Sign.TheVariants as sign
 use Rattle.vtl_lexer.specs.declared.token.TokenKind.{TokenKind}
 use Rattle.vtl_syntax.specs.Depth.{group_depth, over_depth}
 use Rattle.vtl_syntax.specs.Trees as tree
-use Rattle.vtl_syntax.specs.Trees.{Exp, Brack, Made, CalcTree, PartTree, exps_of, calcs_of, parts_of, maybe_exp, maybe_made}
+use Rattle.vtl_syntax.specs.Trees.{Exp, ClauseTree, TargetsTree, CalcTree, PartTree, exps_of, calcs_of, parts_of, maybe_exp, maybe_targets}
+use Rattle.vtl_syntax.specs.declared.parts.Comp.{Comp}
 use Rattle.vtl_syntax.specs.declared.parts.Constant.TheVariants as constants
 use Rattle.vtl_syntax.specs.declared.word_groups.AggregateName.{AggregateName}
 use Rattle.vtl_syntax.specs.declared.word_groups.BinaryOp.{BinaryOp}
@@ -16,9 +17,10 @@ use Rattle.vtl_syntax.specs.declared.word_groups.JoinKind.{JoinKind}
 use Rattle.vtl_syntax.specs.declared.word_groups.SetOpName.{SetOpName}
 use Rattle.vtl_syntax.specs.declared.word_groups.ShiftName.{ShiftName}
 use Rattle.vtl_syntax.specs.declared.word_groups.ValueWindowName.{ValueWindowName}
+use Rattle.vtl_syntax.specs.declared.word_groups.WrittenRole.{WrittenRole}
 use Rattle.vtl_grammar.specs.Grammar.{Tokens}
 use Rattle.vtl_grammar.specs.Levels.{looseness, operator_level}
-use Rattle.vtl_grammar.specs.Reading.{Got, Gets, got, ◌>>=◌, given, is_keyword, is_sign, after_keyword, after_sign, word, maybe_word, got_listed, spared}
+use Rattle.vtl_grammar.specs.Reading.{Got, Gets, Reads, got, ◌>>=◌, given, is_keyword, is_sign, after_keyword, after_sign, word, maybe_word, got_listed, spared}
 use Rattle.vtl_grammar.specs.ReadParts.{cast_part, literal_set, error_part, group_part, over_part, maybe_keeping, maybe_renames, sub_parts, two_comps, using_part, alias_part, shift_part, retain_part, ruleset_part, rule_part}
 use Rattle.vtl_grammar.specs.Words.{binary_op_at, unary_op_at, mode_at, basic_out_at, check_out_at, hier_input_at, hier_out_at, written_role_at, comp_at, constant_at, in_at, form_at}
 use Rattle.vtl_grammar.specs.declared.call_forms.CallForm.{CallForm}
@@ -49,12 +51,16 @@ maybe_operand n part ts =
 unfoldable pub exps : Gets Exp → Gets (List Exp)
 exps part = got_listed part
 
-unfoldable pub calc_part : Gets Exp → Gets CalcTree
-calc_part part ts =
+-- [ written_role ] comp ":="
+unfoldable pub calc_head : Reads (Option WrittenRole × Comp)
+calc_head ts =
     word comp_at (maybe_word written_role_at ts).1
     >>= (λ c. after_sign sign.Assign c.1
-    >>= (λ after. part after
-    >>= (λ g. Some (got (record { role = (maybe_word written_role_at ts).0; component = c.0; value = g.tree }) g.spare g.rest))))
+    >>= (λ after. Some (((maybe_word written_role_at ts).0, c.0), after)))
+
+unfoldable pub calc_part : Gets Exp → Gets CalcTree
+calc_part part ts =
+    calc_head ts >>= (λ h. part h.1 >>= (λ g. Some (got (record { role = h.0.0; component = h.0.1; value = g.tree }) g.spare g.rest)))
 
 unfoldable pub calc_parts : Gets Exp → Gets (List CalcTree)
 calc_parts part = got_listed (calc_part part)
@@ -67,38 +73,43 @@ unfoldable pub join_parts : Gets Exp → Gets (List PartTree)
 join_parts part = got_listed (join_part part)
 
 -- what follows "aggr"
-unfoldable pub aggr_made : ℕ → Gets Exp → Gets Made
-aggr_made n part ts =
+unfoldable pub aggr_targets : ℕ → Gets Exp → Gets TargetsTree
+aggr_targets n part ts =
     calc_parts part ts
     >>= (λ cs. group_part cs.rest
     >>= (λ g. maybe_exp_after n part keyword.Having g.1
     >>= (λ h. Some (got (tree.aggr (calcs_of cs.tree) g.0 (maybe_exp h.tree)) (min cs.spare h.spare) h.rest))))
 
 -- [ "calc" calcs | "aggr" calcs [ group ] ]
-unfoldable pub made_part : ℕ → Gets Exp → Gets (Option Made)
-made_part n part ts =
+unfoldable pub targets_part : ℕ → Gets Exp → Gets (Option TargetsTree)
+targets_part n part ts =
     given (after_keyword keyword.Calc ts) (λ after. calc_parts part after >>= (λ cs. Some (got (Some (tree.calc (calcs_of cs.tree))) cs.spare cs.rest)))
-    (given (after_keyword keyword.Aggr ts) (λ after. aggr_made n part after >>= (λ m. Some (got (Some m.tree) m.spare m.rest)))
+    (given (after_keyword keyword.Aggr ts) (λ after. aggr_targets n part after >>= (λ m. Some (got (Some m.tree) m.spare m.rest)))
     (Some (got None n ts)))
 
+-- "pivot" comp "," comp | "unpivot" comp "," comp
+unfoldable pub pivot_clause : ℕ → Gets ClauseTree
+pivot_clause n ts =
+    given (after_keyword keyword.Pivot ts) (λ after. two_comps after >>= (λ p. Some (got (tree.pivot p.0.0 p.0.1) n p.1)))
+    (after_keyword keyword.Unpivot ts >>= (λ after. two_comps after >>= (λ p. Some (got (tree.unpivot p.0.0 p.0.1) n p.1))))
+
 -- the clauses with names and literals alone
-unfoldable pub name_clause : ℕ → Gets Brack
+unfoldable pub name_clause : ℕ → Gets ClauseTree
 name_clause n ts =
     maybe_keeping ts
     >>= (λ k. given k.0 (λ kept. Some (got (tree.keeping kept) n k.1))
     (maybe_renames ts
-    >>= (λ r. given r.0 (λ renames. Some (got (tree.renaming renames) n r.1))
-    (given (after_keyword keyword.Sub ts) (λ after. sub_parts after >>= (λ ss. Some (got (tree.fixing ss.0) n ss.1)))
-    (given (after_keyword keyword.Pivot ts) (λ after. two_comps after >>= (λ p. Some (got (tree.pivot p.0.0 p.0.1) n p.1)))
-    (after_keyword keyword.Unpivot ts >>= (λ after. two_comps after >>= (λ p. Some (got (tree.unpivot p.0.0 p.0.1) n p.1)))))))))
+    >>= (λ r. given r.0 (λ renames. Some (got (tree.rename renames) n r.1))
+    (given (after_keyword keyword.Sub ts) (λ after. sub_parts after >>= (λ ss. Some (got (tree.sub ss.0) n ss.1)))
+    (pivot_clause n ts)))))
 
 -- clause
-unfoldable pub clause : ℕ → Gets Exp → Gets Brack
+unfoldable pub clause : ℕ → Gets Exp → Gets ClauseTree
 clause n part ts =
     maybe_exp_after n part keyword.Filter ts
-    >>= (λ f. given f.tree (λ e. Some (got (tree.filtering e) f.spare f.rest))
-    (made_part n part ts
-    >>= (λ m. given m.tree (λ made. Some (got (tree.making made) m.spare m.rest))
+    >>= (λ f. given f.tree (λ e. Some (got (tree.filter e) f.spare f.rest))
+    (targets_part n part ts
+    >>= (λ m. given m.tree (λ targets. Some (got (tree.targets targets) m.spare m.rest))
     (name_clause n ts))))
 
 -- ---- calls: what stands between the brackets
@@ -202,10 +213,10 @@ unfoldable pub join_body : ℕ → Gets Exp → JoinKind → Got (List PartTree)
 join_body n part k ps =
     using_part ps.rest
     >>= (λ u. maybe_exp_after n part keyword.Filter u.1
-    >>= (λ f. made_part n part f.rest
+    >>= (λ f. targets_part n part f.rest
     >>= (λ m. maybe_keeping m.rest
     >>= (λ kept. maybe_renames kept.1
-    >>= (λ rs. Some (got (tree.join k (parts_of ps.tree) u.0 (maybe_exp f.tree) (maybe_made m.tree) kept.0 rs.0) (min ps.spare (min f.spare m.spare)) rs.1))))))
+    >>= (λ rs. Some (got (tree.join k (parts_of ps.tree) u.0 (maybe_exp f.tree) (maybe_targets m.tree) kept.0 rs.0) (min ps.spare (min f.spare m.spare)) rs.1))))))
 
 unfoldable pub join_call : ℕ → Gets Exp → JoinKind → Gets Exp
 join_call n part k ts = join_parts part ts >>= (λ ps. if nat_le 2 (length ps.tree) then join_body n part k ps else None)
@@ -261,19 +272,37 @@ abbrev pub around : {A : Type 0} → ℕ → (ℕ → Option A) → Option A
 around zero f = None
 around (suc s) f = f s
 
--- the clauses and members after an operand; the first number bounds the turns
-unfoldable pub more_postfix : ℕ → Gets Exp → ℕ → Exp → ℕ → Gets Exp
-more_postfix n part zero e spare ts = Some (got e spare ts)
-more_postfix n part (suc turns) e spare ts =
-    given (after_sign sign.OpenSquare ts)
-    (λ after. around spare (λ s. clause n part after >>= (λ c. after_sign sign.CloseSquare c.rest >>= (λ rest. more_postfix n part turns (tree.clause e c.tree) (min s c.spare) rest))))
-    (given (after_sign sign.Hash ts)
-    (λ after. around spare (λ s. word comp_at after >>= (λ c. more_postfix n part turns (tree.member e c.0) s c.1)))
-    (Some (got e spare ts)))
+-- ---- what follows an operand, turn by turn
+
+-- one more turn, or none since nothing follows; and no answer where what follows is not of the grammar
+abbrev pub Step : Type 0
+Step = Got Exp → Option (Option (Got Exp))
+
+-- so many turns at most
+abbrev pub in_turns : Step → ℕ → Got Exp → Option (Got Exp)
+in_turns step zero g = Some g
+in_turns step (suc n) g = step g >>= (λ o. given o (in_turns step n) (Some g))
+
+abbrev pub one_more : Option (Got Exp) → Option (Option (Got Exp))
+one_more g = g >>= (λ x. Some (Some x))
+
+-- "[" clause "]" behind an operand
+unfoldable pub clause_behind : ℕ → Gets Exp → Got Exp → Gets Exp
+clause_behind n part g after =
+    around g.spare (λ s. clause n part after >>= (λ c. after_sign sign.CloseSquare c.rest >>= (λ rest. Some (got (tree.with_clause g.tree c.tree) (min s c.spare) rest))))
+
+-- "#" comp behind an operand
+unfoldable pub member_behind : Got Exp → Gets Exp
+member_behind g after = around g.spare (λ s. word comp_at after >>= (λ c. Some (got (tree.member g.tree c.0) s c.1)))
+
+unfoldable pub postfix_step : ℕ → Gets Exp → Step
+postfix_step n part g =
+    given (after_sign sign.OpenSquare g.rest) (λ after. one_more (clause_behind n part g after))
+    (given (after_sign sign.Hash g.rest) (λ after. one_more (member_behind g after)) (Some None))
 
 -- post
 unfoldable pub postfix : ℕ → Gets Exp → Gets Exp
-postfix n part ts = primary n part ts >>= (λ g. more_postfix n part (length g.rest) g.tree g.spare g.rest)
+postfix n part ts = primary n part ts >>= (λ g. in_turns (postfix_step n part) (length g.rest) g)
 
 -- unary; `again` reads what may follow a sign
 unfoldable pub prefixed : ℕ → Gets Exp → Gets Exp → Gets Exp
@@ -289,18 +318,22 @@ abbrev pub membership_at : Level → TokenKind → Option Bool
 membership_at level.Compare t = in_at t
 membership_at _ t = None
 
--- the operators of a level after an operand, each with a right operand; the number bounds the turns
-unfoldable pub more_operands : Level → Gets Exp → ℕ → Exp → ℕ → Gets Exp
-more_operands l right zero e spare ts = Some (got e spare ts)
-more_operands l right (suc turns) e spare ts =
-    given (word (operator_at l) ts)
-    (λ o. around spare (λ s. right o.1 >>= (λ g. more_operands l right turns (tree.binary e o.0 g.tree) (min s g.spare) g.rest)))
-    (given (word (membership_at l) ts)
-    (λ i. around spare (λ s. literal_set i.1 >>= (λ ls. more_operands l right turns (tree.in_set e i.0 ls.0) s ls.1)))
-    (Some (got e spare ts)))
+-- an operator and its right operand behind a left one
+unfoldable pub operand_behind : Gets Exp → Got Exp → BinaryOp → Gets Exp
+operand_behind right g op after = around g.spare (λ s. right after >>= (λ r. Some (got (tree.binary g.tree op r.tree) (min s r.spare) r.rest)))
 
+-- `in` or `not_in` and the literals behind an operand
+unfoldable pub set_behind : Got Exp → Bool → Gets Exp
+set_behind g negated after = around g.spare (λ s. literal_set after >>= (λ ls. Some (got (tree.in_set g.tree negated ls.0) s ls.1)))
+
+unfoldable pub operand_step : Level → Gets Exp → Step
+operand_step l right g =
+    given (word (operator_at l) g.rest) (λ o. one_more (operand_behind right g o.0 o.1))
+    (given (word (membership_at l) g.rest) (λ i. one_more (set_behind g i.0 i.1)) (Some None))
+
+-- the operators of a level after an operand, each with a right operand
 unfoldable pub chain : Level → Gets Exp → Gets Exp → Gets Exp
-chain l first right ts = first ts >>= (λ g. more_operands l right (length g.rest) g.tree g.spare g.rest)
+chain l first right ts = first ts >>= (λ g. in_turns (operand_step l right) (length g.rest) g)
 
 -- "if" expr "then" expr "else" expr, after the "if"
 unfoldable pub choice : Gets Exp → Gets Exp
@@ -316,22 +349,22 @@ unfoldable pub choice_or : Gets Exp → Gets Exp → Gets Exp
 choice_or part otherwise ts = given (after_keyword keyword.If ts) (choice part) (otherwise ts)
 
 -- the chains of a budget of one more than `n`, where `inner` reads at a budget of `n`
-abbrev pub unary_at : ℕ → (Level → Gets Exp) → Gets Exp
+unfoldable pub unary_at : ℕ → (Level → Gets Exp) → Gets Exp
 unary_at n inner = prefixed n (inner level.Expression) (inner level.Unary)
 
-abbrev pub multiply_at : ℕ → (Level → Gets Exp) → Gets Exp
+unfoldable pub multiply_at : ℕ → (Level → Gets Exp) → Gets Exp
 multiply_at n inner = chain level.Multiply (unary_at n inner) (inner level.Unary)
 
-abbrev pub add_at : ℕ → (Level → Gets Exp) → Gets Exp
+unfoldable pub add_at : ℕ → (Level → Gets Exp) → Gets Exp
 add_at n inner = chain level.Add (multiply_at n inner) (inner level.Multiply)
 
-abbrev pub compare_at : ℕ → (Level → Gets Exp) → Gets Exp
+unfoldable pub compare_at : ℕ → (Level → Gets Exp) → Gets Exp
 compare_at n inner = chain level.Compare (add_at n inner) (inner level.Add)
 
-abbrev pub and_at : ℕ → (Level → Gets Exp) → Gets Exp
+unfoldable pub and_at : ℕ → (Level → Gets Exp) → Gets Exp
 and_at n inner = chain level.And (compare_at n inner) (inner level.Compare)
 
-abbrev pub or_at : ℕ → (Level → Gets Exp) → Gets Exp
+unfoldable pub or_at : ℕ → (Level → Gets Exp) → Gets Exp
 or_at n inner = chain level.Or (and_at n inner) (inner level.And)
 
 -- what may stand at a level

@@ -6,6 +6,7 @@ use Rattle.vtl_lexer.specs.declared.token.Sign.TheVariants as sign
 use Rattle.vtl_syntax.specs.Depth.{hier_rule_depth}
 use Rattle.vtl_syntax.specs.Trees.{Exp, PointRuleTree, point_rule, StatementTree, assignment, datapoint, hierarchical, ScriptTree}
 use Rattle.vtl_syntax.specs.declared.parts.Comp.{Comp}
+use Rattle.vtl_syntax.specs.declared.parts.ErrorPart.{ErrorPart}
 use Rattle.vtl_syntax.specs.declared.parts.SignedComp.{SignedComp}
 use Rattle.vtl_syntax.specs.declared.statements.HierRule.{HierRule}
 use Rattle.vtl_syntax.specs.declared.word_groups.Addition.{Addition}
@@ -32,12 +33,16 @@ when_part ts =
     (λ after. whole_exp after >>= (λ e. after_keyword keyword.Then e.1 >>= (λ rest. Some (Some e.0, rest))))
     (Some (None, ts))
 
+-- expr error
+unfoldable pub holds_read : Reads (Exp × ErrorPart)
+holds_read ts = whole_exp ts >>= (λ e. error_part e.1 >>= (λ err. Some ((e.0, err.0), err.1)))
+
+-- a rule whose name and condition were read
+unfoldable pub rule_behind : Option (List ℕ) → Option Exp → Reads PointRuleTree
+rule_behind name when ts = holds_read ts >>= (λ h. Some (point_rule name when h.0.0 h.0.1, h.1))
+
 unfoldable pub point_rule_read : Reads PointRuleTree
-point_rule_read ts =
-    when_part (rule_name ts).1
-    >>= (λ w. whole_exp w.1
-    >>= (λ e. error_part e.1
-    >>= (λ err. Some (point_rule (rule_name ts).0 w.0 e.0 err.0, err.1))))
+point_rule_read ts = when_part (rule_name ts).1 >>= (λ w. rule_behind (rule_name ts).0 w.0 w.1)
 
 -- the signed items after some; the number bounds the turns
 unfoldable pub more_signed : ℕ → List SignedComp → Reads (List SignedComp)
@@ -84,14 +89,17 @@ point_rules = rules_read point_rule_read
 unfoldable pub hier_rules : Reads (List HierRule × Bool)
 hier_rules = rules_read hier_rule_read
 
+-- expr ";"
+unfoldable pub value_read : Reads Exp
+value_read ts = whole_exp ts >>= (λ e. after_sign sign.Semicolon e.1 >>= (λ rest. Some (e.0, rest)))
+
 -- name ( ":=" | "<-" ) expr ";"
 unfoldable pub assignment_read : Reads StatementTree
 assignment_read ts =
     word name_at ts
     >>= (λ n. word assign_kind_at n.1
-    >>= (λ k. whole_exp k.1
-    >>= (λ e. after_sign sign.Semicolon e.1
-    >>= (λ rest. Some (assignment n.0 k.0 e.0, rest)))))
+    >>= (λ k. value_read k.1
+    >>= (λ e. Some (assignment n.0 k.0 e.0, e.1))))
 
 -- "ruleset" name "(" "variable"
 unfoldable pub ruleset_head : Reads (List ℕ)
@@ -114,15 +122,17 @@ ruleset_end k ts =
     >>= (λ b. after_keyword keyword.Ruleset b
     >>= (λ c. after_sign sign.Semicolon c)))
 
+-- the rules of a ruleset, from the bracket before them to its end
+unfoldable pub rules_between : {A : Type 0} → Keyword → Reads (List A × Bool) → Reads (List A × Bool)
+rules_between k rules ts = ruleset_is ts >>= (λ a. rules a >>= (λ rs. ruleset_end k rs.1 >>= (λ rest. Some (rs.0, rest))))
+
 -- after "datapoint"
 unfoldable pub datapoint_read : Reads StatementTree
 datapoint_read ts =
     ruleset_head ts
     >>= (λ n. comps n.1
-    >>= (λ cs. ruleset_is cs.1
-    >>= (λ a. point_rules a
-    >>= (λ rs. ruleset_end keyword.Datapoint rs.1
-    >>= (λ rest. Some (datapoint n.0 cs.0 rs.0.0 rs.0.1, rest))))))
+    >>= (λ cs. rules_between keyword.Datapoint point_rules cs.1
+    >>= (λ rs. Some (datapoint n.0 cs.0 rs.0.0 rs.0.1, rs.1))))
 
 -- after "hierarchical"
 unfoldable pub hierarchical_read : Reads StatementTree
@@ -130,10 +140,8 @@ hierarchical_read ts =
     ruleset_head ts
     >>= (λ n. after_keyword keyword.Rule n.1
     >>= (λ a. word comp_at a
-    >>= (λ c. ruleset_is c.1
-    >>= (λ b. hier_rules b
-    >>= (λ rs. ruleset_end keyword.Hierarchical rs.1
-    >>= (λ rest. Some (hierarchical n.0 c.0 rs.0.0 rs.0.1, rest)))))))
+    >>= (λ c. rules_between keyword.Hierarchical hier_rules c.1
+    >>= (λ rs. Some (hierarchical n.0 c.0 rs.0.0 rs.0.1, rs.1)))))
 
 unfoldable pub statement_read : Reads StatementTree
 statement_read ts =

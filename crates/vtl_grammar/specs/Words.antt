@@ -59,6 +59,7 @@ use Rattle.vtl_syntax.specs.declared.word_groups.Addition.TheVariants as additio
 use Rattle.vtl_syntax.specs.declared.word_groups.AssignKind.{AssignKind}
 use Rattle.vtl_syntax.specs.declared.word_groups.AssignKind.TheVariants as assign_kind
 
+-- binary_op = "or" | "xor" | "and" | "=" | "<>" | "<" | "<=" | ">" | ">=" | "+" | "-" | "||" | "*" | "/"
 abbrev pub binary_op_token : BinaryOp → TokenKind
 binary_op_token binary_op.Or = token.Keyword keyword.Or
 binary_op_token binary_op.Xor = token.Keyword keyword.Xor
@@ -92,6 +93,7 @@ binary_op_at (token.Sign sign.Star) = Some binary_op.Multiply
 binary_op_at (token.Sign sign.Slash) = Some binary_op.Divide
 binary_op_at _ = None
 
+-- unary_op = "+" | "-" | "not"
 abbrev pub unary_op_token : UnaryOp → TokenKind
 unary_op_token unary_op.Plus = token.Sign sign.Plus
 unary_op_token unary_op.Minus = token.Sign sign.Minus
@@ -103,6 +105,7 @@ unary_op_at (token.Sign sign.Minus) = Some unary_op.Minus
 unary_op_at (token.Keyword keyword.Not) = Some unary_op.Not
 unary_op_at _ = None
 
+-- function_name = "abs" | "floor" | "ceil" | "round" | "trunc" | "mod" | "trim" | "ltrim" | "rtrim" | "substr" | "replace" | "instr" | "length" | "isnull" | "nvl" | "between"
 abbrev pub function_name_token : FunctionName → TokenKind
 function_name_token function_name.Abs = token.Keyword keyword.Abs
 function_name_token function_name.Floor = token.Keyword keyword.Floor
@@ -121,6 +124,7 @@ function_name_token function_name.Isnull = token.Keyword keyword.Isnull
 function_name_token function_name.Nvl = token.Keyword keyword.Nvl
 function_name_token function_name.Between = token.Keyword keyword.Between
 
+-- aggregate_name = "sum" | "avg" | "count" | "min" | "max" | "median"
 abbrev pub aggregate_name_token : AggregateName → TokenKind
 aggregate_name_token aggregate_name.Sum = token.Keyword keyword.Sum
 aggregate_name_token aggregate_name.Avg = token.Keyword keyword.Avg
@@ -129,29 +133,35 @@ aggregate_name_token aggregate_name.Min = token.Keyword keyword.Min
 aggregate_name_token aggregate_name.Max = token.Keyword keyword.Max
 aggregate_name_token aggregate_name.Median = token.Keyword keyword.Median
 
+-- value_window_name = "first_value" | "last_value" | "ratio_to_report"
 abbrev pub value_window_name_token : ValueWindowName → TokenKind
 value_window_name_token value_window_name.FirstValue = token.Keyword keyword.FirstValue
 value_window_name_token value_window_name.LastValue = token.Keyword keyword.LastValue
 value_window_name_token value_window_name.RatioToReport = token.Keyword keyword.RatioToReport
 
+-- shift_name = "lag" | "lead"
 abbrev pub shift_name_token : ShiftName → TokenKind
 shift_name_token shift_name.Lag = token.Keyword keyword.Lag
 shift_name_token shift_name.Lead = token.Keyword keyword.Lead
 
+-- set_op_name = "union" | "intersect"
 abbrev pub set_op_name_token : SetOpName → TokenKind
 set_op_name_token set_op_name.Union = token.Keyword keyword.Union
 set_op_name_token set_op_name.Intersect = token.Keyword keyword.Intersect
 
+-- difference_name = "setdiff" | "symdiff"
 abbrev pub difference_name_token : DifferenceName → TokenKind
 difference_name_token difference_name.Setdiff = token.Keyword keyword.Setdiff
 difference_name_token difference_name.Symdiff = token.Keyword keyword.Symdiff
 
+-- join_kind = "inner_join" | "left_join" | "full_join" | "cross_join"
 abbrev pub join_kind_token : JoinKind → TokenKind
 join_kind_token join_kind.Inner = token.Keyword keyword.InnerJoin
 join_kind_token join_kind.Left = token.Keyword keyword.LeftJoin
 join_kind_token join_kind.Full = token.Keyword keyword.FullJoin
 join_kind_token join_kind.Cross = token.Keyword keyword.CrossJoin
 
+-- mode = "non_null" | "non_zero" | "partial_null" | "partial_zero" | "always_null" | "always_zero"
 abbrev pub mode_token : Mode → TokenKind
 mode_token mode.NonNull = token.Keyword keyword.NonNull
 mode_token mode.NonZero = token.Keyword keyword.NonZero
@@ -169,6 +179,7 @@ mode_at (token.Keyword keyword.AlwaysNull) = Some mode.AlwaysNull
 mode_at (token.Keyword keyword.AlwaysZero) = Some mode.AlwaysZero
 mode_at _ = None
 
+-- basic_out = "invalid" | "all"
 abbrev pub basic_out_token : BasicOut → TokenKind
 basic_out_token basic_out.Invalid = token.Keyword keyword.Invalid
 basic_out_token basic_out.All = token.Keyword keyword.All
@@ -178,6 +189,7 @@ basic_out_at (token.Keyword keyword.Invalid) = Some basic_out.Invalid
 basic_out_at (token.Keyword keyword.All) = Some basic_out.All
 basic_out_at _ = None
 
+-- check_out = "invalid" | "all" | "all_measures"
 abbrev pub check_out_token : CheckOut → TokenKind
 check_out_token check_out.Invalid = token.Keyword keyword.Invalid
 check_out_token check_out.All = token.Keyword keyword.All
@@ -189,6 +201,7 @@ check_out_at (token.Keyword keyword.All) = Some check_out.All
 check_out_at (token.Keyword keyword.AllMeasures) = Some check_out.AllMeasures
 check_out_at _ = None
 
+-- hier_input = "dataset" | "rule" | "rule_priority"
 abbrev pub hier_input_token : HierInput → TokenKind
 hier_input_token hier_input.Dataset = token.Keyword keyword.Dataset
 hier_input_token hier_input.Rule = token.Keyword keyword.Rule
@@ -200,6 +213,7 @@ hier_input_at (token.Keyword keyword.Rule) = Some hier_input.Rule
 hier_input_at (token.Keyword keyword.RulePriority) = Some hier_input.RulePriority
 hier_input_at _ = None
 
+-- hier_out = "computed" | "all"
 abbrev pub hier_out_token : HierOut → TokenKind
 hier_out_token hier_out.Computed = token.Keyword keyword.Computed
 hier_out_token hier_out.All = token.Keyword keyword.All
@@ -209,6 +223,7 @@ hier_out_at (token.Keyword keyword.Computed) = Some hier_out.Computed
 hier_out_at (token.Keyword keyword.All) = Some hier_out.All
 hier_out_at _ = None
 
+-- retain = "all" | "true" | "false"
 abbrev pub retain_token : Retain → TokenKind
 retain_token retain.All = token.Keyword keyword.All
 retain_token retain.True = token.Keyword keyword.True
@@ -220,6 +235,7 @@ retain_at (token.Keyword keyword.True) = Some retain.True
 retain_at (token.Keyword keyword.False) = Some retain.False
 retain_at _ = None
 
+-- written_role = "measure" | "attribute"
 abbrev pub written_role_token : WrittenRole → TokenKind
 written_role_token written_role.Measure = token.Keyword keyword.Measure
 written_role_token written_role.Attribute = token.Keyword keyword.Attribute
@@ -229,6 +245,7 @@ written_role_at (token.Keyword keyword.Measure) = Some written_role.Measure
 written_role_at (token.Keyword keyword.Attribute) = Some written_role.Attribute
 written_role_at _ = None
 
+-- group_kind = "by" | "except"
 abbrev pub group_kind_token : GroupKind → TokenKind
 group_kind_token group_kind.By = token.Keyword keyword.By
 group_kind_token group_kind.Except = token.Keyword keyword.Except
@@ -238,6 +255,7 @@ group_kind_at (token.Keyword keyword.By) = Some group_kind.By
 group_kind_at (token.Keyword keyword.Except) = Some group_kind.Except
 group_kind_at _ = None
 
+-- direction = "asc" | "desc"
 abbrev pub direction_token : Direction → TokenKind
 direction_token direction.Ascending = token.Keyword keyword.Asc
 direction_token direction.Descending = token.Keyword keyword.Desc
@@ -247,6 +265,7 @@ direction_at (token.Keyword keyword.Asc) = Some direction.Ascending
 direction_at (token.Keyword keyword.Desc) = Some direction.Descending
 direction_at _ = None
 
+-- side = "preceding" | "following"
 abbrev pub side_token : Side → TokenKind
 side_token side.Preceding = token.Keyword keyword.Preceding
 side_token side.Following = token.Keyword keyword.Following
@@ -256,6 +275,7 @@ side_at (token.Keyword keyword.Preceding) = Some side.Preceding
 side_at (token.Keyword keyword.Following) = Some side.Following
 side_at _ = None
 
+-- cast_kind = "date" | "time_period"
 abbrev pub cast_kind_token : CastKind → TokenKind
 cast_kind_token cast_kind.Date = token.Keyword keyword.Date
 cast_kind_token cast_kind.TimePeriod = token.Keyword keyword.TimePeriod
@@ -265,6 +285,7 @@ cast_kind_at (token.Keyword keyword.Date) = Some cast_kind.Date
 cast_kind_at (token.Keyword keyword.TimePeriod) = Some cast_kind.TimePeriod
 cast_kind_at _ = None
 
+-- comparison = "=" | "<" | "<=" | ">" | ">="
 abbrev pub comparison_token : Comparison → TokenKind
 comparison_token comparison.Equal = token.Sign sign.Equal
 comparison_token comparison.Less = token.Sign sign.Less
@@ -280,6 +301,7 @@ comparison_at (token.Sign sign.Greater) = Some comparison.Greater
 comparison_at (token.Sign sign.GreaterOrEqual) = Some comparison.GreaterOrEqual
 comparison_at _ = None
 
+-- addition = "+" | "-"
 abbrev pub addition_token : Addition → TokenKind
 addition_token addition.Plus = token.Sign sign.Plus
 addition_token addition.Minus = token.Sign sign.Minus
@@ -289,6 +311,7 @@ addition_at (token.Sign sign.Plus) = Some addition.Plus
 addition_at (token.Sign sign.Minus) = Some addition.Minus
 addition_at _ = None
 
+-- assign_kind = ":=" | "<-"
 abbrev pub assign_kind_token : AssignKind → TokenKind
 assign_kind_token assign_kind.Temporary = token.Sign sign.Assign
 assign_kind_token assign_kind.Persistent = token.Sign sign.Persist
@@ -373,6 +396,7 @@ abbrev pub integer_at : TokenKind → Option (List ℕ)
 integer_at (token.Integer d) = Some d
 integer_at _ = None
 
+-- comp = NAME | QUOTED_NAME
 abbrev pub comp_token : Comp → TokenKind
 comp_token (comp.Name n) = token.Name n
 comp_token (comp.Quoted n) = token.QuotedName n

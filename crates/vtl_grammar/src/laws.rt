@@ -3,18 +3,18 @@ ghost use Rattle.std.specs.Prelude.{◌≡◌, ◌⊎◌, ℕ, List, [], ◌∷�
 ghost use Rattle.vtl_lexer.specs.declared.token.Token.{Token};
 ghost use Rattle.vtl_syntax.specs.Trees.{ScriptTree, StatementTree};
 ghost use Rattle.vtl_grammar.specs.Faults.{SyntaxFault, WholeScript};
-ghost use Rattle.vtl_grammar.specs.Fits.{InGrammar, Spells};
+ghost use Rattle.vtl_grammar.specs.Fits.{InGrammar, SpellsScript};
 ghost use Rattle.vtl_grammar.specs.Grammar.{Tokens, statement_onto};
 ghost use Rattle.vtl_grammar.specs.ReadStatements.{statement_read};
 
 /// Tokens spell one script at most.
 pub fn scripts_are_unique()
-    ensures { (ts : Tokens) (a b : ScriptTree) → Spells ts a → Spells ts b → a ≡ b }
+    ensures { (ts : Tokens) (a b : ScriptTree) → SpellsScript ts a → SpellsScript ts b → a ≡ b }
 {}
 
 /// No statement's tokens begin those of another.
 pub fn statements_do_not_begin_each_other()
-    ensures { (ts more : Tokens) (a b : StatementTree) → Spells ts (a ∷ []) → Spells (ts ++ more) (b ∷ []) → more ≡ [] }
+    ensures { (ts more : Tokens) (a b : StatementTree) → SpellsScript ts (a ∷ []) → SpellsScript (ts ++ more) (b ∷ []) → more ≡ [] }
 {}
 
 /// A text is a script or has a fault, and not both, and it has one fault at most.

@@ -9,7 +9,7 @@ use Rattle.std.proofs.lemmas.List.Sums.{passes_at_first, prefix_len-le-length}
 use Rattle.std.proofs.lemmas.Option.{get_or_from_slice_get, slice_get-get_or, slice_get-map}
 use Rattle.std.proofs.lemmas.Slice.Eq.{bytes_eq-Decides}
 use Rattle.vtl_text.specs.Words.{is_reserved, is_word, reserved_place, reserved_words}
-use Rattle.vtl_lexer.specs.Keywords.{place_of}
+use Rattle.vtl_lexer.specs.Keywords.{place_of, word_of}
 use Rattle.vtl_lexer.specs.declared.keyword.TheConstants.{KEYWORDS}
 use Rattle.vtl_lexer.specs.declared.keyword.Keyword.{Keyword}
 use Rattle.vtl_lexer.specs.declared.keyword.Keyword.TheVariants as k
@@ -39,12 +39,21 @@ reserved-words : list_all is_word reserved_words ≡ true
 unfolding is_word reserved_words encode
 reserved-words = refl
 
-pub keyword-word : (keyword : Keyword) (bytes : List ℕ) → slice_get reserved_words (place_of keyword) ≡ Some bytes → is_word bytes ≡ true
-keyword-word keyword bytes e = all-at is_word reserved_words (place_of keyword) bytes reserved-words e
+-- a keyword's word stands at its place
+word-placed : (keyword : Keyword) → slice_get reserved_words (place_of keyword) ≡ Some (word_of keyword)
+unfolding reserved_words
+word-placed k.Abs = refl
+word-placed _ = refl
 
-pub keyword-reserved : (keyword : Keyword) (bytes : List ℕ) → slice_get reserved_words (place_of keyword) ≡ Some bytes → is_reserved bytes ≡ true
+at-place : (keyword : Keyword) (bytes : List ℕ) → bytes ≡ word_of keyword → slice_get reserved_words (place_of keyword) ≡ Some bytes
+at-place keyword bytes e = word-placed keyword ∙ ap Some (sym e)
+
+pub keyword-word : (keyword : Keyword) (bytes : List ℕ) → bytes ≡ word_of keyword → is_word bytes ≡ true
+keyword-word keyword bytes e = all-at is_word reserved_words (place_of keyword) bytes reserved-words (at-place keyword bytes e)
+
+pub keyword-reserved : (keyword : Keyword) (bytes : List ℕ) → bytes ≡ word_of keyword → is_reserved bytes ≡ true
 unfolding is_reserved
-keyword-reserved keyword bytes e = any-at (λ w. pointwise nat_eq w bytes) reserved_words (place_of keyword) bytes ((bytes_eq-Decides bytes bytes).1 refl) e
+keyword-reserved keyword bytes e = any-at (λ w. pointwise nat_eq w bytes) reserved_words (place_of keyword) bytes ((bytes_eq-Decides bytes bytes).1 refl) (at-place keyword bytes e)
 
 -- a reserved word has one place
 place-found : (keyword : Keyword) → position (λ w. pointwise nat_eq w (get_or reserved_words (place_of keyword) [])) reserved_words ≡ Some (place_of keyword)
@@ -77,10 +86,10 @@ keyword-at i keyword lt e =
     let places : place_of keyword ≡ 0 + i = cc same in
     omega arith
 
-pub one-keyword : (a b : Keyword) (bytes : List ℕ) → slice_get reserved_words (place_of a) ≡ Some bytes → slice_get reserved_words (place_of b) ≡ Some bytes → a ≡ b
+pub one-keyword : (a b : Keyword) (bytes : List ℕ) → bytes ≡ word_of a → bytes ≡ word_of b → a ≡ b
 one-keyword a b bytes e f =
-    let p = get_or_from_slice_get reserved_words (place_of a) bytes [] e in
-    let q = get_or_from_slice_get reserved_words (place_of b) bytes [] f in
+    let p = get_or_from_slice_get reserved_words (place_of a) bytes [] (at-place a bytes e) in
+    let q = get_or_from_slice_get reserved_words (place_of b) bytes [] (at-place b bytes f) in
     let same : Some (place_of a) ≡ Some (place_of b) =
     sym (place-found a) ∙ ap (λ w. position (λ v. pointwise nat_eq v w) reserved_words) (p ∙ sym q) ∙ place-found b in
     let places : place_of a ≡ place_of b = cc same in
@@ -124,11 +133,12 @@ pub placed-below : (bytes : List ℕ) (i : ℕ) → reserved_place bytes ≡ Som
 unfolding reserved_place
 placed-below bytes i e = subst (λ n. i < n) reserved-count (some-place (λ w. pointwise nat_eq w bytes) reserved_words i [] e).0
 
-pub placed : (bytes : List ℕ) (i : ℕ) (d : Keyword) → reserved_place bytes ≡ Some i → slice_get reserved_words (place_of (get_or KEYWORDS i d)) ≡ Some bytes
+pub placed : (bytes : List ℕ) (i : ℕ) (d : Keyword) → reserved_place bytes ≡ Some i → bytes ≡ word_of (get_or KEYWORDS i d)
 unfolding reserved_place
 placed bytes i d e =
     let (lt, same) = some-place (λ w. pointwise nat_eq w bytes) reserved_words i [] e in
     let lt' : i < length KEYWORDS = subst (λ n. i < n) reserved-count lt in
     let place = keyword-at i (get_or KEYWORDS i d) lt' (slice_get-get_or KEYWORDS i d lt') in
     let is : get_or reserved_words i [] ≡ bytes = (bytes_eq-Decides (get_or reserved_words i []) bytes).0 same in
-    ap (slice_get reserved_words) place ∙ slice_get-get_or reserved_words i [] lt ∙ ap Some is
+    let found : Some (word_of (get_or KEYWORDS i d)) ≡ Some bytes = sym (word-placed (get_or KEYWORDS i d)) ∙ ap (slice_get reserved_words) place ∙ slice_get-get_or reserved_words i [] lt ∙ ap Some is in
+    cc found

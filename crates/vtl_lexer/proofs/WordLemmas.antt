@@ -1,15 +1,15 @@
 -- The word at the front of a text.
 use Rattle.std.proofs.Common.{◌≡◌, ◌≤◌, ◌<◌, ◌∷◌, ◌∙◌, ◌&&◌, [], ℕ, zero, suc, List, Bool, Some, true, false, not, length, take, drop, chars, encode_utf8_all, nat_le, sym, ap, subst, refl, arith, IsUtf8}
 use Rattle.std.specs.Char.{is_ascii_alphabetic}
-use Rattle.std.specs.List.{list_all, slice_get}
+use Rattle.std.specs.List.{list_all}
 use Rattle.std.specs.Str.{IsCharBoundary}
 use Rattle.std.proofs.lemmas.Bool.{and_from, and_parts, false≢true}
 use Rattle.std.proofs.lemmas.Bool.Decides.{nat_tests}
 use Rattle.std.proofs.lemmas.List.{length-take-le, take-append-drop}
 use Rattle.std.proofs.lemmas.Str.{encodes-IsAscii, chars-IsAscii}
-use Rattle.vtl_text.specs.Words.{fits_name, is_name, is_reserved, is_word, is_word_character, reserved_words, starts_with_letter}
+use Rattle.vtl_text.specs.Words.{fits_name, is_name, is_reserved, is_word, is_word_character, starts_with_letter}
 use Rattle.vtl_lexer.specs.Found.{IsTokenOf, IsWordKind}
-use Rattle.vtl_lexer.specs.Keywords.{place_of}
+use Rattle.vtl_lexer.specs.Keywords.{word_of}
 use Rattle.vtl_lexer.specs.Leads.{lead_of}
 use Rattle.vtl_lexer.specs.Spelling.{Spells}
 use Rattle.vtl_lexer.specs.Tokens.{NoToken, begins_with, goes_on}
@@ -101,8 +101,8 @@ word-long text size lead run long kind bytes rest e token =
 chars-same : (bytes : List ℕ) → is_word bytes ≡ true → chars bytes ≡ bytes
 chars-same bytes word = chars-IsAscii bytes (all-ascii is_word_character bytes word-ascii (word-characters bytes word))
 
-pub keyword-kind : (bytes : List ℕ) (keyword : Keyword) → is_word bytes ≡ true → slice_get reserved_words (place_of keyword) ≡ Some (chars bytes) → IsWordKind (k.Keyword keyword) bytes
-keyword-kind bytes keyword word e = record { spelled = e ∙ ap Some (chars-same bytes word); goes_on = λ byte. refl }
+pub keyword-kind : (bytes : List ℕ) (keyword : Keyword) → is_word bytes ≡ true → chars bytes ≡ word_of keyword → IsWordKind (k.Keyword keyword) bytes
+keyword-kind bytes keyword word e = record { spelled = sym (chars-same bytes word) ∙ e; goes_on = λ byte. refl }
 
 pub name-kind : (bytes name : List ℕ) → is_word bytes ≡ true → is_reserved (chars bytes) ≡ false → name ≡ chars bytes → IsWordKind (k.Name name) bytes
 unfolding is_name

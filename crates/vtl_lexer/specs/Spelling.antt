@@ -1,9 +1,9 @@
 -- How each kind of token is spelled. A text is the list of its bytes in UTF-8: 34 is `"`, 39 is `'`, 46 is `.`.
-use Rattle.std.specs.Prelude.{◌≡◌, ◌<◌, ◌==◌, ℕ, true, not, List, [], ◌∷◌, ◌++◌, Some, length, chars, codes, slice_get, if◌then◌else◌}
+use Rattle.std.specs.Prelude.{◌≡◌, ◌<◌, ◌==◌, ℕ, true, not, List, [], ◌∷◌, ◌++◌, length, chars, codes, if◌then◌else◌}
 use Rattle.std.specs.Char.{is_ascii_digit}
 use Rattle.std.specs.List.{list_all}
-use Rattle.vtl_text.specs.Words.{is_component_name, is_name, quoted, reserved_words}
-use Rattle.vtl_lexer.specs.Keywords.{place_of}
+use Rattle.vtl_text.specs.Words.{is_component_name, is_name, quoted}
+use Rattle.vtl_lexer.specs.Keywords.{word_of}
 use Rattle.vtl_lexer.specs.declared.token.Sign.{Sign}
 use Rattle.vtl_lexer.specs.declared.token.Sign.TheVariants as s
 use Rattle.vtl_lexer.specs.declared.token.TokenKind.{TokenKind}
@@ -50,7 +50,7 @@ doubled (byte ∷ bytes) = if byte == 34 then 34 ∷ 34 ∷ doubled bytes else b
 -- these bytes spell a token of this kind, which holds what stands between its quotes, or else the whole. A name has at most 64 bytes (`is_name`), and so has what a quoted name holds (`is_component_name`).
 abbrev pub Spells : TokenKind → List ℕ → Type 0
 Spells (k.Name word) bytes = (bytes ≡ word) × (is_name word ≡ true)
-Spells (k.Keyword keyword) bytes = slice_get reserved_words (place_of keyword) ≡ Some bytes
+Spells (k.Keyword keyword) bytes = bytes ≡ word_of keyword
 Spells (k.QuotedName name) bytes = (inner : List ℕ) × (bytes ≡ quoted inner) × Lacks 39 inner × (name ≡ chars inner) × (is_component_name name ≡ true)
 Spells (k.Integer digits) bytes = (bytes ≡ digits) × IsDigits digits
 Spells (k.Decimal number) bytes = (whole : List ℕ) × (part : List ℕ) × (bytes ≡ number) × (number ≡ whole ++ 46 ∷ part) × IsDigits whole × IsDigits part

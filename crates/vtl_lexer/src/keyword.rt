@@ -1,7 +1,7 @@
 // The words of the grammar.
 ghost use Rattle.std.specs.Prelude.{◌≡◌, Some, false, chars, MatchOption, slice_get};
-ghost use Rattle.vtl_text.specs.Words.{is_reserved, reserved_words};
-ghost use Rattle.vtl_lexer.specs.Keywords.{place_of, same_keyword};
+ghost use Rattle.vtl_text.specs.Words.{is_reserved};
+ghost use Rattle.vtl_lexer.specs.Keywords.{place_of, same_keyword, word_of};
 
 use vtl_text::reserved_place;
 
@@ -373,7 +373,7 @@ pub fn is_same_keyword(a: Keyword, b: Keyword) -> bool
 /// The reserved word that `word` is, if it is one. Its letters are as the grammar writes them.
 pub fn keyword_of(word: &str) -> Option<Keyword>
     ensures { MatchOption result (is_reserved (chars word.now) ≡ false)
-        (λ keyword. slice_get reserved_words (place_of keyword) ≡ Some (chars word.now)) }
+        (λ keyword. chars word.now ≡ word_of keyword) }
 {
     Some(KEYWORDS[reserved_place(word)?])
 }

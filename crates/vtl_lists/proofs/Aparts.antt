@@ -1,10 +1,11 @@
 -- That no two items are the same does not depend on their order, and a rising list shows it at neighbours.
-use Rattle.std.proofs.Common.{◌≡◌, ℕ, ◌+◌, ◌<◌, ◌≤◌, length, length-drop, get_or, drop, arith, List, [], ◌∷◌, Bool, true, false, not, ◌&&◌, ◌||◌, refl, sym, ap, ◌∙◌, true≢false}
-use Rattle.std.specs.List.{list_any, AllByRecursion}
+use Rattle.std.proofs.Common.{◌≡◌, ℕ, ◌+◌, ◌<◌, ◌≤◌, length, length-drop, get_or, drop, arith, List, [], ◌∷◌, Bool, true, false, cond, not, ◌&&◌, ◌||◌, refl, sym, ap, ◌∙◌, true≢false}
+use Rattle.std.specs.List.{list_any, filter, AllByRecursion}
 use Rattle.std.proofs.lemmas.List.{drop_more}
 use Rattle.vtl_lists.specs.Apart.{all_apart}
 use Rattle.vtl_lists.specs.Perm.{Perm, empty, keep, cross, chain}
 use Rattle.vtl_lists.specs.Sorting.{Rises}
+use Rattle.vtl_lists.proofs.Sorts.{AllByRecursion-filter}
 
 or_swap : (a b c : Bool) → (a || (b || c)) ≡ (b || (a || c))
 or_swap true true c = refl
@@ -33,6 +34,37 @@ module _ {X : Type 0} (same : X → X → Bool) (turn : (x y : X) → same x y �
   all_apart-Perm (keep x {xs} {ys} q) = ap (λ b. not b && all_apart same xs) (list_any-Perm (same x) q) ∙ ap (λ b. not (list_any (same x) ys) && b) (all_apart-Perm q)
   all_apart-Perm (cross x y xs) = apart_swap (same x y) (same y x) (list_any (same x) xs) (list_any (same y) xs) (all_apart same xs) (turn x y)
   all_apart-Perm (chain q r) = all_apart-Perm q ∙ all_apart-Perm r
+
+-- an item apart from each later one, and the later ones from one another
+pub none_same : {X : Type 0} (p : X → Bool) (xs : List X) → list_any p xs ≡ false → AllByRecursion (λ y. p y ≡ false) xs
+none_same p [] e = tt
+none_same p (x ∷ xs) e = go (p x) refl (none_same p xs) e
+  where
+    go : (b : Bool) → p x ≡ b → (list_any p xs ≡ false → AllByRecursion (λ y. p y ≡ false) xs) → (b || list_any p xs) ≡ false → AllByRecursion (λ y. p y ≡ false) (x ∷ xs)
+    go true t h e = absurd (true≢false e)
+    go false t h e = (t, h e)
+
+pub none_is : {X : Type 0} (p : X → Bool) (xs : List X) → AllByRecursion (λ y. p y ≡ false) xs → list_any p xs ≡ false
+none_is p [] all = refl
+none_is p (x ∷ xs) all = ap (λ b. b || list_any p xs) all.0 ∙ none_is p xs all.1
+
+pub apart_parts : {X : Type 0} (same : X → X → Bool) (x : X) (xs : List X) → all_apart same (x ∷ xs) ≡ true → AllByRecursion (λ y. same x y ≡ false) xs × (all_apart same xs ≡ true)
+apart_parts same x xs e = go (list_any (same x) xs) refl e
+  where
+    go : (b : Bool) → list_any (same x) xs ≡ b → (not b && all_apart same xs) ≡ true → AllByRecursion (λ y. same x y ≡ false) xs × (all_apart same xs ≡ true)
+    go true t e = absurd (true≢false (sym e))
+    go false t e = (none_same (same x) xs t, e)
+
+pub apart_more : {X : Type 0} (same : X → X → Bool) (x : X) (xs : List X) → AllByRecursion (λ y. same x y ≡ false) xs → all_apart same xs ≡ true → all_apart same (x ∷ xs) ≡ true
+apart_more same x xs all e = ap (λ b. not b && all_apart same xs) (none_is (same x) xs all) ∙ e
+
+pub all_apart-filter : {X : Type 0} (same : X → X → Bool) (p : X → Bool) (xs : List X) → all_apart same xs ≡ true → all_apart same (filter p xs) ≡ true
+all_apart-filter same p [] e = refl
+all_apart-filter same p (x ∷ xs) e = go (p x) (all_apart-filter same p xs (apart_parts same x xs e).1)
+  where
+    go : (b : Bool) → all_apart same (filter p xs) ≡ true → all_apart same (cond b (x ∷ filter p xs) (filter p xs)) ≡ true
+    go true ih = apart_more same x (filter p xs) (AllByRecursion-filter (λ y. same x y ≡ false) p xs (apart_parts same x xs e).0) ih
+    go false ih = ih
 
 -- whether each item differs from the next
 abbrev pub neighbours_apart : {X : Type 0} → (X → X → Bool) → List X → Bool

@@ -1,6 +1,6 @@
 -- Lemmas on Perm.
-use Rattle.std.proofs.Common.{◌≡◌, ℕ, zero, suc, ◌<◌, List, [], ◌∷◌, ◌++◌, Bool, true, false, cond, map, length, get_or, set, refl, sym, subst, arith, append_assoc}
-use Rattle.std.specs.List.{filter, flat_map, swap}
+use Rattle.std.proofs.Common.{◌≡◌, ℕ, zero, suc, ◌<◌, List, [], ◌∷◌, ◌++◌, Bool, true, false, ◌&&◌, cond, map, length, get_or, set, refl, sym, ap, ◌∙◌, subst, arith, append_assoc}
+use Rattle.std.specs.List.{AllByRecursion, filter, flat_map, list_all, swap}
 use Rattle.std.specs.List.Sorted.{IsPermutation}
 use Rattle.std.proofs.lemmas.List.{append-nil}
 use Rattle.std.proofs.lemmas.List.Sorted.{IsPermutation-refl, IsPermutation-trans, IsPermutation-cons, IsPermutation-keeps, IsPermutation-swap}
@@ -77,6 +77,30 @@ Perm-flat_map f (chain q r) = chain (Perm-flat_map f q) (Perm-flat_map f r)
 pub Perm-flat_map_each : {X Y : Type 0} (f g : X → List Y) → ((x : X) → Perm (f x) (g x)) → (xs : List X) → Perm (flat_map f xs) (flat_map g xs)
 Perm-flat_map_each f g each [] = empty
 Perm-flat_map_each f g each (x ∷ xs) = Perm-append (each x) (Perm-flat_map_each f g each xs)
+
+-- ---- what does not depend on the order
+pub length-Perm : {X : Type 0} {xs ys : List X} → Perm xs ys → length xs ≡ length ys
+length-Perm empty = refl
+length-Perm (keep x p) = ap suc (length-Perm p)
+length-Perm (cross x y xs) = refl
+length-Perm (chain p q) = length-Perm p ∙ length-Perm q
+
+and_swap : (a b c : Bool) → (a && (b && c)) ≡ (b && (a && c))
+and_swap true b c = refl
+and_swap false true c = refl
+and_swap false false c = refl
+
+pub list_all-Perm : {X : Type 0} (p : X → Bool) {xs ys : List X} → Perm xs ys → list_all p xs ≡ list_all p ys
+list_all-Perm p empty = refl
+list_all-Perm p (keep x q) = ap (λ b. p x && b) (list_all-Perm p q)
+list_all-Perm p (cross x y xs) = and_swap (p x) (p y) (list_all p xs)
+list_all-Perm p (chain q r) = list_all-Perm p q ∙ list_all-Perm p r
+
+pub AllByRecursion-Perm : {X : Type 0} (P : X → Type 0) {xs ys : List X} → Perm xs ys → AllByRecursion P xs → AllByRecursion P ys
+AllByRecursion-Perm P empty all = tt
+AllByRecursion-Perm P (keep x p) all = (all.0, AllByRecursion-Perm P p all.1)
+AllByRecursion-Perm P (cross x y xs) all = (all.1.0, (all.0, all.1.1))
+AllByRecursion-Perm P (chain p q) all = AllByRecursion-Perm P q (AllByRecursion-Perm P p all)
 
 -- std's relation
 pub IsPermutation-from_Perm : {X : Type 0} {xs ys : List X} → Perm xs ys → IsPermutation xs ys

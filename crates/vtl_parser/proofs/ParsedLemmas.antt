@@ -1,11 +1,12 @@
 -- The clauses of `parse`, from the answer for the tokens.
-use Rattle.std.proofs.Common.{◌≡◌, ℕ, List, Option, Result, Ok, Err, MatchResult}
+use Rattle.std.proofs.Common.{◌≡◌, ℕ, List, Option, Result, Ok, Err, MatchResult, map, subst, sym}
 use Rattle.vtl_grammar.specs.Faults.{WholeScript}
 use Rattle.vtl_lexer.specs.Lexed.{IsLexed}
 use Rattle.vtl_lexer.specs.declared.token.Token.{Token}
 use Rattle.vtl_syntax.specs.Trees.{ScriptTree}
-use Rattle.vtl_syntax.specs.View.{script_tree}
+use Rattle.vtl_syntax.specs.View.{script_tree, statement_tree}
 use Rattle.vtl_syntax.specs.declared.statements.Script.{Script}
+use Rattle.vtl_syntax.specs.declared.statements.Statement.{Statement}
 use Rattle.vtl_parser.specs.Parsed.{IsErrorOf, IsFault, IsFaultOf, IsFaulty, IsMemory, IsScript}
 use Rattle.vtl_parser.specs.declared.parsing.ParseErr.{ParseErr}
 use Rattle.vtl_parser.specs.declared.parsing.ParseErr.TheVariants as e
@@ -21,6 +22,13 @@ pub answered : (text : List ℕ) (tokens : List Token) (bad : Option ℕ) (r : R
 answered text tokens bad (Ok script) lexed a = record { tokens = tokens; bad = bad; lexed = lexed; whole = a }
 answered text tokens bad (Err (e.Syntax done byte)) lexed a = record { tokens = tokens; bad = bad; lexed = lexed; fault = a }
 answered text tokens bad (Err e.OutOfMemory) lexed a = tt
+
+-- a script of these statements, or want of memory
+pub answered_whole : (tokens : List Token) (bad : Option ℕ) (statements : List Statement) (r : Result Script ParseErr) → MatchResult r (λ script. script.statements ≡ statements) (λ error. IsMemory error)
+    → WholeScript tokens bad (map statement_tree statements) → TokensAnswered tokens bad r
+answered_whole tokens bad statements (Ok script) e whole = subst (λ l. WholeScript tokens bad (map statement_tree l)) (sym e) whole
+answered_whole tokens bad statements (Err (e.Syntax done byte)) h whole = absurd h
+answered_whole tokens bad statements (Err e.OutOfMemory) h whole = tt
 
 pub answers_scripts : (text : List ℕ) (r : Result Script ParseErr) → Answered text r → (script : ScriptTree) → IsScript text script → MatchResult r (λ read. script_tree read ≡ script) (λ error. IsMemory error)
 answers_scripts text (Ok read) a script is = one_script text (script_tree read) script a is

@@ -2,7 +2,7 @@
 ghost use Rattle.std.specs.Prelude.{◌≡◌, Some, option_map};
 ghost use Rattle.vtl_grammar.specs.Faults.{kinds};
 ghost use Rattle.vtl_grammar.specs.ReadStatements.{rule_name, ruleset_end, ruleset_head, ruleset_is};
-ghost use Rattle.vtl_parts.specs.Answers.{Answers};
+ghost use Rattle.vtl_parts.specs.Fronts.{ReadsAs};
 
 use vtl_lexer::{Keyword, Sign, Token};
 use vtl_parts::{Front, Unread, after_keyword, after_sign, name};
@@ -11,7 +11,7 @@ use vtl_text::Txt;
 /// `name :`, if it stands there. It fails only for want of memory.
 #[tactic(auto, unfolding(vtl_grammar::specs::ReadStatements::rule_name))]
 pub fn rule_name(tokens: &[Token]) -> Result<Front<'_, Option<Txt>>, Unread>
-    ensures { Answers (Some (rule_name (kinds tokens.now))) result }
+    ensures { ReadsAs (Some (rule_name (kinds tokens.now))) result }
 {
     let unnamed = Front {
         part: None,
@@ -33,7 +33,7 @@ pub fn rule_name(tokens: &[Token]) -> Result<Front<'_, Option<Txt>>, Unread>
 /// `ruleset name ( variable`
 #[tactic(auto, unfolding(vtl_grammar::specs::ReadStatements::ruleset_head))]
 pub fn ruleset_head(tokens: &[Token]) -> Result<Front<'_, Txt>, Unread>
-    ensures { Answers (ruleset_head (kinds tokens.now)) result }
+    ensures { ReadsAs (ruleset_head (kinds tokens.now)) result }
 {
     let after = after_keyword(tokens, Keyword::Ruleset).ok_or(Unread::Absent)?;
     let named = name(after)?;

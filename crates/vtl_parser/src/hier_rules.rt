@@ -2,7 +2,7 @@
 ghost use Rattle.std.specs.Prelude.{◌≡◌, length, nat_le};
 ghost use Rattle.vtl_grammar.specs.Faults.{kinds};
 ghost use Rattle.vtl_grammar.specs.ReadStatements.{hier_rule_read, more_signed, right_side};
-ghost use Rattle.vtl_parts.specs.Answers.{Answers};
+ghost use Rattle.vtl_parts.specs.Fronts.{ReadsAs};
 ghost use Rattle.vtl_syntax.specs.Depth.{hier_rule_depth};
 
 use crate::heads::rule_name;
@@ -18,7 +18,7 @@ fn more_signed(
     mut items: Vec<SignedComp>,
     tokens: &[Token],
 ) -> Result<Front<'_, List<SignedComp>>, Unread>
-    ensures { Answers (more_signed (length (kinds tokens.now)) items.items (kinds tokens.now)) result }
+    ensures { ReadsAs (more_signed (length (kinds tokens.now)) items.items (kinds tokens.now)) result }
 {
     let mut rest = tokens;
     for _ in tokens {
@@ -44,7 +44,7 @@ fn right_side(
     alloc: Global,
     tokens: &[Token],
 ) -> Result<Front<'_, (Option<Addition>, (Comp, List<SignedComp>))>, Unread>
-    ensures { Answers (right_side (kinds tokens.now)) result }
+    ensures { ReadsAs (right_side (kinds tokens.now)) result }
 {
     let sign = maybe_word(tokens);
     let first = comp(sign.rest)?;
@@ -69,7 +69,7 @@ fn is_shallow(rule: &HierRule) -> bool
 // `name: item comparison sign first others error`
 #[tactic(auto, unfolding(vtl_grammar::specs::ReadStatements::hier_rule_read))]
 fn hier_rule(alloc: Global, tokens: &[Token]) -> Result<Front<'_, HierRule>, Unread>
-    ensures { Answers (hier_rule_read (kinds tokens.now)) result }
+    ensures { ReadsAs (hier_rule_read (kinds tokens.now)) result }
 {
     let name = rule_name(tokens)?;
     let item = comp(name.rest)?;
@@ -98,7 +98,7 @@ fn hier_rule(alloc: Global, tokens: &[Token]) -> Result<Front<'_, HierRule>, Unr
 
 impl Rule for HierRule {
     ghost use Rattle.vtl_grammar.specs.ReadStatements.{hier_rule_read};
-    ghost use Rattle.vtl_parts.specs.Answers.{same};
+    ghost use Rattle.vtl_parts.specs.Fronts.{same};
     ghost use Rattle.vtl_syntax.specs.declared.statements.HierRule.{HierRule};
 
     ghost Tree = { HierRule };

@@ -8,7 +8,8 @@ ghost use Rattle.vtl_syntax.specs.View.{script_tree};
 use crate::statements::statements;
 use std::alloc::{AllocError, Global};
 use vtl_lexer::{Token, tokens_before_fault};
-use vtl_syntax::Script;
+use vtl_syntax::{Script, Shared, Statement};
+use vtl_text::List;
 
 /// Why a text was not read as a script.
 #[derive(Clone, Copy, Debug, PartialEq, Eq)]
@@ -59,10 +60,16 @@ fn script_of(alloc: Global, tokens: &[Token], bad: Option<usize>) -> Result<Scri
             done: read.part.as_slice().len(),
             byte,
         }),
-        None => Ok(Script {
-            statements: read.part,
-        }),
+        None => script(read.part),
     }
+}
+
+fn script(statements: List<Statement>) -> Result<Script, ParseErr>
+    ensures { MatchResult result (λ script. script.statements ≡ statements) (λ error. IsMemory error) }
+{
+    Ok(Script {
+        statements: Shared::of(statements.into_vec())?,
+    })
 }
 
 // The start of the next token, or the byte from which none starts.

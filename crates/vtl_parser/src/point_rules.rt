@@ -1,9 +1,8 @@
 // Rules of datapoint rulesets.
 ghost use Rattle.std.specs.Prelude.{◌≡◌, option_map};
 ghost use Rattle.vtl_grammar.specs.Faults.{kinds};
-ghost use Rattle.vtl_grammar.specs.ReadStatements.{point_rule_read, when_part};
-ghost use Rattle.vtl_parser.specs.RuleParts.{first_by, holds_read, rule_behind};
-ghost use Rattle.vtl_parts.specs.Answers.{AnswersBy};
+ghost use Rattle.vtl_grammar.specs.ReadStatements.{holds_read, point_rule_read, rule_behind, when_part};
+ghost use Rattle.vtl_parts.specs.Fronts.{ReadsBy, first_by};
 ghost use Rattle.vtl_syntax.specs.View.{expr_tree, point_rule_tree};
 ghost use Rattle.vtl_expressions.specs.Reads.{box_tree};
 
@@ -19,7 +18,7 @@ use vtl_text::Txt;
 // `when condition then`, if it stands there.
 #[tactic(auto, unfolding(vtl_grammar::specs::ReadStatements::when_part))]
 fn when_part(alloc: Global, tokens: &[Token]) -> Result<Front<'_, Option<Box<Expr>>>, Unread>
-    ensures { AnswersBy (option_map box_tree) (when_part (kinds tokens.now)) result }
+    ensures { ReadsBy (option_map box_tree) (when_part (kinds tokens.now)) result }
 {
     let Some(after) = after_keyword(tokens, Keyword::When) else {
         return Ok(Front {
@@ -36,9 +35,9 @@ fn when_part(alloc: Global, tokens: &[Token]) -> Result<Front<'_, Option<Box<Exp
 }
 
 // What has to hold, and its error.
-#[tactic(auto, unfolding(crate::specs::RuleParts::holds_read))]
+#[tactic(auto, unfolding(vtl_grammar::specs::ReadStatements::holds_read))]
 fn holds(alloc: Global, tokens: &[Token]) -> Result<Front<'_, (Box<Expr>, ErrorPart)>, Unread>
-    ensures { AnswersBy (first_by box_tree) (holds_read (kinds tokens.now)) result }
+    ensures { ReadsBy (first_by box_tree) (holds_read (kinds tokens.now)) result }
 {
     let value = whole_expression(alloc, tokens)?;
     let error = error_part(value.rest)?;
@@ -49,14 +48,14 @@ fn holds(alloc: Global, tokens: &[Token]) -> Result<Front<'_, (Box<Expr>, ErrorP
 }
 
 // The rest of a rule whose name and condition were read.
-#[tactic(auto, unfolding(crate::specs::RuleParts::rule_behind))]
+#[tactic(auto, unfolding(vtl_grammar::specs::ReadStatements::rule_behind))]
 fn rule_behind(
     alloc: Global,
     name: Option<Txt>,
     when: Option<Box<Expr>>,
     tokens: &[Token],
 ) -> Result<Front<'_, PointRule>, Unread>
-    ensures { AnswersBy point_rule_tree (rule_behind name (option_map box_tree when) (kinds tokens.now)) result }
+    ensures { ReadsBy point_rule_tree (rule_behind name (option_map box_tree when) (kinds tokens.now)) result }
 {
     let Front { part, rest } = holds(alloc, tokens)?;
     Ok(Front {
@@ -80,9 +79,9 @@ fn unboxed(when: Option<Box<Expr>>) -> Option<Expr>
 }
 
 // `name: when condition then holds error`
-#[tactic(auto, unfolding(vtl_grammar::specs::ReadStatements::point_rule_read, crate::specs::RuleParts::rule_behind, crate::specs::RuleParts::holds_read))]
+#[tactic(auto, unfolding(vtl_grammar::specs::ReadStatements::point_rule_read))]
 fn point_rule(alloc: Global, tokens: &[Token]) -> Result<Front<'_, PointRule>, Unread>
-    ensures { AnswersBy point_rule_tree (point_rule_read (kinds tokens.now)) result }
+    ensures { ReadsBy point_rule_tree (point_rule_read (kinds tokens.now)) result }
 {
     let name = rule_name(tokens)?;
     let when = when_part(alloc, name.rest)?;

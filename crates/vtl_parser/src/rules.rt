@@ -1,9 +1,8 @@
 // The rules of a ruleset.
 ghost use Rattle.std.specs.Prelude.{◌≡◌, length, map};
 ghost use Rattle.vtl_grammar.specs.Faults.{kinds};
-ghost use Rattle.vtl_grammar.specs.ReadStatements.{ends_rules, more_rules, rules_read};
-ghost use Rattle.vtl_parser.specs.RuleParts.{first_by, rules_between};
-ghost use Rattle.vtl_parts.specs.Answers.{AnswersBy};
+ghost use Rattle.vtl_grammar.specs.ReadStatements.{ends_rules, more_rules, rules_between, rules_read};
+ghost use Rattle.vtl_parts.specs.Fronts.{ReadsBy, first_by};
 
 use crate::heads::{ruleset_end, ruleset_is};
 use std::alloc::Global;
@@ -15,7 +14,7 @@ use vtl_text::List;
 pub trait Rule: Drop {
     ghost use Rattle.vtl_grammar.specs.Faults.{kinds};
     ghost use Rattle.vtl_grammar.specs.Reading.{Reads};
-    ghost use Rattle.vtl_parts.specs.Answers.{AnswersBy};
+    ghost use Rattle.vtl_parts.specs.Fronts.{ReadsBy};
 
     // The trees of such rules.
     ghost Tree: { Type 0 };
@@ -28,7 +27,7 @@ pub trait Rule: Drop {
 
     /// The rule at the front.
     fn read(alloc: Global, tokens: &[Token]) -> Result<Front<'_, Self>, Unread>
-        ensures { AnswersBy view (reads (kinds tokens.now)) result };
+        ensures { ReadsBy view (reads (kinds tokens.now)) result };
 }
 
 // No rule follows where the ruleset ends, so that a semicolon before that is the last one.
@@ -41,7 +40,7 @@ fn ends_rules(tokens: &[Token]) -> bool
 
 // The rules, and whether a semicolon is last.
 fn rules<R: Rule>(alloc: Global, tokens: &[Token]) -> Result<Front<'_, (List<R>, bool)>, Unread>
-    ensures { AnswersBy (first_by (map R.view)) (rules_read R.reads (kinds tokens.now)) result }
+    ensures { ReadsBy (first_by (map R.view)) (rules_read R.reads (kinds tokens.now)) result }
 {
     let first = R::read(alloc, tokens)?;
     let mut found = Vec::new(alloc);
@@ -55,7 +54,7 @@ fn more_rules<R: Rule>(
     mut found: Vec<R>,
     tokens: &[Token],
 ) -> Result<Front<'_, (List<R>, bool)>, Unread>
-    ensures { AnswersBy (first_by (map R.view)) (more_rules R.reads (length (kinds tokens.now)) (map R.view found.items) (kinds tokens.now)) result }
+    ensures { ReadsBy (first_by (map R.view)) (more_rules R.reads (length (kinds tokens.now)) (map R.view found.items) (kinds tokens.now)) result }
 {
     let mut rest = tokens;
     for _ in tokens {
@@ -79,13 +78,13 @@ fn more_rules<R: Rule>(
 }
 
 /// The rules of a ruleset, from the bracket before them to the ruleset's end, and whether a semicolon is last.
-#[tactic(auto, unfolding(crate::specs::RuleParts::rules_between))]
+#[tactic(auto, unfolding(vtl_grammar::specs::ReadStatements::rules_between))]
 pub fn rules_between<R: Rule>(
     alloc: Global,
     kind: Keyword,
     tokens: &[Token],
 ) -> Result<Front<'_, (List<R>, bool)>, Unread>
-    ensures { AnswersBy (first_by (map R.view)) (rules_between kind (rules_read R.reads) (kinds tokens.now)) result }
+    ensures { ReadsBy (first_by (map R.view)) (rules_between kind (rules_read R.reads) (kinds tokens.now)) result }
 {
     let after = ruleset_is(tokens).ok_or(Unread::Absent)?;
     let Front { part, rest } = rules(alloc, after)?;

@@ -1,9 +1,8 @@
 // Statements.
 ghost use Rattle.std.specs.Prelude.{Some, map};
 ghost use Rattle.vtl_grammar.specs.Faults.{kinds};
-ghost use Rattle.vtl_grammar.specs.ReadStatements.{assignment_read, datapoint_read, hierarchical_read, script_read, statement_read};
-ghost use Rattle.vtl_parser.specs.RuleParts.{value_read};
-ghost use Rattle.vtl_parts.specs.Answers.{AnswersBy};
+ghost use Rattle.vtl_grammar.specs.ReadStatements.{assignment_read, datapoint_read, hierarchical_read, script_read, statement_read, value_read};
+ghost use Rattle.vtl_parts.specs.Fronts.{ReadsBy};
 ghost use Rattle.vtl_expressions.specs.Reads.{box_tree};
 ghost use Rattle.vtl_syntax.specs.View.{statement_tree};
 
@@ -17,9 +16,9 @@ use vtl_syntax::{Expr, Statement};
 use vtl_text::List;
 
 // An expression, with a semicolon behind it.
-#[tactic(auto, unfolding(crate::specs::RuleParts::value_read))]
+#[tactic(auto, unfolding(vtl_grammar::specs::ReadStatements::value_read))]
 fn value(alloc: Global, tokens: &[Token]) -> Result<Front<'_, Box<Expr>>, Unread>
-    ensures { AnswersBy box_tree (value_read (kinds tokens.now)) result }
+    ensures { ReadsBy box_tree (value_read (kinds tokens.now)) result }
 {
     let Front { part, rest } = whole_expression(alloc, tokens)?;
     let rest = after_sign(rest, Sign::Semicolon).ok_or(Unread::Absent)?;
@@ -27,9 +26,9 @@ fn value(alloc: Global, tokens: &[Token]) -> Result<Front<'_, Box<Expr>>, Unread
 }
 
 // `name := value;` or `name <- value;`
-#[tactic(auto, unfolding(vtl_grammar::specs::ReadStatements::assignment_read, crate::specs::RuleParts::value_read))]
+#[tactic(auto, unfolding(vtl_grammar::specs::ReadStatements::assignment_read))]
 fn assignment(alloc: Global, tokens: &[Token]) -> Result<Front<'_, Statement>, Unread>
-    ensures { AnswersBy statement_tree (assignment_read (kinds tokens.now)) result }
+    ensures { ReadsBy statement_tree (assignment_read (kinds tokens.now)) result }
 {
     let named = name(tokens)?;
     let kind = word(named.rest).ok_or(Unread::Absent)?;
@@ -45,9 +44,9 @@ fn assignment(alloc: Global, tokens: &[Token]) -> Result<Front<'_, Statement>, U
 }
 
 // What follows `define datapoint`.
-#[tactic(auto, unfolding(vtl_grammar::specs::ReadStatements::datapoint_read, vtl_grammar::specs::ReadStatements::point_rules, crate::specs::RuleParts::rules_between))]
+#[tactic(auto, unfolding(vtl_grammar::specs::ReadStatements::datapoint_read, vtl_grammar::specs::ReadStatements::point_rules))]
 fn datapoint(alloc: Global, tokens: &[Token]) -> Result<Front<'_, Statement>, Unread>
-    ensures { AnswersBy statement_tree (datapoint_read (kinds tokens.now)) result }
+    ensures { ReadsBy statement_tree (datapoint_read (kinds tokens.now)) result }
 {
     let named = ruleset_head(tokens)?;
     let variables = comps(alloc, named.rest)?;
@@ -64,9 +63,9 @@ fn datapoint(alloc: Global, tokens: &[Token]) -> Result<Front<'_, Statement>, Un
 }
 
 // What follows `define hierarchical`.
-#[tactic(auto, unfolding(vtl_grammar::specs::ReadStatements::hierarchical_read, vtl_grammar::specs::ReadStatements::hier_rules, crate::specs::RuleParts::rules_between))]
+#[tactic(auto, unfolding(vtl_grammar::specs::ReadStatements::hierarchical_read, vtl_grammar::specs::ReadStatements::hier_rules))]
 fn hierarchical(alloc: Global, tokens: &[Token]) -> Result<Front<'_, Statement>, Unread>
-    ensures { AnswersBy statement_tree (hierarchical_read (kinds tokens.now)) result }
+    ensures { ReadsBy statement_tree (hierarchical_read (kinds tokens.now)) result }
 {
     let named = ruleset_head(tokens)?;
     let after = after_keyword(named.rest, Keyword::Rule).ok_or(Unread::Absent)?;
@@ -86,7 +85,7 @@ fn hierarchical(alloc: Global, tokens: &[Token]) -> Result<Front<'_, Statement>,
 // One statement: what `define` begins, or an assignment.
 #[tactic(auto, unfolding(vtl_grammar::specs::ReadStatements::statement_read))]
 fn statement(alloc: Global, tokens: &[Token]) -> Result<Front<'_, Statement>, Unread>
-    ensures { AnswersBy statement_tree (statement_read (kinds tokens.now)) result }
+    ensures { ReadsBy statement_tree (statement_read (kinds tokens.now)) result }
 {
     let Some(after) = after_keyword(tokens, Keyword::Define) else {
         return assignment(alloc, tokens);
@@ -100,7 +99,7 @@ fn statement(alloc: Global, tokens: &[Token]) -> Result<Front<'_, Statement>, Un
 
 /// As many statements as there are at the front. It fails only for want of memory.
 pub fn statements(alloc: Global, tokens: &[Token]) -> Result<Front<'_, List<Statement>>, Unread>
-    ensures { AnswersBy (map statement_tree) (Some (script_read (kinds tokens.now))) result }
+    ensures { ReadsBy (map statement_tree) (Some (script_read (kinds tokens.now))) result }
 {
     let mut found = Vec::new(alloc);
     let mut rest = tokens;

@@ -2,7 +2,7 @@
 ghost use Rattle.std.specs.Prelude.{Some};
 ghost use Rattle.vtl_grammar.specs.Faults.{kinds};
 ghost use Rattle.vtl_grammar.specs.ReadParts.{retain_part, rule_part, ruleset_part, shift_part};
-ghost use Rattle.vtl_parts.specs.Answers.{Answers};
+ghost use Rattle.vtl_parts.specs.Fronts.{ReadsAs};
 
 use crate::front::{Front, Unread, absent, after_keyword, after_sign, some};
 use crate::literals::literal;
@@ -15,7 +15,7 @@ use vtl_text::Txt;
 /// `, points` or `, points, default`
 #[tactic(auto, unfolding(vtl_grammar::specs::ReadParts::shift_part))]
 pub fn shift_part(tokens: &[Token]) -> Result<Front<'_, (Txt, Option<Literal>)>, Unread>
-    ensures { Answers (shift_part (kinds tokens.now)) result }
+    ensures { ReadsAs (shift_part (kinds tokens.now)) result }
 {
     let after = after_sign(tokens, Sign::Comma).ok_or(Unread::Absent)?;
     let points = integer(after)?;
@@ -35,7 +35,7 @@ pub fn shift_part(tokens: &[Token]) -> Result<Front<'_, (Txt, Option<Literal>)>,
 /// `, all`, `, true` or `, false`, if one stands there.
 #[tactic(auto, unfolding(vtl_grammar::specs::ReadParts::retain_part))]
 pub fn retain_part(tokens: &[Token]) -> Result<Front<'_, Option<Retain>>, Unread>
-    ensures { Answers (retain_part (kinds tokens.now)) result }
+    ensures { ReadsAs (retain_part (kinds tokens.now)) result }
 {
     match after_sign(tokens, Sign::Comma) {
         Some(after) => Ok(some(word(after).ok_or(Unread::Absent)?)),
@@ -46,7 +46,7 @@ pub fn retain_part(tokens: &[Token]) -> Result<Front<'_, Option<Retain>>, Unread
 /// `, name`
 #[tactic(auto, unfolding(vtl_grammar::specs::ReadParts::ruleset_part))]
 pub fn ruleset_part(tokens: &[Token]) -> Result<Front<'_, Txt>, Unread>
-    ensures { Answers (ruleset_part (kinds tokens.now)) result }
+    ensures { ReadsAs (ruleset_part (kinds tokens.now)) result }
 {
     let after = after_sign(tokens, Sign::Comma).ok_or(Unread::Absent)?;
     name(after)
@@ -56,7 +56,7 @@ pub fn ruleset_part(tokens: &[Token]) -> Result<Front<'_, Txt>, Unread>
 /// memory.
 #[tactic(auto, unfolding(vtl_grammar::specs::ReadParts::rule_part))]
 pub fn rule_part(tokens: &[Token]) -> Result<Front<'_, Option<Comp>>, Unread>
-    ensures { Answers (Some (rule_part (kinds tokens.now))) result }
+    ensures { ReadsAs (Some (rule_part (kinds tokens.now))) result }
 {
     let Some(after) = after_keyword(tokens, Keyword::Rule) else {
         return Ok(absent(tokens));

@@ -5,7 +5,7 @@ ghost use Rattle.vtl_grammar.specs.Words.{integer_at, string_at};
 ghost use Rattle.vtl_lexer.specs.declared.keyword.Keyword.TheVariants as keyword;
 ghost use Rattle.vtl_grammar.specs.ReadParts.{alias_part, error_part, group_part, maybe_keeping, maybe_renames, plain_name, reference, references_listed, rename_part, rename_parts, sub_part, sub_parts, two_comps, using_part};
 ghost use Rattle.std.specs.Prelude.{◌≡◌};
-ghost use Rattle.vtl_parts.specs.Answers.{Answers};
+ghost use Rattle.vtl_parts.specs.Fronts.{ReadsAs};
 
 use crate::front::{Front, Unread, absent, after_keyword, after_sign, some};
 use crate::lists::{Item, comps, listed};
@@ -20,7 +20,7 @@ use vtl_text::{List, Txt};
 /// `errorcode code errorlevel level`, where each may be left out.
 #[tactic(auto, unfolding(vtl_grammar::specs::ReadParts::error_part))]
 pub fn error_part(tokens: &[Token]) -> Result<Front<'_, ErrorPart>, Unread>
-    ensures { Answers (error_part (kinds tokens.now)) result }
+    ensures { ReadsAs (error_part (kinds tokens.now)) result }
 {
     let code = error_code(tokens)?;
     let level = error_level(code.rest)?;
@@ -34,7 +34,7 @@ pub fn error_part(tokens: &[Token]) -> Result<Front<'_, ErrorPart>, Unread>
 }
 
 fn error_code(tokens: &[Token]) -> Result<Front<'_, Option<Txt>>, Unread>
-    ensures { Answers (maybe_after keyword.Errorcode (word string_at) (kinds tokens.now)) result }
+    ensures { ReadsAs (maybe_after keyword.Errorcode (word string_at) (kinds tokens.now)) result }
 {
     match after_keyword(tokens, Keyword::Errorcode) {
         Some(after) => Ok(some(string(after)?)),
@@ -43,7 +43,7 @@ fn error_code(tokens: &[Token]) -> Result<Front<'_, Option<Txt>>, Unread>
 }
 
 fn error_level(tokens: &[Token]) -> Result<Front<'_, Option<Txt>>, Unread>
-    ensures { Answers (maybe_after keyword.Errorlevel (word integer_at) (kinds tokens.now)) result }
+    ensures { ReadsAs (maybe_after keyword.Errorlevel (word integer_at) (kinds tokens.now)) result }
 {
     match after_keyword(tokens, Keyword::Errorlevel) {
         Some(after) => Ok(some(integer(after)?)),
@@ -54,7 +54,7 @@ fn error_level(tokens: &[Token]) -> Result<Front<'_, Option<Txt>>, Unread>
 /// `group by names` or `group except names`, if it stands there.
 #[tactic(auto, unfolding(vtl_grammar::specs::ReadParts::group_part))]
 pub fn group_part(alloc: Global, tokens: &[Token]) -> Result<Front<'_, Option<GroupPart>>, Unread>
-    ensures { Answers (group_part (kinds tokens.now)) result }
+    ensures { ReadsAs (group_part (kinds tokens.now)) result }
 {
     let Some(after) = after_keyword(tokens, Keyword::Group) else {
         return Ok(absent(tokens));
@@ -83,7 +83,7 @@ fn plain_name(component: Comp) -> Option<Txt>
 /// A component, or a component of a named operand.
 #[tactic(auto, unfolding(vtl_grammar::specs::ReadParts::reference))]
 pub fn reference(tokens: &[Token]) -> Result<Front<'_, Reference>, Unread>
-    ensures { Answers (reference (kinds tokens.now)) result }
+    ensures { ReadsAs (reference (kinds tokens.now)) result }
 {
     let first = comp(tokens)?;
     let Some(after) = after_sign(first.rest, Sign::Hash) else {
@@ -115,7 +115,7 @@ impl Item for Reference {
 
 #[tactic(auto, unfolding(vtl_grammar::specs::ReadParts::references_listed))]
 fn references(alloc: Global, tokens: &[Token]) -> Result<Front<'_, List<Reference>>, Unread>
-    ensures { Answers (references_listed (kinds tokens.now)) result }
+    ensures { ReadsAs (references_listed (kinds tokens.now)) result }
 {
     listed(alloc, tokens)
 }
@@ -123,7 +123,7 @@ fn references(alloc: Global, tokens: &[Token]) -> Result<Front<'_, List<Referenc
 /// `keep references` or `drop references`, if one stands there.
 #[tactic(auto, unfolding(vtl_grammar::specs::ReadParts::maybe_keeping))]
 pub fn maybe_keeping(alloc: Global, tokens: &[Token]) -> Result<Front<'_, Option<Keeping>>, Unread>
-    ensures { Answers (maybe_keeping (kinds tokens.now)) result }
+    ensures { ReadsAs (maybe_keeping (kinds tokens.now)) result }
 {
     if let Some(after) = after_keyword(tokens, Keyword::Keep) {
         let Front { part, rest } = references(alloc, after)?;
@@ -145,7 +145,7 @@ pub fn maybe_keeping(alloc: Global, tokens: &[Token]) -> Result<Front<'_, Option
 // `from to name`
 #[tactic(auto, unfolding(vtl_grammar::specs::ReadParts::rename_part))]
 fn rename_part(tokens: &[Token]) -> Result<Front<'_, RenamePart>, Unread>
-    ensures { Answers (rename_part (kinds tokens.now)) result }
+    ensures { ReadsAs (rename_part (kinds tokens.now)) result }
 {
     let from = reference(tokens)?;
     let after = after_keyword(from.rest, Keyword::To).ok_or(Unread::Absent)?;
@@ -171,7 +171,7 @@ impl Item for RenamePart {
 
 #[tactic(auto, unfolding(vtl_grammar::specs::ReadParts::rename_parts))]
 fn rename_parts(alloc: Global, tokens: &[Token]) -> Result<Front<'_, List<RenamePart>>, Unread>
-    ensures { Answers (rename_parts (kinds tokens.now)) result }
+    ensures { ReadsAs (rename_parts (kinds tokens.now)) result }
 {
     listed(alloc, tokens)
 }
@@ -182,7 +182,7 @@ pub fn maybe_renames(
     alloc: Global,
     tokens: &[Token],
 ) -> Result<Front<'_, Option<List<RenamePart>>>, Unread>
-    ensures { Answers (maybe_renames (kinds tokens.now)) result }
+    ensures { ReadsAs (maybe_renames (kinds tokens.now)) result }
 {
     match after_keyword(tokens, Keyword::Rename) {
         Some(after) => Ok(some(rename_parts(alloc, after)?)),
@@ -193,7 +193,7 @@ pub fn maybe_renames(
 // `component = value`
 #[tactic(auto, unfolding(vtl_grammar::specs::ReadParts::sub_part))]
 fn sub_part(tokens: &[Token]) -> Result<Front<'_, SubPart>, Unread>
-    ensures { Answers (sub_part (kinds tokens.now)) result }
+    ensures { ReadsAs (sub_part (kinds tokens.now)) result }
 {
     let component = comp(tokens)?;
     let after = after_sign(component.rest, Sign::Equal).ok_or(Unread::Absent)?;
@@ -220,7 +220,7 @@ impl Item for SubPart {
 /// What follows `sub`.
 #[tactic(auto, unfolding(vtl_grammar::specs::ReadParts::sub_parts))]
 pub fn sub_parts(alloc: Global, tokens: &[Token]) -> Result<Front<'_, List<SubPart>>, Unread>
-    ensures { Answers (sub_parts (kinds tokens.now)) result }
+    ensures { ReadsAs (sub_parts (kinds tokens.now)) result }
 {
     listed(alloc, tokens)
 }
@@ -228,7 +228,7 @@ pub fn sub_parts(alloc: Global, tokens: &[Token]) -> Result<Front<'_, List<SubPa
 /// Two names of components, with a comma between them.
 #[tactic(auto, unfolding(vtl_grammar::specs::ReadParts::two_comps))]
 pub fn two_comps(tokens: &[Token]) -> Result<Front<'_, (Comp, Comp)>, Unread>
-    ensures { Answers (two_comps (kinds tokens.now)) result }
+    ensures { ReadsAs (two_comps (kinds tokens.now)) result }
 {
     let first = comp(tokens)?;
     let after = after_sign(first.rest, Sign::Comma).ok_or(Unread::Absent)?;
@@ -242,7 +242,7 @@ pub fn two_comps(tokens: &[Token]) -> Result<Front<'_, (Comp, Comp)>, Unread>
 /// `using names`, if it stands there.
 #[tactic(auto, unfolding(vtl_grammar::specs::ReadParts::using_part))]
 pub fn using_part(alloc: Global, tokens: &[Token]) -> Result<Front<'_, Option<List<Comp>>>, Unread>
-    ensures { Answers (using_part (kinds tokens.now)) result }
+    ensures { ReadsAs (using_part (kinds tokens.now)) result }
 {
     match after_keyword(tokens, Keyword::Using) {
         Some(after) => Ok(some(comps(alloc, after)?)),
@@ -253,7 +253,7 @@ pub fn using_part(alloc: Global, tokens: &[Token]) -> Result<Front<'_, Option<Li
 /// `as name`, if it stands there.
 #[tactic(auto, unfolding(vtl_grammar::specs::ReadParts::alias_part))]
 pub fn alias_part(tokens: &[Token]) -> Result<Front<'_, Option<Txt>>, Unread>
-    ensures { Answers (alias_part (kinds tokens.now)) result }
+    ensures { ReadsAs (alias_part (kinds tokens.now)) result }
 {
     match after_keyword(tokens, Keyword::As) {
         Some(after) => Ok(some(name(after)?)),

@@ -3,7 +3,7 @@ ghost use Rattle.std.specs.Prelude.{length};
 ghost use Rattle.vtl_grammar.specs.Faults.{kinds};
 ghost use Rattle.vtl_grammar.specs.ReadParts.{comps};
 ghost use Rattle.vtl_grammar.specs.Reading.{listed, more_items};
-ghost use Rattle.vtl_parts.specs.Answers.{Answers};
+ghost use Rattle.vtl_parts.specs.Fronts.{ReadsAs};
 
 use crate::front::{Front, Unread, after_sign};
 use crate::names;
@@ -16,19 +16,19 @@ use vtl_text::List;
 pub trait Item: Drop {
     ghost use Rattle.vtl_grammar.specs.Faults.{kinds};
     ghost use Rattle.vtl_grammar.specs.Reading.{Reads};
-    ghost use Rattle.vtl_parts.specs.Answers.{Answers};
+    ghost use Rattle.vtl_parts.specs.Fronts.{ReadsAs};
 
     // How the grammar reads it.
     ghost reads: { Reads Self };
 
     /// The part at the front.
     fn read(alloc: Global, tokens: &[Token]) -> Result<Front<'_, Self>, Unread>
-        ensures { Answers (reads (kinds tokens.now)) result };
+        ensures { ReadsAs (reads (kinds tokens.now)) result };
 }
 
 /// One part, and those that follow it behind commas.
 pub fn listed<I: Item>(alloc: Global, tokens: &[Token]) -> Result<Front<'_, List<I>>, Unread>
-    ensures { Answers (listed I.reads (kinds tokens.now)) result }
+    ensures { ReadsAs (listed I.reads (kinds tokens.now)) result }
 {
     let first = I::read(alloc, tokens)?;
     let mut items = Vec::new(alloc);
@@ -42,7 +42,7 @@ fn more<I: Item>(
     mut items: Vec<I>,
     tokens: &[Token],
 ) -> Result<Front<'_, List<I>>, Unread>
-    ensures { Answers (more_items I.reads (length (kinds tokens.now)) items.items (kinds tokens.now)) result }
+    ensures { ReadsAs (more_items I.reads (length (kinds tokens.now)) items.items (kinds tokens.now)) result }
 {
     let mut rest = tokens;
     for _ in tokens {
@@ -73,7 +73,7 @@ impl Item for Comp {
 /// Names of components.
 #[tactic(auto, unfolding(vtl_grammar::specs::ReadParts::comps))]
 pub fn comps(alloc: Global, tokens: &[Token]) -> Result<Front<'_, List<Comp>>, Unread>
-    ensures { Answers (comps (kinds tokens.now)) result }
+    ensures { ReadsAs (comps (kinds tokens.now)) result }
 {
     listed(alloc, tokens)
 }

@@ -2,7 +2,7 @@
 ghost use Rattle.vtl_grammar.specs.Faults.{kinds};
 ghost use Rattle.vtl_grammar.specs.ReadParts.{cast_literal, cast_part, literal, literal_of, literal_set, literals_listed};
 ghost use Rattle.std.specs.Prelude.{◌≡◌};
-ghost use Rattle.vtl_parts.specs.Answers.{Answers};
+ghost use Rattle.vtl_parts.specs.Fronts.{ReadsAs};
 
 use crate::front::{Front, Unread, after_keyword, after_sign};
 use crate::lists::{Item, listed};
@@ -16,7 +16,7 @@ use vtl_text::{List, Txt};
 /// What stands between the brackets of `cast`.
 #[tactic(auto, unfolding(vtl_grammar::specs::ReadParts::cast_part))]
 pub fn cast_part(tokens: &[Token]) -> Result<Front<'_, (Txt, CastKind)>, Unread>
-    ensures { Answers (cast_part (kinds tokens.now)) result }
+    ensures { ReadsAs (cast_part (kinds tokens.now)) result }
 {
     let text = string(tokens)?;
     let after = after_sign(text.rest, Sign::Comma).ok_or(Unread::Absent)?;
@@ -46,7 +46,7 @@ fn literal_of(constant: Constant) -> Option<Literal>
 // `cast(text, kind)`
 #[tactic(auto, unfolding(vtl_grammar::specs::ReadParts::cast_literal))]
 fn cast_literal(tokens: &[Token]) -> Result<Front<'_, Literal>, Unread>
-    ensures { Answers (cast_literal (kinds tokens.now)) result }
+    ensures { ReadsAs (cast_literal (kinds tokens.now)) result }
 {
     let after = after_keyword(tokens, Keyword::Cast).ok_or(Unread::Absent)?;
     let inner = after_sign(after, Sign::OpenBracket).ok_or(Unread::Absent)?;
@@ -64,7 +64,7 @@ fn cast_literal(tokens: &[Token]) -> Result<Front<'_, Literal>, Unread>
 /// A literal of a list of values.
 #[tactic(auto, unfolding(vtl_grammar::specs::ReadParts::literal))]
 pub fn literal(tokens: &[Token]) -> Result<Front<'_, Literal>, Unread>
-    ensures { Answers (literal (kinds tokens.now)) result }
+    ensures { ReadsAs (literal (kinds tokens.now)) result }
 {
     if let Some(after) = after_sign(tokens, Sign::Minus) {
         let number = numeral(after)?;
@@ -99,7 +99,7 @@ impl Item for Literal {
 /// Literals between braces.
 #[tactic(auto, unfolding(vtl_grammar::specs::ReadParts::literal_set, vtl_grammar::specs::ReadParts::literals_listed))]
 pub fn literal_set(alloc: Global, tokens: &[Token]) -> Result<Front<'_, List<Literal>>, Unread>
-    ensures { Answers (literal_set (kinds tokens.now)) result }
+    ensures { ReadsAs (literal_set (kinds tokens.now)) result }
 {
     let after = after_sign(tokens, Sign::OpenBrace).ok_or(Unread::Absent)?;
     let literals = listed(alloc, after)?;

@@ -2,7 +2,7 @@
 ghost use Rattle.vtl_grammar.specs.Faults.{kinds};
 ghost use Rattle.vtl_grammar.specs.Reading.{word};
 ghost use Rattle.vtl_grammar.specs.Words.{comp_at, constant_at, integer_at, name_at, numeral_at, string_at};
-ghost use Rattle.vtl_parts.specs.Answers.{Answers};
+ghost use Rattle.vtl_parts.specs.Fronts.{ReadsAs};
 
 use crate::front::{Front, Unread, next};
 use std::alloc::Global;
@@ -12,7 +12,7 @@ use vtl_text::Txt;
 
 /// A name that is not quoted.
 pub fn name(tokens: &[Token]) -> Result<Front<'_, Txt>, Unread>
-    ensures { Answers (word name_at (kinds tokens.now)) result }
+    ensures { ReadsAs (word name_at (kinds tokens.now)) result }
 {
     match next(tokens) {
         Some((TokenKind::Name(name), rest)) => Ok(Front {
@@ -25,7 +25,7 @@ pub fn name(tokens: &[Token]) -> Result<Front<'_, Txt>, Unread>
 
 /// A text between `"`.
 pub fn string(tokens: &[Token]) -> Result<Front<'_, Txt>, Unread>
-    ensures { Answers (word string_at (kinds tokens.now)) result }
+    ensures { ReadsAs (word string_at (kinds tokens.now)) result }
 {
     match next(tokens) {
         Some((TokenKind::String(text), rest)) => Ok(Front {
@@ -38,7 +38,7 @@ pub fn string(tokens: &[Token]) -> Result<Front<'_, Txt>, Unread>
 
 /// Digits.
 pub fn integer(tokens: &[Token]) -> Result<Front<'_, Txt>, Unread>
-    ensures { Answers (word integer_at (kinds tokens.now)) result }
+    ensures { ReadsAs (word integer_at (kinds tokens.now)) result }
 {
     match next(tokens) {
         Some((TokenKind::Integer(digits), rest)) => Ok(Front {
@@ -51,7 +51,7 @@ pub fn integer(tokens: &[Token]) -> Result<Front<'_, Txt>, Unread>
 
 /// A number without a sign.
 pub fn numeral(tokens: &[Token]) -> Result<Front<'_, Numeral>, Unread>
-    ensures { Answers (word numeral_at (kinds tokens.now)) result }
+    ensures { ReadsAs (word numeral_at (kinds tokens.now)) result }
 {
     match next(tokens) {
         Some((TokenKind::Integer(digits), rest)) => Ok(Front {
@@ -68,7 +68,7 @@ pub fn numeral(tokens: &[Token]) -> Result<Front<'_, Numeral>, Unread>
 
 /// The name of a component.
 pub fn comp(tokens: &[Token]) -> Result<Front<'_, Comp>, Unread>
-    ensures { Answers (word comp_at (kinds tokens.now)) result }
+    ensures { ReadsAs (word comp_at (kinds tokens.now)) result }
 {
     match next(tokens) {
         Some((TokenKind::Name(name), rest)) => Ok(Front {
@@ -85,7 +85,7 @@ pub fn comp(tokens: &[Token]) -> Result<Front<'_, Comp>, Unread>
 
 /// A constant of one token.
 pub fn constant(tokens: &[Token]) -> Result<Front<'_, Constant>, Unread>
-    ensures { Answers (word constant_at (kinds tokens.now)) result }
+    ensures { ReadsAs (word constant_at (kinds tokens.now)) result }
 {
     let Some((first, rest)) = next(tokens) else {
         return Err(Unread::Absent);

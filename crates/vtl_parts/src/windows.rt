@@ -1,7 +1,7 @@
 // Orders, frames and windows.
 ghost use Rattle.vtl_grammar.specs.Faults.{kinds};
 ghost use Rattle.vtl_grammar.specs.ReadParts.{current, limit, limits_between, order_by_part, order_part, order_parts, over_part, partition_part, points_part};
-ghost use Rattle.vtl_parts.specs.Answers.{Answers};
+ghost use Rattle.vtl_parts.specs.Fronts.{ReadsAs};
 
 use crate::front::{Front, Unread, absent, after_keyword, after_sign, some};
 use crate::lists::{Item, comps, listed};
@@ -14,7 +14,7 @@ use vtl_text::List;
 
 #[tactic(auto, unfolding(vtl_grammar::specs::ReadParts::order_part))]
 fn order_part(tokens: &[Token]) -> Result<Front<'_, OrderPart>, Unread>
-    ensures { Answers (order_part (kinds tokens.now)) result }
+    ensures { ReadsAs (order_part (kinds tokens.now)) result }
 {
     let component = comp(tokens)?;
     let direction = maybe_word(component.rest);
@@ -39,7 +39,7 @@ impl Item for OrderPart {
 
 #[tactic(auto, unfolding(vtl_grammar::specs::ReadParts::order_parts))]
 fn order_parts(alloc: Global, tokens: &[Token]) -> Result<Front<'_, List<OrderPart>>, Unread>
-    ensures { Answers (order_parts (kinds tokens.now)) result }
+    ensures { ReadsAs (order_parts (kinds tokens.now)) result }
 {
     listed(alloc, tokens)
 }
@@ -47,7 +47,7 @@ fn order_parts(alloc: Global, tokens: &[Token]) -> Result<Front<'_, List<OrderPa
 // `current data point`
 #[tactic(auto, unfolding(vtl_grammar::specs::ReadParts::current))]
 fn current(tokens: &[Token]) -> Result<Front<'_, Limit>, Unread>
-    ensures { Answers (current (kinds tokens.now)) result }
+    ensures { ReadsAs (current (kinds tokens.now)) result }
 {
     let after = after_keyword(tokens, Keyword::Current).ok_or(Unread::Absent)?;
     let after = after_keyword(after, Keyword::Data).ok_or(Unread::Absent)?;
@@ -61,7 +61,7 @@ fn current(tokens: &[Token]) -> Result<Front<'_, Limit>, Unread>
 // A bound of a frame.
 #[tactic(auto, unfolding(vtl_grammar::specs::ReadParts::limit))]
 fn limit(tokens: &[Token]) -> Result<Front<'_, Limit>, Unread>
-    ensures { Answers (limit (kinds tokens.now)) result }
+    ensures { ReadsAs (limit (kinds tokens.now)) result }
 {
     if let Some(after) = after_keyword(tokens, Keyword::Unbounded) {
         let side = word(after).ok_or(Unread::Absent)?;
@@ -89,7 +89,7 @@ fn limit(tokens: &[Token]) -> Result<Front<'_, Limit>, Unread>
 // `partition by names`, if it stands there.
 #[tactic(auto, unfolding(vtl_grammar::specs::ReadParts::partition_part))]
 fn partition_part(alloc: Global, tokens: &[Token]) -> Result<Front<'_, Option<List<Comp>>>, Unread>
-    ensures { Answers (partition_part (kinds tokens.now)) result }
+    ensures { ReadsAs (partition_part (kinds tokens.now)) result }
 {
     let Some(after) = after_keyword(tokens, Keyword::Partition) else {
         return Ok(absent(tokens));
@@ -104,7 +104,7 @@ fn order_by_part(
     alloc: Global,
     tokens: &[Token],
 ) -> Result<Front<'_, Option<List<OrderPart>>>, Unread>
-    ensures { Answers (order_by_part (kinds tokens.now)) result }
+    ensures { ReadsAs (order_by_part (kinds tokens.now)) result }
 {
     let Some(after) = after_keyword(tokens, Keyword::Order) else {
         return Ok(absent(tokens));
@@ -116,7 +116,7 @@ fn order_by_part(
 // What follows `data` in a frame.
 #[tactic(auto, unfolding(vtl_grammar::specs::ReadParts::limits_between))]
 fn limits_between(tokens: &[Token]) -> Result<Front<'_, DataPoints>, Unread>
-    ensures { Answers (limits_between (kinds tokens.now)) result }
+    ensures { ReadsAs (limits_between (kinds tokens.now)) result }
 {
     let after = after_keyword(tokens, Keyword::Points).ok_or(Unread::Absent)?;
     let after = after_keyword(after, Keyword::Between).ok_or(Unread::Absent)?;
@@ -135,7 +135,7 @@ fn limits_between(tokens: &[Token]) -> Result<Front<'_, DataPoints>, Unread>
 // A frame, if one stands there.
 #[tactic(auto, unfolding(vtl_grammar::specs::ReadParts::points_part))]
 fn points_part(tokens: &[Token]) -> Result<Front<'_, Option<DataPoints>>, Unread>
-    ensures { Answers (points_part (kinds tokens.now)) result }
+    ensures { ReadsAs (points_part (kinds tokens.now)) result }
 {
     match after_keyword(tokens, Keyword::Data) {
         Some(after) => Ok(some(limits_between(after)?)),
@@ -146,7 +146,7 @@ fn points_part(tokens: &[Token]) -> Result<Front<'_, Option<DataPoints>>, Unread
 /// `over (partition by names order by keys points)`
 #[tactic(auto, unfolding(vtl_grammar::specs::ReadParts::over_part))]
 pub fn over_part(alloc: Global, tokens: &[Token]) -> Result<Front<'_, OverPart>, Unread>
-    ensures { Answers (over_part (kinds tokens.now)) result }
+    ensures { ReadsAs (over_part (kinds tokens.now)) result }
 {
     let after = after_keyword(tokens, Keyword::Over).ok_or(Unread::Absent)?;
     let after = after_sign(after, Sign::OpenBracket).ok_or(Unread::Absent)?;

@@ -3,7 +3,7 @@ ghost use Rattle.std.specs.Prelude.{◌≡◌, option_map};
 ghost use Rattle.vtl_grammar.specs.Faults.{kinds};
 ghost use Rattle.vtl_grammar.specs.Grammar.{Tokens};
 ghost use Rattle.vtl_grammar.specs.Reading.{maybe_word, word};
-ghost use Rattle.vtl_parts.specs.Answers.{front_view, same};
+ghost use Rattle.vtl_parts.specs.Fronts.{front_view, same};
 
 use crate::front::{Front, next};
 use vtl_grammar::CallForm;

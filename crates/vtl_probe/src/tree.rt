@@ -32,7 +32,7 @@ fn before(out: &mut Lines, e: &Expr) {
 fn head(e: &Expr) -> &'static str {
     match e {
         Expr::Brackets(_) => "brackets",
-        Expr::Clause { .. } => "clause",
+        Expr::WithClause { .. } => "clause",
         Expr::Member { .. } => "member",
         Expr::If { .. } => "if",
         Expr::InSet { negated: true, .. } => "not_in",
@@ -94,7 +94,7 @@ fn expr(out: &mut Lines, e: &Expr) {
 #[cycle(show)]
 fn mixed(out: &mut Lines, e: &Expr) {
     match e {
-        Expr::Clause { operand, clause: c } => {
+        Expr::WithClause { operand, clause: c } => {
             expr(out, operand);
             clause(out, c);
         }

@@ -1,6 +1,7 @@
 -- Rows one after the other, and the rows at places.
 use Rattle.std.proofs.Common.{◌≡◌, ℕ, ◌*◌, ◌<◌, List, [], ◌∷◌, ◌++◌, map, length, length-append, get_or, drop, arith, refl, sym, ap, ◌∙◌, subst, All}
 use Rattle.std.specs.List.{AllByRecursion, flat_map, range_with_len}
+use Rattle.std.specs.List.Sorted.{IsPermutation}
 use Rattle.std.proofs.lemmas.List.{take_at, drop_at, length-map}
 use Rattle.std.proofs.lemmas.List.Elements.{recursion_from_All}
 use Rattle.std.proofs.lemmas.List.FromFn.{get_or-range_with_len, length-range_with_len}
@@ -8,10 +9,8 @@ use Rattle.std.proofs.lemmas.List.Sorted.{All-permutation, length_permutation}
 use Rattle.vtl_cell.specs.declared.cell.Cell.{Cell}
 use Rattle.vtl_cell.specs.Row.{Row}
 use Rattle.vtl_rows.specs.declared.column.Column.{Column}
-use Rattle.vtl_rows.specs.declared.column.SortKey.{SortKey}
 use Rattle.vtl_rows.specs.Flat.{rows_of, IsFlat}
-use Rattle.vtl_rows.specs.Keys.{ordered}
-use Rattle.vtl_rows.specs.Places.{row_at, IsOrderOf}
+use Rattle.vtl_rows.specs.Places.{row_at}
 use Rattle.vtl_rows.specs.Tables.{cells_at, column_at}
 use Rattle.vtl_rows.proofs.Flats.{row_read, row_wide, length-rows_of}
 
@@ -45,23 +44,23 @@ module _ (columns : List Column) (n : ℕ) (cells : List Cell) (rows : List Row)
       let s : get_or (range_with_len 0 (length rows)) k d ≡ k = omega (arith, e) in
       subst (λ i. length (row_at rows i) ≡ length columns) (sym s) (row_at_wide k k')
 
-  module _ (keys : List SortKey) (places : List ℕ) (order : IsOrderOf keys rows places) where
+  module _ (places : List ℕ) (all : IsPermutation (range_with_len 0 (length rows)) places) where
     places_wide : AllByRecursion (λ i. length (row_at rows i) ≡ length columns) places
-    places_wide = recursion_from_All (λ i. length (row_at rows i) ≡ length columns) places (All-permutation (λ i. length (row_at rows i) ≡ length columns) (range_with_len 0 (length rows)) places order.all numbers_wide)
+    places_wide = recursion_from_All (λ i. length (row_at rows i) ≡ length columns) places (All-permutation (λ i. length (row_at rows i) ≡ length columns) (range_with_len 0 (length rows)) places all numbers_wide)
 
     places_count : length places ≡ n
-    places_count = length_permutation (range_with_len 0 (length rows)) places order.all ∙ length-range_with_len 0 (length rows) ∙ sym (ap length seen) ∙ length-rows_of (length columns) n cells
+    places_count = length_permutation (range_with_len 0 (length rows)) places all ∙ length-range_with_len 0 (length rows) ∙ sym (ap length seen) ∙ length-rows_of (length columns) n cells
 
-    pub ordered_flat : (moved : List Cell) → moved ≡ flat_map (row_at rows) places → IsFlat columns n moved
-    ordered_flat moved e = record {
+    pub moved_flat : (moved : List Cell) → moved ≡ flat_map (row_at rows) places → IsFlat columns n moved
+    moved_flat moved e = record {
       wide = flat.wide;
       whole = ap length e ∙ length-flat_map_wide (row_at rows) (length columns) places places_wide ∙ ap (λ k. k * length columns) places_count;
     }
 
-    pub ordered_rows : (moved : List Cell) → moved ≡ flat_map (row_at rows) places → rows_of (length columns) n moved ≡ ordered keys rows
-    ordered_rows moved e =
+    pub moved_rows : (moved : List Cell) → moved ≡ flat_map (row_at rows) places → rows_of (length columns) n moved ≡ map (row_at rows) places
+    moved_rows moved e =
         ap (λ k. rows_of (length columns) k moved) (sym places_count) ∙ ap (rows_of (length columns) (length places)) e
-        ∙ rows_of-flat_map (row_at rows) (length columns) places places_wide ∙ order.sorted
+        ∙ rows_of-flat_map (row_at rows) (length columns) places places_wide
 
 -- ---- chosen columns
 cells_count : (r : Row) (places : List ℕ) → length (cells_at places r) ≡ length places

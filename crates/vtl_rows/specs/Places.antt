@@ -1,6 +1,7 @@
 -- Rows by their places in a table.
-use Rattle.std.specs.Prelude.{◌≡◌, ℕ, List, [], map, length, slice_index_or, IsPermutation}
+use Rattle.std.specs.Prelude.{◌≡◌, ℕ, ◌+◌, ◌<◌, false, List, [], map, length, slice_index_or, IsPermutation}
 use Rattle.std.specs.List.{range_with_len}
+use Rattle.std.specs.Ordering.{is_lt, ordering_then, nat_cmp}
 use Rattle.vtl_cell.specs.Row.{Row}
 use Rattle.vtl_cell.specs.Sorted.{by_keys}
 use Rattle.vtl_lists.specs.Sorting.{le_by, Rises}
@@ -11,8 +12,17 @@ use Rattle.vtl_rows.specs.Keys.{key_of, ordered}
 abbrev pub row_at : List Row → ℕ → Row
 row_at rows i = slice_index_or rows i []
 
+-- a number that stands behind a word
+abbrev pub number_of : ℕ × ℕ → ℕ
+number_of pair = pair.1
+
 -- the places of a table's rows, in the order of the keys
 pub record IsOrderOf (keys : List SortKey) (rows : List Row) (places : List ℕ) : Type 0 where
   pub all : IsPermutation (range_with_len 0 (length rows)) places
   pub sorted : map (row_at rows) places ≡ ordered keys rows
   pub rises : Rises (le_by (by_keys (map key_of keys))) (map (row_at rows) places)
+
+-- no row is before the one in front of it, nor are their numbers in falling order where the two tie
+abbrev pub AreNumbered : List SortKey → List Row → List ℕ → Type 0
+AreNumbered keys rows numbers = (k : ℕ) → k + 1 < length rows
+    → is_lt (ordering_then (by_keys (map key_of keys) (row_at rows (k + 1)) (row_at rows k)) (nat_cmp (slice_index_or numbers (k + 1) 0) (slice_index_or numbers k 0))) ≡ false

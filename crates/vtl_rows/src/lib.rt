@@ -1,9 +1,13 @@
 //! Tables: columns, and rows of cells in a list.
 #![tactic(auto)]
 
+mod alphabets;
 mod column;
+mod distinct;
+mod guess;
 mod order;
 mod project;
+mod ranking;
 mod table;
 mod tables;
 #[cfg(test)]

@@ -1,14 +1,16 @@
 -- The operators that have no fault.
-use Rattle.std.proofs.Common.{ℕ, ◌-◌, ◌^◌, ◌<◌, ◌≤◌, ◌≡◌, true, false, ℤ, pos, neg_ℤ, List, [], ◌∷◌, Ok, Err, Option, Some, None, refl, arith}
-use Rattle.std.specs.Prelude.{unsigned_abs, IsOk}
+use Rattle.std.proofs.Common.{ℕ, ◌-◌, ◌^◌, ◌<◌, ◌≤◌, ◌≡◌, Bool, true, false, cond, ℤ, pos, neg_ℤ, List, [], ◌∷◌, Ok, Err, Option, Some, None, refl, arith}
+use Rattle.std.specs.Prelude.{unsigned_abs, nat_lt, IsOk}
 use Rattle.std.specs.List.{AllByRecursion}
+use Rattle.std.proofs.lemmas.Bool.{ltb-true}
 use Rattle.std.proofs.lemmas.Int.{ints}
 use Rattle.vtl_decimal.specs.Settings.{Settings}
 use Rattle.vtl_decimal.specs.Range.{fit_number, fit_integer}
 use Rattle.vtl_decimal.specs.Operators.{remainder, rounded_at}
 use Rattle.vtl_decimal.specs.declared.settings.Rounding.TheVariants.{Down}
 use Rattle.vtl_decimal.proofs.PowerLemmas.{units_fit}
-use Rattle.vtl_cell.specs.Outcome.{Outcome, after}
+use Rattle.vtl_cell.specs.Outcome.{Outcome, Range, after}
+use Rattle.vtl_cell.specs.Profile.{IsOfProfile}
 use Rattle.vtl_cell.specs.ScalarArithmetic.{as_number, units, number_in, digits_in, at_digits, negation_of, absolute_of, remainder_of, truncated_of, pair_of}
 use Rattle.vtl_cell.specs.ScalarChoice.{beside, value_or, chosen_of}
 use Rattle.vtl_cell.specs.Scalars.{unary_of, binary_of, ternary_of, by_number_of_operands, scalar_of}
@@ -16,30 +18,38 @@ use Rattle.vtl_cell.specs.declared.cell.Cell.{Cell}
 use Rattle.vtl_cell.specs.declared.cell.Cell.TheVariants as c
 use Rattle.vtl_cell.specs.declared.operator.ScalarOp.{ScalarOp}
 use Rattle.vtl_cell.specs.declared.operator.ScalarOp.TheVariants as op
-use Rattle.vtl_scalar.specs.Profiles.{IsOfProfile, may_fault}
+use Rattle.vtl_scalar.specs.LawOperators.{may_fault}
 use Rattle.vtl_scalar.proofs.RemainderLemmas.{remainder_is_small}
 
 integer_fits : (s : ℕ) (n : ℤ) → unsigned_abs n < 10 ^ (18 - s) → fit_integer s n ≡ Ok n
 integer_fits s n h = grind arith
 
+-- the size of an integer of the profile
+small : (p : Settings) (n : ℤ) → IsOfProfile p (c.Int n) → unsigned_abs n < 10 ^ (18 - p.scale)
+small p n h = go (nat_lt (unsigned_abs n) (10 ^ (18 - p.scale))) refl h
+  where
+    go : (b : Bool) → nat_lt (unsigned_abs n) (10 ^ (18 - p.scale)) ≡ b → IsOk (cond b (Ok n) (Err Range)) → unsigned_abs n < 10 ^ (18 - p.scale)
+    go true e h = ltb-true (unsigned_abs n) (10 ^ (18 - p.scale)) e
+    go false e h = cc
+
 number_fits : (k : ℤ) → unsigned_abs k < 10 ^ 18 → fit_number k ≡ Ok k
 number_fits k h = grind arith
 
-pub integer_is_a_number : (p : Settings) (n : ℤ) → p.scale ≤ 9 → unsigned_abs n < 10 ^ (18 - p.scale) → as_number p n ≡ Ok (units p n)
-integer_is_a_number p n s h = let e = number_fits (units p n) (units_fit n p.scale s h) in rw e refl
+pub integer_is_a_number : (p : Settings) (n : ℤ) → p.scale ≤ 9 → IsOfProfile p (c.Int n) → as_number p n ≡ Ok (units p n)
+integer_is_a_number p n s h = let e = number_fits (units p n) (units_fit n p.scale s (small p n h)) in rw e refl
 
 -- ---- the rows
 
 negation_is_ok : (p : Settings) (a : Cell) → IsOfProfile p a → IsOk (negation_of p a)
-negation_is_ok p (c.Int n) h = rw (integer_fits p.scale (neg_ℤ n) (omega (arith, ints))) refl
+negation_is_ok p (c.Int n) h = rw (integer_fits p.scale (neg_ℤ n) (omega (arith, ints, small p n h))) refl
 negation_is_ok p other h = refl
 
 absolute_is_ok : (p : Settings) (a : Cell) → IsOfProfile p a → IsOk (absolute_of p a)
-absolute_is_ok p (c.Int n) h = rw (integer_fits p.scale (pos (unsigned_abs n)) h) refl
+absolute_is_ok p (c.Int n) h = rw (integer_fits p.scale (pos (unsigned_abs n)) (small p n h)) refl
 absolute_is_ok p other h = refl
 
 remainder_is_ok : (p : Settings) (a b : Cell) → p.scale ≤ 9 → IsOfProfile p a → IsOfProfile p b → IsOk (after (pair_of p a b) (remainder_of p))
-remainder_is_ok p (c.Int a) (c.Int b) s h g = rw (integer_fits p.scale (remainder a b) (remainder_is_small a b (10 ^ (18 - p.scale)) h g)) refl
+remainder_is_ok p (c.Int a) (c.Int b) s h g = rw (integer_fits p.scale (remainder a b) (remainder_is_small a b (10 ^ (18 - p.scale)) (small p a h) (small p b g))) refl
 remainder_is_ok p (c.Int a) (c.Num b) s h g = rw (integer_is_a_number p a s h) refl
 remainder_is_ok p (c.Num a) (c.Int b) s h g = rw (integer_is_a_number p b s g) refl
 remainder_is_ok p a b s h g = refl
@@ -58,7 +68,7 @@ truncation_is_ok : (p : Settings) (a d : Cell) → p.scale ≤ 9 → IsOfProfile
 truncation_is_ok p a d s h = at_digits_is_ok (λ digits k. Ok (c.Num (rounded_at Down p.scale digits k))) (digits_in d) (number_in p a) (λ e k. refl) (number_is_ok p a s h)
 
 beside_is_ok : (p : Settings) (a b : Cell) → p.scale ≤ 9 → IsOfProfile p a → IsOk (beside p a b)
-beside_is_ok p (c.Int n) (c.Num k) s h = rw (number_fits (units p n) (units_fit n p.scale s h)) refl
+beside_is_ok p (c.Int n) (c.Num k) s h = rw (number_fits (units p n) (units_fit n p.scale s (small p n h))) refl
 beside_is_ok p a b s h = refl
 
 value_or_is_ok : (p : Settings) (a x : Cell) → p.scale ≤ 9 → IsOfProfile p a → IsOk (value_or p a x)

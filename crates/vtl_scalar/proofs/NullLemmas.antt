@@ -17,7 +17,7 @@ use Rattle.vtl_cell.specs.declared.cell.Cell.{Cell}
 use Rattle.vtl_cell.specs.declared.cell.Cell.TheVariants as c
 use Rattle.vtl_cell.specs.declared.operator.ScalarOp.{ScalarOp}
 use Rattle.vtl_cell.specs.declared.operator.ScalarOp.TheVariants as op
-use Rattle.vtl_scalar.specs.Profiles.{is_strict}
+use Rattle.vtl_scalar.specs.LawOperators.{is_strict}
 
 no_number : (f : ℤ → ℤ → Outcome Cell) (d : Option ℤ) → at_digits f d (Ok None) ≡ Ok c.Null
 no_number f None = refl

@@ -1,4 +1,4 @@
 pub mod Answers
 pub mod KindLaws
+pub mod LawOperators
 pub mod Operands
-pub mod Profiles

@@ -1,7 +1,8 @@
 // Laws of the table of scalar operators.
-ghost use Rattle.std.specs.Prelude.{◌≡◌, ◌-◌, ◌^◌, ◌<◌, ◌≤◌, ℤ, List, map, false, unsigned_abs, Ok, Some, true, IsOk};
+ghost use Rattle.std.specs.Prelude.{◌≡◌, ◌≤◌, ℤ, List, map, false, Ok, Some, true, IsOk};
 ghost use Rattle.std.specs.List.{AllByRecursion, list_any};
 ghost use Rattle.vtl_cell.specs.Kinds.{is_null, kind_of};
+ghost use Rattle.vtl_cell.specs.Profile.{IsOfProfile};
 ghost use Rattle.vtl_cell.specs.ScalarArithmetic.{as_number, units};
 ghost use Rattle.vtl_cell.specs.Scalars.{scalar_of};
 ghost use Rattle.vtl_cell.specs.declared.cell.Cell.{Cell};
@@ -10,12 +11,12 @@ ghost use Rattle.vtl_decimal.specs.Settings.{Settings};
 ghost use Rattle.vtl_cell.specs.ScalarKinds.{meet, kinds_of};
 ghost use Rattle.vtl_cell.specs.declared.kind.Kind.{Kind};
 ghost use Rattle.vtl_scalar.specs.KindLaws.{HasKind};
-ghost use Rattle.vtl_scalar.specs.Profiles.{IsOfProfile, is_strict, may_fault};
+ghost use Rattle.vtl_scalar.specs.LawOperators.{is_strict, may_fault};
 
 /// An integer of the profile stands for a number without a fault.
 #[tactic(auto, using(crate::proofs::FaultLemmas::integer_is_a_number))]
 pub fn integers_are_numbers()
-    ensures { (p : Settings) (n : ℤ) → p.scale ≤ 9 → unsigned_abs n < 10 ^ (18 - p.scale) → as_number p n ≡ Ok (units p n) }
+    ensures { (p : Settings) (n : ℤ) → p.scale ≤ 9 → IsOfProfile p (Cell.Int n) → as_number p n ≡ Ok (units p n) }
 {}
 
 /// At operands of the profile only `+`, `-`, `*`, `/`, `floor`, `ceil`, `round`, `instr` and `length` may have a fault.

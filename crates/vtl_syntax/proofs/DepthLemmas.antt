@@ -1,7 +1,7 @@
 -- Each expression has a depth.
 use Rattle.std.proofs.Common.{◌≤◌, ◌<◌, suc, arith}
 use Rattle.vtl_syntax.specs.Depth.{exp_depth, hier_rule_depth}
-use Rattle.vtl_syntax.specs.Trees.{Exp, if_then, binary, in_set, unary, clause, member, component, constant, brackets, function, aggregate, aggregate_over, value_window, shift, rank, set_op, difference, exists_in, check, check_datapoint, check_hierarchy, hierarchy, join}
+use Rattle.vtl_syntax.specs.Trees.{Exp, if_then, binary, in_set, unary, with_clause, member, component, constant, brackets, function, aggregate, aggregate_over, value_window, shift, rank, set_op, difference, exists_in, check, check_datapoint, check_hierarchy, hierarchy, join}
 use Rattle.vtl_syntax.specs.declared.statements.HierRule.{HierRule}
 
 pub some_depth : (e : Exp) → 1 ≤ exp_depth e
@@ -9,7 +9,7 @@ some_depth (if_then c a b) = omega arith
 some_depth (binary l op r) = omega arith
 some_depth (in_set e n ls) = omega arith
 some_depth (unary op e) = omega arith
-some_depth (clause e c) = omega arith
+some_depth (with_clause e c) = omega arith
 some_depth (member e c) = omega arith
 some_depth (component c) = omega arith
 some_depth (constant c) = omega arith

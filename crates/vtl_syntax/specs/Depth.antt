@@ -1,6 +1,6 @@
 -- How deep trees are. A leaf has depth 1, and each operator, call, clause, join, member, choice and pair of brackets one more than its deepest part.
 use Rattle.std.specs.Prelude.{ℕ, suc, ◌+◌, max, List, [], ◌∷◌, length, Option, None, Some}
-use Rattle.vtl_syntax.specs.Trees.{Exp, if_then, binary, in_set, unary, clause, member, component, constant, brackets, function, aggregate, aggregate_over, value_window, shift, rank, set_op, difference, exists_in, check, check_datapoint, check_hierarchy, hierarchy, join, Exps, no_exps, exp, MaybeExp, no_exp, some_exp, Brack, filtering, making, keeping, renaming, fixing, pivot, unpivot, Made, calc, aggr, MaybeMade, no_made, some_made, Calcs, no_calcs, calc_part, Parts, no_parts, join_part, PointRuleTree, point_rule, StatementTree, assignment, datapoint, hierarchical}
+use Rattle.vtl_syntax.specs.Trees.{Exp, if_then, binary, in_set, unary, with_clause, member, component, constant, brackets, function, aggregate, aggregate_over, value_window, shift, rank, set_op, difference, exists_in, check, check_datapoint, check_hierarchy, hierarchy, join, Exps, no_exps, exp, MaybeExp, no_exp, some_exp, ClauseTree, filter, targets, keeping, rename, sub, pivot, unpivot, TargetsTree, calc, aggr, MaybeTargets, no_targets, some_targets, Calcs, no_calcs, calc_part, Parts, no_parts, join_part, PointRuleTree, point_rule, StatementTree, assignment, datapoint, hierarchical}
 use Rattle.vtl_syntax.specs.declared.parts.GroupPart.{GroupPart}
 use Rattle.vtl_syntax.specs.declared.parts.OverPart.{OverPart}
 use Rattle.vtl_syntax.specs.declared.statements.HierRule.{HierRule}
@@ -26,7 +26,7 @@ abbrev mutual
   exp_depth (binary l op r) = suc (max (exp_depth l) (exp_depth r))
   exp_depth (in_set e negated ls) = suc (exp_depth e)
   exp_depth (unary op e) = suc (exp_depth e)
-  exp_depth (clause e c) = suc (max (exp_depth e) (brack_depth c))
+  exp_depth (with_clause e c) = suc (max (exp_depth e) (clause_depth c))
   exp_depth (member e c) = suc (exp_depth e)
   exp_depth (component c) = 1
   exp_depth (constant c) = 1
@@ -44,7 +44,7 @@ abbrev mutual
   exp_depth (check_datapoint e n o) = suc (exp_depth e)
   exp_depth (check_hierarchy e n r m d o) = suc (exp_depth e)
   exp_depth (hierarchy e n r m i o) = suc (exp_depth e)
-  exp_depth (join k ps u f m kept rs) = suc (max (parts_depth ps) (max (maybe_depth f) (maybe_made_depth m)))
+  exp_depth (join k ps u f m kept rs) = suc (max (parts_depth ps) (max (maybe_depth f) (maybe_targets_depth m)))
 
   pub exps_depth : Exps → ℕ
   exps_depth no_exps = 0
@@ -55,22 +55,22 @@ abbrev mutual
   maybe_depth (some_exp e) = exp_depth e
 
   -- names and literals of a clause are leaves, so no deeper than its operand
-  pub brack_depth : Brack → ℕ
-  brack_depth (filtering e) = exp_depth e
-  brack_depth (making m) = made_depth m
-  brack_depth (keeping k) = 0
-  brack_depth (renaming rs) = 0
-  brack_depth (fixing ss) = 0
-  brack_depth (pivot a b) = 0
-  brack_depth (unpivot a b) = 0
+  pub clause_depth : ClauseTree → ℕ
+  clause_depth (filter e) = exp_depth e
+  clause_depth (targets m) = targets_depth m
+  clause_depth (keeping k) = 0
+  clause_depth (rename rs) = 0
+  clause_depth (sub ss) = 0
+  clause_depth (pivot a b) = 0
+  clause_depth (unpivot a b) = 0
 
-  pub made_depth : Made → ℕ
-  made_depth (calc cs) = calcs_depth cs
-  made_depth (aggr cs g h) = max (calcs_depth cs) (maybe_depth h)
+  pub targets_depth : TargetsTree → ℕ
+  targets_depth (calc cs) = calcs_depth cs
+  targets_depth (aggr cs g h) = max (calcs_depth cs) (maybe_depth h)
 
-  pub maybe_made_depth : MaybeMade → ℕ
-  maybe_made_depth no_made = 0
-  maybe_made_depth (some_made m) = made_depth m
+  pub maybe_targets_depth : MaybeTargets → ℕ
+  maybe_targets_depth no_targets = 0
+  maybe_targets_depth (some_targets m) = targets_depth m
 
   pub calcs_depth : Calcs → ℕ
   calcs_depth no_calcs = 0

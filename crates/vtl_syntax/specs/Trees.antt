@@ -34,7 +34,7 @@ mutual
     binary : Exp → BinaryOp → Exp → Exp
     in_set : Exp → Bool → List Literal → Exp
     unary : UnaryOp → Exp → Exp
-    clause : Exp → Brack → Exp
+    with_clause : Exp → ClauseTree → Exp
     member : Exp → Comp → Exp
     component : Comp → Exp
     constant : Constant → Exp
@@ -52,7 +52,7 @@ mutual
     check_datapoint : Exp → List ℕ → Option CheckOut → Exp
     check_hierarchy : Exp → List ℕ → Option Comp → Option Mode → Bool → Option CheckOut → Exp
     hierarchy : Exp → List ℕ → Option Comp → Option Mode → Option HierInput → Option HierOut → Exp
-    join : JoinKind → Parts → Option (List Comp) → MaybeExp → MaybeMade → Option Keeping → Option (List RenamePart) → Exp
+    join : JoinKind → Parts → Option (List Comp) → MaybeExp → MaybeTargets → Option Keeping → Option (List RenamePart) → Exp
 
   pub data Exps : Type 0 where
     no_exps : Exps
@@ -63,23 +63,23 @@ mutual
     some_exp : Exp → MaybeExp
 
   -- what stands between `[` and `]`
-  pub data Brack : Type 0 where
-    filtering : Exp → Brack
-    making : Made → Brack
-    keeping : Keeping → Brack
-    renaming : List RenamePart → Brack
-    fixing : List SubPart → Brack
-    pivot : Comp → Comp → Brack
-    unpivot : Comp → Comp → Brack
+  pub data ClauseTree : Type 0 where
+    filter : Exp → ClauseTree
+    targets : TargetsTree → ClauseTree
+    keeping : Keeping → ClauseTree
+    rename : List RenamePart → ClauseTree
+    sub : List SubPart → ClauseTree
+    pivot : Comp → Comp → ClauseTree
+    unpivot : Comp → Comp → ClauseTree
 
   -- what `calc` or `aggr` makes
-  pub data Made : Type 0 where
-    calc : Calcs → Made
-    aggr : Calcs → Option GroupPart → MaybeExp → Made
+  pub data TargetsTree : Type 0 where
+    calc : Calcs → TargetsTree
+    aggr : Calcs → Option GroupPart → MaybeExp → TargetsTree
 
-  pub data MaybeMade : Type 0 where
-    no_made : MaybeMade
-    some_made : Made → MaybeMade
+  pub data MaybeTargets : Type 0 where
+    no_targets : MaybeTargets
+    some_targets : TargetsTree → MaybeTargets
 
   pub data Calcs : Type 0 where
     no_calcs : Calcs
@@ -131,6 +131,6 @@ abbrev pub maybe_exp : Option Exp → MaybeExp
 maybe_exp None = no_exp
 maybe_exp (Some e) = some_exp e
 
-abbrev pub maybe_made : Option Made → MaybeMade
-maybe_made None = no_made
-maybe_made (Some m) = some_made m
+abbrev pub maybe_targets : Option TargetsTree → MaybeTargets
+maybe_targets None = no_targets
+maybe_targets (Some m) = some_targets m

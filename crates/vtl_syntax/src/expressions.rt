@@ -35,7 +35,7 @@ pub enum Expr {
         operand: Box<Expr>,
     },
     /// `operand[clause]`
-    Clause {
+    WithClause {
         operand: Box<Expr>,
         clause: Box<Clause>,
     },

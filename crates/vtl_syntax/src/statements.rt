@@ -1,13 +1,26 @@
 // Scripts, statements and rules.
+ghost use Rattle.std.specs.Prelude.{◌≡◌, IfOk};
 
-use crate::{Addition, AssignKind, Comp, Comparison, ErrorPart, Expr, SignedComp};
+use crate::{Addition, AssignKind, Comp, Comparison, ErrorPart, Expr, Shared, SignedComp};
+use std::alloc::AllocError;
 use vtl_text::{List, Txt};
 
-/// A script.
+/// A script. Its owners share one tree.
 #[derive(Drop)]
 pub struct Script {
     /// Its statements, in order.
-    pub statements: List<Statement>,
+    pub statements: Shared<Statement>,
+}
+
+impl Script {
+    /// One more owner of the same script. It fails only for want of memory.
+    pub fn share(&self) -> Result<Script, AllocError>
+        ensures { IfOk result (λ script. script ≡ self.now) }
+    {
+        Ok(Script {
+            statements: self.statements.share()?,
+        })
+    }
 }
 
 /// A statement.

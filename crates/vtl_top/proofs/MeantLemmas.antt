@@ -13,12 +13,13 @@ use Rattle.vtl_tree.specs.Meaning.{DataSet, found, data_of, meaning, stated}
 use Rattle.vtl_tree.specs.Structure.{columns_of, key_width}
 use Rattle.vtl_tree.specs.declared.structure.Structure.{Structure}
 use Rattle.vtl_top.specs.Condition.{condition_in}
-use Rattle.vtl_top.specs.Expected.{Run, csv_limit, formed, input_path, input_step, output_in, read, run_step, script_in, script_limit, script_of, script_step, stage, statement_step, structures_limit, structures_step}
+use Rattle.vtl_top.specs.Expected.{csv_limit, declared_step, formed, input_path, input_step, operand_step, output_in, read, run_step, script_in, script_limit, script_of, script_step, stage, statement_step, structures_step}
+use Rattle.vtl_top.specs.Words.{Run}
 use Rattle.vtl_top.specs.Steps.{Behind, Held, Step, onward, settled}
 use Rattle.vtl_top.specs.ScriptFile.{IsParsed, Parsed, faulty, no_text, whole}
 use Rattle.vtl_top.specs.Meant.{IsMeant, data_set, script_of as meant_script}
 use Rattle.vtl_csv.specs.Points.{points_of}
-use Rattle.vtl_top.specs.StructuresFile.{structure_of}
+use Rattle.vtl_top.specs.Structures.{operand_in}
 use Rattle.vtl_top.specs.declared.status.Status.{Status}
 use Rattle.vtl_top.proofs.OutputLemmas.{filter_is_kept}
 
@@ -64,28 +65,31 @@ pub meant : (r : Run) (held files : List (List ℕ × List ℕ)) → (run_step r
 meant r held files g =
     let a = went_on (script_step r.script) (statement_step r) held files g in
     let t = went_on (read r.script script_limit) (script_of r.script) held a.0 a.1 in
-    let b = went_on (settled (formed r.script (filter_in a.0))) (structures_step r) held files a.2 in
+    let b = went_on (settled (formed r.script (filter_in a.0))) (declared_step r) held files a.2 in
     let s = b.0 in
     let script : IsBuilt t.0 s = built_from r.script t.0 t.2.0 s a.0 t.2.1 t.2.2 (sym b.1) in
-    let c = went_on (stage r.structures structures_limit (structure_of s)) (λ structure. input_step r s (columns_of structure) (key_width structure)) held files b.2 in
-    let d = went_on (stage (input_path r s) csv_limit (points_of r.settings c.0)) (λ points. settled (Ok (output_in r s (columns_of c.0) points ∷ []))) held files c.2 in
-    let same : files ≡ output_in r s (columns_of c.0) d.0 ∷ [] = cc in (
-      output_in r s (columns_of c.0) d.0,
+    let c = went_on (structures_step r.structures) (operand_step r s) held files b.2 in
+    let o = went_on (settled (formed r.script (operand_in s c.0))) (λ structure. input_step r s (columns_of structure) (key_width structure)) held files c.2 in
+    let d = went_on (stage (input_path r s) csv_limit (points_of r.settings o.0)) (λ points. settled (Ok (output_in r s (columns_of o.0) points ∷ []))) held files o.2 in
+    let same : files ≡ output_in r s (columns_of o.0) d.0 ∷ [] = cc in (
+      output_in r s (columns_of o.0) d.0,
       same,
       record {
         text = t.0;
         tree = script.tree;
         statement = s;
-        structure = c.0;
+        structures = c.0;
+        structure = o.0;
         points = d.0;
-        kept = kept r.settings (condition_in (columns_of c.0) s.condition) d.0;
+        kept = kept r.settings (condition_in (columns_of o.0) s.condition) d.0;
         script = sym t.1;
         utf8 = script.utf8;
         parsed = script.parsed;
         built = script.built;
         declared = c.1;
+        operand = formed_some r.script (operand_in s c.0) o.0 (sym o.1);
         input = d.1;
-        means = statement_means r.settings s c.0 d.0;
+        means = statement_means r.settings s o.0 d.0;
         path = refl;
         bytes = refl;
       },

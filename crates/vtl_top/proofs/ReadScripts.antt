@@ -9,21 +9,28 @@ use Rattle.vtl_syntax.specs.Trees.{ScriptTree}
 use Rattle.vtl_parser.specs.Parsed.{IsFault, IsFaulty, IsScript}
 use Rattle.vtl_parser.specs.declared.parsing.ParseErr.{ParseErr}
 use Rattle.vtl_parser.specs.declared.parsing.ParseErr.TheVariants as parse
-use Rattle.vtl_top.specs.Refusal.{IsScriptOf}
+use Rattle.vtl_top.specs.Refusal.{IsScriptOf, Settles}
 use Rattle.std.specs.Prelude.{IsUtf8}
 use Rattle.vtl_files.specs.declared.files.Files.{Ghosts}
 use Rattle.vtl_syntax.specs.View.{script_tree}
 use Rattle.vtl_syntax.specs.declared.statements.Script.{Script}
 use Rattle.std.proofs.Common.{◌≤◌, ◌⊎◌, inl, inr, arith}
 use Rattle.std.specs.Prelude.{chars}
-use Rattle.vtl_top.specs.Answered.{Came, Gives, OnlyReads, Takes}
+use Rattle.vtl_top.specs.Answered.{Came, Gives, OnlyReads, Stops, Takes}
+use Rattle.vtl_top.proofs.StepLemmas.{nothing_read}
 use Rattle.vtl_top.specs.Steps.{Behind, Held, Step, onward, settled}
 use Rattle.vtl_tree.specs.Built.{filter_in}
 use Rattle.vtl_tree.specs.Structure.{columns_of, key_width}
 use Rattle.vtl_csv.specs.Points.{points_in}
-use Rattle.vtl_top.specs.StructuresFile.{structure_of}
+use Rattle.vtl_top.specs.Structures.{declared, operand_in, structures_in}
+use Rattle.vtl_csv.specs.StructuresFile.{Fault, structures_of_file}
+use Rattle.std.specs.Str.{is_utf8}
+use Rattle.std.proofs.Common.{Bool, true, false, cond}
+use Rattle.vtl_top.specs.Kinds.{Told, refused, told_by}
 use Rattle.std.proofs.Common.{◌∷◌, []}
-use Rattle.vtl_top.specs.Expected.{Run, csv_limit, formed, input_path, input_step, output_in, read, run_step, script_in, script_limit, script_of, script_step, stage, statement_step, structures_limit, structures_step}
+use Rattle.vtl_top.specs.Expected.{csv_limit, declared_step, formed, input_path, input_step, operand_step, output_in, read, run_step, script_in, script_limit, script_of, script_step, stage, statement_step, structures_limit, structures_step}
+use Rattle.vtl_top.specs.Words.{Run}
+use Rattle.vtl_tree.specs.Structures.{Named}
 use Rattle.vtl_top.specs.ScriptFile.{IsParsed, Parsed, faulty, no_text, whole}
 use Rattle.vtl_top.specs.declared.status.Status.{Status}
 use Rattle.vtl_top.specs.declared.status.Status.TheVariants as st
@@ -77,10 +84,27 @@ module _ {F : Type 0} (g : Ghosts F) (a : F) (path bytes : List ℕ) where
   came_of (Err status) (inr (inr f)) = subst (λ (s : Status). Came g a a (script_of path bytes) script_tree (Err s)) (sym f.4) (read_as (st.Syntax f.0 f.1) (faulty f.0 f.1) (f.2, f.3) refl)
 
   pub script_given : (result : Result Script Status) → IsScriptOf path bytes result → Takes g a a (script_of path bytes) script_tree result
-  script_given result is = record {
-    reads = record { held = refl; written = refl; misuses = refl; creating = refl; faults = omega arith; absences = omega arith };
-    came = came_of result is;
-  }
+  script_given result is = record { reads = nothing_read g a; came = came_of result is }
+
+-- ---- a refusal that is settled
+module _ {F A : Type 0} (g : Ghosts F) (a : F) (wanted : Result A Status) (refuses : (status : Status) → wanted ≡ Err status → told_by status ≡ refused) where
+  settled_came : (result : Result A Status) → Settles wanted result → Came g a a (settled wanted) (λ x. x) result
+  settled_came (Ok x) is = if_some_all (g.held a) (λ held. (settled wanted).gives held (Ok x)) (λ held. sym is)
+  settled_came (Err status) (inl e) = subst (λ (s : Status). Came g a a (settled wanted) (λ x. x) (Err s)) (sym e) tt
+  settled_came (Err status) (inr is) =
+      subst (λ (told : Told). Stops g a a (settled wanted) status told) (sym (refuses status is)) (if_some_all (g.held a) (λ held. (settled wanted).gives held (Err status)) (λ held. sym is))
+
+  pub settled_given : (result : Result A Status) → Settles wanted result → Takes g a a (settled wanted) (λ x. x) result
+  settled_given result is = record { reads = nothing_read g a; came = settled_came result is }
+
+-- a structures file is refused by its bytes
+pub structures_refuse : (path bytes : List ℕ) (status : Status) → structures_in path bytes ≡ Err status → told_by status ≡ refused
+structures_refuse path bytes status e = go (is_utf8 bytes) (structures_of_file bytes) e
+  where
+    go : (b : Bool) (r : Result Named Fault) → cond b (declared r) (Err (st.NotText (chars path))) ≡ Err status → told_by status ≡ refused
+    go true (Ok structures) q = cc
+    go true (Err fault) q = let same : st.Structure fault.0 fault.1 ≡ status = cc in ap told_by (sym same)
+    go false r q = let same : st.NotText (chars path) ≡ status = cc in ap told_by (sym same)
 
 -- ---- what is settled, is one; and so is a step that follows one
 abbrev pub Once : {A : Type 0} → Step A → Held → Type 0
@@ -105,11 +129,16 @@ stage_once path limit form held = onward_once (read path limit) (λ bytes. settl
 script_once : (path bytes : List ℕ) (held : Held) → Once (script_of path bytes) held
 script_once path bytes held x y p q = p.2 ∙ ap (script_in path) (parsed_once bytes p.0 q.0 p.1 q.1) ∙ sym q.2
 
+structures_once : (path : List ℕ) (held : Held) → Once (structures_step path) held
+structures_once path held =
+    onward_once (read path structures_limit) (λ bytes. settled (structures_in path bytes)) held (read_once path structures_limit held) (λ bytes. settled_once (structures_in path bytes) held)
+
 pub determined : (r : Run) (held : Held) → Once (run_step r) held
 determined r held =
     onward_once (script_step r.script) (statement_step r) held (onward_once (read r.script script_limit) (script_of r.script) held (read_once r.script script_limit held) (λ bytes. script_once r.script bytes held)) (λ script.
-    onward_once (settled (formed r.script (filter_in script))) (structures_step r) held (settled_once (formed r.script (filter_in script)) held) (λ s.
-    onward_once (stage r.structures structures_limit (structure_of s)) (λ structure. input_step r s (columns_of structure) (key_width structure)) held (stage_once r.structures structures_limit (structure_of s) held) (λ structure.
+    onward_once (settled (formed r.script (filter_in script))) (declared_step r) held (settled_once (formed r.script (filter_in script)) held) (λ s.
+    onward_once (structures_step r.structures) (operand_step r s) held (structures_once r.structures held) (λ structures.
+    onward_once (settled (formed r.script (operand_in s structures))) (λ structure. input_step r s (columns_of structure) (key_width structure)) held (settled_once (formed r.script (operand_in s structures)) held) (λ structure.
     onward_once (stage (input_path r s) csv_limit (points_in r.settings (columns_of structure) (key_width structure))) (λ points. settled (Ok (output_in r s (columns_of structure) points ∷ []))) held
     (stage_once (input_path r s) csv_limit (points_in r.settings (columns_of structure) (key_width structure)) held)
-    (λ points. settled_once (Ok (output_in r s (columns_of structure) points ∷ [])) held))))
+    (λ points. settled_once (Ok (output_in r s (columns_of structure) points ∷ [])) held)))))

@@ -8,6 +8,14 @@ use Rattle.vtl_files.specs.Whole.{AddsUpTo, TakesFront}
 use Rattle.std.proofs.lemmas.List.{drop_all, drop_more}
 use Rattle.vtl_top.specs.PartView.{all_said, said_bytes}
 use Rattle.vtl_top.specs.declared.status.Part.{Part as Said}
+use Rattle.std.proofs.Common.{arith}
+use Rattle.vtl_files.specs.declared.sink.Sink.{Ghosts}
+use Rattle.vtl_top.specs.Said.{HandsOver, Says}
+use Rattle.vtl_top.specs.StatusLine.{line_of}
+use Rattle.vtl_top.specs.Steps.{Held}
+use Rattle.vtl_top.specs.Words.{Command}
+use Rattle.vtl_top.specs.declared.status.Status.{Status}
+use Rattle.vtl_top.specs.declared.status.Status.TheVariants as st
 
 taken_twice : (t : Option (List ℕ)) (a b : List ℕ) → option_map (λ x. x ++ b) (option_map (λ x. x ++ a) t) ≡ option_map (λ x. x ++ (a ++ b)) t
 taken_twice None a b = refl
@@ -84,3 +92,22 @@ pub parts_taken : (t u : Option (List ℕ)) (parts : List Said) (i : ℕ) → le
 parts_taken t u parts i le so_far =
     let none : all_said (drop i parts) ≡ [] = ap all_said (drop_all i parts le) in
     subst (λ l. TakesAll t u l) (sym (so_far.whole ∙ ap (λ l. so_far.front ++ l) none ∙ append-nil so_far.front)) so_far.told
+
+-- ---- what a call hands over
+taken_nothing : (t : Option (List ℕ)) → TakesAll t t []
+taken_nothing None = refl
+taken_nothing (Some t) = ap Some (sym (append-nil t))
+
+pub hands_nothing : {S : Type 0} (g : Ghosts S) (s : S) → HandsOver g s s []
+hands_nothing g s = record {
+  front = front_of_all (g.taken s) (g.taken s) [] (taken_nothing (g.taken s));
+  whole = λ calm. taken_nothing (g.taken s);
+  faults = omega arith;
+}
+
+-- no text, and then the line
+pub says_line : {S : Type 0} (g : Ghosts S) (before now : S) (command : Option Command) (held : Option Held) (status : Status) → HandsOver g before now (line_of status) → Says g before now command held status
+says_line g before now command held status line = record { text = []; between = before; is_text = refl; text_over = hands_nothing g before; line_over = line }
+
+pub says_nothing : {S : Type 0} (g : Ghosts S) (s : S) (command : Option Command) (held : Option Held) (status : Status) → status ≡ st.Done → Says g s s command held status
+says_nothing g s command held status e = says_line g s s command held status (subst (λ (x : Status). HandsOver g s s (line_of x)) (sym e) (hands_nothing g s))

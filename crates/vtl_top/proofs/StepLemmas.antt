@@ -30,6 +30,9 @@ only_reads_twice g a b c r s = record {
   absences = omega (arith, r.absences, s.absences);
 }
 
+pub nothing_read : {F : Type 0} (g : Ghosts F) (a : F) → OnlyReads g a a
+nothing_read g a = record { held = refl; written = refl; misuses = refl; creating = refl; faults = omega arith; absences = omega arith }
+
 earlier_fault : {F : Type 0} (g : Ghosts F) (a b c : F) (path : List ℕ) → g.faults a ≤ g.faults b → Faulted g b c path → Faulted g a c path
 earlier_fault g a b c path le f = (f.0, record { in_call = rose_before _ _ _ le f.1.in_call; since_mark = f.1.since_mark; at_path = f.1.at_path })
 

@@ -1,12 +1,11 @@
 -- What the words and the files that are held give: the output of the run, or the first refusal.
-use Rattle.std.specs.Prelude.{◌≡◌, ℕ, Bool, not, ◌&&◌, ◌==◌, List, [], ◌∷◌, ◌++◌, length, nat_lt, Option, Some, None, Result, Ok, Err, codes, chars, encode_utf8_all, if◌then◌else◌}
+use Rattle.std.specs.Prelude.{◌≡◌, ℕ, List, [], ◌∷◌, ◌++◌, length, nat_lt, Option, Some, None, Result, Ok, Err, codes, chars, encode_utf8_all, if◌then◌else◌}
 use Rattle.vtl_files.specs.Outside.{bytes_at}
-use Rattle.vtl_decimal.specs.Settings.{Settings}
-use Rattle.vtl_decimal.specs.declared.settings.Rounding.TheVariants.{HalfUp}
 use Rattle.vtl_cell.specs.Row.{Row}
 use Rattle.vtl_tree.specs.Built.{Filter, filter_in}
 use Rattle.vtl_tree.specs.Clauses.{kept}
-use Rattle.vtl_tree.specs.Structure.{columns_of, key_width, same_name}
+use Rattle.vtl_tree.specs.Structure.{columns_of, key_width}
+use Rattle.vtl_tree.specs.Structures.{Named}
 use Rattle.vtl_tree.specs.declared.structure.Component.{Component}
 use Rattle.vtl_tree.specs.declared.structure.Structure.{Structure}
 use Rattle.vtl_top.specs.Condition.{condition_in}
@@ -15,35 +14,10 @@ use Rattle.vtl_csv.specs.Points.{points_in}
 use Rattle.vtl_top.specs.ScriptFile.{IsParsed, Parsed, faulty, no_text, whole}
 use Rattle.vtl_top.specs.Steps.{File, Held, Step, onward, settled}
 use Rattle.vtl_syntax.specs.Trees.{ScriptTree}
-use Rattle.vtl_top.specs.StructuresFile.{structure_of}
+use Rattle.vtl_top.specs.Structures.{operand_in, structures_in}
+use Rattle.vtl_top.specs.Words.{Command, Run, run}
 use Rattle.vtl_top.specs.declared.status.Status.{Status}
 use Rattle.vtl_top.specs.declared.status.Status.TheVariants as st
-
--- six digits after the point, and halves go away from zero
-abbrev pub default_settings : Settings
-default_settings = record { scale = 6; rounding = HalfUp }
-
--- the paths of a run, and its profile
-pub record Run : Type 0 where
-  pub script : List ℕ
-  pub structures : List ℕ
-  pub input : List ℕ
-  pub output : List ℕ
-  pub settings : Settings
-
-abbrev pub is_path : List ℕ → Bool
-is_path word = not (length word == 0)
-
--- a command, with its paths and settings
-pub data Command : Type 0 where
-  run : Run → Command
-
--- the command that the words are: `run SCRIPT STRUCTURES IN OUT`, each a path
-abbrev pub command_of : List (List ℕ) → Option Command
-command_of (command ∷ script ∷ structures ∷ input ∷ output ∷ []) =
-    if same_name command (codes "run") && (is_path script && (is_path structures && (is_path input && is_path output)))
-    then Some (run (record { script = script; structures = structures; input = input; output = output; settings = default_settings })) else None
-command_of _ = None
 
 -- the file of a data set in a folder
 abbrev pub file_in : List ℕ → List ℕ → List ℕ
@@ -104,13 +78,21 @@ input_path r s = file_in r.input s.operand
 abbrev pub input_step : Run → Filter → List Component → ℕ → Step (List File)
 input_step r s columns n = onward (stage (input_path r s) csv_limit (points_in r.settings columns n)) (λ points. settled (Ok (output_in r s columns points ∷ [])))
 
+-- the structures of the structures file
+abbrev pub structures_step : List ℕ → Step Named
+structures_step path = onward (read path structures_limit) (λ bytes. settled (structures_in path bytes))
+
+-- what follows the structures: a statement that is not built over them is told of the script
+abbrev pub operand_step : Run → Filter → Named → Step (List File)
+operand_step r s structures = onward (settled (formed r.script (operand_in s structures))) (λ structure. input_step r s (columns_of structure) (key_width structure))
+
 -- what the structures file and then the input give
-abbrev pub structures_step : Run → Filter → Step (List File)
-structures_step r s = onward (stage r.structures structures_limit (structure_of s)) (λ structure. input_step r s (columns_of structure) (key_width structure))
+abbrev pub declared_step : Run → Filter → Step (List File)
+declared_step r s = onward (structures_step r.structures) (operand_step r s)
 
 -- what follows the script's tree
 abbrev pub statement_step : Run → ScriptTree → Step (List File)
-statement_step r script = onward (settled (formed r.script (filter_in script))) (structures_step r)
+statement_step r script = onward (settled (formed r.script (filter_in script))) (declared_step r)
 
 -- what a run gives: its outputs, or the first refusal
 abbrev pub run_step : Run → Step (List File)

@@ -1,6 +1,5 @@
 pub mod Answered
 pub mod Condition
-pub mod DeclarationFields
 pub mod Expected
 pub mod Kinds
 pub mod Meant
@@ -8,7 +7,9 @@ pub mod OutputView
 pub mod PartView
 pub mod Refusal
 pub mod RunView
+pub mod Said
 pub mod ScriptFile
 pub mod StatusLine
 pub mod Steps
-pub mod StructuresFile
+pub mod Structures
+pub mod Words

@@ -9,9 +9,11 @@ use Rattle.vtl_tree.specs.Structure.{columns_of}
 use Rattle.vtl_tree.specs.declared.structure.Structure.{Structure}
 use Rattle.vtl_top.specs.Condition.{condition_in}
 use Rattle.vtl_csv.specs.CsvText.{csv_of}
-use Rattle.vtl_top.specs.Expected.{Run, content, csv_limit, file_in, input_path, script_limit, stage, structures_limit}
+use Rattle.vtl_top.specs.Expected.{content, csv_limit, file_in, input_path, script_limit, stage, structures_step}
 use Rattle.vtl_csv.specs.Points.{points_of}
-use Rattle.vtl_top.specs.StructuresFile.{structure_of}
+use Rattle.vtl_top.specs.Structures.{operand_in}
+use Rattle.vtl_top.specs.Words.{Run}
+use Rattle.vtl_tree.specs.Structures.{Named}
 
 -- the script of the one statement `R <- D [filter C op L];`, over the structure of D
 abbrev pub script_of : Filter → Structure → List Statement
@@ -20,12 +22,13 @@ script_of s structure = record { result = s.result; node = filtered (named s.ope
 abbrev pub data_set : Structure → List Row → DataSet
 data_set structure points = record { structure = structure; points = points }
 
--- The script's tree, the structure and the points are those of the files; the script is built, and means one data set over them; and the
+-- The script's tree, the structures and the points are those of the files; the script is built, and means one data set over them; and the
 -- file is named after its result and holds its CSV text.
 pub record IsMeant (r : Run) (held : List (List ℕ × List ℕ)) (file : List ℕ × List ℕ) : Type 0 where
   pub text : List ℕ
   pub tree : ScriptTree
   pub statement : Filter
+  pub structures : Named
   pub structure : Structure
   pub points : List Row
   pub kept : List Row
@@ -33,7 +36,8 @@ pub record IsMeant (r : Run) (held : List (List ℕ × List ℕ)) (file : List �
   pub utf8 : IsUtf8 text
   pub parsed : IsScript text tree
   pub built : filter_in tree ≡ Some statement
-  pub declared : (stage r.structures structures_limit (structure_of statement)).gives held (Ok structure)
+  pub declared : (structures_step r.structures).gives held (Ok structures)
+  pub operand : operand_in statement structures ≡ Some structure
   pub input : (stage (input_path r statement) csv_limit (points_of r.settings structure)).gives held (Ok points)
   pub means : meaning r.settings (script_of statement structure) ((statement.operand, data_set structure points) ∷ []) ≡ Ok ((statement.result, data_set structure kept) ∷ [])
   pub path : file.0 ≡ file_in r.output statement.result

@@ -43,3 +43,8 @@ abbrev pub IsScriptOf : List ℕ → List ℕ → Result Script Status → Type 
 IsScriptOf path bytes (Ok script) = IsUtf8 bytes × IsScript bytes (script_tree script)
 IsScriptOf path bytes (Err status) =
     (status ≡ st.Memory) ⊎ (((¬ IsUtf8 bytes) × (status ≡ st.NotText (chars path))) ⊎ ((done byte : ℕ) × IsUtf8 bytes × IsFaulty bytes done byte × (status ≡ st.Syntax done byte)))
+
+-- what is settled, or want of memory
+abbrev pub Settles : {A : Type 0} → Result A Status → Result A Status → Type 0
+Settles wanted (Ok x) = wanted ≡ Ok x
+Settles wanted (Err status) = (status ≡ st.Memory) ⊎ (wanted ≡ Err status)

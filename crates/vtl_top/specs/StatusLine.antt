@@ -7,6 +7,7 @@ abbrev pub code_of : Status → ℕ
 code_of st.Done = 0
 code_of st.Usage = 1
 code_of (st.Syntax done byte) = 2
+code_of (st.Structure line rule) = 2
 code_of (st.NotText path) = 2
 code_of (st.NoFile path) = 4
 code_of (st.TooLong path) = 4
@@ -35,6 +36,7 @@ abbrev pub parts_of : Status → List Part
 parts_of st.Done = []
 parts_of st.Usage = text (codes "error: usage") ∷ end ∷ []
 parts_of (st.Syntax done byte) = text (codes "error: syntax after ") ∷ number done ∷ text (codes " statements at byte ") ∷ number byte ∷ end ∷ []
+parts_of (st.Structure line rule) = text (codes "error: structures line ") ∷ number line ∷ text (codes " rule ") ∷ number rule ∷ end ∷ []
 parts_of (st.NotText path) = at (codes "error: not text: ") path
 parts_of (st.NoFile path) = at (codes "error: no file: ") path
 parts_of (st.TooLong path) = at (codes "error: too long: ") path

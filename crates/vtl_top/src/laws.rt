@@ -1,6 +1,14 @@
 // Laws of the definitions that the top call cites.
-ghost use Rattle.std.specs.Prelude.{◌≡◌, ◌∷◌, [], ℕ, List, Ok, Result};
-ghost use Rattle.vtl_top.specs.Expected.{Run, run_step};
+ghost use Rattle.std.specs.Prelude.{◌≡◌, ◌≤◌, ◌∷◌, [], ℕ, List, Ok, Result, Some, true};
+ghost use Rattle.std.specs.List.{list_any};
+ghost use Rattle.vtl_tree.specs.Built.{Filter};
+ghost use Rattle.vtl_tree.specs.Structure.{IsStructure, key_width};
+ghost use Rattle.vtl_tree.specs.Structures.{Named};
+ghost use Rattle.vtl_tree.specs.declared.structure.Structure.{Structure};
+ghost use Rattle.vtl_csv.specs.StructuresFile.{structures_of_file};
+ghost use Rattle.vtl_top.specs.Expected.{run_step};
+ghost use Rattle.vtl_top.specs.Structures.{is_compared, operand_in};
+ghost use Rattle.vtl_top.specs.Words.{Run};
 ghost use Rattle.vtl_top.specs.Meant.{IsMeant};
 ghost use Rattle.vtl_top.specs.declared.status.Status.{Status};
 
@@ -13,4 +21,12 @@ pub fn output_is_meant()
 /// What a run gives is one: two outcomes over the same held bytes are equal.
 pub fn expected_is_determined()
     ensures { (r : Run) (held : List (List ℕ × List ℕ)) (given other : Result (List (List ℕ × List ℕ)) Status) → (run_step r).gives held given → (run_step r).gives held other → given ≡ other }
+{}
+
+/// The structure of the data set that a statement reads is one, with at least one identifier, and has the component that
+/// the statement compares, of the kind of its literal.
+pub fn operands_have_structures()
+    ensures structure { (s : Filter) (text : List ℕ) (all : Named) (t : Structure) → structures_of_file text ≡ Ok all → operand_in s all ≡ Some t → IsStructure t }
+    ensures identifier { (s : Filter) (text : List ℕ) (all : Named) (t : Structure) → structures_of_file text ≡ Ok all → operand_in s all ≡ Some t → 1 ≤ key_width t }
+    ensures compared { (s : Filter) (text : List ℕ) (all : Named) (t : Structure) → structures_of_file text ≡ Ok all → operand_in s all ≡ Some t → list_any (is_compared s.condition) t.components ≡ true }
 {}

@@ -1,5 +1,5 @@
 // The run of a script, from the paths of its files to the text of its output.
-ghost use Rattle.std.specs.Prelude.{◌≡◌, ◌∷◌, [], IfOk, chars, string_bytes, option_map};
+ghost use Rattle.std.specs.Prelude.{◌≡◌, ◌∷◌, [], IfOk, string_bytes, option_map};
 ghost use Rattle.std.specs.List.{AllByRecursion};
 ghost use Rattle.vtl_lists.specs.Sorting.{le_by, sorted_by};
 ghost use Rattle.vtl_cell.specs.Row.{row_cmp};
@@ -13,26 +13,26 @@ ghost use Rattle.vtl_csv.specs.CsvText.{csv_rows};
 ghost use Rattle.vtl_csv.specs.Points.{points_in};
 ghost use Rattle.vtl_top.specs.Answered.{Takes};
 ghost use Rattle.vtl_top.specs.Condition.{condition_in};
-ghost use Rattle.vtl_top.specs.Expected.{csv_limit, file_in, input_step, read, run_step, script_step, stage, statement_step, structures_limit, structures_step};
+ghost use Rattle.vtl_top.specs.Expected.{csv_limit, declared_step, file_in, input_step, operand_step, read, run_step, script_step, stage, statement_step, structures_step};
 ghost use Rattle.vtl_top.specs.OutputView.{NamesPath, output_view, outputs_view};
-ghost use Rattle.vtl_top.specs.Refusal.{IsFormed, IsOrMemory, IsScriptOf, IsScriptOfText, fault_of, refusal_of};
+ghost use Rattle.vtl_top.specs.Refusal.{IsScriptOf, IsScriptOfText, fault_of};
 ghost use Rattle.vtl_top.specs.RunView.{run_view};
-ghost use Rattle.vtl_top.specs.StructuresFile.{structure_of};
 
 use crate::output::{Output, output_text};
+use crate::refusal::{formed, not_text, refusal, unbuilt};
 use crate::status::Status;
-use crate::structures::structure;
+use crate::structures::{operand, structures_of};
 use crate::words::Run;
 use std::alloc::{AllocError, Global};
 use std::str;
 use vtl_cell::Cell;
 use vtl_csv::points;
 use vtl_decimal::Profile;
-use vtl_files::{Files, ReadErr, read_all};
+use vtl_files::{Files, read_all};
 use vtl_parser::{ParseErr, parse};
 use vtl_syntax::Script;
 use vtl_text::Txt;
-use vtl_tree::{Component, FilterStatement, Structure, filter_statement};
+use vtl_tree::{Component, FilterStatement, Structure, Structures, filter_statement};
 
 const SCRIPT_LIMIT: usize = 65_536;
 
@@ -63,62 +63,6 @@ fn read_file<F: Files>(
     match read_all(alloc, files, path, limit) {
         Ok(bytes) => Ok(bytes),
         Err(error) => Err(refusal(alloc, error, path)),
-    }
-}
-
-// The status that names the path of a file which was not read.
-fn refusal(alloc: Global, error: ReadErr, path: &str) -> Status
-    ensures { IsOrMemory (refusal_of path.now error) result }
-{
-    if let ReadErr::OutOfMemory = error {
-        return Status::Memory;
-    }
-    match Txt::new(alloc, path) {
-        Ok(path) => match error {
-            ReadErr::Absent => Status::NoFile(path),
-            ReadErr::TooLong => Status::TooLong(path),
-            ReadErr::Failed => Status::ReadFault(path),
-            ReadErr::OutOfMemory => Status::Memory,
-        },
-        Err(_) => Status::Memory,
-    }
-}
-
-// The value that the bytes of the file at a path were read as.
-fn formed<T: Drop>(
-    alloc: Global,
-    path: &str,
-    read: Result<Option<T>, AllocError>,
-) -> Result<T, Status>
-    ensures { IsFormed path.now read result }
-{
-    match read {
-        Ok(Some(value)) => Ok(value),
-        Ok(None) => match Txt::new(alloc, path) {
-            Ok(path) => Err(Status::Unbuilt(path)),
-            Err(_) => Err(Status::Memory),
-        },
-        Err(_) => Err(Status::Memory),
-    }
-}
-
-// The status of a file of a form that is not built.
-fn unbuilt(alloc: Global, path: &str) -> Status
-    ensures { IsOrMemory (Status.Unbuilt (chars path.now)) result }
-{
-    match Txt::new(alloc, path) {
-        Ok(path) => Status::Unbuilt(path),
-        Err(_) => Status::Memory,
-    }
-}
-
-// The status of a file that is not UTF-8.
-fn not_text(alloc: Global, path: &str) -> Status
-    ensures { IsOrMemory (Status.NotText (chars path.now)) result }
-{
-    match Txt::new(alloc, path) {
-        Ok(path) => Status::NotText(path),
-        Err(_) => Status::Memory,
     }
 }
 
@@ -161,17 +105,18 @@ fn parsed(alloc: Global, text: &str) -> Result<Script, Status>
     }
 }
 
-// The structure of the statement's operand.
-fn read_structure<F: Files>(
+// The structures of the structures file.
+fn read_structures<F: Files>(
     alloc: Global,
     files: &mut F,
     path: &str,
-    statement: &FilterStatement<'_>,
-) -> Result<Structure, Status>
-    ensures { Takes F.Files files.old files.new (stage path.now structures_limit (structure_of (filter_view statement.now))) (λ s. s) result }
+) -> Result<Structures, Status>
+    ensures { Takes F.Files files.old files.new (structures_step path.now) (λ s. s) result }
 {
-    let bytes = read_file(alloc, files, path, STRUCTURES_LIMIT)?;
-    formed(alloc, path, structure(alloc, statement, &bytes))
+    match read_file(alloc, files, path, STRUCTURES_LIMIT) {
+        Ok(bytes) => structures_of(alloc, path, &bytes),
+        Err(status) => Err(status),
+    }
 }
 
 // The points of the data set of this name in a folder, in the order of their cells from the left.
@@ -223,7 +168,7 @@ fn make_outputs(
     ensures view { IfOk result (λ o. outputs_view o ≡ (file_in (run_view run.entry).output (filter_view statement.now).result, csv_rows (run_view run.entry).settings (shown columns.now) (kept (run_view run.entry).settings (condition_in (shown columns.now) (filter_view statement.now).condition) (rows_of rows.items))) ∷ []) }
     ensures named { IfOk result (λ o. AllByRecursion NamesPath o.items) }
 {
-    let bytes = output_text(alloc, columns, statement.condition, rows, run.profile)?;
+    let bytes = output_text(alloc, columns, statement.condition, rows, &run.profile)?;
     let output = make_output(alloc, run.output, statement, bytes)?;
     let mut outputs = Vec::new(alloc);
     outputs.push(output)?;
@@ -256,14 +201,14 @@ fn read_input<F: Files>(
         statement.operand,
         columns,
         keys,
-        run.profile,
+        &run.profile,
     )?;
     let outputs = make_outputs(alloc, columns, run, statement, rows)?;
     Ok(outputs)
 }
 
 // The input of a structure, and the outputs that it gives.
-fn read_declared<F: Files>(
+fn read_operand<F: Files>(
     alloc: Global,
     files: &mut F,
     run: Run,
@@ -278,18 +223,37 @@ fn read_declared<F: Files>(
     read_input(alloc, files, run, statement, &columns, keys)
 }
 
+// What the input gives by the structures.
+fn read_by<F: Files>(
+    alloc: Global,
+    files: &mut F,
+    run: Run,
+    statement: &FilterStatement<'_>,
+    structures: &Structures,
+) -> Result<Vec<Output>, Status>
+    ensures takes { Takes F.Files files.old files.new (operand_step (run_view run.entry) (filter_view statement.now) structures.now) outputs_view result }
+    ensures named { IfOk result (λ o. AllByRecursion NamesPath o.items) }
+{
+    match operand(structures, statement) {
+        Some(structure) => read_operand(alloc, files, run, statement, structure),
+        None => Err(unbuilt(alloc, run.script)),
+    }
+}
+
 // The structures file and the input, and the outputs that they give.
-fn read_structures<F: Files>(
+fn read_declared<F: Files>(
     alloc: Global,
     files: &mut F,
     run: Run,
     statement: &FilterStatement<'_>,
 ) -> Result<Vec<Output>, Status>
-    ensures takes { Takes F.Files files.old files.new (structures_step (run_view run.entry) (filter_view statement.now)) outputs_view result }
+    ensures takes { Takes F.Files files.old files.new (declared_step (run_view run.entry) (filter_view statement.now)) outputs_view result }
     ensures named { IfOk result (λ o. AllByRecursion NamesPath o.items) }
 {
-    let structure = read_structure(alloc, files, run.structures, statement)?;
-    read_declared(alloc, files, run, statement, &structure)
+    match read_structures(alloc, files, run.structures) {
+        Ok(structures) => read_by(alloc, files, run, statement, &structures),
+        Err(status) => Err(status),
+    }
 }
 
 // What the files give by the script's tree.
@@ -303,7 +267,7 @@ fn carry_out<F: Files>(
     ensures named { IfOk result (λ o. AllByRecursion NamesPath o.items) }
 {
     match filter_statement(script) {
-        Some(statement) => read_structures(alloc, files, run, &statement),
+        Some(statement) => read_declared(alloc, files, run, &statement),
         None => Err(unbuilt(alloc, run.script)),
     }
 }

@@ -23,7 +23,14 @@ pub enum Status {
         /// Where what follows them starts.
         byte: usize,
     },
-    /// The file at the path is not text in UTF-8.
+    /// A line of the structures file, which is the number of a record from 1 on, breaks a rule of docs/FILES.md.
+    Structure {
+        /// The number of the record.
+        line: u64,
+        /// The number of the rule.
+        rule: u8,
+    },
+    /// The file at the path, the script or the structures file, is not text in UTF-8.
     NotText(Txt),
     /// There is no file at the path.
     NoFile(Txt),
@@ -40,14 +47,14 @@ pub enum Status {
 }
 
 impl Status {
-    /// The exit code: 0 done, 1 usage, 2 no script or no text, 4 no file or too long, 6 a fault of reading or writing, 7 memory, 8 not built.
+    /// The exit code: 0 done, 1 usage, 2 no script, no structures or no text, 4 no file or too long, 6 a fault of reading or writing, 7 memory, 8 not built.
     pub fn code(&self) -> u8
         ensures { result ≡ code_of self.now }
     {
         match self {
             Status::Done => 0,
             Status::Usage => 1,
-            Status::Syntax { .. } | Status::NotText(_) => 2,
+            Status::Syntax { .. } | Status::Structure { .. } | Status::NotText(_) => 2,
             Status::NoFile(_) | Status::TooLong(_) => 4,
             Status::ReadFault(_) | Status::WriteFault(_) => 6,
             Status::Memory => 7,
@@ -64,9 +71,16 @@ impl Status {
             Status::Usage => [Part::Text("error: usage"), END, NOTHING, NOTHING, NOTHING],
             Status::Syntax { done, byte } => [
                 Part::Text("error: syntax after "),
-                Part::Number(*done),
+                Part::Number(*done as u64),
                 Part::Text(" statements at byte "),
-                Part::Number(*byte),
+                Part::Number(*byte as u64),
+                END,
+            ],
+            Status::Structure { line, rule } => [
+                Part::Text("error: structures line "),
+                Part::Number(*line),
+                Part::Text(" rule "),
+                Part::Number(*rule as u64),
                 END,
             ],
             Status::NotText(path) => [
@@ -122,7 +136,7 @@ enum Part<'a> {
     /// A text.
     Text(&'a str),
     /// A number, in decimal digits.
-    Number(usize),
+    Number(u64),
 }
 
 const NOTHING: Part<'static> = Part::Text("");
@@ -176,7 +190,7 @@ fn write_part<O: Sink>(part: Part<'_>, out: &mut O) -> Result<(), Failed>
 }
 
 // A number digit by digit, the highest first, since no memory is taken.
-fn write_number<O: Sink>(number: usize, out: &mut O) -> Result<(), Failed>
+fn write_number<O: Sink>(number: u64, out: &mut O) -> Result<(), Failed>
     ensures faults { O.faults out.old ≤ O.faults out.new }
     ensures failed { OnErr result (Rose (O.faults out.old) (O.faults out.new)) }
     ensures whole { OnOk result (TakesAll (O.taken out.old) (O.taken out.new) (decimal number)) }
@@ -189,7 +203,7 @@ fn write_number<O: Sink>(number: usize, out: &mut O) -> Result<(), Failed>
     write_digit(number % 10, out)
 }
 
-fn write_digit<O: Sink>(digit: usize, out: &mut O) -> Result<(), Failed>
+fn write_digit<O: Sink>(digit: u64, out: &mut O) -> Result<(), Failed>
     requires { digit < 10 }
     ensures faults { O.faults out.old ≤ O.faults out.new }
     ensures failed { OnErr result (Rose (O.faults out.old) (O.faults out.new)) }

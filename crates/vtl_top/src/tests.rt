@@ -1,26 +1,30 @@
-// The top call over files in memory.
-use crate::condition::condition;
-use crate::structures::structure;
-use crate::{Status, tell, vtl};
+// The top call over files in memory that give and take a few bytes at a time, or fail at a chosen call.
+use crate::{Status, vtl};
 use std::alloc::{AllocError, Global};
 use std::process::Abort;
 use std::test::Fail;
-use vtl_csv::{csv_text, points};
-use vtl_decimal::{Profile, Rounding};
 use vtl_files::{FailAt, MemFile, MemFiles, MemSink, Method};
-use vtl_text::Txt;
-use vtl_tree::{CompareOp, FilterCondition, FilterLiteral, FilterStatement, filter_points};
 
-const SCRIPT: &str = "DS_r <- DS_1 [filter Me_1 > 5];";
-
-const STRUCTURES: &str =
-    "dataset,component,role,type,codes\nDS_1,Id_1,identifier,string,\nDS_1,Me_1,measure,integer,\n";
-
-const POINTS: &str = "Id_1,Me_1\nb,7\na,9\nc,3\n";
+const HELD: [(&str, &str); 3] = [
+    ("script.vtl", "DS_r <- DS_1 [filter Me_1 > 5];"),
+    (
+        "structures.csv",
+        "dataset,component,role,type,codes\nDS_1,Id_1,identifier,string,\nDS_1,Me_1,measure,integer,\n",
+    ),
+    ("in/DS_1.csv", "Id_1,Me_1\nb,7\na,9\nc,3\n"),
+];
 
 const KEPT: &str = "Id_1,Me_1\na,9\nb,7\n";
 
 static WORDS: [&str; 5] = ["run", "script.vtl", "structures.csv", "in", "out"];
+
+// How a call ended.
+#[derive(Drop)]
+struct Ended {
+    status: Status,
+    files: MemFiles,
+    out: MemSink,
+}
 
 fn strings(alloc: Global, words: &[&str]) -> Result<Vec<String>, AllocError> {
     let mut all = Vec::new(alloc);
@@ -30,225 +34,81 @@ fn strings(alloc: Global, words: &[&str]) -> Result<Vec<String>, AllocError> {
     Ok(all)
 }
 
-fn file(alloc: Global, name: &str, text: &str) -> Result<MemFile, AllocError> {
-    let name = String::from_str(alloc, name)?;
-    let bytes = Vec::from_slice(alloc, text.as_bytes())?;
-    Ok(MemFile { name, bytes })
-}
-
-fn held(alloc: Global, structures: &str, points: &str) -> Result<Vec<MemFile>, AllocError> {
-    held_by(alloc, SCRIPT, structures, points)
-}
-
-fn held_by(
-    alloc: Global,
-    script: &str,
-    structures: &str,
-    points: &str,
-) -> Result<Vec<MemFile>, AllocError> {
+fn held(alloc: Global) -> Result<Vec<MemFile>, AllocError> {
     let mut files = Vec::new(alloc);
-    files.push(file(alloc, "script.vtl", script)?)?;
-    files.push(file(alloc, "structures.csv", structures)?)?;
-    files.push(file(alloc, "in/DS_1.csv", points)?)?;
+    for (name, text) in HELD {
+        let name = String::from_str(alloc, name)?;
+        let bytes = Vec::from_slice(alloc, text.as_bytes())?;
+        files.push(MemFile { name, bytes })?;
+    }
     Ok(files)
 }
 
-fn gives(
-    rt: &impl Abort,
-    alloc: Global,
-    chunk: usize,
-    structures: &str,
-    points: &str,
-    expected: &str,
-) -> Result<(), AllocError> {
-    let held = held(alloc, structures, points)?;
-    gives_from(rt, alloc, chunk, held, points, expected)
-}
-
-// The output of the files that are held; `said` tells the case.
-fn gives_from(
-    rt: &impl Abort,
-    alloc: Global,
-    chunk: usize,
-    held: Vec<MemFile>,
-    said: &str,
-    expected: &str,
-) -> Result<(), AllocError> {
-    let mut files = MemFiles::new(alloc, held, chunk.max(1), Vec::new(alloc));
-    let mut out = MemSink::new(alloc, 8, Vec::new(alloc));
-    let status = vtl(
-        alloc,
-        strings(alloc, &WORDS)?.as_slice(),
-        &mut files,
-        &mut out,
-    );
-    assert_eq!(rt; status.code(), 0, "{said}");
-    assert_eq!(rt; out.taken(), b"".as_slice());
-    let written = files.written();
-    assert_eq!(rt; written.len(), 1);
-    let output = &written[0];
-    assert_eq!(rt; output.name.as_str(), "out/DS_r.csv");
-    assert_eq!(rt; output.bytes.as_slice(), expected.as_bytes(), "{said}");
-    Ok(())
-}
-
-#[test]
-fn gives_the_points_that_pass(rt: HostRuntime) -> Result<(), Fail> {
-    let alloc = rt.alloc();
-    for chunk in [1usize, 3, 8] {
-        gives(&rt, alloc, chunk, STRUCTURES, POINTS, KEPT)?;
-    }
-    Ok(())
-}
-
-// The same by the definition of the clause, computed as it stands.
-#[test]
-fn gives_what_the_plain_interpreter_gives(rt: HostRuntime) -> Result<(), Fail> {
-    let alloc = rt.alloc();
-    let text = b"Id_1,Me_1\nb,7\na,9\nc,3\nd,\ne,6\nf,5\n";
-    let (target, operand) = (Txt::new(alloc, "DS_r")?, Txt::new(alloc, "DS_1")?);
-    let component = Txt::new(alloc, "Me_1")?;
-    let compared = FilterCondition {
-        component: &component,
-        op: CompareOp::Greater,
-        literal: FilterLiteral::Int(5),
-    };
-    let statement = FilterStatement {
-        result: &target,
-        operand: &operand,
-        condition: compared,
-    };
-    let structure = structure(alloc, &statement, STRUCTURES.as_bytes())?.ok_or("no structure")?;
-    let columns = structure.columns(alloc)?;
-    let profile = Profile::new(6, Rounding::HalfUp).ok_or("no profile")?;
-    let rows = points(alloc, &columns, 1, text, &profile)?.ok_or("no points")?;
-    let condition = condition(alloc, &columns, compared)?;
-    let kept = filter_points(alloc, rows.as_slice(), &condition, &profile).map_err(|_| "a fault")?;
-    let kept = csv_text(alloc, &columns, kept.as_slice(), &profile)?;
-    gives(
-        &rt,
-        alloc,
-        8,
-        STRUCTURES,
-        str::from_utf8(text)?,
-        str::from_utf8(kept.as_slice())?,
-    )?;
-    Ok(())
-}
-
-fn is_told(rt: &impl Abort, status: &Status, out: &MemSink, code: u8, line: &str) {
-    assert_eq!(rt; status.code(), code, "{line}");
-    assert_eq!(rt; out.taken(), line.as_bytes(), "{line}");
-}
-
-// A run that is refused before anything is created.
-fn refuses(
-    rt: &impl Abort,
+// A call with these words, over files that hand over so many bytes at a time.
+fn call(
     alloc: Global,
     words: &[&str],
-    held: Vec<MemFile>,
+    chunk: usize,
     fail: Vec<FailAt>,
-    code: u8,
-    line: &str,
-) -> Result<(), AllocError> {
-    let mut files = MemFiles::new(alloc, held, 100_000, fail);
-    let mut out = MemSink::new(alloc, 8, Vec::new(alloc));
-    let status = vtl(
-        alloc,
-        strings(alloc, words)?.as_slice(),
-        &mut files,
-        &mut out,
-    );
-    is_told(rt, &status, &out, code, line);
-    assert_eq!(rt; files.written().len(), 0, "{line}");
-    Ok(())
+    sink_fail: Vec<u64>,
+) -> Result<Ended, AllocError> {
+    let mut files = MemFiles::new(alloc, held(alloc)?, chunk.max(1), fail);
+    let mut out = MemSink::new(alloc, 8, sink_fail);
+    let words = strings(alloc, words)?;
+    let status = vtl(alloc, words.as_slice(), &mut files, &mut out);
+    Ok(Ended { status, files, out })
 }
 
-fn failing(alloc: Global, method: Method, number: u64) -> Result<Vec<FailAt>, AllocError> {
-    let mut fail = Vec::new(alloc);
-    fail.push(FailAt { method, number })?;
-    Ok(fail)
+// The exit code, what the sink took, and what the output holds, where it was created.
+fn ends_with(rt: &impl Abort, ended: &Ended, code: u8, line: &str, written: Option<&str>) {
+    assert_eq!(rt; ended.status.code(), code);
+    assert_eq!(rt; ended.out.taken(), line.as_bytes());
+    let files = ended.files.written();
+    assert_eq!(rt; files.len(), written.is_some() as usize);
+    if let (Some(file), Some(text)) = (files.first(), written) {
+        assert_eq!(rt; file.name.as_str(), "out/DS_r.csv");
+        assert_eq!(rt; file.bytes.as_slice(), text.as_bytes());
+    }
 }
 
-// Each file is opened, and read twice: its text, and that there is no more.
 #[test]
-fn refuses_failing_files(rt: HostRuntime) -> Result<(), Fail> {
+fn reads_and_writes_in_pieces(rt: HostRuntime) -> Result<(), Fail> {
     let alloc = rt.alloc();
-    let lines = [
-        "error: read fault: script.vtl\n",
-        "error: read fault: structures.csv\n",
-        "error: read fault: in/DS_1.csv\n",
-    ];
-    for k in 0..3usize {
-        let first = 2 * k as u64 + 1;
-        let whole = held(alloc, STRUCTURES, POINTS)?;
-        refuses(
-            &rt,
-            alloc,
-            &WORDS,
-            whole,
-            failing(alloc, Method::Open, k as u64 + 1)?,
-            6,
-            lines[k],
-        )?;
-        let whole = held(alloc, STRUCTURES, POINTS)?;
-        refuses(
-            &rt,
-            alloc,
-            &WORDS,
-            whole,
-            failing(alloc, Method::Read, first)?,
-            6,
-            lines[k],
-        )?;
-        let whole = held(alloc, STRUCTURES, POINTS)?;
-        refuses(
-            &rt,
-            alloc,
-            &WORDS,
-            whole,
-            failing(alloc, Method::Read, first + 1)?,
-            6,
-            lines[k],
-        )?;
+    for chunk in [1usize, 3, 8] {
+        let ended = call(alloc, &WORDS, chunk, Vec::new(alloc), Vec::new(alloc))?;
+        ends_with(&rt, &ended, 0, "", Some(KEPT));
     }
     Ok(())
 }
 
-// A fault while the output is written; `count` files with `text` in the last are there then.
-fn stops_writing(
-    rt: &impl Abort,
-    alloc: Global,
-    method: Method,
-    number: u64,
-    count: usize,
-    text: &str,
-) -> Result<(), AllocError> {
-    let held = held(alloc, STRUCTURES, POINTS)?;
-    let mut files = MemFiles::new(alloc, held, 8, failing(alloc, method, number)?);
-    let mut out = MemSink::new(alloc, 8, Vec::new(alloc));
-    let status = vtl(
-        alloc,
-        strings(alloc, &WORDS)?.as_slice(),
-        &mut files,
-        &mut out,
-    );
-    is_told(rt, &status, &out, 6, "error: write fault: out/DS_r.csv\n");
-    let written = files.written();
-    assert_eq!(rt; written.len(), count);
-    if let Some(output) = written.first() {
-        assert_eq!(rt; output.name.as_str(), "out/DS_r.csv");
-        assert_eq!(rt; output.bytes.as_slice(), text.as_bytes());
-    }
-    Ok(())
-}
-
+// Each file is opened, and read twice in large pieces: its text, and that there is no more. In pieces of 8 bytes the
+// third of the output fails.
 #[test]
-fn tells_where_writing_stops(rt: HostRuntime) -> Result<(), Fail> {
+fn tells_where_a_file_fails(rt: HostRuntime) -> Result<(), Fail> {
     let alloc = rt.alloc();
-    stops_writing(&rt, alloc, Method::Create, 1, 0, "")?;
-    stops_writing(&rt, alloc, Method::Write, 3, 1, "Id_1,Me_1\na,9\nb,")?;
-    stops_writing(&rt, alloc, Method::Finish, 1, 1, KEPT)?;
+    let script = "error: read fault: script.vtl\n";
+    let structures = "error: read fault: structures.csv\n";
+    let input = "error: read fault: in/DS_1.csv\n";
+    let output = "error: write fault: out/DS_r.csv\n";
+    for (method, number, chunk, line, written) in [
+        (Method::Open, 1u64, 1000usize, script, None),
+        (Method::Read, 1, 1000, script, None),
+        (Method::Read, 2, 1000, script, None),
+        (Method::Open, 2, 1000, structures, None),
+        (Method::Read, 3, 1000, structures, None),
+        (Method::Read, 4, 1000, structures, None),
+        (Method::Open, 3, 1000, input, None),
+        (Method::Read, 5, 1000, input, None),
+        (Method::Read, 6, 1000, input, None),
+        (Method::Create, 1, 1000, output, None),
+        (Method::Write, 3, 8, output, Some("Id_1,Me_1\na,9\nb,")),
+        (Method::Finish, 1, 1000, output, Some(KEPT)),
+    ] {
+        let mut fail = Vec::new(alloc);
+        fail.push(FailAt { method, number })?;
+        let ended = call(alloc, &WORDS, chunk, fail, Vec::new(alloc))?;
+        ends_with(&rt, &ended, 6, line, written);
+    }
     Ok(())
 }
 
@@ -259,10 +119,8 @@ fn a_sink_may_fail(rt: HostRuntime) -> Result<(), Fail> {
     for (number, line) in [(1u64, ""), (2, "error: u")] {
         let mut fail = Vec::new(alloc);
         fail.push(number)?;
-        let mut files = MemFiles::new(alloc, Vec::new(alloc), 8, Vec::new(alloc));
-        let mut out = MemSink::new(alloc, 8, fail);
-        let status = vtl(alloc, &[], &mut files, &mut out);
-        is_told(&rt, &status, &out, 1, line);
+        let ended = call(alloc, &[], 8, Vec::new(alloc), fail)?;
+        ends_with(&rt, &ended, 1, line, None);
     }
     Ok(())
 }

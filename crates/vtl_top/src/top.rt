@@ -1,23 +1,24 @@
 // The top call.
-ghost use Rattle.std.specs.Prelude.{◌≡◌, ◌≢◌, ◌≤◌, ◌↔◌, None, Some, false, map, IsTrue, string_bytes};
-ghost use Rattle.vtl_files.specs.Outside.{Rose, TakesAll};
-ghost use Rattle.vtl_files.specs.Whole.{TakesFront};
+ghost use Rattle.std.specs.Prelude.{◌≡◌, ◌≢◌, ◌≤◌, ◌↔◌, None, false, map, IsTrue, string_bytes};
 ghost use Rattle.vtl_top.specs.Answered.{Ends};
-ghost use Rattle.vtl_top.specs.Expected.{asked_step, command_of, run_step};
-ghost use Rattle.vtl_top.specs.RunView.{command_view, run_view};
-ghost use Rattle.vtl_top.specs.StatusLine.{line_of};
+ghost use Rattle.vtl_top.specs.Expected.{asked_step, run_step};
+ghost use Rattle.vtl_top.specs.Words.{command_of};
+ghost use Rattle.vtl_top.specs.RunView.{run_view};
+ghost use Rattle.vtl_top.specs.Said.{Says};
 
 use crate::output::write_outputs;
 use crate::run::prepare;
 use crate::status::{Status, tell};
-use crate::words::{Run, command_of, default_profile};
+use crate::words::{Run, command_of};
 use std::alloc::Global;
 use vtl_files::{Files, Sink};
 
 /// Carries out the words of a command line over the files and the sink that are handed in, and answers how it went.
 ///
 /// `run SCRIPT STRUCTURES IN OUT` reads the script, the structures file and the CSV file of the data set in the folder
-/// IN, and writes the CSV file of the result into the folder OUT. A status other than Done is named by a line on `out`.
+/// IN, and writes the CSV file of the result into the folder OUT. Options may follow: `--scale D`, the digits of a number
+/// after its point (one digit; else 6), and `--round R`, how results are rounded to them (`half_up`, which it is else,
+/// `half_even` or `down`), each at most once. A status other than Done is named by a line on `out`.
 pub fn vtl<F: Files, O: Sink>(alloc: Global, words: &[String], files: &mut F, out: &mut O) -> Status
     requires { F.creating files.old ≡ false }
 
@@ -33,16 +34,16 @@ pub fn vtl<F: Files, O: Sink>(alloc: Global, words: &[String], files: &mut F, ou
     // are told, what the words and the held bytes give.
     ensures ends { Ends F.Files files.old files.new (asked_step (command_of (map string_bytes words.now))) result }
 
-    // The line of the status, whole where the sink has not failed; on Done the sink is as before.
-    ensures line { ¬ Rose (O.faults out.old) (O.faults out.new) → TakesAll (O.taken out.old) (O.taken out.new) (line_of result) }
-    ensures front { TakesFront (O.taken out.old) (O.taken out.new) (line_of result) }
+    // What went to the sink: the command's text and then the line of the status, each whole unless the sink failed while
+    // it was handed over. A run that is done leaves the sink as before.
+    ensures says { Says O.Sink out.old out.new (command_of (map string_bytes words.now)) (F.held files.old) result }
     ensures quiet { result ≡ Status.Done → out.new ≡ out.old }
-    ensures sink_faults { O.faults out.old ≤ O.faults out.new }
 {
     let status = answer(alloc, words, files);
-    if !is_done(&status) {
-        tell(&status, out);
+    if is_done(&status) {
+        return status;
     }
+    tell(&status, out);
     status
 }
 
@@ -62,8 +63,7 @@ fn answer<F: Files>(alloc: Global, words: &[String], files: &mut F) -> Status
     ensures usage { (result ≡ Status.Usage) ↔ (command_of (map string_bytes words.now) ≡ None) }
     ensures ends { Ends F.Files files.old files.new (asked_step (command_of (map string_bytes words.now))) result }
 {
-    let profile = default_profile();
-    match command_of(words, &profile) {
+    match command_of(words) {
         Some(run) => carry_out(alloc, files, run),
         None => Status::Usage,
     }

@@ -1,7 +1,7 @@
 // The words of the command line.
-ghost use Rattle.std.specs.Prelude.{◌≡◌, ◌∷◌, [], map, option_map, string_bytes};
-ghost use Rattle.vtl_top.specs.Expected.{command_of, default_settings, is_path};
-ghost use Rattle.vtl_top.specs.RunView.{command_view};
+ghost use Rattle.std.specs.Prelude.{◌≡◌, ◌∷◌, map, option_map, string_bytes};
+ghost use Rattle.vtl_top.specs.RunView.{command_view, setting_view};
+ghost use Rattle.vtl_top.specs.Words.{both_set, command_of, is_path, one_set, rounding, rounding_in, scale, scale_in, setting_in, settings_in, settings_with};
 
 use vtl_decimal::{Profile, Rounding};
 
@@ -12,7 +12,16 @@ pub struct Run<'a> {
     pub structures: &'a str,
     pub input: &'a str,
     pub output: &'a str,
-    pub profile: &'a Profile,
+    pub profile: Profile,
+}
+
+// What an option sets.
+#[derive(Clone, Copy)]
+enum Setting {
+    // How many digits a number has after its point, 0 to 9.
+    Scale(u8),
+    // How results are rounded to them.
+    Rounding(Rounding),
 }
 
 fn is_path(word: &str) -> bool
@@ -21,23 +30,22 @@ fn is_path(word: &str) -> bool
     !word.is_empty()
 }
 
-/// The command that the words are, so far one: `run SCRIPT STRUCTURES IN OUT`, each a path that is not empty. It has this profile,
-/// which is the default one.
-pub fn command_of<'a>(words: &'a [String], profile: &'a Profile) -> Option<Run<'a>>
-    requires { profile.now ≡ default_settings }
+/// The command that the words are, so far one: `run SCRIPT STRUCTURES IN OUT`, each a path that is not empty, and then
+/// the options `--scale D` and `--round R`, each at most once.
+pub fn command_of(words: &[String]) -> Option<Run<'_>>
     ensures { option_map command_view result ≡ command_of (map string_bytes words.now) }
 {
-    if words.len() != 5 {
-        return None;
+    match words {
+        [command, script, structures, input, output, options @ ..] => run_of(
+            command.as_str(),
+            script.as_str(),
+            structures.as_str(),
+            input.as_str(),
+            output.as_str(),
+            options,
+        ),
+        _ => None,
     }
-    run_of(
-        words[0].as_str(),
-        words[1].as_str(),
-        words[2].as_str(),
-        words[3].as_str(),
-        words[4].as_str(),
-        profile,
-    )
 }
 
 fn run_of<'a>(
@@ -46,35 +54,105 @@ fn run_of<'a>(
     structures: &'a str,
     input: &'a str,
     output: &'a str,
-    profile: &'a Profile,
+    options: &[String],
 ) -> Option<Run<'a>>
-    requires { profile.now ≡ default_settings }
-    ensures { option_map command_view result ≡ command_of (command.now ∷ script.now ∷ structures.now ∷ input.now ∷ output.now ∷ []) }
+    ensures { option_map command_view result ≡ command_of (command.now ∷ script.now ∷ structures.now ∷ input.now ∷ output.now ∷ map string_bytes options.now) }
 {
-    if command == "run"
-        && is_path(script)
-        && is_path(structures)
-        && is_path(input)
-        && is_path(output)
+    if command != "run"
+        || !is_path(script)
+        || !is_path(structures)
+        || !is_path(input)
+        || !is_path(output)
     {
-        Some(Run {
+        return None;
+    }
+    match profile_of(options) {
+        Some(profile) => Some(Run {
             script,
             structures,
             input,
             output,
             profile,
-        })
-    } else {
-        None
+        }),
+        None => None,
     }
 }
 
-/// Six digits after the point, and halves go away from zero.
-pub fn default_profile() -> Profile
-    ensures { result ≡ default_settings }
+// The profile that options give.
+fn profile_of(options: &[String]) -> Option<Profile>
+    ensures { result ≡ settings_in (map string_bytes options.now) }
 {
-    match Profile::new(6, Rounding::HalfUp) {
-        Some(profile) => profile,
-        None => unreachable!(),
+    match options {
+        [] => profile(6, Rounding::HalfUp),
+        [name, value] => one_set(setting_of(name.as_str(), value.as_str())?),
+        [name, value, other, its_value] => both_set(
+            setting_of(name.as_str(), value.as_str())?,
+            setting_of(other.as_str(), its_value.as_str())?,
+        ),
+        _ => None,
     }
+}
+
+fn profile(scale: u8, rounding: Rounding) -> Option<Profile>
+    ensures { result ≡ settings_with scale rounding }
+{
+    Profile::new(scale, rounding)
+}
+
+// One option beside the default of the other.
+fn one_set(setting: Setting) -> Option<Profile>
+    ensures { result ≡ one_set (setting_view setting) }
+{
+    match setting {
+        Setting::Scale(scale) => profile(scale, Rounding::HalfUp),
+        Setting::Rounding(rounding) => profile(6, rounding),
+    }
+}
+
+// Each of the two options once.
+fn both_set(first: Setting, second: Setting) -> Option<Profile>
+    ensures { result ≡ both_set (setting_view first) (setting_view second) }
+{
+    match (first, second) {
+        (Setting::Scale(scale), Setting::Rounding(rounding)) => profile(scale, rounding),
+        (Setting::Rounding(rounding), Setting::Scale(scale)) => profile(scale, rounding),
+        _ => None,
+    }
+}
+
+// What an option of this name and value sets.
+fn setting_of(name: &str, value: &str) -> Option<Setting>
+    ensures { option_map setting_view result ≡ setting_in name.now value.now }
+{
+    if name == "--scale" {
+        return scale_setting(value);
+    }
+    if name == "--round" {
+        return rounding_setting(value);
+    }
+    None
+}
+
+fn scale_setting(value: &str) -> Option<Setting>
+    ensures { option_map setting_view result ≡ option_map scale (scale_in value.now) }
+{
+    match value.as_bytes() {
+        [digit] if digit.is_ascii_digit() => Some(Setting::Scale(*digit - b'0')),
+        _ => None,
+    }
+}
+
+fn rounding_setting(value: &str) -> Option<Setting>
+    ensures { option_map setting_view result ≡ option_map rounding (rounding_in value.now) }
+{
+    if value == "half_up" {
+        return Some(Setting::Rounding(Rounding::HalfUp));
+    }
+    if value == "half_even" {
+        return Some(Setting::Rounding(Rounding::HalfEven));
+    }
+    if value == "down" {
+        return Some(Setting::Rounding(Rounding::Down));
+    }
+    None
 }

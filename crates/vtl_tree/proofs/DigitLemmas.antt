@@ -9,7 +9,7 @@ use Rattle.std.proofs.lemmas.Bool.Decides.{nat_tests}
 use Rattle.std.proofs.lemmas.List.Elements.{All-cons, All-nil}
 use Rattle.std.proofs.lemmas.Str.{chars-IsAscii, encodes-IsAscii}
 use Rattle.std.proofs.lemmas.Str.Ascii.{IsAscii-from_all}
-use Rattle.vtl_tree.specs.Built.{integer_limit, number_of}
+use Rattle.vtl_tree.specs.Built.{integer_limit, number_written}
 
 digit-ascii : (byte : ℕ) → is_ascii_digit byte ≡ true → byte < 128
 digit-ascii byte e = grind (arith, nat_tests, e)
@@ -24,8 +24,8 @@ digits-ascii : (digits : List ℕ) → all_ascii_digits digits ≡ true → IsAs
 digits-ascii digits e = IsAscii-from_all digits (digits-small digits e)
 
 -- digits that `parse` refuses write no number that a literal may have
-pub number_of-refused : (digits : List ℕ) → ¬ ((0 < length digits) × (digits_value 10 digits < 2 ^ 64)) → number_of digits ≡ None
-number_of-refused digits refused = by (length digits == 0) (all_ascii_digits digits) (nat_lt (digits_value 10 digits) integer_limit) refl refl
+pub number_written-refused : (digits : List ℕ) → ¬ ((0 < length digits) × (digits_value 10 digits < 2 ^ 64)) → number_written digits ≡ None
+number_written-refused digits refused = by (length digits == 0) (all_ascii_digits digits) (nat_lt (digits_value 10 digits) integer_limit) refl refl
   where
     by : (none all below : Bool) → (length digits == 0) ≡ none → nat_lt (digits_value 10 digits) integer_limit ≡ below
         → cond (not none && (all && below)) (Some (pos (digits_value 10 digits))) None ≡ None
@@ -42,7 +42,7 @@ pub digits-characters : (bytes text : List ℕ) → all_ascii_digits bytes ≡ t
 digits-characters bytes text all is = sym (chars-IsAscii bytes (digits-ascii bytes all)) ∙ is
 
 -- a text whose bytes are not all digits writes no number
-pub no-digits : (bytes text : List ℕ) → all_ascii_digits bytes ≡ false → bytes ≡ encode_utf8_all text → number_of text ≡ None
+pub no-digits : (bytes text : List ℕ) → all_ascii_digits bytes ≡ false → bytes ≡ encode_utf8_all text → number_written text ≡ None
 no-digits bytes text other is = elim (cases_Bool (all_ascii_digits text)) [
   | inl all ↦ cc (sym (ap all_ascii_digits (is ∙ encodes-IsAscii text (digits-ascii text all))) ∙ other, all)
   | inr none ↦ by (length text == 0) (nat_lt (digits_value 10 text) integer_limit) none

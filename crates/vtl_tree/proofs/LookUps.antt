@@ -2,16 +2,24 @@
 use Rattle.std.proofs.Common.{◌≡◌, ℕ, List, [], ◌∷◌, ◌++◌, Bool, true, false, cond, take, Option, Some, None, refl, sym, ap, ◌∙◌, subst, true≢false}
 use Rattle.std.specs.List.{filter, AllByRecursion}
 use Rattle.vtl_lists.specs.Perm.{Perm, empty, keep, cross, chain}
+use Rattle.vtl_lists.proofs.Aparts.{all_apart-Perm, apart_parts}
 use Rattle.vtl_lists.proofs.Perms.{Perm-same, Perm-sym, Perm-middle}
 use Rattle.vtl_lists.proofs.Sorts.{AllByRecursion-filter}
-use Rattle.vtl_cell.specs.Row.{Row, same_row}
-use Rattle.vtl_cell.proofs.Rows.{same_row-is, same_row-refl, same_row-sym}
-use Rattle.vtl_tree.specs.DataSet.{Apart, Distinct, look}
+use Rattle.vtl_cell.specs.Row.{Row, same_key, same_row}
+use Rattle.vtl_cell.proofs.Rows.{same_key-sym, same_row-is, same_row-refl, same_row-sym}
+use Rattle.vtl_tree.specs.DataSet.{Distinct, look}
 use Rattle.vtl_tree.specs.Kept.{kept_row}
 
 weaker : {X : Type 0} (P Q : X → Type 0) → ((x : X) → P x → Q x) → (xs : List X) → AllByRecursion P xs → AllByRecursion Q xs
 weaker P Q f [] all = tt
 weaker P Q f (x ∷ xs) all = (f x all.0, weaker P Q f xs all.1)
+
+-- the rows whose keys differ from that of a row, and what it is for the first point to differ from all others
+abbrev Apart : ℕ → Row → Row → Type 0
+Apart n r s = same_key n r s ≡ false
+
+first_apart : (n : ℕ) (r : Row) (d : List Row) → Distinct n (r ∷ d) → AllByRecursion (Apart n r) d × Distinct n d
+first_apart n r d s = apart_parts (same_key n) r d s
 
 -- a key that no row has
 look_nowhere : (n : ℕ) (k : Row) (d : List Row) → AllByRecursion (λ r. same_row (take n r) k ≡ false) d → look n d k ≡ None
@@ -32,16 +40,9 @@ look_filter_at n p r d k false false e h ih gone = ih
 pub look-filter : (n : ℕ) (p : Row → Bool) (d : List Row) (k : Row) → Distinct n d → look n (filter p d) k ≡ kept_row p (look n d k)
 look-filter n p [] k s = refl
 look-filter n p (r ∷ d) k s =
-    look_filter_at n p r d k (same_row (take n r) k) (p r) refl refl (look-filter n p d k s.1)
-    (λ e. look_nowhere n k (filter p d) (AllByRecursion-filter (λ t. same_row (take n t) k ≡ false) p d (apart_key n r k d s.0 e)))
-
-distinct_cond : (n : ℕ) (b : Bool) (r : Row) (d : List Row) → AllByRecursion (Apart n r) d → Distinct n d → Distinct n (cond b (r ∷ d) d)
-distinct_cond n true r d a s = (a, s)
-distinct_cond n false r d a s = s
-
-pub Distinct-filter : (n : ℕ) (p : Row → Bool) (d : List Row) → Distinct n d → Distinct n (filter p d)
-Distinct-filter n p [] s = tt
-Distinct-filter n p (r ∷ d) s = distinct_cond n (p r) r (filter p d) (AllByRecursion-filter (Apart n r) p d s.0) (Distinct-filter n p d s.1)
+    let parts = first_apart n r d s in
+    look_filter_at n p r d k (same_row (take n r) k) (p r) refl refl (look-filter n p d k parts.1)
+    (λ e. look_nowhere n k (filter p d) (AllByRecursion-filter (λ t. same_row (take n t) k ≡ false) p d (apart_key n r k d parts.0 e)))
 
 -- ---- look-ups and order
 look_cross : (n : ℕ) (x y : Row) (k : Row) (o : Option Row) (a b : Bool) → same_row (take n x) k ≡ a → same_row (take n y) k ≡ b → Apart n x y → cond a (Some x) (cond b (Some y) o) ≡ cond b (Some y) (cond a (Some x) o)
@@ -50,25 +51,13 @@ look_cross n x y k o true false e h ap' = refl
 look_cross n x y k o false true e h ap' = refl
 look_cross n x y k o false false e h ap' = refl
 
-apart-sym : (n : ℕ) (x y : Row) → Apart n x y → Apart n y x
-apart-sym n x y h = same_row-sym (take n y) (take n x) ∙ h
-
-pub all_through : {X : Type 0} (P : X → Type 0) {xs ys : List X} → Perm xs ys → AllByRecursion P xs → AllByRecursion P ys
-all_through P empty all = tt
-all_through P (keep x p) all = (all.0, all_through P p all.1)
-all_through P (cross x y xs) all = (all.1.0, (all.0, all.1.1))
-all_through P (chain p q) all = all_through P q (all_through P p all)
-
-pub Distinct-Perm : (n : ℕ) {xs ys : List Row} → Perm xs ys → Distinct n xs → Distinct n ys
-Distinct-Perm n empty s = tt
-Distinct-Perm n (keep x p) s = (all_through (Apart n x) p s.0, Distinct-Perm n p s.1)
-Distinct-Perm n (cross x y xs) s = ((apart-sym n x y s.0.0, s.1.0), (s.0.1, s.1.1))
-Distinct-Perm n (chain p q) s = Distinct-Perm n q (Distinct-Perm n p s)
+Distinct-Perm : (n : ℕ) {xs ys : List Row} → Perm xs ys → Distinct n xs → Distinct n ys
+Distinct-Perm n p s = sym (all_apart-Perm (same_key n) (same_key-sym n) p) ∙ s
 
 pub look_respects : (n : ℕ) (k : Row) {xs ys : List Row} → Perm xs ys → Distinct n xs → look n xs k ≡ look n ys k
 look_respects n k empty s = refl
-look_respects n k (keep x p) s = ap (cond (same_row (take n x) k) (Some x)) (look_respects n k p s.1)
-look_respects n k (cross x y xs) s = look_cross n x y k (look n xs k) (same_row (take n x) k) (same_row (take n y) k) refl refl s.0.0
+look_respects n k (keep x {xs} {ys} p) s = ap (cond (same_row (take n x) k) (Some x)) (look_respects n k p (first_apart n x xs s).1)
+look_respects n k (cross x y xs) s = look_cross n x y k (look n xs k) (same_row (take n x) k) (same_row (take n y) k) refl refl (first_apart n x (y ∷ xs) s).0.0
 look_respects n k (chain p q) s = look_respects n k p s ∙ look_respects n k q (Distinct-Perm n p s)
 
 -- the row that a look-up gives stands in the list
@@ -96,6 +85,7 @@ Perm-from_look n [] (y ∷ ys) s t all = let bad : None ≡ Some y = all (take n
 Perm-from_look n (x ∷ xs) ys s t all =
     let f = found_split n (take n x) ys x (sym (all (take n x)) ∙ look_own n x xs) in
     let p : Perm ys (x ∷ (f.0 ++ f.1)) = chain (Perm-same _ _ f.2) (Perm-middle f.0 x f.1) in
-    let u = Distinct-Perm n p t in
-    let rest = look_tail n x xs (f.0 ++ f.1) s.0 u.0 (λ k. all k ∙ look_respects n k p t) in
-    chain (keep x (Perm-from_look n xs (f.0 ++ f.1) s.1 u.1 rest)) (Perm-sym p)
+    let own = first_apart n x xs s in
+    let others = first_apart n x (f.0 ++ f.1) (Distinct-Perm n p t) in
+    let rest = look_tail n x xs (f.0 ++ f.1) own.0 others.0 (λ k. all k ∙ look_respects n k p t) in
+    chain (keep x (Perm-from_look n xs (f.0 ++ f.1) own.1 others.1 rest)) (Perm-sym p)

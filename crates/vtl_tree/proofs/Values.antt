@@ -1,5 +1,5 @@
 -- The operands that are left to evaluate.
-use Rattle.std.proofs.Common.{rules, Vec, Global, ◌≡◌, Bool, true, false, Option, Some, None, arith, suc, ℕ, ◌+◌, ◌<◌, ◌≤◌, List, [], ◌∷◌, ◌++◌, length, get_or, drop, map, Result, Ok, Err, subst, refl, sym, ap, ◌∙◌, append_assoc}
+use Rattle.std.proofs.Common.{rules, Vec, Global, ◌≡◌, Bool, true, false, Option, Some, arith, suc, ℕ, ◌+◌, ◌<◌, ◌≤◌, List, [], ◌∷◌, ◌++◌, length, get_or, drop, map, Result, Ok, Err, subst, refl, sym, ap, ◌∙◌, append_assoc}
 use Rattle.std.proofs.lemmas.Bool.{eqb-true}
 use Rattle.std.proofs.lemmas.List.{append-nil, drop_more, drop_all, drop-map}
 use Rattle.vtl_cell.specs.declared.cell.Cell.{Cell}

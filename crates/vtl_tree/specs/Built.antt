@@ -6,7 +6,7 @@ use Rattle.std.specs.Str.Parse.{digits_value}
 use Rattle.vtl_cell.specs.declared.cell.Cell.{Cell}
 use Rattle.vtl_cell.specs.declared.cell.Cell.TheVariants as c
 use Rattle.vtl_syntax.specs.Trees as tree
-use Rattle.vtl_syntax.specs.Trees.{Brack, Exp, ScriptTree, StatementTree}
+use Rattle.vtl_syntax.specs.Trees.{ClauseTree, Exp, ScriptTree, StatementTree}
 use Rattle.vtl_syntax.specs.declared.parts.Comp.{Comp}
 use Rattle.vtl_syntax.specs.declared.parts.Comp.TheVariants as comp
 use Rattle.vtl_syntax.specs.declared.parts.Constant.{Constant}
@@ -36,8 +36,8 @@ abbrev pub integer_limit : ℕ
 integer_limit = 1_000_000_000_000
 
 -- the number that digits write, if there are any, and nothing else, and it is below the limit
-abbrev pub number_of : List ℕ → Option ℤ
-number_of digits =
+abbrev pub number_written : List ℕ → Option ℤ
+number_written digits =
     if not (length digits == 0) && (all_ascii_digits digits && nat_lt (digits_value 10 digits) integer_limit) then Some (pos (digits_value 10 digits)) else None
 
 -- one of the six comparisons
@@ -51,13 +51,13 @@ comparison_of sign.GreaterOrEqual = Some op.GreaterOrEqual
 comparison_of _ = None
 
 -- the value of a literal: of an integer below the limit, or of a string
-abbrev pub cell_of : Constant → Option Cell
-cell_of (constant.Number (numeral.Integer digits)) = option_map c.Int (number_of digits)
-cell_of (constant.String text) = Some (c.Text text)
-cell_of _ = None
+abbrev pub constant_value : Constant → Option Cell
+constant_value (constant.Number (numeral.Integer digits)) = option_map c.Int (number_written digits)
+constant_value (constant.String text) = Some (c.Text text)
+constant_value _ = None
 
 abbrev pub literal_in : Exp → Option Cell
-literal_in (tree.constant literal) = cell_of literal
+literal_in (tree.constant literal) = constant_value literal
 literal_in _ = None
 
 -- the name of a component, quoted or not
@@ -65,9 +65,9 @@ abbrev pub name_of : Comp → List ℕ
 name_of (comp.Name name) = name
 name_of (comp.Quoted name) = name
 
-abbrev pub component_in : Exp → Option (List ℕ)
-component_in (tree.component c) = Some (name_of c)
-component_in _ = None
+abbrev pub component_named : Exp → Option (List ℕ)
+component_named (tree.component c) = Some (name_of c)
+component_named _ = None
 
 -- the name of a data set, which is not quoted
 abbrev pub plain_name_of : Comp → Option (List ℕ)
@@ -84,12 +84,12 @@ compared_with _ _ _ = None
 
 -- `C op L`
 unfoldable pub compared_in : Exp → Option Compared
-compared_in (tree.binary left between right) = compared_with (component_in left) (comparison_of between) (literal_in right)
+compared_in (tree.binary left between right) = compared_with (component_named left) (comparison_of between) (literal_in right)
 compared_in _ = None
 
 -- `filter C op L`
-abbrev pub filter_clause : Brack → Option Compared
-filter_clause (tree.filtering condition) = compared_in condition
+abbrev pub filter_clause : ClauseTree → Option Compared
+filter_clause (tree.filter condition) = compared_in condition
 filter_clause _ = None
 
 abbrev pub filter_with : List ℕ → Option (List ℕ) → Option Compared → Option Filter
@@ -100,12 +100,12 @@ filter_with result (Some operand) (Some compared) =
 filter_with result _ _ = None
 
 -- `D [filter C op L]`, as the value of R
-unfoldable pub value_of : List ℕ → Exp → Option Filter
-value_of result (tree.clause operand clause) = filter_with result (operand_in operand) (filter_clause clause)
-value_of result _ = None
+unfoldable pub filter_value : List ℕ → Exp → Option Filter
+filter_value result (tree.with_clause operand clause) = filter_with result (operand_in operand) (filter_clause clause)
+filter_value result _ = None
 
 abbrev pub statement_of : StatementTree → Option Filter
-statement_of (tree.assignment result assigned.Persistent value) = value_of result value
+statement_of (tree.assignment result assigned.Persistent value) = filter_value result value
 statement_of _ = None
 
 -- the statement of a script that is built

@@ -1,9 +1,10 @@
 -- Data sets. A data set is a structure and the list of its points up to order; a point is a row of cells in column order.
 use Rattle.std.specs.Prelude.{◌≡◌, ℕ, Bool, true, false, cond, not, ◌&&◌, List, [], ◌∷◌, take, Option, Some, None}
 use Rattle.std.specs.List.{AllByRecursion}
+use Rattle.vtl_lists.specs.Apart.{all_apart}
 use Rattle.vtl_lists.specs.Perm.{Perm}
 use Rattle.vtl_cell.specs.Kinds.{is_null, is_of}
-use Rattle.vtl_cell.specs.Row.{Row, same_row}
+use Rattle.vtl_cell.specs.Row.{Row, same_key, same_row}
 use Rattle.vtl_tree.specs.declared.structure.Role.TheVariants as role
 use Rattle.vtl_tree.specs.declared.structure.Component.{Component}
 use Rattle.vtl_tree.specs.declared.structure.Structure.{Structure}
@@ -16,14 +17,9 @@ is_point [] (v ∷ vs) = false
 is_point (x ∷ xs) [] = false
 is_point (x ∷ xs) (v ∷ vs) = is_of x.kind v && not (same_role x.role role.Identifier && is_null v) && is_point xs vs
 
--- two rows differ in the first n cells, the identifiers
-abbrev pub Apart : ℕ → Row → Row → Type 0
-Apart n r s = same_row (take n r) (take n s) ≡ false
-
--- no two points have the same identifiers
+-- no two points have the same identifiers, which are their first n cells
 abbrev pub Distinct : ℕ → List Row → Type 0
-Distinct n [] = Unit {0}
-Distinct n (r ∷ d) = AllByRecursion (Apart n r) d × Distinct n d
+Distinct n points = all_apart (same_key n) points ≡ true
 
 -- the points are those of a data set of the structure
 pub record IsDataSet (s : Structure) (points : List Row) : Type 0 where

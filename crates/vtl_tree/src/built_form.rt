@@ -3,7 +3,7 @@ ghost use Rattle.std.specs.Prelude.{◌≡◌, IfOk, IsTrue, option_map};
 ghost use Rattle.std.specs.Str.{all_ascii_digits};
 ghost use Rattle.vtl_cell.specs.Kinds.{kind_of};
 ghost use Rattle.vtl_syntax.specs.View.{clause_tree, expr_tree, script_tree, statement_tree};
-ghost use Rattle.vtl_tree.specs.Built.{cell_of, compared_in, comparison_of, component_in, filter_clause, filter_in, is_built, literal_in, name_of, number_of, operand_in, plain_name_of, statement_of, value_of};
+ghost use Rattle.vtl_tree.specs.Built.{constant_value, compared_in, comparison_of, component_named, filter_clause, filter_in, is_built, literal_in, name_of, number_written, operand_in, plain_name_of, statement_of, filter_value};
 ghost use Rattle.vtl_tree.specs.BuiltView.{compared_view, filter_view, literal_cell, scalar_op};
 ghost use Rattle.vtl_tree.specs.Structure.{same_name};
 
@@ -115,7 +115,7 @@ fn is_digits(text: &[u8]) -> bool
 // The number that digits write, if it is below the limit.
 fn digits_number(digits: &str) -> Option<i64>
     requires { IsTrue (all_ascii_digits digits.now) }
-    ensures { result ≡ number_of digits.now }
+    ensures { result ≡ number_written digits.now }
 {
     match digits.parse::<u64>() {
         Ok(value) if value < INTEGER_LIMIT => Some(value as i64),
@@ -125,7 +125,7 @@ fn digits_number(digits: &str) -> Option<i64>
 
 // The number that a text of digits writes, if it is below the limit.
 fn number(text: &Txt) -> Option<i64>
-    ensures { result ≡ number_of text.now }
+    ensures { result ≡ number_written text.now }
 {
     let digits = text.as_str();
     if is_digits(digits.as_bytes()) {
@@ -151,7 +151,7 @@ fn comparison(op: BinaryOp) -> Option<CompareOp>
 
 // The value of a literal that is built.
 fn constant(constant: &Constant) -> Option<FilterLiteral<'_>>
-    ensures { option_map literal_cell result ≡ cell_of constant.now }
+    ensures { option_map literal_cell result ≡ constant_value constant.now }
 {
     match constant {
         Constant::Number(Numeral::Integer(digits)) => match number(digits) {
@@ -191,7 +191,7 @@ fn plain_name(component: &Comp) -> Option<&Txt>
 }
 
 fn component(expr: &Expr) -> Option<&Txt>
-    ensures { option_map (λ name. name.now) result ≡ component_in (expr_tree expr.now) }
+    ensures { option_map (λ name. name.now) result ≡ component_named (expr_tree expr.now) }
 {
     match expr {
         Expr::Component(component) => Some(name(component)),
@@ -240,12 +240,12 @@ fn are_same(left: &Txt, right: &Txt) -> bool
 }
 
 // `D [filter C op L]`, as the value of R
-#[tactic(auto, unfolding(crate::specs::Built::value_of))]
+#[tactic(auto, unfolding(crate::specs::Built::filter_value))]
 fn filter_value<'a>(target: &'a Txt, value: &'a Expr) -> Option<FilterStatement<'a>>
-    ensures { option_map filter_view result ≡ value_of target.now (expr_tree value.now) }
+    ensures { option_map filter_view result ≡ filter_value target.now (expr_tree value.now) }
 {
     match value {
-        Expr::Clause {
+        Expr::WithClause {
             operand: filtered,
             clause,
         } => {

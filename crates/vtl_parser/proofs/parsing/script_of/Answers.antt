@@ -2,6 +2,7 @@ use Rattle.std.proofs.Common.{◌∙◌, length, map, ap, subst, sym}
 use Rattle.std.proofs.lemmas.List.{length-map}
 use Rattle.vtl_grammar.specs.Faults.{SyntaxFault}
 use Rattle.vtl_syntax.specs.View.{statement_tree}
+use Rattle.vtl_parser.proofs.ParsedLemmas.{answered_whole}
 use Rattle.vtl_parser.proofs.Texts.{slice_fits, told_fault, told_script}
 use Rattle.vtl_parser.proofs.parsing.script_of.Goals as goal
 
@@ -14,4 +15,6 @@ returns-in-Some c =
     (told_fault c.args.tokens.now c.in-Ok.read.rest.now c.args.bad (map statement_tree c.in-Ok.read.part) c.in-Some.byte c.in-Ok.ensures (sym c.next_byte.ensures ∙ c.in-Some.is))
 
 pub returns-in-None : goal.returns-in-None
-returns-in-None c = told_script c.args.tokens.now c.in-Ok.read.rest.now c.args.bad (map statement_tree c.in-Ok.read.part) c.in-Ok.ensures (sym c.next_byte.ensures ∙ c.in-None.is)
+returns-in-None c =
+    answered_whole c.args.tokens.now c.args.bad c.in-Ok.read.part c.script.result c.script.ensures
+    (told_script c.args.tokens.now c.in-Ok.read.rest.now c.args.bad (map statement_tree c.in-Ok.read.part) c.in-Ok.ensures (sym c.next_byte.ensures ∙ c.in-None.is))

@@ -1,7 +1,7 @@
 use Rattle.std.proofs.Common.{◌≡◌, drop}
 use Rattle.std.specs.List.{list_any}
 use Rattle.vtl_tree.specs.BuiltView.{compared_view}
-use Rattle.vtl_top.specs.StructuresFile.{is_compared}
+use Rattle.vtl_top.specs.Structures.{is_compared}
 use Rattle.vtl_top.proofs.structures.has_compared.Given as goal
 
 abbrev pub invariant-loop-component : goal.invariant-loop-component

@@ -1,4 +1,4 @@
-use Rattle.std.proofs.Common.{rules, ◌≡◌, get_or, length, true, false, Bool, Some, None, Option, Ok, Err, ◌∙◌, sym, ap, refl}
+use Rattle.std.proofs.Common.{rules, ◌≡◌, get_or, length, true, false, Some, None, Ok, Err, ◌∙◌, sym, ap, refl}
 use Rattle.vtl_cell.specs.declared.cell.Cell.TheVariants as cell
 use Rattle.vtl_tree.specs.Value.{first_chosen, is_choice, result_of, value}
 use Rattle.vtl_tree.specs.View.{exp_of}

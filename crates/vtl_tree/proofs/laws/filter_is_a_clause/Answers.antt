@@ -1,20 +1,22 @@
 use Rattle.std.proofs.Common.{◌≡◌, true}
+use Rattle.vtl_lists.proofs.Aparts.{all_apart-filter}
 use Rattle.vtl_lists.proofs.Perms.{Perm-filter}
 use Rattle.vtl_lists.proofs.Sorts.{AllByRecursion-filter}
 use Rattle.vtl_cell.specs.Outcome.{fault_in}
+use Rattle.vtl_cell.specs.Row.{same_key}
 use Rattle.vtl_tree.specs.Clauses.{is_true}
 use Rattle.vtl_tree.specs.DataSet.{is_point}
 use Rattle.vtl_tree.specs.Structure.{columns_of, key_width}
 use Rattle.vtl_tree.specs.Value.{value}
 use Rattle.vtl_tree.proofs.Faults.{Same_unless, faults_by-Perm}
-use Rattle.vtl_tree.proofs.LookUps.{look-filter, Distinct-filter}
+use Rattle.vtl_tree.proofs.LookUps.{look-filter}
 use Rattle.vtl_tree.proofs.laws.filter_is_a_clause.Goals as goal
 
 pub returns-clause-kept : goal.returns-clause-kept
 returns-clause-kept c = λ p s e d h. record {
   well_formed = h.well_formed;
   typed = AllByRecursion-filter (λ r. is_point (columns_of s) r ≡ true) (λ r. is_true (value p e r)) d h.typed;
-  distinct = Distinct-filter (key_width s) (λ r. is_true (value p e r)) d h.distinct;
+  distinct = all_apart-filter (same_key (key_width s)) (λ r. is_true (value p e r)) d h.distinct;
 }
 
 pub returns-clause-at : goal.returns-clause-at

@@ -1,16 +1,14 @@
 use Rattle.std.proofs.Common.{length, ◌∙◌, ◌+◌, ◌-◌, Some, sym, ap, arith}
 use Rattle.vtl_grammar.specs.Faults.{kinds}
-use Rattle.vtl_grammar.specs.ReadExpressions.{read}
+use Rattle.vtl_grammar.specs.ReadExpressions.{in_turns, operand_step, read}
 use Rattle.vtl_parts.proofs.Turns.{kinds-length}
 use Rattle.vtl_expressions.specs.Reads.{box_tree, got_of}
-use Rattle.vtl_expressions.specs.Turns.{operand_step, turns}
-use Rattle.vtl_expressions.proofs.StepTurns.{operand-turns, turns-full, turns-end, turns-stop, turns-more}
+use Rattle.vtl_expressions.proofs.StepTurns.{turns-full, turns-end, turns-stop, turns-more}
 use Rattle.vtl_expressions.proofs.grammar.Grammar.more_operands.Goals as goal
 
 pub loop-init : goal.loop-init
 loop-init g c =
-    ap (λ k. turns (operand_step c.args.level (read c.args.self.now.budget c.args.right)) k (got_of box_tree c.args.left)) (omega (arith, kinds-length c.args.left.rest.now))
-    ∙ sym (operand-turns c.args.level (read c.args.self.now.budget c.args.right) (length (kinds c.args.left.rest.now)) (box_tree c.args.left.tree) c.args.left.spare (kinds c.args.left.rest.now))
+    ap (λ k. in_turns (operand_step c.args.level (read c.args.self.now.budget c.args.right)) k (got_of box_tree c.args.left)) (omega (arith, kinds-length c.args.left.rest.now))
 
 pub returns-in_err-next : goal.returns-in_err-next
 returns-in_err-next g c = let h = c.in_err-next.ensures in let f = c.from_residual.ensures in let i = c.loop.invariant in let t = c.loop-test.true in grind (arith, turns-stop)

@@ -1,17 +1,15 @@
 use Rattle.std.proofs.Common.{length, ◌∙◌, ◌+◌, ◌-◌, Some, sym, ap, arith}
 use Rattle.vtl_grammar.specs.Faults.{kinds}
-use Rattle.vtl_grammar.specs.ReadExpressions.{read}
+use Rattle.vtl_grammar.specs.ReadExpressions.{in_turns, postfix_step, read}
 use Rattle.vtl_grammar.specs.declared.levels.Level.TheVariants as level
 use Rattle.vtl_parts.proofs.Turns.{kinds-length}
 use Rattle.vtl_expressions.specs.Reads.{box_tree, got_of}
-use Rattle.vtl_expressions.specs.Turns.{postfix_step, turns}
-use Rattle.vtl_expressions.proofs.StepTurns.{postfix-turns, turns-full, turns-end, turns-stop, turns-more}
+use Rattle.vtl_expressions.proofs.StepTurns.{turns-full, turns-end, turns-stop, turns-more}
 use Rattle.vtl_expressions.proofs.grammar.Grammar.more_postfix.Goals as goal
 
 pub loop-init : goal.loop-init
 loop-init g c =
-    ap (λ k. turns (postfix_step c.args.self.now.budget (read c.args.self.now.budget level.Expression)) k (got_of box_tree c.args.operand)) (omega (arith, kinds-length c.args.operand.rest.now))
-    ∙ sym (postfix-turns c.args.self.now.budget (read c.args.self.now.budget level.Expression) (length (kinds c.args.operand.rest.now)) (box_tree c.args.operand.tree) c.args.operand.spare (kinds c.args.operand.rest.now))
+    ap (λ k. in_turns (postfix_step c.args.self.now.budget (read c.args.self.now.budget level.Expression)) k (got_of box_tree c.args.operand)) (omega (arith, kinds-length c.args.operand.rest.now))
 
 pub returns-in_err-next : goal.returns-in_err-next
 returns-in_err-next g c = let h = c.in_err-next.ensures in let f = c.from_residual.ensures in let i = c.loop.invariant in let t = c.loop-test.true in grind (arith, turns-stop)

@@ -1,6 +1,6 @@
-use Rattle.std.proofs.Common.{sym, subst, ap, ◌∙◌}
+use Rattle.std.proofs.Common.{sym, ap, ◌∙◌}
 use Rattle.vtl_tree.proofs.StructuresLemmas.{began, not_there, one_is_declarable, pushed_added, pushed_are, pushed_kept}
-use Rattle.vtl_tree.specs.Structures.{AreStructures, Fits, components_of, has_name, is_declarable}
+use Rattle.vtl_tree.specs.Structures.{has_name, is_declarable}
 use Rattle.vtl_tree.proofs.structures.Structures.add.Goals as goal
 
 pub invariant_of-self : goal.invariant_of-self

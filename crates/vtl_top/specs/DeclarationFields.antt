@@ -1,7 +1,0 @@
--- The fields of a line as a declaration.
-use Rattle.vtl_top.specs.declared.structures.Declaration.{Declaration as Fields}
-use Rattle.vtl_top.specs.StructuresFile.{Declaration}
-
--- the declaration that has these fields
-abbrev pub declaration_fields : Fields → Declaration
-declaration_fields d = record { dataset = d.dataset.now; component = d.component.now; role = d.role.now; kind = d.kind.now; code_list = d.code_list.now }
