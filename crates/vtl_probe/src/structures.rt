@@ -88,7 +88,7 @@ fn push_codes(
 
 // A field of a CSV file, in quotes where it has to be.
 fn push_field(out: &mut String, field: &str) -> Result<(), AllocError> {
-    if !field.chars().any(|c| matches!(c, ',' | '"' | '\n' | '\r')) {
+    if !needs_quotes(field) {
         return out.push_str(field);
     }
     out.push('"')?;
@@ -99,6 +99,15 @@ fn push_field(out: &mut String, field: &str) -> Result<(), AllocError> {
         out.push(c)?;
     }
     out.push('"')
+}
+
+fn needs_quotes(field: &str) -> bool {
+    for c in field.chars() {
+        if matches!(c, ',' | '"' | '\n' | '\r') {
+            return true;
+        }
+    }
+    false
 }
 
 // How many data sets are read of a large structures file, so many times.
@@ -138,12 +147,15 @@ fn large(alloc: Global, filling: Filling) -> Result<String, AllocError> {
 
 fn push_part(out: &mut String, filling: Filling, part: usize) -> Result<(), AllocError> {
     match filling {
-        Filling::Records => {
-            let (dataset, place) = (part / 64, part % 64);
-            let role = if place == 0 { "identifier" } else { "measure" };
-            writeln!(out, "d{dataset},c{place},{role},date,")
-        }
+        Filling::Records => push_short_record(out, part / 64, part % 64),
         Filling::DataSets => writeln!(out, "d{part},c,identifier,date,"),
         Filling::Codes => write!(out, "|{part}"),
     }
+}
+
+// The first component of a data set is its identifier.
+fn push_short_record(out: &mut String, dataset: usize, place: usize) -> Result<(), AllocError> {
+    write!(out, "d{dataset},c{place},")?;
+    out.push_str(if place == 0 { "identifier" } else { "measure" })?;
+    out.push_str(",date,\n")
 }

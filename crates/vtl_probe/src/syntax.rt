@@ -17,24 +17,23 @@ enum Answer {
 // The one owner of trees. The script is told by its tree, or by the number of its statements.
 fn read(alloc: Global, text: &str, with_tree: bool) -> Result<Answer, Trouble> {
     match parse(alloc, text) {
-        Ok(found) => answer(told(alloc, &found, with_tree)),
+        Ok(found) => match told(alloc, &found, with_tree) {
+            Ok(text) => Ok(Answer::Script(text)),
+            Err(error) => Err(Trouble::Memory(error)),
+        },
         Err(ParseErr::Syntax { done, byte }) => Ok(Answer::Fault { done, byte }),
         Err(ParseErr::OutOfMemory) => Err(Trouble::Memory(AllocError)),
     }
 }
 
-fn told(alloc: Global, found: &Script, with_tree: bool) -> Lines {
+fn told(alloc: Global, found: &Script, with_tree: bool) -> Result<String, AllocError> {
     let mut lines = Lines::new(alloc);
     if with_tree {
         script(&mut lines, found);
     } else {
         lines.word(&found.statements.as_slice().len());
     }
-    lines
-}
-
-fn answer(lines: Lines) -> Result<Answer, Trouble> {
-    Ok(Answer::Script(lines.into_text()?))
+    lines.into_text()
 }
 
 // The tree of the text, or the line of its fault.

@@ -13,16 +13,17 @@ fn listed(
 ) -> Result<String, AllocError> {
     let mut out = String::new(alloc);
     for token in tokens {
-        write!(
-            out,
-            "{:?} {} {}{separator}",
-            token.kind, token.start, token.end
-        )?;
+        push_token(&mut out, token)?;
+        out.push_str(separator)?;
     }
     if let Some(byte) = bad {
         write!(out, "error: no token at byte {byte}{separator}")?;
     }
     Ok(out)
+}
+
+fn push_token(out: &mut String, token: &Token) -> Result<(), AllocError> {
+    write!(out, "{:?} {} {}", token.kind, token.start, token.end)
 }
 
 // The tokens on one line.

@@ -4,38 +4,47 @@ use crate::parts::{
     after, clause_words, comp, comps, constant, error, group, hier_rule, last, maybe_comps,
     maybe_text, maybe_word,
 };
-use vtl_syntax::{Clause, Expr, PointRule, Script, Statement, Targets};
+use vtl_syntax::{
+    CalcPart, Clause, Comp, Expr, HierRule, JoinPart, PointRule, Script, Statement, Targets,
+};
+use vtl_text::Txt;
 
 // What stands before the expressions that are parts of this one.
 fn before(out: &mut Lines, e: &Expr) {
     match e {
         Expr::Component(c) => comp(out, c),
         Expr::Constant(c) => constant(out, c),
-        Expr::Brackets(_) => out.open("brackets"),
-        Expr::WithClause { .. } => out.open("clause"),
-        Expr::Member { .. } => out.open("member"),
-        Expr::If { .. } => out.open("if"),
         Expr::Binary { op, .. } => out.open_word(op),
-        Expr::InSet { negated, .. } => out.open(if *negated { "not_in" } else { "in" }),
         Expr::Unary { op, .. } => out.open_word(op),
         Expr::Function { function, .. } => out.open_word(function),
         Expr::SetOp { operator, .. } => out.open_word(operator),
         Expr::Difference { operator, .. } => out.open_word(operator),
-        Expr::ExistsIn { .. } => out.open("exists_in"),
         Expr::Aggregate { function, .. } | Expr::AggregateOver { function, .. } => out.open_word(
             function,
         ),
         Expr::ValueWindow { function, .. } => out.open_word(function),
         Expr::Shift { function, .. } => out.open_word(function),
-        Expr::Rank(_) => out.open("rank"),
-        Expr::Check { .. } => out.open("check"),
-        Expr::CheckDatapoint { .. } => out.open("check_datapoint"),
-        Expr::CheckHierarchy { .. } => out.open("check_hierarchy"),
-        Expr::Hierarchy { .. } => out.open("hierarchy"),
-        Expr::Join { kind, .. } => {
-            out.open("join");
-            out.word(kind);
-        }
+        _ => out.open(head(e)),
+    }
+}
+
+// The word that names an expression of a kind that has one form.
+fn head(e: &Expr) -> &'static str {
+    match e {
+        Expr::Brackets(_) => "brackets",
+        Expr::WithClause { .. } => "clause",
+        Expr::Member { .. } => "member",
+        Expr::If { .. } => "if",
+        Expr::InSet { negated: true, .. } => "not_in",
+        Expr::InSet { .. } => "in",
+        Expr::ExistsIn { .. } => "exists_in",
+        Expr::Rank(_) => "rank",
+        Expr::Check { .. } => "check",
+        Expr::CheckDatapoint { .. } => "check_datapoint",
+        Expr::CheckHierarchy { .. } => "check_hierarchy",
+        Expr::Hierarchy { .. } => "hierarchy",
+        Expr::Join { .. } => "join",
+        _ => "?",
     }
 }
 
@@ -111,18 +120,15 @@ fn mixed(out: &mut Lines, e: &Expr) {
             maybe(out, "imbalance", imbalance);
         }
         Expr::Join {
+            kind,
             operands,
             using,
             filter,
             targets: made,
             ..
         } => {
-            for part in operands {
-                out.open("operand");
-                expr(out, &part.operand);
-                maybe_text(out, "as", &part.alias);
-                out.close();
-            }
+            out.word(kind);
+            joined(out, operands);
             maybe_comps(out, "using", using);
             maybe(out, "filter", filter);
             if let Some(made) = made {
@@ -130,6 +136,16 @@ fn mixed(out: &mut Lines, e: &Expr) {
             }
         }
         _ => {}
+    }
+}
+
+#[cycle(show)]
+fn joined(out: &mut Lines, operands: &Vec<JoinPart>) {
+    for part in operands {
+        out.open("operand");
+        expr(out, &part.operand);
+        maybe_text(out, "as", &part.alias);
+        out.close();
     }
 }
 
@@ -157,16 +173,27 @@ fn clause(out: &mut Lines, c: &Clause) {
 
 #[cycle(show)]
 fn targets(out: &mut Lines, made: &Targets) {
-    let parts = match made {
+    match made {
         Targets::Calc(parts) => {
             out.open("calc");
-            parts
+            calcs(out, parts);
         }
-        Targets::Aggr { parts, .. } => {
+        Targets::Aggr {
+            parts,
+            group: g,
+            having,
+        } => {
             out.open("aggr");
-            parts
+            calcs(out, parts);
+            group(out, g);
+            maybe(out, "having", having);
         }
-    };
+    }
+    out.close();
+}
+
+#[cycle(show)]
+fn calcs(out: &mut Lines, parts: &Vec<CalcPart>) {
     for part in parts {
         out.open("make");
         maybe_word(out, &part.role);
@@ -174,16 +201,6 @@ fn targets(out: &mut Lines, made: &Targets) {
         expr(out, &part.value);
         out.close();
     }
-    if let Targets::Aggr {
-        group: g,
-        having,
-        ..
-    } = made
-    {
-        group(out, g);
-        maybe(out, "having", having);
-    }
-    out.close();
 }
 
 fn point_rule(out: &mut Lines, rule: &PointRule) {
@@ -199,6 +216,24 @@ fn point_rule(out: &mut Lines, rule: &PointRule) {
     out.close();
 }
 
+fn datapoint(out: &mut Lines, name: &Txt, variables: &[Comp], rules: &[PointRule]) {
+    out.open("datapoint");
+    out.push(name.as_str());
+    comps(out, "variables", variables);
+    for rule in rules {
+        point_rule(out, rule);
+    }
+}
+
+fn hierarchical(out: &mut Lines, name: &Txt, item: &Comp, rules: &[HierRule]) {
+    out.open("hierarchical");
+    out.push(name.as_str());
+    comp(out, item);
+    for rule in rules {
+        hier_rule(out, rule);
+    }
+}
+
 fn statement(out: &mut Lines, s: &Statement) {
     match s {
         Statement::Assignment { name, kind, value } => {
@@ -212,12 +247,7 @@ fn statement(out: &mut Lines, s: &Statement) {
             rules,
             last_semicolon,
         } => {
-            out.open("datapoint");
-            out.push(name.as_str());
-            comps(out, "variables", variables.as_slice());
-            for rule in rules.as_slice() {
-                point_rule(out, rule);
-            }
+            datapoint(out, name, variables.as_slice(), rules.as_slice());
             last(out, *last_semicolon);
         }
         Statement::Hierarchical {
@@ -226,12 +256,7 @@ fn statement(out: &mut Lines, s: &Statement) {
             rules,
             last_semicolon,
         } => {
-            out.open("hierarchical");
-            out.push(name.as_str());
-            comp(out, item);
-            for rule in rules.as_slice() {
-                hier_rule(out, rule);
-            }
+            hierarchical(out, name, item, rules.as_slice());
             last(out, *last_semicolon);
         }
     }
