@@ -18,17 +18,18 @@ use Rattle.vtl_csv.specs.StructuresFile.{Fault, after_record, at_line, is_header
 use Rattle.vtl_csv.proofs.DeclarationLemmas.{record_fits}
 use Rattle.vtl_top.specs.Structures.{built_with, is_built, is_compared, is_free, operand_in}
 
-Records : Type 0
+abbrev pub Records : Type 0
 Records = List (List (List ℕ))
 
 -- ---- declared lines are structures
 pub lines_are : (line : ℕ) (so_far : Named) (rs : Records) (all : Named) → AreStructures so_far → lines_declare line so_far rs ≡ Ok all → AreStructures all
 lines_are line so_far [] all h e = let same : so_far ≡ all = cc in subst (λ xs. AreStructures xs) same h
-lines_are line so_far (fields ∷ rest) all h e = go (record_of so_far fields) refl e
+lines_are line so_far (fields ∷ rest) all h e = go (λ new a q. lines_are (line + 1) new rest all a q) (record_of so_far fields) refl e
   where
-    go : (r : Result (List ℕ × Component) ℕ) → record_of so_far fields ≡ r → at_line line (λ new. lines_declare (line + 1) new rest) (after_record so_far r) ≡ Ok all → AreStructures all
-    go (Err rule) is q = cc
-    go (Ok p) is q = lines_are (line + 1) (with_component p.0 p.1 so_far) rest all (add_are so_far p.0 p.1 h (record_fits so_far fields p is)) q
+    go : ((new : Named) → AreStructures new → lines_declare (line + 1) new rest ≡ Ok all → AreStructures all)
+        → (r : Result (List ℕ × Component) ℕ) → record_of so_far fields ≡ r → at_line line (λ new. lines_declare (line + 1) new rest) (after_record so_far r) ≡ Ok all → AreStructures all
+    go ih (Err rule) is q = cc
+    go ih (Ok p) is q = ih (with_component p.0 p.1 so_far) (add_are so_far p.0 p.1 h (record_fits so_far fields p is)) q
 
 -- ---- each data set has a record
 abbrev name_in : List (List ℕ) → Option (List ℕ)
@@ -93,7 +94,7 @@ more_names n name x (y ∷ ys) e = go (same_name name y.0) (more_names n name x 
 -- a name that is declared stood there before, or has a record
 lines_name : (n : List ℕ) (line : ℕ) (so_far : Named) (rs : Records) (all : Named) → lines_declare line so_far rs ≡ Ok all → has_name n all ≡ true → (has_name n so_far || has_record n rs) ≡ true
 lines_name n line so_far [] all e has = let same : so_far ≡ all = cc in ap (λ xs. has_name n xs || false) same ∙ rw has refl
-lines_name n line so_far (fields ∷ rest) all e has = go (record_of so_far fields) refl e
+lines_name n line so_far (fields ∷ rest) all e has = go (λ new q. lines_name n (line + 1) new rest all q has) (record_of so_far fields) refl e
   where
     join : (a b c : Bool) → (a || b) ≡ true → (b || (a || c)) ≡ true
     join true true c e = refl
@@ -107,17 +108,18 @@ lines_name n line so_far (fields ∷ rest) all e has = go (record_of so_far fiel
     later true false c false h e = refl
     later false false c false h e = e
 
-    go : (r : Result (List ℕ × Component) ℕ) → record_of so_far fields ≡ r → at_line line (λ new. lines_declare (line + 1) new rest) (after_record so_far r) ≡ Ok all → (has_name n so_far || (speaks_of n fields || has_record n rest)) ≡ true
-    go (Err rule) is q = cc
-    go (Ok p) is q =
+    go : ((new : Named) → lines_declare (line + 1) new rest ≡ Ok all → (has_name n new || has_record n rest) ≡ true)
+        → (r : Result (List ℕ × Component) ℕ) → record_of so_far fields ≡ r → at_line line (λ new. lines_declare (line + 1) new rest) (after_record so_far r) ≡ Ok all → (has_name n so_far || (speaks_of n fields || has_record n rest)) ≡ true
+    go ih (Err rule) is q = cc
+    go ih (Ok p) is q =
         let named : speaks_of n fields ≡ same_name n p.0 = ap (λ o. option_map_or (same_name n) o false) (record_names so_far fields p is) in
-        let found = lines_name n (line + 1) (with_component p.0 p.1 so_far) rest all q has in
+        let found = ih (with_component p.0 p.1 so_far) q in
         ap (λ b. has_name n so_far || (b || has_record n rest)) named ∙ later (same_name n p.0) (has_name n so_far) (has_record n rest) (has_name n (with_component p.0 p.1 so_far)) (more_names n p.0 p.1 so_far) found
 
 -- a data set with a record has an identifier, where no record lacks one
 record_identifies : (n : List ℕ) (line : ℕ) (all : Named) (rs : Records) → without_identifier line all rs ≡ None → has_record n rs ≡ true → list_any is_identifier (components_of n all) ≡ true
 record_identifies n line all [] e has = cc
-record_identifies n line all (fields ∷ rest) e has = go (lacks_identifier all fields) refl (speaks_of n fields) refl e has
+record_identifies n line all (fields ∷ rest) e has = go (record_identifies n (line + 1) all rest) (lacks_identifier all fields) refl (speaks_of n fields) refl e has
   where
     same_as : (m : List ℕ) → same_name n m ≡ true → n ≡ m
     same_as m e = (bytes_decides n m).0 e
@@ -130,10 +132,11 @@ record_identifies n line all (fields ∷ rest) e has = go (lacks_identifier all 
     named None l s = cc
     named (Some m) l s = ap (λ name. list_any is_identifier (components_of name all)) (same_as m s) ∙ has_one (list_any is_identifier (components_of m all)) l
 
-    go : (b : Bool) → lacks_identifier all fields ≡ b → (t : Bool) → speaks_of n fields ≡ t → cond b (Some line) (without_identifier (line + 1) all rest) ≡ None → (t || has_record n rest) ≡ true → list_any is_identifier (components_of n all) ≡ true
-    go true l t s q h = cc
-    go false l true s q h = named (name_in fields) l s
-    go false l false s q h = record_identifies n (line + 1) all rest q h
+    go : (without_identifier (line + 1) all rest ≡ None → has_record n rest ≡ true → list_any is_identifier (components_of n all) ≡ true)
+        → (b : Bool) → lacks_identifier all fields ≡ b → (t : Bool) → speaks_of n fields ≡ t → cond b (Some line) (without_identifier (line + 1) all rest) ≡ None → (t || has_record n rest) ≡ true → list_any is_identifier (components_of n all) ≡ true
+    go ih true l t s q h = cc
+    go ih false l true s q h = named (name_in fields) l s
+    go ih false l false s q h = ih q h
 
 -- ---- a whole file
 record IsDeclared (rs : Records) (all : Named) : Type 0 where

@@ -161,11 +161,11 @@ fn make_output(
 fn make_outputs(
     alloc: Global,
     columns: &[&Component],
-    run: Run,
+    run: &Run<'_>,
     statement: &FilterStatement<'_>,
     rows: Vec<Vec<Cell>>,
 ) -> Result<Vec<Output>, AllocError>
-    ensures view { IfOk result (λ o. outputs_view o ≡ (file_in (run_view run.entry).output (filter_view statement.now).result, csv_rows (run_view run.entry).settings (shown columns.now) (kept (run_view run.entry).settings (condition_in (shown columns.now) (filter_view statement.now).condition) (rows_of rows.items))) ∷ []) }
+    ensures view { IfOk result (λ o. outputs_view o ≡ (file_in (run_view run.now).output (filter_view statement.now).result, csv_rows (run_view run.now).settings (shown columns.now) (kept (run_view run.now).settings (condition_in (shown columns.now) (filter_view statement.now).condition) (rows_of rows.items))) ∷ []) }
     ensures named { IfOk result (λ o. AllByRecursion NamesPath o.items) }
 {
     let bytes = output_text(alloc, columns, statement.condition, rows, &run.profile)?;
@@ -186,12 +186,12 @@ fn key_count(alloc: Global, structure: &Structure) -> Result<usize, AllocError>
 fn read_input<F: Files>(
     alloc: Global,
     files: &mut F,
-    run: Run,
+    run: &Run<'_>,
     statement: &FilterStatement<'_>,
     columns: &[&Component],
     keys: usize,
 ) -> Result<Vec<Output>, Status>
-    ensures takes { Takes F.Files files.old files.new (input_step (run_view run.entry) (filter_view statement.now) (shown columns.now) keys) outputs_view result }
+    ensures takes { Takes F.Files files.old files.new (input_step (run_view run.now) (filter_view statement.now) (shown columns.now) keys) outputs_view result }
     ensures named { IfOk result (λ o. AllByRecursion NamesPath o.items) }
 {
     let rows = read_points(
@@ -211,11 +211,11 @@ fn read_input<F: Files>(
 fn read_operand<F: Files>(
     alloc: Global,
     files: &mut F,
-    run: Run,
+    run: &Run<'_>,
     statement: &FilterStatement<'_>,
     structure: &Structure,
 ) -> Result<Vec<Output>, Status>
-    ensures takes { Takes F.Files files.old files.new (input_step (run_view run.entry) (filter_view statement.now) (columns_of structure.now) (key_width structure.now)) outputs_view result }
+    ensures takes { Takes F.Files files.old files.new (input_step (run_view run.now) (filter_view statement.now) (columns_of structure.now) (key_width structure.now)) outputs_view result }
     ensures named { IfOk result (λ o. AllByRecursion NamesPath o.items) }
 {
     let columns = structure.columns(alloc)?;
@@ -227,11 +227,11 @@ fn read_operand<F: Files>(
 fn read_by<F: Files>(
     alloc: Global,
     files: &mut F,
-    run: Run,
+    run: &Run<'_>,
     statement: &FilterStatement<'_>,
     structures: &Structures,
 ) -> Result<Vec<Output>, Status>
-    ensures takes { Takes F.Files files.old files.new (operand_step (run_view run.entry) (filter_view statement.now) structures.now) outputs_view result }
+    ensures takes { Takes F.Files files.old files.new (operand_step (run_view run.now) (filter_view statement.now) structures.now) outputs_view result }
     ensures named { IfOk result (λ o. AllByRecursion NamesPath o.items) }
 {
     match operand(structures, statement) {
@@ -244,10 +244,10 @@ fn read_by<F: Files>(
 fn read_declared<F: Files>(
     alloc: Global,
     files: &mut F,
-    run: Run,
+    run: &Run<'_>,
     statement: &FilterStatement<'_>,
 ) -> Result<Vec<Output>, Status>
-    ensures takes { Takes F.Files files.old files.new (declared_step (run_view run.entry) (filter_view statement.now)) outputs_view result }
+    ensures takes { Takes F.Files files.old files.new (declared_step (run_view run.now) (filter_view statement.now)) outputs_view result }
     ensures named { IfOk result (λ o. AllByRecursion NamesPath o.items) }
 {
     match read_structures(alloc, files, run.structures) {
@@ -260,10 +260,10 @@ fn read_declared<F: Files>(
 fn carry_out<F: Files>(
     alloc: Global,
     files: &mut F,
-    run: Run,
+    run: &Run<'_>,
     script: &Script,
 ) -> Result<Vec<Output>, Status>
-    ensures takes { Takes F.Files files.old files.new (statement_step (run_view run.entry) (script_tree script.now)) outputs_view result }
+    ensures takes { Takes F.Files files.old files.new (statement_step (run_view run.now) (script_tree script.now)) outputs_view result }
     ensures named { IfOk result (λ o. AllByRecursion NamesPath o.items) }
 {
     match filter_statement(script) {
@@ -274,8 +274,8 @@ fn carry_out<F: Files>(
 
 /// Reads the files of a run, and makes its outputs: nothing is created. The answer is the outputs, or the first refusal
 /// of the files in the order script, structures file, input; or want of memory at any place.
-pub fn prepare<F: Files>(alloc: Global, files: &mut F, run: Run) -> Result<Vec<Output>, Status>
-    ensures takes { Takes F.Files files.old files.new (run_step (run_view run.entry)) outputs_view result }
+pub fn prepare<F: Files>(alloc: Global, files: &mut F, run: &Run<'_>) -> Result<Vec<Output>, Status>
+    ensures takes { Takes F.Files files.old files.new (run_step (run_view run.now)) outputs_view result }
     ensures named { IfOk result (λ o. AllByRecursion NamesPath o.items) }
 {
     match read_script(alloc, files, run.script) {

@@ -64,20 +64,20 @@ fn answer<F: Files>(alloc: Global, words: &[String], files: &mut F) -> Status
     ensures ends { Ends F.Files files.old files.new (asked_step (command_of (map string_bytes words.now))) result }
 {
     match command_of(words) {
-        Some(run) => carry_out(alloc, files, run),
+        Some(run) => carry_out(alloc, files, &run),
         None => Status::Usage,
     }
 }
 
 // The status of a run.
-fn carry_out<F: Files>(alloc: Global, files: &mut F, run: Run) -> Status
+fn carry_out<F: Files>(alloc: Global, files: &mut F, run: &Run<'_>) -> Status
     requires { F.creating files.old ≡ false }
     ensures held { F.held files.new ≡ F.held files.old }
     ensures misuses { F.misuses files.new ≡ F.misuses files.old }
     ensures faults { F.faults files.old ≤ F.faults files.new }
     ensures absences { F.absences files.old ≤ F.absences files.new }
     ensures usage { result ≢ Status.Usage }
-    ensures ends { Ends F.Files files.old files.new (run_step (run_view run.entry)) result }
+    ensures ends { Ends F.Files files.old files.new (run_step (run_view run.now)) result }
 {
     match prepare(alloc, files, run) {
         Ok(outputs) => write_outputs(files, outputs),

@@ -6,7 +6,7 @@ ghost use Rattle.vtl_top.specs.Words.{both_set, command_of, is_path, one_set, ro
 use vtl_decimal::{Profile, Rounding};
 
 /// The paths of a run, and its profile.
-#[derive(Clone, Copy)]
+#[derive(Drop)]
 pub struct Run<'a> {
     pub script: &'a str,
     pub structures: &'a str,

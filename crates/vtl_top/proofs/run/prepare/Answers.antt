@@ -7,10 +7,10 @@ use Rattle.vtl_top.proofs.run.prepare.Goals as goal
 
 pub returns-in-Ok-clause-takes : goal.returns-in-Ok-clause-takes
 returns-in-Ok-clause-takes g c =
-    let r = run_view c.args.run in
+    let r = run_view c.args.run.now in
     takes_onward g.F.Files (script_step r.script) (statement_step r) c.args.files.now c.read_script.new.files c.carry_out.new.files script_tree outputs_view c.in-Ok.script c.carry_out.result c.in-Ok.ensures c.carry_out.ensures.takes
 
 pub returns-in-Err-clause-takes : goal.returns-in-Err-clause-takes
 returns-in-Err-clause-takes g c =
-    let r = run_view c.args.run in
+    let r = run_view c.args.run.now in
     takes_stopped g.F.Files (script_step r.script) (statement_step r) c.args.files.now c.read_script.new.files script_tree outputs_view c.in-Err.status c.in-Err.ensures

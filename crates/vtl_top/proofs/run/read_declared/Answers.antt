@@ -7,12 +7,12 @@ use Rattle.vtl_top.proofs.run.read_declared.Goals as goal
 
 pub returns-in-Ok-clause-takes : goal.returns-in-Ok-clause-takes
 returns-in-Ok-clause-takes g c =
-    let r = run_view c.args.run in
+    let r = run_view c.args.run.now in
     let s = filter_view c.args.statement.now in
     takes_onward g.F.Files (structures_step r.structures) (operand_step r s) c.args.files.now c.read_structures.new.files c.read_by.new.files (λ x. x) outputs_view c.in-Ok.structures c.read_by.result c.in-Ok.ensures c.read_by.ensures.takes
 
 pub returns-in-Err-clause-takes : goal.returns-in-Err-clause-takes
 returns-in-Err-clause-takes g c =
-    let r = run_view c.args.run in
+    let r = run_view c.args.run.now in
     let s = filter_view c.args.statement.now in
     takes_stopped g.F.Files (structures_step r.structures) (operand_step r s) c.args.files.now c.read_structures.new.files (λ x. x) outputs_view c.in-Err.status c.in-Err.ensures

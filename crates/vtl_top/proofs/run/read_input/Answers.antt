@@ -19,7 +19,7 @@ pub returns-clause-takes : goal.returns-clause-takes
 returns-clause-takes g c =
     let cols = shown c.args.columns.now in
     let s = filter_view c.args.statement.now in
-    let r = run_view c.args.run in
+    let r = run_view c.args.run.now in
     let rows = rows_of c.in_ok-rows.rows.items in
     let out = outputs_view c.in_ok-outputs.outputs in
     let made = λ (x : List Row) (same : in_order x ≡ rows).

@@ -10,7 +10,7 @@ use Rattle.vtl_top.proofs.run.read_operand.Goals as goal
 
 pub returns-clause-takes : goal.returns-clause-takes
 returns-clause-takes g c =
-    let r = run_view c.args.run in
+    let r = run_view c.args.run.now in
     let s = filter_view c.args.statement.now in
     let structure = c.args.structure.now in
     let columns : shown c.deref.result.now ≡ columns_of structure = ap shown c.deref.ensures.value ∙ c.in_ok-columns.ensures in

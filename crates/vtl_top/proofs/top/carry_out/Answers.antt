@@ -5,4 +5,4 @@ use Rattle.vtl_top.proofs.StepLemmas.{ends_refused, ends_written, not_usage}
 use Rattle.vtl_top.proofs.top.carry_out.Goals as goal
 
 pub returns-in-Err-clause-usage : goal.returns-in-Err-clause-usage
-returns-in-Err-clause-usage g c = not_usage g.F.Files c.args.files.now c.prepare.new.files (run_step (run_view c.args.run)) outputs_view c.in-Err.status c.in-Err.ensures.takes
+returns-in-Err-clause-usage g c = not_usage g.F.Files c.args.files.now c.prepare.new.files (run_step (run_view c.args.run.now)) outputs_view c.in-Err.status c.in-Err.ensures.takes
