@@ -154,7 +154,7 @@ file_declares (first ∷ rest) all e = header (is_header first) e
     none_lacks (Err fault) is q = cc
     none_lacks (Ok declared) is q = whole (without_identifier 2 declared rest) refl q
       where
-        whole : (o : Option ℕ) → without_identifier 2 declared rest ≡ o → option_map_or (λ line. Err (line, 10)) o (Ok declared) ≡ Ok all → IsDeclared (first ∷ rest) all
+        whole : (o : Option ℕ) → without_identifier 2 declared rest ≡ o → option_map_or {U = Result Named Fault} (λ line. Err (line, 10)) o (Ok declared) ≡ Ok all → IsDeclared (first ∷ rest) all
         whole (Some line) w q = cc
         whole None w q =
             let same : declared ≡ all = cc in

@@ -25,6 +25,7 @@ use Rattle.vtl_csv.specs.Points.{points_in}
 use Rattle.vtl_top.specs.Structures.{declared, operand_in, structures_in}
 use Rattle.vtl_csv.specs.StructuresFile.{Fault, structures_of_file}
 use Rattle.std.specs.Str.{is_utf8}
+use Rattle.std.proofs.lemmas.Str.{IsUtf8-from_is_utf8, is_utf8-from_IsUtf8}
 use Rattle.std.proofs.Common.{Bool, true, false, cond}
 use Rattle.vtl_top.specs.Kinds.{Told, refused, told_by}
 use Rattle.std.proofs.Common.{◌∷◌, []}
@@ -96,6 +97,18 @@ module _ {F A : Type 0} (g : Ghosts F) (a : F) (wanted : Result A Status) (refus
 
   pub settled_given : (result : Result A Status) → Settles wanted result → Takes g a a (settled wanted) (λ x. x) result
   settled_given result is = record { reads = nothing_read g a; came = settled_came result is }
+
+-- a structures file is a text or none
+pub structures_text : (path bytes : List ℕ) → IsUtf8 bytes → structures_in path bytes ≡ declared (structures_of_file bytes)
+structures_text path bytes h = ap (λ b. cond b (declared (structures_of_file bytes)) (Err (st.NotText (chars path)))) (is_utf8-from_IsUtf8 bytes h)
+
+pub structures_no_text : (path bytes : List ℕ) (status : Status) → ¬ (IsUtf8 bytes) → (status ≡ st.Memory) ⊎ (status ≡ st.NotText (chars path)) → (status ≡ st.Memory) ⊎ (structures_in path bytes ≡ Err status)
+structures_no_text path bytes status h (inl e) = inl e
+structures_no_text path bytes status h (inr e) = inr (go (is_utf8 bytes) refl ∙ ap Err (sym e))
+  where
+    go : (b : Bool) → is_utf8 bytes ≡ b → cond b (declared (structures_of_file bytes)) (Err (st.NotText (chars path))) ≡ Err (st.NotText (chars path))
+    go true q = absurd (h (IsUtf8-from_is_utf8 bytes q))
+    go false q = refl
 
 -- a structures file is refused by its bytes
 pub structures_refuse : (path bytes : List ℕ) (status : Status) → structures_in path bytes ≡ Err status → told_by status ≡ refused

@@ -82,15 +82,18 @@ fn run_of<'a>(
 fn profile_of(options: &[String]) -> Option<Profile>
     ensures { result ≡ settings_in (map string_bytes options.now) }
 {
-    match options {
-        [] => profile(6, Rounding::HalfUp),
-        [name, value] => one_set(setting_of(name.as_str(), value.as_str())?),
-        [name, value, other, its_value] => both_set(
-            setting_of(name.as_str(), value.as_str())?,
-            setting_of(other.as_str(), its_value.as_str())?,
-        ),
-        _ => None,
+    if options.is_empty() {
+        return profile(6, Rounding::HalfUp);
     }
+    if options.len() == 2 {
+        return one_set(setting_of(options[0].as_str(), options[1].as_str())?);
+    }
+    if options.len() == 4 {
+        let first = setting_of(options[0].as_str(), options[1].as_str())?;
+        let second = setting_of(options[2].as_str(), options[3].as_str())?;
+        return both_set(first, second);
+    }
+    None
 }
 
 fn profile(scale: u8, rounding: Rounding) -> Option<Profile>
