@@ -1,20 +1,20 @@
 -- What a structures file declares: structures, each with an identifier.
-use Rattle.std.proofs.Common.{◌≡◌, ℕ, suc, ◌+◌, ◌≤◌, Bool, true, false, cond, not, ◌&&◌, ◌||◌, nat_le, List, [], ◌∷◌, ◌++◌, drop, length, filter, Option, Some, None, Result, Ok, Err, arith, refl, sym, ap, subst, ◌∙◌}
+use Rattle.std.proofs.Common.{◌≡◌, ℕ, ◌+◌, ◌≤◌, Bool, true, false, cond, not, ◌&&◌, ◌||◌, nat_le, List, [], ◌∷◌, ◌++◌, drop, length, filter, Option, Some, None, Result, Ok, Err, arith, refl, sym, ap, subst, ◌∙◌}
 use Rattle.std.specs.List.{list_all, list_any}
 use Rattle.std.specs.Map.{lookup}
 use Rattle.std.specs.Option.{option_and_then, option_map_or}
 use Rattle.std.specs.Cmp.Lexicographic.{bytes_decides}
 use Rattle.std.proofs.lemmas.Bool.{and_parts}
 use Rattle.std.proofs.lemmas.Bool.Decides.{nat_tests}
-use Rattle.vtl_tree.specs.Built.{Compared, Filter}
-use Rattle.vtl_tree.specs.Structure.{IsStructure, key_width, names_of, same_name, same_role}
-use Rattle.vtl_tree.specs.Structures.{AreStructures, Named, are_declarable, components_of, has_name, is_declarable, is_declarable_component, structure_of, with_component}
+use Rattle.vtl_tree.specs.Built.{Filter}
+use Rattle.vtl_tree.specs.Structure.{IsStructure, key_width, names_of, same_name}
+use Rattle.vtl_tree.specs.Structures.{AreStructures, Named, components_of, has_name, is_declarable, is_declarable_component, structure_of, with_component}
 use Rattle.vtl_tree.specs.declared.structure.Component.{Component}
 use Rattle.vtl_tree.specs.declared.structure.Structure.{Structure}
 use Rattle.vtl_tree.proofs.StructuresLemmas.{add_are, all_found}
 use Rattle.vtl_lists.specs.Apart.{all_apart}
 use Rattle.vtl_csv.specs.Declarations.{Declaration, codes_of, component_in, dataset_in, declaration_of, declared_by, has_component, is_full, kind_in, or_rule, record_of, role_in, unless}
-use Rattle.vtl_csv.specs.StructuresFile.{Fault, after_record, at_line, is_header, is_identifier, lacks_identifier, lines_declare, lines_in, records_in, structures_of_file, with_identifiers, with_record, without_identifier}
+use Rattle.vtl_csv.specs.StructuresFile.{Fault, after_record, at_line, is_header, is_identifier, lacks_identifier, lines_declare, lines_in, records_in, structures_of_file, with_identifiers, without_identifier}
 use Rattle.vtl_csv.proofs.DeclarationLemmas.{record_fits}
 use Rattle.vtl_top.specs.Structures.{built_with, is_built, is_compared, is_free, operand_in}
 

@@ -7,4 +7,5 @@ pub mod ReadScripts
 pub mod RunLemmas
 pub mod SinkLemmas
 pub mod StepLemmas
+pub mod WordLemmas
 mod NumberText

@@ -19,7 +19,7 @@ use Rattle.vtl_cell.specs.declared.kind.Kind.TheVariants as k
 use Rattle.vtl_scalar.specs.declared.error.ScalarErr.{ScalarErr}
 use Rattle.vtl_scalar.specs.declared.error.ScalarErr.TheVariants as err
 use Rattle.vtl_tree.specs.declared.structure.Component.{Component}
-use Rattle.std.proofs.Common.{◌+◌, ◌-◌, ◌^◌, ◌⊎◌, inl, length, map, subst, append_assoc}
+use Rattle.std.proofs.Common.{inl, length, map, subst, append_assoc}
 use Rattle.std.specs.Prelude.{chars, string_bytes}
 use Rattle.std.proofs.lemmas.List.{map-append}
 use Rattle.vtl_files.specs.Outside.{FaultAt}

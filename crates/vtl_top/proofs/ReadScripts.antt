@@ -6,17 +6,15 @@ use Rattle.vtl_lexer.proofs.LexedLemmas.{lexed-once}
 use Rattle.vtl_grammar.specs.Faults.{SyntaxFault, WholeScript, kinds}
 use Rattle.vtl_grammar.proofs.UniqueLemmas.{fault_determined, spells_unique, whole_no_fault}
 use Rattle.vtl_syntax.specs.Trees.{ScriptTree}
-use Rattle.vtl_parser.specs.Parsed.{IsFault, IsFaulty, IsScript}
-use Rattle.vtl_parser.specs.declared.parsing.ParseErr.{ParseErr}
-use Rattle.vtl_parser.specs.declared.parsing.ParseErr.TheVariants as parse
+use Rattle.vtl_parser.specs.Parsed.{IsFaulty, IsScript}
 use Rattle.vtl_top.specs.Refusal.{IsScriptOf, Settles}
 use Rattle.std.specs.Prelude.{IsUtf8}
 use Rattle.vtl_files.specs.declared.files.Files.{Ghosts}
 use Rattle.vtl_syntax.specs.View.{script_tree}
 use Rattle.vtl_syntax.specs.declared.statements.Script.{Script}
-use Rattle.std.proofs.Common.{◌≤◌, ◌⊎◌, inl, inr, arith}
+use Rattle.std.proofs.Common.{◌⊎◌, inl, inr}
 use Rattle.std.specs.Prelude.{chars}
-use Rattle.vtl_top.specs.Answered.{Came, Gives, OnlyReads, Stops, Takes}
+use Rattle.vtl_top.specs.Answered.{Came, Gives, Stops, Takes}
 use Rattle.vtl_top.proofs.StepLemmas.{nothing_read}
 use Rattle.vtl_top.specs.Steps.{Behind, Held, Step, onward, settled}
 use Rattle.vtl_tree.specs.Built.{filter_in}

@@ -1,13 +1,13 @@
 -- Steps one after the other, and how a call that takes them ends.
-use Rattle.std.proofs.Common.{◌≡◌, ◌≤◌, ◌+◌, ◌-◌, ◌^◌, ◌⊎◌, inl, inr, ℕ, false, List, Option, Some, None, Result, Ok, Err, refl, sym, ap, ◌∙◌, subst, arith}
+use Rattle.std.proofs.Common.{◌≡◌, ◌≤◌, inl, inr, ℕ, false, List, Option, Some, None, Result, Ok, Err, refl, ◌∙◌, subst, arith}
 use Rattle.std.specs.Option.{IfSome}
-use Rattle.vtl_files.specs.Outside.{Rose, FaultAt}
+use Rattle.vtl_files.specs.Outside.{Rose}
 use Rattle.vtl_files.specs.declared.files.Files.{Ghosts}
 use Rattle.vtl_top.specs.declared.status.Status.{Status}
 use Rattle.vtl_top.specs.declared.status.Status.TheVariants as st
 use Rattle.vtl_top.specs.Kinds.{Told, done, no_command, refused, absent, read_fault, write_fault, no_memory, told_by}
-use Rattle.vtl_top.specs.Steps.{Behind, File, Held, Step, onward}
-use Rattle.vtl_top.specs.Answered.{Absent, Adds, AddsUpTo, Came, Ends, EndsAs, Faulted, Gives, OnlyReads, Rests, Stops, Takes, WritesAs}
+use Rattle.vtl_top.specs.Steps.{File, Step, onward}
+use Rattle.vtl_top.specs.Answered.{Adds, AddsUpTo, Came, Ends, EndsAs, Faulted, Gives, OnlyReads, Stops, Takes, WritesAs}
 
 pub rose_before : (a b c : ℕ) → a ≤ b → Rose b c → Rose a c
 rose_before a b c le rose = omega (arith, le, rose)

@@ -1,12 +1,11 @@
 -- What a status tells: how a call ended, by what the held bytes give.
-use Rattle.std.specs.Prelude.{◌≡◌, ◌≤◌, ◌⊎◌, ℕ, Bool, false, List, [], ◌∷◌, ◌++◌, Option, Some, None, Result, Ok, Err, IfSome, chars}
+use Rattle.std.specs.Prelude.{◌≡◌, ◌≤◌, ◌⊎◌, ℕ, false, List, [], ◌∷◌, ◌++◌, Option, Result, Ok, Err, IfSome, chars}
 use Rattle.std.specs.Option.{option_map}
 use Rattle.vtl_files.specs.Outside.{Rose, FaultAt}
 use Rattle.vtl_files.specs.declared.files.Files.{Ghosts}
 use Rattle.vtl_top.specs.Kinds.{Told, done, no_command, refused, absent, read_fault, write_fault, no_memory, told_by}
-use Rattle.vtl_top.specs.Steps.{Held, Step}
+use Rattle.vtl_top.specs.Steps.{Step}
 use Rattle.vtl_top.specs.declared.status.Status.{Status}
-use Rattle.vtl_top.specs.declared.status.Status.TheVariants as st
 
 -- Nothing but counts, place and mark has changed.
 pub record OnlyReads {F : Type 0} (g : Ghosts F) (before now : F) : Type 0 where

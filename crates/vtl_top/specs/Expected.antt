@@ -7,7 +7,6 @@ use Rattle.vtl_tree.specs.Clauses.{kept}
 use Rattle.vtl_tree.specs.Structure.{columns_of, key_width}
 use Rattle.vtl_tree.specs.Structures.{Named}
 use Rattle.vtl_tree.specs.declared.structure.Component.{Component}
-use Rattle.vtl_tree.specs.declared.structure.Structure.{Structure}
 use Rattle.vtl_top.specs.Condition.{condition_in}
 use Rattle.vtl_csv.specs.CsvText.{csv_in}
 use Rattle.vtl_csv.specs.Points.{points_in}

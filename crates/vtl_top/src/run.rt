@@ -106,11 +106,7 @@ fn parsed(alloc: Global, text: &str) -> Result<Script, Status>
 }
 
 // The structures of the structures file.
-fn read_structures<F: Files>(
-    alloc: Global,
-    files: &mut F,
-    path: &str,
-) -> Result<Structures, Status>
+fn read_structures<F: Files>(alloc: Global, files: &mut F, path: &str) -> Result<Structures, Status>
     ensures { Takes F.Files files.old files.new (structures_step path.now) (λ s. s) result }
 {
     match read_file(alloc, files, path, STRUCTURES_LIMIT) {

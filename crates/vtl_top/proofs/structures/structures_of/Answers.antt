@@ -1,7 +1,5 @@
-use Rattle.std.proofs.Common.{inr, sym, subst}
+use Rattle.std.proofs.Common.{sym, subst}
 use Rattle.vtl_top.specs.Refusal.{Settles}
-use Rattle.vtl_top.specs.Structures.{declared}
-use Rattle.vtl_csv.specs.StructuresFile.{structures_of_file}
 use Rattle.vtl_top.proofs.ReadScripts.{structures_no_text, structures_text}
 use Rattle.vtl_top.proofs.structures.structures_of.Goals as goal
 

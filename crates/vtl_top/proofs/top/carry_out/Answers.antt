@@ -1,7 +1,7 @@
 use Rattle.vtl_top.specs.Expected.{run_step}
 use Rattle.vtl_top.specs.OutputView.{outputs_view}
 use Rattle.vtl_top.specs.RunView.{run_view}
-use Rattle.vtl_top.proofs.StepLemmas.{ends_refused, ends_written, not_usage}
+use Rattle.vtl_top.proofs.StepLemmas.{not_usage}
 use Rattle.vtl_top.proofs.top.carry_out.Goals as goal
 
 pub returns-in-Err-clause-usage : goal.returns-in-Err-clause-usage
