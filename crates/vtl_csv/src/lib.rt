@@ -18,6 +18,3 @@ pub use reading::{column, points};
 pub use records::RecordReader;
 pub use structures::{StructErr, read_structures};
 pub use writing::csv_text;
-
-#[cfg(test)]
-mod tests;

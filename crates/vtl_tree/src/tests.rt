@@ -68,6 +68,11 @@ fn filter_keeps_points_at_which_the_condition_is_true(rt: HostRuntime) -> Result
     };
     let kept = filter_points(alloc, points.as_slice(), &condition, &p)?;
     assert_eq!(rt; kept.len(), 1);
-    assert!(rt; is_same(&kept[0][0], &Cell::Bool(true)));
+    let point = kept.first().ok_or("no point")?;
+    assert!(rt;
+        point
+            .first()
+            .is_some_and(|cell| is_same(cell, &Cell::Bool(true)))
+    );
     Ok(())
 }
