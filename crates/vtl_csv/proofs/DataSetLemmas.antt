@@ -22,7 +22,7 @@ use Rattle.vtl_tree.specs.declared.structure.Structure.{Structure}
 use Rattle.vtl_tree.specs.Structure.{IsStructure, columns_of, key_width, same_role}
 use Rattle.vtl_cell.specs.Reading.{reads}
 use Rattle.vtl_cell.proofs.Readings.{read_kind}
-use Rattle.vtl_csv.specs.Fields.{cell_of, is_read, value_of}
+use Rattle.vtl_csv.specs.Fields.{cell_of, is_read, field_value}
 use Rattle.vtl_csv.specs.PlainText.{plain_lines}
 use Rattle.vtl_csv.specs.Points.{cell_in, is_header, keyed, max_points, points_of, row_of, rows_in, rows_of_records}
 
@@ -55,7 +55,7 @@ no_null false = refl
 good : (r : Role) (kind : Kind) (v : Cell) → is_of kind v ≡ true → is_null v ≡ false → is_good r kind v ≡ true
 good r kind v e h = ap (λ b. b && not (same_role r role.Identifier && is_null v)) e ∙ ap (λ b. not (same_role r role.Identifier && b)) h ∙ no_null (same_role r role.Identifier)
 
-value_good : (p : Settings) (r : Role) (kind : Kind) (f : List ℕ) (v : Cell) → value_of p kind f ≡ Some v → is_good r kind v ≡ true
+value_good : (p : Settings) (r : Role) (kind : Kind) (f : List ℕ) (v : Cell) → field_value p kind f ≡ Some v → is_good r kind v ≡ true
 value_good p r kind f v e =
     let h = read_kind p kind f v (if_some (is_read kind f) (reads p kind f) v e).1 in
     good r kind v h.0 h.1

@@ -24,7 +24,7 @@ use Rattle.vtl_tree.specs.declared.structure.Role.{Role}
 use Rattle.vtl_tree.specs.declared.structure.Component.{Component}
 use Rattle.vtl_tree.specs.Structure.{same_name}
 use Rattle.vtl_tree.specs.Structures.{Fits, Named, are_codes, codes_fit, components_of, is_declarable_component, is_filled, is_null_kind, is_string_identifier}
-use Rattle.vtl_csv.specs.Declarations.{Declaration, code_in, codes_in, codes_of, component_in, dataset_in, declaration_of, declared_by, distinct, has_component, is_bar, is_full, kind_in, onto_first, or_rule, parts, record_of, role_in, text_in, text_that, unless}
+use Rattle.vtl_csv.specs.Declarations.{Declaration, code_in, codes_in, codes_of, component_in, dataset_in, declaration_of, declared_by, distinct, has_component, is_bar, is_full, kind_in, onto_first, or_rule, parts, record_of, role_in, text_in, text_that, unless_rule}
 
 pub declaration_there : (fs : List (List ℕ)) (v w x y z : List ℕ) → length fs ≡ 5
     → field_at fs 0 ≡ Some v → field_at fs 1 ≡ Some w → field_at fs 2 ≡ Some x → field_at fs 3 ≡ Some y → field_at fs 4 ≡ Some z
@@ -103,9 +103,9 @@ or_rule-kept : {X Y : Type 0} (n : ℕ) (o : Option X) (f : X → Result Y ℕ) 
 or_rule-kept n None f y e = cc
 or_rule-kept n (Some v) f y e = (v, refl, e)
 
-unless-kept : {Y : Type 0} (n : ℕ) (b : Bool) (r : Result Y ℕ) (y : Y) → unless n b r ≡ Ok y → (b ≡ false) × (r ≡ Ok y)
-unless-kept n true r y e = cc
-unless-kept n false r y e = (refl, e)
+unless_rule-kept : {Y : Type 0} (n : ℕ) (b : Bool) (r : Result Y ℕ) (y : Y) → unless_rule n b r ≡ Ok y → (b ≡ false) × (r ≡ Ok y)
+unless_rule-kept n true r y e = cc
+unless_rule-kept n false r y e = (refl, e)
 
 text_passes : (test : List ℕ → Bool) (f t : List ℕ) → text_that test f ≡ Some t → test t ≡ true
 text_passes test f t e = from (text_in f) e
@@ -203,9 +203,9 @@ declared_fits so_far d p e =
     let s4 = or_rule-kept 4 (component_in d.component) _ p s3.2 in
     let s5 = or_rule-kept 5 (role_in d.role) _ p s4.2 in
     let s6 = or_rule-kept 6 (kind_in d.kind) _ p s5.2 in
-    let s7 = unless-kept 7 (has_component so_far s3.0 s4.0) _ p s6.2 in
+    let s7 = unless_rule-kept 7 (has_component so_far s3.0 s4.0) _ p s6.2 in
     let s8 = or_rule-kept 8 (codes_of s5.0 s6.0 d.code_list) _ p s7.1 in
-    let s9 = unless-kept 9 (is_full so_far s3.0) _ p s8.2 in
+    let s9 = unless_rule-kept 9 (is_full so_far s3.0) _ p s8.2 in
     let x : Component = record { name = s4.0; role = s5.0; kind = s6.0; codes = s8.0 } in
     let same : ◌≡◌ {A = List ℕ × Component} (s3.0, x) p = ok_same (s3.0, x) p s9.1 in
     let good : is_declarable_component x ≡ true =

@@ -105,9 +105,9 @@ abbrev pub or_rule : {X Y : Type 0} → ℕ → Option X → (X → Result Y ℕ
 or_rule n None go_on = Err n
 or_rule n (Some x) go_on = go_on x
 
-abbrev pub unless : {Y : Type 0} → ℕ → Bool → Result Y ℕ → Result Y ℕ
-unless n true go_on = Err n
-unless n false go_on = go_on
+abbrev pub unless_rule : {Y : Type 0} → ℕ → Bool → Result Y ℕ → Result Y ℕ
+unless_rule n true go_on = Err n
+unless_rule n false go_on = go_on
 
 -- the component that a record declares and its data set, or the first rule that the record breaks; `so_far` is what the
 -- records before it declare
@@ -117,9 +117,9 @@ declared_by so_far d =
     or_rule 4 (component_in d.component) (λ name.
     or_rule 5 (role_in d.role) (λ role.
     or_rule 6 (kind_in d.kind) (λ kind.
-    unless 7 (has_component so_far dataset name) (
+    unless_rule 7 (has_component so_far dataset name) (
     or_rule 8 (codes_of role kind d.code_list) (λ texts.
-    unless 9 (is_full so_far dataset)
+    unless_rule 9 (is_full so_far dataset)
     (Ok (dataset, record { name = name; role = role; kind = kind; codes = texts }))))))))
 
 abbrev pub record_of : Named → List (List ℕ) → Result (List ℕ × Component) ℕ

@@ -15,13 +15,13 @@ abbrev pub is_digit : ℕ → Bool
 is_digit b = nat_le 48 b && nat_le b 57
 
 -- 1 to 12 digits
-abbrev pub are_digits : List ℕ → Bool
-are_digits ds = nat_le 1 (length ds) && nat_le (length ds) 12 && list_all is_digit ds
+abbrev pub are_few_digits : List ℕ → Bool
+are_few_digits ds = nat_le 1 (length ds) && nat_le (length ds) 12 && list_all is_digit ds
 
 -- 1 to 12 digits, and a `-` before them where there is one
 abbrev pub is_whole : List ℕ → Bool
 is_whole [] = false
-is_whole (b ∷ ds) = if b == 45 then are_digits ds else are_digits (b ∷ ds)
+is_whole (b ∷ ds) = if b == 45 then are_few_digits ds else are_few_digits (b ∷ ds)
 
 abbrev pub is_ascii : ℕ → Bool
 is_ascii b = nat_le b 127
@@ -33,10 +33,10 @@ is_read k.Int f = list_all is_ascii f && is_whole f
 is_read kind f = false
 
 -- the value of a field that is not empty
-abbrev pub value_of : Settings → Kind → List ℕ → Option Cell
-value_of p kind f = if is_read kind f then reads p kind f else None
+abbrev pub field_value : Settings → Kind → List ℕ → Option Cell
+field_value p kind f = if is_read kind f then reads p kind f else None
 
 -- an empty field is null, which no identifier is
 abbrev pub cell_of : Settings → Role → Kind → List ℕ → Option Cell
 cell_of p r kind [] = if same_role r role.Identifier then None else Some c.Null
-cell_of p r kind (b ∷ bs) = value_of p kind (b ∷ bs)
+cell_of p r kind (b ∷ bs) = field_value p kind (b ∷ bs)

@@ -3,7 +3,7 @@ ghost use Rattle.std.specs.Prelude.{◌≡◌, ◌++◌, ◌∷◌, [], IfOk, On
 ghost use Rattle.std.specs.List.{list_all};
 ghost use Rattle.csv.specs.Records.{fields_of, partial_of};
 ghost use Rattle.vtl_cell.specs.Writing.{text_of};
-ghost use Rattle.vtl_csv.specs.Fields.{are_digits, cell_of, is_ascii, is_digit, is_read, is_whole, value_of};
+ghost use Rattle.vtl_csv.specs.Fields.{are_few_digits, cell_of, is_ascii, is_digit, is_read, is_whole, field_value};
 
 use csv::ByteRecord;
 use std::alloc::{AllocError, Global};
@@ -38,7 +38,7 @@ fn value(
     field: &[u8],
     profile: &Profile,
 ) -> Result<Option<Cell>, AllocError>
-    ensures { IfOk result (λ o. o ≡ value_of profile.now kind field.now) }
+    ensures { IfOk result (λ o. o ≡ field_value profile.now kind field.now) }
 {
     if !is_read(kind, field) {
         return Ok(None);
@@ -75,13 +75,13 @@ fn is_whole(field: &[u8]) -> bool
     ensures { result ≡ is_whole field.now }
 {
     match field {
-        [b'-', digits @ ..] => are_digits(digits),
-        _ => are_digits(field),
+        [b'-', digits @ ..] => are_few_digits(digits),
+        _ => are_few_digits(field),
     }
 }
 
-fn are_digits(field: &[u8]) -> bool
-    ensures { result ≡ are_digits field.now }
+fn are_few_digits(field: &[u8]) -> bool
+    ensures { result ≡ are_few_digits field.now }
 {
     !field.is_empty() && field.len() <= 12 && are_all_digits(field)
 }

@@ -7,7 +7,7 @@ use Rattle.vtl_syntax.specs.Trees.{ScriptTree}
 use Rattle.vtl_syntax.specs.View.{script_tree, statement_tree}
 use Rattle.vtl_syntax.specs.declared.statements.Script.{Script}
 use Rattle.vtl_syntax.specs.declared.statements.Statement.{Statement}
-use Rattle.vtl_parser.specs.Parsed.{IsErrorOf, IsFault, IsFaultOf, IsFaulty, IsMemory, IsScript}
+use Rattle.vtl_parser.specs.Parsed.{IsSyntaxError, IsFault, IsFaultOf, IsFaulty, IsMemory, IsScript}
 use Rattle.vtl_parser.specs.declared.parsing.ParseErr.{ParseErr}
 use Rattle.vtl_parser.specs.declared.parsing.ParseErr.TheVariants as e
 use Rattle.vtl_parser.proofs.Texts.{not_both, one_fault, one_script}
@@ -35,7 +35,7 @@ answers_scripts text (Ok read) a script is = one_script text (script_tree read) 
 answers_scripts text (Err (e.Syntax done byte)) a script is = not_both text script done byte is a
 answers_scripts text (Err e.OutOfMemory) a script is = tt
 
-pub answers_faults : (text : List ℕ) (r : Result Script ParseErr) → Answered text r → (done byte : ℕ) → IsFaulty text done byte → MatchResult r (λ read. ⊥) (λ error. IsErrorOf done byte error)
+pub answers_faults : (text : List ℕ) (r : Result Script ParseErr) → Answered text r → (done byte : ℕ) → IsFaulty text done byte → MatchResult r (λ read. ⊥) (λ error. IsSyntaxError done byte error)
 answers_faults text (Ok read) a done byte is = not_both text (script_tree read) done byte a is
 answers_faults text (Err (e.Syntax d b)) a done byte is = one_fault text d b done byte a is
 answers_faults text (Err e.OutOfMemory) a done byte is = tt

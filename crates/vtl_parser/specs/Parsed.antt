@@ -32,9 +32,9 @@ IsFaultOf tokens bad (e.Syntax done byte) = SyntaxFault tokens bad done byte
 IsFaultOf tokens bad e.OutOfMemory = Unit {0}
 
 -- the error tells this fault
-abbrev pub IsErrorOf : ℕ → ℕ → ParseErr → Type 0
-IsErrorOf done byte (e.Syntax d b) = (d ≡ done) × (b ≡ byte)
-IsErrorOf done byte e.OutOfMemory = Unit {0}
+abbrev pub IsSyntaxError : ℕ → ℕ → ParseErr → Type 0
+IsSyntaxError done byte (e.Syntax d b) = (d ≡ done) × (b ≡ byte)
+IsSyntaxError done byte e.OutOfMemory = Unit {0}
 
 abbrev pub IsMemory : ParseErr → Type 0
 IsMemory (e.Syntax done byte) = ⊥

@@ -8,12 +8,12 @@ use Rattle.vtl_cell.specs.Kinds.{is_of}
 use Rattle.vtl_cell.specs.declared.kind.Kind.{Kind}
 use Rattle.vtl_cell.specs.Row.{Row}
 use Rattle.vtl_rows.specs.declared.column.Column.{Column}
-use Rattle.vtl_rows.specs.Flat.{rows_of, IsFlat}
-use Rattle.vtl_rows.specs.Tables.{fits, fits_kinds, kinds_of}
+use Rattle.vtl_rows.specs.Flat.{flat_rows, IsFlat}
+use Rattle.vtl_rows.specs.Tables.{fits, fits_kinds, column_kinds}
 
-pub length-rows_of : (width n : ℕ) (cells : List Cell) → length (rows_of width n cells) ≡ n
-length-rows_of width zero cells = refl
-length-rows_of width (suc n) cells = let e = length-rows_of width n (drop width cells) in omega (arith, e)
+pub length-flat_rows : (width n : ℕ) (cells : List Cell) → length (flat_rows width n cells) ≡ n
+length-flat_rows width zero cells = refl
+length-flat_rows width (suc n) cells = let e = length-flat_rows width n (drop width cells) in omega (arith, e)
 
 -- a row ends within the cells
 pub row_ends : (width n i : ℕ) → i < n → i * width + width ≤ n * width
@@ -26,22 +26,22 @@ none_left : (cells : List Cell) → length cells ≡ 0 → cells ≡ []
 none_left [] e = refl
 none_left (x ∷ xs) e = absurd (omega (arith, e))
 
-pub rows_of-push : (width n : ℕ) (cells row : List Cell) → length cells ≡ n * width → length row ≡ width → rows_of width (n + 1) (cells ++ row) ≡ rows_of width n cells ++ row ∷ []
-rows_of-push width zero cells row e h = let s = none_left cells (omega (arith, e)) in
+pub flat_rows-push : (width n : ℕ) (cells row : List Cell) → length cells ≡ n * width → length row ≡ width → flat_rows width (n + 1) (cells ++ row) ≡ flat_rows width n cells ++ row ∷ []
+flat_rows-push width zero cells row e h = let s = none_left cells (omega (arith, e)) in
     ap (λ l. take width (l ++ row) ∷ []) s ∙ ap (λ r. r ∷ []) (take_all width row (omega (arith, h)))
-rows_of-push width (suc n) cells row e h = let m = one_more width n cells e in
+flat_rows-push width (suc n) cells row e h = let m = one_more width n cells e in
     let next : suc n + 1 ≡ suc (n + 1) = omega arith in
-    ap (λ k. rows_of width k (cells ++ row)) next
-    ∙ ap (λ r. r ∷ rows_of width (n + 1) (drop width (cells ++ row))) (take-append-le width cells row m.0)
-    ∙ ap (λ l. take width cells ∷ rows_of width (n + 1) l) (drop-append-le width cells row m.0)
-    ∙ ap (λ l. take width cells ∷ l) (rows_of-push width n (drop width cells) row m.1 h)
+    ap (λ k. flat_rows width k (cells ++ row)) next
+    ∙ ap (λ r. r ∷ flat_rows width (n + 1) (drop width (cells ++ row))) (take-append-le width cells row m.0)
+    ∙ ap (λ l. take width cells ∷ flat_rows width (n + 1) l) (drop-append-le width cells row m.0)
+    ∙ ap (λ l. take width cells ∷ l) (flat_rows-push width n (drop width cells) row m.1 h)
 
-pub get_or-rows_of : (width n i : ℕ) (cells : List Cell) (d : Row) → i < n → get_or (rows_of width n cells) i d ≡ take width (drop (i * width) cells)
-get_or-rows_of width zero i cells d h = absurd (omega arith)
-get_or-rows_of width (suc n) zero cells d h = let z : 0 ≡ 0 * width = omega arith in ap (λ k. take width (drop k cells)) z
-get_or-rows_of width (suc n) (suc i) cells d h =
+pub get_or-flat_rows : (width n i : ℕ) (cells : List Cell) (d : Row) → i < n → get_or (flat_rows width n cells) i d ≡ take width (drop (i * width) cells)
+get_or-flat_rows width zero i cells d h = absurd (omega arith)
+get_or-flat_rows width (suc n) zero cells d h = let z : 0 ≡ 0 * width = omega arith in ap (λ k. take width (drop k cells)) z
+get_or-flat_rows width (suc n) (suc i) cells d h =
     let on : width + i * width ≡ suc i * width = omega arith in
-    get_or-rows_of width n i (drop width cells) d (omega arith) ∙ ap (take width) (drop-drop (i * width) width cells ∙ ap (λ k. drop k cells) on)
+    get_or-flat_rows width n i (drop width cells) d (omega arith) ∙ ap (take width) (drop-drop (i * width) width cells ∙ ap (λ k. drop k cells) on)
 
 fits_both : (a b : Bool) → (a && b) ≡ true → b ≡ true
 fits_both true b e = e
@@ -54,21 +54,21 @@ fits_count (k ∷ ks) [] e = absurd (true≢false (sym e))
 fits_count (k ∷ ks) (x ∷ xs) e = let h = fits_count ks xs (fits_both (is_of k x) (fits_kinds ks xs) e) in omega (arith, h)
 
 pub fits_wide : (columns : List Column) (row : Row) → fits columns row ≡ true → length row ≡ length columns
-fits_wide columns row e = let l : length (kinds_of columns) ≡ length columns = simp length-map refl in fits_count (kinds_of columns) row e ∙ l
+fits_wide columns row e = let l : length (column_kinds columns) ≡ length columns = simp length-map refl in fits_count (column_kinds columns) row e ∙ l
 
 pub IsFlat-push : (columns : List Column) (n : ℕ) (cells row : List Cell) → IsFlat columns n cells → length row ≡ length columns → IsFlat columns (n + 1) (cells ++ row)
 IsFlat-push columns n cells row flat h = let l = length-append cells row in record { wide = flat.wide; whole = omega (arith, l, h, flat.whole) }
 
 -- a row's place among the cells of a table's rows
-module _ (columns : List Column) (n : ℕ) (cells : List Cell) (rows : List Row) (width : ℕ) (flat : IsFlat columns n cells) (seen : rows_of (length columns) n cells ≡ rows) (wide : width ≡ length columns) where
+module _ (columns : List Column) (n : ℕ) (cells : List Cell) (rows : List Row) (width : ℕ) (flat : IsFlat columns n cells) (seen : flat_rows (length columns) n cells ≡ rows) (wide : width ≡ length columns) where
   in_count : (i : ℕ) → i < length rows → i < n
-  in_count i h = let e = ap length seen in let l = length-rows_of (length columns) n cells in omega (arith, e, l, h)
+  in_count i h = let e = ap length seen in let l = length-flat_rows (length columns) n cells in omega (arith, e, l, h)
 
   pub row_within : (i : ℕ) → i < length rows → i * width + width ≤ length cells
   row_within i h = subst (λ w. i * w + w ≤ length cells) (sym wide) (let e = row_ends (length columns) n i (in_count i h) in omega (arith, e, flat.whole))
 
   pub row_read : (i : ℕ) (d : Row) → i < length rows → take width (drop (i * width) cells) ≡ get_or rows i d
-  row_read i d h = ap (λ w. take w (drop (i * w) cells)) wide ∙ sym (get_or-rows_of (length columns) n i cells d (in_count i h)) ∙ ap (λ r. get_or r i d) seen
+  row_read i d h = ap (λ w. take w (drop (i * w) cells)) wide ∙ sym (get_or-flat_rows (length columns) n i cells d (in_count i h)) ∙ ap (λ r. get_or r i d) seen
 
   pub row_wide : (i : ℕ) → i < length rows → length (take width (drop (i * width) cells)) ≡ width
   row_wide i h = let w = row_within i h in let l = length-drop (i * width) cells in length-take-le width (drop (i * width) cells) (omega (arith, w, l))

@@ -9,18 +9,18 @@ use Rattle.std.proofs.lemmas.List.Sorted.{All-permutation, length_permutation}
 use Rattle.vtl_cell.specs.declared.cell.Cell.{Cell}
 use Rattle.vtl_cell.specs.Row.{Row}
 use Rattle.vtl_rows.specs.declared.column.Column.{Column}
-use Rattle.vtl_rows.specs.Flat.{rows_of, IsFlat}
+use Rattle.vtl_rows.specs.Flat.{flat_rows, IsFlat}
 use Rattle.vtl_rows.specs.Places.{row_at}
 use Rattle.vtl_rows.specs.Tables.{cells_at, column_at}
-use Rattle.vtl_rows.proofs.Flats.{row_read, row_wide, length-rows_of}
+use Rattle.vtl_rows.proofs.Flats.{row_read, row_wide, length-flat_rows}
 
 module _ {X : Type 0} (f : X → Row) (width : ℕ) where
-  pub rows_of-flat_map : (xs : List X) → AllByRecursion (λ x. length (f x) ≡ width) xs → rows_of width (length xs) (flat_map f xs) ≡ map f xs
-  rows_of-flat_map [] all = refl
-  rows_of-flat_map (x ∷ xs) all =
-      ap (λ r. r ∷ rows_of width (length xs) (drop width (f x ++ flat_map f xs))) (take_at (f x) (flat_map f xs) width all.0)
-      ∙ ap (λ l. f x ∷ rows_of width (length xs) l) (drop_at (f x) (flat_map f xs) width all.0)
-      ∙ ap (λ l. f x ∷ l) (rows_of-flat_map xs all.1)
+  pub flat_rows-flat_map : (xs : List X) → AllByRecursion (λ x. length (f x) ≡ width) xs → flat_rows width (length xs) (flat_map f xs) ≡ map f xs
+  flat_rows-flat_map [] all = refl
+  flat_rows-flat_map (x ∷ xs) all =
+      ap (λ r. r ∷ flat_rows width (length xs) (drop width (f x ++ flat_map f xs))) (take_at (f x) (flat_map f xs) width all.0)
+      ∙ ap (λ l. f x ∷ flat_rows width (length xs) l) (drop_at (f x) (flat_map f xs) width all.0)
+      ∙ ap (λ l. f x ∷ l) (flat_rows-flat_map xs all.1)
 
   pub length-flat_map_wide : (xs : List X) → AllByRecursion (λ x. length (f x) ≡ width) xs → length (flat_map f xs) ≡ length xs * width
   length-flat_map_wide [] all = let z : 0 ≡ 0 * width = omega arith in z
@@ -31,7 +31,7 @@ module _ {X : Type 0} (f : X → Row) (width : ℕ) where
       omega (arith, l, w, ih)
 
 -- ---- the rows at the places of an order
-module _ (columns : List Column) (n : ℕ) (cells : List Cell) (rows : List Row) (flat : IsFlat columns n cells) (seen : rows_of (length columns) n cells ≡ rows) where
+module _ (columns : List Column) (n : ℕ) (cells : List Cell) (rows : List Row) (flat : IsFlat columns n cells) (seen : flat_rows (length columns) n cells ≡ rows) where
   pub row_at_wide : (i : ℕ) → i < length rows → length (row_at rows i) ≡ length columns
   row_at_wide i h =
       ap length (sym (row_read columns n cells rows (length columns) flat seen refl i [] h)) ∙ row_wide columns n cells rows (length columns) flat seen refl i h
@@ -49,7 +49,7 @@ module _ (columns : List Column) (n : ℕ) (cells : List Cell) (rows : List Row)
     places_wide = recursion_from_All (λ i. length (row_at rows i) ≡ length columns) places (All-permutation (λ i. length (row_at rows i) ≡ length columns) (range_with_len 0 (length rows)) places all numbers_wide)
 
     places_count : length places ≡ n
-    places_count = length_permutation (range_with_len 0 (length rows)) places all ∙ length-range_with_len 0 (length rows) ∙ sym (ap length seen) ∙ length-rows_of (length columns) n cells
+    places_count = length_permutation (range_with_len 0 (length rows)) places all ∙ length-range_with_len 0 (length rows) ∙ sym (ap length seen) ∙ length-flat_rows (length columns) n cells
 
     pub moved_flat : (moved : List Cell) → moved ≡ flat_map (row_at rows) places → IsFlat columns n moved
     moved_flat moved e = record {
@@ -57,10 +57,10 @@ module _ (columns : List Column) (n : ℕ) (cells : List Cell) (rows : List Row)
       whole = ap length e ∙ length-flat_map_wide (row_at rows) (length columns) places places_wide ∙ ap (λ k. k * length columns) places_count;
     }
 
-    pub moved_rows : (moved : List Cell) → moved ≡ flat_map (row_at rows) places → rows_of (length columns) n moved ≡ map (row_at rows) places
+    pub moved_rows : (moved : List Cell) → moved ≡ flat_map (row_at rows) places → flat_rows (length columns) n moved ≡ map (row_at rows) places
     moved_rows moved e =
-        ap (λ k. rows_of (length columns) k moved) (sym places_count) ∙ ap (rows_of (length columns) (length places)) e
-        ∙ rows_of-flat_map (row_at rows) (length columns) places places_wide
+        ap (λ k. flat_rows (length columns) k moved) (sym places_count) ∙ ap (flat_rows (length columns) (length places)) e
+        ∙ flat_rows-flat_map (row_at rows) (length columns) places places_wide
 
 -- ---- chosen columns
 cells_count : (r : Row) (places : List ℕ) → length (cells_at places r) ≡ length places
@@ -78,10 +78,10 @@ module _ (chosen : List Column) (places : List ℕ) (rows : List Row) (n : ℕ) 
     whole = ap length e ∙ length-flat_map_wide (cells_at places) (length places) rows (all_chosen places rows) ∙ ap (λ k. k * length places) (sym below) ∙ ap (λ w. n * w) (sym count);
   }
 
-  pub chosen_rows : rows_of (length chosen) n cells ≡ map (cells_at places) rows
+  pub chosen_rows : flat_rows (length chosen) n cells ≡ map (cells_at places) rows
   chosen_rows =
-      ap (λ w. rows_of w n cells) count ∙ ap (λ k. rows_of (length places) k cells) below ∙ ap (rows_of (length places) (length rows)) e
-      ∙ rows_of-flat_map (cells_at places) (length places) rows (all_chosen places rows)
+      ap (λ w. flat_rows w n cells) count ∙ ap (λ k. flat_rows (length places) k cells) below ∙ ap (flat_rows (length places) (length rows)) e
+      ∙ flat_rows-flat_map (cells_at places) (length places) rows (all_chosen places rows)
 
 pub chosen_count : (columns : List Column) (places : List ℕ) (chosen : List Column) → chosen ≡ map (column_at columns) places → length chosen ≡ length places
 chosen_count columns places chosen e = let h : length (map (column_at columns) places) ≡ length places = simp length-map refl in ap length e ∙ h

@@ -5,9 +5,9 @@ use Rattle.vtl_cell.specs.Row.{Row}
 use Rattle.vtl_rows.specs.declared.column.Column.{Column}
 
 -- the first n rows of a list of cells
-abbrev pub rows_of : ℕ → ℕ → List Cell → List Row
-rows_of width zero cells = []
-rows_of width (suc n) cells = take width cells ∷ rows_of width n (drop width cells)
+abbrev pub flat_rows : ℕ → ℕ → List Cell → List Row
+flat_rows width zero cells = []
+flat_rows width (suc n) cells = take width cells ∷ flat_rows width n (drop width cells)
 
 -- the cells are those of n whole rows
 pub record IsFlat (columns : List Column) (n : ℕ) (cells : List Cell) : Type 0 where

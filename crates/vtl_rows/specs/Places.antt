@@ -13,8 +13,8 @@ abbrev pub row_at : List Row → ℕ → Row
 row_at rows i = slice_index_or rows i []
 
 -- a number that stands behind a word
-abbrev pub number_of : ℕ × ℕ → ℕ
-number_of pair = pair.1
+abbrev pub number_at : ℕ × ℕ → ℕ
+number_at pair = pair.1
 
 -- the places of a table's rows, in the order of the keys
 pub record IsOrderOf (keys : List SortKey) (rows : List Row) (places : List ℕ) : Type 0 where

@@ -17,12 +17,12 @@ fits_kinds [] (x ∷ xs) = false
 fits_kinds (kind ∷ kinds) [] = false
 fits_kinds (kind ∷ kinds) (x ∷ xs) = is_of kind x && fits_kinds kinds xs
 
-abbrev pub kinds_of : List Column → List Kind
-kinds_of columns = map (λ c. c.kind) columns
+abbrev pub column_kinds : List Column → List Kind
+column_kinds columns = map (λ c. c.kind) columns
 
 -- one cell for each column, null or of its kind
 abbrev pub fits : List Column → Row → Bool
-fits columns row = fits_kinds (kinds_of columns) row
+fits columns row = fits_kinds (column_kinds columns) row
 
 -- the cells of a row at listed places
 abbrev pub cells_at : List ℕ → Row → Row

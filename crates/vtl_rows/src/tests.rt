@@ -1,6 +1,6 @@
 ghost use Rattle.std.specs.Prelude.{◌≡◌, ◌<◌, [], ◌∷◌, length, IfOk, OnOk};
 ghost use Rattle.vtl_cell.specs.declared.kind.Kind.{Kind};
-ghost use Rattle.vtl_rows.specs.Tables.{kinds_of};
+ghost use Rattle.vtl_rows.specs.Tables.{column_kinds};
 
 use crate::{Column, SortKey, Table, Tables};
 use std::alloc::{AllocError, Global};
@@ -19,7 +19,7 @@ fn number_column(alloc: Global, name: &str) -> Result<Column, AllocError>
 
 // A table of two columns of integers, and no rows.
 fn no_pairs(alloc: Global) -> Result<Table, AllocError>
-    ensures { IfOk result (λ t. kinds_of t.columns ≡ Kind.Int ∷ Kind.Int ∷ []) }
+    ensures { IfOk result (λ t. column_kinds t.columns ≡ Kind.Int ∷ Kind.Int ∷ []) }
 {
     let mut columns = Vec::new(alloc);
     columns.push(number_column(alloc, "Id_1")?)?;
@@ -28,7 +28,7 @@ fn no_pairs(alloc: Global) -> Result<Table, AllocError>
 }
 
 fn put_pair(alloc: Global, table: &mut Table, a: i64, b: i64) -> Result<(), AllocError>
-    requires { kinds_of table.old.columns ≡ Kind.Int ∷ Kind.Int ∷ [] }
+    requires { column_kinds table.old.columns ≡ Kind.Int ∷ Kind.Int ∷ [] }
     ensures { table.new.columns ≡ table.old.columns }
 {
     let mut row = Vec::new(alloc);

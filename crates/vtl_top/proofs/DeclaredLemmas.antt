@@ -13,7 +13,7 @@ use Rattle.vtl_tree.specs.declared.structure.Component.{Component}
 use Rattle.vtl_tree.specs.declared.structure.Structure.{Structure}
 use Rattle.vtl_tree.proofs.StructuresLemmas.{add_are, all_found}
 use Rattle.vtl_lists.specs.Apart.{all_apart}
-use Rattle.vtl_csv.specs.Declarations.{Declaration, codes_of, component_in, dataset_in, declaration_of, declared_by, has_component, is_full, kind_in, or_rule, record_of, role_in, unless}
+use Rattle.vtl_csv.specs.Declarations.{Declaration, codes_of, component_in, dataset_in, declaration_of, declared_by, has_component, is_full, kind_in, or_rule, record_of, role_in, unless_rule}
 use Rattle.vtl_csv.specs.StructuresFile.{Fault, after_record, at_line, is_header, is_identifier, lacks_identifier, lines_declare, lines_in, records_in, structures_of_file, with_identifiers, without_identifier}
 use Rattle.vtl_csv.proofs.DeclarationLemmas.{record_fits}
 use Rattle.vtl_top.specs.Structures.{built_with, is_built, is_compared, is_free, operand_in}
@@ -45,9 +45,9 @@ or_kept : {X Y : Type 0} (n : ℕ) (o : Option X) (f : X → Result Y ℕ) (y : 
 or_kept n None f y e = cc
 or_kept n (Some x) f y e = (x, refl, e)
 
-unless_kept : {Y : Type 0} (n : ℕ) (b : Bool) (r : Result Y ℕ) (y : Y) → unless n b r ≡ Ok y → r ≡ Ok y
-unless_kept n true r y e = cc
-unless_kept n false r y e = e
+unless_rule_kept : {Y : Type 0} (n : ℕ) (b : Bool) (r : Result Y ℕ) (y : Y) → unless_rule n b r ≡ Ok y → r ≡ Ok y
+unless_rule_kept n true r y e = cc
+unless_rule_kept n false r y e = e
 
 declares_its_name : (so_far : Named) (d : Declaration) (p : List ℕ × Component) → declared_by so_far d ≡ Ok p → dataset_in d.dataset ≡ Some p.0
 declares_its_name so_far d p e =
@@ -55,9 +55,9 @@ declares_its_name so_far d p e =
     let s4 = or_kept 4 (component_in d.component) _ p s3.2 in
     let s5 = or_kept 5 (role_in d.role) _ p s4.2 in
     let s6 = or_kept 6 (kind_in d.kind) _ p s5.2 in
-    let s7 = unless_kept 7 (has_component so_far s3.0 s4.0) _ p s6.2 in
+    let s7 = unless_rule_kept 7 (has_component so_far s3.0 s4.0) _ p s6.2 in
     let s8 = or_kept 8 (codes_of s5.0 s6.0 d.code_list) _ p s7 in
-    let s9 = unless_kept 9 (is_full so_far s3.0) _ p s8.2 in
+    let s9 = unless_rule_kept 9 (is_full so_far s3.0) _ p s8.2 in
     let x : Component = record { name = s4.0; role = s5.0; kind = s6.0; codes = s8.0 } in
     let same : ◌≡◌ {A = List ℕ × Component} (s3.0, x) p = ok_same (s3.0, x) p s9 in
     s3.1 ∙ ap (λ (q : List ℕ × Component). Some q.0) same

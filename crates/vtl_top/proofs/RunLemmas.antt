@@ -7,7 +7,7 @@ use Rattle.vtl_decimal.specs.Settings.{Settings}
 use Rattle.vtl_cell.specs.Row.{Row, row_cmp}
 use Rattle.vtl_cell.proofs.Rows.{row_order}
 use Rattle.vtl_tree.specs.Clauses.{kept, is_true}
-use Rattle.vtl_tree.specs.Exp.{Exp}
+use Rattle.vtl_tree.specs.CompExp.{CompExp}
 use Rattle.vtl_tree.specs.Value.{value}
 use Rattle.std.proofs.Common.{refl, sym}
 use Rattle.vtl_top.specs.Expected.{content, formed, stage}
@@ -18,7 +18,7 @@ abbrev pub in_order : List Row → List Row
 in_order = sorted_by (le_by row_cmp)
 
 -- what is kept of rows in order is what is kept, in order
-pub kept_in_order : (p : Settings) (e : Exp) (rows : List Row) → kept p e (in_order rows) ≡ in_order (kept p e rows)
+pub kept_in_order : (p : Settings) (e : CompExp) (rows : List Row) → kept p e (in_order rows) ≡ in_order (kept p e rows)
 kept_in_order p e rows = sorted_by-filter row_order (λ r. is_true (value p e r)) rows
 
 -- a value that the file has in another form

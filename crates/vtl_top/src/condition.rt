@@ -3,7 +3,7 @@ ghost use Rattle.std.specs.Prelude.{◌≡◌, IfOk};
 ghost use Rattle.vtl_tree.specs.BuiltView.{compared_view};
 ghost use Rattle.vtl_tree.specs.Shown.{shown};
 ghost use Rattle.vtl_tree.specs.Structure.{same_name};
-ghost use Rattle.vtl_tree.specs.View.{exp_of};
+ghost use Rattle.vtl_tree.specs.View.{comp_exp_of};
 ghost use Rattle.vtl_top.specs.Condition.{condition_in, place_of};
 
 use std::alloc::{AllocError, Global};
@@ -18,7 +18,7 @@ pub fn condition(
     columns: &[&Component],
     compared: FilterCondition<'_>,
 ) -> Result<CompExpr, AllocError>
-    ensures { IfOk result (λ e. exp_of e ≡ condition_in (shown columns.now) (compared_view compared.entry)) }
+    ensures { IfOk result (λ e. comp_exp_of e ≡ condition_in (shown columns.now) (compared_view compared.entry)) }
 {
     let mut args = Vec::new(alloc);
     args.push(CompExpr::Column {

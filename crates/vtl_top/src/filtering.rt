@@ -6,7 +6,7 @@ ghost use Rattle.vtl_tree.specs.Clauses.{filter_of, is_true};
 ghost use Rattle.vtl_tree.specs.Rows.{rows_of};
 ghost use Rattle.vtl_tree.specs.Seen.{seen_of};
 ghost use Rattle.vtl_tree.specs.Value.{value};
-ghost use Rattle.vtl_tree.specs.View.{exp_of};
+ghost use Rattle.vtl_tree.specs.View.{comp_exp_of};
 
 use std::alloc::Global;
 use vtl_cell::Cell;
@@ -21,7 +21,7 @@ pub fn filter(
     condition: &CompExpr,
     profile: &Profile,
 ) -> Result<Vec<Vec<Cell>>, ScalarErr>
-    ensures { AnswersBy (λ v. rows_of v.items) result (filter_of profile.now (exp_of condition.now) (rows_of rows.items)) }
+    ensures { AnswersBy (λ v. rows_of v.items) result (filter_of profile.now (comp_exp_of condition.now) (rows_of rows.items)) }
 {
     let mut kept = Vec::new(alloc);
     let mut seen = Seen::Nothing;
@@ -41,8 +41,8 @@ fn keep(
     condition: &CompExpr,
     profile: &Profile,
 ) -> Result<Seen, ScalarErr>
-    ensures seen { IfOk result (λ s. seen_of s ≡ join (seen_of seen) (fault_in (value profile.now (exp_of condition.now) row.items))) }
-    ensures kept { IfOk result (λ _. rows_of kept.new.items ≡ rows_of kept.old.items ++ (if is_true (value profile.now (exp_of condition.now) row.items) then row.items ∷ [] else [])) }
+    ensures seen { IfOk result (λ s. seen_of s ≡ join (seen_of seen) (fault_in (value profile.now (comp_exp_of condition.now) row.items))) }
+    ensures kept { IfOk result (λ _. rows_of kept.new.items ≡ rows_of kept.old.items ++ (if is_true (value profile.now (comp_exp_of condition.now) row.items) then row.items ∷ [] else [])) }
     ensures err { IfErr result (λ e. e ≡ ScalarErr.OutOfMemory) }
 {
     match eval(alloc, condition, &row, profile) {

@@ -5,7 +5,7 @@ use Rattle.vtl_cell.specs.declared.cell.Cell.{Cell}
 use Rattle.vtl_cell.specs.declared.cell.Cell.TheVariants as c
 use Rattle.vtl_cell.specs.Row.{Row}
 use Rattle.vtl_cell.specs.Outcome.{Outcome, fault_in, faults_by, unless}
-use Rattle.vtl_tree.specs.Exp.{Exp}
+use Rattle.vtl_tree.specs.CompExp.{CompExp}
 use Rattle.vtl_tree.specs.Value.{value}
 
 -- a condition holds where its value is true: neither where it is null nor where it has a fault
@@ -14,9 +14,9 @@ is_true (Ok (c.Bool b)) = b
 is_true _ = false
 
 -- the points at which the condition is true
-abbrev pub kept : Settings → Exp → List Row → List Row
+abbrev pub kept : Settings → CompExp → List Row → List Row
 kept p e d = filter (λ r. is_true (value p e r)) d
 
 -- `filter`: these points, or the fault of the condition over all points
-abbrev pub filter_of : Settings → Exp → List Row → Outcome (List Row)
+abbrev pub filter_of : Settings → CompExp → List Row → Outcome (List Row)
 filter_of p e d = unless (faults_by (λ r. fault_in (value p e r)) d) (kept p e d)

@@ -2,7 +2,7 @@ pub mod Built
 pub mod BuiltView
 pub mod Clauses
 pub mod DataSet
-pub mod Exp
+pub mod CompExp
 pub mod Kept
 pub mod Meaning
 pub mod Rows

@@ -3,7 +3,7 @@ use Rattle.std.specs.Prelude.{ℕ, cond, Result, Ok, Err, Option, Some, None, Li
 use Rattle.vtl_decimal.specs.Settings.{Settings}
 use Rattle.vtl_cell.specs.Row.{Row}
 use Rattle.vtl_cell.specs.Outcome.{Fault, Outcome, after}
-use Rattle.vtl_tree.specs.Exp.{Exp}
+use Rattle.vtl_tree.specs.CompExp.{CompExp}
 use Rattle.vtl_tree.specs.Structure.{same_name}
 use Rattle.vtl_tree.specs.Clauses.{filter_of}
 use Rattle.vtl_tree.specs.declared.structure.Structure.{Structure}
@@ -26,7 +26,7 @@ data_of name (d ∷ ds) = cond (same_name d.0 name) (Some d.1) (data_of name ds)
 -- what stands for a data set in a script, with the structure that it has
 pub data Node : Type 0 where
   named : List ℕ → Structure → Node
-  filtered : Node → Exp → Node
+  filtered : Node → CompExp → Node
 
 -- R <- node
 pub record Statement : Type 0 where

@@ -10,7 +10,7 @@ use Rattle.vtl_cell.specs.Conversion.{as_kind}
 use Rattle.vtl_cell.specs.Scalars.{scalar_of}
 use Rattle.vtl_cell.specs.Row.{Row, column_of}
 use Rattle.vtl_cell.specs.Outcome.{Outcome, after}
-use Rattle.vtl_tree.specs.Exp.{Exp, Exps, column, const, call, no_exps, exp}
+use Rattle.vtl_tree.specs.CompExp.{CompExp, CompExps, column, const, call, no_comp_exps, comp_exp}
 
 -- the value of an operator at these operands, as a value of its kind
 abbrev pub result_of : Settings → ScalarOp → Kind → List Cell → Outcome Cell
@@ -44,12 +44,12 @@ called p kind (test ∷ a ∷ b ∷ []) op.If = after test (λ t. after (branch 
 called p kind operands o = after (all_of operands) (result_of p o kind)
 
 abbrev mutual
-  pub value : Settings → Exp → Row → Outcome Cell
+  pub value : Settings → CompExp → Row → Outcome Cell
   value p (column place name kind) row = Ok (column_of place row)
   value p (const v) row = Ok v
   value p (call o kind args) row = called p kind (values p args row) o
 
   -- of each operand
-  pub values : Settings → Exps → Row → List (Outcome Cell)
-  values p no_exps row = []
-  values p (exp e es) row = value p e row ∷ values p es row
+  pub values : Settings → CompExps → Row → List (Outcome Cell)
+  values p no_comp_exps row = []
+  values p (comp_exp e es) row = value p e row ∷ values p es row

@@ -4,7 +4,7 @@ ghost use Rattle.vtl_cell.specs.Conversion.{as_kind};
 ghost use Rattle.vtl_cell.specs.Outcome.{Outcome, after};
 ghost use Rattle.vtl_scalar.specs.Answers.{Answers};
 ghost use Rattle.vtl_tree.specs.Value.{first_chosen, is_choice, value};
-ghost use Rattle.vtl_tree.specs.View.{exp_of};
+ghost use Rattle.vtl_tree.specs.View.{comp_exp_of};
 
 use crate::CompExpr;
 use std::alloc::Global;
@@ -17,7 +17,7 @@ use vtl_scalar::{ScalarErr, apply, to_kind};
 /// one. A column past the last cell is null.
 #[tactic(auto, using(crate::proofs::Values::choice_has_three))]
 pub fn eval(alloc: Global, e: &CompExpr, row: &[Cell], p: &Profile) -> Result<Cell, ScalarErr>
-    ensures { Answers result (value p.now (exp_of e.now) row.now) }
+    ensures { Answers result (value p.now (comp_exp_of e.now) row.now) }
 {
     match e {
         CompExpr::Column { place, .. } => match row.get(*place) {

@@ -5,7 +5,7 @@ ghost use Rattle.vtl_lists.specs.Perm.{Perm};
 ghost use Rattle.vtl_cell.specs.Row.{Row};
 ghost use Rattle.vtl_tree.specs.Clauses.{filter_of, kept, is_true};
 ghost use Rattle.vtl_tree.specs.DataSet.{Distinct, IsDataSet, look};
-ghost use Rattle.vtl_tree.specs.Exp.{Exp};
+ghost use Rattle.vtl_tree.specs.CompExp.{CompExp};
 ghost use Rattle.vtl_tree.specs.Kept.{kept_row};
 ghost use Rattle.vtl_tree.specs.SameResult.{Same};
 ghost use Rattle.vtl_tree.specs.Value.{value};
@@ -21,7 +21,7 @@ pub fn points_are_a_map()
 /// `filter` gives a data set of the same structure, which at each tuple of identifiers has the operand's point where
 /// the condition is true there and none elsewhere; and it does not depend on the order of points.
 pub fn filter_is_a_clause()
-    ensures kept { (p : Settings) (s : Structure) (c : Exp) (d : List Row) → IsDataSet s d → IsDataSet s (kept p c d) }
-    ensures at { (p : Settings) (n : ℕ) (c : Exp) (d : List Row) (k : Row) → Distinct n d → look n (kept p c d) k ≡ kept_row (λ r. is_true (value p c r)) (look n d k) }
-    ensures order { (p : Settings) (c : Exp) (t d : List Row) → Perm t d → Same (filter_of p c t) (filter_of p c d) }
+    ensures kept { (p : Settings) (s : Structure) (c : CompExp) (d : List Row) → IsDataSet s d → IsDataSet s (kept p c d) }
+    ensures at { (p : Settings) (n : ℕ) (c : CompExp) (d : List Row) (k : Row) → Distinct n d → look n (kept p c d) k ≡ kept_row (λ r. is_true (value p c r)) (look n d k) }
+    ensures order { (p : Settings) (c : CompExp) (t d : List Row) → Perm t d → Same (filter_of p c t) (filter_of p c d) }
 {}

@@ -5,7 +5,7 @@ ghost use Rattle.vtl_scalar.specs.Answers.{AnswersBy};
 ghost use Rattle.vtl_tree.specs.Clauses.{filter_of, is_true};
 ghost use Rattle.vtl_tree.specs.Seen.{seen_of};
 ghost use Rattle.vtl_tree.specs.Value.{value};
-ghost use Rattle.vtl_tree.specs.View.{exp_of};
+ghost use Rattle.vtl_tree.specs.View.{comp_exp_of};
 ghost use Rattle.vtl_tree.specs.Rows.{rows_of};
 
 use crate::{CompExpr, Seen, eval};
@@ -22,7 +22,7 @@ pub fn filter_points(
     condition: &CompExpr,
     profile: &Profile,
 ) -> Result<Vec<Vec<Cell>>, ScalarErr>
-    ensures { AnswersBy (λ v. rows_of v.items) result (filter_of profile.now (exp_of condition.now) (rows_of points.now)) }
+    ensures { AnswersBy (λ v. rows_of v.items) result (filter_of profile.now (comp_exp_of condition.now) (rows_of points.now)) }
 {
     let mut kept = Vec::new(alloc);
     let mut seen = Seen::Nothing;
@@ -48,8 +48,8 @@ fn keep_point(
     condition: &CompExpr,
     profile: &Profile,
 ) -> Result<Seen, ScalarErr>
-    ensures seen { IfOk result (λ s. seen_of s ≡ join (seen_of seen) (fault_in (value profile.now (exp_of condition.now) row.now))) }
-    ensures kept { IfOk result (λ _. rows_of kept.new.items ≡ rows_of kept.old.items ++ (if is_true (value profile.now (exp_of condition.now) row.now) then row.now ∷ [] else [])) }
+    ensures seen { IfOk result (λ s. seen_of s ≡ join (seen_of seen) (fault_in (value profile.now (comp_exp_of condition.now) row.now))) }
+    ensures kept { IfOk result (λ _. rows_of kept.new.items ≡ rows_of kept.old.items ++ (if is_true (value profile.now (comp_exp_of condition.now) row.now) then row.now ∷ [] else [])) }
     ensures err { IfErr result (λ e. e ≡ ScalarErr.OutOfMemory) }
 {
     match eval(alloc, condition, row, profile) {

@@ -1,7 +1,7 @@
 use Rattle.std.proofs.Common.{rules, ◌≡◌, get_or, length, true, false, Some, None, Ok, Err, ◌∙◌, sym, ap, refl}
 use Rattle.vtl_cell.specs.declared.cell.Cell.TheVariants as cell
 use Rattle.vtl_tree.specs.Value.{first_chosen, is_choice, result_of, value}
-use Rattle.vtl_tree.specs.View.{exp_of}
+use Rattle.vtl_tree.specs.View.{comp_exp_of}
 use Rattle.vtl_tree.proofs.Values.{rest_more, Answers_same, Answers_passed, choice-fault, choice-first, choice-second, choice-value, value_at_end, value_stops}
 use Rattle.vtl_tree.proofs.evaluation.+eval.Goals as goal
 
@@ -46,8 +46,8 @@ returns-in_err-v-in-Apply t c =
 pub loop-arg-preserved : goal.loop-arg-preserved
 loop-arg-preserved t c =
     let items = c.deref-arg-items.result.now in
-    let at : value c.args.p.now (exp_of (get_or items c.loop-arg.arg-index c.arg-item.result)) c.args.row.now ≡ Ok c.in_ok-v-in-Apply.v =
-    ap (λ x. value c.args.p.now (exp_of x) c.args.row.now) (sym c.arg-item.is) ∙ c.in_ok-v-in-Apply.ensures in
+    let at : value c.args.p.now (comp_exp_of (get_or items c.loop-arg.arg-index c.arg-item.result)) c.args.row.now ≡ Ok c.in_ok-v-in-Apply.v =
+    ap (λ x. value c.args.p.now (comp_exp_of x) c.args.row.now) (sym c.arg-item.is) ∙ c.in_ok-v-in-Apply.ensures in
     rw c.in_ok-push-in-Apply.ensures.items
     (sym (rest_more c.args.p.now items c.loop-arg.arg-index c.arg-item.result c.args.row.now c.loop-arg.values.items c.in_ok-v-in-Apply.v c.loop-arg-test.true at) ∙ c.loop-arg.invariant)
 

@@ -5,11 +5,11 @@ use Rattle.vtl_cell.specs.declared.kind.Kind.{Kind}
 use Rattle.vtl_cell.specs.declared.operator.ScalarOp.{ScalarOp}
 
 mutual
-  pub data Exp : Type 0 where
-    column : (place : ℕ) (name : List ℕ) → Kind → Exp
-    const : Cell → Exp
-    call : ScalarOp → Kind → Exps → Exp
+  pub data CompExp : Type 0 where
+    column : (place : ℕ) (name : List ℕ) → Kind → CompExp
+    const : Cell → CompExp
+    call : ScalarOp → Kind → CompExps → CompExp
 
-  pub data Exps : Type 0 where
-    no_exps : Exps
-    exp : Exp → Exps → Exps
+  pub data CompExps : Type 0 where
+    no_comp_exps : CompExps
+    comp_exp : CompExp → CompExps → CompExps
