@@ -8,3 +8,4 @@ pub mod Points
 pub mod RecordsLeft
 pub mod RowsWritten
 pub mod StructuresFile
+pub mod TableText

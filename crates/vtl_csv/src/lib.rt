@@ -10,6 +10,7 @@ mod reading;
 mod records;
 mod row_text;
 mod structures;
+mod table_text;
 mod writing;
 
 pub use laws::{output_rises_by_identifiers, points_are_a_data_set};
@@ -17,4 +18,5 @@ pub use plain::{has_plain_lines, plain_lines_are_lines};
 pub use reading::{column, points};
 pub use records::RecordReader;
 pub use structures::{StructErr, read_structures};
+pub use table_text::{write_dataset, write_table};
 pub use writing::csv_text;
