@@ -43,7 +43,8 @@ fn main(rt: HostRuntime) -> io::Result<ExitCode> {
             Ok(ExitCode::from(report.code))
         }
         Err(trouble) => {
-            eprintln!(rt; "vtl_probe: {trouble}")?;
+            let text = trouble.text(rt.alloc())?;
+            eprintln!(rt; "vtl_probe: {text}")?;
             Ok(ExitCode::from(2))
         }
     }

@@ -3,7 +3,7 @@ use crate::report::{Report, Tally};
 use crate::rows::Row;
 use crate::trouble::{CaseErr, Trouble};
 use crate::{datasets, order, structures, sums, syntax, tokens, values};
-use csv::{Error, ErrorKind, Reader, ReaderBuilder, StringRecord};
+use csv::{Reader, ReaderBuilder, StringRecord};
 use std::alloc::{AllocError, Global};
 
 // What the cases of a table are about.
@@ -113,43 +113,34 @@ fn judge_all<'a>(
 ) -> Result<(), Trouble<'a>> {
     let mut reader = ReaderBuilder::new()
         .has_headers(false)
+        .flexible(true)
         .from_reader(alloc, text.as_bytes());
     let mut fields = StringRecord::new(alloc);
+    let mut width = 0;
     for case in 0..=text.len() {
         // An empty file has an empty header.
-        if !is_read(&mut reader, &mut fields, case)? && case > 0 {
+        if !is_read(&mut reader, &mut fields)? && case > 0 {
             break;
         }
         let row = Row { fields: &fields };
-        if case > 0 {
+        if case == 0 {
+            check_header(alloc, table, &row)?;
+            width = fields.len();
+        } else if fields.len() == width {
             judge(alloc, table, script, &row, case, tally)?;
         } else {
-            check_header(alloc, table, &row)?;
+            let why = "not as many fields as the header has";
+            return Err(Trouble::Case { case, why });
         }
     }
     Ok(())
 }
 
-// Whether there is a line, which is a case or the header.
-fn is_read<'a>(
-    reader: &mut Reader<&[u8]>,
-    fields: &mut StringRecord,
-    case: usize,
-) -> Result<bool, Trouble<'a>> {
+// Whether there is a line. Fields of a text are texts, so that only memory can be lacking.
+fn is_read<'a>(reader: &mut Reader<&[u8]>, fields: &mut StringRecord) -> Result<bool, Trouble<'a>> {
     match reader.read_record(fields) {
         Ok(is_read) => Ok(is_read),
-        Err(error) => Err(unread(&error, case)),
-    }
-}
-
-// Why a line is no case.
-fn unread<'a>(error: &Error, case: usize) -> Trouble<'a> {
-    match error.kind() {
-        ErrorKind::UnequalLengths { .. } => Trouble::Case {
-            case,
-            why: "not as many fields as the header has",
-        },
-        _ => Trouble::Memory,
+        Err(_) => Err(Trouble::Memory),
     }
 }
 

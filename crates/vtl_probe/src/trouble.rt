@@ -1,6 +1,5 @@
 // Why there is no verdict.
-use std::alloc::{AllocError, AllocFailed};
-use std::fmt;
+use std::alloc::{AllocError, AllocFailed, Global};
 
 const USAGE: &str = "the words are one of
   scalars|values|order|periods|names|sums|lexed|syntax|depth|structures|datasets TABLE
@@ -18,16 +17,24 @@ pub(crate) enum Trouble<'a> {
     Memory,
 }
 
-impl<'a> fmt::Display for Trouble<'a> {
-    fn fmt<W: fmt::Write>(&self, f: &mut fmt::Formatter<W>) -> fmt::Result {
-        match self {
-            Trouble::Usage => f.write_str(USAGE),
-            Trouble::File { path, why } => write!(f, "{why}: {path}"),
-            Trouble::Header(header) => write!(f, "the header is not {header}"),
-            Trouble::Case { case, why } => write!(f, "case {case}: {why}"),
-            Trouble::Memory => f.write_str("no memory"),
+impl<'a> Trouble<'a> {
+    // What is told of it.
+    pub(crate) fn text(&self, alloc: Global) -> Result<String, AllocError> {
+        match *self {
+            Trouble::Usage => String::from_str(alloc, USAGE),
+            Trouble::File { path, why } => joined(alloc, why, ": ", path),
+            Trouble::Header(header) => joined(alloc, "the header is not", " ", header),
+            Trouble::Case { case, why } => format!(in alloc; "case {case}: {why}"),
+            Trouble::Memory => String::from_str(alloc, "no memory"),
         }
     }
+}
+
+fn joined(alloc: Global, first: &str, between: &str, second: &str) -> Result<String, AllocError> {
+    let mut out = String::from_str(alloc, first)?;
+    out.push_str(between)?;
+    out.push_str(second)?;
+    Ok(out)
 }
 
 impl<'a> From<AllocError> for Trouble<'a> {
