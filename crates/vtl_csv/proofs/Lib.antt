@@ -1,4 +1,5 @@
 pub mod DataSetLemmas
+pub mod DataSetTextLemmas
 pub mod DeclarationLemmas
 pub mod FieldLemmas
 pub mod KeyOrderLemmas
@@ -7,3 +8,4 @@ pub mod PointLemmas
 pub mod RecordsLeftLemmas
 pub mod RowLemmas
 pub mod RowTextLemmas
+pub mod TableTextLemmas
