@@ -5,6 +5,7 @@ pub mod FieldLemmas
 pub mod KeyOrderLemmas
 pub mod PlainTextLemmas
 pub mod PointLemmas
+pub mod ReadAgainLemmas
 pub mod RecordsLeftLemmas
 pub mod RowLemmas
 pub mod RowTextLemmas

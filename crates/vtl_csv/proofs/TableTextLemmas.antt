@@ -27,10 +27,10 @@ use Rattle.vtl_rows.proofs.Ties.{ties_agree}
 use Rattle.vtl_csv.specs.TableText.{all_places, in_listed_order, rows_text, table_text, whole_rows}
 
 -- ---- all cells of a row
-whole_row : (n : ℕ) (r : Row) → length r ≡ n → cells_at (range_with_len 0 n) r ≡ r
+pub whole_row : (n : ℕ) (r : Row) → length r ≡ n → cells_at (range_with_len 0 n) r ≡ r
 whole_row n r e = sym (fill_by_all (λ i. column_of i r) r n c.Null e (λ k h. refl))
 
-whole_each : (n : ℕ) (rows : List Row) → AllByRecursion (λ r. length r ≡ n) rows → map (cells_at (range_with_len 0 n)) rows ≡ rows
+pub whole_each : (n : ℕ) (rows : List Row) → AllByRecursion (λ r. length r ≡ n) rows → map (cells_at (range_with_len 0 n)) rows ≡ rows
 whole_each n [] all = refl
 whole_each n (r ∷ rows) all = ap (λ x. x ∷ map (cells_at (range_with_len 0 n)) rows) (whole_row n r all.0) ∙ ap (λ l. r ∷ l) (whole_each n rows all.1)
 

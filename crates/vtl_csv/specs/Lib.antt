@@ -7,6 +7,7 @@ pub mod InputFields
 pub mod InputFile
 pub mod PlainText
 pub mod Points
+pub mod ReadAgain
 pub mod RecordsLeft
 pub mod RowsWritten
 pub mod SortedCodes
