@@ -1,6 +1,7 @@
 pub mod DataSetLemmas
 pub mod DataSetTextLemmas
 pub mod DeclarationLemmas
+pub mod FieldAgainLemmas
 pub mod FieldLemmas
 pub mod KeyOrderLemmas
 pub mod PlainTextLemmas
