@@ -1,5 +1,5 @@
 -- The field of a value is read again as the value.
-use Rattle.std.proofs.Common.{◌≡◌, ◌≢◌, ◌∷◌, ◌++◌, ◌+◌, ◌%◌, ◌/◌, ◌<◌, ◌^◌, ℕ, [], List, Bool, true, false, cond, not, ◌&&◌, Option, Some, None, Ok, Err, arith, refl, sym, ap, ◌∙◌, true≢false, lit<, encode_utf8_all, pos, negsuc, ℤ, zero, suc, ◌==◌, ◌≤◌, IsTrue, nat_le, unsigned_abs, codes}
+use Rattle.std.proofs.Common.{◌≡◌, ◌≢◌, ◌∷◌, ◌++◌, ◌+◌, ◌%◌, ◌/◌, ◌<◌, ◌^◌, ℕ, [], List, Bool, true, false, cond, not, ◌&&◌, Some, None, Ok, Err, arith, refl, sym, ap, ◌∙◌, true≢false, lit<, encode_utf8_all, pos, negsuc, ℤ, zero, suc, ◌==◌, ◌≤◌, IsTrue, nat_le, unsigned_abs, codes}
 use Rattle.std.specs.List.{AllByRecursion}
 use Rattle.std.specs.Str.{IsAscii, all_scalars, is_utf8}
 use Rattle.std.proofs.Math.Nat.{div-le_self}
@@ -34,7 +34,7 @@ use Rattle.vtl_tree.specs.declared.structure.Component.{Component}
 use Rattle.vtl_tree.specs.declared.structure.Role.TheVariants as role
 use Rattle.vtl_cell.proofs.Rows.{split_and}
 use Rattle.vtl_csv.specs.declared.input.InputKind.TheVariants as i
-use Rattle.vtl_csv.specs.InputFields.{coded_cell, field_cell, is_coded, text_cell}
+use Rattle.vtl_csv.specs.InputFields.{field_cell, text_cell}
 use Rattle.vtl_csv.specs.ReadAgain.{AreReadAgain, AreTold, IsShown, IsTold}
 use Rattle.vtl_csv.specs.StructuresFile.{is_identifier}
 
@@ -173,11 +173,14 @@ field_again p x v of_kind no_null told = rw (held_utf8 p v told.held) (go (is_nu
     filled : (f : List ℕ) → f ≢ [] → reads p x.kind f ≡ Some v → text_cell p x f ≡ Ok v
     filled [] some e = absurd (some refl)
     filled (b ∷ bs) some e = rw (e, told.coded) refl
+
     missing : (b : Bool) → not (b && true) ≡ true → cond b (Err i.NullIdentifier) (Ok c.Null) ≡ Ok c.Null
     missing true e = absurd (true≢false (sym e))
     missing false e = refl
+
     null_again : v ≡ c.Null → text_cell p x (text_of p v) ≡ Ok v
     null_again e = rw e (missing (is_identifier x) (ap (λ w. not (same_role x.role role.Identifier && is_null w)) (sym e) ∙ no_null))
+
     go : (b : Bool) → is_null v ≡ b → text_cell p x (text_of p v) ≡ Ok v
     go true n = null_again (null_is v n)
     go false n =

@@ -1,22 +1,20 @@
 -- The text of a data set is read again as its points in order.
-use Rattle.std.proofs.Common.{◌≡◌, ℕ, zero, suc, ◌+◌, ◌<◌, ◌≤◌, ◌∷◌, ◌++◌, [], List, length, length-append, map, flat_map, take, Bool, true, false, cond, ◌&&◌, ◌||◌, not, Option, Some, None, Ok, arith, refl, sym, ap, ◌∙◌, true≢false, append_assoc, encode_utf8_all, subst, zero-add, lit<, ◌==◌}
+use Rattle.std.proofs.Common.{◌≡◌, ℕ, zero, suc, ◌+◌, ◌<◌, ◌≤◌, ◌∷◌, ◌++◌, [], List, length, length-append, map, flat_map, take, Bool, true, false, cond, ◌&&◌, ◌||◌, not, Some, None, Ok, arith, refl, sym, ap, ◌∙◌, true≢false, append_assoc, encode_utf8_all, subst, zero-add, lit<, ◌==◌}
 use Rattle.std.specs.List.{AllByRecursion, filter, list_any, range_with_len, zip}
 use Rattle.std.proofs.lemmas.Bool.{eq-eqb, lt-leb, ne_eqb}
 use Rattle.std.proofs.lemmas.List.{append-nil, length-map, take-map}
-use Rattle.std.proofs.lemmas.List.FromFn.{length-range_with_len}
 use Rattle.std.proofs.lemmas.Str.{encodes_same}
 use Rattle.std.proofs.lemmas.Slice.Eq.{bytes_eq-Decides}
 use Rattle.std.specs.Cmp.Lexicographic.{nat_list_eq_equiv}
-use Rattle.csv.specs.Machine.{next_record}
 use Rattle.csv.specs.Reading.{default_config, is_bom, records, records_from, strip_bom}
 use Rattle.csv.specs.Writing.{default_writer, escaped, field_text, fields_text, is_blank, needs_quotes, quoted, read_back, row_body, row_text}
 use Rattle.csv.specs.declared.parser.State.TheVariants as st
 use Rattle.csv.proofs.RoundTrip.{read-write}
 use Rattle.vtl_decimal.specs.Settings.{Settings}
 use Rattle.vtl_lists.specs.Apart.{all_apart}
-use Rattle.vtl_lists.specs.Each.{cons_if, each_some}
+use Rattle.vtl_lists.specs.Each.{each_some}
 use Rattle.vtl_lists.specs.Perm.{Perm, empty, keep, chain}
-use Rattle.vtl_lists.proofs.Aparts.{all_apart-Perm, apart_parts, none_is}
+use Rattle.vtl_lists.proofs.Aparts.{all_apart-Perm, apart_parts}
 use Rattle.vtl_lists.specs.Sorting.{le_by, sorted_by}
 use Rattle.vtl_lists.proofs.Perms.{AllByRecursion-Perm, Perm-append_back, Perm-middle, Perm-sym, length-Perm}
 use Rattle.vtl_lists.proofs.Sorts.{Perm-sorted_by}
@@ -31,7 +29,7 @@ use Rattle.vtl_tree.specs.declared.structure.Role.{Role}
 use Rattle.vtl_tree.specs.declared.structure.Role.TheVariants as role
 use Rattle.vtl_tree.specs.declared.structure.Structure.{Structure}
 use Rattle.vtl_tree.specs.declared.structure.Component.{Component}
-use Rattle.vtl_csv.specs.InputFields.{field_cell, most_points, record_row, row_with}
+use Rattle.vtl_csv.specs.InputFields.{most_points, record_row, row_with}
 use Rattle.vtl_csv.specs.CsvText.{csv_of, header_of}
 use Rattle.vtl_csv.specs.InputFile.{columns_with, dataset_rows, in_column_order, is_repeat, laid_out, layout_of, named_by, place_from, place_in, rows_below, rows_in_records, rows_with, with_places}
 use Rattle.vtl_csv.specs.StructuresFile.{records_in}
@@ -95,7 +93,7 @@ no_repeat : (n k : ℕ) (rows : List Row) (r : Row) → length r ≡ n → AllBy
 no_repeat n k [] r e wide differ = refl
 no_repeat n k (q ∷ rows) r e wide differ =
     let one : agree (take k (range_with_len 0 n)) q r ≡ false =
-      ap (λ x. same_row x (cells_at (take k (range_with_len 0 n)) r)) (first_cells n k q wide.0) ∙ ap (same_row (take k q)) (first_cells n k r e) ∙ same_key-sym k q r ∙ differ.0 in
+    ap (λ x. same_row x (cells_at (take k (range_with_len 0 n)) r)) (first_cells n k q wide.0) ∙ ap (same_row (take k q)) (first_cells n k r e) ∙ same_key-sym k q r ∙ differ.0 in
     ap (λ b. b || is_repeat (take k (range_with_len 0 n)) rows r) one ∙ no_repeat n k rows r e wide.1 differ.1
 
 module _ (p : Settings) (columns : List Component) (k : ℕ) where
@@ -303,8 +301,8 @@ record_unmarked f fs rest e =
     let tail = cond blank (34 ∷ 34 ∷ []) [] ++ (10 ∷ []) in
     let next = followed fs blank rest in
     let parts : row_text default_writer (f ∷ fs) ++ rest ≡ field_text default_writer f ++ next.0 ∷ next.1 =
-      ap (λ l. l ++ rest) (append_assoc (field_text default_writer f) (fields_text default_writer fs) tail) ∙ append_assoc (field_text default_writer f) (fields_text default_writer fs ++ tail) rest
-      ∙ ap (λ l. field_text default_writer f ++ l) next.2 in
+    ap (λ l. l ++ rest) (append_assoc (field_text default_writer f) (fields_text default_writer fs) tail) ∙ append_assoc (field_text default_writer f) (fields_text default_writer fs ++ tail) rest
+    ∙ ap (λ l. field_text default_writer f ++ l) next.2 in
     ap strip_bom parts ∙ field_goes_on f next.0 next.1 next.3 e ∙ sym parts
 
 header_unmarked : (columns : List Component) (rest : List ℕ) → 1 ≤ length columns → IsUnmarked columns → strip_bom (row_text default_writer (header_of columns) ++ rest) ≡ row_text default_writer (header_of columns) ++ rest
