@@ -1,5 +1,5 @@
 -- The field of a value is read again as the value.
-use Rattle.std.proofs.Common.{◌≡◌, ◌≢◌, ◌∷◌, ◌++◌, ◌+◌, ◌%◌, ◌/◌, ◌<◌, ◌^◌, ℕ, [], List, Bool, true, false, cond, not, ◌&&◌, Some, None, Ok, Err, arith, refl, sym, ap, ◌∙◌, true≢false, lit<, encode_utf8_all, pos, negsuc, ℤ, zero, suc, ◌==◌, ◌≤◌, IsTrue, nat_le, unsigned_abs, codes}
+use Rattle.std.proofs.Common.{◌≡◌, ◌≢◌, ◌∷◌, ◌++◌, ◌+◌, ◌%◌, ◌/◌, ◌<◌, ◌^◌, ℕ, [], List, Bool, true, false, cond, not, ◌&&◌, Some, None, Ok, Err, arith, refl, sym, ap, ◌∙◌, true≢false, lit<, encode_utf8_all, pos, negsuc, ℤ, zero, suc, ◌==◌, ◌≤◌, IsTrue, nat_le, unsigned_abs, codes, option_map}
 use Rattle.std.specs.List.{AllByRecursion}
 use Rattle.std.specs.Str.{IsAscii, all_scalars, is_utf8}
 use Rattle.std.proofs.Math.Nat.{div-le_self}
@@ -10,7 +10,7 @@ use Rattle.std.specs.Fmt.{decimal, signed_decimal}
 use Rattle.std.specs.Int.{is_negative, w64}
 use Rattle.std.specs.Int.RustNames.{FitsSigned}
 use Rattle.std.proofs.lemmas.Str.Ascii.{IsAscii-cons, IsAscii-nil}
-use Rattle.std.proofs.lemmas.Str.{IsAscii-append, IsUtf8-from_ascii, encodes_same, is_utf8-from_IsUtf8}
+use Rattle.std.proofs.lemmas.Str.{chars-encodes, IsAscii-append, IsUtf8-from_ascii, encodes_same, is_utf8-from_IsUtf8}
 use Rattle.vtl_decimal.specs.Settings.{Settings}
 use Rattle.vtl_decimal.specs.Numeral.{integer_read, number_read}
 use Rattle.vtl_decimal.specs.Written.{behind_point, last_digits, number_text, shortest_digits, sign_text}
@@ -27,16 +27,27 @@ use Rattle.vtl_cell.specs.declared.kind.Kind.{Kind}
 use Rattle.vtl_cell.specs.declared.kind.Kind.TheVariants as k
 use Rattle.vtl_cell.specs.Kinds.{is_null, is_of, kind_of}
 use Rattle.vtl_cell.specs.Reading.{reads}
-use Rattle.vtl_cell.specs.Writing.{text_of}
+use Rattle.vtl_cell.specs.Writing.{ReadsBack, text_of}
 use Rattle.vtl_tree.specs.DataSet.{is_point}
 use Rattle.vtl_tree.specs.Structure.{same_role}
 use Rattle.vtl_tree.specs.declared.structure.Component.{Component}
 use Rattle.vtl_tree.specs.declared.structure.Role.TheVariants as role
+use Rattle.vtl_decimal.proofs.WrittenLemmas.{reads_back as number_back}
+use Rattle.vtl_time.proofs.DayLemmas.{reads_back as day_back}
+use Rattle.vtl_time.proofs.PeriodLemmas.{reads_back as period_back}
 use Rattle.vtl_cell.proofs.Rows.{split_and}
+use Rattle.vtl_cell.proofs.Texts.{day_reads_back, integer_reads_back, period_reads_back}
 use Rattle.vtl_csv.specs.declared.input.InputKind.TheVariants as i
 use Rattle.vtl_csv.specs.InputFields.{field_cell, text_cell}
-use Rattle.vtl_csv.specs.ReadAgain.{AreReadAgain, AreTold, IsShown, IsTold}
+use Rattle.vtl_csv.specs.ReadAgain.{AreTold, IsShown, IsTold}
 use Rattle.vtl_csv.specs.StructuresFile.{is_identifier}
+
+-- the field that each cell is written as is read as the cell, in its column
+abbrev pub AreReadAgain : Settings → List Component → Row → Type 0
+AreReadAgain p [] [] = Unit {0}
+AreReadAgain p [] (v ∷ vs) = ⊥
+AreReadAgain p (x ∷ xs) [] = ⊥
+AreReadAgain p (x ∷ xs) (v ∷ vs) = (field_cell p x (text_of p v) ≡ Ok v) × AreReadAgain p xs vs
 
 -- ---- texts are UTF-8
 ascii_utf8 : (bs : List ℕ) → IsAscii bs → is_utf8 bs ≡ true
@@ -49,6 +60,17 @@ four_ascii : (n : ℕ) (bs : List ℕ) → IsAscii bs → IsAscii (four_digits n
 four_ascii n bs a =
     IsAscii-cons (48 + n / 1000 % 10) ((48 + n / 100 % 10) ∷ (48 + n / 10 % 10) ∷ (48 + n % 10) ∷ bs) (omega arith)
     (IsAscii-cons (48 + n / 100 % 10) ((48 + n / 10 % 10) ∷ (48 + n % 10) ∷ bs) (omega arith) (two_ascii n bs a))
+
+-- ---- texts are read
+held_back : (p : Settings) (v : Cell) → p.scale ≤ 9 → IsHeld v → ReadsBack p v
+held_back p c.Null few h n fits = absurd (true≢false n)
+held_back p (c.Bool true) few h n fits = refl
+held_back p (c.Bool false) few h n fits = refl
+held_back p (c.Int m) few h n fits = integer_reads_back p m n fits
+held_back p (c.Num m) few h n fits = ap (option_map c.Num) (number_back p m few h)
+held_back p (c.Text t) few h n fits = ap (λ u. Some (c.Text u)) (chars-encodes t h)
+held_back p (c.Day d) few h n fits = day_reads_back p d (day_back d h) n fits
+held_back p (c.Period q) few h n fits = period_reads_back p q (period_back q h) n fits
 
 -- ---- a value that is not null, of a component
 kind_is : (kind : Kind) (v : Cell) → is_null v ≡ false → is_of kind v ≡ true → kind_of v ≡ kind
@@ -167,8 +189,8 @@ null_is (c.Text x) n = absurd (true≢false (sym n))
 null_is (c.Day x) n = absurd (true≢false (sym n))
 null_is (c.Period x) n = absurd (true≢false (sym n))
 
-field_again : (p : Settings) (x : Component) (v : Cell) → is_of x.kind v ≡ true → not (same_role x.role role.Identifier && is_null v) ≡ true → IsTold p x v → field_cell p x (text_of p v) ≡ Ok v
-field_again p x v of_kind no_null told = rw (held_utf8 p v told.held) (go (is_null v) refl)
+field_again : (p : Settings) (x : Component) (v : Cell) → is_of x.kind v ≡ true → not (same_role x.role role.Identifier && is_null v) ≡ true → p.scale ≤ 9 → IsTold p x v → field_cell p x (text_of p v) ≡ Ok v
+field_again p x v of_kind no_null few told = rw (held_utf8 p v told.held) (go (is_null v) refl)
   where
     filled : (f : List ℕ) → f ≢ [] → reads p x.kind f ≡ Some v → text_cell p x f ≡ Ok v
     filled [] some e = absurd (some refl)
@@ -184,18 +206,18 @@ field_again p x v of_kind no_null told = rw (held_utf8 p v told.held) (go (is_nu
     go : (b : Bool) → is_null v ≡ b → text_cell p x (text_of p v) ≡ Ok v
     go true n = null_again (null_is v n)
     go false n =
-        let back = told.back n told.fits in
+        let back = held_back p v few told.held n told.fits in
         filled (text_of p v) (some_text p v n told.shown back) (ap (λ kind. reads p kind (text_of p v)) (sym (kind_is x.kind v n of_kind)) ∙ back)
 
-pub fields_again : (p : Settings) (columns : List Component) (r : Row) → is_point columns r ≡ true → AreTold p columns r → AreReadAgain p columns r
-fields_again p [] [] e all = tt
-fields_again p [] (v ∷ vs) e all = absurd (true≢false (sym e))
-fields_again p (x ∷ xs) [] e all = absurd (true≢false (sym e))
-fields_again p (x ∷ xs) (v ∷ vs) e all =
+fields_again : (p : Settings) (columns : List Component) (r : Row) → p.scale ≤ 9 → is_point columns r ≡ true → AreTold p columns r → AreReadAgain p columns r
+fields_again p [] [] few e all = tt
+fields_again p [] (v ∷ vs) few e all = absurd (true≢false (sym e))
+fields_again p (x ∷ xs) [] few e all = absurd (true≢false (sym e))
+fields_again p (x ∷ xs) (v ∷ vs) few e all =
     let parts = split_and (is_of x.kind v && not (same_role x.role role.Identifier && is_null v)) (is_point xs vs) e in
     let first = split_and (is_of x.kind v) (not (same_role x.role role.Identifier && is_null v)) parts.0 in
-    (field_again p x v first.0 first.1 all.0, fields_again p xs vs parts.1 all.1)
+    (field_again p x v first.0 first.1 few all.0, fields_again p xs vs few parts.1 all.1)
 
-pub points_again : (p : Settings) (columns : List Component) (rows : List Row) → AllByRecursion (λ r. is_point columns r ≡ true) rows → AllByRecursion (AreTold p columns) rows → AllByRecursion (AreReadAgain p columns) rows
-points_again p columns [] typed all = tt
-points_again p columns (r ∷ rows) typed all = (fields_again p columns r typed.0 all.0, points_again p columns rows typed.1 all.1)
+pub points_again : (p : Settings) (columns : List Component) (rows : List Row) → p.scale ≤ 9 → AllByRecursion (λ r. is_point columns r ≡ true) rows → AllByRecursion (AreTold p columns) rows → AllByRecursion (AreReadAgain p columns) rows
+points_again p columns [] few typed all = tt
+points_again p columns (r ∷ rows) few typed all = (fields_again p columns r few typed.0 all.0, points_again p columns rows few typed.1 all.1)

@@ -33,8 +33,8 @@ use Rattle.vtl_csv.specs.InputFields.{most_points, record_row, row_with}
 use Rattle.vtl_csv.specs.CsvText.{csv_of, header_of}
 use Rattle.vtl_csv.specs.InputFile.{columns_with, dataset_rows, in_column_order, is_repeat, laid_out, layout_of, named_by, place_from, place_in, rows_below, rows_in_records, rows_with, with_places}
 use Rattle.vtl_csv.specs.StructuresFile.{records_in}
-use Rattle.vtl_csv.specs.ReadAgain.{AreReadAgain, IsReadable, IsUnmarked}
-use Rattle.vtl_csv.proofs.FieldAgainLemmas.{points_again}
+use Rattle.vtl_csv.specs.ReadAgain.{IsReadable, IsUnmarked}
+use Rattle.vtl_csv.proofs.FieldAgainLemmas.{AreReadAgain, points_again}
 use Rattle.vtl_csv.proofs.RecordsLeftLemmas.{records_from-none}
 use Rattle.vtl_csv.proofs.TableTextLemmas.{whole_each, whole_row}
 
@@ -318,7 +318,7 @@ module _ (p : Settings) (s : Structure) (points : List Row) (is : IsDataSet s po
   sorted = Perm-sym (Perm-sorted_by row_order points)
 
   rows_read : AllByRecursion (AreReadAgain p (columns_of s)) rows
-  rows_read = AllByRecursion-Perm (AreReadAgain p (columns_of s)) sorted (points_again p (columns_of s) points is.typed reads.values)
+  rows_read = AllByRecursion-Perm (AreReadAgain p (columns_of s)) sorted (points_again p (columns_of s) points reads.scale is.typed reads.values)
 
   rows_apart : all_apart (same_key (key_width s)) rows ≡ true
   rows_apart = sym (all_apart-Perm (same_key (key_width s)) (same_key-sym (key_width s)) sorted) ∙ is.distinct
