@@ -5,6 +5,7 @@ pub mod FaultFields
 pub mod Fields
 pub mod InputFields
 pub mod InputFile
+pub mod InputSteps
 pub mod PlainText
 pub mod Points
 pub mod ReadAgain

@@ -4,8 +4,12 @@
 
 mod dataset;
 mod declarations;
+mod duplicates;
 mod fields;
+mod file_column;
+mod header;
 mod input;
+mod input_fields;
 mod laws;
 mod plain;
 mod reading;
