@@ -5,8 +5,10 @@ pub mod FaultFields
 pub mod Fields
 pub mod InputFields
 pub mod InputFile
+pub mod InputSteps
 pub mod PlainText
 pub mod Points
+pub mod ReadAgain
 pub mod RecordsLeft
 pub mod RowsWritten
 pub mod SortedCodes

@@ -47,3 +47,17 @@ impl From<AllocError> for InputErr {
         InputErr::OutOfMemory
     }
 }
+
+// A column of a line, and what is wrong there.
+#[derive(Clone, Copy)]
+pub struct Flaw {
+    pub column: u64,
+    pub kind: InputKind,
+}
+
+// A line and a flaw in it.
+#[derive(Clone, Copy)]
+pub struct Fault {
+    pub line: u64,
+    pub flaw: Flaw,
+}

@@ -4,8 +4,12 @@
 
 mod dataset;
 mod declarations;
+mod duplicates;
 mod fields;
+mod file_column;
+mod header;
 mod input;
+mod input_fields;
 mod laws;
 mod plain;
 mod reading;
@@ -17,7 +21,7 @@ mod writing;
 
 pub use dataset::read_dataset;
 pub use input::{InputErr, InputKind};
-pub use laws::{output_rises_by_identifiers, points_are_a_data_set};
+pub use laws::{data_sets_are_read_again, output_rises_by_identifiers, points_are_a_data_set};
 pub use plain::{has_plain_lines, plain_lines_are_lines};
 pub use reading::{column, points};
 pub use records::RecordReader;
