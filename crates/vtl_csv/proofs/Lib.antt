@@ -12,6 +12,7 @@ pub mod KeyOrderLemmas
 pub mod PlainTextLemmas
 pub mod PointLemmas
 pub mod ReadAgainLemmas
+pub mod RecordTextLemmas
 pub mod RecordsLeftLemmas
 pub mod RepeatLemmas
 pub mod SortedCodeLemmas

@@ -13,6 +13,7 @@ mod input_fields;
 mod laws;
 mod plain;
 mod reading;
+mod record_text;
 mod records;
 mod row_text;
 mod structures;

@@ -2,6 +2,7 @@
 ghost use Rattle.std.specs.Prelude.{◌≡◌, ◌<◌, ◌++◌, ◌∷◌, [], length, map, All, IfOk, OnOk};
 ghost use Rattle.std.specs.List.{range_with_len};
 ghost use Rattle.csv.specs.Records.{fields_of, partial_of};
+ghost use Rattle.csv.specs.Writing.{default_writer, row_text};
 ghost use Rattle.vtl_cell.specs.Sorted.{rising};
 ghost use Rattle.vtl_rows.specs.Keys.{key_of, ordered};
 ghost use Rattle.vtl_rows.specs.Places.{row_at};
@@ -9,8 +10,8 @@ ghost use Rattle.vtl_tree.specs.Structure.{key_width};
 ghost use Rattle.vtl_csv.specs.CsvText.{csv_of};
 ghost use Rattle.vtl_csv.specs.TableText.{IsTableOf, names_written, rows_text, table_text};
 
+use crate::record_text::push_record;
 use crate::row_text::RowWriter;
-use crate::writing::push_cells;
 use csv::ByteRecord;
 use std::alloc::{AllocError, Global};
 use vtl_cell::Cell;
@@ -120,16 +121,21 @@ fn text_at(
     requires { All (λ i. i < length table.now.rows) places.now }
     ensures { IfOk result (λ text. text.items ≡ rows_text profile.now table.now.columns (map (row_at table.now.rows) places.now)) }
 {
+    let mut text = header_text(alloc, table.columns())?;
+    for place in places {
+        push_record(&mut text, row_at(table, *place), profile)?;
+    }
+    Ok(text)
+}
+
+// The text of a header.
+fn header_text(alloc: Global, columns: &[Column]) -> Result<Vec<u8>, AllocError>
+    ensures { IfOk result (λ text. text.items ≡ row_text default_writer (names_written columns.now)) }
+{
     let mut writer = RowWriter::new(alloc);
     let mut fields = ByteRecord::new(alloc);
-    let mut buffer = Vec::new(alloc);
-    push_column_names(&mut fields, table.columns())?;
+    push_column_names(&mut fields, columns)?;
     writer.write(&fields)?;
-    for place in places {
-        fields.clear();
-        push_cells(&mut fields, row_at(table, *place), profile, &mut buffer)?;
-        writer.write(&fields)?;
-    }
     writer.into_bytes()
 }
 
@@ -147,7 +153,8 @@ fn push_column_names(fields: &mut ByteRecord, columns: &[Column]) -> Result<(), 
 
 fn row_at(table: &Table, place: usize) -> &[Cell]
     requires { place < length table.now.rows }
-    ensures { result.now ≡ row_at table.now.rows place }
+    ensures row { result.now ≡ row_at table.now.rows place }
+    ensures width { length result.now ≡ length table.now.columns }
 {
     table.row(place)
 }
