@@ -16,6 +16,7 @@ mod reading;
 mod records;
 mod row_text;
 mod structures;
+mod text_pool;
 mod writing;
 
 pub use dataset::read_dataset;
