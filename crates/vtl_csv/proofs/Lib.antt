@@ -1,6 +1,8 @@
 pub mod ArrangedLemmas
 pub mod DataSetLemmas
+pub mod DataSetTextLemmas
 pub mod DeclarationLemmas
+pub mod FieldAgainLemmas
 pub mod FieldLemmas
 pub mod InputDataSetLemmas
 pub mod InputFieldLemmas
@@ -9,8 +11,10 @@ pub mod InputPointLemmas
 pub mod KeyOrderLemmas
 pub mod PlainTextLemmas
 pub mod PointLemmas
+pub mod ReadAgainLemmas
 pub mod RecordsLeftLemmas
 pub mod RepeatLemmas
 pub mod SortedCodeLemmas
 pub mod RowLemmas
 pub mod RowTextLemmas
+pub mod TableTextLemmas

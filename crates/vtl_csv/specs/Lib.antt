@@ -8,6 +8,7 @@ pub mod InputFile
 pub mod InputSteps
 pub mod PlainText
 pub mod Points
+pub mod ReadAgain
 pub mod RecordsLeft
 pub mod RowsWritten
 pub mod SortedCodes
