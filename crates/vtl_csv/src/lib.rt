@@ -10,6 +10,7 @@ mod file_column;
 mod header;
 mod input;
 mod input_fields;
+mod input_laws;
 mod laws;
 mod plain;
 mod reading;
@@ -22,6 +23,7 @@ mod writing;
 
 pub use dataset::read_dataset;
 pub use input::{InputErr, InputKind};
+pub use input_laws::{read_rows_are_a_data_set, reading_is_determined};
 pub use laws::{data_sets_are_read_again, output_rises_by_identifiers, points_are_a_data_set};
 pub use plain::{has_plain_lines, plain_lines_are_lines};
 pub use reading::{column, points};
