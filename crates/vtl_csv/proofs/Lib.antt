@@ -3,6 +3,7 @@ pub mod DataSetLemmas
 pub mod DataSetTextLemmas
 pub mod DeclarationLemmas
 pub mod FieldAgainLemmas
+pub mod DeterminedLemmas
 pub mod FieldLemmas
 pub mod InputDataSetLemmas
 pub mod InputFieldLemmas

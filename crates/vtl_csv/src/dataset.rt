@@ -14,6 +14,7 @@ use crate::header::{Layout, read_layout};
 use crate::input::{Fault, Flaw, InputErr, InputKind};
 use crate::input_fields::record_row;
 use crate::records::RecordReader;
+use crate::text_pool::pools;
 use csv::ByteRecord;
 use std::alloc::{AllocError, Global};
 use vtl_decimal::Profile;
@@ -50,8 +51,9 @@ fn add_rows(
     ensures columns { table.new.columns ≡ table.old.columns }
     ensures rows { IfOk result (λ o. taken table.new.rows (option_map flaw_of o) ≡ taken_with profile.now columns.now table.old.rows reader.old) }
 {
+    let mut pools = pools(alloc, columns.len())?;
     while reader.next(fields)? {
-        match record_row(alloc, columns, table.len(), fields, profile)? {
+        match record_row(alloc, columns, &mut pools, table.len(), fields, profile)? {
             Ok(row) => table.push_row(row)?,
             Err(flaw) => return Ok(Some(flaw)),
         }

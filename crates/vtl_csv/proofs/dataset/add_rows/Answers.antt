@@ -6,4 +6,4 @@ use Rattle.vtl_csv.proofs.dataset.add_rows.Goals as goal
 
 pub push_row-requires : goal.push_row-requires
 push_row-requires c =
-    record_fits c.args.profile.now c.args.columns.now c.len.result (fields_of c.next.new.fields) c.in-Ok.row.items c.loop-table.table.columns (c.loop-table.invariant.1 ∙ c.requires) (sym c.in_ok-row.ensures ∙ ap row_answer c.in-Ok.is)
+    record_fits c.args.profile.now c.args.columns.now c.len.result (fields_of c.next.new.fields) c.in-Ok.row.items c.loop-pools.table.columns (c.loop-pools.invariant.1 ∙ c.requires) (sym c.in_ok-row.ensures ∙ ap row_answer c.in-Ok.is)
