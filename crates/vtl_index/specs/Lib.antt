@@ -1,0 +1,6 @@
+pub mod Buckets
+pub mod Entries
+pub mod Index
+pub mod Keys
+pub mod Lookup
+pub mod Places
