@@ -1,12 +1,12 @@
 -- What seeking finds.
-use Rattle.std.proofs.Common.{◌≡◌, ℕ, zero, suc, ◌<◌, Bool, true, false, cond, ◌&&◌, ◌==◌, ◌^◌, ◌-◌, List, [], ◌∷◌, length, find, slice_get, set, Option, Some, None, option_map, refl, sym, ap, ◌∙◌, subst, arith, true≢false, eqb-true, eq-eqb}
+use Rattle.std.proofs.Common.{◌≡◌, ℕ, Bool, true, false, cond, ◌&&◌, ◌==◌, ◌^◌, ◌-◌, List, [], ◌∷◌, find, Option, Some, None, option_map, refl, sym, ap, ◌∙◌, subst, true≢false, eqb-true, eq-eqb}
 use Rattle.std.proofs.lemmas.Option.{none-some}
 use Rattle.std.specs.List.{list_any}
 use Rattle.std.specs.Option.{option_or}
 use Rattle.vtl_cell.specs.Row.{Row}
-use Rattle.vtl_index.specs.Buckets.{bucket_at, filled, in_slots, is_free, is_match, slots_at, slots_in}
+use Rattle.vtl_index.specs.Buckets.{filled, in_slots, is_free, is_match, slots_at}
 use Rattle.vtl_index.specs.Keys.{key_hash}
-use Rattle.vtl_index.specs.Places.{Others, in_others, other_place, passing, seek}
+use Rattle.vtl_index.specs.Places.{Others, other_place, passing, seek}
 use Rattle.vtl_index.specs.declared.bucket.Bucket.{Bucket}
 use Rattle.vtl_index.specs.declared.bucket.Slot.{Slot}
 use Rattle.vtl_index.proofs.Slots.{find_filled, found_filled, Found}

@@ -1,7 +1,6 @@
 -- A place that is put: into a slot, or into the map where no slot is free.
-use Rattle.std.proofs.Common.{◌≡◌, ℕ, zero, suc, ◌<◌, ◌-◌, ◌^◌, Bool, true, false, cond, List, [], ◌∷◌, length, length-set, slice_get, get_or, set, Option, Some, None, Result, Ok, Err, OnErr, Vec, IsSome, Ordering, Less, Equal, Greater, is_eq, is_some, BTreeMap, refl, sym, ap, ◌∙◌, subst, arith, true≢false, eqb, eqb-true, eq-eqb, bit_and}
+use Rattle.std.proofs.Common.{◌≡◌, ℕ, zero, suc, ◌<◌, ◌-◌, Bool, true, false, cond, List, [], ◌∷◌, length, slice_get, get_or, Option, Some, None, Result, Ok, Err, OnErr, Vec, IsSome, Ordering, Less, Equal, Greater, is_eq, is_some, refl, sym, ap, ◌∙◌, subst, arith, true≢false, eqb, eqb-true, eq-eqb}
 use Rattle.std.proofs.lemmas.Nat.{and_le_r}
-use Rattle.std.proofs.lemmas.Option.{none-some}
 use Rattle.std.specs.BTreeMap.{get_by, insert_entry}
 use Rattle.std.specs.Cmp.Lexicographic.{slice_cmp}
 use Rattle.std.specs.List.{list_any}
@@ -10,15 +9,14 @@ use Rattle.std.specs.Ordering.{match_ordering}
 use Rattle.std.specs.declared.alloc.Global.{Global}
 use Rattle.vtl_cell.proofs.Orders.{derived_is}
 use Rattle.vtl_cell.proofs.Rows.{row_cmp-ties, same_row-is, same_row-refl}
-use Rattle.vtl_cell.specs.Order.{cell_cmp}
-use Rattle.vtl_cell.specs.Row.{Row, row_cmp, same_row}
+use Rattle.vtl_cell.specs.Row.{Row, same_row}
 use Rattle.vtl_cell.specs.contracts.cell.CellOrd.TheImpl.{cmp-value}
 use Rattle.vtl_cell.specs.declared.cell.Cell.{Cell}
 use Rattle.vtl_index.proofs.Finding.{sought, sought_filled, sought_other, sought_taken, sought_unfit}
 use Rattle.vtl_index.proofs.Slots.{filled_full}
-use Rattle.vtl_index.specs.Buckets.{IsFilled, bucket_at, filled, is_free, slots_at, slots_in}
+use Rattle.vtl_index.specs.Buckets.{IsFilled, bucket_at, is_free, slots_at, slots_in}
 use Rattle.vtl_index.specs.Keys.{key_hash}
-use Rattle.vtl_index.specs.Places.{FindsSame, IsBacked, IsTest, KeepsOthers, Others, TakesPlace, in_others, other_place, passing, seek}
+use Rattle.vtl_index.specs.Places.{FindsSame, IsBacked, KeepsOthers, Others, TakesPlace, other_place, seek}
 use Rattle.vtl_index.specs.declared.bucket.Bucket.{Bucket}
 use Rattle.vtl_index.specs.declared.bucket.Slot.{Slot}
 

@@ -1,5 +1,5 @@
 -- Keys, the rows of each, and where each key is found.
-use Rattle.std.specs.Prelude.{◌≡◌, ℕ, ◌*◌, ◌<◌, ◌++◌, List, [], ◌∷◌, Option, None, Some, length, slice_index_or, slice_set}
+use Rattle.std.specs.Prelude.{◌≡◌, ℕ, ◌*◌, List, [], Option, None, Some, length, slice_index_or}
 use Rattle.vtl_cell.specs.Row.{Row}
 use Rattle.vtl_index.specs.Keys.{is_at}
 use Rattle.vtl_index.specs.Places.{AllFound, IsBacked, seek}
