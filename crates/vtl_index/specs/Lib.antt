@@ -3,4 +3,5 @@ pub mod Entries
 pub mod Index
 pub mod Keys
 pub mod Lookup
+pub mod Numbers
 pub mod Places

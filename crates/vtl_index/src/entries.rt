@@ -88,7 +88,7 @@ impl Entries {
     {
         let hash = hash_of(key);
         match self.find(hash, key) {
-            Some(place) => self.rows[place].push(row),
+            Some(place) => self.rows[place].push(self.alloc, row),
             None => self.add_key(hash, key, row),
         }
     }
@@ -105,7 +105,6 @@ impl Entries {
         ensures err { OnErr result (rows_in self.new ≡ rows_in self.old) }
     {
         self.make_room()?;
-        let rows = RowNumbers::of(self.alloc, row)?;
         let mut copy = copied(self.alloc, key)?;
         self.cells.reserve(copy.len())?;
         self.rows.reserve(1)?;
@@ -113,7 +112,7 @@ impl Entries {
         self.places.put(self.alloc, hash, key, place)?;
         // There is room for both.
         self.cells.append(&mut copy)?;
-        self.rows.push(rows)?;
+        self.rows.push(RowNumbers::of(row))?;
         Ok(())
     }
 

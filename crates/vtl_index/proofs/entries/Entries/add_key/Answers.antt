@@ -8,9 +8,6 @@ use Rattle.vtl_index.proofs.entries.Entries.add_key.Goals as goal
 pub returns-in_err-make_room-clause-err : goal.returns-in_err-make_room-clause-err
 returns-in_err-make_room-clause-err c = on_err c.from_residual.result (same_rows c.args.self.now c.make_room.new.self c.make_room.ensures.rows (λ k. ap (λ f. f k) c.make_room.ensures.places))
 
-pub returns-in_err-rows-clause-err : goal.returns-in_err-rows-clause-err
-returns-in_err-rows-clause-err c = on_err c.from_residual-in_err-rows.result (same_rows c.args.self.now c.make_room.new.self c.make_room.ensures.rows (λ k. ap (λ f. f k) c.make_room.ensures.places))
-
 pub returns-in_err-copy-clause-err : goal.returns-in_err-copy-clause-err
 returns-in_err-copy-clause-err c = on_err c.from_residual-in_err-copy.result (same_rows c.args.self.now c.make_room.new.self c.make_room.ensures.rows (λ k. ap (λ f. f k) c.make_room.ensures.places))
 
@@ -35,7 +32,7 @@ returns-clause-indexed c =
     c.make_room.ensures.indexed (c.requires.width ∙ sym c.make_room.ensures.width) (ap (λ f. f c.args.key.now) c.make_room.ensures.places ∙ c.requires.absent)
     (let ok = c.make_room.new.self.rows.ok in let few = c.make_room.new.self.rows.small in omega (arith, ok.0, ok.1, few)) refl
     (c.in_ok-append.ensures.items ∙ ap (λ l. l ++ c.in_ok-copy.copy.items) c.reserve.ensures.items ∙ ap (λ l. c.make_room.new.self.cells.items ++ l) c.in_ok-copy.ensures)
-    (c.in_ok-push.ensures.items ∙ ap (λ l. l ++ c.in_ok-rows.rows ∷ []) c.reserve-2.ensures.items ∙ ap (λ r. c.make_room.new.self.rows.items ++ r ∷ []) c.in_ok-rows.ensures)
+    (c.in_ok-push.ensures.items ∙ ap (λ l. l ++ c.of.result ∷ []) c.reserve-2.ensures.items ∙ ap (λ r. c.make_room.new.self.rows.items ++ r ∷ []) c.of.ensures)
     (subst (λ p. KeepsOthers c.args.key.now p c.make_room.new.self.places.buckets.items c.make_room.new.self.places.others c.put.new.self.buckets.items c.put.new.self.others) (c.len-place.ensures ∙ c.reserve-2.new.self.ok.0 ∙ ap length c.reserve-2.ensures.items) c.in_ok-put.ensures.kept)
     (subst (λ p. TakesPlace c.args.key.now p c.put.new.self.buckets.items c.put.new.self.others) (c.len-place.ensures ∙ c.reserve-2.new.self.ok.0 ∙ ap length c.reserve-2.ensures.items) c.in_ok-put.ensures.taken)
     c.in_ok-put.ensures.backed).0
@@ -46,7 +43,7 @@ returns-clause-rows c =
     c.make_room.ensures.indexed (c.requires.width ∙ sym c.make_room.ensures.width) (ap (λ f. f c.args.key.now) c.make_room.ensures.places ∙ c.requires.absent)
     (let ok = c.make_room.new.self.rows.ok in let few = c.make_room.new.self.rows.small in omega (arith, ok.0, ok.1, few)) refl
     (c.in_ok-append.ensures.items ∙ ap (λ l. l ++ c.in_ok-copy.copy.items) c.reserve.ensures.items ∙ ap (λ l. c.make_room.new.self.cells.items ++ l) c.in_ok-copy.ensures)
-    (c.in_ok-push.ensures.items ∙ ap (λ l. l ++ c.in_ok-rows.rows ∷ []) c.reserve-2.ensures.items ∙ ap (λ r. c.make_room.new.self.rows.items ++ r ∷ []) c.in_ok-rows.ensures)
+    (c.in_ok-push.ensures.items ∙ ap (λ l. l ++ c.of.result ∷ []) c.reserve-2.ensures.items ∙ ap (λ r. c.make_room.new.self.rows.items ++ r ∷ []) c.of.ensures)
     (subst (λ p. KeepsOthers c.args.key.now p c.make_room.new.self.places.buckets.items c.make_room.new.self.places.others c.put.new.self.buckets.items c.put.new.self.others) (c.len-place.ensures ∙ c.reserve-2.new.self.ok.0 ∙ ap length c.reserve-2.ensures.items) c.in_ok-put.ensures.kept)
     (subst (λ p. TakesPlace c.args.key.now p c.put.new.self.buckets.items c.put.new.self.others) (c.len-place.ensures ∙ c.reserve-2.new.self.ok.0 ∙ ap length c.reserve-2.ensures.items) c.in_ok-put.ensures.taken)
     c.in_ok-put.ensures.backed).1
