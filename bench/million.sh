@@ -48,7 +48,7 @@ make_rows() {
         for (i = 0; i < count; i++) {
             key = kind == "ordered" ? i : (i * 700001) % count
             value = (i * 611953) % 1000003
-            if (kind == "distinct") printf "k%011d,0,%d\n", (key * 7919) % 99999999977, value
+            if (kind == "distinct") printf "k%011.0f,0,%d\n", key * 7919, value
             else printf "station-%03d,%03d,%d\n", int(key / 1000), key % 1000, value
         }
     }' >"$made/in/readings.csv"
