@@ -1,0 +1,10 @@
+pub mod Answers
+pub mod Calls
+pub mod Kinds
+pub mod Literals
+pub mod Misplaced
+pub mod Operands
+pub mod Operators
+pub mod Rules
+pub mod Typing
+pub mod Windows
