@@ -7,4 +7,5 @@ pub mod Operands
 pub mod Operators
 pub mod Rules
 pub mod Typing
+pub mod WellTyped
 pub mod Windows

@@ -53,5 +53,5 @@ default_typed p kind None = Ok (tt {0})
 default_typed p kind (Some l) = wanted_or (still_wanted (is_null_kind kind) kind (literal_kind l)) >>= λ wanted. valued (literal_cell p l) >>= λ cell. Ok (tt {0})
 
 -- `lag` and `lead` behind their operand
-abbrev pub shift_typed : Settings → List Component → List ℕ → Option Literal → OverPart → Kind → Result OperandTree ℕ
+unfoldable pub shift_typed : Settings → List Component → List ℕ → Option Literal → OverPart → Kind → Result OperandTree ℕ
 shift_typed p columns points default over kind = points_typed p points >>= λ n. default_typed p kind default >>= λ u. analytic_typed p columns over true

@@ -4,6 +4,7 @@
 mod calls;
 mod error;
 mod kinds;
+mod laws;
 mod literals;
 mod misplaced;
 mod operand;
@@ -14,6 +15,7 @@ mod windows;
 pub use calls::call;
 pub use error::{TypeErr, broken};
 pub use kinds::{kind, meets, operator_kind, shared_kind};
+pub use laws::typed_expressions_are_well_typed;
 pub use literals::{constant, literal, literal_kind, literals_fit, set};
 pub use misplaced::{aggregate, aggregates, analytic, shift, takes_one, takes_value};
 pub use operand::{Operand, and_operand, column, name};

@@ -90,6 +90,7 @@ fn default(
 }
 
 /// The fault of `lag` or `lead` that is no whole target, behind its operand.
+#[tactic(auto, unfolding(crate::specs::Misplaced::shift_typed))]
 pub fn shift(
     alloc: Global,
     profile: &Profile,
