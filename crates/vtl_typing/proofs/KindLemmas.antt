@@ -1,5 +1,5 @@
 -- Operands that meet kinds.
-use Rattle.std.proofs.Common.{◌≡◌, ◌∙◌, ◌<◌, ◌-◌, ◌+◌, ◌&&◌, ℕ, List, [], ◌∷◌, Bool, true, false, length, drop, get_or, refl, ap, arith, sym}
+use Rattle.std.proofs.Common.{◌≡◌, ◌∙◌, ◌<◌, ◌-◌, ◌+◌, ◌&&◌, ℕ, List, [], ◌∷◌, Bool, true, false, length, drop, get_or, refl, ap, arith}
 use Rattle.std.proofs.lemmas.List.{drop_more}
 use Rattle.std.specs.Prelude.{option_and_then}
 use Rattle.vtl_cell.specs.ScalarKinds.{common_kind, meet, meets, shared_kind}

@@ -1,7 +1,6 @@
 -- Calls of few operands.
-use Rattle.std.proofs.Common.{suc, ◌≡◌, ◌<◌, ◌&&◌, ℤ, List, [], ◌∷◌, Bool, true, length, refl, ap, arith}
-use Rattle.std.specs.Prelude.{map, pos}
-use Rattle.vtl_decimal.specs.Settings.{Settings}
+use Rattle.std.proofs.Common.{suc, ◌≡◌, ◌<◌, ◌&&◌, List, [], ◌∷◌, Bool, true, length, refl, ap, arith}
+use Rattle.std.specs.Prelude.{map}
 use Rattle.vtl_syntax.specs.Trees.{Exp, exps_of}
 use Rattle.vtl_typing.specs.Typing.{exps_length}
 use Rattle.vtl_typing.specs.Literals.{second_passes, third_passes}

@@ -12,14 +12,13 @@ use Rattle.vtl_cell.specs.declared.operator.ScalarOp.TheVariants as op
 use Rattle.vtl_syntax.specs.Trees as tree
 use Rattle.vtl_syntax.specs.declared.parts.Constant.{Constant}
 use Rattle.vtl_syntax.specs.declared.parts.OverPart.{OverPart}
-use Rattle.vtl_syntax.specs.declared.word_groups.AggregateName.{AggregateName}
 use Rattle.vtl_syntax.specs.Trees.{Exp, Exps, MaybeExp}
 use Rattle.vtl_syntax.specs.declared.parts.Literal.{Literal}
-use Rattle.vtl_tree.specs.CompExp.{CompExp, CompExps, call, column, const}
+use Rattle.vtl_tree.specs.CompExp.{CompExp, call, column, const}
 use Rattle.vtl_tree.specs.Structure.{same_name}
 use Rattle.vtl_tree.specs.View.{comp_exps_of}
 use Rattle.vtl_tree.specs.declared.structure.Component.{Component}
-use Rattle.vtl_typing.specs.Calls.{call_form, call_kind, call_of, misplaced_form, or_null}
+use Rattle.vtl_typing.specs.Calls.{call_of, misplaced_form, or_null}
 use Rattle.vtl_typing.specs.Kinds.{exp_kind}
 use Rattle.vtl_typing.specs.Operands.{OperandTree, and_operand, column_from, column_typed, data_set, name_of, value, value_of}
 use Rattle.vtl_typing.specs.Rules.{◌>>=◌, ruled}
@@ -28,7 +27,7 @@ use Rattle.vtl_typing.specs.Misplaced.{aggregate_form, analytic_form, analytic_t
 use Rattle.vtl_typing.specs.Operators.{of_binary, of_function, of_unary, takes}
 use Rattle.vtl_typing.specs.Typing.{as_operand, behind, comp_typed, data_typed, exps_length, has_exp, is_data_form, is_data_operand, is_plain_name, kind_form, maybe_kind, member_form, membership, operand_typed, operands_typed, set_form}
 use Rattle.vtl_typing.specs.Windows.{points_typed, window_typed}
-use Rattle.vtl_typing.specs.WellTyped.{AreWellTyped, IsColumn, IsWellTyped, kinds_in}
+use Rattle.vtl_typing.specs.WellTyped.{AreWellTyped, IsWellTyped, kinds_in}
 
 -- what holds of what is typed
 abbrev pub Gives : {A : Type 0} → (A → Type 0) → Result A ℕ → Type 0
@@ -55,7 +54,7 @@ all-more : (columns : List Component) (es : List CompExp) (e : CompExp) → All 
 all-more columns [] e h w = (w, tt {0})
 all-more columns (x ∷ xs) e h w = (h.0, all-more columns xs e h.1 w)
 
-held-more : (columns : List Component) (done : Option (List CompExp)) (x : OperandTree) → AllHeld columns done → Held columns x → AllHeld columns (and_operand done x)
+held-more : (columns : List Component) (before : Option (List CompExp)) (x : OperandTree) → AllHeld columns before → Held columns x → AllHeld columns (and_operand before x)
 held-more columns (Some es) (value e) h w = all-more columns es e h w
 held-more columns (Some es) data_set h w = tt {0}
 held-more columns None x h w = tt {0}
@@ -100,8 +99,8 @@ gives-if : {A : Type 0} (P : A → Type 0) (b : Bool) (x y : Result A ℕ) → G
 gives-if P true x y h g = h
 gives-if P false x y h g = g
 
-next-held : (columns : List Component) (done : Option (List CompExp)) (r : Result OperandTree ℕ) → AllHeld columns done → Gives (Held columns) r → Gives (AllHeld columns) (r >>= behind done)
-next-held columns done r h g = gives-then (Held columns) (AllHeld columns) r (behind done) g (λ x w. held-more columns done x h w)
+next-held : (columns : List Component) (before : Option (List CompExp)) (r : Result OperandTree ℕ) → AllHeld columns before → Gives (Held columns) r → Gives (AllHeld columns) (r >>= behind before)
+next-held columns before r h g = gives-then (Held columns) (AllHeld columns) r (behind before) g (λ x w. held-more columns before x h w)
 
 as-held : (columns : List Component) (r : Result CompExp ℕ) → Gives (IsWellTyped columns) r → Gives (Held columns) (as_operand r)
 as-held columns r g = gives-then (IsWellTyped columns) (Held columns) r (λ e. Ok (value e)) g (λ e w. w)
@@ -186,10 +185,10 @@ mutual
   operand-held d p cs (tree.hierarchy e n r m i o) = data-held cs d (tree.hierarchy e n r m i o)
   operand-held d p cs (tree.join j ps u f m kept rs) = data-held cs d (tree.join j ps u f m kept rs)
 
-  operands-held : (d : Exp → Result (Unit {0}) ℕ) (p : Settings) (cs : List Component) (done : Option (List CompExp)) (es : Exps) → AllHeld cs done → Gives (AllHeld cs) (operands_typed d p cs done es)
-  operands-held d p cs done tree.no_exps h = h
-  operands-held d p cs done (tree.exp e es) h =
-      gives-then (AllHeld cs) (AllHeld cs) (operand_typed d p cs e >>= behind done) (λ xs. operands_typed d p cs xs es) (next-held cs done (operand_typed d p cs e) h (operand-held d p cs e)) (λ xs g. operands-held d p cs xs es g)
+  operands-held : (d : Exp → Result (Unit {0}) ℕ) (p : Settings) (cs : List Component) (before : Option (List CompExp)) (es : Exps) → AllHeld cs before → Gives (AllHeld cs) (operands_typed d p cs before es)
+  operands-held d p cs before tree.no_exps h = h
+  operands-held d p cs before (tree.exp e es) h =
+      gives-then (AllHeld cs) (AllHeld cs) (operand_typed d p cs e >>= behind before) (λ xs. operands_typed d p cs xs es) (next-held cs before (operand_typed d p cs e) h (operand-held d p cs e)) (λ xs g. operands-held d p cs xs es g)
 
 value-held : (columns : List Component) (x : OperandTree) → Held columns x → Gives (IsWellTyped columns) (value_of x)
 value-held columns (value e) h = h

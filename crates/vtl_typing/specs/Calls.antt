@@ -1,5 +1,5 @@
 -- What operators give of operands that are typed.
-use Rattle.std.specs.Prelude.{ℕ, Bool, not, List, [], ◌∷◌, length, map, Option, Some, None, Result, Ok, Err, Vec}
+use Rattle.std.specs.Prelude.{ℕ, Bool, not, List, [], ◌∷◌, map, Option, Some, None, Result, Err, Vec}
 use Rattle.std.specs.Option.{is_none, option_map}
 use Rattle.std.specs.declared.alloc.Global.{Global}
 use Rattle.vtl_cell.specs.ScalarKinds.{kinds_of}

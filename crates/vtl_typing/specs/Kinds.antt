@@ -1,5 +1,4 @@
 -- The kinds of component expressions.
-use Rattle.std.specs.Prelude.{List, [], ◌∷◌}
 use Rattle.vtl_cell.specs.Kinds.{kind_of}
 use Rattle.vtl_cell.specs.declared.kind.Kind.{Kind}
 use Rattle.vtl_tree.specs.CompExp.{CompExp, column, const, call}

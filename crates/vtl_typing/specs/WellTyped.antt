@@ -1,5 +1,5 @@
 -- What typed expressions keep: each operator has the kind of its row, and each column is one of the operand's.
-use Rattle.std.specs.Prelude.{◌≡◌, ℕ, List, [], ◌∷◌, Result, Ok, Err, Some}
+use Rattle.std.specs.Prelude.{◌≡◌, ℕ, List, [], ◌∷◌, Some}
 use Rattle.std.specs.Prelude.{slice_get}
 use Rattle.vtl_cell.specs.ScalarKinds.{kinds_of}
 use Rattle.vtl_cell.specs.declared.kind.Kind.{Kind}
