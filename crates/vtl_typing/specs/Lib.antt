@@ -6,6 +6,7 @@ pub mod Misplaced
 pub mod Operands
 pub mod Operators
 pub mod Rules
+pub mod Targets
 pub mod Typing
 pub mod WellTyped
 pub mod Windows

@@ -2,6 +2,8 @@
 use Rattle.std.specs.Prelude.{ℕ, Bool, true, false, not, List, [], ◌∷◌, Option, Some, None, Result, Ok, Err}
 use Rattle.vtl_decimal.specs.Settings.{Settings}
 use Rattle.vtl_cell.specs.ScalarKinds.{meets}
+use Rattle.vtl_cell.specs.declared.cell.Cell.{Cell}
+use Rattle.vtl_cell.specs.declared.cell.Cell.TheVariants as c
 use Rattle.vtl_cell.specs.declared.kind.Kind.{Kind}
 use Rattle.vtl_cell.specs.declared.kind.Kind.TheVariants as k
 use Rattle.vtl_syntax.specs.declared.parts.Literal.{Literal}
@@ -47,11 +49,11 @@ analytic_form fits = ruled ((7, not fits) ∷ []) (tt {0}) >>= λ u. Err 16
 abbrev pub analytic_typed : Settings → List Component → OverPart → (fits : Bool) → Result OperandTree ℕ
 analytic_typed p columns over fits = window_typed p columns over >>= λ w. analytic_form fits
 
--- the default of `lag` and `lead`: a literal of the operand's kind (7) with a value (8)
-abbrev pub default_typed : Settings → Kind → Option Literal → Result (Unit {0}) ℕ
-default_typed p kind None = Ok (tt {0})
-default_typed p kind (Some l) = wanted_or (still_wanted (is_null_kind kind) kind (literal_kind l)) >>= λ wanted. valued (literal_cell p l) >>= λ cell. Ok (tt {0})
+-- the default of `lag` and `lead`: null, or a literal of the operand's kind (7) with a value (8)
+abbrev pub default_typed : Settings → Kind → Option Literal → Result Cell ℕ
+default_typed p kind None = Ok c.Null
+default_typed p kind (Some l) = wanted_or (still_wanted (is_null_kind kind) kind (literal_kind l)) >>= λ wanted. valued (literal_cell p l)
 
 -- `lag` and `lead` behind their operand
 unfoldable pub shift_typed : Settings → List Component → List ℕ → Option Literal → OverPart → Kind → Result OperandTree ℕ
-shift_typed p columns points default over kind = points_typed p points >>= λ n. default_typed p kind default >>= λ u. analytic_typed p columns over true
+shift_typed p columns points default over kind = points_typed p points >>= λ n. default_typed p kind default >>= λ cell. analytic_typed p columns over true

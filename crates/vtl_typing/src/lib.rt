@@ -9,6 +9,7 @@ mod literals;
 mod misplaced;
 mod operand;
 mod operators;
+mod targets;
 mod walk;
 mod windows;
 
@@ -17,8 +18,9 @@ pub use error::{TypeErr, broken};
 pub use kinds::{kind, meets, operator_kind, shared_kind};
 pub use laws::typed_expressions_are_well_typed;
 pub use literals::{constant, literal, literal_kind, literals_fit, set};
-pub use misplaced::{aggregate, aggregates, analytic, shift, takes_one, takes_value};
+pub use misplaced::{aggregate, aggregates, analytic, default, shift, takes_one, takes_value};
 pub use operand::{Operand, and_operand, column, name};
 pub use operators::{binary_operator, function_operator, takes, unary_operator};
+pub use targets::target_typing;
 pub use walk::{DataForms, comp_typing};
 pub use windows::{points, window};

@@ -7,7 +7,7 @@ ghost use Rattle.vtl_typing.specs.Operands.{operand_tree};
 use crate::literals::{is_null_kind, still_wanted, wanted_or};
 use crate::{Operand, TypeErr, broken, literal, literal_kind, meets, points, window};
 use std::alloc::Global;
-use vtl_cell::Kind;
+use vtl_cell::{Cell, Kind};
 use vtl_decimal::Profile;
 use vtl_syntax::{AggregateName, Literal, OverPart, ValueWindowName};
 use vtl_text::Txt;
@@ -71,21 +71,21 @@ pub fn analytic(
     Err(TypeErr::Broken(16))
 }
 
-fn default(
+/// The default of `lag` and `lead` on an operand of this kind: null where none is written.
+pub fn default(
     alloc: Global,
     profile: &Profile,
     kind: Kind,
     value: &Option<Literal>,
-) -> Result<(), TypeErr>
-    ensures { Answers (λ done. done) result (default_typed profile.now kind value.now) }
+) -> Result<Cell, TypeErr>
+    ensures { Answers (λ cell. cell) result (default_typed profile.now kind value.now) }
 {
     match value {
         Some(value) => {
             wanted_or(still_wanted(is_null_kind(kind), kind, literal_kind(value)))?;
-            let _cell = literal(alloc, profile, value)?;
-            Ok(())
+            literal(alloc, profile, value)
         }
-        None => Ok(()),
+        None => Ok(Cell::Null),
     }
 }
 
@@ -103,6 +103,6 @@ pub fn shift(
     ensures { Answers operand_tree result (shift_typed profile.now columns.now digits.now value.now over.now kind) }
 {
     points(profile, digits)?;
-    default(alloc, profile, kind, value)?;
+    let _cell = default(alloc, profile, kind, value)?;
     analytic(alloc, profile, columns, over, true)
 }

@@ -42,7 +42,7 @@ fn is_plain_name(e: &Expr) -> bool
 }
 
 // Whether an expression can only be one of data sets.
-fn is_data_form(e: &Expr) -> bool
+pub(crate) fn is_data_form(e: &Expr) -> bool
     ensures { result ≡ is_data_form (expr_tree e.now) }
 {
     match e {
@@ -206,7 +206,7 @@ fn all<F: DataForms>(
 
 // The kind of an operand.
 #[cycle(typing)]
-fn kind_of<F: DataForms>(
+pub(crate) fn kind_of<F: DataForms>(
     alloc: Global,
     forms: &F,
     profile: &Profile,
