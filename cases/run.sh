@@ -109,7 +109,6 @@ for folder in cases/*/; do
     word=$(basename "$folder")
     wanted "$word" || continue
     case $word in
-        waiting) ;;
         run) for case in cases/run/*/; do run "$top/${case%/}"; done ;;
         tokens | tree)
             for file in "cases/$word"/*."$word"; do

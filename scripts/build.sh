@@ -1,11 +1,14 @@
 #!/bin/sh
 # Builds the program of a crate: build.sh NAME.
 # The libraries below it are proved first, side by side: each starts as soon as those below it are done, the ones under
-# the longest chain of others before the rest. What the tool prints goes to out/build/CRATE.log.
+# the longest chain of others before the rest. Each is proved in a tree of its own, with the libraries below it as they
+# were built, since two proofs in one tree that have a library in common wait for each other. What the tool prints goes to
+# out/build/CRATE.log.
 top=$(CDPATH='' cd -- "$(dirname -- "$0")/.." && pwd) || exit 1
 name=${1:?build.sh: no name of a program}
 logs=$top/out/build
-mkdir -p "$logs" || exit 1
+trees=$top/out/trees
+mkdir -p "$logs" "$trees" || exit 1
 lanes=$(getconf _NPROCESSORS_ONLN 2>/dev/null) || lanes=2
 began=$(date +%s)
 
@@ -14,8 +17,8 @@ say() {
     printf '%d:%02d  %s\n' $((now / 60)) $((now % 60)) "$1" >&2
 }
 
-# The libraries below the program, a line each: the name, then the libraries of the repository that it stands on. The
-# ones with most others above them come first.
+# The libraries below the program, a line each: the name, then the libraries of the repository below it. The ones with
+# most others above them come first.
 libraries() {
     sed 's/#.*//' "$top/crates.txt" | awk -v program="$name" -F: '
         NF > 1 { split($1, words, " "); below[words[1]] = $2 }
@@ -25,21 +28,52 @@ libraries() {
             count = split(below[crate], parts, " ")
             for (i = 1; i <= count; i++) if (parts[i] in below) mark(parts[i], height + 1)
         }
+        function gather(crate,    parts, count, i) {
+            count = split(below[crate], parts, " ")
+            for (i = 1; i <= count; i++) if (parts[i] in below && !(parts[i] in lower)) {
+                lower[parts[i]]
+                gather(parts[i])
+            }
+        }
         END {
             mark(program, 1)
             for (crate in deep) if (crate != program && deep[crate]) {
+                split("", lower)
+                gather(crate)
                 line = crate
-                count = split(below[crate], parts, " ")
-                for (i = 1; i <= count; i++) if (parts[i] in below) line = line " " parts[i]
+                for (other in lower) line = line " " other
                 print deep[crate], line
             }
         }' | sort -rn | cut -d' ' -f2-
 }
 
-# Proves one library; the file that is left says how it ended.
+# Puts a crate into a tree: its line and its sources.
+plant() {
+    mkdir -p "$2/crates/$1" && grep "^$1[ :]" "$top/crates.txt" >>"$2/crates.txt" && for part in src specs proofs; do
+        [ ! -d "$top/crates/$1/$part" ] || cp -R "$top/crates/$1/$part" "$2/crates/$1/" || return
+    done
+}
+
+# Proves one library, whose name comes first, over those below it; the file that is left says how it ended.
 prove() {
-    (cd "$top/crates/$1" && rt lib </dev/null) >"$logs/$1.log" 2>&1
-    echo $? >"$state/$1.ended"
+    tree=$trees/$1
+    rm -rf "$tree"
+    {
+        mkdir -p "$tree" && plant "$1" "$tree" &&
+            for lower in "$@"; do
+                [ "$lower" != "$1" ] || continue
+                plant "$lower" "$tree" && mkdir "$tree/crates/$lower/out" &&
+                    { cp -Rl "$top/crates/$lower/out/rlib" "$tree/crates/$lower/out/" 2>/dev/null ||
+                        cp -R "$top/crates/$lower/out/rlib" "$tree/crates/$lower/out/"; } || break
+            done
+        # What was proved before is kept in out/.
+        [ ! -d "$top/crates/$1/out" ] || mv "$top/crates/$1/out" "$tree/crates/$1/out"
+        (cd "$tree/crates/$1" && rt lib </dev/null)
+        ended=$?
+        [ ! -d "$tree/crates/$1/out" ] || mv "$tree/crates/$1/out" "$top/crates/$1/out"
+        rm -rf "$tree"
+    } >"$logs/$1.log" 2>&1
+    echo "$ended" >"$state/$1.ended"
 }
 
 # Starts each library whose turn it is, while there is a lane for it.
@@ -52,7 +86,8 @@ start() {
         [ "$ready" ] || continue
         : >"$state/$crate.begun"
         say "$crate: begun"
-        prove "$crate" &
+        # shellcheck disable=SC2086 # the names are parted by blanks
+        prove "$crate" $below &
     done
 }
 

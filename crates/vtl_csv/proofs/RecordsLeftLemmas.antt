@@ -35,7 +35,7 @@ next_record-shorter cfg s fields field (c ∷ rest) p e =
     by false e more = elim (more e) [ inl less ↦ inl (omega arith) | inr last ↦ inr last ]
 
 -- at the end of a text no record starts
-records_from-none : (cfg : Config) (n : ℕ) → records_from cfg n st.StartRecord [] ≡ []
+pub records_from-none : (cfg : Config) (n : ℕ) → records_from cfg n st.StartRecord [] ≡ []
 unfolding records_from next_record
 records_from-none cfg zero = refl
 records_from-none cfg (suc n) = refl

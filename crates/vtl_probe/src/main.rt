@@ -5,6 +5,7 @@
 //! is 1 where a case failed. Other words, and a file that cannot be read, are told on standard error with the exit code 2.
 #![tactic(auto)]
 
+mod datasets;
 mod files;
 mod lines;
 mod notation;
@@ -42,23 +43,24 @@ fn main(rt: HostRuntime) -> io::Result<ExitCode> {
             Ok(ExitCode::from(report.code))
         }
         Err(trouble) => {
-            eprintln!(rt; "vtl_probe: {trouble}")?;
+            let text = trouble.text(rt.alloc())?;
+            eprintln!(rt; "vtl_probe: {text}")?;
             Ok(ExitCode::from(2))
         }
     }
 }
 
 // What the words ask for.
-fn carried_out<F: Files>(
+fn carried_out<'a, F: Files>(
     alloc: Global,
-    words: &[String],
+    words: &'a [String],
     files: &mut F,
-) -> Result<Report, Trouble> {
+) -> Result<Report, Trouble<'a>> {
     let Some(command) = command_of(words) else {
         return Err(Trouble::Usage);
     };
     match command {
-        Command::Time(order) => runs::printed(alloc, order),
+        Command::Time(order) => Ok(runs::printed(alloc, order)?),
         Command::Table { table, path } => {
             let text = files::text(alloc, files, path)?;
             tables::verdict(alloc, table, "", &text)
@@ -68,7 +70,7 @@ fn carried_out<F: Files>(
             let text = files::text(alloc, files, path)?;
             tables::verdict(alloc, tables::Table::Prefixes, &script, &text)
         }
-        Command::Tokens(path) => tokens::printed(alloc, &files::text(alloc, files, path)?),
-        Command::Tree(path) => syntax::printed(alloc, &files::text(alloc, files, path)?),
+        Command::Tokens(path) => Ok(tokens::printed(alloc, &files::text(alloc, files, path)?)?),
+        Command::Tree(path) => Ok(syntax::printed(alloc, &files::text(alloc, files, path)?)?),
     }
 }

@@ -1,27 +1,27 @@
 // How tables write profiles, kinds and values.
-use crate::trouble::Trouble;
+use crate::trouble::CaseErr;
 use std::alloc::{AllocError, Global};
 use vtl_cell::{Cell, Kind, read_cell, write_cell};
 use vtl_decimal::{Profile, Rounding};
 
-pub(crate) fn profile(scale: &str, rounding: &str) -> Result<Profile, Trouble> {
-    let scale: u8 = scale.parse().map_err(|_| Trouble::Value("no scale"))?;
+pub(crate) fn profile(scale: &str, rounding: &str) -> Result<Profile, CaseErr> {
+    let scale: u8 = scale.parse().ok().ok_or(CaseErr::Scale)?;
     let rounding = match rounding {
         "half_up" => Rounding::HalfUp,
         "half_even" => Rounding::HalfEven,
         "down" => Rounding::Down,
-        _ => return Err(Trouble::Value("no rounding")),
+        _ => return Err(CaseErr::Rounding),
     };
-    Profile::new(scale, rounding).ok_or(Trouble::Value("no scale"))
+    Profile::new(scale, rounding).ok_or(CaseErr::Scale)
 }
 
 // The scale, half away from zero, of tables that name none.
-pub(crate) fn default_profile() -> Result<Profile, Trouble> {
-    Profile::new(6, Rounding::HalfUp).ok_or(Trouble::Value("no scale"))
+pub(crate) fn default_profile() -> Result<Profile, CaseErr> {
+    Profile::new(6, Rounding::HalfUp).ok_or(CaseErr::Scale)
 }
 
 // Kinds have the words of the structures file, and the literal null has its own.
-pub(crate) fn kind(word: &str) -> Result<Kind, Trouble> {
+pub(crate) fn kind(word: &str) -> Result<Kind, CaseErr> {
     Ok(match word {
         "null" => Kind::Null,
         "boolean" => Kind::Bool,
@@ -30,7 +30,7 @@ pub(crate) fn kind(word: &str) -> Result<Kind, Trouble> {
         "string" => Kind::Text,
         "date" => Kind::Day,
         "time_period" => Kind::Period,
-        _ => return Err(Trouble::Value("no kind")),
+        _ => return Err(CaseErr::Kind),
     })
 }
 
@@ -64,35 +64,40 @@ pub(crate) fn cell(
     kind: Kind,
     text: &str,
     profile: &Profile,
-) -> Result<Cell, Trouble> {
+) -> Result<Cell, CaseErr> {
     match kind {
         Kind::Null => Ok(Cell::Null),
-        Kind::Int => Ok(Cell::Int(text.parse().map_err(|_| Trouble::Value("no integer"))?)),
+        Kind::Int => Ok(Cell::Int(text.parse().ok().ok_or(CaseErr::Number)?)),
         _ => match read_cell(alloc, kind, text, profile)? {
             Some(cell) => Ok(cell),
-            None => Err(Trouble::Value("no value of the kind")),
+            None => Err(CaseErr::Value),
         },
     }
 }
 
 // The value that `KIND:TEXT` or `null` stands for.
-pub(crate) fn value(alloc: Global, text: &str, profile: &Profile) -> Result<Cell, Trouble> {
+pub(crate) fn value(alloc: Global, text: &str, profile: &Profile) -> Result<Cell, CaseErr> {
     match text.split_once(":") {
         Some((word, rest)) => cell(alloc, kind(word)?, rest, profile),
         None if text == "null" => Ok(Cell::Null),
-        None => Err(Trouble::Value("no kind before a value")),
+        None => Err(CaseErr::Kind),
     }
 }
 
 // The text of a value.
-pub(crate) fn text(alloc: Global, cell: &Cell, profile: &Profile) -> Result<String, Trouble> {
+pub(crate) fn text(alloc: Global, cell: &Cell, profile: &Profile) -> Result<String, CaseErr> {
     let mut out = Vec::new(alloc);
     write_cell(cell, profile, &mut out)?;
-    String::from_utf8(out).map_err(|_| Trouble::Value("a value's text is not UTF-8"))
+    text_of(out)
+}
+
+// What was written, which is UTF-8 where the writer is right.
+pub(crate) fn text_of(bytes: Vec<u8>) -> Result<String, CaseErr> {
+    String::from_utf8(bytes).ok().ok_or(CaseErr::Text)
 }
 
 // A value as tables write it.
-pub(crate) fn shown(alloc: Global, cell: &Cell, profile: &Profile) -> Result<String, Trouble> {
+pub(crate) fn shown(alloc: Global, cell: &Cell, profile: &Profile) -> Result<String, CaseErr> {
     let mut out = String::from_str(alloc, kind_word(kind_of(cell)))?;
     if !matches!(cell, Cell::Null) {
         out.push_str(":")?;
@@ -112,14 +117,14 @@ fn escape(text: &str, out: &mut String) -> Result<(), AllocError> {
 }
 
 // The parts between `|`; of a text in which `\` stands before a `|` or `\` that is meant, and before nothing else.
-pub(crate) fn parts(alloc: Global, text: &str) -> Result<Vec<String>, Trouble> {
+pub(crate) fn parts(alloc: Global, text: &str) -> Result<Vec<String>, CaseErr> {
     let mut found = Vec::new(alloc);
     let mut part = String::new(alloc);
     let mut is_escaped = false;
     for c in text.chars() {
         if is_escaped {
             if c != '|' && c != '\\' {
-                return Err(Trouble::Value("a \\ before another character"));
+                return Err(CaseErr::Escape);
             }
             part.push(c)?;
             is_escaped = false;
@@ -133,7 +138,7 @@ pub(crate) fn parts(alloc: Global, text: &str) -> Result<Vec<String>, Trouble> {
         }
     }
     if is_escaped {
-        return Err(Trouble::Value("a \\ before nothing"));
+        return Err(CaseErr::Escape);
     }
     found.push(part)?;
     Ok(found)

@@ -1,5 +1,5 @@
 // The fields of a case.
-use crate::trouble::Trouble;
+use crate::trouble::CaseErr;
 use csv::StringRecord;
 use std::alloc::{AllocError, Global};
 
@@ -16,17 +16,13 @@ impl<'a> Row<'a> {
     }
 
     // A whole number.
-    pub(crate) fn whole(&self, place: usize) -> Result<i64, Trouble> {
-        self.field(place)
-            .parse()
-            .map_err(|_| Trouble::Value("no whole number"))
+    pub(crate) fn whole(&self, place: usize) -> Result<i64, CaseErr> {
+        self.field(place).parse().ok().ok_or(CaseErr::Number)
     }
 
     // A number of levels or bytes.
-    pub(crate) fn size(&self, place: usize) -> Result<usize, Trouble> {
-        self.field(place)
-            .parse()
-            .map_err(|_| Trouble::Value("no size"))
+    pub(crate) fn size(&self, place: usize) -> Result<usize, CaseErr> {
+        self.field(place).parse().ok().ok_or(CaseErr::Number)
     }
 
     // The fields from a place on, with commas between them.

@@ -5,7 +5,6 @@ use crate::operands::{SIZE, TEXTS, numbers, pairs};
 use crate::report::Report;
 use crate::structures::read_times;
 use crate::times::{Operation, Order};
-use crate::trouble::Trouble;
 use std::alloc::{AllocError, Global};
 use vtl_decimal::{Dec, Profile, Rounding, add, div, mul, read, write};
 
@@ -82,7 +81,7 @@ fn checksum(alloc: Global, order: Order) -> Result<i64, AllocError> {
 }
 
 // The checksum of an order's results, on a line.
-pub(crate) fn printed(alloc: Global, order: Order) -> Result<Report, Trouble> {
+pub(crate) fn printed(alloc: Global, order: Order) -> Result<Report, AllocError> {
     let sum = checksum(alloc, order)?;
     let text = format!(in alloc; "{sum}\n")?;
     Ok(Report { text, code: 0 })

@@ -1,6 +1,5 @@
 // Structures files: what they declare, written again, and large ones that are timed.
 use crate::notation::kind_word;
-use crate::trouble::Trouble;
 use std::alloc::{AllocError, Global};
 use vtl_csv::{StructErr, read_structures};
 use vtl_text::{List, Txt};
@@ -24,13 +23,11 @@ pub(crate) enum Filling {
 }
 
 // The records of the file by data sets, or the first rule that a line breaks.
-pub(crate) fn declared(alloc: Global, text: &str) -> Result<String, Trouble> {
+pub(crate) fn declared(alloc: Global, text: &str) -> Result<String, AllocError> {
     match read_structures(alloc, text.as_bytes()) {
-        Ok(structures) => Ok(records(alloc, &structures)?),
-        Err(StructErr::Structure { line, rule }) => Ok(format!(in alloc;
-            "line {line} rule {rule}"
-        )?),
-        Err(StructErr::OutOfMemory) => Err(Trouble::Memory(AllocError)),
+        Ok(structures) => records(alloc, &structures),
+        Err(StructErr::Structure { line, rule }) => format!(in alloc; "line {line} rule {rule}"),
+        Err(StructErr::OutOfMemory) => Err(AllocError),
     }
 }
 

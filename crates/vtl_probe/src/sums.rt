@@ -1,14 +1,14 @@
 // Totals and means.
 ghost use Rattle.std.specs.Prelude.{◌≤◌, ◌^◌, ◌<◌, IfOk};
 
-use crate::notation::{parts, profile};
+use crate::notation::{parts, profile, text_of};
 use crate::rows::Row;
-use crate::trouble::Trouble;
+use crate::trouble::CaseErr;
 use std::alloc::Global;
 use vtl_decimal::{Dec, Fault, Profile, Sum, read, write};
 
 // The total and the mean of the numbers.
-pub(crate) fn summed(alloc: Global, row: &Row) -> Result<String, Trouble> {
+pub(crate) fn summed(alloc: Global, row: &Row) -> Result<String, CaseErr> {
     let profile = profile(row.field(0), row.field(1))?;
     let sum = sum(alloc, row.field(2), &profile)?;
     let mut out = Vec::new(alloc);
@@ -21,7 +21,7 @@ pub(crate) fn summed(alloc: Global, row: &Row) -> Result<String, Trouble> {
         Some(mean) => write(mean, &profile, &mut out)?,
         None => out.extend_from_slice(b"none")?,
     }
-    String::from_utf8(out).map_err(|_| Trouble::Value("a number's text is not UTF-8"))
+    text_of(out)
 }
 
 fn fault_word(fault: Fault) -> &'static [u8] {
@@ -32,7 +32,7 @@ fn fault_word(fault: Fault) -> &'static [u8] {
 }
 
 // The numbers, added up; none where the text is empty.
-fn sum(alloc: Global, text: &str, profile: &Profile) -> Result<Sum, Trouble> {
+fn sum(alloc: Global, text: &str, profile: &Profile) -> Result<Sum, CaseErr> {
     let mut sum = Sum::new();
     if text.is_empty() {
         return Ok(sum);
@@ -43,10 +43,10 @@ fn sum(alloc: Global, text: &str, profile: &Profile) -> Result<Sum, Trouble> {
     Ok(sum)
 }
 
-fn numbers(alloc: Global, text: &str, profile: &Profile) -> Result<Vec<Dec>, Trouble> {
+fn numbers(alloc: Global, text: &str, profile: &Profile) -> Result<Vec<Dec>, CaseErr> {
     let mut numbers = Vec::new(alloc);
     for part in &parts(alloc, text)? {
-        let number = read(part, profile).map_err(|_| Trouble::Value("no number"))?;
+        let number = read(part, profile).ok().ok_or(CaseErr::Number)?;
         numbers.push(number)?;
     }
     Ok(numbers)

@@ -3,7 +3,7 @@ use crate::lines::Lines;
 use crate::report::Report;
 use crate::rows::Row;
 use crate::tree::script;
-use crate::trouble::Trouble;
+use crate::trouble::CaseErr;
 use std::alloc::{AllocError, Global};
 use vtl_parser::{ParseErr, parse};
 use vtl_syntax::Script;
@@ -15,14 +15,11 @@ enum Answer {
 }
 
 // The one owner of trees. The script is told by its tree, or by the number of its statements.
-fn read(alloc: Global, text: &str, with_tree: bool) -> Result<Answer, Trouble> {
+fn read(alloc: Global, text: &str, with_tree: bool) -> Result<Answer, AllocError> {
     match parse(alloc, text) {
-        Ok(found) => match told(alloc, &found, with_tree) {
-            Ok(text) => Ok(Answer::Script(text)),
-            Err(error) => Err(Trouble::Memory(error)),
-        },
+        Ok(found) => Ok(Answer::Script(told(alloc, &found, with_tree)?)),
         Err(ParseErr::Syntax { done, byte }) => Ok(Answer::Fault { done, byte }),
-        Err(ParseErr::OutOfMemory) => Err(Trouble::Memory(AllocError)),
+        Err(ParseErr::OutOfMemory) => Err(AllocError),
     }
 }
 
@@ -37,7 +34,7 @@ fn told(alloc: Global, found: &Script, with_tree: bool) -> Result<String, AllocE
 }
 
 // The tree of the text, or the line of its fault.
-pub(crate) fn printed(alloc: Global, text: &str) -> Result<Report, Trouble> {
+pub(crate) fn printed(alloc: Global, text: &str) -> Result<Report, AllocError> {
     match read(alloc, text, true)? {
         Answer::Script(text) => Ok(Report { text, code: 0 }),
         Answer::Fault { done, byte } => {
@@ -48,7 +45,7 @@ pub(crate) fn printed(alloc: Global, text: &str) -> Result<Report, Trouble> {
 }
 
 // The number of statements, a comma, and the byte of the fault where there is one.
-pub(crate) fn outcome(alloc: Global, text: &str) -> Result<String, Trouble> {
+pub(crate) fn outcome(alloc: Global, text: &str) -> Result<String, AllocError> {
     Ok(match read(alloc, text, false)? {
         Answer::Script(count) => format!(in alloc; "{},", count.trim_end())?,
         Answer::Fault { done, byte } => format!(in alloc; "{done},{byte}")?,
@@ -56,7 +53,7 @@ pub(crate) fn outcome(alloc: Global, text: &str) -> Result<String, Trouble> {
 }
 
 // Nothing where the nest is a statement at the most levels, and a fault of the first byte beyond.
-pub(crate) fn nested(alloc: Global, row: &Row) -> Result<String, Trouble> {
+pub(crate) fn nested(alloc: Global, row: &Row) -> Result<String, CaseErr> {
     let most = row.size(5)?;
     let mut out = String::new(alloc);
     for more in [0, 1, 2, 1000] {
@@ -85,7 +82,7 @@ fn nest(alloc: Global, row: &Row, levels: usize) -> Result<String, AllocError> {
 
 // What the fronts of the script have in common whose sizes are in the row's range, ends included. No front ends within
 // a character.
-pub(crate) fn fronts(alloc: Global, script: &str, row: &Row) -> Result<String, Trouble> {
+pub(crate) fn fronts(alloc: Global, script: &str, row: &Row) -> Result<String, CaseErr> {
     let mut common: Option<String> = None;
     for size in row.size(0)?..=row.size(1)? {
         let Some(front) = script.get(..size) else {
@@ -99,5 +96,5 @@ pub(crate) fn fronts(alloc: Global, script: &str, row: &Row) -> Result<String, T
             _ => common = Some(found),
         }
     }
-    common.ok_or(Trouble::Value("no front of the script has such a size"))
+    common.ok_or(CaseErr::Front)
 }

@@ -1,9 +1,9 @@
 // Tables of cases.
 use crate::report::{Report, Tally};
 use crate::rows::Row;
-use crate::trouble::Trouble;
-use crate::{order, structures, sums, syntax, tokens, values};
-use csv::{Error, ErrorKind, ReaderBuilder, StringRecord};
+use crate::trouble::{CaseErr, Trouble};
+use crate::{datasets, order, structures, sums, syntax, tokens, values};
+use csv::{Reader, ReaderBuilder, StringRecord};
 use std::alloc::{AllocError, Global};
 
 // What the cases of a table are about.
@@ -31,6 +31,8 @@ pub(crate) enum Table {
     Prefixes,
     // What structures files declare, or their faults.
     Structures,
+    // What CSV files of a data set hold, or their faults.
+    Datasets,
 }
 
 impl Table {
@@ -47,6 +49,7 @@ impl Table {
             "syntax" => Table::Syntax,
             "depth" => Table::Depth,
             "structures" => Table::Structures,
+            "datasets" => Table::Datasets,
             _ => return None,
         })
     }
@@ -65,84 +68,108 @@ impl Table {
             Table::Depth => ("head,open,middle,close,tail,most", 6),
             Table::Prefixes => ("from,to,done,byte", 2),
             Table::Structures => ("text,answer", 1),
+            Table::Datasets => ("scale,rounding,structures,text,answer", 4),
         }
     }
 
     // What comes of a case, as its wanted columns have it. A table of prefixes has a script.
-    fn came(self, alloc: Global, script: &str, row: &Row) -> Result<String, Trouble> {
+    fn came(self, alloc: Global, script: &str, row: &Row) -> Result<String, CaseErr> {
         match self {
             Table::Scalars => values::scalar(alloc, row),
             Table::Values => values::rewritten(alloc, row),
             Table::Order => order::ordered(alloc, row),
             Table::Periods => order::shifted(alloc, row),
-            Table::Names => order::named(alloc, row),
+            Table::Names => Ok(order::named(alloc, row)?),
             Table::Sums => sums::summed(alloc, row),
-            Table::Tokens => tokens::shown(alloc, row.field(0)),
-            Table::Syntax => syntax::outcome(alloc, row.field(0)),
+            Table::Tokens => Ok(tokens::shown(alloc, row.field(0))?),
+            Table::Syntax => Ok(syntax::outcome(alloc, row.field(0))?),
             Table::Depth => syntax::nested(alloc, row),
             Table::Prefixes => syntax::fronts(alloc, script, row),
-            Table::Structures => structures::declared(alloc, row.field(0)),
+            Table::Structures => Ok(structures::declared(alloc, row.field(0))?),
+            Table::Datasets => datasets::rewritten(alloc, row),
         }
     }
 }
 
 // The verdict on a table.
-pub(crate) fn verdict(
+pub(crate) fn verdict<'a>(
     alloc: Global,
     table: Table,
     script: &str,
     text: &str,
-) -> Result<Report, Trouble> {
-    let mut reader = ReaderBuilder::new()
-        .has_headers(false)
-        .from_reader(alloc, text.as_bytes());
-    let mut fields = StringRecord::new(alloc);
+) -> Result<Report, Trouble<'a>> {
     let mut tally = Tally::new(alloc);
-    let (header, given) = table.header();
-    for case in 0..=text.len() {
-        let is_read = reader
-            .read_record(&mut fields)
-            .map_err(|error| unread(&error, case))?;
-        // An empty file has an empty header.
-        if !is_read && case > 0 {
-            break;
-        }
-        let row = Row { fields: &fields };
-        if case > 0 {
-            judge(alloc, table, script, &row, case, given, &mut tally)?;
-        } else if row.from(alloc, 0)?.as_str() != header {
-            return Err(Trouble::Header(header));
-        }
-    }
+    judge_all(alloc, table, script, text, &mut tally)?;
     Ok(tally.report()?)
 }
 
-// Why a line is no case.
-fn unread(error: &Error, case: usize) -> Trouble {
-    match error.kind() {
-        ErrorKind::UnequalLengths { .. } => Trouble::Case {
-            case,
-            why: "not as many fields as the header has",
-        },
-        _ => Trouble::Memory(AllocError),
+// Counts each case of a table.
+fn judge_all<'a>(
+    alloc: Global,
+    table: Table,
+    script: &str,
+    text: &str,
+    tally: &mut Tally,
+) -> Result<(), Trouble<'a>> {
+    let mut reader = ReaderBuilder::new()
+        .has_headers(false)
+        .flexible(true)
+        .from_reader(alloc, text.as_bytes());
+    let mut fields = StringRecord::new(alloc);
+    let mut width = 0;
+    for case in 0..=text.len() {
+        // An empty file has an empty header.
+        if !is_read(&mut reader, &mut fields)? && case > 0 {
+            break;
+        }
+        let row = Row { fields: &fields };
+        if case == 0 {
+            check_header(alloc, table, &row)?;
+            width = fields.len();
+        } else if fields.len() == width {
+            judge(alloc, table, script, &row, case, tally)?;
+        } else {
+            let why = "not as many fields as the header has";
+            return Err(Trouble::Case { case, why });
+        }
+    }
+    Ok(())
+}
+
+// Whether there is a line. Fields of a text are texts, so that only memory can be lacking.
+fn is_read<'a>(reader: &mut Reader<&[u8]>, fields: &mut StringRecord) -> Result<bool, Trouble<'a>> {
+    match reader.read_record(fields) {
+        Ok(is_read) => Ok(is_read),
+        Err(_) => Err(Trouble::Memory),
     }
 }
 
-fn judge(
+fn check_header<'a>(alloc: Global, table: Table, row: &Row) -> Result<(), Trouble<'a>> {
+    let (header, _) = table.header();
+    if row.from(alloc, 0)?.as_str() == header {
+        Ok(())
+    } else {
+        Err(Trouble::Header(header))
+    }
+}
+
+fn judge<'a>(
     alloc: Global,
     table: Table,
     script: &str,
     row: &Row,
     case: usize,
-    given: usize,
     tally: &mut Tally,
-) -> Result<(), Trouble> {
-    let came = match table.came(alloc, script, row) {
-        Ok(came) => came,
-        Err(Trouble::Value(why)) => return Err(Trouble::Case { case, why }),
-        Err(trouble) => return Err(trouble),
-    };
-    let wanted = row.from(alloc, given)?;
-    tally.count(case, &wanted, &came)?;
-    Ok(())
+) -> Result<(), Trouble<'a>> {
+    match table.came(alloc, script, row) {
+        Ok(came) => {
+            let (_, given) = table.header();
+            tally.count(case, &row.from(alloc, given)?, &came)?;
+            Ok(())
+        }
+        Err(error) => Err(Trouble::Case {
+            case,
+            why: error.why(),
+        }),
+    }
 }

@@ -1,6 +1,5 @@
 // The tokens of a text.
 use crate::report::Report;
-use crate::trouble::Trouble;
 use std::alloc::{AllocError, Global};
 use vtl_lexer::{LexErr, Token, lex, tokens_before_fault};
 
@@ -27,13 +26,13 @@ fn push_token(out: &mut String, token: &Token) -> Result<(), AllocError> {
 }
 
 // The tokens on one line.
-pub(crate) fn shown(alloc: Global, text: &str) -> Result<String, Trouble> {
+pub(crate) fn shown(alloc: Global, text: &str) -> Result<String, AllocError> {
     let lexed = tokens_before_fault(alloc, text)?;
-    Ok(listed(alloc, lexed.tokens.as_slice(), lexed.bad, ";")?)
+    listed(alloc, lexed.tokens.as_slice(), lexed.bad, ";")
 }
 
 // The tokens, a line each.
-pub(crate) fn printed(alloc: Global, text: &str) -> Result<Report, Trouble> {
+pub(crate) fn printed(alloc: Global, text: &str) -> Result<Report, AllocError> {
     match lex(alloc, text) {
         Ok(tokens) => Ok(Report {
             text: listed(alloc, &tokens, None, "\n")?,
@@ -46,6 +45,6 @@ pub(crate) fn printed(alloc: Global, text: &str) -> Result<Report, Trouble> {
                 code: 1,
             })
         }
-        Err(LexErr::OutOfMemory) => Err(Trouble::Memory(AllocError)),
+        Err(LexErr::OutOfMemory) => Err(AllocError),
     }
 }

@@ -1,31 +1,92 @@
 // Why there is no verdict.
-use std::alloc::AllocError;
-use thiserror::Error;
+use std::alloc::{AllocError, AllocFailed, Global};
 
-#[derive(Debug, Drop, Error)]
-pub(crate) enum Trouble {
-    #[error("the words are one of
-  scalars|values|order|periods|names|sums|lexed|syntax|depth|structures TABLE
+const USAGE: &str = "the words are one of
+  scalars|values|order|periods|names|sums|lexed|syntax|depth|structures|datasets TABLE
   prefixes SCRIPT TABLE
   tokens FILE
   tree FILE
-  time add|mul|div|read|write|records|data_sets|codes COUNT")]
+  time add|mul|div|read|write|records|data_sets|codes COUNT";
+
+#[derive(Clone, Copy)]
+pub(crate) enum Trouble<'a> {
     Usage,
-    #[error("no file: {0}")]
-    NoFile(String),
-    #[error("read fault: {0}")]
-    ReadFault(String),
-    #[error("too long: {0}")]
-    TooLong(String),
-    #[error("not text: {0}")]
-    NotText(String),
-    #[error("the header is not {0}")]
+    File { path: &'a str, why: &'static str },
     Header(&'static str),
-    #[error("case {case}: {why}")]
     Case { case: usize, why: &'static str },
-    // Within a case; the loop over the table adds its number.
-    #[error("{0}")]
-    Value(&'static str),
-    #[error("no memory")]
-    Memory(#[from(alloc)] AllocError),
+    Memory,
+}
+
+impl<'a> Trouble<'a> {
+    // What is told of it.
+    pub(crate) fn text(&self, alloc: Global) -> Result<String, AllocError> {
+        match *self {
+            Trouble::Usage => String::from_str(alloc, USAGE),
+            Trouble::File { path, why } => joined(alloc, why, ": ", path),
+            Trouble::Header(header) => joined(alloc, "the header is not", " ", header),
+            Trouble::Case { case, why } => format!(in alloc; "case {case}: {why}"),
+            Trouble::Memory => String::from_str(alloc, "no memory"),
+        }
+    }
+}
+
+fn joined(alloc: Global, first: &str, between: &str, second: &str) -> Result<String, AllocError> {
+    let mut out = String::from_str(alloc, first)?;
+    out.push_str(between)?;
+    out.push_str(second)?;
+    Ok(out)
+}
+
+impl<'a> From<AllocError> for Trouble<'a> {
+    fn from(_: AllocError) -> Trouble<'a> {
+        Trouble::Memory
+    }
+}
+
+// Why nothing comes of a case: a part of it is not written as its table has it, or memory is lacking.
+#[derive(Clone, Copy)]
+pub(crate) enum CaseErr {
+    Scale,
+    Rounding,
+    Kind,
+    Value,
+    Number,
+    Period,
+    Operator,
+    Escape,
+    Text,
+    Front,
+    Structures,
+    OutOfMemory,
+}
+
+impl CaseErr {
+    pub(crate) fn why(self) -> &'static str {
+        match self {
+            CaseErr::Scale => "no scale",
+            CaseErr::Rounding => "no rounding",
+            CaseErr::Kind => "no kind",
+            CaseErr::Value => "no value of the kind",
+            CaseErr::Number => "no number",
+            CaseErr::Period => "no period",
+            CaseErr::Operator => "no operator",
+            CaseErr::Escape => "a \\ that escapes nothing",
+            CaseErr::Text => "what was written is not UTF-8",
+            CaseErr::Front => "no front of the script has such a size",
+            CaseErr::Structures => "no structures file of one data set",
+            CaseErr::OutOfMemory => "no memory",
+        }
+    }
+}
+
+impl From<AllocError> for CaseErr {
+    fn from(_: AllocError) -> CaseErr {
+        CaseErr::OutOfMemory
+    }
+}
+
+impl<T: Drop> From<AllocFailed<T>> for CaseErr {
+    fn from(_: AllocFailed<T>) -> CaseErr {
+        CaseErr::OutOfMemory
+    }
 }

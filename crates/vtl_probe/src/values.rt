@@ -1,14 +1,14 @@
 // Texts of values, and scalar operators.
 use crate::notation::{kind, parts, profile, shown, text, value};
 use crate::rows::Row;
-use crate::trouble::Trouble;
+use crate::trouble::CaseErr;
 use std::alloc::{AllocError, Global};
 use vtl_cell::{Cell, ScalarOp, read_cell};
 use vtl_decimal::Profile;
 use vtl_scalar::{ScalarErr, apply};
 
 // What the text reads as, written again.
-pub(crate) fn rewritten(alloc: Global, row: &Row) -> Result<String, Trouble> {
+pub(crate) fn rewritten(alloc: Global, row: &Row) -> Result<String, CaseErr> {
     let profile = profile(row.field(0), row.field(1))?;
     let kind = kind(row.field(2))?;
     match read_cell(alloc, kind, row.field(3), &profile)? {
@@ -18,7 +18,7 @@ pub(crate) fn rewritten(alloc: Global, row: &Row) -> Result<String, Trouble> {
 }
 
 // What an operator gives of its operands.
-pub(crate) fn scalar(alloc: Global, row: &Row) -> Result<String, Trouble> {
+pub(crate) fn scalar(alloc: Global, row: &Row) -> Result<String, CaseErr> {
     let profile = profile(row.field(0), row.field(1))?;
     let operands = operands(alloc, row.field(3), &profile)?;
     let operator = operator(row.field(2), operands.len())?;
@@ -26,12 +26,12 @@ pub(crate) fn scalar(alloc: Global, row: &Row) -> Result<String, Trouble> {
         Ok(cell) => shown(alloc, &cell, &profile),
         Err(ScalarErr::DivZero) => Ok(String::from_str(alloc, "DivZero")?),
         Err(ScalarErr::Range) => Ok(String::from_str(alloc, "Range")?),
-        Err(ScalarErr::OutOfMemory) => Err(Trouble::Memory(AllocError)),
+        Err(ScalarErr::OutOfMemory) => Err(CaseErr::OutOfMemory),
     }
 }
 
 // The values between `|`; none where the text is empty.
-fn operands(alloc: Global, text: &str, profile: &Profile) -> Result<Vec<Cell>, Trouble> {
+fn operands(alloc: Global, text: &str, profile: &Profile) -> Result<Vec<Cell>, CaseErr> {
     let mut operands = Vec::new(alloc);
     if text.is_empty() {
         return Ok(operands);
@@ -43,7 +43,7 @@ fn operands(alloc: Global, text: &str, profile: &Profile) -> Result<Vec<Cell>, T
 }
 
 // The operator that is spelled so in VTL, at so many operands.
-fn operator(word: &str, operands: usize) -> Result<ScalarOp, Trouble> {
+fn operator(word: &str, operands: usize) -> Result<ScalarOp, CaseErr> {
     Ok(match word {
         "+" if operands == 1 => ScalarOp::Identity,
         "-" if operands == 1 => ScalarOp::Negate,
@@ -61,7 +61,7 @@ fn operator(word: &str, operands: usize) -> Result<ScalarOp, Trouble> {
     })
 }
 
-fn text_operator(word: &str) -> Result<ScalarOp, Trouble> {
+fn text_operator(word: &str) -> Result<ScalarOp, CaseErr> {
     Ok(match word {
         "||" => ScalarOp::Concat,
         "trim" => ScalarOp::Trim,
@@ -75,7 +75,7 @@ fn text_operator(word: &str) -> Result<ScalarOp, Trouble> {
     })
 }
 
-fn truth_operator(word: &str) -> Result<ScalarOp, Trouble> {
+fn truth_operator(word: &str) -> Result<ScalarOp, CaseErr> {
     Ok(match word {
         "=" => ScalarOp::Equal,
         "<>" => ScalarOp::NotEqual,
@@ -93,6 +93,6 @@ fn truth_operator(word: &str) -> Result<ScalarOp, Trouble> {
         "isnull" => ScalarOp::IsNull,
         "nvl" => ScalarOp::ValueOr,
         "if" => ScalarOp::If,
-        _ => return Err(Trouble::Value("no operator")),
+        _ => return Err(CaseErr::Operator),
     })
 }

@@ -21,7 +21,7 @@ use Rattle.vtl_tree.specs.declared.structure.Component.{Component}
 use Rattle.vtl_typing.specs.Calls.{call_of, misplaced_form, or_null}
 use Rattle.vtl_typing.specs.Kinds.{exp_kind}
 use Rattle.vtl_typing.specs.Operands.{OperandTree, and_operand, column_from, column_typed, data_set, name_of, value, value_of}
-use Rattle.vtl_typing.specs.Rules.{◌>>=◌, ruled}
+use Rattle.vtl_rule_tests.specs.Rules.{◌>>=◌, ruled}
 use Rattle.vtl_typing.specs.Literals.{constant_cell, constant_typed, set_typed, valued, literals_fit}
 use Rattle.vtl_typing.specs.Misplaced.{aggregate_form, analytic_form, analytic_typed, default_typed, shift_typed, takes_one, takes_value}
 use Rattle.vtl_typing.specs.Operators.{of_binary, of_function, of_unary, takes}

@@ -9,7 +9,7 @@ use Rattle.vtl_cell.specs.declared.operator.ScalarOp.{ScalarOp}
 use Rattle.vtl_tree.specs.CompExp.{CompExp, call}
 use Rattle.vtl_tree.specs.View.{comp_exp_of, comp_exps_of}
 use Rattle.vtl_typing.specs.Kinds.{exp_kind}
-use Rattle.vtl_typing.specs.Rules.{◌>>=◌, ruled}
+use Rattle.vtl_rule_tests.specs.Rules.{◌>>=◌, ruled}
 use Rattle.vtl_tree.specs.declared.expression.CompExpr.{CompExpr}
 use Rattle.vtl_typing.specs.Operands.{OperandTree, value}
 

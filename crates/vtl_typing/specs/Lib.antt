@@ -1,11 +1,9 @@
-pub mod Answers
 pub mod Calls
 pub mod Kinds
 pub mod Literals
 pub mod Misplaced
 pub mod Operands
 pub mod Operators
-pub mod Rules
 pub mod Targets
 pub mod Typing
 pub mod WellTyped

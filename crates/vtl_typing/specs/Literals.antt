@@ -26,7 +26,7 @@ use Rattle.vtl_syntax.specs.declared.word_groups.FunctionName.{FunctionName}
 use Rattle.vtl_syntax.specs.declared.word_groups.FunctionName.TheVariants as function
 use Rattle.vtl_syntax.specs.declared.word_groups.UnaryOp.TheVariants as sign
 use Rattle.vtl_tree.specs.CompExp.{CompExp, const}
-use Rattle.vtl_typing.specs.Rules.{◌>>=◌}
+use Rattle.vtl_rule_tests.specs.Rules.{◌>>=◌}
 
 -- the kind of a number: digits alone are an integer
 abbrev pub numeral_kind : Numeral → Kind

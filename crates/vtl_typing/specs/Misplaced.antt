@@ -15,7 +15,7 @@ use Rattle.vtl_syntax.specs.declared.word_groups.ValueWindowName.TheVariants as 
 use Rattle.vtl_tree.specs.declared.structure.Component.{Component}
 use Rattle.vtl_typing.specs.Literals.{is_null_kind, literal_cell, literal_kind, still_wanted, valued, wanted_or}
 use Rattle.vtl_typing.specs.Operands.{OperandTree}
-use Rattle.vtl_typing.specs.Rules.{◌>>=◌, ruled}
+use Rattle.vtl_rule_tests.specs.Rules.{◌>>=◌, ruled}
 use Rattle.vtl_typing.specs.Windows.{points_typed, window_typed}
 
 -- whether an aggregate takes an operand of this kind

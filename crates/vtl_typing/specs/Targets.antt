@@ -21,7 +21,7 @@ use Rattle.vtl_nodes.specs.declared.calls.AnalyticOp.TheVariants as op
 use Rattle.vtl_nodes.specs.declared.calls.Window.{Window}
 use Rattle.vtl_typing.specs.Misplaced.{default_typed, takes_one, takes_value}
 use Rattle.vtl_typing.specs.Operands.{name_of}
-use Rattle.vtl_typing.specs.Rules.{◌>>=◌, ruled}
+use Rattle.vtl_rule_tests.specs.Rules.{◌>>=◌, ruled}
 use Rattle.vtl_typing.specs.Typing.{comp_typed, is_data_form, is_data_operand, kind_typed, maybe_kind}
 use Rattle.vtl_typing.specs.Windows.{points_typed, window_typed}
 

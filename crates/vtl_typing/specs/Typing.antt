@@ -18,7 +18,7 @@ use Rattle.vtl_typing.specs.Literals.{constant_typed, literals_fit, set_typed}
 use Rattle.vtl_typing.specs.Misplaced.{aggregate_form, analytic_typed, shift_typed, takes_one, takes_value}
 use Rattle.vtl_typing.specs.Operands.{OperandTree, and_operand, column_typed, data_set, name_of, value, value_of}
 use Rattle.vtl_typing.specs.Operators.{of_binary, of_function, of_unary, takes}
-use Rattle.vtl_typing.specs.Rules.{◌>>=◌}
+use Rattle.vtl_rule_tests.specs.Rules.{◌>>=◌}
 
 -- whether an expression is a name that a data set may have
 abbrev pub is_plain_name : Exp → Bool

@@ -22,7 +22,7 @@ use Rattle.vtl_nodes.specs.declared.calls.Frame.{Frame}
 use Rattle.vtl_nodes.specs.declared.calls.OrderKey.{OrderKey}
 use Rattle.vtl_nodes.specs.declared.calls.Window.{Window}
 use Rattle.vtl_typing.specs.Operands.{name_of}
-use Rattle.vtl_typing.specs.Rules.{◌>>=◌, ruled}
+use Rattle.vtl_rule_tests.specs.Rules.{◌>>=◌, ruled}
 
 abbrev pub is_known : List ℕ → List Component → Bool
 is_known name columns = list_any (λ x. same_name x.name name) columns

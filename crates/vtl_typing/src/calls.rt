@@ -1,14 +1,15 @@
 // What operators give of operands that are typed.
 ghost use Rattle.std.specs.Prelude.{◌≡◌, IfOk, map};
 ghost use Rattle.vtl_tree.specs.View.{comp_exp_of, comp_exps_of};
-ghost use Rattle.vtl_typing.specs.Answers.{Answers};
+ghost use Rattle.vtl_rule_tests.specs.Answers.{Answers};
 ghost use Rattle.vtl_typing.specs.Calls.{args_of, call_form, call_kind, call_of, misplaced_form};
 ghost use Rattle.vtl_typing.specs.Kinds.{exp_kind};
 ghost use Rattle.vtl_typing.specs.Operands.{operand_tree};
 
-use crate::{Operand, TypeErr, broken, kind, operator_kind};
+use crate::{Operand, kind, operator_kind};
 use std::alloc::{AllocError, Global};
 use vtl_cell::{Kind, ScalarOp};
+use vtl_rule_tests::{TypeErr, broken};
 use vtl_tree::CompExpr;
 
 fn kinds(alloc: Global, args: &[CompExpr]) -> Result<Vec<Kind>, AllocError>

@@ -2,7 +2,6 @@
 #![tactic(auto)]
 
 mod calls;
-mod error;
 mod kinds;
 mod laws;
 mod literals;
@@ -14,7 +13,6 @@ mod walk;
 mod windows;
 
 pub use calls::call;
-pub use error::{TypeErr, broken};
 pub use kinds::{kind, meets, operator_kind, shared_kind};
 pub use laws::typed_expressions_are_well_typed;
 pub use literals::{constant, literal, literal_kind, literals_fit, set};

@@ -6,13 +6,14 @@ ghost use Rattle.vtl_cell.specs.ScalarArithmetic.{negation_of};
 ghost use Rattle.vtl_syntax.specs.Trees.{exps_of};
 ghost use Rattle.vtl_syntax.specs.View.{expr_tree};
 ghost use Rattle.vtl_tree.specs.View.{comp_exp_of};
-ghost use Rattle.vtl_typing.specs.Answers.{Answers};
+ghost use Rattle.vtl_rule_tests.specs.Answers.{Answers};
 ghost use Rattle.vtl_typing.specs.Literals.{are_digits, cast_kind, constant_cell, constant_typed, integer_in, is_null_kind, lies_in, literal_cell, literal_kind, literals_fit, members_typed, numeral_cell, numeral_kind, numeral_text, second_passes, set_typed, still_wanted, third_passes, valued, wanted_or, with_sign, written};
 
-use crate::{TypeErr, meets, shared_kind};
+use crate::{meets, shared_kind};
 use std::alloc::{AllocError, Global};
 use vtl_cell::{Cell, Kind, read_cell};
 use vtl_decimal::{Profile, neg, read_whole, whole};
+use vtl_rule_tests::TypeErr;
 use vtl_syntax::{CastKind, Constant, Expr, FunctionName, Literal, Numeral, UnaryOp};
 use vtl_text::{List, Txt};
 use vtl_tree::CompExpr;

@@ -1,14 +1,15 @@
 // Aggregate and analytic calls that stand in a component expression, where they may not.
 ghost use Rattle.std.specs.Prelude.{◌≡◌};
-ghost use Rattle.vtl_typing.specs.Answers.{Answers};
+ghost use Rattle.vtl_rule_tests.specs.Answers.{Answers};
 ghost use Rattle.vtl_typing.specs.Misplaced.{aggregate_form, aggregates, analytic_form, analytic_typed, default_typed, shift_typed, takes_one, takes_value};
 ghost use Rattle.vtl_typing.specs.Operands.{operand_tree};
 
 use crate::literals::{is_null_kind, still_wanted, wanted_or};
-use crate::{Operand, TypeErr, broken, literal, literal_kind, meets, points, window};
+use crate::{Operand, literal, literal_kind, meets, points, window};
 use std::alloc::Global;
 use vtl_cell::{Cell, Kind};
 use vtl_decimal::Profile;
+use vtl_rule_tests::{TypeErr, broken};
 use vtl_syntax::{AggregateName, Literal, OverPart, ValueWindowName};
 use vtl_text::Txt;
 use vtl_tree::Component;

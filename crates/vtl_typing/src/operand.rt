@@ -3,12 +3,12 @@ ghost use Rattle.std.specs.Prelude.{◌≡◌, IfOk, map, option_map};
 ghost use Rattle.vtl_tree.specs.CompExp.{column};
 ghost use Rattle.vtl_tree.specs.Structure.{same_name};
 ghost use Rattle.vtl_tree.specs.View.{comp_exp_of};
-ghost use Rattle.vtl_typing.specs.Answers.{Answers};
+ghost use Rattle.vtl_rule_tests.specs.Answers.{Answers};
 ghost use Rattle.vtl_typing.specs.Calls.{args_of};
 ghost use Rattle.vtl_typing.specs.Operands.{and_operand, column_typed, name_of, operand_tree, value_of};
 
-use crate::TypeErr;
 use std::alloc::AllocError;
+use vtl_rule_tests::TypeErr;
 use vtl_syntax::Comp;
 use vtl_text::Txt;
 use vtl_tree::{CompExpr, Component};

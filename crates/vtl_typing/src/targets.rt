@@ -2,18 +2,17 @@
 ghost use Rattle.std.specs.Prelude.{◌≡◌, ℕ, Some, option_map};
 ghost use Rattle.vtl_syntax.specs.View.{expr_tree};
 ghost use Rattle.vtl_nodes.specs.View.{value_tree};
-ghost use Rattle.vtl_typing.specs.Answers.{Answers};
+ghost use Rattle.vtl_rule_tests.specs.Answers.{Answers};
 ghost use Rattle.vtl_typing.specs.Targets.{aggregate_target, call_target, component_named, data_target, is_ordered, is_ranked, is_unframed, of_aggregate, of_shift, of_window, rank_target, shift_target, suits, target_typed, window_target};
 
 use crate::misplaced::default;
 use crate::walk::{is_data_form, kind_of};
-use crate::{
-    DataForms, TypeErr, broken, comp_typing, name, points, takes_one, takes_value, window,
-};
+use crate::{DataForms, comp_typing, name, points, takes_one, takes_value, window};
 use std::alloc::Global;
 use vtl_cell::{Cell, Kind};
 use vtl_decimal::Profile;
 use vtl_nodes::{AnalyticCall, AnalyticOp, CalcValue, Window};
+use vtl_rule_tests::{TypeErr, broken};
 use vtl_syntax::{AggregateName, Expr, Literal, OverPart, ShiftName, ValueWindowName};
 use vtl_text::Txt;
 use vtl_tree::Component;

@@ -4,7 +4,7 @@ ghost use Rattle.vtl_syntax.specs.Trees.{Exp, exps_of};
 ghost use Rattle.vtl_syntax.specs.View.{expr_tree};
 ghost use Rattle.vtl_tree.specs.CompExp.{const};
 ghost use Rattle.vtl_tree.specs.View.{comp_exp_of};
-ghost use Rattle.vtl_typing.specs.Answers.{Answers};
+ghost use Rattle.vtl_rule_tests.specs.Answers.{Answers};
 ghost use Rattle.vtl_typing.specs.Calls.{args_of, call_of};
 ghost use Rattle.vtl_typing.specs.Literals.{constant_typed, literals_fit};
 ghost use Rattle.vtl_typing.specs.Operands.{column_typed, name_of, operand_tree};
@@ -12,13 +12,14 @@ ghost use Rattle.vtl_typing.specs.Operators.{of_function, takes};
 ghost use Rattle.vtl_typing.specs.Typing.{as_operand, comp_typed, data_typed, exps_length, is_data_form, is_plain_name, kind_form, kind_typed, membership, next_typed, operand_typed, operands_typed, set_form};
 
 use crate::{
-    Operand, TypeErr, aggregate, analytic, and_operand, binary_operator, call, column, constant,
+    Operand, aggregate, analytic, and_operand, binary_operator, call, column, constant,
     function_operator, kind, literals_fit, name, set, shift, takes, takes_one, takes_value,
     unary_operator,
 };
 use std::alloc::{AllocError, Global};
 use vtl_cell::{Cell, Kind, ScalarOp};
 use vtl_decimal::Profile;
+use vtl_rule_tests::TypeErr;
 use vtl_syntax::{Comp, Constant, Expr, FunctionName, Literal};
 use vtl_tree::{CompExpr, Component};
 

@@ -2,14 +2,15 @@
 ghost use Rattle.std.specs.Prelude.{◌≡◌, [], IfOk};
 ghost use Rattle.std.specs.List.{list_any};
 ghost use Rattle.vtl_tree.specs.Structure.{same_name};
-ghost use Rattle.vtl_typing.specs.Answers.{Answers};
+ghost use Rattle.vtl_rule_tests.specs.Answers.{Answers};
 ghost use Rattle.vtl_typing.specs.Operands.{name_of};
 ghost use Rattle.vtl_typing.specs.Windows.{bound_typed, frame_typed, is_falling, is_known, key_of, key_typed, name_form, or_none, order_typed, partition_typed, points_at, points_typed, unbounded_at, window_typed};
 
-use crate::{TypeErr, name};
+use crate::name;
 use std::alloc::{AllocError, Global};
 use vtl_decimal::{Profile, read_whole};
 use vtl_nodes::{Bound, Frame, OrderKey, Window};
+use vtl_rule_tests::TypeErr;
 use vtl_syntax::{Comp, DataPoints, Direction, Limit, OrderPart, OverPart, Side};
 use vtl_text::{List, Txt};
 use vtl_tree::Component;

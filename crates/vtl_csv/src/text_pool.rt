@@ -1,0 +1,105 @@
+// Equal texts of a column that share one text.
+ghost use Rattle.std.specs.Prelude.{◌≡◌, chars, vec_len, IfOk, IfSome};
+
+use std::alloc::{AllocError, Global};
+use std::hash::{FoldHasher, Hash, Hasher};
+use vtl_text::Txt;
+
+// A column with fewer texts shares none.
+const FEW: usize = 64;
+
+// A text is kept in one of so many slots, by its hash, until another one takes the slot.
+const SLOTS: usize = 16_384;
+
+// After so many texts it shows whether most are new, and then no more are kept.
+const TRIAL: usize = 65_536;
+
+/// Texts of a column that were met lately. What it costs to look for one does not depend on the others.
+#[derive(Drop)]
+pub struct TextPool {
+    slots: Vec<Option<Txt>>,
+    asked: usize,
+    made: usize,
+}
+
+impl TextPool {
+    /// A pool of no texts.
+    pub fn new(alloc: Global) -> TextPool {
+        TextPool {
+            slots: Vec::new(alloc),
+            asked: 0,
+            made: 0,
+        }
+    }
+
+    /// A text with these characters, shared with an equal one that the pool holds. It fails only for want of memory.
+    pub fn text(&mut self, alloc: Global, text: &str) -> Result<Txt, AllocError>
+        ensures { IfOk result (λ t. t ≡ chars text.now) }
+    {
+        self.asked = self.asked.saturating_add(1);
+        if self.asked < FEW || self.is_spent() {
+            return Txt::new(alloc, text);
+        }
+        let place = place_of(text);
+        if let Some(held) = self.held(place, text)? {
+            return Ok(held);
+        }
+        let made = Txt::new(alloc, text)?;
+        self.keep(alloc, place, made.share()?)?;
+        Ok(made)
+    }
+
+    // Whether most texts were new.
+    fn is_spent(&self) -> bool {
+        self.asked > TRIAL && self.made > self.asked / 2
+    }
+
+    // The text in a slot, where it is this one.
+    fn held(&self, place: usize, text: &str) -> Result<Option<Txt>, AllocError>
+        ensures { IfOk result (λ o. IfSome o (λ t. t ≡ chars text.now)) }
+    {
+        match self.slots.get(place) {
+            Some(Some(held)) if held.as_str() == text => Ok(Some(held.share()?)),
+            _ => Ok(None),
+        }
+    }
+
+    // Puts a new text into a slot.
+    fn keep(&mut self, alloc: Global, place: usize, text: Txt) -> Result<(), AllocError> {
+        if self.slots.is_empty() {
+            self.slots = no_texts(alloc)?;
+        }
+        self.made = self.made.saturating_add(1);
+        if let Some(slot) = self.slots.get_mut(place) {
+            *slot = Some(text);
+        }
+        Ok(())
+    }
+}
+
+// The slot of a text.
+fn place_of(text: &str) -> usize {
+    let mut state = FoldHasher::default();
+    text.hash(&mut state);
+    state.finish() as usize % SLOTS
+}
+
+// Slots with nothing in them.
+fn no_texts(alloc: Global) -> Result<Vec<Option<Txt>>, AllocError> {
+    let mut slots = Vec::with_capacity(alloc, SLOTS)?;
+    for _ in 0..SLOTS {
+        slots.push(None)?;
+    }
+    Ok(slots)
+}
+
+/// A pool for each of so many columns. It fails only for want of memory.
+pub fn pools(alloc: Global, count: usize) -> Result<Vec<TextPool>, AllocError>
+    ensures { IfOk result (λ pools. vec_len pools ≡ count) }
+{
+    let mut pools = Vec::with_capacity(alloc, count)?;
+    for _ in 0..count {
+        pools.push(TextPool::new(alloc))?;
+    }
+    Ok(pools)
+}

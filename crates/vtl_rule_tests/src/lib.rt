@@ -1,0 +1,6 @@
+//! Rules that a part of a script can break: the first of a list of tests that is broken, and what an answer tells of it.
+#![tactic(auto)]
+
+mod error;
+
+pub use error::{TypeErr, broken};

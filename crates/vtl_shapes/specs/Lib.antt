@@ -1,0 +1,8 @@
+pub mod Choices
+pub mod Clauses
+pub mod Kinds
+pub mod Measures
+pub mod Names
+pub mod Operands
+pub mod Pairs
+pub mod Shape
