@@ -1,0 +1,10 @@
+pub mod Calls
+pub mod Kinds
+pub mod Literals
+pub mod Misplaced
+pub mod Operands
+pub mod Operators
+pub mod Targets
+pub mod Typing
+pub mod WellTyped
+pub mod Windows

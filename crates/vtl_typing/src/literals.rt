@@ -1,0 +1,286 @@
+// The values of literals.
+ghost use Rattle.std.specs.Prelude.{◌≡◌, ◌++◌, ℤ, IfOk, option_map, map};
+ghost use Rattle.std.specs.Option.{option_and_then};
+ghost use Rattle.std.specs.Result.{result_ok};
+ghost use Rattle.vtl_cell.specs.ScalarArithmetic.{negation_of};
+ghost use Rattle.vtl_syntax.specs.Trees.{exps_of};
+ghost use Rattle.vtl_syntax.specs.View.{expr_tree};
+ghost use Rattle.vtl_tree.specs.View.{comp_exp_of};
+ghost use Rattle.vtl_rule_tests.specs.Answers.{Answers};
+ghost use Rattle.vtl_typing.specs.Literals.{are_digits, cast_kind, constant_cell, constant_typed, integer_in, is_null_kind, lies_in, literal_cell, literal_kind, literals_fit, members_typed, numeral_cell, numeral_kind, numeral_text, second_passes, set_typed, still_wanted, third_passes, valued, wanted_or, with_sign, written};
+
+use crate::{meets, shared_kind};
+use std::alloc::{AllocError, Global};
+use vtl_cell::{Cell, Kind, read_cell};
+use vtl_decimal::{Profile, neg, read_whole, whole};
+use vtl_rule_tests::TypeErr;
+use vtl_syntax::{CastKind, Constant, Expr, FunctionName, Literal, Numeral, UnaryOp};
+use vtl_text::{List, Txt};
+use vtl_tree::CompExpr;
+
+fn numeral_kind(numeral: &Numeral) -> Kind
+    ensures { result ≡ numeral_kind numeral.now }
+{
+    match numeral {
+        Numeral::Integer(_) => Kind::Int,
+        Numeral::Decimal(_) => Kind::Num,
+    }
+}
+
+fn numeral_text(numeral: &Numeral) -> &Txt
+    ensures { result.now ≡ numeral_text numeral.now }
+{
+    match numeral {
+        Numeral::Integer(digits) => digits,
+        Numeral::Decimal(digits) => digits,
+    }
+}
+
+fn cast_kind(kind: CastKind) -> Kind
+    ensures { result ≡ cast_kind kind }
+{
+    match kind {
+        CastKind::Date => Kind::Day,
+        CastKind::TimePeriod => Kind::Period,
+    }
+}
+
+// The value of a kind that a text stands for.
+fn written(
+    alloc: Global,
+    profile: &Profile,
+    kind: Kind,
+    text: &Txt,
+) -> Result<Option<Cell>, AllocError>
+    ensures { IfOk result (λ o. o ≡ written profile.now kind text.now) }
+{
+    read_cell(alloc, kind, text.as_str(), profile)
+}
+
+fn numeral_cell(
+    alloc: Global,
+    profile: &Profile,
+    numeral: &Numeral,
+) -> Result<Option<Cell>, AllocError>
+    ensures { IfOk result (λ o. o ≡ numeral_cell profile.now numeral.now) }
+{
+    written(alloc, profile, numeral_kind(numeral), numeral_text(numeral))
+}
+
+fn constant_cell(
+    alloc: Global,
+    profile: &Profile,
+    constant: &Constant,
+) -> Result<Option<Cell>, AllocError>
+    ensures { IfOk result (λ o. o ≡ constant_cell profile.now constant.now) }
+{
+    match constant {
+        Constant::Number(numeral) => numeral_cell(alloc, profile, numeral),
+        Constant::String(text) => Ok(Some(Cell::Text(text.share()?))),
+        Constant::Boolean(b) => Ok(Some(Cell::Bool(*b))),
+        Constant::Null => Ok(Some(Cell::Null)),
+        Constant::Cast { text, kind } => written(alloc, profile, cast_kind(*kind), text),
+    }
+}
+
+// The negation of a number, where it is in range.
+fn negated(profile: &Profile, cell: Cell) -> Option<Cell>
+    ensures { result ≡ result_ok (negation_of profile.now cell) }
+{
+    match cell {
+        Cell::Int(n) => match whole(-i128::from(n), profile) {
+            Ok(n) => Some(Cell::Int(n)),
+            Err(_) => None,
+        },
+        Cell::Num(k) => Some(Cell::Num(neg(k))),
+        _ => Some(Cell::Null),
+    }
+}
+
+fn with_sign(profile: &Profile, negative: bool, cell: Option<Cell>) -> Option<Cell>
+    ensures { result ≡ with_sign profile.now negative cell }
+{
+    if negative {
+        negated(profile, cell?)
+    } else {
+        cell
+    }
+}
+
+fn literal_cell(
+    alloc: Global,
+    profile: &Profile,
+    literal: &Literal,
+) -> Result<Option<Cell>, AllocError>
+    ensures { IfOk result (λ o. o ≡ literal_cell profile.now literal.now) }
+{
+    match literal {
+        Literal::Number { negative, numeral } => {
+            let cell = numeral_cell(alloc, profile, numeral)?;
+            Ok(with_sign(profile, *negative, cell))
+        }
+        Literal::String(text) => Ok(Some(Cell::Text(text.share()?))),
+        Literal::Boolean(b) => Ok(Some(Cell::Bool(*b))),
+        Literal::Cast { text, kind } => written(alloc, profile, cast_kind(*kind), text),
+    }
+}
+
+/// The kind of a literal.
+pub fn literal_kind(literal: &Literal) -> Kind
+    ensures { result ≡ literal_kind literal.now }
+{
+    match literal {
+        Literal::Number { numeral, .. } => numeral_kind(numeral),
+        Literal::String(_) => Kind::Text,
+        Literal::Boolean(_) => Kind::Bool,
+        Literal::Cast { kind, .. } => cast_kind(*kind),
+    }
+}
+
+fn valued(cell: Option<Cell>) -> Result<Cell, TypeErr>
+    ensures { Answers (λ cell. cell) result (valued cell) }
+{
+    match cell {
+        Some(cell) => Ok(cell),
+        None => Err(TypeErr::Broken(8)),
+    }
+}
+
+/// The value of a literal.
+pub fn literal(alloc: Global, profile: &Profile, literal: &Literal) -> Result<Cell, TypeErr>
+    ensures { Answers (λ cell. cell) result (valued (literal_cell profile.now literal.now)) }
+{
+    valued(literal_cell(alloc, profile, literal)?)
+}
+
+/// A constant as an expression.
+pub fn constant(alloc: Global, profile: &Profile, constant: &Constant) -> Result<CompExpr, TypeErr>
+    ensures { Answers comp_exp_of result (constant_typed profile.now constant.now) }
+{
+    match constant_cell(alloc, profile, constant)? {
+        Some(cell) => Ok(CompExpr::Const(cell)),
+        None => Err(TypeErr::Broken(8)),
+    }
+}
+
+// The kind that the members of a set still have to meet.
+pub(crate) fn still_wanted(is_free: bool, wanted: Kind, given: Kind) -> Option<Kind>
+    ensures { result ≡ still_wanted is_free wanted given }
+{
+    if is_free {
+        shared_kind(wanted, given)
+    } else if meets(wanted, given) {
+        Some(wanted)
+    } else {
+        None
+    }
+}
+
+pub(crate) fn wanted_or(kind: Option<Kind>) -> Result<Kind, TypeErr>
+    ensures { Answers (λ kind. kind) result (wanted_or kind) }
+{
+    match kind {
+        Some(kind) => Ok(kind),
+        None => Err(TypeErr::Broken(7)),
+    }
+}
+
+pub(crate) fn is_null_kind(kind: Kind) -> bool
+    ensures { result ≡ is_null_kind kind }
+{
+    match kind {
+        Kind::Null => true,
+        _ => false,
+    }
+}
+
+/// The members of a set behind an operand of this kind.
+pub fn set(
+    alloc: Global,
+    profile: &Profile,
+    kind: Kind,
+    literals: &[Literal],
+) -> Result<List<Cell>, TypeErr>
+    ensures { Answers (λ cells. cells) result (set_typed profile.now kind literals.now) }
+{
+    let is_free = is_null_kind(kind);
+    let mut wanted = kind;
+    let mut cells = Vec::new(alloc);
+    for member in literals {
+        wanted = wanted_or(still_wanted(is_free, wanted, literal_kind(member)))?;
+        cells.push(literal(alloc, profile, member)?)?;
+    }
+    Ok(List::of(cells))
+}
+
+// The integer that an expression is, without a sign.
+fn integer_in(profile: &Profile, e: &Expr) -> Option<i64>
+    ensures { result ≡ integer_in profile.now (expr_tree e.now) }
+{
+    match e {
+        Expr::Constant(Constant::Number(Numeral::Integer(digits))) => {
+            match read_whole(digits.as_str(), profile) {
+                Ok(n) => Some(n),
+                Err(_) => None,
+            }
+        }
+        _ => None,
+    }
+}
+
+fn lies_in(profile: &Profile, low: i64, high: i64, e: &Expr) -> bool
+    ensures { result ≡ lies_in profile.now low high (expr_tree e.now) }
+{
+    match integer_in(profile, e) {
+        Some(n) => low <= n && n <= high,
+        None => false,
+    }
+}
+
+fn are_digits(profile: &Profile, e: &Expr) -> bool
+    ensures { result ≡ are_digits profile.now (expr_tree e.now) }
+{
+    match e {
+        Expr::Unary {
+            op: UnaryOp::Minus,
+            operand,
+        } => lies_in(profile, 0, 9, operand),
+        _ => lies_in(profile, 0, 9, e),
+    }
+}
+
+const LARGEST_PLACE: i64 = 1_000_000_000;
+
+#[tactic(auto, using(crate::proofs::LiteralLemmas::second_short))]
+fn second_are_digits(profile: &Profile, operands: &[Expr]) -> bool
+    ensures { result ≡ second_passes (are_digits profile.now) (exps_of (map expr_tree operands.now)) }
+{
+    match operands {
+        [_, digits, ..] => are_digits(profile, digits),
+        _ => true,
+    }
+}
+
+#[tactic(auto, using(crate::proofs::LiteralLemmas::places_short))]
+fn are_places(profile: &Profile, operands: &[Expr]) -> bool
+    ensures { result ≡ literals_fit profile.now FunctionName.Substr (exps_of (map expr_tree operands.now)) }
+{
+    match operands {
+        [_, start, length, ..] => {
+            lies_in(profile, 1, LARGEST_PLACE, start) && lies_in(profile, 0, LARGEST_PLACE, length)
+        }
+        [_, start] => lies_in(profile, 1, LARGEST_PLACE, start),
+        _ => true,
+    }
+}
+
+/// Whether the operands of a function that have to be literals are literals in their intervals.
+pub fn literals_fit(profile: &Profile, function: FunctionName, operands: &[Expr]) -> bool
+    ensures { result ≡ literals_fit profile.now function (exps_of (map expr_tree operands.now)) }
+{
+    match function {
+        FunctionName::Round | FunctionName::Trunc => second_are_digits(profile, operands),
+        FunctionName::Substr => are_places(profile, operands),
+        _ => true,
+    }
+}
