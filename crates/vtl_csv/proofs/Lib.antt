@@ -1,9 +1,16 @@
+pub mod ArrangedLemmas
 pub mod DataSetLemmas
 pub mod DeclarationLemmas
 pub mod FieldLemmas
+pub mod InputDataSetLemmas
+pub mod InputFieldLemmas
+pub mod InputLayoutLemmas
+pub mod InputPointLemmas
 pub mod KeyOrderLemmas
 pub mod PlainTextLemmas
 pub mod PointLemmas
 pub mod RecordsLeftLemmas
+pub mod RepeatLemmas
+pub mod SortedCodeLemmas
 pub mod RowLemmas
 pub mod RowTextLemmas

@@ -2,8 +2,14 @@
 //! far points are read from plain lines: ASCII without double quotes.
 #![tactic(auto)]
 
+mod dataset;
 mod declarations;
+mod duplicates;
 mod fields;
+mod file_column;
+mod header;
+mod input;
+mod input_fields;
 mod laws;
 mod plain;
 mod reading;
@@ -12,6 +18,8 @@ mod row_text;
 mod structures;
 mod writing;
 
+pub use dataset::read_dataset;
+pub use input::{InputErr, InputKind};
 pub use laws::{output_rises_by_identifiers, points_are_a_data_set};
 pub use plain::{has_plain_lines, plain_lines_are_lines};
 pub use reading::{column, points};

@@ -31,7 +31,8 @@ pub fn column<'a>(columns: &[&'a Component], i: usize) -> &'a Component
     columns[i]
 }
 
-fn field(fields: &ByteRecord, i: usize) -> &[u8]
+/// The field at a place.
+pub fn field(fields: &ByteRecord, i: usize) -> &[u8]
     requires { i < length (fields_of fields.now) }
     ensures { result.now ≡ slice_index_or (fields_of fields.now) i result.now }
 {
@@ -41,7 +42,8 @@ fn field(fields: &ByteRecord, i: usize) -> &[u8]
     }
 }
 
-fn is_same_text(text: &Txt, field: &[u8]) -> bool
+/// Whether a field is a text in UTF-8.
+pub fn is_same_text(text: &Txt, field: &[u8]) -> bool
     ensures { result ≡ same_name field.now (encode_utf8_all text.now) }
 {
     field == text.as_str().as_bytes()

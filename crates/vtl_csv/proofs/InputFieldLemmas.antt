@@ -1,0 +1,47 @@
+-- Steps of the loop over the fields of a record.
+use Rattle.std.proofs.Common.{◌≡◌, ℕ, ◌+◌, ◌<◌, ◌≤◌, List, [], ◌∷◌, ◌++◌, Bool, true, false, cond, get_or, drop, length, Result, Ok, Err, refl, ap, ◌∙◌, arith}
+use Rattle.std.specs.List.{zip}
+use Rattle.std.specs.Prelude.{IsUtf8}
+use Rattle.std.specs.Str.{is_utf8}
+use Rattle.std.proofs.lemmas.List.{drop_all, drop_more}
+use Rattle.std.proofs.lemmas.Str.{IsUtf8-from_is_utf8, is_utf8-from_IsUtf8}
+use Rattle.vtl_decimal.specs.Settings.{Settings}
+use Rattle.vtl_cell.specs.declared.cell.Cell.{Cell}
+use Rattle.vtl_cell.specs.Row.{Row}
+use Rattle.vtl_tree.specs.declared.structure.Component.{Component}
+use Rattle.vtl_csv.specs.declared.input.InputKind.{InputKind}
+use Rattle.vtl_csv.specs.declared.input.InputKind.TheVariants as i
+use Rattle.vtl_csv.specs.InputFields.{at_column, field_cell, row_with, text_cell}
+use Rattle.vtl_csv.proofs.PointLemmas.{pair_at, zip_ended, zip_within}
+
+-- a field that is a text, or none
+pub field_text : (p : Settings) (x : Component) (f : List ℕ) → IsUtf8 f → field_cell p x f ≡ text_cell p x f
+field_text p x f h = ap (λ b. cond b (text_cell p x f) (Err i.NotText)) (is_utf8-from_IsUtf8 f h)
+
+pub field_refused : (p : Settings) (x : Component) (f : List ℕ) → ¬ (IsUtf8 f) → field_cell p x f ≡ Err i.NotText
+field_refused p x f h = go (is_utf8 f) refl
+  where
+    go : (b : Bool) → is_utf8 f ≡ b → cond b (text_cell p x f) (Err i.NotText) ≡ Err i.NotText
+    go true e = absurd (h (IsUtf8-from_is_utf8 f e))
+    go false e = refl
+
+module _ (p : Settings) (xs : List Component) (ys : List (List ℕ)) (i : ℕ) (row : Row) (same : length ys ≡ length xs) where
+  module _ (x : Component) (y : List ℕ) (h : i < length xs) (at_x : x ≡ get_or xs i x) (at_y : y ≡ get_or ys i y) where
+    step : (r : Result Cell InputKind) → field_cell p x y ≡ r → row_with p row (drop i (zip xs ys)) ≡ at_column row (λ longer. row_with p longer (drop (i + 1) (zip xs ys))) r
+    step r e =
+        let k : i < length ys = omega (arith, same, h) in
+        ap (row_with p row) (drop_more (zip xs ys) i (x, y) (zip_within xs ys i h same))
+        ∙ ap (λ q. at_column row (λ longer. row_with p longer (drop (i + 1) (zip xs ys))) (field_cell p q.0 q.1)) (pair_at xs ys i x y h k at_x at_y)
+        ∙ ap (at_column row (λ longer. row_with p longer (drop (i + 1) (zip xs ys)))) e
+
+    -- the field is a cell
+    pub row_takes : (v : Cell) → field_cell p x y ≡ Ok v → row_with p row (drop i (zip xs ys)) ≡ row_with p (row ++ v ∷ []) (drop (i + 1) (zip xs ys))
+    row_takes v e = step (Ok v) e
+
+    -- the field has a flaw
+    pub row_stops : (kind : InputKind) → field_cell p x y ≡ Err kind → row_with p row (drop i (zip xs ys)) ≡ Err (length row + 1, kind)
+    row_stops kind e = step (Err kind) e
+
+  -- no field is left
+  pub row_ends : length xs ≤ i → row_with p row (drop i (zip xs ys)) ≡ Ok row
+  row_ends h = ap (row_with p row) (drop_all i (zip xs ys) (zip_ended xs ys i h))

@@ -1,0 +1,55 @@
+use Rattle.std.proofs.Common.{◌<◌, ◌≤◌, [], length, map, take, All, sym, ap, ◌∙◌, subst}
+use Rattle.std.proofs.lemmas.List.{length-map}
+use Rattle.vtl_rows.specs.Tables.{cells_at, column_at}
+use Rattle.vtl_tree.specs.Structure.{key_width}
+use Rattle.vtl_csv.specs.InputFile.{rows_with}
+use Rattle.vtl_csv.specs.InputSteps.{fault_of, layout_seen, rows_outcome}
+use Rattle.vtl_csv.specs.TableText.{column_for}
+use Rattle.vtl_csv.proofs.InputDataSetLemmas.{rows_arranged}
+use Rattle.vtl_csv.proofs.InputLayoutLemmas.{layout_all_below, layout_below, layout_columns, layout_keys, layout_some, layout_wide}
+use Rattle.std.specs.Option.{option_map}
+use Rattle.vtl_csv.proofs.dataset.read_table.Goals as goal
+
+pub table_of-requires : goal.table_of-requires
+table_of-requires c =
+    let wide = layout_wide c.args.structure.now (layout_seen c.args.layout.now) c.requires.structure c.requires.layout in
+    subst (λ l. 0 < length l) (sym c.deref.ensures.value) wide
+
+pub key_places-requires : goal.key_places-requires
+key_places-requires c =
+    let keys = layout_keys c.args.structure.now (layout_seen c.args.layout.now) c.requires.structure c.requires.layout in
+    subst (λ l. key_width c.args.structure.now ≤ length l) (sym c.deref-2.ensures.value) keys
+
+pub read_rows-requires-clause-keys : goal.read_rows-requires-clause-keys
+read_rows-requires-clause-keys c =
+    let same = c.in_ok-table.ensures.columns ∙ ap (map column_for) c.deref.ensures.value in
+    let count = ap length same ∙ length-map c.args.layout.now.columns.items column_for in
+    let keys = c.in_ok-keys.ensures ∙ ap (take (key_width c.args.structure.now)) c.deref-2.ensures.value in
+    subst (All (λ i. i < length c.in_ok-table.table.columns)) (sym keys) (layout_below c.args.structure.now (layout_seen c.args.layout.now) c.requires.structure c.requires.layout (length c.in_ok-table.table.columns) (key_width c.args.structure.now) count)
+
+pub arranged-requires-clause-some : goal.arranged-requires-clause-some
+arranged-requires-clause-some c =
+    let some = layout_some c.args.structure.now (layout_seen c.args.layout.now) c.requires.structure c.requires.layout in
+    subst (λ l. 0 < length l) (sym c.deref-in-None.ensures.value) some
+
+pub arranged-requires-clause-within : goal.arranged-requires-clause-within
+arranged-requires-clause-within c =
+    let same = c.in_ok-fault.ensures.columns ∙ c.in_ok-table.ensures.columns ∙ ap (map column_for) c.deref.ensures.value in
+    let count = ap length same ∙ length-map c.args.layout.now.columns.items column_for in
+    subst (All (λ i. i < length c.read_rows.new.table.columns)) (sym c.deref-in-None.ensures.value) (layout_all_below c.args.structure.now (layout_seen c.args.layout.now) c.requires.structure c.requires.layout (length c.read_rows.new.table.columns) count)
+
+pub returns-in_ok-arranged-in-None : goal.returns-in_ok-arranged-in-None
+returns-in_ok-arranged-in-None c =
+    let same = c.in_ok-fault.ensures.columns ∙ c.in_ok-table.ensures.columns ∙ ap (map column_for) c.deref.ensures.value in
+    let keys = c.in_ok-keys.ensures ∙ ap (take (key_width c.args.structure.now)) c.deref-2.ensures.value in
+    let places = c.deref-in-None.ensures.value in
+    let read =
+    ap (λ o. rows_outcome c.read_rows.new.table.rows (option_map fault_of o)) (sym c.in-None.is)
+    ∙ c.in_ok-fault.ensures.rows
+    ∙ ap (λ columns. rows_with c.args.profile.now columns c.in_ok-keys.keys.now [] c.args.reader.now) c.deref-3.ensures.value
+    ∙ ap (λ l. rows_with c.args.profile.now c.args.layout.now.columns.items l [] c.args.reader.now) keys in (
+      c.in_ok-arranged-in-None.ensures.columns ∙ ap (λ columns. map (column_at columns) c.deref-in-None.result.now) same ∙ ap (map (column_at (map column_for c.args.layout.now.columns.items))) places
+          ∙ layout_columns c.args.structure.now (layout_seen c.args.layout.now) c.requires.structure c.requires.layout,
+      rows_arranged c.args.layout.now.places.items (rows_with c.args.profile.now c.args.layout.now.columns.items (take (key_width c.args.structure.now) c.args.layout.now.places.items) [] c.args.reader.now) c.read_rows.new.table.rows c.in_ok-arranged-in-None.field-0.rows
+          read (c.in_ok-arranged-in-None.ensures.rows ∙ ap (λ l. map (cells_at l) c.read_rows.new.table.rows) places),
+    )

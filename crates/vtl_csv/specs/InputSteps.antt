@@ -1,0 +1,89 @@
+-- The steps by which a CSV file of a data set is read: what each leaves, and how its answer is seen.
+use Rattle.std.specs.Prelude.{ℕ, suc, ◌+◌, ◌<◌, ◌≡◌, true, false, List, [], ◌∷◌, ◌++◌, length, take, Option, Some, None, Result, Ok, Err}
+use Rattle.std.specs.Global.{Vec}
+use Rattle.vtl_decimal.specs.Settings.{Settings}
+use Rattle.vtl_cell.specs.declared.cell.Cell.{Cell}
+use Rattle.vtl_cell.specs.Row.{Row}
+use Rattle.vtl_rows.specs.Keys.{apart}
+use Rattle.vtl_rows.specs.Tables.{Listed}
+use Rattle.vtl_tree.specs.declared.structure.Component.{Component}
+use Rattle.vtl_tree.specs.declared.structure.Structure.{Structure}
+use Rattle.vtl_csv.specs.declared.header.Layout.{Layout as LayoutFields}
+use Rattle.vtl_csv.specs.declared.input.Fault.{Fault as FaultFields}
+use Rattle.vtl_csv.specs.declared.input.Flaw.{Flaw as FlawFields}
+use Rattle.vtl_csv.specs.declared.input.InputKind.TheVariants as i
+use Rattle.vtl_csv.specs.InputFields.{Flaw, record_row}
+use Rattle.vtl_csv.specs.InputFile.{Fault, Layout, layout_of}
+use Rattle.vtl_csv.specs.TableText.{table_columns}
+
+abbrev pub flaw_of : FlawFields → Flaw
+flaw_of f = (f.column, f.kind)
+
+abbrev pub fault_of : FaultFields → Fault
+fault_of f = (f.line, flaw_of f.flaw)
+
+-- the row or the flaw that an answer holds
+abbrev pub row_answer : Result (Vec Cell) FlawFields → Result Row Flaw
+row_answer (Ok row) = Ok row.items
+row_answer (Err flaw) = Err (flaw_of flaw)
+
+-- the columns of a header, or a column
+abbrev pub columns_answer : Result (Vec Component) ℕ → Result (List Component) ℕ
+columns_answer (Ok columns) = Ok columns.items
+columns_answer (Err column) = Err column
+
+abbrev pub layout_seen : LayoutFields → Layout
+layout_seen l = record { columns = l.columns.items; places = l.places.items }
+
+abbrev pub layout_answer : Result LayoutFields ℕ → Result Layout ℕ
+layout_answer (Ok layout) = Ok (layout_seen layout)
+layout_answer (Err column) = Err column
+
+-- some header has this layout
+abbrev pub IsLayout : Structure → Layout → Type 0
+IsLayout s layout = (fields : List (List ℕ)) × (layout_of s fields ≡ Ok layout)
+
+-- rows up to a flaw, if there is one
+pub record Taken : Type 0 where
+  pub rows : List Row
+  pub flaw : Option Flaw
+
+abbrev pub taken : List Row → Option Flaw → Taken
+taken rows flaw = record { rows = rows; flaw = flaw }
+
+-- the taking goes on behind a row, or ends at a flaw
+abbrev pub on_row : List Row → (List Row → Taken) → Result Row Flaw → Taken
+on_row before go_on (Err flaw) = taken before (Some flaw)
+on_row before go_on (Ok row) = go_on (before ++ row ∷ [])
+
+-- the rows before and then those of these records up to the first flaw, whatever identifiers repeat
+abbrev pub taken_with : Settings → List Component → List Row → List (List (List ℕ)) → Taken
+taken_with p columns before [] = taken before None
+taken_with p columns before (fields ∷ rest) = on_row before (λ rows. taken_with p columns rows rest) (record_row p columns (length before) fields)
+
+-- the row at a place repeats the identifiers of one before it, and no row before it does
+pub record IsFirstRepeat (keys : List ℕ) (rows : List Row) (place : ℕ) : Type 0 where
+  pub within : place < length rows
+  pub before : apart keys (take place rows) ≡ true
+  pub there : apart keys (take (suc place) rows) ≡ false
+
+-- the first such row, if there is one
+abbrev pub FindsRepeat : List ℕ → List Row → Option ℕ → Type 0
+FindsRepeat keys rows None = apart keys rows ≡ true
+FindsRepeat keys rows (Some place) = IsFirstRepeat keys rows place
+
+-- the first fault of a file with so many rows: a repeat among them, or else the flaw behind them
+abbrev pub fault_among : ℕ → Option ℕ → Option Flaw → Option Fault
+fault_among count (Some place) flaw = Some (place + 2, (1, i.DuplicateKey))
+fault_among count None (Some flaw) = Some (count + 2, flaw)
+fault_among count None None = None
+
+-- rows, or the fault where there is one
+abbrev pub rows_outcome : List Row → Option Fault → Result (List Row) Fault
+rows_outcome rows None = Ok rows
+rows_outcome rows (Some fault) = Err fault
+
+-- a table of the structure with the rows, or the fault
+abbrev pub Answers : Structure → Result Listed FaultFields → Result (List Row) Fault → Type 0
+Answers s (Ok table) what = (table.columns ≡ table_columns s) × (what ≡ Ok table.rows)
+Answers s (Err fault) what = what ≡ Err (fault_of fault)

@@ -1,0 +1,234 @@
+// The data set that a CSV file holds.
+ghost use Rattle.std.specs.Prelude.{◌≡◌, ◌<◌, ◌≤◌, [], true, length, map, take, option_map, All, IfOk, IfSome, OnOk, Ok};
+ghost use Rattle.std.specs.List.{range_with_len};
+ghost use Rattle.std.specs.Bool.{OnTrue};
+ghost use Rattle.vtl_rows.specs.Tables.{cells_at, column_at, fits};
+ghost use Rattle.vtl_tree.specs.Structure.{IsStructure, key_width};
+ghost use Rattle.vtl_csv.specs.InputFile.{Reads, dataset_rows, rows_below, rows_with};
+ghost use Rattle.vtl_csv.specs.InputSteps.{Answers, IsLayout, fault_among, fault_of, flaw_of, layout_seen, rows_outcome, taken, taken_with};
+ghost use Rattle.vtl_csv.specs.TableText.{IsTableOf, column_for};
+
+use crate::duplicates::first_repeat;
+use crate::file_column::FileColumn;
+use crate::header::{Layout, read_layout};
+use crate::input::{Fault, Flaw, InputErr, InputKind};
+use crate::input_fields::record_row;
+use crate::records::RecordReader;
+use csv::ByteRecord;
+use std::alloc::{AllocError, Global};
+use vtl_decimal::Profile;
+use vtl_rows::{Column, Table};
+use vtl_tree::Structure;
+
+// A table of no rows with the columns of a file.
+fn table_of(alloc: Global, file: &[FileColumn]) -> Result<Table, AllocError>
+    requires { 0 < length file.now }
+    ensures columns { IfOk result (λ t. t.columns ≡ map column_for file.now) }
+    ensures rows { IfOk result (λ t. t.rows ≡ []) }
+{
+    let mut columns = Vec::with_capacity(alloc, file.len())?;
+    for column in file {
+        let component = column.component();
+        columns.push(Column {
+            name: component.name.share()?,
+            kind: component.kind,
+        })?;
+    }
+    Ok(Table::new(alloc, columns))
+}
+
+// Adds the rows of the records that are left up to the first flaw, which is the answer.
+fn add_rows(
+    alloc: Global,
+    table: &mut Table,
+    columns: &[FileColumn],
+    reader: &mut RecordReader,
+    fields: &mut ByteRecord,
+    profile: &Profile,
+) -> Result<Option<Flaw>, AllocError>
+    requires { table.old.columns ≡ map column_for columns.now }
+    ensures columns { table.new.columns ≡ table.old.columns }
+    ensures rows { IfOk result (λ o. taken table.new.rows (option_map flaw_of o) ≡ taken_with profile.now columns.now table.old.rows reader.old) }
+{
+    while reader.next(fields)? {
+        match record_row(alloc, columns, table.len(), fields, profile)? {
+            Ok(row) => table.push_row(row)?,
+            Err(flaw) => return Ok(Some(flaw)),
+        }
+    }
+    Ok(None)
+}
+
+// The first fault of a file with the rows of a table: the first repeat of identifiers, or else the flaw behind the rows.
+fn first_fault(table: &Table, repeat: Option<usize>, flaw: Option<Flaw>) -> Option<Fault>
+    requires { IfSome repeat (λ place. place < length table.now.rows) }
+    ensures { option_map fault_of result ≡ fault_among (length table.now.rows) repeat (option_map flaw_of flaw) }
+{
+    let rows = table.len();
+    if let Some(place) = repeat {
+        return Some(Fault {
+            line: place as u64 + 2,
+            flaw: Flaw {
+                column: 1,
+                kind: InputKind::DuplicateKey,
+            },
+        });
+    }
+    match flaw {
+        Some(flaw) => Some(Fault {
+            line: rows as u64 + 2,
+            flaw,
+        }),
+        None => None,
+    }
+}
+
+// Adds the rows of the records that are left to a table of none, and answers the first fault, if there is one; the
+// identifiers stand at the places `keys`.
+fn read_rows(
+    alloc: Global,
+    table: &mut Table,
+    columns: &[FileColumn],
+    keys: &[usize],
+    reader: &mut RecordReader,
+    fields: &mut ByteRecord,
+    profile: &Profile,
+) -> Result<Option<Fault>, AllocError>
+    requires columns { table.old.columns ≡ map column_for columns.now }
+    requires none { table.old.rows ≡ [] }
+    requires keys { All (λ i. i < length table.old.columns) keys.now }
+    ensures columns { table.new.columns ≡ table.old.columns }
+    ensures rows { IfOk result (λ o. rows_outcome table.new.rows (option_map fault_of o) ≡ rows_with profile.now columns.now keys.now [] reader.old) }
+    ensures fit { OnOk result (All (λ r. fits table.new.columns r ≡ true) table.new.rows) }
+{
+    let flaw = add_rows(alloc, table, columns, reader, fields, profile)?;
+    let repeat = first_repeat(alloc, table, keys)?;
+    Ok(first_fault(table, repeat, flaw))
+}
+
+// Whether places are all those below a number, in order.
+fn are_in_order(places: &[usize], count: usize) -> bool
+    ensures { OnTrue result (places.now ≡ range_with_len 0 count) }
+{
+    if places.len() != count {
+        return false;
+    }
+    for i in 0..count {
+        if places[i] != i {
+            return false;
+        }
+    }
+    true
+}
+
+// The table with its columns at these places.
+fn arranged(alloc: Global, table: Table, places: &[usize]) -> Result<Table, AllocError>
+    requires some { 0 < length places.now }
+    requires within { All (λ i. i < length table.columns) places.now }
+    requires fit { All (λ r. fits table.columns r ≡ true) table.rows }
+    ensures columns { IfOk result (λ t. t.columns ≡ map (column_at table.columns) places.now) }
+    ensures rows { IfOk result (λ t. t.rows ≡ map (cells_at places.now) table.rows) }
+{
+    if are_in_order(places, table.columns().len()) {
+        return Ok(table);
+    }
+    table.project(alloc, places)
+}
+
+fn bad_header(column: u64) -> Fault
+    ensures { fault_of result ≡ (1, (column, InputKind.BadHeader)) }
+{
+    let kind = InputKind::BadHeader;
+    Fault {
+        line: 1,
+        flaw: Flaw { column, kind },
+    }
+}
+
+// The places of the identifiers, which stand first.
+fn key_places<'a>(
+    alloc: Global,
+    structure: &Structure,
+    places: &'a [usize],
+) -> Result<&'a [usize], AllocError>
+    requires { key_width structure.now ≤ length places.now }
+    ensures { IfOk result (λ keys. keys.now ≡ take (key_width structure.now) places.now) }
+{
+    let count = structure.identifiers(alloc)?.len();
+    Ok(&places[..count])
+}
+
+// The data set whose records are left behind a header with this layout.
+fn read_table(
+    alloc: Global,
+    structure: &Structure,
+    layout: &Layout,
+    reader: &mut RecordReader,
+    fields: &mut ByteRecord,
+    profile: &Profile,
+) -> Result<Result<Table, Fault>, AllocError>
+    requires structure { IsStructure structure.now }
+    requires layout { IsLayout structure.now (layout_seen layout.now) }
+    ensures { IfOk result (λ r. Answers structure.now r (rows_below profile.now structure.now reader.old (Ok (layout_seen layout.now)))) }
+{
+    let mut table = table_of(alloc, &layout.columns)?;
+    let keys = key_places(alloc, structure, &layout.places)?;
+    match read_rows(
+        alloc,
+        &mut table,
+        &layout.columns,
+        keys,
+        reader,
+        fields,
+        profile,
+    )? {
+        Some(fault) => Ok(Err(fault)),
+        None => Ok(Ok(arranged(alloc, table, &layout.places)?)),
+    }
+}
+
+// The data set of a file or its first fault.
+fn read_text(
+    alloc: Global,
+    text: &[u8],
+    structure: &Structure,
+    profile: &Profile,
+) -> Result<Result<Table, Fault>, AllocError>
+    requires { IsStructure structure.now }
+    ensures { IfOk result (λ r. Answers structure.now r (dataset_rows profile.now structure.now text.now)) }
+{
+    let mut reader = RecordReader::new(alloc, text);
+    let mut fields = ByteRecord::new(alloc);
+    if !reader.next(&mut fields)? {
+        return Ok(Err(bad_header(1)));
+    }
+    match read_layout(alloc, structure, &fields)? {
+        Ok(layout) => read_table(alloc, structure, &layout, &mut reader, &mut fields, profile),
+        Err(column) => Ok(Err(bad_header(column))),
+    }
+}
+
+/// The data set of the structure that a CSV file holds: a table of its points in the order of the file, with the
+/// components as columns, identifiers first, then measures, then attributes. Or the first fault by line, and within a line
+/// too many rows, a wrong width, the fields by column, and last a repeat of identifiers. It fails otherwise only for want
+/// of memory.
+pub fn read_dataset(
+    alloc: Global,
+    text: &[u8],
+    structure: &Structure,
+    profile: &Profile,
+) -> Result<Table, InputErr>
+    requires { IsStructure structure.now }
+    ensures rows { Reads structure.now result (dataset_rows profile.now structure.now text.now) }
+    ensures points { IfOk result (λ t. IsTableOf structure.now t) }
+{
+    match read_text(alloc, text, structure, profile) {
+        Ok(Ok(table)) => Ok(table),
+        Ok(Err(fault)) => Err(InputErr::Fault {
+            line: fault.line,
+            column: fault.flaw.column,
+            kind: fault.flaw.kind,
+        }),
+        Err(_) => Err(InputErr::OutOfMemory),
+    }
+}
