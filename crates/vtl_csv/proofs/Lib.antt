@@ -1,5 +1,6 @@
 pub mod ArrangedLemmas
 pub mod DataSetLemmas
+pub mod DataSetTextLemmas
 pub mod DeclarationLemmas
 pub mod FieldLemmas
 pub mod InputDataSetLemmas
@@ -14,3 +15,4 @@ pub mod RepeatLemmas
 pub mod SortedCodeLemmas
 pub mod RowLemmas
 pub mod RowTextLemmas
+pub mod TableTextLemmas

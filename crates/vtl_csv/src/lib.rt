@@ -16,6 +16,7 @@ mod reading;
 mod records;
 mod row_text;
 mod structures;
+mod table_text;
 mod writing;
 
 pub use dataset::read_dataset;
@@ -25,4 +26,5 @@ pub use plain::{has_plain_lines, plain_lines_are_lines};
 pub use reading::{column, points};
 pub use records::RecordReader;
 pub use structures::{StructErr, read_structures};
+pub use table_text::{write_dataset, write_table};
 pub use writing::csv_text;

@@ -49,7 +49,7 @@ fn push_names(fields: &mut ByteRecord, columns: &[&Component]) -> Result<(), All
 }
 
 // Adds the fields of the cells of a row to an empty record.
-fn push_cells(
+pub(crate) fn push_cells(
     fields: &mut ByteRecord,
     row: &[Cell],
     profile: &Profile,

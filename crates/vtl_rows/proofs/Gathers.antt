@@ -2,7 +2,7 @@
 use Rattle.std.proofs.Common.{◌≡◌, ℕ, ◌*◌, ◌<◌, List, [], ◌∷◌, ◌++◌, map, length, length-append, get_or, drop, arith, refl, sym, ap, ◌∙◌, subst, All}
 use Rattle.std.specs.List.{AllByRecursion, flat_map, range_with_len}
 use Rattle.std.specs.List.Sorted.{IsPermutation}
-use Rattle.std.proofs.lemmas.List.{take_at, drop_at, length-map}
+use Rattle.std.proofs.lemmas.List.{take_at, drop_at, get_or_default, length-map}
 use Rattle.std.proofs.lemmas.List.Elements.{recursion_from_All}
 use Rattle.std.proofs.lemmas.List.FromFn.{get_or-range_with_len, length-range_with_len}
 use Rattle.std.proofs.lemmas.List.Sorted.{All-permutation, length_permutation}
@@ -35,6 +35,9 @@ module _ (columns : List Column) (n : ℕ) (cells : List Cell) (rows : List Row)
   pub row_at_wide : (i : ℕ) → i < length rows → length (row_at rows i) ≡ length columns
   row_at_wide i h =
       ap length (sym (row_read columns n cells rows (length columns) flat seen refl i [] h)) ∙ row_wide columns n cells rows (length columns) flat seen refl i h
+
+  pub rows_wide : All (λ r. length r ≡ length columns) rows
+  rows_wide k d h = ap length (get_or_default rows k d [] h) ∙ row_at_wide k h
 
   numbers_wide : All (λ i. length (row_at rows i) ≡ length columns) (range_with_len 0 (length rows))
   numbers_wide k d h =
