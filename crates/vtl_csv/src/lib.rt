@@ -1,17 +1,15 @@
-//! CSV texts: the structures that a structures file declares, the points that a text holds, and the text of points. So
-//! far points are read from plain lines: ASCII without double quotes.
+//! CSV texts: the structures that a structures file declares, the data set that a file holds, and the texts of data sets
+//! and tables.
 #![tactic(auto)]
 
 mod dataset;
 mod declarations;
 mod duplicates;
-mod fields;
 mod file_column;
 mod header;
 mod input;
 mod input_fields;
 mod laws;
-mod plain;
 mod reading;
 mod records;
 mod row_text;
@@ -21,10 +19,8 @@ mod writing;
 
 pub use dataset::read_dataset;
 pub use input::{InputErr, InputKind};
-pub use laws::{output_rises_by_identifiers, points_are_a_data_set};
-pub use plain::{has_plain_lines, plain_lines_are_lines};
-pub use reading::{column, points};
+pub use laws::output_rises_by_identifiers;
+pub use reading::column;
 pub use records::RecordReader;
 pub use structures::{StructErr, read_structures};
 pub use table_text::{write_dataset, write_table};
-pub use writing::csv_text;
