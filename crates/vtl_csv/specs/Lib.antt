@@ -3,9 +3,12 @@ pub mod DeclarationFields
 pub mod Declarations
 pub mod FaultFields
 pub mod Fields
+pub mod InputFields
+pub mod InputFile
 pub mod PlainText
 pub mod Points
 pub mod RecordsLeft
 pub mod RowsWritten
+pub mod SortedCodes
 pub mod StructuresFile
 pub mod TableText

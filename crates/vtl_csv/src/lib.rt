@@ -2,8 +2,10 @@
 //! far points are read from plain lines: ASCII without double quotes.
 #![tactic(auto)]
 
+mod dataset;
 mod declarations;
 mod fields;
+mod input;
 mod laws;
 mod plain;
 mod reading;
@@ -13,6 +15,8 @@ mod structures;
 mod table_text;
 mod writing;
 
+pub use dataset::read_dataset;
+pub use input::{InputErr, InputKind};
 pub use laws::{output_rises_by_identifiers, points_are_a_data_set};
 pub use plain::{has_plain_lines, plain_lines_are_lines};
 pub use reading::{column, points};

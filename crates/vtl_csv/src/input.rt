@@ -1,0 +1,49 @@
+// What is wrong with a CSV file of a data set.
+
+use std::alloc::AllocError;
+use thiserror::Error;
+
+/// What is wrong at a place of a CSV file.
+#[derive(Clone, Copy, Debug, PartialEq, Eq)]
+pub enum InputKind {
+    /// A field of the header names no component or one again, or a component is missing.
+    BadHeader,
+    /// There are more than 1,000,000 records after the header.
+    TooManyRows,
+    /// A record has another number of fields than the header.
+    WrongWidth,
+    /// A field is not UTF-8.
+    NotText,
+    /// The field of an identifier is empty.
+    NullIdentifier,
+    /// A field spells no value of its component's kind.
+    BadValue,
+    /// A field is not among the codes of its component.
+    NotInCodes,
+    /// A record has the same identifiers as one before it.
+    DuplicateKey,
+}
+
+/// Why a CSV file holds no data set of its structure.
+#[derive(Debug, Drop, Error)]
+pub enum InputErr {
+    /// The first fault of the file.
+    #[error("line {line} column {column}")]
+    Fault {
+        /// The number of the record, the header being 1.
+        line: u64,
+        /// The place of the field in the file, from 1 on.
+        column: u64,
+        /// What is wrong.
+        kind: InputKind,
+    },
+    /// There was not enough memory.
+    #[error("out of memory")]
+    OutOfMemory,
+}
+
+impl From<AllocError> for InputErr {
+    fn from(_: AllocError) -> InputErr {
+        InputErr::OutOfMemory
+    }
+}
