@@ -18,7 +18,7 @@ use Rattle.vtl_plan.specs.Assigned.{Assigned}
 use Rattle.vtl_plan.specs.Condition.{condition_over}
 use Rattle.vtl_plan.specs.Results.{structures_in, value_of, with_result, with_results}
 use Rattle.vtl_plan.specs.Runs.{Runs}
-use Rattle.vtl_plan.specs.Typed.{fits, fitting, node_over, statement_over, structure_over, typed}
+use Rattle.vtl_plan.specs.Typed.{are_new, checked, inputs_of, fits, fitting, node_over, statement_over, structure_over, typed}
 use Rattle.vtl_plan.proofs.ConditionLemmas.{filter_is_kept}
 
 -- ---- look-ups in an environment
@@ -205,13 +205,12 @@ operand_there env s e none = held_structure (structure_over (structures_in env) 
     some_is_no_none : {X : Type 0} {x : X} → ◌≡◌ {A = Option X} (Some x) None → ⊥
     some_is_no_none e = cc
 
-keys_in : (env : Environment) → keys_of (structures_in env) ≡ keys_of env
+pub keys_in : (env : Environment) → keys_of (structures_in env) ≡ keys_of env
 keys_in [] = refl
 keys_in (e ∷ es) = ap (λ ks. e.0 ∷ ks) (keys_in es)
 
-pub result_new : (env : Environment) (s : Assigned) → is_some (structure_over (structures_in env) s) ≡ true → list_any (same_name s.result) (keys_of env) ≡ false
-result_new env s e = held_structure (structure_over (structures_in env) s) e (λ t over.
-    ap (list_any (same_name s.result)) (sym (keys_in env)) ∙ (over_parts (structures_in env) s t over).0)
+pub result_new : (env : Environment) (s : Assigned) → is_some (structure_over (structures_in env) s) ≡ true → has_name s.result (structures_in env) ≡ false
+result_new env s e = held_structure (structure_over (structures_in env) s) e (λ t over. (over_parts (structures_in env) s t over).0)
 
 pub with_made : (p : Settings) (env : Environment) (s : Assigned) (made : DataSet) → option_map (value_of p s.condition) (data_of s.operand env) ≡ Some made → with_result p env s ≡ env ++ (s.result, made) ∷ []
 with_made p env s made e = go (data_of s.operand env) e
@@ -219,3 +218,11 @@ with_made p env s made e = go (data_of s.operand env) e
     go : (o : Option DataSet) → option_map (value_of p s.condition) o ≡ Some made → option_map_or (λ d. env ++ (s.result, value_of p s.condition d) ∷ []) o env ≡ env ++ (s.result, made) ∷ []
     go None q = cc
     go (Some d) q = let same : value_of p s.condition d ≡ made = cc in ap (λ x. env ++ (s.result, x) ∷ []) same
+
+-- statements that are checked are typed over their inputs
+pub checked_typed : (declared : Named) (plan : List Assigned) (meant : List Statement) → checked declared plan ≡ Some meant → typed (inputs_of declared plan) plan ≡ Some meant
+checked_typed declared plan meant e = go (are_new declared plan) e
+  where
+    go : (b : Bool) → cond b (typed (inputs_of declared plan) plan) None ≡ Some meant → typed (inputs_of declared plan) plan ≡ Some meant
+    go true q = q
+    go false q = cc

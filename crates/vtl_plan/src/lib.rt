@@ -11,5 +11,5 @@ mod typing;
 
 pub use assignment::{Assignment, assignments};
 pub use data_set::DataSet;
-pub use running::{DataSets, run};
+pub use running::{DataSets, put, run};
 pub use typing::{Inputs, checked_inputs};

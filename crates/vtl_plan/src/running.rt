@@ -1,7 +1,8 @@
 // Statements that are carried out over data sets.
-ghost use Rattle.std.specs.Prelude.{◌≡◌, List, Some, true, IfOk, OnOk, option_map};
+ghost use Rattle.std.specs.Prelude.{◌≡◌, ◌++◌, ◌∷◌, [], List, Some, true, false, IfOk, OnOk, option_map};
 ghost use Rattle.std.specs.Option.{is_some};
 ghost use Rattle.vtl_tree.specs.Meaning.{Statement, data_of};
+ghost use Rattle.vtl_tree.specs.Structures.{has_name};
 ghost use Rattle.vtl_plan.specs.Results.{structures_in, value_of, with_result};
 ghost use Rattle.vtl_plan.specs.Runs.{Runs};
 ghost use Rattle.vtl_plan.specs.Typed.{structure_over, typed};
@@ -14,6 +15,15 @@ use vtl_text::Txt;
 
 /// Data sets by name, in the order in which they were put.
 pub type DataSets<'a> = IndexMap<Txt, DataSet<'a>>;
+
+/// Puts a data set behind the others, under a name that none has yet. It fails only for want of memory.
+pub fn put<'a>(known: &mut DataSets<'a>, name: &Txt, added: DataSet<'a>) -> Result<(), AllocError>
+    requires { has_name name.now (structures_in known.old.entries) ≡ false }
+    ensures { OnOk result (known.new.entries ≡ known.old.entries ++ (name.now, added.entry) ∷ []) }
+{
+    known.insert(name.share()?, added)?;
+    Ok(())
+}
 
 // The data set that a statement gives.
 fn result_of<'a>(
@@ -32,9 +42,9 @@ fn result_of<'a>(
 }
 
 // Puts the data set that a statement gives behind the others.
-fn add_result(
+fn add_result<'a>(
     alloc: Global,
-    known: &mut DataSets<'_>,
+    known: &mut DataSets<'a>,
     statement: &Assignment<'_>,
     profile: &Profile,
 ) -> Result<(), AllocError>
@@ -42,7 +52,7 @@ fn add_result(
     ensures { OnOk result (known.new.entries ≡ with_result profile.now known.old.entries statement.now) }
 {
     let made = result_of(alloc, known, statement, profile)?;
-    known.insert(statement.result.share()?, made)?;
+    put(known, statement.result, made)?;
     Ok(())
 }
 

@@ -76,11 +76,7 @@ fn fitting<'a>(
 }
 
 // Puts a structure behind the others, under a name that none has yet.
-fn put<'a>(
-    known: &mut Inputs<'a>,
-    name: &Txt,
-    structure: &'a Structure,
-) -> Result<(), AllocError>
+fn put<'a>(known: &mut Inputs<'a>, name: &Txt, structure: &'a Structure) -> Result<(), AllocError>
     requires { has_name name.now (inputs_shown known.old.entries) ≡ false }
     ensures { OnOk result (inputs_shown known.new.entries ≡ inputs_shown known.old.entries ++ (name.now, structure.now) ∷ []) }
 {
@@ -136,10 +132,7 @@ fn structure_over<'a>(known: &Inputs<'a>, statement: &Assignment<'_>) -> Option<
 }
 
 // Whether the statements are typed over the data sets that are there, each with the results before it.
-fn are_typed(
-    mut known: Inputs<'_>,
-    statements: &[Assignment<'_>],
-) -> Result<bool, AllocError>
+fn are_typed(mut known: Inputs<'_>, statements: &[Assignment<'_>]) -> Result<bool, AllocError>
     ensures { IfOk result (λ b. b ≡ is_some (typed (inputs_shown known.entry.entries) statements.now)) }
 {
     for statement in statements {
