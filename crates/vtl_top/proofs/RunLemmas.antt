@@ -1,25 +1,34 @@
 -- Steps of a run: what they settle, and the data sets that they read.
 use Rattle.std.proofs.Common.{◌≡◌, ◌⊎◌, inl, inr, ℕ, ◌+◌, ◌<◌, ◌≤◌, Bool, true, false, List, [], ◌∷◌, ◌++◌, cond, drop, take, length, length-append, get_or, map, Option, Some, None, Result, Ok, Err, refl, sym, ap, subst, ◌∙◌, chars, arith}
 use Rattle.std.specs.Option.{is_some}
-use Rattle.std.proofs.lemmas.List.{drop_more, map-append}
+use Rattle.std.specs.Result.{IfOk}
+use Rattle.std.specs.Borrow.{Bor}
+use Rattle.std.specs.List.{list_any}
+use Rattle.std.specs.Map.{keys_of}
+use Rattle.std.proofs.lemmas.List.{drop_more, get_or-map, length-map, map-append, take-map, take_more}
+use Rattle.std.proofs.lemmas.Map.Entries.{length-keys_of}
 use Rattle.vtl_files.specs.declared.files.Files.{Ghosts}
 use Rattle.vtl_cell.specs.Row.{Row}
 use Rattle.vtl_tree.specs.Meaning.{DataSet, Environment, Outputs, Statement, meaning}
-use Rattle.vtl_tree.specs.Structures.{Named}
+use Rattle.vtl_tree.specs.Structure.{same_name}
+use Rattle.vtl_tree.specs.Structures.{AreStructures, Named, has_name}
+use Rattle.vtl_tree.proofs.StructuresLemmas.{repeated}
 use Rattle.vtl_tree.specs.declared.structure.Structure.{Structure}
 use Rattle.vtl_csv.specs.InputFile.{Fault, Reads}
 use Rattle.vtl_csv.specs.declared.input.InputErr.{InputErr}
 use Rattle.vtl_csv.specs.declared.input.InputErr.TheVariants as input
 use Rattle.vtl_plan.specs.Assigned.{Assigned}
-use Rattle.vtl_plan.specs.Results.{structures_in}
+use Rattle.vtl_plan.specs.InputsView.{inputs_shown}
+use Rattle.vtl_plan.specs.Results.{IsChecked, structures_in}
+use Rattle.vtl_plan.proofs.MeantLemmas.{checked_typed}
 use Rattle.vtl_plan.specs.Runs.{Runs}
-use Rattle.vtl_plan.specs.Typed.{typed}
+use Rattle.vtl_plan.specs.Typed.{checked, inputs_of, typed}
 use Rattle.vtl_top.specs.Answered.{Came, Takes}
-use Rattle.vtl_top.specs.Expected.{formed, inputs_step, one_more_step, output_of, outputs_of, points_or_fault}
+use Rattle.vtl_top.specs.Expected.{data_step, formed, output_of, outputs_of, points_or_fault, typed_step}
 use Rattle.vtl_top.specs.InputsRead.{points_of}
 use Rattle.vtl_top.specs.Kinds.{refused, told_by}
 use Rattle.vtl_top.specs.Refusal.{IsDataSetOf, IsOrMemory, SettlesBy, input_refusal}
-use Rattle.vtl_top.specs.Steps.{Step, settled}
+use Rattle.vtl_top.specs.Steps.{File, Step, settled}
 use Rattle.vtl_top.specs.Words.{Run}
 use Rattle.vtl_top.specs.declared.status.Status.{Status}
 use Rattle.vtl_top.specs.declared.status.Status.TheVariants as st
@@ -84,3 +93,46 @@ written_so r statements before after n runs e =
 
 pub long_enough : (before after results : Environment) (n : ℕ) → after ≡ before ++ results → n ≡ length before → n ≤ length after
 long_enough before after results n e h = let l = ap length e in let m = length-append before results in omega arith
+
+pub input_structure : (name : List ℕ) (s : Structure) (read : Result (List Row) Fault) (result : Result DataSet Status) → IsDataSetOf name s read result → IfOk result (λ d. d.structure ≡ s)
+input_structure name s read (Ok d) is = is.0
+input_structure name s read (Err status) is = tt
+
+-- ---- the inputs, one after the other
+pub new_at : (ins : Named) (i : ℕ) (e : List ℕ × Structure) → AreStructures ins → i < length ins → e ≡ get_or ins i e → has_name e.0 (take i ins) ≡ false
+new_at ins i e are h at = go (has_name e.0 (take i ins)) refl
+  where
+    within : i < length (keys_of ins)
+    within = let l = length-keys_of ins in omega arith
+
+    named : e.0 ≡ get_or (keys_of ins) i e.0
+    named = ap (λ (x : List ℕ × Structure). x.0) at ∙ sym (get_or-map (λ (x : List ℕ × Structure). x.0) ins i e e.0 h)
+
+    go : (b : Bool) → has_name e.0 (take i ins) ≡ b → has_name e.0 (take i ins) ≡ false
+    go false q = q
+    go true q =
+        let again : list_any (same_name e.0) (take i (keys_of ins)) ≡ true = ap (list_any (same_name e.0)) (take-map (λ (x : List ℕ × Structure). x.0) i ins) ∙ q in
+        let no_more : false ≡ true = repeated (keys_of ins) i e.0 within named again ∙ are.distinct in
+        cc
+
+pub here_at : (ins : Named) (i : ℕ) (e : List ℕ × Structure) → i < length ins → e ≡ get_or ins i e → drop i ins ≡ e ∷ drop (i + 1) ins
+here_at ins i e h at = drop_more ins i e h ∙ ap (λ (x : List ℕ × Structure). x ∷ drop (i + 1) ins) (sym at)
+
+pub taken_at : (ins : Named) (i : ℕ) (e : List ℕ × Structure) → i < length ins → e ≡ get_or ins i e → take i ins ++ e ∷ [] ≡ take (i + 1) ins
+taken_at ins i e h at = ap (λ (x : List ℕ × Structure). take i ins ++ x ∷ []) at ∙ sym (take_more ins i e h)
+
+pub within_shown : (entries : List (List ℕ × Bor Structure)) (i : ℕ) → i < length entries → i < length (inputs_shown entries)
+within_shown entries i h = simp length-map h
+
+pub ended_shown : (entries : List (List ℕ × Bor Structure)) (i : ℕ) → length entries ≤ i → length (inputs_shown entries) ≤ i
+ended_shown entries i h = simp length-map h
+
+-- what follows statements that are checked, by what they mean
+pub typed_takes : {F Y : Type 0} (g : Ghosts F) (a b : F) (r : Run) (plan : List Assigned) (structures ins : Named) (view : Y → List File) (result : Result Y Status) → IsChecked structures plan (Some ins)
+    → ((meant : List Statement) → typed ins plan ≡ Some meant → Takes g a b (data_step r ins meant) view result) → Takes g a b (typed_step r plan structures) view result
+typed_takes g a b r plan structures ins view result is each =
+    let meant = some_meant (checked structures plan) is.1 in
+    let typed_so : typed ins plan ≡ Some meant.0 = ap (λ l. typed l plan) is.0 ∙ checked_typed structures plan meant.0 meant.1 in
+    let rest = subst (λ l. Takes g a b (data_step r l meant.0) view result) is.0 (each meant.0 typed_so) in
+    takes_onward g (settled (formed r.script (checked structures plan))) (data_step r (inputs_of structures plan)) a a b (λ (x : List Statement). x) view meant.0 result
+    (settled_ok g a (λ (x : List Statement). x) meant.0 (formed r.script (checked structures plan)) (ap (formed r.script) meant.1)) rest

@@ -6,7 +6,7 @@ ghost use Rattle.vtl_plan.specs.InputsView.{inputs_shown};
 ghost use Rattle.vtl_plan.specs.Results.{structures_in};
 ghost use Rattle.vtl_top.specs.Answered.{Takes};
 ghost use Rattle.vtl_top.specs.Expected.{dataset_step, inputs_step, one_more_step};
-ghost use Rattle.vtl_top.specs.InputsRead.{points_of, read_of};
+ghost use Rattle.vtl_top.specs.InputsRead.{points_of};
 ghost use Rattle.vtl_top.specs.Refusal.{IsDataSetOf};
 ghost use Rattle.vtl_top.specs.RunView.{run_view};
 
@@ -98,7 +98,7 @@ pub fn read_inputs<'a, F: Files>(
     inputs: &Inputs<'a>,
 ) -> Result<DataSets<'a>, Status>
     requires { AreStructures (inputs_shown inputs.now.entries) }
-    ensures takes { Takes F.Files files.old files.new (inputs_step (run_view run.now) [] (inputs_shown inputs.now.entries)) read_of result }
+    ensures takes { Takes F.Files files.old files.new (inputs_step (run_view run.now) [] (inputs_shown inputs.now.entries)) (λ known. known.entries) result }
     ensures structures { IfOk result (λ known. structures_in known.entries ≡ inputs_shown inputs.now.entries) }
 {
     let mut known = IndexMap::new(alloc);

@@ -9,9 +9,9 @@ pub make_outputs-requires : goal.make_outputs-requires
 make_outputs-requires c =
     let meant = some_meant (typed (structures_in c.args.inputs.entries) c.args.statements.now) c.requires in
     let runs = c.in_ok-known.ensures meant.0 meant.1 in
-    long_enough c.args.inputs.entries c.in_ok-known.known.entries runs.results c.len-first.result runs.behind c.len-first.ensures
+    long_enough c.args.inputs.entries c.in_ok-known.known.entries runs.results c.len-first.result runs.behind c.len-first.ensures.len
 
 pub returns-clause-view : goal.returns-clause-view
 returns-clause-view c = λ meant e.
     let runs = c.in_ok-known.ensures meant e in
-    written_so (run_view c.args.run.now) meant c.args.inputs.entries c.in_ok-known.known.entries c.len-first.result runs c.len-first.ensures ∙ ap Ok (sym c.in_ok-outputs.ensures.view)
+    written_so (run_view c.args.run.now) meant c.args.inputs.entries c.in_ok-known.known.entries c.len-first.result runs c.len-first.ensures.len ∙ ap Ok (sym c.in_ok-outputs.ensures.view)
