@@ -116,13 +116,7 @@ impl Status {
             Status::TooLong(path) => naming("error: too long: ", path),
             Status::ReadFault(path) => naming("error: read fault: ", path),
             Status::WriteFault(path) => naming("error: write fault: ", path),
-            Status::Memory => padded([
-                Part::Text("error: memory"),
-                END,
-                NOTHING,
-                NOTHING,
-                NOTHING,
-            ]),
+            Status::Memory => padded([Part::Text("error: memory"), END, NOTHING, NOTHING, NOTHING]),
             Status::Unbuilt(path) => naming("error: unbuilt: ", path),
         }
     }
