@@ -2,12 +2,9 @@ pub mod CsvText
 pub mod DeclarationFields
 pub mod Declarations
 pub mod FaultFields
-pub mod Fields
 pub mod InputFields
 pub mod InputFile
 pub mod InputSteps
-pub mod PlainText
-pub mod Points
 pub mod ReadAgain
 pub mod RecordsLeft
 pub mod RowsWritten

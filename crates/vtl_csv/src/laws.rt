@@ -1,20 +1,13 @@
 // Laws of the definitions of CSV texts.
-ghost use Rattle.std.specs.Prelude.{◌≡◌, ℕ, List, Ok, Some};
+ghost use Rattle.std.specs.Prelude.{◌≡◌, ℕ, List, Ok};
 ghost use Rattle.vtl_decimal.specs.Settings.{Settings};
 ghost use Rattle.vtl_lists.specs.Sorting.{Rises, le_by, sorted_by};
 ghost use Rattle.vtl_cell.specs.Row.{Row, row_cmp};
 ghost use Rattle.vtl_tree.specs.DataSet.{IsDataSet};
-ghost use Rattle.vtl_tree.specs.Structure.{IsStructure};
 ghost use Rattle.vtl_tree.specs.declared.structure.Structure.{Structure};
 ghost use Rattle.vtl_csv.specs.CsvText.{csv_of, le_key};
 ghost use Rattle.vtl_csv.specs.InputFile.{dataset_rows};
-ghost use Rattle.vtl_csv.specs.Points.{points_of};
 ghost use Rattle.vtl_csv.specs.ReadAgain.{IsReadable};
-
-/// The points that a CSV file gives are those of a data set of its structure.
-pub fn points_are_a_data_set()
-    ensures { (p : Settings) (s : Structure) (text : List ℕ) (points : List Row) → IsStructure s → points_of p s text ≡ Some points → IsDataSet s points }
-{}
 
 /// The rows of an output stand in order of their identifiers: of their first cells, however many these are.
 pub fn output_rises_by_identifiers()

@@ -6,7 +6,6 @@ use Rattle.std.specs.Option.{option_and_then, option_map_or}
 use Rattle.std.specs.Cmp.Lexicographic.{bytes_decides}
 use Rattle.std.proofs.lemmas.Bool.{and_parts}
 use Rattle.std.proofs.lemmas.Bool.Decides.{nat_tests}
-use Rattle.vtl_tree.specs.Built.{Filter}
 use Rattle.vtl_tree.specs.Structure.{IsStructure, key_width, names_of, same_name}
 use Rattle.vtl_tree.specs.Structures.{AreStructures, Named, components_of, has_name, is_declarable, is_declarable_component, structure_of, with_component}
 use Rattle.vtl_tree.specs.declared.structure.Component.{Component}
@@ -16,7 +15,6 @@ use Rattle.vtl_lists.specs.Apart.{all_apart}
 use Rattle.vtl_csv.specs.Declarations.{Declaration, codes_of, component_in, dataset_in, declaration_of, declared_by, has_component, is_full, kind_in, or_rule, record_of, role_in, unless_rule}
 use Rattle.vtl_csv.specs.StructuresFile.{Fault, after_record, at_line, is_header, is_identifier, lacks_identifier, lines_declare, lines_in, records_in, structures_of_file, with_identifiers, without_identifier}
 use Rattle.vtl_csv.proofs.DeclarationLemmas.{record_fits}
-use Rattle.vtl_top.specs.Structures.{built_with, is_built, is_compared, is_free, operand_in}
 
 abbrev pub Records : Type 0
 Records = List (List (List ℕ))
@@ -167,7 +165,7 @@ file_declares (first ∷ rest) all e = header (is_header first) e
     header true q = none_lacks (lines_declare 2 [] rest) refl q
     header false q = cc
 
--- ---- the structure of the operand
+-- ---- the structure of a name
 found_named : (n : List ℕ) (xs : Named) (t : Structure) → lookup (same_name n) xs ≡ Some t → has_name n xs ≡ true
 found_named n [] t e = cc
 found_named n (x ∷ xs) t e = go (same_name n x.0) (found_named n xs t) e
@@ -184,7 +182,7 @@ some_kept p (x ∷ xs) e = go (p x) (some_kept p xs) e
     go true h q = omega arith
     go false h q = h q
 
-declarable_is_structure : (t : Structure) → is_declarable t ≡ true → IsStructure t
+pub declarable_is_structure : (t : Structure) → is_declarable t ≡ true → IsStructure t
 declarable_is_structure t e =
     let parts = and_parts (nat_le 1 (length t.components) && nat_le (length t.components) 64 && all_apart same_name (names_of t.components)) (list_all is_declarable_component t.components) e in
     let front = and_parts (nat_le 1 (length t.components) && nat_le (length t.components) 64) (all_apart same_name (names_of t.components)) parts.0 in
@@ -197,35 +195,14 @@ declarable_is_structure t e =
     upto : (n : ℕ) → nat_le n 64 ≡ true → n ≤ 64
     upto n e = grind (arith, nat_tests)
 
-record IsOperand (s : Filter) (all : Named) (t : Structure) : Type 0 where
-  found : lookup (same_name s.operand) all ≡ Some t
-  built : is_built s.condition t ≡ true
-
-operand_found : (s : Filter) (all : Named) (t : Structure) → operand_in s all ≡ Some t → IsOperand s all t
-operand_found s all t e = go (lookup (same_name s.operand) all) refl e
-  where
-    kept : (u : Structure) (b : Bool) → is_built s.condition u ≡ b → lookup (same_name s.operand) all ≡ Some u → cond b (Some u) None ≡ Some t → IsOperand s all t
-    kept u true is l q = let same : u ≡ t = cc in record { found = l ∙ ap Some same; built = ap (is_built s.condition) (sym same) ∙ is }
-    kept u false is l q = cc
-
-    go : (o : Option Structure) → lookup (same_name s.operand) all ≡ o → option_and_then (built_with s.condition) o ≡ Some t → IsOperand s all t
-    go None l q = cc
-    go (Some u) l q = kept u (is_built s.condition u) refl l q
-
-module _ (s : Filter) (text : List ℕ) (all : Named) (t : Structure) (read : structures_of_file text ≡ Ok all) (operand : operand_in s all ≡ Some t) where
+module _ (name text : List ℕ) (all : Named) (t : Structure) (read : structures_of_file text ≡ Ok all) (found : lookup (same_name name) all ≡ Some t) where
   declared : IsDeclared (records_in text) all
   declared = file_declares (records_in text) all read
 
-  of_operand : IsOperand s all t
-  of_operand = operand_found s all t operand
-
   pub read_is_structure : IsStructure t
-  read_is_structure = declarable_is_structure t (all_found (same_name s.operand) all t declared.are.declarable of_operand.found)
+  read_is_structure = declarable_is_structure t (all_found (same_name name) all t declared.are.declarable found)
 
   pub read_has_identifier : 1 ≤ key_width t
   read_has_identifier =
-      let its : components_of s.operand all ≡ t.components = ap (λ o. option_map_or (λ x. x.components) o []) of_operand.found in
-      some_kept is_identifier t.components (ap (list_any is_identifier) (sym its) ∙ declared.each s.operand (found_named s.operand all t of_operand.found))
-
-  pub read_has_compared : list_any (is_compared s.condition) t.components ≡ true
-  read_has_compared = (and_parts (list_any (is_compared s.condition) t.components) (list_all is_free t.components) of_operand.built).0
+      let its : components_of name all ≡ t.components = ap (λ o. option_map_or (λ x. x.components) o []) found in
+      some_kept is_identifier t.components (ap (list_any is_identifier) (sym its) ∙ declared.each name (found_named name all t found))

@@ -1,8 +1,6 @@
 pub mod DeclaredLemmas
-pub mod FilterLemmas
 pub mod MeantLemmas
 pub mod OutputLemmas
-pub mod PlaceLemmas
 pub mod ReadScripts
 pub mod RunLemmas
 pub mod SinkLemmas

@@ -7,7 +7,7 @@ use Rattle.vtl_grammar.specs.Faults.{SyntaxFault, WholeScript, kinds}
 use Rattle.vtl_grammar.proofs.UniqueLemmas.{fault_determined, spells_unique, whole_no_fault}
 use Rattle.vtl_syntax.specs.Trees.{ScriptTree}
 use Rattle.vtl_parser.specs.Parsed.{IsFaulty, IsScript}
-use Rattle.vtl_top.specs.Refusal.{IsScriptOf, Settles}
+use Rattle.vtl_top.specs.Refusal.{IsScriptOf, SettlesBy}
 use Rattle.std.specs.Prelude.{IsUtf8}
 use Rattle.vtl_files.specs.declared.files.Files.{Ghosts}
 use Rattle.vtl_syntax.specs.View.{script_tree}
@@ -17,17 +17,19 @@ use Rattle.std.specs.Prelude.{chars}
 use Rattle.vtl_top.specs.Answered.{Came, Gives, Stops, Takes}
 use Rattle.vtl_top.proofs.StepLemmas.{nothing_read}
 use Rattle.vtl_top.specs.Steps.{Behind, Held, Step, onward, settled}
-use Rattle.vtl_tree.specs.Built.{filter_in}
-use Rattle.vtl_tree.specs.Structure.{columns_of, key_width}
-use Rattle.vtl_csv.specs.Points.{points_in}
-use Rattle.vtl_top.specs.Structures.{declared, operand_in, structures_in}
+use Rattle.vtl_tree.specs.Meaning.{Environment, meaning}
+use Rattle.vtl_tree.specs.declared.structure.Structure.{Structure}
+use Rattle.vtl_csv.specs.InputFile.{dataset_rows}
+use Rattle.vtl_plan.specs.Assigned.{assigned_in}
+use Rattle.vtl_plan.specs.Typed.{checked, inputs_of}
+use Rattle.vtl_top.specs.Structures.{declared, structures_in}
 use Rattle.vtl_csv.specs.StructuresFile.{Fault, structures_of_file}
 use Rattle.std.specs.Str.{is_utf8}
 use Rattle.std.proofs.lemmas.Str.{IsUtf8-from_is_utf8, is_utf8-from_IsUtf8}
 use Rattle.std.proofs.Common.{Bool, true, false, cond}
 use Rattle.vtl_top.specs.Kinds.{Told, refused, told_by}
 use Rattle.std.proofs.Common.{◌∷◌, []}
-use Rattle.vtl_top.specs.Expected.{csv_limit, declared_step, formed, input_path, input_step, operand_step, output_in, read, run_step, script_in, script_limit, script_of, script_step, stage, statement_step, structures_limit, structures_step}
+use Rattle.vtl_top.specs.Expected.{csv_limit, data_step, dataset_step, declared_step, formed, input_path, inputs_step, one_more_step, outputs_of, points_or_fault, read, results_step, run_step, script_in, script_limit, script_of, script_step, statements_step, structures_limit, structures_step, typed_step, with_points}
 use Rattle.vtl_top.specs.Words.{Run}
 use Rattle.vtl_tree.specs.Structures.{Named}
 use Rattle.vtl_top.specs.ScriptFile.{IsParsed, Parsed, faulty, no_text, whole}
@@ -85,15 +87,15 @@ module _ {F : Type 0} (g : Ghosts F) (a : F) (path bytes : List ℕ) where
   pub script_given : (result : Result Script Status) → IsScriptOf path bytes result → Takes g a a (script_of path bytes) script_tree result
   script_given result is = record { reads = nothing_read g a; came = came_of result is }
 
--- ---- a refusal that is settled
-module _ {F A : Type 0} (g : Ghosts F) (a : F) (wanted : Result A Status) (refuses : (status : Status) → wanted ≡ Err status → told_by status ≡ refused) where
-  settled_came : (result : Result A Status) → Settles wanted result → Came g a a (settled wanted) (λ x. x) result
-  settled_came (Ok x) is = if_some_all (g.held a) (λ held. (settled wanted).gives held (Ok x)) (λ held. sym is)
-  settled_came (Err status) (inl e) = subst (λ (s : Status). Came g a a (settled wanted) (λ x. x) (Err s)) (sym e) tt
+-- ---- what is settled
+module _ {F A X : Type 0} (g : Ghosts F) (a : F) (view : X → A) (wanted : Result A Status) (refuses : (status : Status) → wanted ≡ Err status → told_by status ≡ refused) where
+  settled_came : (result : Result X Status) → SettlesBy view wanted result → Came g a a (settled wanted) view result
+  settled_came (Ok x) is = if_some_all (g.held a) (λ held. (settled wanted).gives held (Ok (view x))) (λ held. sym is)
+  settled_came (Err status) (inl e) = subst (λ (s : Status). Came g a a (settled wanted) view (Err s)) (sym e) tt
   settled_came (Err status) (inr is) =
       subst (λ (told : Told). Stops g a a (settled wanted) status told) (sym (refuses status is)) (if_some_all (g.held a) (λ held. (settled wanted).gives held (Err status)) (λ held. sym is))
 
-  pub settled_given : (result : Result A Status) → Settles wanted result → Takes g a a (settled wanted) (λ x. x) result
+  pub settled_given : (result : Result X Status) → SettlesBy view wanted result → Takes g a a (settled wanted) view result
   settled_given result is = record { reads = nothing_read g a; came = settled_came result is }
 
 -- a structures file is a text or none
@@ -134,9 +136,6 @@ onward_once {A} {B} step next held once each x y p q = by_first p.0 q.0 (once p.
 read_once : (path : List ℕ) (limit : ℕ) (held : Held) → Once (read path limit) held
 read_once path limit held x y p q = p ∙ sym q
 
-stage_once : {A : Type 0} (path : List ℕ) (limit : ℕ) (form : List ℕ → Option A) (held : Held) → Once (stage path limit form) held
-stage_once path limit form held = onward_once (read path limit) (λ bytes. settled (formed path (form bytes))) held (read_once path limit held) (λ bytes. settled_once (formed path (form bytes)) held)
-
 script_once : (path bytes : List ℕ) (held : Held) → Once (script_of path bytes) held
 script_once path bytes held x y p q = p.2 ∙ ap (script_in path) (parsed_once bytes p.0 q.0 p.1 q.1) ∙ sym q.2
 
@@ -144,12 +143,23 @@ structures_once : (path : List ℕ) (held : Held) → Once (structures_step path
 structures_once path held =
     onward_once (read path structures_limit) (λ bytes. settled (structures_in path bytes)) held (read_once path structures_limit held) (λ bytes. settled_once (structures_in path bytes) held)
 
+dataset_once : (r : Run) (e : List ℕ × Structure) (held : Held) → Once (dataset_step r e) held
+dataset_once r e held =
+    onward_once (read (input_path r e.0) csv_limit) (λ bytes. settled (points_or_fault e.0 (dataset_rows r.settings e.1 bytes))) held (read_once (input_path r e.0) csv_limit held)
+    (λ bytes. settled_once (points_or_fault e.0 (dataset_rows r.settings e.1 bytes)) held)
+
+inputs_once : (r : Run) (before : Environment) (inputs : Named) (held : Held) → Once (inputs_step r before inputs) held
+inputs_once r before [] held = settled_once (Ok before) held
+inputs_once r before (e ∷ rest) held =
+    onward_once (one_more_step r before e) (λ more. inputs_step r more rest) held
+    (onward_once (dataset_step r e) (λ points. settled (Ok (with_points before e points))) held (dataset_once r e held) (λ points. settled_once (Ok (with_points before e points)) held))
+    (λ more. inputs_once r more rest held)
+
 pub determined : (r : Run) (held : Held) → Once (run_step r) held
 determined r held =
-    onward_once (script_step r.script) (statement_step r) held (onward_once (read r.script script_limit) (script_of r.script) held (read_once r.script script_limit held) (λ bytes. script_once r.script bytes held)) (λ script.
-    onward_once (settled (formed r.script (filter_in script))) (declared_step r) held (settled_once (formed r.script (filter_in script)) held) (λ s.
-    onward_once (structures_step r.structures) (operand_step r s) held (structures_once r.structures held) (λ structures.
-    onward_once (settled (formed r.script (operand_in s structures))) (λ structure. input_step r s (columns_of structure) (key_width structure)) held (settled_once (formed r.script (operand_in s structures)) held) (λ structure.
-    onward_once (stage (input_path r s) csv_limit (points_in r.settings (columns_of structure) (key_width structure))) (λ points. settled (Ok (output_in r s (columns_of structure) points ∷ []))) held
-    (stage_once (input_path r s) csv_limit (points_in r.settings (columns_of structure) (key_width structure)) held)
-    (λ points. settled_once (Ok (output_in r s (columns_of structure) points ∷ [])) held)))))
+    onward_once (script_step r.script) (statements_step r) held (onward_once (read r.script script_limit) (script_of r.script) held (read_once r.script script_limit held) (λ bytes. script_once r.script bytes held)) (λ script.
+    onward_once (settled (formed r.script (assigned_in script))) (declared_step r) held (settled_once (formed r.script (assigned_in script)) held) (λ plan.
+    onward_once (structures_step r.structures) (typed_step r plan) held (structures_once r.structures held) (λ structures.
+    onward_once (settled (formed r.script (checked structures plan))) (data_step r (inputs_of structures plan)) held (settled_once (formed r.script (checked structures plan)) held) (λ statements.
+    onward_once (inputs_step r [] (inputs_of structures plan)) (results_step r statements) held (inputs_once r [] (inputs_of structures plan) held) (λ env.
+    settled_once (outputs_of r (meaning r.settings statements env)) held)))))

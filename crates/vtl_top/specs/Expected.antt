@@ -1,19 +1,19 @@
--- What the words and the files that are held give: the output of the run, or the first refusal.
-use Rattle.std.specs.Prelude.{◌≡◌, ℕ, List, [], ◌∷◌, ◌++◌, length, nat_lt, Option, Some, None, Result, Ok, Err, codes, chars, encode_utf8_all, if◌then◌else◌}
+-- What the words and the files that are held give: the outputs of the run, or the first refusal.
+use Rattle.std.specs.Prelude.{◌≡◌, ℕ, List, [], ◌∷◌, ◌++◌, length, map, nat_lt, Option, Some, None, Result, Ok, Err, codes, chars, encode_utf8_all, if◌then◌else◌}
 use Rattle.vtl_files.specs.Outside.{bytes_at}
+use Rattle.vtl_cell.specs.Outcome.{Fault as EvaluationFault}
 use Rattle.vtl_cell.specs.Row.{Row}
-use Rattle.vtl_tree.specs.Built.{Filter, filter_in}
-use Rattle.vtl_tree.specs.Clauses.{kept}
-use Rattle.vtl_tree.specs.Structure.{columns_of, key_width}
+use Rattle.vtl_syntax.specs.Trees.{ScriptTree}
+use Rattle.vtl_tree.specs.Meaning.{DataSet, Environment, Outputs, Statement, meaning}
 use Rattle.vtl_tree.specs.Structures.{Named}
-use Rattle.vtl_tree.specs.declared.structure.Component.{Component}
-use Rattle.vtl_top.specs.Condition.{condition_in}
-use Rattle.vtl_csv.specs.CsvText.{csv_in}
-use Rattle.vtl_csv.specs.Points.{points_in}
+use Rattle.vtl_tree.specs.declared.structure.Structure.{Structure}
+use Rattle.vtl_csv.specs.CsvText.{csv_of}
+use Rattle.vtl_csv.specs.InputFile.{Fault, dataset_rows}
+use Rattle.vtl_plan.specs.Assigned.{Assigned, assigned_in}
+use Rattle.vtl_plan.specs.Typed.{checked, inputs_of}
 use Rattle.vtl_top.specs.ScriptFile.{IsParsed, Parsed, faulty, no_text, whole}
 use Rattle.vtl_top.specs.Steps.{File, Held, Step, onward, settled}
-use Rattle.vtl_syntax.specs.Trees.{ScriptTree}
-use Rattle.vtl_top.specs.Structures.{operand_in, structures_in}
+use Rattle.vtl_top.specs.Structures.{structures_in}
 use Rattle.vtl_top.specs.Words.{Command, Run, run}
 use Rattle.vtl_top.specs.declared.status.Status.{Status}
 use Rattle.vtl_top.specs.declared.status.Status.TheVariants as st
@@ -50,10 +50,6 @@ formed path (Some x) = Ok x
 abbrev pub read : List ℕ → ℕ → Step (List ℕ)
 read path limit = record { gives = λ held given. given ≡ content path limit held; reads = λ held named. named ≡ chars path }
 
--- the value of a file, by what its form makes of its bytes
-abbrev pub stage : {A : Type 0} → List ℕ → ℕ → (List ℕ → Option A) → Step A
-stage path limit form = onward (read path limit) (λ bytes. settled (formed path (form bytes)))
-
 -- the tree of a script file, by what it is read as
 abbrev pub script_in : List ℕ → Parsed → Result ScriptTree Status
 script_in path no_text = Err (st.NotText (chars path))
@@ -66,36 +62,72 @@ script_of path bytes = record { gives = λ held given. (parsed : Parsed) × IsPa
 abbrev pub script_step : List ℕ → Step ScriptTree
 script_step path = onward (read path script_limit) (script_of path)
 
--- the output: the points at which the statement's condition is true
-abbrev pub output_in : Run → Filter → List Component → List Row → File
-output_in r s columns points = (file_in r.output s.result, csv_in r.settings columns (kept r.settings (condition_in columns s.condition) points))
+-- ---- the inputs
+abbrev pub input_path : Run → List ℕ → List ℕ
+input_path r name = file_in r.input name
 
-abbrev pub input_path : Run → Filter → List ℕ
-input_path r s = file_in r.input s.operand
+-- the points that a file holds, or the status of its first fault
+abbrev pub points_or_fault : List ℕ → Result (List Row) Fault → Result (List Row) Status
+points_or_fault name (Ok points) = Ok points
+points_or_fault name (Err fault) = Err (st.Input name fault.0 fault.1.0 fault.1.1)
 
--- what the input gives in these columns, of which the first n are identifiers
-abbrev pub input_step : Run → Filter → List Component → ℕ → Step (List File)
-input_step r s columns n = onward (stage (input_path r s) csv_limit (points_in r.settings columns n)) (λ points. settled (Ok (output_in r s columns points ∷ [])))
+-- the points of the data set of this name and structure
+abbrev pub dataset_step : Run → List ℕ × Structure → Step (List Row)
+dataset_step r e = onward (read (input_path r e.0) csv_limit) (λ bytes. settled (points_or_fault e.0 (dataset_rows r.settings e.1 bytes)))
 
+abbrev pub data_set : Structure → List Row → DataSet
+data_set structure points = record { structure = structure; points = points }
+
+abbrev pub with_points : Environment → List ℕ × Structure → List Row → Environment
+with_points before e points = before ++ (e.0, data_set e.1 points) ∷ []
+
+-- the data sets before, and one more behind them
+abbrev pub one_more_step : Run → Environment → List ℕ × Structure → Step Environment
+one_more_step r before e = onward (dataset_step r e) (λ points. settled (Ok (with_points before e points)))
+
+-- the data sets before, and behind them those of these names and structures, each read in turn
+abbrev pub inputs_step : Run → Environment → Named → Step Environment
+inputs_step r before [] = settled (Ok before)
+inputs_step r before (e ∷ rest) = onward (one_more_step r before e) (λ more. inputs_step r more rest)
+
+-- ---- the outputs
+-- the file of a result
+abbrev pub output_of : Run → List ℕ × DataSet → File
+output_of r result = (file_in r.output result.0, csv_of r.settings result.1.structure result.1.points)
+
+-- The files of all results, in order. No statement that is run so far has a fault; one that had would not be built.
+abbrev pub outputs_of : Run → Result Outputs (EvaluationFault × List ℕ) → Result (List File) Status
+outputs_of r (Ok results) = Ok (map (output_of r) results)
+outputs_of r (Err fault) = Err (st.Unbuilt (chars r.script))
+
+-- what the statements mean over the data sets that were read
+abbrev pub results_step : Run → List Statement → Environment → Step (List File)
+results_step r statements env = settled (outputs_of r (meaning r.settings statements env))
+
+-- all inputs, and then the outputs
+abbrev pub data_step : Run → Named → List Statement → Step (List File)
+data_step r inputs statements = onward (inputs_step r [] inputs) (results_step r statements)
+
+-- ---- the whole
 -- the structures of the structures file
 abbrev pub structures_step : List ℕ → Step Named
 structures_step path = onward (read path structures_limit) (λ bytes. settled (structures_in path bytes))
 
--- what follows the structures: a statement that is not built over them is told of the script
-abbrev pub operand_step : Run → Filter → Named → Step (List File)
-operand_step r s structures = onward (settled (formed r.script (operand_in s structures))) (λ structure. input_step r s (columns_of structure) (key_width structure))
+-- what follows the structures: statements that are not built over them are told of the script
+abbrev pub typed_step : Run → List Assigned → Named → Step (List File)
+typed_step r plan structures = onward (settled (formed r.script (checked structures plan))) (data_step r (inputs_of structures plan))
 
--- what the structures file and then the input give
-abbrev pub declared_step : Run → Filter → Step (List File)
-declared_step r s = onward (structures_step r.structures) (operand_step r s)
+-- what the structures file and then the inputs give
+abbrev pub declared_step : Run → List Assigned → Step (List File)
+declared_step r plan = onward (structures_step r.structures) (typed_step r plan)
 
 -- what follows the script's tree
-abbrev pub statement_step : Run → ScriptTree → Step (List File)
-statement_step r script = onward (settled (formed r.script (filter_in script))) (declared_step r)
+abbrev pub statements_step : Run → ScriptTree → Step (List File)
+statements_step r script = onward (settled (formed r.script (assigned_in script))) (declared_step r)
 
 -- what a run gives: its outputs, or the first refusal
 abbrev pub run_step : Run → Step (List File)
-run_step r = onward (script_step r.script) (statement_step r)
+run_step r = onward (script_step r.script) (statements_step r)
 
 -- what the words ask for
 abbrev pub asked_step : Option Command → Step (List File)

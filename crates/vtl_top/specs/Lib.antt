@@ -1,6 +1,6 @@
 pub mod Answered
-pub mod Condition
 pub mod Expected
+pub mod InputsRead
 pub mod Kinds
 pub mod Meant
 pub mod OutputView

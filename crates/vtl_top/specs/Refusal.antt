@@ -1,6 +1,5 @@
--- The status of a file that was not read, or is not of its form.
-use Rattle.std.specs.Prelude.{◌≡◌, ◌⊎◌, List, ℕ, chars, Option, Some, None, Result, Ok, Err}
-use Rattle.std.specs.declared.alloc.AllocError.{AllocError}
+-- The status of a file that was not read, or does not hold what it should.
+use Rattle.std.specs.Prelude.{◌≡◌, ◌⊎◌, List, ℕ, chars, Result, Ok, Err}
 use Rattle.vtl_files.specs.declared.read_err.ReadErr.{ReadErr}
 use Rattle.vtl_files.specs.declared.read_err.ReadErr.TheVariants as e
 use Rattle.vtl_parser.specs.declared.parsing.ParseErr.{ParseErr}
@@ -9,6 +8,13 @@ use Rattle.std.specs.Prelude.{IsUtf8}
 use Rattle.vtl_parser.specs.Parsed.{IsFaulty, IsScript}
 use Rattle.vtl_syntax.specs.View.{script_tree}
 use Rattle.vtl_syntax.specs.declared.statements.Script.{Script}
+use Rattle.vtl_cell.specs.Row.{Row}
+use Rattle.vtl_tree.specs.Meaning.{DataSet}
+use Rattle.vtl_tree.specs.declared.structure.Structure.{Structure}
+use Rattle.vtl_csv.specs.InputFile.{Fault}
+use Rattle.vtl_csv.specs.declared.input.InputErr.{InputErr}
+use Rattle.vtl_csv.specs.declared.input.InputErr.TheVariants as input
+use Rattle.vtl_top.specs.Expected.{points_or_fault}
 use Rattle.vtl_top.specs.declared.status.Status.{Status}
 use Rattle.vtl_top.specs.declared.status.Status.TheVariants as st
 
@@ -23,10 +29,15 @@ refusal_of path e.TooLong = st.TooLong (chars path)
 refusal_of path e.Failed = st.ReadFault (chars path)
 refusal_of path e.OutOfMemory = st.Memory
 
--- the value that a file's bytes were read as, or that the file is not of its form, or want of memory
-abbrev pub IsFormed : {A : Type 0} → List ℕ → Result (Option A) AllocError → Result A Status → Type 0
-IsFormed path read (Ok x) = read ≡ Ok (Some x)
-IsFormed path read (Err status) = (status ≡ st.Memory) ⊎ ((read ≡ Ok None) × (status ≡ st.Unbuilt (chars path)))
+-- what an error in the file of a data set is
+abbrev pub input_refusal : List ℕ → InputErr → Status
+input_refusal name (input.Fault line column kind) = st.Input name line column kind
+input_refusal name input.OutOfMemory = st.Memory
+
+-- the data set of this structure whose points these are, or the fault of its file, or want of memory
+abbrev pub IsDataSetOf : List ℕ → Structure → Result (List Row) Fault → Result DataSet Status → Type 0
+IsDataSetOf name s read (Ok d) = (d.structure ≡ s) × (points_or_fault name read ≡ Ok d.points)
+IsDataSetOf name s read (Err status) = (status ≡ st.Memory) ⊎ (points_or_fault name read ≡ Err status)
 
 -- the fault of a text
 abbrev pub fault_of : ParseErr → Status
@@ -44,7 +55,10 @@ IsScriptOf path bytes (Ok script) = IsUtf8 bytes × IsScript bytes (script_tree 
 IsScriptOf path bytes (Err status) =
     (status ≡ st.Memory) ⊎ (((¬ IsUtf8 bytes) × (status ≡ st.NotText (chars path))) ⊎ ((done byte : ℕ) × IsUtf8 bytes × IsFaulty bytes done byte × (status ≡ st.Syntax done byte)))
 
--- what is settled, or want of memory
+-- what is settled, as it is seen, or want of memory
+abbrev pub SettlesBy : {A X : Type 0} → (X → A) → Result A Status → Result X Status → Type 0
+SettlesBy view wanted (Ok x) = wanted ≡ Ok (view x)
+SettlesBy view wanted (Err status) = (status ≡ st.Memory) ⊎ (wanted ≡ Err status)
+
 abbrev pub Settles : {A : Type 0} → Result A Status → Result A Status → Type 0
-Settles wanted (Ok x) = wanted ≡ Ok x
-Settles wanted (Err status) = (status ≡ st.Memory) ⊎ (wanted ≡ Err status)
+Settles = SettlesBy (λ x. x)

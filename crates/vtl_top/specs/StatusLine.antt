@@ -1,5 +1,7 @@
 -- The exit code of a status, and the line that names it.
 use Rattle.std.specs.Prelude.{ℕ, List, [], ◌∷◌, codes, decimal, encode_utf8_all, flat_map}
+use Rattle.vtl_csv.specs.declared.input.InputKind.{InputKind}
+use Rattle.vtl_csv.specs.declared.input.InputKind.TheVariants as i
 use Rattle.vtl_top.specs.declared.status.Status.{Status}
 use Rattle.vtl_top.specs.declared.status.Status.TheVariants as st
 
@@ -9,12 +11,24 @@ code_of st.Usage = 1
 code_of (st.Syntax done byte) = 2
 code_of (st.Structure line rule) = 2
 code_of (st.NotText path) = 2
+code_of (st.Input dataset line column kind) = 4
 code_of (st.NoFile path) = 4
 code_of (st.TooLong path) = 4
 code_of (st.ReadFault path) = 6
 code_of (st.WriteFault path) = 6
 code_of st.Memory = 7
 code_of (st.Unbuilt path) = 8
+
+-- what is wrong with an input, by its name
+abbrev pub name_of_kind : InputKind → List ℕ
+name_of_kind i.BadHeader = codes "BadHeader"
+name_of_kind i.TooManyRows = codes "TooManyRows"
+name_of_kind i.WrongWidth = codes "WrongWidth"
+name_of_kind i.NotText = codes "NotText"
+name_of_kind i.NullIdentifier = codes "NullIdentifier"
+name_of_kind i.BadValue = codes "BadValue"
+name_of_kind i.NotInCodes = codes "NotInCodes"
+name_of_kind i.DuplicateKey = codes "DuplicateKey"
 
 -- a part of a line: bytes, or a number in decimal digits
 pub data Part : Type 0 where
@@ -25,11 +39,11 @@ abbrev pub bytes_of : Part → List ℕ
 bytes_of (text bytes) = bytes
 bytes_of (number n) = decimal n
 
-abbrev end : Part
+abbrev pub end : Part
 end = text (codes "\n")
 
 -- what is said of a path, which is in UTF-8
-abbrev at : List ℕ → List ℕ → List Part
+abbrev pub at : List ℕ → List ℕ → List Part
 at lead path = text lead ∷ text (encode_utf8_all path) ∷ end ∷ []
 
 abbrev pub parts_of : Status → List Part
@@ -37,6 +51,8 @@ parts_of st.Done = []
 parts_of st.Usage = text (codes "error: usage") ∷ end ∷ []
 parts_of (st.Syntax done byte) = text (codes "error: syntax after ") ∷ number done ∷ text (codes " statements at byte ") ∷ number byte ∷ end ∷ []
 parts_of (st.Structure line rule) = text (codes "error: structures line ") ∷ number line ∷ text (codes " rule ") ∷ number rule ∷ end ∷ []
+parts_of (st.Input dataset line column kind) =
+    text (codes "error: input ") ∷ text (encode_utf8_all dataset) ∷ text (codes " line ") ∷ number line ∷ text (codes " column ") ∷ number column ∷ text (codes " ") ∷ text (name_of_kind kind) ∷ end ∷ []
 parts_of (st.NotText path) = at (codes "error: not text: ") path
 parts_of (st.NoFile path) = at (codes "error: no file: ") path
 parts_of (st.TooLong path) = at (codes "error: too long: ") path

@@ -1,11 +1,12 @@
 //! The top of the program: the call that carries out the words of a command line, with its statuses.
 #![tactic(auto)]
 
-mod condition;
-mod filtering;
+mod inputs;
 mod laws;
 mod output;
+mod reading;
 mod refusal;
+mod results;
 mod run;
 mod status;
 mod structures;
@@ -14,6 +15,6 @@ mod tests;
 mod top;
 mod words;
 
-pub use laws::{expected_is_determined, operands_have_structures, output_is_meant};
+pub use laws::{expected_is_determined, output_is_meant, structures_have_identifiers};
 pub use status::{Status, tell};
 pub use top::vtl;

@@ -2,27 +2,13 @@
 ghost use Rattle.std.specs.Prelude.{◌≡◌, ◌∷◌, [], false, IfOk, OnOk, OnErr, string_bytes};
 ghost use Rattle.std.specs.List.{AllByRecursion};
 ghost use Rattle.vtl_files.specs.Outside.{FaultAt};
-ghost use Rattle.vtl_tree.specs.BuiltView.{compared_view};
-ghost use Rattle.vtl_tree.specs.Clauses.{kept};
-ghost use Rattle.vtl_tree.specs.Rows.{rows_of};
-ghost use Rattle.vtl_tree.specs.Shown.{shown};
 ghost use Rattle.vtl_top.specs.Answered.{Adds, AddsFront, OnlyWrites, WritesAs};
 ghost use Rattle.vtl_top.specs.Kinds.{told_by};
 ghost use Rattle.vtl_top.specs.OutputView.{NamesPath, outputs_view};
-ghost use Rattle.vtl_top.specs.Condition.{condition_in};
-ghost use Rattle.vtl_csv.specs.CsvText.{csv_rows};
 
-use crate::condition::condition;
-use crate::filtering::filter;
 use crate::status::Status;
-use std::alloc::{AllocError, Global};
-use vtl_cell::Cell;
-use vtl_csv::csv_text;
-use vtl_decimal::Profile;
 use vtl_files::{Failed, Files, write_all};
-use vtl_scalar::ScalarErr;
 use vtl_text::Txt;
-use vtl_tree::{Component, FilterCondition};
 
 /// What a run writes. All of it is made before anything is created.
 #[derive(Drop)]
@@ -33,30 +19,6 @@ pub struct Output {
     pub named: Txt,
     /// The bytes of the file.
     pub bytes: Vec<u8>,
-}
-
-/// The CSV text of the rows at which the condition of the statement is true.
-pub fn output_text(
-    alloc: Global,
-    columns: &[&Component],
-    compared: FilterCondition<'_>,
-    rows: Vec<Vec<Cell>>,
-    profile: &Profile,
-) -> Result<Vec<u8>, AllocError>
-    ensures { IfOk result (λ text. text.items ≡ csv_rows profile.now (shown columns.now) (kept profile.now (condition_in (shown columns.now) (compared_view compared.entry)) (rows_of rows.items))) }
-{
-    let condition = condition(alloc, columns, compared)?;
-    match filter(alloc, rows, &condition, profile) {
-        Ok(kept) => csv_text(alloc, columns, &kept, profile),
-        Err(error) => Err(want_of_memory(error)),
-    }
-}
-
-// A comparison has no fault, so there is no other error.
-fn want_of_memory(_error: ScalarErr) -> AllocError
-    requires { _error ≡ ScalarErr.OutOfMemory }
-{
-    AllocError
 }
 
 /// Writes the outputs in order, each whole before the next one is created. It takes no memory.

@@ -1,9 +1,10 @@
-// The status of a file that was not read, or is not of its form.
+// The status of a file that was not read, or does not hold what it should.
 ghost use Rattle.std.specs.Prelude.{◌≡◌, chars};
-ghost use Rattle.vtl_top.specs.Refusal.{IsFormed, IsOrMemory, refusal_of};
+ghost use Rattle.vtl_top.specs.Refusal.{IsOrMemory, input_refusal, refusal_of};
 
 use crate::status::Status;
-use std::alloc::{AllocError, Global};
+use std::alloc::Global;
+use vtl_csv::InputErr;
 use vtl_files::ReadErr;
 use vtl_text::Txt;
 
@@ -45,20 +46,20 @@ pub fn not_text(alloc: Global, path: &str) -> Status
     }
 }
 
-/// The value that the bytes of the file at a path were read as.
-pub fn formed<T: Drop>(
-    alloc: Global,
-    path: &str,
-    read: Result<Option<T>, AllocError>,
-) -> Result<T, Status>
-    ensures { IsFormed path.now read result }
+/// The status of a file that holds no data set of this name.
+pub fn input_refusal(name: &Txt, error: InputErr) -> Status
+    ensures { IsOrMemory (input_refusal name.now error) result }
 {
-    match read {
-        Ok(Some(value)) => Ok(value),
-        Ok(None) => match Txt::new(alloc, path) {
-            Ok(path) => Err(Status::Unbuilt(path)),
-            Err(_) => Err(Status::Memory),
+    match error {
+        InputErr::Fault { line, column, kind } => match name.share() {
+            Ok(dataset) => Status::Input {
+                dataset,
+                line,
+                column,
+                kind,
+            },
+            Err(_) => Status::Memory,
         },
-        Err(_) => Err(Status::Memory),
+        InputErr::OutOfMemory => Status::Memory,
     }
 }

@@ -1,11 +1,12 @@
 // What the program answers, with its code and its line.
-ghost use Rattle.std.specs.Prelude.{◌≡◌, ◌≤◌, ◌<◌, ◌+◌, ◌∷◌, [], OnErr, OnOk, decimal};
+ghost use Rattle.std.specs.Prelude.{◌≡◌, ◌≤◌, ◌<◌, ◌+◌, ◌∷◌, [], OnErr, OnOk, decimal, flat_map};
 ghost use Rattle.vtl_files.specs.Outside.{Rose, TakesAll};
 ghost use Rattle.vtl_files.specs.Whole.{TakesFront};
 ghost use Rattle.vtl_top.specs.PartView.{all_said, said_bytes};
-ghost use Rattle.vtl_top.specs.StatusLine.{code_of, line_of};
+ghost use Rattle.vtl_top.specs.StatusLine.{at, bytes_of, code_of, line_of, name_of_kind};
 
 use std::alloc::AllocError;
+use vtl_csv::InputKind;
 use vtl_files::{Failed, Sink, sink_all};
 use vtl_text::Txt;
 
@@ -30,6 +31,17 @@ pub enum Status {
         /// The number of the rule.
         rule: u8,
     },
+    /// The file of a data set that is read holds none of its structure: its first fault, by line and column from 1 on.
+    Input {
+        /// The name of the data set.
+        dataset: Txt,
+        /// The number of the record.
+        line: u64,
+        /// The place of the field.
+        column: u64,
+        /// What is wrong there.
+        kind: InputKind,
+    },
     /// The file at the path, the script or the structures file, is not text in UTF-8.
     NotText(Txt),
     /// There is no file at the path.
@@ -47,7 +59,7 @@ pub enum Status {
 }
 
 impl Status {
-    /// The exit code: 0 done, 1 usage, 2 no script, no structures or no text, 4 no file or too long, 6 a fault of reading or writing, 7 memory, 8 not built.
+    /// The exit code: 0 done, 1 usage, 2 no script, no structures or no text, 4 no file, too long or no data set, 6 a fault of reading or writing, 7 memory, 8 not built.
     pub fn code(&self) -> u8
         ensures { result ≡ code_of self.now }
     {
@@ -55,7 +67,7 @@ impl Status {
             Status::Done => 0,
             Status::Usage => 1,
             Status::Syntax { .. } | Status::Structure { .. } | Status::NotText(_) => 2,
-            Status::NoFile(_) | Status::TooLong(_) => 4,
+            Status::NoFile(_) | Status::TooLong(_) | Status::Input { .. } => 4,
             Status::ReadFault(_) | Status::WriteFault(_) => 6,
             Status::Memory => 7,
             Status::Unbuilt(_) => 8,
@@ -63,70 +75,66 @@ impl Status {
     }
 
     // The parts of its line.
-    fn parts(&self) -> [Part<'_>; 5]
+    fn parts(&self) -> [Part<'_>; 9]
         ensures { all_said result ≡ line_of self.now }
     {
         match self {
-            Status::Done => [NOTHING, NOTHING, NOTHING, NOTHING, NOTHING],
-            Status::Usage => [Part::Text("error: usage"), END, NOTHING, NOTHING, NOTHING],
-            Status::Syntax { done, byte } => [
+            Status::Done => padded([NOTHING, NOTHING, NOTHING, NOTHING, NOTHING]),
+            Status::Usage => padded([Part::Text("error: usage"), END, NOTHING, NOTHING, NOTHING]),
+            Status::Syntax { done, byte } => padded([
                 Part::Text("error: syntax after "),
                 Part::Number(*done as u64),
                 Part::Text(" statements at byte "),
                 Part::Number(*byte as u64),
                 END,
-            ],
-            Status::Structure { line, rule } => [
+            ]),
+            Status::Structure { line, rule } => padded([
                 Part::Text("error: structures line "),
                 Part::Number(*line),
                 Part::Text(" rule "),
                 Part::Number(*rule as u64),
                 END,
-            ],
-            Status::NotText(path) => [
-                Part::Text("error: not text: "),
-                Part::Text(path.as_str()),
+            ]),
+            Status::Input {
+                dataset,
+                line,
+                column,
+                kind,
+            } => [
+                Part::Text("error: input "),
+                Part::Text(dataset.as_str()),
+                Part::Text(" line "),
+                Part::Number(*line),
+                Part::Text(" column "),
+                Part::Number(*column),
+                Part::Text(" "),
+                Part::Text(kind_name(*kind)),
                 END,
-                NOTHING,
-                NOTHING,
             ],
-            Status::NoFile(path) => [
-                Part::Text("error: no file: "),
-                Part::Text(path.as_str()),
-                END,
-                NOTHING,
-                NOTHING,
-            ],
-            Status::TooLong(path) => [
-                Part::Text("error: too long: "),
-                Part::Text(path.as_str()),
-                END,
-                NOTHING,
-                NOTHING,
-            ],
-            Status::ReadFault(path) => [
-                Part::Text("error: read fault: "),
-                Part::Text(path.as_str()),
-                END,
-                NOTHING,
-                NOTHING,
-            ],
-            Status::WriteFault(path) => [
-                Part::Text("error: write fault: "),
-                Part::Text(path.as_str()),
-                END,
-                NOTHING,
-                NOTHING,
-            ],
-            Status::Memory => [Part::Text("error: memory"), END, NOTHING, NOTHING, NOTHING],
-            Status::Unbuilt(path) => [
-                Part::Text("error: unbuilt: "),
-                Part::Text(path.as_str()),
-                END,
-                NOTHING,
-                NOTHING,
-            ],
+            Status::NotText(path) => naming("error: not text: ", path),
+            Status::NoFile(path) => naming("error: no file: ", path),
+            Status::TooLong(path) => naming("error: too long: ", path),
+            Status::ReadFault(path) => naming("error: read fault: ", path),
+            Status::WriteFault(path) => naming("error: write fault: ", path),
+            Status::Memory => padded([Part::Text("error: memory"), END, NOTHING, NOTHING, NOTHING]),
+            Status::Unbuilt(path) => naming("error: unbuilt: ", path),
         }
+    }
+}
+
+// What is wrong with an input, by its name.
+fn kind_name(kind: InputKind) -> &'static str
+    ensures { result.now ≡ name_of_kind kind }
+{
+    match kind {
+        InputKind::BadHeader => "BadHeader",
+        InputKind::TooManyRows => "TooManyRows",
+        InputKind::WrongWidth => "WrongWidth",
+        InputKind::NotText => "NotText",
+        InputKind::NullIdentifier => "NullIdentifier",
+        InputKind::BadValue => "BadValue",
+        InputKind::NotInCodes => "NotInCodes",
+        InputKind::DuplicateKey => "DuplicateKey",
     }
 }
 
@@ -142,6 +150,27 @@ enum Part<'a> {
 const NOTHING: Part<'static> = Part::Text("");
 
 const END: Part<'static> = Part::Text("\n");
+
+// The parts, and nothing behind them.
+fn padded(parts: [Part<'_>; 5]) -> [Part<'_>; 9]
+    ensures { all_said result ≡ all_said parts.entry }
+{
+    let [a, b, c, d, e] = parts;
+    [a, b, c, d, e, NOTHING, NOTHING, NOTHING, NOTHING]
+}
+
+// The parts of a line that names a path.
+fn naming<'a>(lead: &'a str, path: &'a Txt) -> [Part<'a>; 9]
+    ensures { all_said result ≡ flat_map bytes_of (at lead.now path.now) }
+{
+    padded([
+        Part::Text(lead),
+        Part::Text(path.as_str()),
+        END,
+        NOTHING,
+        NOTHING,
+    ])
+}
 
 impl From<AllocError> for Status {
     ghost use Rattle.std.specs.Prelude.{◌≡◌};

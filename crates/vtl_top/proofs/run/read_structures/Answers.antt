@@ -11,7 +11,7 @@ pub returns-in-Ok : goal.returns-in-Ok
 returns-in-Ok g c =
     let path = c.args.path.now in
     takes_onward g.F.Files (read path structures_limit) (λ bytes. settled (structures_in path bytes)) c.args.files.now c.read_file.new.files c.read_file.new.files (λ v. v.items) (λ s. s) c.in-Ok.bytes c.structures_of.result c.in-Ok.ensures
-    (settled_given g.F.Files c.read_file.new.files (structures_in path c.in-Ok.bytes.items) (structures_refuse path c.in-Ok.bytes.items) c.structures_of.result
+    (settled_given g.F.Files c.read_file.new.files (λ s. s) (structures_in path c.in-Ok.bytes.items) (structures_refuse path c.in-Ok.bytes.items) c.structures_of.result
     (subst (λ bytes. Settles (structures_in path bytes) c.structures_of.result) c.deref.ensures.value c.structures_of.ensures))
 
 pub returns-in-Err : goal.returns-in-Err

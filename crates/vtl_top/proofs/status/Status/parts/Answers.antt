@@ -1,6 +1,6 @@
-use Rattle.std.proofs.Common.{ap, sym}
+use Rattle.std.proofs.Common.{ap, sym, ◌∙◌}
 use Rattle.vtl_top.specs.StatusLine.{line_of}
 use Rattle.vtl_top.proofs.status.Status.parts.Goals as goal
 
 pub returns-in-Syntax : goal.returns-in-Syntax
-returns-in-Syntax c = ap line_of (sym c.in-Syntax.is)
+returns-in-Syntax c = c.padded-in-Syntax.ensures ∙ ap line_of (sym c.in-Syntax.is)

@@ -1,0 +1,9 @@
+pub mod Assigned
+pub mod AssignmentView
+pub mod Condition
+pub mod DataSetView
+pub mod Fitting
+pub mod InputsView
+pub mod Results
+pub mod Runs
+pub mod Typed

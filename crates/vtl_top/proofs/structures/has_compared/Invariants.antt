@@ -1,8 +1,0 @@
-use Rattle.std.proofs.Common.{◌≡◌, drop}
-use Rattle.std.specs.List.{list_any}
-use Rattle.vtl_tree.specs.BuiltView.{compared_view}
-use Rattle.vtl_top.specs.Structures.{is_compared}
-use Rattle.vtl_top.proofs.structures.has_compared.Given as goal
-
-abbrev pub invariant-loop-component : goal.invariant-loop-component
-invariant-loop-component l = list_any (is_compared (compared_view l.compared)) (drop l.component-index l.components) ≡ list_any (is_compared (compared_view l.compared)) l.components

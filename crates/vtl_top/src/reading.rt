@@ -1,0 +1,36 @@
+// The bytes of files.
+ghost use Rattle.std.specs.Prelude.{◌≡◌, IfOk, string_bytes};
+ghost use Rattle.vtl_top.specs.Answered.{Takes};
+ghost use Rattle.vtl_top.specs.Expected.{file_in, read};
+
+use crate::refusal::refusal;
+use crate::status::Status;
+use std::alloc::{AllocError, Global};
+use vtl_files::{Files, read_all};
+use vtl_text::Txt;
+
+/// The file of a data set in a folder.
+pub fn file_in(alloc: Global, folder: &str, name: &Txt) -> Result<String, AllocError>
+    ensures { IfOk result (λ path. string_bytes path ≡ file_in folder.now name.now) }
+{
+    let mut path = String::from_str(alloc, folder)?;
+    path.push_str("/")?;
+    path.push_str(name.as_str())?;
+    path.push_str(".csv")?;
+    Ok(path)
+}
+
+/// The bytes of a file.
+pub fn read_file<F: Files>(
+    alloc: Global,
+    files: &mut F,
+    path: &str,
+    limit: usize,
+) -> Result<Vec<u8>, Status>
+    ensures { Takes F.Files files.old files.new (read path.now limit) (λ v. v.items) result }
+{
+    match read_all(alloc, files, path, limit) {
+        Ok(bytes) => Ok(bytes),
+        Err(error) => Err(refusal(alloc, error, path)),
+    }
+}
