@@ -1,43 +1,17 @@
 -- The first row that repeats the identifiers of one before it.
 use Rattle.std.proofs.Common.{◌≡◌, ℕ, zero, suc, ◌+◌, ◌<◌, ◌≤◌, inl, inr, List, [], ◌∷◌, ◌++◌, Bool, true, false, cond, not, ◌&&◌, ◌||◌, Option, Some, None, Result, Ok, Err, length, length-append, take, drop, arith, refl, sym, ap, ◌∙◌, subst, append_assoc, true≢false}
-use Rattle.std.specs.List.{list_any, AllByRecursion}
 use Rattle.std.proofs.lemmas.Bool.{cases_order}
 use Rattle.std.proofs.lemmas.List.{append-nil, take-append-drop, take-append-le, take_all}
-use Rattle.std.proofs.lemmas.List.Folds.{list_any-append}
 use Rattle.vtl_decimal.specs.Settings.{Settings}
 use Rattle.vtl_lists.specs.Apart.{all_apart}
-use Rattle.vtl_lists.proofs.Aparts.{apart_parts, apart_more}
 use Rattle.vtl_cell.specs.Row.{Row}
-use Rattle.vtl_rows.specs.Keys.{agree, apart}
+use Rattle.vtl_rows.specs.Keys.{FindsRepeat, IsFirstSame, agree, apart}
+use Rattle.vtl_rows.proofs.Firsts.{apart_front, apart_push}
 use Rattle.vtl_tree.specs.declared.structure.Component.{Component}
 use Rattle.vtl_csv.specs.declared.input.InputKind.TheVariants as i
 use Rattle.vtl_csv.specs.InputFields.{Flaw, record_row}
 use Rattle.vtl_csv.specs.InputFile.{Fault, at_line, is_repeat, joined, rows_with}
-use Rattle.vtl_csv.specs.InputSteps.{FindsRepeat, IsFirstRepeat, Taken, fault_among, on_row, rows_outcome, taken, taken_with}
-
--- ---- lists that are apart
-all_front : {X : Type 0} (P : X → Type 0) (xs ys : List X) → AllByRecursion P (xs ++ ys) → AllByRecursion P xs
-all_front P [] ys all = tt
-all_front P (x ∷ xs) ys all = (all.0, all_front P xs ys all.1)
-
-shuffle : (a b s c : Bool) → (not (a || (s || false)) && (b && not c)) ≡ ((not a && b) && not (s || c))
-shuffle true b s c = refl
-shuffle false true true c = refl
-shuffle false false true c = refl
-shuffle false b false c = refl
-
-pub apart_push : {X : Type 0} (same : X → X → Bool) (xs : List X) (y : X) → all_apart same (xs ++ y ∷ []) ≡ (all_apart same xs && not (list_any (λ x. same x y) xs))
-apart_push same [] y = refl
-apart_push same (x ∷ xs) y =
-    ap (λ b. not b && all_apart same (xs ++ y ∷ [])) (list_any-append (same x) xs (y ∷ []))
-    ∙ ap (λ b. not (list_any (same x) xs || (same x y || false)) && b) (apart_push same xs y)
-    ∙ shuffle (list_any (same x) xs) (all_apart same xs) (same x y) (list_any (λ z. same z y) xs)
-
-pub apart_front : {X : Type 0} (same : X → X → Bool) (xs ys : List X) → all_apart same (xs ++ ys) ≡ true → all_apart same xs ≡ true
-apart_front same [] ys e = refl
-apart_front same (x ∷ xs) ys e =
-    let h = apart_parts same x (xs ++ ys) e in
-    apart_more same x xs (all_front (λ y. same x y ≡ false) xs ys h.0) (apart_front same xs ys h.1)
+use Rattle.vtl_csv.specs.InputSteps.{Taken, fault_among, on_row, rows_outcome, taken, taken_with}
 
 -- the item that is put behind repeats none, or one
 not_and : (a b : Bool) → (a && not b) ≡ true → b ≡ false
@@ -113,7 +87,7 @@ module _ (p : Settings) (columns : List Component) where
       Ends what = what ≡ Err (place + 2, (1, i.DuplicateKey))
 
       -- the row at the place
-      at_row : (before : List Row) (row : Row) (k : List Row → Result (List Row) Fault) (rows more : List Row) → rows ≡ (before ++ row ∷ []) ++ more → length before ≡ place → IsFirstRepeat keys rows place
+      at_row : (before : List Row) (row : Row) (k : List Row → Result (List Row) Fault) (rows more : List Row) → rows ≡ (before ++ row ∷ []) ++ more → length before ≡ place → IsFirstSame (agree keys) rows place
           → Ends (at_line (length before + 2) k (joined keys before (Ok row)))
       at_row before row k rows more e n r =
           let longer = before ++ row ∷ [] in
@@ -125,19 +99,19 @@ module _ (p : Settings) (columns : List Component) where
           ap (λ b. at_line (length before + 2) k (cond b (Err (1, i.DuplicateKey)) (Ok longer))) again ∙ ap (λ m. Err (m + 2, (1, i.DuplicateKey))) n
 
       -- a row before the place
-      before_row : (before : List Row) (row : Row) (rows more : List Row) → rows ≡ (before ++ row ∷ []) ++ more → length before < place → IsFirstRepeat keys rows place → is_repeat keys before row ≡ false
+      before_row : (before : List Row) (row : Row) (rows more : List Row) → rows ≡ (before ++ row ∷ []) ++ more → length before < place → IsFirstSame (agree keys) rows place → is_repeat keys before row ≡ false
       before_row before row rows more e n r =
           let longer = before ++ row ∷ [] in
           let fits : length longer ≤ place = let l = length-append before (row ∷ []) in omega (arith, l, n) in
           new_row keys before row (apart_shorter (agree keys) longer more place fits (ap (λ l. apart keys (take place l)) (sym e) ∙ r.before))
 
-      repeats : (rest : List (List (List ℕ))) (before : List Row) → length before ≤ place → IsFirstRepeat keys (taken_with p columns before rest).rows place → Ends (rows_with p columns keys before rest)
+      repeats : (rest : List (List (List ℕ))) (before : List Row) → length before ≤ place → IsFirstSame (agree keys) (taken_with p columns before rest).rows place → Ends (rows_with p columns keys before rest)
       repeats [] before n r = absurd (omega (arith, n, r.within))
       repeats (fields ∷ rest) before n r = go (record_row p columns (length before) fields) (λ rows. repeats rest rows) r
         where
           go : (o : Result Row Flaw)
-              → ((rows : List Row) → length rows ≤ place → IsFirstRepeat keys (taken_with p columns rows rest).rows place → Ends (rows_with p columns keys rows rest))
-              → IsFirstRepeat keys (on_row before (λ rows. taken_with p columns rows rest) o).rows place
+              → ((rows : List Row) → length rows ≤ place → IsFirstSame (agree keys) (taken_with p columns rows rest).rows place → Ends (rows_with p columns keys rows rest))
+              → IsFirstSame (agree keys) (on_row before (λ rows. taken_with p columns rows rest) o).rows place
               → Ends (at_line (length before + 2) (λ rows. rows_with p columns keys rows rest) (joined keys before o))
           go (Err flaw) ih r = absurd (omega (arith, n, r.within))
           go (Ok row) ih r =
@@ -164,4 +138,4 @@ module _ (p : Settings) (columns : List Component) where
         ap (λ t. rows_outcome t.rows (fault_among (length t.rows) None t.flaw)) e ∙ sym (none_repeats rest [] (ap (apart keys) (sym same) ∙ f))
     outcome_is rest rows flaw (Some place) e f =
         let same : rows ≡ (taken_with p columns [] rest).rows = ap (λ t. t.rows) e in
-        sym (repeats place rest [] (omega arith) (subst (λ l. IsFirstRepeat keys l place) same f))
+        sym (repeats place rest [] (omega arith) (subst (λ l. IsFirstSame (agree keys) l place) same f))

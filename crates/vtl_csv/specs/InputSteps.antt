@@ -4,7 +4,6 @@ use Rattle.std.specs.Global.{Vec}
 use Rattle.vtl_decimal.specs.Settings.{Settings}
 use Rattle.vtl_cell.specs.declared.cell.Cell.{Cell}
 use Rattle.vtl_cell.specs.Row.{Row}
-use Rattle.vtl_rows.specs.Keys.{apart}
 use Rattle.vtl_rows.specs.Tables.{Listed}
 use Rattle.vtl_tree.specs.declared.structure.Component.{Component}
 use Rattle.vtl_tree.specs.declared.structure.Structure.{Structure}
@@ -60,17 +59,6 @@ on_row before go_on (Ok row) = go_on (before ++ row ∷ [])
 abbrev pub taken_with : Settings → List Component → List Row → List (List (List ℕ)) → Taken
 taken_with p columns before [] = taken before None
 taken_with p columns before (fields ∷ rest) = on_row before (λ rows. taken_with p columns rows rest) (record_row p columns (length before) fields)
-
--- the row at a place repeats the identifiers of one before it, and no row before it does
-pub record IsFirstRepeat (keys : List ℕ) (rows : List Row) (place : ℕ) : Type 0 where
-  pub within : place < length rows
-  pub before : apart keys (take place rows) ≡ true
-  pub there : apart keys (take (suc place) rows) ≡ false
-
--- the first such row, if there is one
-abbrev pub FindsRepeat : List ℕ → List Row → Option ℕ → Type 0
-FindsRepeat keys rows None = apart keys rows ≡ true
-FindsRepeat keys rows (Some place) = IsFirstRepeat keys rows place
 
 -- the first fault of a file with so many rows: a repeat among them, or else the flaw behind them
 abbrev pub fault_among : ℕ → Option ℕ → Option Flaw → Option Fault

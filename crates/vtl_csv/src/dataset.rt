@@ -8,7 +8,6 @@ ghost use Rattle.vtl_csv.specs.InputFile.{Reads, dataset_rows, rows_below, rows_
 ghost use Rattle.vtl_csv.specs.InputSteps.{Answers, IsLayout, fault_among, fault_of, flaw_of, layout_seen, rows_outcome, taken, taken_with};
 ghost use Rattle.vtl_csv.specs.TableText.{IsTableOf, column_for};
 
-use crate::duplicates::first_repeat;
 use crate::file_column::FileColumn;
 use crate::header::{Layout, read_layout};
 use crate::input::{Fault, Flaw, InputErr, InputKind};
@@ -104,7 +103,7 @@ fn read_rows(
     ensures fit { OnOk result (All (λ r. fits table.new.columns r ≡ true) table.new.rows) }
 {
     let flaw = add_rows(alloc, table, columns, reader, fields, profile)?;
-    let repeat = first_repeat(alloc, table, keys)?;
+    let repeat = table.first_repeat(alloc, keys)?;
     Ok(first_fault(table, repeat, flaw))
 }
 

@@ -4,7 +4,6 @@
 
 mod dataset;
 mod declarations;
-mod duplicates;
 mod file_column;
 mod header;
 mod input;

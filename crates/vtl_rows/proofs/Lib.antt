@@ -1,8 +1,10 @@
+pub mod Firsts
 pub mod Flats
 pub mod Gathers
 pub mod InOrder
+pub mod Least
 pub mod NamedLemmas
-pub mod Neighbours
 pub mod Placed
+pub mod SeenRows
 pub mod Stable
 pub mod Ties

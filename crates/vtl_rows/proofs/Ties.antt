@@ -8,7 +8,8 @@ use Rattle.vtl_lists.specs.Sorting.{le_by}
 use Rattle.vtl_cell.specs.Order.{cell_cmp, same_cell}
 use Rattle.vtl_cell.specs.Row.{Row, column_of}
 use Rattle.vtl_cell.specs.Sorted.{by_keys, rising}
-use Rattle.vtl_rows.specs.Keys.{agree}
+use Rattle.vtl_rows.specs.declared.column.SortKey.{SortKey}
+use Rattle.vtl_rows.specs.Keys.{key_of, tie_by, agree}
 
 module _ {X : Type 0} {R : X → X → Ordering} (o : IsTotalOrder R) where
   pub ties_turn : (x y : X) → is_eq (R x y) ≡ is_eq (R y x)
@@ -33,7 +34,7 @@ module _ {X : Type 0} {R : X → X → Ordering} (o : IsTotalOrder R) where
       squeezed Greater Greater r a b e h = cc
 
 -- ---- ties by rising keys
-both_tie : (r s : Ordering) → is_eq (ordering_then r s) ≡ (is_eq r && is_eq s)
+pub both_tie : (r s : Ordering) → is_eq (ordering_then r s) ≡ (is_eq r && is_eq s)
 both_tie Less s = refl
 both_tie Equal s = refl
 both_tie Greater s = refl
@@ -43,3 +44,9 @@ ties_agree [] r s = refl
 ties_agree (i ∷ is) r s =
     both_tie (cell_cmp (column_of i r) (column_of i s)) (by_keys (map rising is) r s)
     ∙ ap (λ b. same_cell (column_of i r) (column_of i s) && b) (ties_agree is r s)
+
+pub rising_ties : (columns : List ℕ) (keys : List SortKey) → map key_of keys ≡ map rising columns → tie_by keys ≡ agree columns
+rising_ties columns keys e = λ i r s. each r s i
+  where
+    each : (r s : Row) → tie_by keys r s ≡ agree columns r s
+    each r s = ap (λ listed. is_eq (by_keys listed r s)) e ∙ ties_agree columns r s

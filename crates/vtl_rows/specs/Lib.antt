@@ -2,4 +2,5 @@ pub mod Flat
 pub mod Keys
 pub mod Named
 pub mod Places
+pub mod Seen
 pub mod Tables

@@ -1,12 +1,12 @@
 -- Rows by their places in a table.
-use Rattle.std.specs.Prelude.{◌≡◌, ℕ, ◌+◌, ◌<◌, false, List, [], map, length, slice_index_or, IsPermutation}
+use Rattle.std.specs.Prelude.{◌≡◌, ℕ, ◌+◌, ◌<◌, ◌&&◌, Bool, false, List, [], map, length, nat_lt, slice_index_or, IsPermutation}
 use Rattle.std.specs.List.{range_with_len}
-use Rattle.std.specs.Ordering.{is_lt, ordering_then, nat_cmp}
+use Rattle.std.specs.List.Sorted.{IsSorted}
+use Rattle.std.specs.Ordering.{is_lt, on, ordering_then, nat_cmp, then_cmp}
 use Rattle.vtl_cell.specs.Row.{Row}
 use Rattle.vtl_cell.specs.Sorted.{by_keys}
-use Rattle.vtl_lists.specs.Sorting.{le_by, Rises}
 use Rattle.vtl_rows.specs.declared.column.SortKey.{SortKey}
-use Rattle.vtl_rows.specs.Keys.{key_of, ordered}
+use Rattle.vtl_rows.specs.Keys.{key_of, ordered, tie_by}
 
 -- the row at a place, or no cells past the last
 abbrev pub row_at : List Row → ℕ → Row
@@ -20,9 +20,13 @@ number_at pair = pair.1
 pub record IsOrderOf (keys : List SortKey) (rows : List Row) (places : List ℕ) : Type 0 where
   pub all : IsPermutation (range_with_len 0 (length rows)) places
   pub sorted : map (row_at rows) places ≡ ordered keys rows
-  pub rises : Rises (le_by (by_keys (map key_of keys))) (map (row_at rows) places)
+  pub placed : IsSorted (then_cmp (on (row_at rows) (by_keys (map key_of keys))) nat_cmp) places
 
 -- no row is before the one in front of it, nor are their numbers in falling order where the two tie
 abbrev pub AreNumbered : List SortKey → List Row → List ℕ → Type 0
 AreNumbered keys rows numbers = (k : ℕ) → k + 1 < length rows
     → is_lt (ordering_then (by_keys (map key_of keys) (row_at rows (k + 1)) (row_at rows k)) (nat_cmp (slice_index_or numbers (k + 1) 0) (slice_index_or numbers k 0))) ≡ false
+
+-- whether the row at a place ties with one at a place before it
+abbrev pub ties_before : List SortKey → List Row → ℕ → ℕ → Bool
+ties_before keys rows before place = nat_lt before place && tie_by keys (row_at rows before) (row_at rows place)

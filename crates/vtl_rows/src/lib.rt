@@ -8,6 +8,8 @@ mod guess;
 mod order;
 mod project;
 mod ranking;
+mod repeats;
+mod seen;
 mod table;
 mod tables;
 #[cfg(test)]

@@ -4,11 +4,6 @@ use Rattle.vtl_csv.proofs.InputPointLemmas.{taken_fit}
 use Rattle.vtl_csv.proofs.RepeatLemmas.{outcome_is}
 use Rattle.vtl_csv.proofs.dataset.read_rows.Goals as goal
 
-pub first_repeat-requires-clause-fit : goal.first_repeat-requires-clause-fit
-first_repeat-requires-clause-fit c =
-    let all = c.in_ok-flaw.ensures.rows ∙ ap (λ l. taken_with c.args.profile.now c.args.columns.now l c.args.reader.now) c.requires.none in
-    taken_fit c.args.profile.now c.args.columns.now c.args.reader.now c.add_rows.new.table.rows (option_map flaw_of c.in_ok-flaw.flaw) c.add_rows.new.table.columns (c.in_ok-flaw.ensures.columns ∙ c.requires.columns) all
-
 pub returns-clause-rows : goal.returns-clause-rows
 returns-clause-rows c =
     let all = c.in_ok-flaw.ensures.rows ∙ ap (λ l. taken_with c.args.profile.now c.args.columns.now l c.args.reader.now) c.requires.none in

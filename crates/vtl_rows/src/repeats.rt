@@ -1,0 +1,97 @@
+// The first row that agrees with one before it.
+ghost use Rattle.std.specs.Prelude.{◌≡◌, ◌<◌, ◌&&◌, nat_lt, length, All, IfOk, IfSome, if◌then◌else◌};
+ghost use Rattle.vtl_rows.specs.Keys.{FindsRepeat, FindsSame, apart, tie_by};
+ghost use Rattle.vtl_rows.specs.Places.{IsOrderOf, ties_before};
+
+use crate::order::{compare_places, is_in_order, numbers_below, order_of, rising_keys};
+use crate::seen::{Meeting, Seen};
+use crate::{SortKey, Table};
+use std::alloc::{AllocError, Global};
+
+// The first row that ties with one before it, if there is one, found by hash. None where it is given up.
+fn repeat_by_hash(
+    alloc: Global,
+    table: &Table,
+    keys: &[SortKey],
+) -> Result<Option<Option<usize>>, AllocError>
+    ensures { IfOk result (λ o. IfSome o (FindsSame (tie_by keys.now) table.now.rows)) }
+{
+    if table.len() > u32::MAX as usize {
+        return Ok(None);
+    }
+    let mut seen = Seen::new(alloc, table.len())?;
+    for i in 0..table.len() {
+        match seen.add(table, keys, i) {
+            Meeting::New => {}
+            Meeting::Repeat => return Ok(Some(Some(i))),
+            Meeting::Unknown => return Ok(None),
+        }
+    }
+    Ok(Some(None))
+}
+
+// The lesser of two numbers, of which the first counts where the row at that place ties with one before it.
+fn lesser(table: &Table, keys: &[SortKey], before: usize, place: usize, least: usize) -> usize
+    ensures { result ≡ if nat_lt place least && ties_before keys.now table.now.rows before place then place else least }
+{
+    if place < least && before < place && compare_places(table, keys, before, place).is_eq() {
+        return place;
+    }
+    least
+}
+
+// The same, from the places of the rows in order: the least later one of two neighbours that tie.
+fn repeat_in_order(table: &Table, places: &[usize], keys: &[SortKey]) -> Option<usize>
+    requires { IsOrderOf keys.now table.now.rows places.now }
+    ensures { FindsSame (tie_by keys.now) table.now.rows result }
+{
+    let mut least = table.len();
+    for i in 0..places.len().saturating_sub(1) {
+        least = lesser(table, keys, places[i], places[i + 1], least);
+    }
+    if least < table.len() {
+        Some(least)
+    } else {
+        None
+    }
+}
+
+// The same, by hash, and by a sort where cells were chosen to have one hash.
+fn repeat_of(alloc: Global, table: &Table, keys: &[SortKey]) -> Result<Option<usize>, AllocError>
+    ensures { IfOk result (FindsSame (tie_by keys.now) table.now.rows) }
+{
+    if is_in_order(table, keys) {
+        let places = numbers_below(alloc, table.len())?;
+        return Ok(repeat_in_order(table, &places, keys));
+    }
+    if let Some(found) = repeat_by_hash(alloc, table, keys)? {
+        return Ok(found);
+    }
+    let places = order_of(alloc, table, keys)?;
+    Ok(repeat_in_order(table, &places, keys))
+}
+
+impl Table {
+    /// The place of the first row that agrees in the columns with a row before it, if there is one. It fails only for
+    /// want of memory.
+    pub fn first_repeat(
+        &self,
+        alloc: Global,
+        columns: &[usize],
+    ) -> Result<Option<usize>, AllocError>
+        requires { All (λ i. i < length self.now.columns) columns.now }
+        ensures { IfOk result (FindsRepeat columns.now self.now.rows) }
+    {
+        let keys = rising_keys(alloc, columns)?;
+        repeat_of(alloc, self, &keys)
+    }
+
+    /// Whether no two rows agree in the columns. It fails only for want of memory.
+    #[tactic(auto, using(crate::proofs::Firsts::found_or_apart))]
+    pub fn is_key(&self, alloc: Global, columns: &[usize]) -> Result<bool, AllocError>
+        requires { All (λ i. i < length self.now.columns) columns.now }
+        ensures { IfOk result (λ b. b ≡ apart columns.now self.now.rows) }
+    {
+        Ok(self.first_repeat(alloc, columns)?.is_none())
+    }
+}
