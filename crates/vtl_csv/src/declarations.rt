@@ -14,7 +14,7 @@ use csv::ByteRecord;
 use std::alloc::{AllocError, Global};
 use std::str;
 use vtl_cell::Kind;
-use vtl_text::{List, Txt, is_component_name, is_name};
+use vtl_text::{Shared, Txt, is_component_name, is_name};
 use vtl_tree::{Component, Role, Structures, are_distinct};
 
 // The most components that a data set may have.
@@ -188,7 +188,7 @@ fn code_texts(alloc: Global, list: &[u8]) -> Result<Option<Vec<Txt>>, AllocError
 }
 
 // The codes of a list.
-fn codes_in(alloc: Global, list: &[u8]) -> Result<Option<List<Txt>>, AllocError>
+fn codes_in(alloc: Global, list: &[u8]) -> Result<Option<Shared<Txt>>, AllocError>
     ensures { IfOk result (λ o. o ≡ codes_in list.now) }
 {
     let Some(codes) = code_texts(alloc, list)? else {
@@ -197,7 +197,7 @@ fn codes_in(alloc: Global, list: &[u8]) -> Result<Option<List<Txt>>, AllocError>
     if !are_distinct(alloc, &codes)? {
         return Ok(None);
     }
-    Ok(Some(List::of(codes)))
+    Ok(Some(Shared::of(codes)?))
 }
 
 fn is_string_identifier(role: Role, kind: Kind) -> bool
@@ -215,7 +215,7 @@ fn codes_of(
     role: Role,
     kind: Kind,
     list: &[u8],
-) -> Result<Option<Option<List<Txt>>>, AllocError>
+) -> Result<Option<Option<Shared<Txt>>>, AllocError>
     ensures { IfOk result (λ o. o ≡ codes_of role kind list.now) }
 {
     if list.is_empty() {

@@ -90,7 +90,7 @@ fn joined(
         name: joined_name(alloc, held, alias, &component.name)?,
         role: component.role,
         kind: component.kind,
-        codes: share_codes(alloc, &component.codes)?,
+        codes: share_codes(&component.codes)?,
     })
 }
 
@@ -172,7 +172,6 @@ fn push_joined_identifiers(
     };
     let others = structures_of(alloc, operands)?;
     push_identifiers(
-        alloc,
         out,
         &others,
         reference.structure.components.as_slice(),

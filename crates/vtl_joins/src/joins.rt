@@ -12,14 +12,14 @@ ghost use Rattle.vtl_joins.specs.Joins.{agrees, all_go_with, clashes, go_togethe
 use std::alloc::{AllocError, Global};
 use vtl_rule_tests::{TypeErr, broken};
 use vtl_shapes::{
-    Compared, agree, component_of, contains, is_among, is_identifier, is_identifier_name,
+    Compared, agree, component_of, contains, count_role, is_among, is_identifier, is_identifier_name,
 };
 use vtl_syntax::JoinKind;
 use vtl_text::Txt;
 use vtl_tree::{Component, Role, Structure};
 
 /// An operand of a join.
-#[derive(Debug, Drop)]
+#[derive(Drop)]
 pub struct Operand {
     /// Its alias, which no other operand has.
     pub alias: Txt,
@@ -39,8 +39,7 @@ pub(crate) fn is_cross(kind: JoinKind) -> bool
 fn width(operand: &Operand) -> usize
     ensures { result ≡ width operand.now }
 {
-    let components = operand.structure.components.as_slice();
-    components.iter().filter(|x| is_identifier(x)).count()
+    count_role(operand.structure.components.as_slice(), Role::Identifier)
 }
 
 fn greatest_width(operands: &[Operand]) -> usize

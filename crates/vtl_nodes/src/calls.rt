@@ -1,16 +1,7 @@
 // Calls over groups and over windows.
 
-use vtl_cell::{AggKind, Cell};
+use vtl_cell::Cell;
 use vtl_text::{List, Txt};
-
-/// An aggregate of the points of a group.
-#[derive(Drop)]
-pub struct AggCall {
-    /// The operator.
-    pub kind: AggKind,
-    /// The component, or none for the number of points.
-    pub component: Option<Txt>,
-}
 
 /// An analytic call: a value of each point from the points of its window.
 #[derive(Drop)]

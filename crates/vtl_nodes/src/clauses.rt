@@ -25,15 +25,6 @@ pub enum CalcValue {
     Analytic(AnalyticCall),
 }
 
-/// A component and its new name.
-#[derive(Drop)]
-pub struct Renaming {
-    /// The name in the operand.
-    pub from: Txt,
-    /// The name in the result.
-    pub to: Txt,
-}
-
 /// An identifier and the value at which it is taken.
 #[derive(Drop)]
 pub struct SubItem {

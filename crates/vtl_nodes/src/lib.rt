@@ -7,8 +7,8 @@ mod nodes;
 mod rules;
 mod specifications;
 
-pub use calls::{AggCall, AnalyticCall, AnalyticOp, Bound, Frame, OrderKey, Window};
-pub use clauses::{CalcItem, CalcValue, Renaming, SubItem};
+pub use calls::{AnalyticCall, AnalyticOp, Bound, Frame, OrderKey, Window};
+pub use clauses::{CalcItem, CalcValue, SubItem};
 pub use nodes::{JoinOperand, MeasureOp, Node, NodeForm};
 pub use rules::{DatapointRule, DatapointRules, HierRules};
 pub use specifications::{AggItems, AggSpec, AggTarget, AnalyticSpec, CheckSpec, JoinSpec};

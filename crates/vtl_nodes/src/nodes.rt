@@ -1,10 +1,10 @@
 // Typed expressions on data sets.
 
 use crate::{
-    AggSpec, AnalyticSpec, CalcItem, CheckSpec, DatapointRules, HierRules, JoinSpec, Renaming,
-    SubItem,
+    AggSpec, AnalyticSpec, CalcItem, CheckSpec, DatapointRules, HierRules, JoinSpec, SubItem,
 };
 use vtl_cell::ScalarOp;
+use vtl_shapes::Renaming;
 use vtl_syntax::{CheckOut, HierInput, HierOut, Mode, Retain};
 use vtl_text::{List, Txt};
 use vtl_tree::{CompExpr, Structure};

@@ -1,10 +1,10 @@
 // What the operators on data sets are told beside their operands.
 
-use crate::{AggCall, AnalyticOp, CalcItem, Window};
+use crate::{AnalyticOp, CalcItem, Window};
 use vtl_cell::AggKind;
 use vtl_syntax::{BasicOut, JoinKind};
 use vtl_text::{List, Txt};
-use vtl_tree::{CompExpr, Role};
+use vtl_tree::{AggCall, CompExpr, Role};
 
 /// What an aggregate operator makes of each group.
 #[derive(Drop)]

@@ -8,8 +8,8 @@ ghost use Rattle.vtl_syntax.specs.View.{script_tree};
 use crate::statements::statements;
 use std::alloc::{AllocError, Global};
 use vtl_lexer::{Token, tokens_before_fault};
-use vtl_syntax::{Script, Shared, Statement};
-use vtl_text::List;
+use vtl_syntax::{Script, Statement};
+use vtl_text::{List, Shared};
 
 /// Why a text was not read as a script.
 #[derive(Clone, Copy, Debug, PartialEq, Eq)]

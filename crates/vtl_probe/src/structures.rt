@@ -2,7 +2,7 @@
 use crate::notation::kind_word;
 use std::alloc::{AllocError, Global};
 use vtl_csv::{StructErr, read_structures};
-use vtl_text::{List, Txt};
+use vtl_text::{Shared, Txt};
 use vtl_tree::{Component, Role, Structures};
 
 // The most bytes of a structures file.
@@ -68,7 +68,7 @@ fn role_word(role: Role) -> &'static str {
 fn push_codes(
     alloc: Global,
     out: &mut String,
-    codes: &Option<List<Txt>>,
+    codes: &Option<Shared<Txt>>,
 ) -> Result<(), AllocError> {
     let Some(codes) = codes else {
         return Ok(());

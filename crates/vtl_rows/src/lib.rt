@@ -12,8 +12,6 @@ mod repeats;
 mod seen;
 mod table;
 mod tables;
-#[cfg(test)]
-mod tests;
 
 pub use column::{Column, SortKey};
 pub use table::Table;

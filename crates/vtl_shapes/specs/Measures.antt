@@ -76,12 +76,13 @@ given_measures outcome.All f others xs = map (given_measure f others) (measures 
 given_measures outcome.Truth f others xs = bool_var ∷ []
 given_measures outcome.Count f others xs = int_var ∷ []
 
--- the rules that the measures of one operand can break
-abbrev pub measured_tests : Outcome → Gives → List Component → Tests
-measured_tests o f xs =
+-- the rules that the measures of one operand can break, and the operands that have to be literals
+abbrev pub measured_tests : Outcome → Gives → (literals : Bool) → List Component → Tests
+measured_tests o f literals xs =
     (7, any_unmet f None xs)
+    ∷ (8, not literals)
     ∷ (10, is_miscounted o (length (measures xs))) ∷ []
 
 -- an operator on the measures of one operand: the chosen identifiers, then the measures that it gives
-abbrev pub measured_form : Outcome → Gives → Choice → List (List ℕ) → List Component → Result Structure ℕ
-measured_form o f c names xs = ruled (measured_tests o f xs) (tt {0}) >>= λ u. shaped (chosen c names xs ++ given_measures o f None xs)
+abbrev pub measured_form : Outcome → Gives → (literals : Bool) → Choice → List (List ℕ) → List Component → Result Structure ℕ
+measured_form o f literals c names xs = ruled (measured_tests o f literals xs) (tt {0}) >>= λ u. shaped (chosen c names xs ++ given_measures o f None xs)

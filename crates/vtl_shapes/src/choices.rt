@@ -55,7 +55,6 @@ fn is_chosen(choice: Choice, names: &[Txt], component: &Component) -> bool
 
 /// Adds the chosen components, in their order.
 pub(crate) fn push_chosen(
-    alloc: Global,
     out: &mut Vec<Component>,
     choice: Choice,
     names: &[Txt],
@@ -65,7 +64,7 @@ pub(crate) fn push_chosen(
 {
     for component in components {
         if is_chosen(choice, names, component) {
-            out.push(share_component(alloc, component)?)?;
+            out.push(share_component(component)?)?;
         }
     }
     Ok(())
@@ -82,7 +81,6 @@ pub fn choose(
 {
     let mut out = Vec::new(alloc);
     push_chosen(
-        alloc,
         &mut out,
         choice,
         names,

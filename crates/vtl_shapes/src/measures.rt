@@ -7,6 +7,7 @@ ghost use Rattle.vtl_shapes.specs.Measures.{any_unmet, bool_var as bool_measure,
 
 use crate::choices::push_chosen;
 use crate::copies::share_component;
+use crate::counting::count_measures;
 use crate::names::{component_of, is_role};
 use crate::{Choice, shaped};
 use std::alloc::{AllocError, Global};
@@ -47,15 +48,8 @@ pub(crate) fn is_measure(component: &Component) -> bool
     is_role(component.role, Role::Measure)
 }
 
-pub(crate) fn count_measures(components: &[Component]) -> usize
-    ensures { result ≡ length (measures components.now) }
-{
-    components.iter().filter(|x| is_measure(x)).count()
-}
-
 /// Adds the measures, in their order.
 pub(crate) fn push_measures(
-    alloc: Global,
     out: &mut Vec<Component>,
     components: &[Component],
 ) -> Result<(), AllocError>
@@ -63,7 +57,7 @@ pub(crate) fn push_measures(
 {
     for component in components {
         if is_measure(component) {
-            out.push(share_component(alloc, component)?)?;
+            out.push(share_component(component)?)?;
         }
     }
     Ok(())
@@ -203,22 +197,24 @@ pub(crate) fn push_given<F: Operator>(
 }
 
 /// An operator on the measures of one data set: the identifiers that are chosen, then the measures that it gives. It breaks
-/// rule 7 where a measure does not meet the operator's row, and 10 where the number of measures is not the one it asks for.
+/// rule 7 where a measure does not meet the operator's row, 8 where operands that have to be literals are not, and 10 where the number of measures is not the one it asks for.
 pub fn measured<F: Operator>(
     alloc: Global,
     outcome: Outcome,
     operator: &F,
+    literals: bool,
     choice: Choice,
     names: &[Txt],
     structure: &Structure,
 ) -> Result<Structure, TypeErr>
-    ensures { Answers (λ s. s) result (measured_form outcome (F.gives operator.now) choice names.now structure.now.components) }
+    ensures { Answers (λ s. s) result (measured_form outcome (F.gives operator.now) literals choice names.now structure.now.components) }
 {
     let components = structure.components.as_slice();
     broken(7, any_unmet(operator, None, components))?;
+    broken(8, !literals)?;
     broken(10, is_miscounted(outcome, count_measures(components)))?;
     let mut out = Vec::new(alloc);
-    push_chosen(alloc, &mut out, choice, names, components)?;
+    push_chosen(&mut out, choice, names, components)?;
     push_given(alloc, &mut out, outcome, operator, None, components)?;
     shaped(alloc, out)
 }

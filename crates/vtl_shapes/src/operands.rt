@@ -7,11 +7,12 @@ ghost use Rattle.vtl_shapes.specs.Operands.{agree, all_meet, agreed, agreed_iden
 use crate::choices::is_identifier;
 use crate::copies::share_component;
 use crate::kinds::{is_same_kind, meets};
-use crate::measures::{count_measures, is_measure};
+use crate::counting::count_measures;
+use crate::measures::is_measure;
 use crate::names::{component_of, is_role};
 use std::alloc::{AllocError, Global};
 use vtl_cell::Kind;
-use vtl_text::{List, Txt};
+use vtl_text::{Shared, Txt};
 use vtl_tree::{Component, Role, Structure};
 
 /// How components of two operands are compared.
@@ -80,7 +81,7 @@ pub(crate) fn all_agree(
     true
 }
 
-fn is_same_codes(a: &Option<List<Txt>>, b: &Option<List<Txt>>) -> bool
+fn is_same_codes(a: &Option<Shared<Txt>>, b: &Option<Shared<Txt>>) -> bool
     ensures { result ≡ same_codes a.now b.now }
 {
     match (a, b) {
@@ -111,14 +112,13 @@ fn are_coded_alike(component: &Component, others: &[&Structure]) -> bool
 }
 
 fn agreed(
-    alloc: Global,
     others: &[&Structure],
     component: &Component,
 ) -> Result<Component, AllocError>
     ensures { IfOk result (λ x. x ≡ agreed (shown others.now) component.now) }
 {
     if are_coded_alike(component, others) {
-        return share_component(alloc, component);
+        return share_component(component);
     }
     Ok(Component {
         name: component.name.share()?,
@@ -130,7 +130,6 @@ fn agreed(
 
 /// Adds the identifiers, with the codes that all operands agree on.
 pub fn push_identifiers(
-    alloc: Global,
     out: &mut Vec<Component>,
     others: &[&Structure],
     components: &[Component],
@@ -139,7 +138,7 @@ pub fn push_identifiers(
 {
     for component in components {
         if is_identifier(component) {
-            out.push(agreed(alloc, others, component)?)?;
+            out.push(agreed(others, component)?)?;
         }
     }
     Ok(())

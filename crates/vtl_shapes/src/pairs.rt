@@ -9,8 +9,9 @@ ghost use Rattle.vtl_shapes.specs.Measures.{measures};
 ghost use Rattle.vtl_shapes.specs.Pairs.{are_choices, check_form, check_measures, contains, errorcode as errorcode_measure, errorlevel as errorlevel_measure, exists_form, has_one_number, identified, if_form, imbalance as imbalance_measure, is_at_odds, is_common, pair_form, pair_identifiers, set_form};
 
 use crate::choices::is_identifier;
+use crate::counting::count_measures;
 use crate::measures::{
-    any_unmet, bool_var, count_measures, is_miscounted, new_measure, push_given, push_measures,
+    any_unmet, bool_var, is_miscounted, new_measure, push_given, push_measures,
 };
 use crate::operands::{
     Compared, agree, all_agree, all_meet, has_one_measure, is_there, is_within, push_identifiers,
@@ -34,7 +35,6 @@ pub fn contains(all: &Structure, some: &Structure) -> bool
 }
 
 fn push_pair_identifiers(
-    alloc: Global,
     out: &mut Vec<Component>,
     left: &Structure,
     right: &Structure,
@@ -42,9 +42,9 @@ fn push_pair_identifiers(
     ensures { OnOk result (out.new.items ≡ out.old.items ++ pair_identifiers left.now right.now) }
 {
     if contains(left, right) {
-        push_identifiers(alloc, out, &[right], left.components.as_slice())
+        push_identifiers(out, &[right], left.components.as_slice())
     } else {
-        push_identifiers(alloc, out, &[left], right.components.as_slice())
+        push_identifiers(out, &[left], right.components.as_slice())
     }
 }
 
@@ -70,7 +70,7 @@ pub fn pair<F: Operator>(
         !is_named_alike || is_miscounted(outcome, count_measures(ours)),
     )?;
     let mut out = Vec::new(alloc);
-    push_pair_identifiers(alloc, &mut out, left, right)?;
+    push_pair_identifiers(&mut out, left, right)?;
     push_given(alloc, &mut out, outcome, operator, Some(theirs), ours)?;
     shaped(alloc, out)
 }
@@ -85,8 +85,8 @@ fn with_measures(
     ensures { Answers (λ s. s) result (identified (shown others.now) identifiers.now (measures measured.now.components)) }
 {
     let mut out = Vec::new(alloc);
-    push_identifiers(alloc, &mut out, others, identifiers.components.as_slice())?;
-    push_measures(alloc, &mut out, measured.components.as_slice())?;
+    push_identifiers(&mut out, others, identifiers.components.as_slice())?;
+    push_measures(&mut out, measured.components.as_slice())?;
     shaped(alloc, out)
 }
 
@@ -195,7 +195,7 @@ pub fn exists_in(alloc: Global, left: &Structure, right: &Structure) -> Result<S
         !any_common(right, components) || any_at_odds(right, components),
     )?;
     let mut out = Vec::new(alloc);
-    push_identifiers(alloc, &mut out, &[right], components)?;
+    push_identifiers(&mut out, &[right], components)?;
     out.push(bool_var(alloc)?)?;
     shaped(alloc, out)
 }
@@ -247,7 +247,7 @@ fn checked(
     ensures { Answers (λ s. s) result (identified (shown others.now) structure.now check_measures) }
 {
     let mut out = Vec::new(alloc);
-    push_identifiers(alloc, &mut out, others, structure.components.as_slice())?;
+    push_identifiers(&mut out, others, structure.components.as_slice())?;
     push_check_measures(alloc, &mut out)?;
     shaped(alloc, out)
 }

@@ -15,7 +15,7 @@ use crate::{Choice, Wanted, shaped};
 use std::alloc::{AllocError, Global};
 use vtl_cell::Kind;
 use vtl_rule_tests::{TypeErr, broken};
-use vtl_text::{List, Txt, is_component_name};
+use vtl_text::{Shared, Txt, is_component_name};
 use vtl_tree::{Component, Role, Structure};
 
 fn has_no_name(texts: &[Txt]) -> bool
@@ -58,7 +58,6 @@ fn pivot_components(
 {
     let mut out = Vec::new(alloc);
     push_chosen(
-        alloc,
         &mut out,
         Choice::Except,
         &[name.share()?],
@@ -120,7 +119,7 @@ fn names_column(alloc: Global, name: &Txt, measures: &[Component]) -> Result<Com
         name: name.share()?,
         role: Role::Identifier,
         kind: Kind::Text,
-        codes: Some(List::of(names_of(alloc, measures)?)),
+        codes: Some(Shared::of(names_of(alloc, measures)?)?),
     })
 }
 
@@ -136,10 +135,10 @@ pub fn unpivot(
 {
     let components = structure.components.as_slice();
     let mut measures = Vec::new(alloc);
-    push_measures(alloc, &mut measures, components)?;
+    push_measures(&mut measures, components)?;
     broken(10, are_unlike(&measures))?;
     let mut out = Vec::new(alloc);
-    push_chosen(alloc, &mut out, Choice::Except, &[], components)?;
+    push_chosen(&mut out, Choice::Except, &[], components)?;
     out.push(names_column(alloc, identifier, &measures)?)?;
     out.push(made(measure, Role::Measure, first_kind(&measures))?)?;
     shaped(alloc, out)

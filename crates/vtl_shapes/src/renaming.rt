@@ -31,7 +31,6 @@ fn new_name<'a>(renamings: &'a [Renaming], name: &'a Txt) -> &'a Txt
 }
 
 fn renamed(
-    alloc: Global,
     renamings: &[Renaming],
     component: &Component,
 ) -> Result<Component, AllocError>
@@ -41,12 +40,11 @@ fn renamed(
         name: new_name(renamings, &component.name).share()?,
         role: component.role,
         kind: component.kind,
-        codes: share_codes(alloc, &component.codes)?,
+        codes: share_codes(&component.codes)?,
     })
 }
 
 fn push_renamed(
-    alloc: Global,
     out: &mut Vec<Component>,
     renamings: &[Renaming],
     components: &[Component],
@@ -54,7 +52,7 @@ fn push_renamed(
     ensures { OnOk result (out.new.items ≡ out.old.items ++ map (renamed renamings.now) components.now) }
 {
     for component in components {
-        out.push(renamed(alloc, renamings, component)?)?;
+        out.push(renamed(renamings, component)?)?;
     }
     Ok(())
 }
@@ -68,6 +66,6 @@ pub fn rename(
     ensures { Answers (λ s. s) result (rename_form renamings.now structure.now.components) }
 {
     let mut out = Vec::new(alloc);
-    push_renamed(alloc, &mut out, renamings, structure.components.as_slice())?;
+    push_renamed(&mut out, renamings, structure.components.as_slice())?;
     shaped(alloc, out)
 }

@@ -48,7 +48,6 @@ fn target_of<'a>(name: &Txt, targets: &'a [Target]) -> Option<&'a Target>
 }
 
 fn calculated(
-    alloc: Global,
     targets: &[Target],
     component: &Component,
 ) -> Result<Component, AllocError>
@@ -60,12 +59,11 @@ fn calculated(
             target.role.unwrap_or(component.role),
             target.kind,
         ),
-        None => share_component(alloc, component),
+        None => share_component(component),
     }
 }
 
 fn push_calculated(
-    alloc: Global,
     out: &mut Vec<Component>,
     targets: &[Target],
     components: &[Component],
@@ -73,7 +71,7 @@ fn push_calculated(
     ensures { OnOk result (out.new.items ≡ out.old.items ++ map (calculated targets.now) components.now) }
 {
     for component in components {
-        out.push(calculated(alloc, targets, component)?)?;
+        out.push(calculated(targets, component)?)?;
     }
     Ok(())
 }
@@ -119,7 +117,7 @@ pub fn calc(alloc: Global, structure: &Structure, targets: &[Target]) -> Result<
 {
     let components = structure.components.as_slice();
     let mut out = Vec::new(alloc);
-    push_calculated(alloc, &mut out, targets, components)?;
+    push_calculated(&mut out, targets, components)?;
     push_new(&mut out, components, targets)?;
     shaped(alloc, out)
 }
@@ -136,7 +134,6 @@ pub fn aggr(
 {
     let mut out = Vec::new(alloc);
     push_chosen(
-        alloc,
         &mut out,
         choice,
         names,

@@ -4,7 +4,6 @@
 mod expressions;
 mod laws;
 mod parts;
-mod shared;
 mod statements;
 mod word_groups;
 
@@ -14,7 +13,6 @@ pub use parts::{
     Comp, Constant, DataPoints, ErrorPart, GroupPart, Keeping, Limit, Literal, Numeral, OrderPart,
     OverPart, Reference, RenamePart, SignedComp, SubPart,
 };
-pub use shared::Shared;
 pub use statements::{HierRule, PointRule, Script, Statement};
 pub use word_groups::{
     Addition, AggregateName, AssignKind, BasicOut, BinaryOp, CastKind, CheckOut, Comparison,

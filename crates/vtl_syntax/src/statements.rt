@@ -1,9 +1,9 @@
 // Scripts, statements and rules.
 ghost use Rattle.std.specs.Prelude.{◌≡◌, IfOk};
 
-use crate::{Addition, AssignKind, Comp, Comparison, ErrorPart, Expr, Shared, SignedComp};
+use crate::{Addition, AssignKind, Comp, Comparison, ErrorPart, Expr, SignedComp};
 use std::alloc::AllocError;
-use vtl_text::{List, Txt};
+use vtl_text::{List, Shared, Txt};
 
 /// A script. Its owners share one tree.
 #[derive(Drop)]

@@ -3,10 +3,9 @@ use Rattle.vtl_cell.specs.declared.cell.Cell.{Cell}
 use Rattle.vtl_cell.specs.declared.cell.Cell.TheVariants as c
 use Rattle.vtl_cell.specs.declared.operator.ScalarOp.{ScalarOp}
 use Rattle.vtl_cell.specs.declared.operator.ScalarOp.TheVariants as scalar
-use Rattle.vtl_tree.specs.Built.{Compared, Filter}
+use Rattle.vtl_tree.specs.Built.{Compared}
 use Rattle.vtl_tree.specs.declared.built_form.CompareOp.{CompareOp}
 use Rattle.vtl_tree.specs.declared.built_form.CompareOp.TheVariants as op
-use Rattle.vtl_tree.specs.declared.built_form.FilterStatement.{FilterStatement}
 use Rattle.vtl_tree.specs.declared.built_form.FilterCondition.{FilterCondition}
 use Rattle.vtl_tree.specs.declared.built_form.FilterLiteral.{FilterLiteral}
 use Rattle.vtl_tree.specs.declared.built_form.FilterLiteral.TheVariants as literal
@@ -18,9 +17,6 @@ literal_cell (literal.Text text) = c.Text text.now
 
 abbrev pub compared_view : FilterCondition → Compared
 compared_view s = record { component = s.component.now; op = s.op; literal = literal_cell s.literal }
-
-abbrev pub filter_view : FilterStatement → Filter
-filter_view s = record { result = s.result.now; operand = s.operand.now; condition = compared_view s.condition }
 
 -- the scalar operator that a comparison is
 abbrev pub scalar_op : CompareOp → ScalarOp

@@ -5,7 +5,6 @@ pub mod DataSet
 pub mod CompExp
 pub mod Kept
 pub mod Meaning
-pub mod Rows
 pub mod SameResult
 pub mod Seen
 pub mod Shown

@@ -10,7 +10,7 @@ use Rattle.vtl_cell.specs.Conversion.{as_kind}
 use Rattle.vtl_cell.specs.Scalars.{scalar_of}
 use Rattle.vtl_cell.specs.Row.{Row, column_of}
 use Rattle.vtl_cell.specs.Outcome.{Outcome, after}
-use Rattle.vtl_tree.specs.CompExp.{CompExp, CompExps, column, const, call, no_comp_exps, comp_exp}
+use Rattle.vtl_tree.specs.CompExp.{CompExp, CompExps, column, const, call, aggregate, no_comp_exps, comp_exp}
 
 -- the value of an operator at these operands, as a value of its kind
 abbrev pub result_of : Settings → ScalarOp → Kind → List Cell → Outcome Cell
@@ -48,6 +48,8 @@ abbrev mutual
   value p (column place name kind) row = Ok (column_of place row)
   value p (const v) row = Ok v
   value p (call o kind args) row = called p kind (values p args row) o
+  -- an aggregate has a value over a group, and none at a point; no typed expression over points holds one
+  value p (aggregate a kind) row = Ok c.Null
 
   -- of each operand
   pub values : Settings → CompExps → Row → List (Outcome Cell)

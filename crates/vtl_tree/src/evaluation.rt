@@ -14,7 +14,7 @@ use vtl_scalar::{ScalarErr, apply, to_kind};
 
 /// The value of an expression at a point, whose cells stand in column order: the operands are evaluated from left to
 /// right, and the first fault is the answer; of `if` the condition and the branch that it chooses, and not the other
-/// one. A column past the last cell is null.
+/// one. A column past the last cell is null, and so is an aggregate, which has a value over a group alone.
 #[tactic(auto, using(crate::proofs::Values::choice_has_three))]
 pub fn eval(alloc: Global, e: &CompExpr, row: &[Cell], p: &Profile) -> Result<Cell, ScalarErr>
     ensures { Answers result (value p.now (comp_exp_of e.now) row.now) }
@@ -25,6 +25,7 @@ pub fn eval(alloc: Global, e: &CompExpr, row: &[Cell], p: &Profile) -> Result<Ce
             None => Ok(Cell::Null),
         },
         CompExpr::Const(c) => Ok(clone_cell(c)?),
+        CompExpr::Aggregate { .. } => Ok(Cell::Null),
         CompExpr::Apply { op, kind, args } => {
             if is_choice(*op, args) {
                 return match first_chosen(eval(alloc, &args[0], row, p)?) {

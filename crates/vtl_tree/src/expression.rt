@@ -1,6 +1,6 @@
 // Expressions over the components of one point.
 
-use vtl_cell::{Cell, Kind, ScalarOp};
+use vtl_cell::{AggKind, Cell, Kind, ScalarOp};
 use vtl_text::Txt;
 
 /// An expression over the components of one point.
@@ -26,4 +26,20 @@ pub enum CompExpr {
         /// The operands, from left to right.
         args: Vec<CompExpr>,
     },
+    /// An aggregate of the points of a group, in the condition of groups.
+    Aggregate {
+        /// The aggregate.
+        call: AggCall,
+        /// The kind of the result.
+        kind: Kind,
+    },
+}
+
+/// An aggregate of the points of a group.
+#[derive(Drop)]
+pub struct AggCall {
+    /// The operator.
+    pub kind: AggKind,
+    /// The component, or none for the number of points.
+    pub component: Option<Txt>,
 }

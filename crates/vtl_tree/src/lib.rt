@@ -6,22 +6,15 @@ mod declarable;
 mod evaluation;
 mod expression;
 mod laws;
-mod plain;
 mod seen;
 mod structure;
 mod structures;
 
-pub use built_form::{
-    CompareOp, FilterCondition, FilterLiteral, FilterStatement, built, filter_statement,
-};
+pub use built_form::{CompareOp, FilterCondition, FilterLiteral};
 pub use declarable::is_declarable;
 pub use evaluation::eval;
-pub use expression::CompExpr;
+pub use expression::{AggCall, CompExpr};
 pub use laws::{filter_is_a_clause, points_are_a_map};
-pub use plain::filter_points;
 pub use seen::Seen;
 pub use structure::{Component, Role, Structure};
 pub use structures::{Structures, are_distinct};
-
-#[cfg(test)]
-mod tests;

@@ -6,7 +6,7 @@ ghost use Rattle.vtl_tree.specs.Shown.{shown};
 
 use std::alloc::{AllocError, Global};
 use vtl_cell::Kind;
-use vtl_text::{List, Txt};
+use vtl_text::{List, Shared, Txt};
 
 /// What a component is in its data set.
 #[derive(Clone, Copy, Debug, PartialEq, Eq)]
@@ -20,7 +20,7 @@ pub enum Role {
 }
 
 /// A component of a structure.
-#[derive(Debug, Drop)]
+#[derive(Drop)]
 pub struct Component {
     /// Its name, which no other component of the structure has.
     pub name: Txt,
@@ -29,11 +29,11 @@ pub struct Component {
     /// The kind of its values.
     pub kind: Kind,
     /// The texts that it may have, for a text identifier that lists them.
-    pub codes: Option<List<Txt>>,
+    pub codes: Option<Shared<Txt>>,
 }
 
 /// The structure of a data set: 1 to 64 components with distinct names.
-#[derive(Debug, Drop)]
+#[derive(Drop)]
 pub struct Structure {
     /// The components, in the order in which they were declared.
     pub components: List<Component>,

@@ -1,3 +1,2 @@
 pub mod KindLemmas
 pub mod LiteralLemmas
-pub mod WellTypedLemmas

@@ -2,7 +2,7 @@
 use Rattle.std.proofs.Common.{suc, ◌≡◌, ◌<◌, ◌&&◌, List, [], ◌∷◌, Bool, true, length, refl, ap, arith}
 use Rattle.std.specs.Prelude.{map}
 use Rattle.vtl_syntax.specs.Trees.{Exp, exps_of}
-use Rattle.vtl_typing.specs.Typing.{exps_length}
+use Rattle.vtl_typing.specs.Operators.{exps_length}
 use Rattle.vtl_typing.specs.Literals.{second_passes, third_passes}
 
 pub second_short : {A : Type 0} (test : Exp → Bool) (view : A → Exp) (xs : List A) → length xs < 2 → second_passes test (exps_of (map view xs)) ≡ true

@@ -1,10 +1,6 @@
 pub mod Calls
+pub mod Columns
 pub mod Kinds
 pub mod Literals
-pub mod Misplaced
-pub mod Operands
 pub mod Operators
-pub mod Targets
-pub mod Typing
-pub mod WellTyped
 pub mod Windows

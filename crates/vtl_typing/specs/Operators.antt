@@ -1,7 +1,9 @@
 -- The scalar operators that signs and functions are.
-use Rattle.std.specs.Prelude.{ℕ, ◌==◌, Bool, ◌||◌}
+use Rattle.std.specs.Prelude.{ℕ, suc, ◌==◌, Bool, ◌||◌}
 use Rattle.vtl_cell.specs.declared.operator.ScalarOp.{ScalarOp}
 use Rattle.vtl_cell.specs.declared.operator.ScalarOp.TheVariants as op
+use Rattle.vtl_syntax.specs.Trees as tree
+use Rattle.vtl_syntax.specs.Trees.{Exps}
 use Rattle.vtl_syntax.specs.declared.word_groups.BinaryOp.{BinaryOp}
 use Rattle.vtl_syntax.specs.declared.word_groups.BinaryOp.TheVariants as sign
 use Rattle.vtl_syntax.specs.declared.word_groups.FunctionName.{FunctionName}
@@ -47,6 +49,10 @@ of_function function.Length = op.Length
 of_function function.Isnull = op.IsNull
 of_function function.Nvl = op.ValueOr
 of_function function.Between = op.Between
+
+abbrev pub exps_length : Exps → ℕ
+exps_length tree.no_exps = 0
+exps_length (tree.exp e es) = suc (exps_length es)
 
 -- whether a function takes so many operands
 abbrev pub takes : FunctionName → ℕ → Bool

@@ -31,6 +31,7 @@ pub fn kind(e: &CompExpr) -> Kind
         CompExpr::Column { kind, .. } => *kind,
         CompExpr::Const(cell) => cell_kind(cell),
         CompExpr::Apply { kind, .. } => *kind,
+        CompExpr::Aggregate { kind, .. } => *kind,
     }
 }
 

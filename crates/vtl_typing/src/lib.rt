@@ -1,24 +1,16 @@
-//! The typing of component expressions: their kinds, and the rules that they can break.
+//! The parts of component expressions: literals, names, operators with the kinds that they take and give, and windows.
 #![tactic(auto)]
 
 mod calls;
+mod columns;
 mod kinds;
-mod laws;
 mod literals;
-mod misplaced;
-mod operand;
 mod operators;
-mod targets;
-mod walk;
 mod windows;
 
-pub use calls::call;
+pub use calls::{call, kinds_in};
+pub use columns::{column, name};
 pub use kinds::{kind, meets, operator_kind, shared_kind};
-pub use laws::typed_expressions_are_well_typed;
-pub use literals::{constant, literal, literal_kind, literals_fit, set};
-pub use misplaced::{aggregate, aggregates, analytic, default, shift, takes_one, takes_value};
-pub use operand::{Operand, and_operand, column, name};
+pub use literals::{constant, is_null_kind, literal, literal_kind, literals_fit, set, still_wanted, wanted_or};
 pub use operators::{binary_operator, function_operator, takes, unary_operator};
-pub use targets::target_typing;
-pub use walk::{DataForms, comp_typing};
 pub use windows::{points, window};

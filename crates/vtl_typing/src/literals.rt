@@ -164,7 +164,7 @@ pub fn constant(alloc: Global, profile: &Profile, constant: &Constant) -> Result
 }
 
 // The kind that the members of a set still have to meet.
-pub(crate) fn still_wanted(is_free: bool, wanted: Kind, given: Kind) -> Option<Kind>
+pub fn still_wanted(is_free: bool, wanted: Kind, given: Kind) -> Option<Kind>
     ensures { result ≡ still_wanted is_free wanted given }
 {
     if is_free {
@@ -176,7 +176,7 @@ pub(crate) fn still_wanted(is_free: bool, wanted: Kind, given: Kind) -> Option<K
     }
 }
 
-pub(crate) fn wanted_or(kind: Option<Kind>) -> Result<Kind, TypeErr>
+pub fn wanted_or(kind: Option<Kind>) -> Result<Kind, TypeErr>
     ensures { Answers (λ kind. kind) result (wanted_or kind) }
 {
     match kind {
@@ -185,7 +185,7 @@ pub(crate) fn wanted_or(kind: Option<Kind>) -> Result<Kind, TypeErr>
     }
 }
 
-pub(crate) fn is_null_kind(kind: Kind) -> bool
+pub fn is_null_kind(kind: Kind) -> bool
     ensures { result ≡ is_null_kind kind }
 {
     match kind {

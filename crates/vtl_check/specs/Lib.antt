@@ -1,0 +1,3 @@
+pub mod Checked
+pub mod Script
+pub mod Typing

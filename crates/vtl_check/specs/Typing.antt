@@ -1,0 +1,161 @@
+-- The typing of expressions: parts in written order, operands before operators; the first part that breaks a rule is the fault.
+use Rattle.std.specs.Prelude.{ℕ, Bool, true, false, ◌||◌, List, [], ◌∷◌, ◌++◌, Option, Some, None, Result, Ok, Err}
+use Rattle.std.specs.Option.{is_some}
+use Rattle.vtl_cell.specs.declared.operator.ScalarOp.TheVariants as op
+use Rattle.vtl_syntax.specs.Trees as tree
+use Rattle.vtl_syntax.specs.Trees.{Calcs, ClauseTree, Exp, Exps, MaybeExp, MaybeTargets, Parts, TargetsTree}
+use Rattle.vtl_syntax.specs.declared.parts.Comp.{Comp}
+use Rattle.vtl_syntax.specs.declared.parts.GroupPart.{GroupPart}
+use Rattle.vtl_syntax.specs.declared.parts.Keeping.{Keeping}
+use Rattle.vtl_syntax.specs.declared.parts.RenamePart.{RenamePart}
+use Rattle.vtl_syntax.specs.declared.word_groups.AggregateName.{AggregateName}
+use Rattle.vtl_tree.specs.CompExp.{CompExp}
+use Rattle.vtl_nodes.specs.Trees.{ItemTree, NodeTree, OperandTree, ValueTree, scalar}
+use Rattle.vtl_rule_tests.specs.Rules.{◌>>=◌}
+use Rattle.vtl_typing.specs.Kinds.{exp_kind}
+use Rattle.vtl_typing.specs.Literals.{literals_fit}
+use Rattle.vtl_typing.specs.Operators.{exps_length, of_binary, of_function, of_unary, takes}
+use Rattle.vtl_forms.specs.Operators.{operator_form, set_form}
+use Rattle.vtl_forms.specs.Places.{Env, Written, at_groups, at_points, constant_form, member_inside, name_typed, written_typed}
+use Rattle.vtl_forms.specs.Sets.{check_form, check_spec, difference_form, exists_form, member_of, sets_form}
+use Rattle.vtl_forms.specs.Typed.{TypedTree, value, dataset, components_in, condition_in, dataset_in, value_in}
+use Rattle.vtl_forms.specs.declared.places.Inside.{Inside}
+use Rattle.vtl_forms.specs.declared.places.Joined.{Joined}
+use Rattle.vtl_forms.specs.declared.places.Place.{Place}
+use Rattle.vtl_forms.specs.declared.places.Place.TheVariants as place
+use Rattle.vtl_groups.specs.Aggregates.{aggregate_node, group_operand, grouping_typed, no_dataset, written_call}
+use Rattle.vtl_groups.specs.Windowed.{over_typed, target_typed}
+use Rattle.vtl_clauses.specs.Clauses.{filter_form, keeping_form, pivot_of, renaming_form, sub_form, unpivot_of}
+use Rattle.vtl_clauses.specs.JoinOperands.{PartTyped, joined_node, joined_of, last_naming, operands_in, with_part}
+use Rattle.vtl_clauses.specs.Targets.{aggr_clause, aggr_name, calc_clause, calc_name, with_item, with_made}
+use Rattle.vtl_clauses.specs.declared.targets.Made.{Made}
+
+-- one more operand behind others
+abbrev pub behind : List TypedTree → TypedTree → Result (List TypedTree) ℕ
+behind done x = Ok (done ++ x ∷ [])
+
+abbrev pub as_dataset : Result NodeTree ℕ → Result TypedTree ℕ
+as_dataset typing = typing >>= λ n. Ok (dataset n)
+
+abbrev pub scalar_value : TypedTree → Result ValueTree ℕ
+scalar_value x = value_in x >>= λ v. Ok (scalar v)
+
+abbrev pub has_exp : MaybeExp → Bool
+has_exp tree.no_exp = false
+has_exp (tree.some_exp e) = true
+
+-- clauses of a join's body that may be left out
+abbrev pub keeping_step : Option Joined → Option Keeping → NodeTree → Result NodeTree ℕ
+keeping_step j None n = Ok n
+keeping_step j (Some k) n = keeping_form j n k
+
+abbrev pub renaming_step : Option Joined → Option (List RenamePart) → NodeTree → Result NodeTree ℕ
+renaming_step j None n = Ok n
+renaming_step j (Some rs) n = renaming_form j n rs
+
+abbrev mutual
+  pub typed : Env → Place → Exp → Result TypedTree ℕ
+  typed env at (tree.if_then c a b) = typed env at c >>= behind [] >>= λ xs. typed env at a >>= behind xs >>= λ ys. typed env at b >>= behind ys >>= operator_form at op.If true true
+  typed env at (tree.binary l o r) = typed env at l >>= behind [] >>= λ xs. typed env at r >>= behind xs >>= operator_form at (of_binary o) true true
+  typed env at (tree.in_set e negated ls) = typed env at e >>= set_form env.settings at negated ls
+  typed env at (tree.unary o e) = typed env at e >>= behind [] >>= operator_form at (of_unary o) true true
+  typed env at (tree.with_clause e c) = typed env place.Outside e >>= dataset_in >>= λ n. as_dataset (clause_typed env n c)
+  typed env at (tree.member e c) = member_typed env at (member_inside at e c) e c
+  typed env at (tree.component c) = name_typed env at c
+  typed env at (tree.constant c) = constant_form env.settings c
+  typed env at (tree.brackets e) = typed env at e
+  typed env at (tree.function f es) = operands_typed env at [] es >>= operator_form at (of_function f) (takes f (exps_length es)) (literals_fit env.settings f es)
+  typed env at (tree.aggregate f e g h) = aggregate_typed env at f g e h (group_operand at e)
+  typed env at (tree.aggregate_over f e o) = maybe_typed env at e >>= over_typed env.settings at (tree.aggregate_over f e o)
+  typed env at (tree.value_window f e o) = typed env at e >>= λ x. over_typed env.settings at (tree.value_window f e o) (Some x)
+  typed env at (tree.shift f e n l o) = typed env at e >>= λ x. over_typed env.settings at (tree.shift f e n l o) (Some x)
+  typed env at (tree.rank o) = over_typed env.settings at (tree.rank o) None
+  typed env at (tree.set_op f es) = operands_typed env place.Outside [] es >>= sets_form f
+  typed env at (tree.difference f a b) = typed env place.Outside a >>= λ x. typed env place.Outside b >>= difference_form f x
+  typed env at (tree.exists_in a b r) = typed env place.Outside a >>= λ x. typed env place.Outside b >>= exists_form r x
+  typed env at (tree.check e err i o) = typed env place.Outside e >>= λ x. check_spec env.settings err o >>= λ s. maybe_typed env place.Outside i >>= check_form s x
+  typed env at (tree.check_datapoint e n o) = typed env place.Outside e >>= λ x. Err 3
+  typed env at (tree.check_hierarchy e n r m d o) = typed env place.Outside e >>= λ x. Err 3
+  typed env at (tree.hierarchy e n r m i o) = typed env place.Outside e >>= λ x. Err 3
+  typed env at (tree.join kind ps u f m k rs) = parts_typed env [] ps >>= operands_in >>= λ os. joined_node kind u os >>= λ n. as_dataset (body_typed env (joined_of kind os) f m k rs n)
+
+  -- operands behind others
+  pub operands_typed : Env → Place → List TypedTree → Exps → Result (List TypedTree) ℕ
+  operands_typed env at done tree.no_exps = Ok done
+  operands_typed env at done (tree.exp e es) = typed env at e >>= behind done >>= λ xs. operands_typed env at xs es
+
+  -- an operand, if there is one
+  pub maybe_typed : Env → Place → MaybeExp → Result (Option TypedTree) ℕ
+  maybe_typed env at tree.no_exp = Ok None
+  maybe_typed env at (tree.some_exp e) = typed env at e >>= λ x. Ok (Some x)
+
+  -- `operand#component`: a component of the place, or a measure of a data set
+  pub member_typed : Env → Place → Option (Inside × Written) → Exp → Comp → Result TypedTree ℕ
+  member_typed env at (Some w) e c = written_typed w.0 w.1
+  member_typed env at None e c = typed env place.Outside e >>= dataset_in >>= member_of c
+
+  -- an aggregate: over groups of a component, else of a data set
+  pub aggregate_typed : Env → Place → AggregateName → Option GroupPart → MaybeExp → MaybeExp → Option (Inside × Written) → Result TypedTree ℕ
+  aggregate_typed env at f g e h (Some w) = written_call w.0 f (is_some g || has_exp h) w.1
+  aggregate_typed env at f g e h None = maybe_typed env at e >>= grouped_typed env at f g h
+
+  pub grouped_typed : Env → Place → AggregateName → Option GroupPart → MaybeExp → Option TypedTree → Result TypedTree ℕ
+  grouped_typed env at f g h (Some (dataset n)) = grouping_typed (components_in n) g >>= λ names. having_typed env None n names h >>= aggregate_node f g n
+  grouped_typed env at f g h (Some (value v)) = no_dataset at f (is_some g || has_exp h) (Some (exp_kind v))
+  grouped_typed env at f g h None = no_dataset at f (is_some g || has_exp h) None
+
+  -- the condition of groups
+  pub having_typed : Env → Option Joined → NodeTree → List (List ℕ) → MaybeExp → Result (Option CompExp) ℕ
+  having_typed env j n names tree.no_exp = Ok None
+  having_typed env j n names (tree.some_exp e) = typed env (place.Inside (at_groups j n names)) e >>= condition_in >>= λ c. Ok (Some c)
+
+  pub clause_typed : Env → NodeTree → ClauseTree → Result NodeTree ℕ
+  clause_typed env n (tree.filter e) = filter_typed env None n e
+  clause_typed env n (tree.targets m) = targets_typed env None n m
+  clause_typed env n (tree.keeping k) = keeping_form None n k
+  clause_typed env n (tree.rename rs) = renaming_form None n rs
+  clause_typed env n (tree.sub ss) = sub_form env.settings n ss
+  clause_typed env n (tree.pivot id m) = pivot_of id m n
+  clause_typed env n (tree.unpivot id m) = unpivot_of id m n
+
+  pub filter_typed : Env → Option Joined → NodeTree → Exp → Result NodeTree ℕ
+  filter_typed env j n e = typed env (place.Inside (at_points j n)) e >>= filter_form n
+
+  pub targets_typed : Env → Option Joined → NodeTree → TargetsTree → Result NodeTree ℕ
+  targets_typed env j n (tree.calc cs) = calcs_typed env (place.Inside (at_points j n)) n [] cs >>= calc_clause n
+  targets_typed env j n (tree.aggr cs g h) = aggrs_typed env (place.Inside (at_groups j n [])) [] cs >>= λ made. grouping_typed (components_in n) g >>= λ names. having_typed env j n names h >>= aggr_clause g n made
+
+  -- targets of `calc` behind others: each name, then its value
+  pub calcs_typed : Env → Place → NodeTree → List ItemTree → Calcs → Result (List ItemTree) ℕ
+  calcs_typed env at n done tree.no_calcs = Ok done
+  calcs_typed env at n done (tree.calc_part r c e cs) = calc_name n done c >>= λ u. calc_value env at e >>= with_item r c done >>= λ items. calcs_typed env at n items cs
+
+  -- the value of a target: an analytic call may be the whole of it
+  pub calc_value : Env → Place → Exp → Result ValueTree ℕ
+  calc_value env at (tree.aggregate_over f e o) = maybe_typed env at e >>= target_typed env.settings at (tree.aggregate_over f e o)
+  calc_value env at (tree.value_window f e o) = typed env at e >>= λ x. target_typed env.settings at (tree.value_window f e o) (Some x)
+  calc_value env at (tree.shift f e n l o) = typed env at e >>= λ x. target_typed env.settings at (tree.shift f e n l o) (Some x)
+  calc_value env at (tree.rank o) = target_typed env.settings at (tree.rank o) None
+  calc_value env at e = typed env at e >>= scalar_value
+
+  -- targets of `aggr` behind others
+  pub aggrs_typed : Env → Place → List Made → Calcs → Result (List Made) ℕ
+  aggrs_typed env at done tree.no_calcs = Ok done
+  aggrs_typed env at done (tree.calc_part r c e cs) = aggr_name done c >>= λ u. typed env at e >>= with_made r c e done >>= λ made. aggrs_typed env at made cs
+
+  -- operands of a join behind others
+  pub parts_typed : Env → List PartTyped → Parts → Result (List PartTyped) ℕ
+  parts_typed env done tree.no_parts = Ok done
+  parts_typed env done (tree.join_part e alias ps) = typed env place.Outside e >>= with_part done e alias >>= λ xs. parts_typed env xs ps
+
+  -- the body of a join, and its last naming
+  pub body_typed : Env → Joined → MaybeExp → MaybeTargets → Option Keeping → Option (List RenamePart) → NodeTree → Result NodeTree ℕ
+  body_typed env j f m k rs n = filter_step env j n f >>= λ a. targets_step env j a m >>= keeping_step (Some j) k >>= renaming_step (Some j) rs >>= last_naming j
+
+  pub filter_step : Env → Joined → NodeTree → MaybeExp → Result NodeTree ℕ
+  filter_step env j n tree.no_exp = Ok n
+  filter_step env j n (tree.some_exp e) = filter_typed env (Some j) n e
+
+  pub targets_step : Env → Joined → NodeTree → MaybeTargets → Result NodeTree ℕ
+  targets_step env j n tree.no_targets = Ok n
+  targets_step env j n (tree.some_targets m) = targets_typed env (Some j) n m

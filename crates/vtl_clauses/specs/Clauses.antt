@@ -1,0 +1,118 @@
+-- The clauses, behind the parts that are expressions. The clauses of a join's body see the operands of the join.
+use Rattle.std.specs.Prelude.{ℕ, false, List, [], ◌∷◌, ◌++◌, Option, Some, None, option_and_then, Result, Ok, map}
+use Rattle.std.specs.Result.{result_ok}
+use Rattle.vtl_decimal.specs.Settings.{Settings}
+use Rattle.vtl_cell.specs.Conversion.{as_kind}
+use Rattle.vtl_cell.specs.declared.cell.Cell.{Cell}
+use Rattle.vtl_cell.specs.declared.kind.Kind.{Kind}
+use Rattle.vtl_syntax.specs.declared.parts.Comp.{Comp}
+use Rattle.vtl_syntax.specs.declared.parts.Keeping.{Keeping}
+use Rattle.vtl_syntax.specs.declared.parts.Keeping.TheVariants as keeping
+use Rattle.vtl_syntax.specs.declared.parts.Literal.{Literal}
+use Rattle.vtl_syntax.specs.declared.parts.Reference.{Reference}
+use Rattle.vtl_syntax.specs.declared.parts.RenamePart.{RenamePart}
+use Rattle.vtl_syntax.specs.declared.parts.SubPart.{SubPart}
+use Rattle.vtl_tree.specs.declared.structure.Component.{Component}
+use Rattle.vtl_tree.specs.declared.structure.Structure.{Structure}
+use Rattle.vtl_nodes.specs.Trees as nodes
+use Rattle.vtl_nodes.specs.Trees.{FormTree, NodeTree, node, structure_of}
+use Rattle.vtl_nodes.specs.declared.clauses.SubItem.{SubItem}
+use Rattle.vtl_rule_tests.specs.Rules.{◌>>=◌}
+use Rattle.vtl_shapes.specs.Choices.{chosen}
+use Rattle.vtl_shapes.specs.Clauses.{pivot_form, rename_form, unpivot_form}
+use Rattle.vtl_shapes.specs.Names.{known}
+use Rattle.vtl_shapes.specs.Shape.{shaped}
+use Rattle.vtl_shapes.specs.declared.choices.Choice.{Choice}
+use Rattle.vtl_shapes.specs.declared.choices.Choice.TheVariants as choice
+use Rattle.vtl_shapes.specs.declared.names.Wanted.{Wanted}
+use Rattle.vtl_shapes.specs.declared.names.Wanted.TheVariants as wanted
+use Rattle.vtl_shapes.specs.declared.renaming.Renaming.{Renaming}
+use Rattle.vtl_typing.specs.Columns.{name_of}
+use Rattle.vtl_typing.specs.Literals.{literal_cell, literal_kind, still_wanted, valued, wanted_or}
+use Rattle.vtl_forms.specs.Places.{Written, name_written, written_by}
+use Rattle.vtl_forms.specs.Typed.{TypedTree, components_in, condition_in}
+use Rattle.vtl_forms.specs.declared.places.Joined.{Joined}
+
+abbrev pub made_of : FormTree → Structure → Result NodeTree ℕ
+made_of form s = Ok (node s form)
+
+-- `filter`
+unfoldable pub filter_form : NodeTree → TypedTree → Result NodeTree ℕ
+filter_form n x = condition_in x >>= λ e. made_of (nodes.filter n e) (structure_of n)
+
+-- ---- `keep` and `drop`
+-- names in written order behind others, as the wanted role asks of each
+abbrev pub names_typed : Option Joined → Wanted → List Component → List (List ℕ) → List Reference → Result (List (List ℕ)) ℕ
+names_typed j w xs before [] = Ok before
+names_typed j w xs before (r ∷ rs) = name_written j (written_by r) >>= λ name. known w xs before name >>= λ x. names_typed j w xs (before ++ name ∷ []) rs
+
+abbrev pub keeping_choice : Keeping → Choice
+keeping_choice (keeping.Keep rs) = choice.Keep
+keeping_choice (keeping.Drop rs) = choice.Drop
+
+abbrev pub references_in : Keeping → List Reference
+references_in (keeping.Keep rs) = rs
+references_in (keeping.Drop rs) = rs
+
+abbrev pub keeping_tree : Keeping → NodeTree → List (List ℕ) → FormTree
+keeping_tree (keeping.Keep rs) n names = nodes.keep n names
+keeping_tree (keeping.Drop rs) n names = nodes.drop_named n names
+
+abbrev pub kept_of : Keeping → NodeTree → List (List ℕ) → Result NodeTree ℕ
+kept_of k n names = shaped (chosen (keeping_choice k) names (components_in n)) >>= made_of (keeping_tree k n names)
+
+unfoldable pub keeping_form : Option Joined → NodeTree → Keeping → Result NodeTree ℕ
+keeping_form j n k = names_typed j wanted.Value (components_in n) [] (references_in k) >>= kept_of k n
+
+-- ---- `rename`
+abbrev pub renaming_to : RenamePart → List ℕ → Renaming
+renaming_to r name = record { from = name; to = name_of r.to }
+
+abbrev pub old_names : List Renaming → List (List ℕ)
+old_names rs = map (λ r. r.from) rs
+
+abbrev pub renamings_typed : Option Joined → List Component → List Renaming → List RenamePart → Result (List Renaming) ℕ
+renamings_typed j xs done [] = Ok done
+renamings_typed j xs done (r ∷ rs) =
+    name_written j (written_by r.from) >>= λ name. known wanted.Any xs (old_names done) name
+    >>= λ x. renamings_typed j xs (done ++ renaming_to r name ∷ []) rs
+
+abbrev pub renamed_of : NodeTree → List Renaming → Result NodeTree ℕ
+renamed_of n rs = rename_form rs (components_in n) >>= made_of (nodes.rename n rs)
+
+unfoldable pub renaming_form : Option Joined → NodeTree → List RenamePart → Result NodeTree ℕ
+renaming_form j n rs = renamings_typed j (components_in n) [] rs >>= renamed_of n
+
+-- ---- `sub`
+-- the value of a literal as one of this kind
+abbrev pub cell_as : Settings → Kind → Option Cell → Option Cell
+cell_as p kind cell = option_and_then (λ c. result_ok (as_kind p kind c)) cell
+
+-- an identifier's value: a literal of its kind (7) that has a value (8)
+abbrev pub sub_value : Settings → Kind → Literal → Result Cell ℕ
+sub_value p kind l = wanted_or (still_wanted false kind (literal_kind l)) >>= λ wanted. valued (cell_as p kind (literal_cell p l))
+
+abbrev pub sub_item : List ℕ → Cell → SubItem
+sub_item name cell = record { id = name; value = cell }
+
+abbrev pub sub_names : List SubItem → List (List ℕ)
+sub_names items = map (λ i. i.id) items
+
+abbrev pub subs_typed : Settings → List Component → List SubItem → List SubPart → Result (List SubItem) ℕ
+subs_typed p xs done [] = Ok done
+subs_typed p xs done (s ∷ ss) =
+    known wanted.Identifier xs (sub_names done) (name_of s.component) >>= λ x. sub_value p x.kind s.value
+    >>= λ cell. subs_typed p xs (done ++ sub_item (name_of s.component) cell ∷ []) ss
+
+abbrev pub sub_of : NodeTree → List SubItem → Result NodeTree ℕ
+sub_of n items = shaped (chosen choice.Drop (sub_names items) (components_in n)) >>= made_of (nodes.sub n items)
+
+unfoldable pub sub_form : Settings → NodeTree → List SubPart → Result NodeTree ℕ
+sub_form p n ss = subs_typed p (components_in n) [] ss >>= sub_of n
+
+-- ---- `pivot` and `unpivot`
+unfoldable pub pivot_of : Comp → Comp → NodeTree → Result NodeTree ℕ
+pivot_of id m n = pivot_form (name_of id) (name_of m) (components_in n) >>= made_of (nodes.pivot n (name_of id) (name_of m))
+
+unfoldable pub unpivot_of : Comp → Comp → NodeTree → Result NodeTree ℕ
+unpivot_of id m n = unpivot_form (name_of id) (name_of m) (components_in n) >>= made_of (nodes.unpivot n (name_of id) (name_of m))

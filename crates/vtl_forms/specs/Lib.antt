@@ -1,0 +1,4 @@
+pub mod Operators
+pub mod Places
+pub mod Sets
+pub mod Typed
