@@ -1,14 +1,18 @@
 // How the points of a data set form groups.
-ghost use Rattle.std.specs.Prelude.{◌≡◌, IfOk};
+ghost use Rattle.std.specs.Prelude.{◌≡◌, ◌++◌, IfOk, OnOk, map};
 ghost use Rattle.vtl_rule_tests.specs.Answers.{Answers};
-ghost use Rattle.vtl_groups.specs.Aggregates.{choice_of, grouping_choice, grouping_names, grouping_typed};
+ghost use Rattle.vtl_shapes.specs.Choices.{chosen, is_chosen};
+ghost use Rattle.vtl_tree.specs.Structure.{names_of};
+ghost use Rattle.vtl_typing.specs.Columns.{name_of};
+ghost use Rattle.vtl_groups.specs.Aggregates.{choice_of, grouping_choice, grouping_names, grouping_of, grouping_typed};
 
 use std::alloc::{AllocError, Global};
 use vtl_rule_tests::TypeErr;
-use vtl_shapes::Choice;
-use vtl_syntax::{GroupKind, GroupPart};
+use vtl_shapes::{Choice, Wanted, check_names, is_among, is_identifier};
+use vtl_syntax::{Comp, GroupKind, GroupPart};
 use vtl_text::{List, Txt};
 use vtl_tree::Component;
+use vtl_typing::name;
 
 fn choice_of(kind: GroupKind) -> Choice
     ensures { result ≡ choice_of kind }
@@ -29,11 +33,65 @@ pub fn grouping_choice(group: &Option<GroupPart>) -> Choice
     }
 }
 
+fn names_of(alloc: Global, components: &[Comp]) -> Result<Vec<Txt>, AllocError>
+    ensures { IfOk result (λ names. names.items ≡ map name_of components.now) }
+{
+    let mut names = Vec::new(alloc);
+    for component in components {
+        names.push(name(component).share()?)?;
+    }
+    Ok(names)
+}
+
 /// The names of a grouping, as they are written.
 pub fn grouping_names(alloc: Global, group: &Option<GroupPart>) -> Result<Vec<Txt>, AllocError>
     ensures { IfOk result (λ names. names.items ≡ grouping_names group.now) }
 {
-    Err(AllocError)
+    match group {
+        Some(group) => names_of(alloc, group.names.as_slice()),
+        None => Ok(Vec::new(alloc)),
+    }
+}
+
+fn is_chosen(choice: Choice, names: &[Txt], component: &Component) -> bool
+    ensures { result ≡ is_chosen choice names.now component.now }
+{
+    match choice {
+        Choice::Keep => is_identifier(component) || is_among(&component.name, names),
+        Choice::Drop => !is_among(&component.name, names),
+        Choice::By => is_identifier(component) && is_among(&component.name, names),
+        Choice::Except => is_identifier(component) && !is_among(&component.name, names),
+    }
+}
+
+fn chosen_names(
+    alloc: Global,
+    choice: Choice,
+    names: &[Txt],
+    components: &[Component],
+) -> Result<Vec<Txt>, AllocError>
+    ensures { IfOk result (λ out. out.items ≡ names_of (chosen choice names.now components.now)) }
+{
+    let mut out = Vec::new(alloc);
+    for component in components {
+        if is_chosen(choice, names, component) {
+            out.push(component.name.share()?)?;
+        }
+    }
+    Ok(out)
+}
+
+/// The identifiers by which groups are formed, where the names of the grouping are known to be right.
+pub(crate) fn grouping_of(
+    alloc: Global,
+    components: &[Component],
+    group: &Option<GroupPart>,
+) -> Result<List<Txt>, AllocError>
+    ensures { IfOk result (λ names. names ≡ grouping_of group.now components.now) }
+{
+    let names = grouping_names(alloc, group)?;
+    let chosen = chosen_names(alloc, grouping_choice(group), &names, components)?;
+    Ok(List::of(chosen))
 }
 
 /// The identifiers by which groups are formed, in the operand's order. A name breaks rules 4, 5 and 6.
@@ -44,5 +102,7 @@ pub fn grouping(
 ) -> Result<List<Txt>, TypeErr>
     ensures { Answers (λ names. names) result (grouping_typed components.now group.now) }
 {
-    Err(TypeErr::OutOfMemory)
+    let names = grouping_names(alloc, group)?;
+    check_names(Wanted::Identifier, components, &names)?;
+    Ok(grouping_of(alloc, components, group)?)
 }

@@ -2,7 +2,9 @@
 #![tactic(auto)]
 
 mod aggregates;
+mod beside;
 mod groups;
+mod kinds;
 mod windowed;
 
 pub use aggregates::{aggregate, group_operand, no_dataset, written_call};
