@@ -18,6 +18,7 @@ use Rattle.vtl_syntax.specs.declared.word_groups.ShiftName.TheVariants as shift
 use Rattle.vtl_syntax.specs.declared.word_groups.ValueWindowName.{ValueWindowName}
 use Rattle.vtl_syntax.specs.declared.word_groups.ValueWindowName.TheVariants as window
 use Rattle.vtl_tree.specs.declared.structure.Component.{Component}
+use Rattle.vtl_tree.specs.declared.structure.Structure.{Structure}
 use Rattle.vtl_tree.specs.CompExp as exp
 use Rattle.vtl_tree.specs.CompExp.{CompExp}
 use Rattle.vtl_nodes.specs.Trees as nodes
@@ -37,9 +38,9 @@ use Rattle.vtl_forms.specs.Typed.{TypedTree, value, dataset, beside_kind, compon
 use Rattle.vtl_forms.specs.declared.places.Place.{Place}
 use Rattle.vtl_forms.specs.declared.places.Place.TheVariants as place
 use Rattle.vtl_groups.specs.Aggregates.{aggregate_kind, is_number, is_unfit}
-use Rattle.vtl_groups.specs.declared.windowed.Call.{Call}
-use Rattle.vtl_groups.specs.declared.windowed.Needed.{Needed}
-use Rattle.vtl_groups.specs.declared.windowed.Needed.TheVariants as needed
+use Rattle.vtl_groups.specs.declared.calls.Call.{Call}
+use Rattle.vtl_groups.specs.declared.calls.Needed.{Needed}
+use Rattle.vtl_groups.specs.declared.calls.Needed.TheVariants as needed
 
 -- ---- the calls: their operator, the kinds that they take, and what they ask of a window
 -- the analytic operator that an aggregate is; a median is none
@@ -138,11 +139,14 @@ abbrev pub or_count : Option AnalyticOp → AnalyticOp
 or_count (Some o) = o
 or_count None = op.Count
 
+-- the structure that a call gives, with a window that suits it
+unfoldable pub over_structure : Exp → Call → Window → List Component → Result Structure ℕ
+over_structure e call w xs =
+    measured_form outcome.All (of_measure e) true choice.Except [] xs
+    >>= λ s. ruled ((16, is_misplaced call.op) ∷ (16, not (suits call.needed w)) ∷ []) s
+
 unfoldable pub over_node : Exp → Call → Window → NodeTree → Result TypedTree ℕ
-over_node e call w a =
-    measured_form outcome.All (of_measure e) true choice.Except [] (components_in a)
-    >>= λ s. ruled ((16, is_misplaced call.op) ∷ (16, not (suits call.needed w)) ∷ []) (tt {0})
-    >>= λ u. made_of (nodes.analytic_of a (nodes.of_measures (or_count call.op) w)) s
+over_node e call w a = over_structure e call w (components_in a) >>= made_of (nodes.analytic_of a (nodes.of_measures (or_count call.op) w))
 
 -- ---- of a value
 -- whether the operand is missing or of a kind that does not fit
@@ -178,9 +182,13 @@ over_form p e (Some (dataset n)) call w = over_node e call w n
 over_form p e (Some (value v)) call w = Err (misuse_rule p e (Some (exp_kind v)))
 over_form p e None call w = Err (misuse_rule p e None)
 
+-- the other parts of a call, behind its operand, and its window
+unfoldable pub over_parts : Settings → Place → Exp → Option TypedTree → Result (Call × Window) ℕ
+over_parts p at e x = call_typed p e (kind_beside x) >>= λ call. window_typed p (over_columns at x) (over_of e) >>= λ w. Ok (call, w)
+
 -- an analytic call that is no whole target, behind its operand: the other parts, the window, and then the call
 unfoldable pub over_typed : Settings → Place → Exp → Option TypedTree → Result TypedTree ℕ
-over_typed p at e x = call_typed p e (kind_beside x) >>= λ call. window_typed p (over_columns at x) (over_of e) >>= over_form at e x call
+over_typed p at e x = over_parts p at e x >>= λ parts. over_form at e x parts.0 parts.1
 
 -- ---- as a target of `calc`
 -- the operand is a component, with or without an alias, and nothing else
@@ -232,4 +240,4 @@ target_form e (Some (value v)) call w = value_call e v call w
 target_form e None call w = cond (is_rank e) (rank_call call w) (Err 7)
 
 unfoldable pub target_typed : Settings → Place → Exp → Option TypedTree → Result ValueTree ℕ
-target_typed p at e x = call_typed p e (kind_beside x) >>= λ call. window_typed p (over_columns at x) (over_of e) >>= target_form e x call
+target_typed p at e x = over_parts p at e x >>= λ parts. target_form e x parts.0 parts.1

@@ -3,10 +3,19 @@
 
 mod aggregates;
 mod beside;
+mod calc_targets;
+mod call_windows;
+mod calls;
 mod groups;
 mod kinds;
+mod made;
+mod over_kinds;
+mod over_nodes;
 mod windowed;
 
 pub use aggregates::{aggregate, group_operand, no_dataset, written_call};
+pub use calc_targets::target;
+pub use calls::{Call, Needed};
 pub use groups::{grouping, grouping_choice, grouping_names};
-pub use windowed::{Call, Needed, over, target};
+pub use over_kinds::given_kind;
+pub use windowed::over;
