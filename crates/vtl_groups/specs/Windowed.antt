@@ -91,7 +91,7 @@ abbrev pub default_typed : Settings → Kind → Option Literal → Result Cell 
 default_typed p kind None = Ok c.Null
 default_typed p kind (Some l) = wanted_or (still_wanted (is_null_kind kind) kind (literal_kind l)) >>= λ wanted. valued (literal_cell p l)
 
-abbrev pub shift_call : Settings → ShiftName → List ℕ → Option Literal → Kind → Result Call ℕ
+unfoldable pub shift_call : Settings → ShiftName → List ℕ → Option Literal → Kind → Result Call ℕ
 shift_call p f n l kind = points_typed p n >>= λ points. default_typed p kind l >>= λ cell. Ok (record { op = Some (of_shift f points cell); needed = needed.Ranked })
 
 -- the parts of a call between its operand, beside which this kind is wanted, and its window

@@ -93,6 +93,7 @@ fn default(
     }
 }
 
+#[tactic(auto, unfolding(crate::specs::Windowed::shift_call))]
 fn shift_call(
     alloc: Global,
     profile: &Profile,
