@@ -1,6 +1,6 @@
 -- Aggregates: of the measures of a data set, and of one component over groups.
-use Rattle.std.specs.Prelude.{ℕ, Bool, true, false, not, ◌||◌, List, [], ◌∷◌, Option, Some, None, Result, Ok, Err, map, cond}
-use Rattle.std.specs.Option.{is_some, option_map, option_map_or}
+use Rattle.std.specs.Prelude.{ℕ, Bool, true, false, not, List, [], ◌∷◌, Option, Some, None, Result, Ok, Err, map, cond}
+use Rattle.std.specs.Option.{is_some, option_map}
 use Rattle.vtl_cell.specs.ScalarKinds.{meets}
 use Rattle.vtl_cell.specs.declared.operator.AggKind.{AggKind}
 use Rattle.vtl_cell.specs.declared.operator.AggKind.TheVariants as agg
@@ -31,7 +31,7 @@ use Rattle.vtl_shapes.specs.declared.measures.Outcome.TheVariants as outcome
 use Rattle.vtl_shapes.specs.declared.names.Wanted.TheVariants as wanted
 use Rattle.vtl_typing.specs.Columns.{column_typed, name_of}
 use Rattle.vtl_typing.specs.Kinds.{exp_kind}
-use Rattle.vtl_forms.specs.Typed.{TypedTree, value, dataset, components_in, made_of, of_value, value_in}
+use Rattle.vtl_forms.specs.Typed.{TypedTree, value, dataset, components_in, made_of, of_value}
 use Rattle.vtl_forms.specs.Places.{Written, name_written, written_in}
 use Rattle.vtl_forms.specs.declared.places.Inside.{Inside}
 use Rattle.vtl_forms.specs.declared.places.Place.{Place}

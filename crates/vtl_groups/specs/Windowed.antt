@@ -37,7 +37,7 @@ use Rattle.vtl_forms.specs.Places.{columns_at, columns_in, written_in}
 use Rattle.vtl_forms.specs.Typed.{TypedTree, value, dataset, beside_kind, components_in, made_of}
 use Rattle.vtl_forms.specs.declared.places.Place.{Place}
 use Rattle.vtl_forms.specs.declared.places.Place.TheVariants as place
-use Rattle.vtl_groups.specs.Aggregates.{aggregate_kind, is_number, is_unfit}
+use Rattle.vtl_groups.specs.Aggregates.{aggregate_kind, is_number}
 use Rattle.vtl_groups.specs.declared.calls.Call.{Call}
 use Rattle.vtl_groups.specs.declared.calls.Needed.{Needed}
 use Rattle.vtl_groups.specs.declared.calls.Needed.TheVariants as needed

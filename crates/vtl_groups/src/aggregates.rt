@@ -3,7 +3,7 @@ ghost use Rattle.std.specs.Option.{is_some, option_map};
 ghost use Rattle.std.specs.Prelude.{◌≡◌, None, Ok, cond, true};
 ghost use Rattle.vtl_rule_tests.specs.Answers.{Answers};
 ghost use Rattle.vtl_syntax.specs.Trees.{maybe_exp};
-ghost use Rattle.vtl_syntax.specs.View.{boxed, expr_tree};
+ghost use Rattle.vtl_syntax.specs.View.{expr_tree};
 ghost use Rattle.vtl_nodes.specs.Trees.{aggregate};
 ghost use Rattle.vtl_nodes.specs.View.{form_tree};
 ghost use Rattle.vtl_shapes.specs.Measures.{measured_form};
@@ -13,8 +13,8 @@ ghost use Rattle.vtl_forms.specs.Typed.{boxed_tree, typed_tree};
 ghost use Rattle.vtl_groups.specs.Aggregates.{agg_kind, aggregate_node, component_call, count_call, group_call, group_call_by, group_operand, grouping_choice, grouping_names, is_group, misuse_rule, no_dataset, of_measure, outcome_of, written_call};
 
 use crate::groups::grouping_of;
-use crate::made::made_of;
 use crate::kinds::{agg_kind, aggregate_kind, call_kind, is_unfit};
+use crate::made::made_of;
 use crate::{grouping_choice, grouping_names};
 use std::alloc::Global;
 use vtl_cell::Kind;

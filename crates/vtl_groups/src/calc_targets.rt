@@ -1,5 +1,5 @@
 // Analytic calls that are whole targets of `calc`.
-ghost use Rattle.std.specs.Option.{option_copied, option_map};
+ghost use Rattle.std.specs.Option.{option_map};
 ghost use Rattle.std.specs.Prelude.{◌≡◌};
 ghost use Rattle.vtl_nodes.specs.View.{value_tree};
 ghost use Rattle.vtl_rule_tests.specs.Answers.{Answers};

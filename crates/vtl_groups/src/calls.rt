@@ -1,6 +1,5 @@
 // The parts of analytic calls.
-ghost use Rattle.std.specs.Option.{option_copied, option_map};
-ghost use Rattle.std.specs.Prelude.{◌≡◌, unwrap_or};
+ghost use Rattle.std.specs.Prelude.{◌≡◌};
 ghost use Rattle.vtl_rule_tests.specs.Answers.{Answers};
 ghost use Rattle.vtl_syntax.specs.View.{expr_tree};
 ghost use Rattle.vtl_groups.specs.Windowed.{call_typed, default_typed, is_ordered, is_unframed, of_aggregate, of_shift, of_window, shift_call, suits, window_needed};

@@ -1,5 +1,5 @@
 // How the points of a data set form groups.
-ghost use Rattle.std.specs.Prelude.{◌≡◌, ◌++◌, IfOk, OnOk, map};
+ghost use Rattle.std.specs.Prelude.{◌≡◌, IfOk, map};
 ghost use Rattle.vtl_rule_tests.specs.Answers.{Answers};
 ghost use Rattle.vtl_shapes.specs.Choices.{chosen, is_chosen};
 ghost use Rattle.vtl_tree.specs.Structure.{names_of};

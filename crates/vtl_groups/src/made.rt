@@ -10,11 +10,7 @@ use vtl_rule_tests::TypeErr;
 use vtl_tree::Structure;
 
 /// A data set of this structure, made so.
-pub(crate) fn made_of(
-    alloc: Global,
-    form: NodeForm,
-    structure: Structure,
-) -> Result<Typed, TypeErr>
+pub(crate) fn made_of(alloc: Global, form: NodeForm, structure: Structure) -> Result<Typed, TypeErr>
     ensures { Answers typed_tree result (made_of (form_tree form) structure) }
 {
     let node = Box::new(alloc, Node { structure, form })?;
