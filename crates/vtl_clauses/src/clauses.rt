@@ -82,14 +82,7 @@ fn names_typed(
 {
     let mut names = Vec::new(alloc);
     for reference in references {
-        names.push(name_known(
-            alloc,
-            joined,
-            Wanted::Value,
-            components,
-            &names,
-            reference,
-        )?)?;
+        names.push(name_known(alloc, joined, Wanted::Value, components, &names, reference)?)?;
     }
     Ok(names)
 }

@@ -38,14 +38,7 @@ fn renaming_known(
 ) -> Result<Renaming, TypeErr>
     ensures { Answers (λ r. r) result (renaming_known joined.now components.now before.now part.now) }
 {
-    let from = name_known(
-        alloc,
-        joined,
-        Wanted::Any,
-        components,
-        before,
-        &part.from,
-    )?;
+    let from = name_known(alloc, joined, Wanted::Any, components, before, &part.from)?;
     let to = name(&part.to).share()?;
     Ok(Renaming { from, to })
 }

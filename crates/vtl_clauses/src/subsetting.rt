@@ -1,9 +1,11 @@
 // The clause `sub`.
-ghost use Rattle.std.specs.Prelude.{◌≡◌, [], IfOk, map};
+ghost use Rattle.std.specs.Prelude.{◌≡◌, [], IfOk};
 ghost use Rattle.vtl_rule_tests.specs.Answers.{Answers};
+ghost use Rattle.vtl_shapes.specs.Choices.{chosen};
+ghost use Rattle.vtl_shapes.specs.Shape.{shaped};
 ghost use Rattle.vtl_typing.specs.Literals.{literal_cell, valued};
 ghost use Rattle.vtl_forms.specs.Typed.{boxed_tree};
-ghost use Rattle.vtl_clauses.specs.Clauses.{cell_as, sub_form, sub_known, sub_of, sub_value, subs_typed};
+ghost use Rattle.vtl_clauses.specs.Clauses.{cell_as, sub_form, sub_known, sub_names, sub_of, sub_value, subs_typed};
 
 use crate::clauses::made;
 use std::alloc::{AllocError, Global};
@@ -15,7 +17,7 @@ use vtl_scalar::to_kind;
 use vtl_shapes::{Choice, Wanted, choose, known};
 use vtl_syntax::{Literal, SubPart};
 use vtl_text::{List, Txt};
-use vtl_tree::Component;
+use vtl_tree::{Component, Structure};
 use vtl_typing::{literal, literal_kind, name, still_wanted, wanted_or};
 
 // The value of a literal as one of a kind.
@@ -84,7 +86,7 @@ fn subs_typed(
 }
 
 fn names_of(alloc: Global, items: &[SubItem]) -> Result<Vec<Txt>, AllocError>
-    ensures { IfOk result (λ names. names.items ≡ map (λ i. i.id) items.now) }
+    ensures { IfOk result (λ names. names.items ≡ sub_names items.now) }
 {
     let mut names = Vec::new(alloc);
     for item in items {
@@ -93,12 +95,23 @@ fn names_of(alloc: Global, items: &[SubItem]) -> Result<Vec<Txt>, AllocError>
     Ok(names)
 }
 
+// The structure without the identifiers.
+fn structure_without(
+    alloc: Global,
+    structure: &Structure,
+    items: &[SubItem],
+) -> Result<Structure, TypeErr>
+    ensures { Answers (λ s. s) result (shaped (chosen Choice.Drop (sub_names items.now) structure.now.components)) }
+{
+    let names = names_of(alloc, items)?;
+    choose(alloc, Choice::Drop, structure, &names)
+}
+
 // The data set without the identifiers.
 fn subset(alloc: Global, operand: Box<Node>, items: Vec<SubItem>) -> Result<Box<Node>, TypeErr>
     ensures { Answers boxed_tree result (sub_of (boxed_tree operand) items.items) }
 {
-    let names = names_of(alloc, &items)?;
-    let structure = choose(alloc, Choice::Drop, &operand.structure, &names)?;
+    let structure = structure_without(alloc, &operand.structure, &items)?;
     let values = List::of(items);
     made(alloc, structure, NodeForm::Sub { a: operand, values })
 }
