@@ -1,5 +1,5 @@
 -- The clauses, behind the parts that are expressions. The clauses of a join's body see the operands of the join.
-use Rattle.std.specs.Prelude.{ℕ, false, List, [], ◌∷◌, ◌++◌, Option, Some, None, option_and_then, Result, Ok, map}
+use Rattle.std.specs.Prelude.{ℕ, false, List, [], ◌∷◌, ◌++◌, Option, option_and_then, Result, Ok, map}
 use Rattle.std.specs.Result.{result_ok}
 use Rattle.vtl_decimal.specs.Settings.{Settings}
 use Rattle.vtl_cell.specs.Conversion.{as_kind}
@@ -29,7 +29,7 @@ use Rattle.vtl_shapes.specs.declared.names.Wanted.TheVariants as wanted
 use Rattle.vtl_shapes.specs.declared.renaming.Renaming.{Renaming}
 use Rattle.vtl_typing.specs.Columns.{name_of}
 use Rattle.vtl_typing.specs.Literals.{literal_cell, literal_kind, still_wanted, valued, wanted_or}
-use Rattle.vtl_forms.specs.Places.{Written, name_written, written_by}
+use Rattle.vtl_forms.specs.Places.{name_written, written_by}
 use Rattle.vtl_forms.specs.Typed.{TypedTree, components_in, condition_in}
 use Rattle.vtl_forms.specs.declared.places.Joined.{Joined}
 

@@ -46,7 +46,11 @@ pub fn operands(alloc: Global, parts: Vec<Part>) -> Result<Vec<JoinOperand>, Typ
 }
 
 /// What the body of a join sees of the operands.
-pub fn joined(alloc: Global, kind: JoinKind, operands: &[JoinOperand]) -> Result<Joined, AllocError>
+pub fn joined(
+    alloc: Global,
+    kind: JoinKind,
+    operands: &[JoinOperand],
+) -> Result<Joined, AllocError>
     ensures { IfOk result (λ j. j ≡ joined_of kind (map operand_tree operands.now)) }
 {
     Err(AllocError)
@@ -65,7 +69,11 @@ pub fn joined_node(
 }
 
 /// The last naming of a join, which each has: what is still named behind an alias is named without. It breaks rule 11.
-pub fn last_naming(alloc: Global, joined: &Joined, operand: Box<Node>) -> Result<Box<Node>, TypeErr>
+pub fn last_naming(
+    alloc: Global,
+    joined: &Joined,
+    operand: Box<Node>,
+) -> Result<Box<Node>, TypeErr>
     ensures { Answers boxed_tree result (last_naming joined.now (boxed_tree operand)) }
 {
     Err(TypeErr::OutOfMemory)
