@@ -42,7 +42,7 @@ filter_form n x = condition_in x >>= λ e. made_of (nodes.filter n e) (structure
 
 -- ---- `keep` and `drop`
 -- the name that a reference is, which stands for a component of the wanted role behind other names
-abbrev pub name_known : Option Joined → Wanted → List Component → List (List ℕ) → Reference → Result (List ℕ) ℕ
+unfoldable pub name_known : Option Joined → Wanted → List Component → List (List ℕ) → Reference → Result (List ℕ) ℕ
 name_known j w xs before r = name_written j (written_by r) >>= λ name. known w xs before name >>= λ x. Ok name
 
 -- names in written order behind others, as the wanted role asks of each
@@ -76,7 +76,7 @@ abbrev pub old_names : List Renaming → List (List ℕ)
 old_names rs = map (λ r. r.from) rs
 
 -- a renaming behind others, whose old names these are
-abbrev pub renaming_known : Option Joined → List Component → List (List ℕ) → RenamePart → Result Renaming ℕ
+unfoldable pub renaming_known : Option Joined → List Component → List (List ℕ) → RenamePart → Result Renaming ℕ
 renaming_known j xs before r = name_known j wanted.Any xs before r.from >>= λ name. Ok (renaming_to r name)
 
 abbrev pub renamings_typed : Option Joined → List Component → List Renaming → List RenamePart → Result (List Renaming) ℕ
@@ -103,7 +103,7 @@ abbrev pub sub_item : List ℕ → Cell → SubItem
 sub_item name cell = record { id = name; value = cell }
 
 -- an identifier with its value, behind others of these names
-abbrev pub sub_known : Settings → List Component → List (List ℕ) → SubPart → Result SubItem ℕ
+unfoldable pub sub_known : Settings → List Component → List (List ℕ) → SubPart → Result SubItem ℕ
 sub_known p xs before s =
     known wanted.Identifier xs before (name_of s.component) >>= λ x. sub_value p x.kind s.value
     >>= λ cell. Ok (sub_item (name_of s.component) cell)

@@ -57,6 +57,7 @@ pub fn filter(alloc: Global, operand: Box<Node>, condition: Typed) -> Result<Box
 }
 
 // The name that a reference is, where it stands for a component of the wanted role behind other names.
+#[tactic(auto, unfolding(crate::specs::Clauses::name_known))]
 pub(crate) fn name_known(
     alloc: Global,
     joined: &Option<Joined>,

@@ -29,6 +29,7 @@ pub(crate) fn renamed(
 }
 
 // A renaming behind others, whose old names these are.
+#[tactic(auto, unfolding(crate::specs::Clauses::renaming_known))]
 fn renaming_known(
     alloc: Global,
     joined: &Option<Joined>,

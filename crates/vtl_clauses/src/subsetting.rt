@@ -49,6 +49,7 @@ fn sub_value(
 }
 
 // An identifier with its value, behind others of these names.
+#[tactic(auto, unfolding(crate::specs::Clauses::sub_known))]
 fn sub_known(
     alloc: Global,
     profile: &Profile,
