@@ -1,7 +1,10 @@
 //! Typed expressions, the places where they stand, and the operators on typed operands.
 #![tactic(auto)]
 
+mod operands;
+mod operator_kinds;
 mod operators;
+mod placing;
 mod places;
 mod scope;
 mod set_operators;
