@@ -1,6 +1,5 @@
 -- Operators on whole data sets.
 use Rattle.std.specs.Prelude.{ℕ, List, [], ◌∷◌, ◌++◌, Option, Some, None, Result, Ok, Err, map, encode_utf8_all, ℤ}
-use Rattle.std.specs.Option.{option_map}
 use Rattle.std.specs.Prelude.{option_to_list, unwrap_or}
 use Rattle.vtl_decimal.specs.Numeral.{integer_read}
 use Rattle.vtl_decimal.specs.Settings.{Settings}
@@ -23,7 +22,7 @@ use Rattle.vtl_shapes.specs.Pairs as pairs
 use Rattle.vtl_shapes.specs.declared.choices.Choice.TheVariants as choice
 use Rattle.vtl_shapes.specs.declared.names.Wanted.TheVariants as wanted
 use Rattle.vtl_typing.specs.Columns.{name_of}
-use Rattle.vtl_forms.specs.Typed.{TypedTree, value, dataset, components_in, dataset_in, made_of}
+use Rattle.vtl_forms.specs.Typed.{TypedTree, components_in, dataset_in, made_of}
 
 -- operands that all have to be data sets, behind those that are done
 abbrev pub datasets_behind : List NodeTree → List TypedTree → Result (List NodeTree) ℕ

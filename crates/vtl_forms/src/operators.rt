@@ -71,7 +71,13 @@ fn on_measures(
 fn on_pair(alloc: Global, op: ScalarOp, a: Box<Node>, b: Box<Node>) -> Result<Typed, TypeErr>
     ensures { Answers typed_tree result (on_pair op (boxed_tree a) (boxed_tree b)) }
 {
-    let structure = pair(alloc, outcome_of(op), &OfTwo { op }, &a.structure, &b.structure)?;
+    let structure = pair(
+        alloc,
+        outcome_of(op),
+        &OfTwo { op },
+        &a.structure,
+        &b.structure,
+    )?;
     made_of(alloc, structure, NodeForm::Pair { op, a, b })
 }
 
@@ -260,7 +266,11 @@ pub fn operator(
 fn membership(negated: bool) -> ScalarOp
     ensures { result ≡ membership negated }
 {
-    if negated { ScalarOp::NotIn } else { ScalarOp::In }
+    if negated {
+        ScalarOp::NotIn
+    } else {
+        ScalarOp::In
+    }
 }
 
 fn push_members(operands: &mut Vec<Typed>, cells: Vec<Cell>) -> Result<(), AllocError>

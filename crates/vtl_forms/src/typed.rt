@@ -80,11 +80,7 @@ fn first_measure_kind(components: &[Component]) -> Kind
 }
 
 /// A data set of this structure, made so.
-pub(crate) fn made_of(
-    alloc: Global,
-    structure: Structure,
-    form: NodeForm,
-) -> Result<Typed, TypeErr>
+pub(crate) fn made_of(alloc: Global, structure: Structure, form: NodeForm) -> Result<Typed, TypeErr>
     ensures { Answers typed_tree result (made_of (form_tree form) structure) }
 {
     match Box::new(alloc, Node { structure, form }) {

@@ -1,4 +1,3 @@
-use Rattle.std.proofs.Common.{◌≡◌}
 use Rattle.vtl_forms.proofs.operators.measures_structure.Goals as goal
 
 -- src/operators.rt:26:1
