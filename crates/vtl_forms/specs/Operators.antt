@@ -1,12 +1,13 @@
 -- Operators on typed operands: on values, and on each measure of data sets.
-use Rattle.std.specs.Prelude.{ℕ, Bool, true, false, not, ◌&&◌, ◌||◌, ◌==◌, List, [], ◌∷◌, ◌++◌, Option, Some, None, Result, Ok, Err, map, length}
+use Rattle.std.specs.Prelude.{ℕ, Bool, true, false, not, ◌&&◌, ◌||◌, ◌==◌, List, [], ◌∷◌, ◌++◌, Result, Err, map, length}
 use Rattle.vtl_cell.specs.ScalarKinds.{kinds_of}
-use Rattle.vtl_cell.specs.declared.kind.Kind.{Kind}
+use Rattle.vtl_cell.specs.declared.kind.Kind.TheVariants as k
 use Rattle.vtl_cell.specs.declared.operator.ScalarOp.{ScalarOp}
 use Rattle.vtl_cell.specs.declared.operator.ScalarOp.TheVariants as op
 use Rattle.vtl_decimal.specs.Settings.{Settings}
 use Rattle.vtl_syntax.specs.declared.parts.Literal.{Literal}
 use Rattle.vtl_tree.specs.CompExp.{CompExp, const}
+use Rattle.vtl_tree.specs.View.{comp_exp_of}
 use Rattle.vtl_nodes.specs.Trees.{NodeTree, structure_of, measures, pair, choose}
 use Rattle.vtl_rule_tests.specs.Rules.{◌>>=◌, ruled}
 use Rattle.vtl_shapes.specs.Measures.{Gives, measured_form}
@@ -17,7 +18,9 @@ use Rattle.vtl_shapes.specs.declared.measures.Outcome.TheVariants as outcome
 use Rattle.vtl_typing.specs.Calls.{call_form}
 use Rattle.vtl_typing.specs.Kinds.{exp_kind}
 use Rattle.vtl_typing.specs.Literals.{set_typed}
-use Rattle.vtl_forms.specs.Typed.{TypedTree, value, dataset, beside_kind, components_in, made_of, of_value}
+use Rattle.vtl_forms.specs.Typed.{TypedTree, value, dataset, beside_kind, boxed_tree, components_in, made_of, of_value}
+use Rattle.vtl_forms.specs.declared.operands.Parted.{Parted}
+use Rattle.vtl_forms.specs.declared.operator_kinds.GivenKinds.{GivenKinds}
 use Rattle.vtl_forms.specs.declared.places.Place.{Place}
 use Rattle.vtl_forms.specs.declared.places.Place.TheVariants as place
 
@@ -43,6 +46,10 @@ with_operand o (dataset n) = record o { datasets = o.datasets ++ n ∷ [] }
 abbrev pub parted : Operands → List TypedTree → Operands
 parted o [] = o
 parted o (x ∷ xs) = parted (with_operand o x) xs
+
+-- parted operands as the program holds them
+abbrev pub parted_view : Parted → Operands
+parted_view p = record { before = map comp_exp_of p.before.items; datasets = map boxed_tree p.datasets.items; after = map comp_exp_of p.after.items }
 
 -- ---- which operators take data sets, and where
 -- the operators between two operands, either of which may be a data set
@@ -98,6 +105,16 @@ outcome_of o = outcome.Each
 abbrev pub between_values : ScalarOp → List CompExp → List CompExp → Gives
 between_values o before after a b = kinds_of o (map exp_kind before ++ a ∷ map exp_kind after)
 
+-- the same as the program holds it
+abbrev pub given_by : GivenKinds → Gives
+given_by given k.Null b = given.null
+given_by given k.Bool b = given.boolean
+given_by given k.Int b = given.int
+given_by given k.Num b = given.num
+given_by given k.Text b = given.text
+given_by given k.Day b = given.day
+given_by given k.Period b = given.period
+
 -- of a measure and its namesake
 abbrev pub of_two : ScalarOp → Gives
 of_two o a b = kinds_of o (a ∷ b ∷ [])
@@ -129,9 +146,13 @@ on_datasets o literals [] (a ∷ b ∷ []) [] = if_placed (is_binary o) literals
 on_datasets o literals [] (c ∷ a ∷ b ∷ []) [] = if_placed (is_choice o) literals (on_choice c a b)
 on_datasets o literals before datasets after = Err (misplaced_rule true literals)
 
+-- ---- on values
+abbrev pub on_values : ScalarOp → (literals : Bool) → List CompExp → Result TypedTree ℕ
+on_values o literals values = call_form o literals values >>= of_value
+
 -- ---- on all operands
 abbrev pub on_operands : Place → ScalarOp → (number literals : Bool) → List CompExp → List NodeTree → List CompExp → Result TypedTree ℕ
-on_operands p o number literals before [] after = call_form o literals before >>= of_value
+on_operands p o number literals before [] after = on_values o literals before
 on_operands (place.Inside i) o number literals before (n ∷ ns) after = Err (misplaced_rule number literals)
 on_operands place.Outside o number literals before (n ∷ ns) after = ruled ((7, not number) ∷ []) (tt {0}) >>= λ u. on_datasets o literals before (n ∷ ns) after
 

@@ -1,6 +1,5 @@
 -- Operators on whole data sets.
 use Rattle.std.specs.Prelude.{ℕ, List, [], ◌∷◌, ◌++◌, Option, Some, None, Result, Ok, Err, map, encode_utf8_all, ℤ}
-use Rattle.std.specs.Option.{option_map}
 use Rattle.std.specs.Prelude.{option_to_list, unwrap_or}
 use Rattle.vtl_decimal.specs.Numeral.{integer_read}
 use Rattle.vtl_decimal.specs.Settings.{Settings}
@@ -23,12 +22,15 @@ use Rattle.vtl_shapes.specs.Pairs as pairs
 use Rattle.vtl_shapes.specs.declared.choices.Choice.TheVariants as choice
 use Rattle.vtl_shapes.specs.declared.names.Wanted.TheVariants as wanted
 use Rattle.vtl_typing.specs.Columns.{name_of}
-use Rattle.vtl_forms.specs.Typed.{TypedTree, value, dataset, components_in, dataset_in, made_of}
+use Rattle.vtl_forms.specs.Typed.{TypedTree, components_in, dataset_in, made_of}
 
--- operands that all have to be data sets
+-- operands that all have to be data sets, behind those that are done
+abbrev pub datasets_behind : List NodeTree → List TypedTree → Result (List NodeTree) ℕ
+datasets_behind done [] = Ok done
+datasets_behind done (x ∷ xs) = dataset_in x >>= λ n. datasets_behind (done ++ n ∷ []) xs
+
 abbrev pub datasets_in : List TypedTree → Result (List NodeTree) ℕ
-datasets_in [] = Ok []
-datasets_in (x ∷ xs) = dataset_in x >>= λ n. datasets_in xs >>= λ ns. Ok (n ∷ ns)
+datasets_in xs = datasets_behind [] xs
 
 abbrev pub structures_in : List NodeTree → List Structure
 structures_in ns = map structure_of ns
@@ -42,9 +44,13 @@ abbrev pub set_tree : SetOpName → NodeTrees → FormTree
 set_tree set.Union ns = union ns
 set_tree set.Intersect ns = intersect ns
 
+-- there is at least one operand
+abbrev pub set_structure : List NodeTree → Result Structure ℕ
+set_structure [] = Err 14
+set_structure (n ∷ ns) = pairs.set_form (structure_of n) (structures_in ns)
+
 abbrev pub set_of : SetOpName → List NodeTree → Result TypedTree ℕ
-set_of f [] = Err 14
-set_of f (n ∷ ns) = pairs.set_form (structure_of n) (structures_in ns) >>= made_of (set_tree f (nodes_of (n ∷ ns)))
+set_of f ns = set_structure ns >>= made_of (set_tree f (nodes_of ns))
 
 unfoldable pub sets_form : SetOpName → List TypedTree → Result TypedTree ℕ
 sets_form f xs = datasets_in xs >>= set_of f

@@ -1,16 +1,23 @@
 // What the names of a script are known to stand for.
+ghost use Rattle.std.specs.Option.{option_copied};
+ghost use Rattle.std.specs.Prelude.{◌≡◌, ◌++◌, IfOk, OnOk};
 ghost use Rattle.vtl_rule_tests.specs.Answers.{Answers};
-ghost use Rattle.vtl_forms.specs.Places.{env_of, name_typed};
+ghost use Rattle.vtl_tree.specs.View.{comp_exp_of};
+ghost use Rattle.vtl_forms.specs.Places.{alone, component_typed, dataset_named, env_of, known_by, name_typed};
 ghost use Rattle.vtl_forms.specs.Typed.{typed_tree};
 
-use crate::{Place, Typed};
+use crate::typed::made_of;
+use crate::{Inside, Place, Typed};
 use indexmap::IndexMap;
-use std::alloc::Global;
+use std::alloc::{AllocError, Global};
 use vtl_decimal::Profile;
+use vtl_nodes::NodeForm;
 use vtl_rule_tests::TypeErr;
+use vtl_shapes::{is_among, share_component};
 use vtl_syntax::Comp;
-use vtl_text::Txt;
-use vtl_tree::Structure;
+use vtl_text::{List, Txt};
+use vtl_tree::{CompExpr, Component, Structure};
+use vtl_typing::{column, name as name_of};
 
 /// How numbers are read, and the data sets that are known: the declared ones, and then the results so far.
 #[derive(Drop)]
@@ -21,10 +28,74 @@ pub struct Scope {
     pub known: IndexMap<Txt, Structure>,
 }
 
+fn push_shared(out: &mut Vec<Component>, components: &[Component]) -> Result<(), AllocError>
+    ensures { OnOk result (out.new.items ≡ out.old.items ++ components.now) }
+{
+    for component in components {
+        out.push(share_component(component)?)?;
+    }
+    Ok(())
+}
+
+fn share_structure(alloc: Global, structure: &Structure) -> Result<Structure, AllocError>
+    ensures { IfOk result (λ s. s ≡ structure.now) }
+{
+    let mut components = Vec::new(alloc);
+    push_shared(&mut components, structure.components.as_slice())?;
+    Ok(Structure {
+        components: List::of(components),
+    })
+}
+
+fn known_by(alloc: Global, name: &Txt, structure: Option<&Structure>) -> Result<Typed, TypeErr>
+    ensures { Answers typed_tree result (known_by name.now (option_copied structure.entry)) }
+{
+    let Some(structure) = structure else {
+        return Err(TypeErr::Broken(1));
+    };
+    let structure = share_structure(alloc, structure)?;
+    let name = name.share()?;
+    made_of(alloc, structure, NodeForm::Named(name))
+}
+
+fn dataset_named(
+    alloc: Global,
+    known: &IndexMap<Txt, Structure>,
+    component: &Comp,
+) -> Result<Typed, TypeErr>
+    ensures { Answers typed_tree result (dataset_named known.now.entries component.now) }
+{
+    match component {
+        Comp::Name(name) => known_by(alloc, name, known.get(name)),
+        Comp::Quoted(_) => Err(TypeErr::Broken(14)),
+    }
+}
+
+// A component that stands alone, as an expression.
+fn alone(grouping: &Option<List<Txt>>, name: &Txt, e: CompExpr) -> Result<Typed, TypeErr>
+    ensures { Answers typed_tree result (alone grouping.now name.now (comp_exp_of e)) }
+{
+    match grouping {
+        Some(names) if !is_among(name, names.as_slice()) => Err(TypeErr::Broken(15)),
+        _ => Ok(Typed::Value(e)),
+    }
+}
+
+/// The component of this name inside, as an expression.
+pub(crate) fn component_typed(inside: &Inside, name: &Txt) -> Result<Typed, TypeErr>
+    ensures { Answers typed_tree result (component_typed inside.now name.now) }
+{
+    let e = column(name, inside.components.as_slice())?;
+    alone(&inside.grouping, name, e)
+}
+
 /// What a name stands for at a place: a data set, or a component. An unknown data set breaks rule 1, an unknown component 4, a
 /// quoted name where a data set is needed 14, and a component that is no grouping identifier, over groups, 15.
 pub fn name(alloc: Global, scope: &Scope, place: &Place, component: &Comp) -> Result<Typed, TypeErr>
     ensures { Answers typed_tree result (name_typed (env_of scope.now) place.now component.now) }
 {
-    Err(TypeErr::OutOfMemory)
+    match place {
+        Place::Outside => dataset_named(alloc, &scope.known, component),
+        Place::Inside(inside) => component_typed(inside, name_of(component)),
+    }
 }

@@ -2,16 +2,18 @@
 ghost use Rattle.std.specs.Prelude.{◌≡◌, option_map};
 ghost use Rattle.vtl_rule_tests.specs.Answers.{Answers};
 ghost use Rattle.vtl_syntax.specs.View.{expr_tree};
-ghost use Rattle.vtl_forms.specs.Places.{constant_form, inside_view, member_inside, member_written, name_written, plainly, with_alias, written_by, written_in, written_typed, written_view};
+ghost use Rattle.vtl_forms.specs.Places.{constant_form, inside_view, member_inside, member_name, member_written, name_written, plainly, with_alias, written_by, written_in, written_typed, written_view};
 ghost use Rattle.vtl_forms.specs.Typed.{typed_tree};
 
+use crate::scope::component_typed;
 use crate::{Inside, Joined, Place, Typed};
 use std::alloc::Global;
 use vtl_decimal::Profile;
+use vtl_joins::member;
 use vtl_rule_tests::TypeErr;
 use vtl_syntax::{Comp, Constant, Expr, Reference};
 use vtl_text::Txt;
-use vtl_typing::name;
+use vtl_typing::{constant as constant_value, name};
 
 /// A component as it is written.
 #[derive(Clone, Copy)]
@@ -71,6 +73,27 @@ pub fn written_by(reference: &Reference) -> WrittenName<'_>
     }
 }
 
+fn member_name(
+    alloc: Global,
+    joined: &Option<Joined>,
+    alias: &Txt,
+    name: &Txt,
+) -> Result<Txt, TypeErr>
+    ensures { Answers (λ name. name) result (member_name joined.now alias.now name.now) }
+{
+    match joined {
+        Some(joined) => member(
+            alloc,
+            joined.kind,
+            joined.operands.as_slice(),
+            joined.held.as_slice(),
+            alias,
+            name,
+        ),
+        None => Err(TypeErr::Broken(4)),
+    }
+}
+
 /// The name of a component. `alias#name` stands for a name of the joined set; outside of a join's body it breaks rule 4.
 pub fn name_written(
     alloc: Global,
@@ -79,14 +102,19 @@ pub fn name_written(
 ) -> Result<Txt, TypeErr>
     ensures { Answers (λ name. name) result (name_written joined.now (written_view written.entry)) }
 {
-    Err(TypeErr::OutOfMemory)
+    match written.alias {
+        Some(alias) => member_name(alloc, joined, alias, written.name),
+        None => Ok(written.name.share()?),
+    }
 }
 
 /// A component as an expression.
+#[tactic(auto, unfolding(crate::specs::Places::written_typed))]
 pub fn written(alloc: Global, inside: &Inside, written: WrittenName<'_>) -> Result<Typed, TypeErr>
     ensures { Answers typed_tree result (written_typed inside.now (written_view written.entry)) }
 {
-    Err(TypeErr::OutOfMemory)
+    let name = name_written(alloc, &inside.joined, written)?;
+    component_typed(inside, &name)
 }
 
 /// The component that `operand#component` is inside, where it is one.
@@ -107,5 +135,5 @@ pub fn member_inside<'a>(
 pub fn constant(alloc: Global, profile: &Profile, constant: &Constant) -> Result<Typed, TypeErr>
     ensures { Answers typed_tree result (constant_form profile.now constant.now) }
 {
-    Err(TypeErr::OutOfMemory)
+    Ok(Typed::Value(constant_value(alloc, profile, constant)?))
 }

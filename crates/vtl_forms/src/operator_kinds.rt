@@ -1,0 +1,96 @@
+// Operators by the kinds that they take and give: on a measure between values, and on a measure and its namesake.
+ghost use Rattle.std.specs.Prelude.{◌≡◌, ◌++◌, ◌∷◌, IfOk, map};
+ghost use Rattle.vtl_cell.specs.ScalarKinds.{kinds_of};
+ghost use Rattle.vtl_tree.specs.View.{comp_exp_of};
+ghost use Rattle.vtl_typing.specs.Kinds.{exp_kind};
+ghost use Rattle.vtl_forms.specs.Operators.{between_values, given_by};
+
+use std::alloc::{AllocError, Global};
+use vtl_cell::{Kind, ScalarOp};
+use vtl_shapes::Operator;
+use vtl_tree::CompExpr;
+use vtl_typing::{kinds_in, operator_kind};
+
+/// The kinds that an operator between values gives of a measure, for each kind that the measure may have.
+#[derive(Clone, Copy)]
+pub(crate) struct GivenKinds {
+    null: Option<Kind>,
+    boolean: Option<Kind>,
+    int: Option<Kind>,
+    num: Option<Kind>,
+    text: Option<Kind>,
+    day: Option<Kind>,
+    period: Option<Kind>,
+}
+
+impl Operator for GivenKinds {
+    ghost use Rattle.vtl_forms.specs.Operators.{given_by};
+
+    ghost gives = { given_by };
+
+    fn gives(&self, measure: Kind, _: Kind) -> Option<Kind> {
+        match measure {
+            Kind::Null => self.null,
+            Kind::Bool => self.boolean,
+            Kind::Int => self.int,
+            Kind::Num => self.num,
+            Kind::Text => self.text,
+            Kind::Day => self.day,
+            Kind::Period => self.period,
+        }
+    }
+}
+
+// The kind that an operator gives of a measure of one kind between values.
+fn given_kind(
+    alloc: Global,
+    op: ScalarOp,
+    before: &[CompExpr],
+    measure: Kind,
+    after: &[CompExpr],
+) -> Result<Option<Kind>, AllocError>
+    ensures { IfOk result (λ kind. kind ≡ kinds_of op (map exp_kind (map comp_exp_of before.now) ++ measure ∷ map exp_kind (map comp_exp_of after.now))) }
+{
+    let behind = kinds_in(alloc, after)?;
+    let mut kinds = kinds_in(alloc, before)?;
+    kinds.push(measure)?;
+    kinds.extend_from_slice(&behind)?;
+    Ok(operator_kind(op, &kinds))
+}
+
+/// The kinds that an operator between values gives of measures.
+pub(crate) fn between_values(
+    alloc: Global,
+    op: ScalarOp,
+    before: &[CompExpr],
+    after: &[CompExpr],
+) -> Result<GivenKinds, AllocError>
+    ensures { IfOk result (λ given. given_by given ≡ between_values op (map comp_exp_of before.now) (map comp_exp_of after.now)) }
+{
+    Ok(GivenKinds {
+        null: given_kind(alloc, op, before, Kind::Null, after)?,
+        boolean: given_kind(alloc, op, before, Kind::Bool, after)?,
+        int: given_kind(alloc, op, before, Kind::Int, after)?,
+        num: given_kind(alloc, op, before, Kind::Num, after)?,
+        text: given_kind(alloc, op, before, Kind::Text, after)?,
+        day: given_kind(alloc, op, before, Kind::Day, after)?,
+        period: given_kind(alloc, op, before, Kind::Period, after)?,
+    })
+}
+
+/// An operator on a measure and its namesake.
+#[derive(Clone, Copy)]
+pub(crate) struct OfTwo {
+    /// The operator.
+    pub(crate) op: ScalarOp,
+}
+
+impl Operator for OfTwo {
+    ghost use Rattle.vtl_forms.specs.Operators.{of_two};
+
+    ghost gives = { λ s. of_two s.op };
+
+    fn gives(&self, measure: Kind, namesake: Kind) -> Option<Kind> {
+        operator_kind(self.op, &[measure, namesake])
+    }
+}
