@@ -1,3 +1,3 @@
 pub mod Checked
+pub mod Count
 pub mod Script
-pub mod Typing

@@ -1,0 +1,31 @@
+-- Scripts that are typed, with their nodes.
+use Rattle.std.specs.Prelude.{◌≡◌, List, Ok, map}
+use Rattle.vtl_decimal.specs.Settings.{Settings}
+use Rattle.vtl_syntax.specs.Trees.{ScriptTree}
+use Rattle.vtl_syntax.specs.View.{statement_tree}
+use Rattle.vtl_syntax.specs.declared.statements.Statement.{Statement}
+use Rattle.vtl_tree.specs.Structures.{Named}
+use Rattle.vtl_nodes.specs.Trees.{NodeTree}
+use Rattle.vtl_nodes.specs.View.{node_tree}
+use Rattle.vtl_nodes.specs.declared.nodes.Node.{Node}
+use Rattle.vtl_forms.specs.Places.{Env}
+use Rattle.vtl_check.specs.Script.{script_typed}
+
+-- a script with the structures and the settings that it is typed over, and its nodes, one for each statement
+pub record TypedScript : Type 0 where
+  pub script : List Statement
+  pub declared : Named
+  pub settings : Settings
+  pub nodes : List Node
+
+abbrev pub env_over : Settings → Named → Env
+env_over settings declared = record { settings = settings; known = declared }
+
+abbrev pub tree_of : TypedScript → ScriptTree
+tree_of t = map statement_tree t.script
+
+abbrev pub nodes_of : TypedScript → List NodeTree
+nodes_of t = map node_tree t.nodes
+
+abbrev pub IsTyped : TypedScript → Type 0
+IsTyped t = script_typed (env_over t.settings t.declared) (tree_of t) ≡ Ok (nodes_of t)

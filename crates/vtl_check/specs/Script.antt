@@ -1,0 +1,69 @@
+-- The typing of scripts: statements in order, each over the declared data sets and the results before it.
+use Rattle.std.specs.Prelude.{◌≡◌, ℕ, suc, nat_lt, ◌+◌, Bool, true, false, not, List, [], ◌∷◌, ◌++◌, Result, Ok, Err}
+use Rattle.std.specs.List.{list_any}
+use Rattle.vtl_syntax.specs.Trees as tree
+use Rattle.vtl_syntax.specs.Trees.{Exp, ScriptTree, StatementTree}
+use Rattle.vtl_tree.specs.Structures.{Named, has_name}
+use Rattle.vtl_nodes.specs.Trees.{NodeTree, structure_of}
+use Rattle.vtl_rule_tests.specs.Rules.{◌>>=◌, ruled}
+use Rattle.vtl_rule_tests.specs.declared.error.TypeErr.{TypeErr}
+use Rattle.vtl_rule_tests.specs.declared.error.TypeErr.TheVariants as type
+use Rattle.vtl_forms.specs.Places.{Env}
+use Rattle.vtl_forms.specs.Typed.{dataset_in}
+use Rattle.vtl_forms.specs.declared.places.Place.TheVariants as place
+use Rattle.vtl_walk.specs.Typing.{typed}
+use Rattle.vtl_check.specs.Count.{count}
+use Rattle.vtl_check.specs.declared.error.CheckErr.{CheckErr}
+use Rattle.vtl_check.specs.declared.error.CheckErr.TheVariants as err
+
+-- the most nodes of a script
+abbrev pub most_nodes : ℕ
+most_nodes = 4096
+
+-- the nodes so far and those of an expression are more
+abbrev pub is_too_much : ℕ → NodeTree → Bool
+is_too_much before n = nat_lt most_nodes (before + count n)
+
+-- a statement behind others with so many nodes: its name is new (2), its value a data set (14), and the nodes are few enough (20)
+unfoldable pub assigned : Env → (before : ℕ) → List ℕ → Exp → Result NodeTree ℕ
+assigned env before name e =
+    ruled ((2, has_name name env.known) ∷ []) (tt {0}) >>= λ u. typed env place.Outside e >>= dataset_in
+    >>= λ n. ruled ((20, is_too_much before n) ∷ []) n
+
+-- what is known behind a statement
+abbrev pub with_result : Env → List ℕ → NodeTree → Env
+with_result env name n = record env { known = env.known ++ (name, structure_of n) ∷ [] }
+
+-- a fault with the number of its statement
+abbrev pub at : {A B : Type 0} → ℕ → Result A ℕ → (A → Result B (ℕ × ℕ)) → Result B (ℕ × ℕ)
+at i (Ok x) f = f x
+at i (Err rule) f = Err (i, rule)
+
+-- The nodes so far with those of the statements that are left, or the first fault: the number of its statement and the rule. All
+-- statements are counted, from 1 on. Rulesets are not typed yet: no script that is checked defines one.
+abbrev pub statements_typed : Env → (i before : ℕ) → List NodeTree → ScriptTree → Result (List NodeTree) (ℕ × ℕ)
+statements_typed env i before done [] = Ok done
+statements_typed env i before done (tree.assignment name kind e ∷ ss) = at i (assigned env before name e) (λ n. statements_typed (with_result env name n) (suc i) (before + count n) (done ++ n ∷ []) ss)
+statements_typed env i before done (s ∷ ss) = Err (i, 0)
+
+-- the nodes of a script over the declared structures, or its first fault
+abbrev pub script_typed : Env → ScriptTree → Result (List NodeTree) (ℕ × ℕ)
+script_typed env script = statements_typed env 1 0 [] script
+
+-- whether a statement defines a ruleset
+abbrev pub is_definition : StatementTree → Bool
+is_definition (tree.assignment name kind e) = false
+is_definition s = true
+
+abbrev pub has_definitions : ScriptTree → Bool
+has_definitions script = list_any is_definition script
+
+-- the answer is the typing, or the first fault; or it tells of want of memory
+abbrev pub Checks : {A : Type 0} → (A → List NodeTree) → Result A CheckErr → Result (List NodeTree) (ℕ × ℕ) → Type 0
+Checks view (Ok x) typing = typing ≡ Ok (view x)
+Checks view (Err (err.Mistyped i rule)) typing = typing ≡ Err (i, rule)
+Checks view (Err err.OutOfMemory) typing = Unit {0}
+
+abbrev pub fault_at : ℕ → TypeErr → CheckErr
+fault_at i (type.Broken rule) = err.Mistyped i rule
+fault_at i type.OutOfMemory = err.OutOfMemory

@@ -1,0 +1,8 @@
+//! The checker: the typing of scripts.
+#![tactic(auto)]
+
+mod checked;
+mod error;
+
+pub use checked::{Checked, check, defines_rulesets};
+pub use error::CheckErr;

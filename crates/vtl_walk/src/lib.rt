@@ -1,0 +1,6 @@
+//! The typing of expressions.
+#![tactic(auto)]
+
+mod walk;
+
+pub use walk::typing;
