@@ -59,10 +59,15 @@ abbrev pub has_definitions : ScriptTree → Bool
 has_definitions script = list_any is_definition script
 
 -- the answer is the typing, or the first fault; or it tells of want of memory
-abbrev pub Checks : {A : Type 0} → (A → List NodeTree) → Result A CheckErr → Result (List NodeTree) (ℕ × ℕ) → Type 0
+abbrev pub Checks : {A B : Type 0} → (A → B) → Result A CheckErr → Result B (ℕ × ℕ) → Type 0
 Checks view (Ok x) typing = typing ≡ Ok (view x)
 Checks view (Err (err.Mistyped i rule)) typing = typing ≡ Err (i, rule)
 Checks view (Err err.OutOfMemory) typing = Unit {0}
+
+-- whether a script is typed, without its nodes
+abbrev pub verdict : {A : Type 0} → Result A (ℕ × ℕ) → Result (Unit {0}) (ℕ × ℕ)
+verdict (Ok x) = Ok tt
+verdict (Err fault) = Err fault
 
 abbrev pub fault_at : ℕ → TypeErr → CheckErr
 fault_at i (type.Broken rule) = err.Mistyped i rule
