@@ -123,7 +123,7 @@ pub fn difference(
     made_of(alloc, structure, difference_tree(operator, left, right))
 }
 
-/// `exists_in`. It breaks rule 9 and 14.
+/// `exists_in`. It breaks rules 9 and 14.
 #[tactic(auto, unfolding(crate::specs::Sets::exists_form))]
 pub fn exists(
     alloc: Global,

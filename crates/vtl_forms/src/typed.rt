@@ -1,14 +1,13 @@
 // Typed expressions: values and data sets.
 ghost use Rattle.std.specs.Prelude.{◌≡◌, ◌∷◌, [], not};
 ghost use Rattle.vtl_cell.specs.ScalarKinds.{meets};
-ghost use Rattle.vtl_rule_tests.specs.Rules.{ruled};
-ghost use Rattle.vtl_typing.specs.Kinds.{exp_kind};
-ghost use Rattle.vtl_nodes.specs.View.{node_tree};
-ghost use Rattle.vtl_rule_tests.specs.Answers.{Answers};
-ghost use Rattle.vtl_tree.specs.View.{comp_exp_of};
 ghost use Rattle.vtl_nodes.specs.View.{form_tree};
+ghost use Rattle.vtl_rule_tests.specs.Answers.{Answers};
+ghost use Rattle.vtl_rule_tests.specs.Rules.{ruled};
 ghost use Rattle.vtl_shapes.specs.Clauses.{first_kind};
 ghost use Rattle.vtl_shapes.specs.Measures.{is_measure, measures};
+ghost use Rattle.vtl_tree.specs.View.{comp_exp_of};
+ghost use Rattle.vtl_typing.specs.Kinds.{exp_kind};
 ghost use Rattle.vtl_forms.specs.Typed.{beside_kind, boxed_tree, condition_in, dataset_in, made_of, typed_tree, value_in};
 
 use std::alloc::Global;
