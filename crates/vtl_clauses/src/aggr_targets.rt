@@ -1,7 +1,9 @@
 // The targets of `aggr`, behind their values.
 ghost use Rattle.std.specs.Option.{option_map};
 ghost use Rattle.std.specs.Prelude.{◌≡◌, IfOk, map};
-ghost use Rattle.vtl_nodes.specs.View.{agg_tree, form_tree};
+ghost use Rattle.vtl_nodes.specs.Trees as tree;
+ghost use Rattle.vtl_nodes.specs.View.{agg_tree, node_tree};
+ghost use Rattle.vtl_clauses.specs.Clauses.{made_of};
 ghost use Rattle.vtl_rule_tests.specs.Answers.{Answers};
 ghost use Rattle.vtl_syntax.specs.View.{expr_tree};
 ghost use Rattle.vtl_tree.specs.View.{comp_exp_of};
@@ -11,7 +13,7 @@ ghost use Rattle.vtl_shapes.specs.Choices.{chosen, is_chosen};
 ghost use Rattle.vtl_shapes.specs.Clauses.{aggr_form};
 ghost use Rattle.vtl_shapes.specs.Names.{is_among as among};
 ghost use Rattle.vtl_tree.specs.Structure.{names_of};
-ghost use Rattle.vtl_clauses.specs.Targets.{aggr_clause, aggr_name, aggr_tree, call_in, is_aggregate, made_as, made_names, made_target, targets_in, with_made};
+ghost use Rattle.vtl_clauses.specs.Targets.{aggr_clause, aggr_name, call_in, grouped, is_aggregate, made_as, made_names, made_target, targets_in, with_made};
 ghost use Rattle.vtl_clauses.specs.TargetsView.{AnswersLeft};
 
 use crate::Made;
@@ -183,20 +185,60 @@ fn targets_in(alloc: Global, made: Vec<Made>) -> Result<Vec<AggTarget>, AllocErr
     Ok(targets)
 }
 
-// An aggregate of groups as a form of a data set.
-fn aggregate_form(
+// The targets, the grouping and the condition of groups as the form of a data set.
+fn made_aggregate(
+    alloc: Global,
+    structure: Structure,
     operand: Box<Node>,
-    targets: Vec<AggTarget>,
-    grouping: List<Txt>,
-    having: Option<CompExpr>,
-) -> NodeForm
+    spec: AggSpec,
+) -> Result<Box<Node>, TypeErr>
+    ensures { Answers boxed_tree result (made_of (tree.aggregate (boxed_tree operand) (agg_tree spec)) structure) }
 {
-    let spec = AggSpec {
+    made(alloc, structure, NodeForm::Aggregate { a: operand, spec })
+}
+
+fn aggr_spec(
+    alloc: Global,
+    grouping: List<Txt>,
+    made: Vec<Made>,
+    having: Option<CompExpr>,
+) -> Result<AggSpec, AllocError>
+    ensures { IfOk result (λ spec. agg_tree spec ≡ record { items = AggItems.Targets (targets_in made.items); grouping = grouping; having = option_map comp_exp_of having }) }
+{
+    let targets = targets_in(alloc, made)?;
+    Ok(AggSpec {
         items: AggItems::Targets(List::of(targets)),
         grouping,
         having,
-    };
-    NodeForm::Aggregate { a: operand, spec }
+    })
+}
+
+fn aggregated(
+    alloc: Global,
+    structure: Structure,
+    grouping: List<Txt>,
+    operand: Box<Node>,
+    made: Vec<Made>,
+    having: Option<CompExpr>,
+) -> Result<Box<Node>, TypeErr>
+    ensures { Answers boxed_tree result (made_of (tree.aggregate (boxed_tree operand) (record { items = AggItems.Targets (targets_in made.items); grouping = grouping; having = option_map comp_exp_of having })) structure) }
+{
+    let spec = aggr_spec(alloc, grouping, made, having)?;
+    made_aggregate(alloc, structure, operand, spec)
+}
+
+// The structure of an aggregate, and the identifiers by which it is grouped.
+fn grouped(
+    alloc: Global,
+    group: &Option<GroupPart>,
+    operand: &Node,
+    made: &[Made],
+) -> Result<(Structure, List<Txt>), TypeErr>
+    ensures { Answers (λ of. of) result (grouped group.now (node_tree operand.now) made.now) }
+{
+    let structure = aggr_structure(alloc, group, &operand.structure, made)?;
+    let names = grouping_of(alloc, group, operand.structure.components.as_slice())?;
+    Ok((structure, names))
 }
 
 /// `aggr`, behind its targets, its grouping and the condition of groups. It breaks rules 11, 12 and 19.
@@ -210,5 +252,6 @@ pub fn aggr(
 ) -> Result<Box<Node>, TypeErr>
     ensures { Answers boxed_tree result (aggr_clause group.now (boxed_tree operand) made.items (option_map comp_exp_of having)) }
 {
-    Err(TypeErr::OutOfMemory)
+    let (structure, grouping) = grouped(alloc, group, &operand, &made)?;
+    aggregated(alloc, structure, grouping, operand, made, having)
 }

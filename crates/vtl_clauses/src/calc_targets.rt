@@ -3,7 +3,7 @@ ghost use Rattle.std.specs.List.{list_any};
 ghost use Rattle.std.specs.Prelude.{◌≡◌, IfOk, map};
 ghost use Rattle.vtl_nodes.specs.View.{form_tree, item_tree, node_tree, value_tree};
 ghost use Rattle.vtl_rule_tests.specs.Answers.{Answers};
-ghost use Rattle.vtl_forms.specs.Typed.{boxed_tree};
+ghost use Rattle.vtl_forms.specs.Typed.{boxed_tree, components_in};
 ghost use Rattle.vtl_groups.specs.Windowed.{given_kind};
 ghost use Rattle.vtl_shapes.specs.Clauses.{calc_form};
 ghost use Rattle.vtl_shapes.specs.Names.{is_among};
@@ -40,7 +40,10 @@ pub fn calc_name(operand: &Node, done: &[CalcItem], component: &Comp) -> Result<
 {
     let name = name(component);
     broken(5, is_target(name, done))?;
-    broken(6, is_identifier_name(operand.structure.components.as_slice(), name))
+    broken(
+        6,
+        is_identifier_name(operand.structure.components.as_slice(), name),
+    )
 }
 
 /// One more target of `calc` behind others.
@@ -131,15 +134,11 @@ fn targets_of(
     Ok(targets)
 }
 
-fn calc_structure(
-    alloc: Global,
-    structure: &Structure,
-    items: &[CalcItem],
-) -> Result<Structure, TypeErr>
-    ensures { Answers (λ s. s) result (calc_form (map (target_of structure.now.components) (map item_tree items.now)) structure.now.components) }
+fn calc_structure(alloc: Global, operand: &Node, items: &[CalcItem]) -> Result<Structure, TypeErr>
+    ensures { Answers (λ s. s) result (calc_form (map (target_of (components_in (node_tree operand.now))) (map item_tree items.now)) (components_in (node_tree operand.now))) }
 {
-    let targets = targets_of(alloc, structure.components.as_slice(), items)?;
-    vtl_shapes::calc(alloc, structure, &targets)
+    let targets = targets_of(alloc, operand.structure.components.as_slice(), items)?;
+    vtl_shapes::calc(alloc, &operand.structure, &targets)
 }
 
 fn is_analytic(item: &CalcItem) -> bool
@@ -162,7 +161,7 @@ fn any_analytic(items: &[CalcItem]) -> bool
     false
 }
 
-fn calc_form(operand: Box<Node>, items: Vec<CalcItem>) -> NodeForm
+fn form_of(operand: Box<Node>, items: Vec<CalcItem>) -> NodeForm
     ensures { form_tree result ≡ calc_tree (boxed_tree operand) (items_view items) }
 {
     let is_windowed = any_analytic(&items);
@@ -177,11 +176,22 @@ fn calc_form(operand: Box<Node>, items: Vec<CalcItem>) -> NodeForm
     }
 }
 
+fn made_calc(
+    alloc: Global,
+    structure: Structure,
+    operand: Box<Node>,
+    items: Vec<CalcItem>,
+) -> Result<Box<Node>, TypeErr>
+    ensures { Answers boxed_tree result (made_of (calc_tree (boxed_tree operand) (items_view items)) structure) }
+{
+    made(alloc, structure, form_of(operand, items))
+}
+
 /// `calc`, behind its targets. It breaks rules 12 and 19.
 #[tactic(auto, unfolding(crate::specs::Targets::calc_clause))]
 pub fn calc(alloc: Global, operand: Box<Node>, items: Vec<CalcItem>) -> Result<Box<Node>, TypeErr>
     ensures { Answers boxed_tree result (calc_clause (boxed_tree operand) (items_view items)) }
 {
-    let structure = calc_structure(alloc, &operand.structure, &items)?;
-    made(alloc, structure, calc_form(operand, items))
+    let structure = calc_structure(alloc, &operand, &items)?;
+    made_calc(alloc, structure, operand, items)
 }
