@@ -20,7 +20,3 @@ behind_more done o (Err rule) = refl
 pub operands_step : (done : List OperandTree) (x : PartTyped) (xs : List PartTyped) (o : OperandTree) → operand_in x ≡ Ok o
     → behind done (operands_in (x ∷ xs)) ≡ behind (done ++ o ∷ []) (operands_in xs)
 operands_step done x xs o h = ap (λ (r : Result OperandTree ℕ). behind done (r >>= λ o. operands_in xs >>= λ os. Ok (o ∷ os))) h ∙ behind_more done o (operands_in xs)
-
-pub operands_fail : (done : List OperandTree) (x : PartTyped) (xs : List PartTyped) (rule : ℕ) → operand_in x ≡ Err rule
-    → behind done (operands_in (x ∷ xs)) ≡ Err rule
-operands_fail done x xs rule h = ap (λ (r : Result OperandTree ℕ). behind done (r >>= λ o. operands_in xs >>= λ os. Ok (o ∷ os))) h

@@ -19,7 +19,6 @@ use Rattle.vtl_tree.specs.declared.structure.Structure.{Structure}
 use Rattle.vtl_tree.specs.declared.structure.Role.TheVariants as role
 use Rattle.vtl_nodes.specs.Trees as nodes
 use Rattle.vtl_nodes.specs.Trees.{AggTree, FormTree, ItemTree, NodeTree, ValueTree}
-use Rattle.vtl_nodes.specs.declared.calls.AnalyticCall.{AnalyticCall}
 use Rattle.vtl_nodes.specs.declared.specifications.AggItems.TheVariants as items
 use Rattle.vtl_nodes.specs.declared.specifications.AggTarget.{AggTarget}
 use Rattle.vtl_rule_tests.specs.Rules.{◌>>=◌, ruled}

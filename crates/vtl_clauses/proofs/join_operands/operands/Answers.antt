@@ -4,7 +4,8 @@ use Rattle.std.specs.Vec.Iter.{into_iter_items}
 use Rattle.vtl_nodes.specs.View.{operand_tree}
 use Rattle.vtl_clauses.specs.JoinOperands.{operand_in, operands_in}
 use Rattle.vtl_clauses.specs.JoinView.{part_view}
-use Rattle.vtl_clauses.proofs.ListLemmas.{nothing_left, one_more}
+use Rattle.std.proofs.lemmas.List.{map-append}
+use Rattle.vtl_clauses.proofs.ListLemmas.{nothing_left}
 use Rattle.vtl_clauses.proofs.OperandLemmas.{behind, operands_step}
 use Rattle.vtl_clauses.proofs.join_operands.operands.Goals as goal
 
@@ -14,7 +15,7 @@ loop-part-preserved c =
     let steps : into_iter_items at.part-iterator ≡ c.in-Some.part ∷ into_iter_items c.next.new.self = c.in-Some.ensures.steps.0 in
     let typed : operand_in (part_view c.in-Some.part) ≡ Ok (operand_tree c.in_ok-operand.operand) = c.in_ok-operand.ensures in
     let pushed : c.push.new.self.items ≡ at.operands.items ++ c.in_ok-operand.operand ∷ [] = c.in_ok-push.ensures.items in
-    let same : map operand_tree c.push.new.self.items ≡ map operand_tree at.operands.items ++ operand_tree c.in_ok-operand.operand ∷ [] = ap (map operand_tree) pushed ∙ one_more operand_tree at.operands.items c.in_ok-operand.operand in
+    let same : map operand_tree c.push.new.self.items ≡ map operand_tree at.operands.items ++ operand_tree c.in_ok-operand.operand ∷ [] = ap (map operand_tree) pushed ∙ map-append operand_tree at.operands.items (c.in_ok-operand.operand ∷ []) in
     let was : behind (map operand_tree at.operands.items) (operands_in (part_view c.in-Some.part ∷ map part_view (into_iter_items c.next.new.self))) ≡ operands_in (map part_view c.args.parts.items) = rw steps at at.invariant.0 in
     let step = operands_step (map operand_tree at.operands.items) (part_view c.in-Some.part) (map part_view (into_iter_items c.next.new.self)) (operand_tree c.in_ok-operand.operand) typed in (
       rw same (sym step ∙ was),
