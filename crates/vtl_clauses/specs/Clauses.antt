@@ -1,5 +1,5 @@
 -- The clauses, behind the parts that are expressions. The clauses of a join's body see the operands of the join.
-use Rattle.std.specs.Prelude.{ℕ, false, List, [], ◌∷◌, ◌++◌, Option, Some, None, option_and_then, Result, Ok, map}
+use Rattle.std.specs.Prelude.{ℕ, false, List, [], ◌∷◌, ◌++◌, Option, option_and_then, Result, Ok, map}
 use Rattle.std.specs.Result.{result_ok}
 use Rattle.vtl_decimal.specs.Settings.{Settings}
 use Rattle.vtl_cell.specs.Conversion.{as_kind}
@@ -29,7 +29,7 @@ use Rattle.vtl_shapes.specs.declared.names.Wanted.TheVariants as wanted
 use Rattle.vtl_shapes.specs.declared.renaming.Renaming.{Renaming}
 use Rattle.vtl_typing.specs.Columns.{name_of}
 use Rattle.vtl_typing.specs.Literals.{literal_cell, literal_kind, still_wanted, valued, wanted_or}
-use Rattle.vtl_forms.specs.Places.{Written, name_written, written_by}
+use Rattle.vtl_forms.specs.Places.{name_written, written_by}
 use Rattle.vtl_forms.specs.Typed.{TypedTree, components_in, condition_in}
 use Rattle.vtl_forms.specs.declared.places.Joined.{Joined}
 
@@ -41,10 +41,14 @@ unfoldable pub filter_form : NodeTree → TypedTree → Result NodeTree ℕ
 filter_form n x = condition_in x >>= λ e. made_of (nodes.filter n e) (structure_of n)
 
 -- ---- `keep` and `drop`
+-- the name that a reference is, which stands for a component of the wanted role behind other names
+unfoldable pub name_known : Option Joined → Wanted → List Component → List (List ℕ) → Reference → Result (List ℕ) ℕ
+name_known j w xs before r = name_written j (written_by r) >>= λ name. known w xs before name >>= λ x. Ok name
+
 -- names in written order behind others, as the wanted role asks of each
 abbrev pub names_typed : Option Joined → Wanted → List Component → List (List ℕ) → List Reference → Result (List (List ℕ)) ℕ
 names_typed j w xs before [] = Ok before
-names_typed j w xs before (r ∷ rs) = name_written j (written_by r) >>= λ name. known w xs before name >>= λ x. names_typed j w xs (before ++ name ∷ []) rs
+names_typed j w xs before (r ∷ rs) = name_known j w xs before r >>= λ name. names_typed j w xs (before ++ name ∷ []) rs
 
 abbrev pub keeping_choice : Keeping → Choice
 keeping_choice (keeping.Keep rs) = choice.Keep
@@ -71,11 +75,14 @@ renaming_to r name = record { from = name; to = name_of r.to }
 abbrev pub old_names : List Renaming → List (List ℕ)
 old_names rs = map (λ r. r.from) rs
 
+-- a renaming behind others, whose old names these are
+unfoldable pub renaming_known : Option Joined → List Component → List (List ℕ) → RenamePart → Result Renaming ℕ
+renaming_known j xs before r = name_known j wanted.Any xs before r.from >>= λ name. Ok (renaming_to r name)
+
 abbrev pub renamings_typed : Option Joined → List Component → List Renaming → List RenamePart → Result (List Renaming) ℕ
 renamings_typed j xs done [] = Ok done
 renamings_typed j xs done (r ∷ rs) =
-    name_written j (written_by r.from) >>= λ name. known wanted.Any xs (old_names done) name
-    >>= λ x. renamings_typed j xs (done ++ renaming_to r name ∷ []) rs
+    renaming_known j xs (old_names done) r >>= λ renaming. renamings_typed j xs (done ++ renaming ∷ []) rs
 
 abbrev pub renamed_of : NodeTree → List Renaming → Result NodeTree ℕ
 renamed_of n rs = rename_form rs (components_in n) >>= made_of (nodes.rename n rs)
@@ -95,14 +102,19 @@ sub_value p kind l = wanted_or (still_wanted false kind (literal_kind l)) >>= λ
 abbrev pub sub_item : List ℕ → Cell → SubItem
 sub_item name cell = record { id = name; value = cell }
 
+-- an identifier with its value, behind others of these names
+unfoldable pub sub_known : Settings → List Component → List (List ℕ) → SubPart → Result SubItem ℕ
+sub_known p xs before s =
+    known wanted.Identifier xs before (name_of s.component) >>= λ x. sub_value p x.kind s.value
+    >>= λ cell. Ok (sub_item (name_of s.component) cell)
+
 abbrev pub sub_names : List SubItem → List (List ℕ)
 sub_names items = map (λ i. i.id) items
 
 abbrev pub subs_typed : Settings → List Component → List SubItem → List SubPart → Result (List SubItem) ℕ
 subs_typed p xs done [] = Ok done
 subs_typed p xs done (s ∷ ss) =
-    known wanted.Identifier xs (sub_names done) (name_of s.component) >>= λ x. sub_value p x.kind s.value
-    >>= λ cell. subs_typed p xs (done ++ sub_item (name_of s.component) cell ∷ []) ss
+    sub_known p xs (sub_names done) s >>= λ item. subs_typed p xs (done ++ item ∷ []) ss
 
 abbrev pub sub_of : NodeTree → List SubItem → Result NodeTree ℕ
 sub_of n items = shaped (chosen choice.Drop (sub_names items) (components_in n)) >>= made_of (nodes.sub n items)

@@ -1,22 +1,123 @@
 // The clauses `filter`, `keep` and `drop`.
+ghost use Rattle.std.specs.Prelude.{◌≡◌, ◌++◌, [], IfOk, OnOk};
+ghost use Rattle.vtl_nodes.specs.View.{form_tree};
+ghost use Rattle.vtl_tree.specs.View.{comp_exp_of};
 ghost use Rattle.vtl_rule_tests.specs.Answers.{Answers};
+ghost use Rattle.vtl_shapes.specs.declared.names.Wanted.TheVariants as wanted_role;
 ghost use Rattle.vtl_forms.specs.Typed.{boxed_tree, typed_tree};
-ghost use Rattle.vtl_clauses.specs.Clauses.{filter_form, keeping_form};
+ghost use Rattle.vtl_clauses.specs.Clauses.{filter_form, keeping_choice, keeping_form, keeping_tree, made_of, name_known, names_typed, references_in};
 
-use std::alloc::Global;
-use vtl_forms::{Joined, Typed};
-use vtl_nodes::Node;
+use std::alloc::{AllocError, Global};
+use vtl_forms::{Joined, Typed, name_written, written_by};
+use vtl_nodes::{Node, NodeForm};
 use vtl_rule_tests::TypeErr;
-use vtl_syntax::Keeping;
+use vtl_shapes::{Choice, Wanted, choose, known, share_component};
+use vtl_syntax::{Keeping, Reference};
+use vtl_text::{List, Txt};
+use vtl_tree::{Component, Structure};
+
+// A data set of this structure, made so.
+pub(crate) fn made(
+    alloc: Global,
+    structure: Structure,
+    form: NodeForm,
+) -> Result<Box<Node>, TypeErr>
+    ensures { Answers boxed_tree result (made_of (form_tree form) structure) }
+{
+    Ok(Box::new(alloc, Node { structure, form })?)
+}
+
+fn push_components(out: &mut Vec<Component>, components: &[Component]) -> Result<(), AllocError>
+    ensures { OnOk result (out.new.items ≡ out.old.items ++ components.now) }
+{
+    for component in components {
+        out.push(share_component(component)?)?;
+    }
+    Ok(())
+}
+
+fn share_structure(alloc: Global, structure: &Structure) -> Result<Structure, AllocError>
+    ensures { IfOk result (λ copy. copy ≡ structure.now) }
+{
+    let mut components = Vec::new(alloc);
+    push_components(&mut components, structure.components.as_slice())?;
+    Ok(Structure {
+        components: List::of(components),
+    })
+}
 
 /// `filter`. The condition breaks rules 7 and 14.
+#[tactic(auto, unfolding(crate::specs::Clauses::filter_form))]
 pub fn filter(alloc: Global, operand: Box<Node>, condition: Typed) -> Result<Box<Node>, TypeErr>
     ensures { Answers boxed_tree result (filter_form (boxed_tree operand) (typed_tree condition)) }
 {
-    Err(TypeErr::OutOfMemory)
+    let c = vtl_forms::condition(condition)?;
+    let structure = share_structure(alloc, &operand.structure)?;
+    made(alloc, structure, NodeForm::Filter { a: operand, c })
+}
+
+// The name that a reference is, where it stands for a component of the wanted role behind other names.
+#[tactic(auto, unfolding(crate::specs::Clauses::name_known))]
+pub(crate) fn name_known(
+    alloc: Global,
+    joined: &Option<Joined>,
+    wanted: Wanted,
+    components: &[Component],
+    before: &[Txt],
+    reference: &Reference,
+) -> Result<Txt, TypeErr>
+    ensures { Answers (λ name. name) result (name_known joined.now wanted components.now before.now reference.now) }
+{
+    let name = name_written(alloc, joined, written_by(reference))?;
+    known(wanted, components, before, &name)?;
+    Ok(name)
+}
+
+fn names_typed(
+    alloc: Global,
+    joined: &Option<Joined>,
+    components: &[Component],
+    references: &[Reference],
+) -> Result<Vec<Txt>, TypeErr>
+    ensures { Answers (λ names. names.items) result (names_typed joined.now wanted_role.Value components.now [] references.now) }
+{
+    let mut names = Vec::new(alloc);
+    for reference in references {
+        names.push(name_known(alloc, joined, Wanted::Value, components, &names, reference)?)?;
+    }
+    Ok(names)
+}
+
+fn choice(keeping: &Keeping) -> Choice
+    ensures { result ≡ keeping_choice keeping.now }
+{
+    match keeping {
+        Keeping::Keep(_) => Choice::Keep,
+        Keeping::Drop(_) => Choice::Drop,
+    }
+}
+
+fn references(keeping: &Keeping) -> &[Reference]
+    ensures { result.now ≡ references_in keeping.now }
+{
+    match keeping {
+        Keeping::Keep(references) => references.as_slice(),
+        Keeping::Drop(references) => references.as_slice(),
+    }
+}
+
+fn form(keeping: &Keeping, operand: Box<Node>, names: Vec<Txt>) -> NodeForm
+    ensures { form_tree result ≡ keeping_tree keeping.now (boxed_tree operand) names.items }
+{
+    let names = List::of(names);
+    match keeping {
+        Keeping::Keep(_) => NodeForm::Keep { a: operand, names },
+        Keeping::Drop(_) => NodeForm::DropNamed { a: operand, names },
+    }
 }
 
 /// `keep` or `drop`. A name breaks rules 4, 5 and 6, and the clause 12 where nothing is left.
+#[tactic(auto, unfolding(crate::specs::Clauses::keeping_form))]
 pub fn keeping(
     alloc: Global,
     joined: &Option<Joined>,
@@ -25,5 +126,8 @@ pub fn keeping(
 ) -> Result<Box<Node>, TypeErr>
     ensures { Answers boxed_tree result (keeping_form joined.now (boxed_tree operand) keeping.now) }
 {
-    Err(TypeErr::OutOfMemory)
+    let components = operand.structure.components.as_slice();
+    let names = names_typed(alloc, joined, components, references(keeping))?;
+    let structure = choose(alloc, choice(keeping), &operand.structure, &names)?;
+    made(alloc, structure, form(keeping, operand, names))
 }

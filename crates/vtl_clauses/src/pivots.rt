@@ -3,12 +3,15 @@ ghost use Rattle.vtl_rule_tests.specs.Answers.{Answers};
 ghost use Rattle.vtl_forms.specs.Typed.{boxed_tree};
 ghost use Rattle.vtl_clauses.specs.Clauses.{pivot_of, unpivot_of};
 
+use crate::clauses::made;
 use std::alloc::Global;
-use vtl_nodes::Node;
+use vtl_nodes::{Node, NodeForm};
 use vtl_rule_tests::TypeErr;
 use vtl_syntax::Comp;
+use vtl_typing::name;
 
 /// `pivot`. It breaks rules 4, 6, 11, 12 and 13.
+#[tactic(auto, unfolding(crate::specs::Clauses::pivot_of))]
 pub fn pivot(
     alloc: Global,
     identifier: &Comp,
@@ -17,10 +20,14 @@ pub fn pivot(
 ) -> Result<Box<Node>, TypeErr>
     ensures { Answers boxed_tree result (pivot_of identifier.now measure.now (boxed_tree operand)) }
 {
-    Err(TypeErr::OutOfMemory)
+    let id = name(identifier).share()?;
+    let m = name(measure).share()?;
+    let structure = vtl_shapes::pivot(alloc, &operand.structure, &id, &m)?;
+    made(alloc, structure, NodeForm::Pivot { a: operand, id, m })
 }
 
 /// `unpivot`. It breaks rules 10, 11 and 12.
+#[tactic(auto, unfolding(crate::specs::Clauses::unpivot_of))]
 pub fn unpivot(
     alloc: Global,
     identifier: &Comp,
@@ -29,5 +36,8 @@ pub fn unpivot(
 ) -> Result<Box<Node>, TypeErr>
     ensures { Answers boxed_tree result (unpivot_of identifier.now measure.now (boxed_tree operand)) }
 {
-    Err(TypeErr::OutOfMemory)
+    let id = name(identifier).share()?;
+    let m = name(measure).share()?;
+    let structure = vtl_shapes::unpivot(alloc, &operand.structure, &id, &m)?;
+    made(alloc, structure, NodeForm::Unpivot { a: operand, id, m })
 }
