@@ -17,7 +17,7 @@ ghost use Rattle.vtl_clauses.specs.Targets.{aggr_clause, aggr_name, call_in, gro
 ghost use Rattle.vtl_clauses.specs.TargetsView.{AnswersLeft};
 
 use crate::Made;
-use crate::made_nodes::made;
+use crate::clauses::made;
 use crate::targets::role_of;
 use std::alloc::{AllocError, Global};
 use vtl_cell::Kind;

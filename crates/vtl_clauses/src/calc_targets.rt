@@ -11,7 +11,7 @@ ghost use Rattle.vtl_clauses.specs.Clauses.{made_of};
 ghost use Rattle.vtl_clauses.specs.Targets.{calc_clause, calc_name, calc_tree, component_kind, is_analytic, item_names, role_of, target_of, value_kind, with_item};
 ghost use Rattle.vtl_clauses.specs.TargetsView.{AnswersLeft, items_view};
 
-use crate::made_nodes::made;
+use crate::clauses::made;
 use crate::targets::role_of;
 use std::alloc::{AllocError, Global};
 use vtl_cell::Kind;

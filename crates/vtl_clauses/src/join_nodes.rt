@@ -12,39 +12,25 @@ ghost use Rattle.vtl_clauses.specs.Clauses.{made_of};
 ghost use Rattle.vtl_clauses.specs.JoinOperands.{is_left, joined_node, joined_of, last_naming, left_names, shape_of, using_names};
 ghost use Rattle.vtl_clauses.specs.JoinView.{operands_view};
 
-use crate::made_nodes::made;
+use crate::clauses::{made, share_structure};
 use crate::renames::renamed;
 use std::alloc::{AllocError, Global};
 use vtl_forms::Joined;
 use vtl_joins::{Operand, held_names, join, last_renamings};
 use vtl_nodes::{JoinOperand, JoinSpec, Node, NodeForm};
 use vtl_rule_tests::TypeErr;
-use vtl_shapes::{Renaming, component_of, share_component};
+use vtl_shapes::{Renaming, component_of};
 use vtl_syntax::{Comp, JoinKind};
 use vtl_text::{List, Shared, Txt};
 use vtl_tree::{Component, Structure};
 use vtl_typing::name;
 
-fn share_components(alloc: Global, components: &[Component]) -> Result<Vec<Component>, AllocError>
-    ensures { IfOk result (λ v. v.items ≡ components.now) }
-{
-    let mut out = Vec::new(alloc);
-    for component in components {
-        out.push(share_component(component)?)?;
-    }
-    Ok(out)
-}
-
 fn shape_of(alloc: Global, operand: &JoinOperand) -> Result<Operand, AllocError>
     ensures { IfOk result (λ o. o ≡ shape_of (operand_tree operand.now)) }
 {
-    let components = share_components(alloc, operand.node.structure.components.as_slice())?;
-    let structure = Structure {
-        components: List::of(components),
-    };
     Ok(Operand {
         alias: operand.alias.share()?,
-        structure,
+        structure: share_structure(alloc, &operand.node.structure)?,
     })
 }
 

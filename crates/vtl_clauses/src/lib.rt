@@ -6,7 +6,6 @@ mod calc_targets;
 mod clauses;
 mod join_nodes;
 mod join_operands;
-mod made_nodes;
 mod pivots;
 mod renames;
 mod subsetting;
