@@ -3,7 +3,7 @@ ghost use Rattle.std.specs.List.{list_any};
 ghost use Rattle.std.specs.Prelude.{◌≡◌, IfOk, map};
 ghost use Rattle.vtl_nodes.specs.View.{form_tree, item_tree, node_tree, value_tree};
 ghost use Rattle.vtl_rule_tests.specs.Answers.{Answers};
-ghost use Rattle.vtl_forms.specs.Typed.{boxed_tree, components_in};
+ghost use Rattle.vtl_forms.specs.Typed.{boxed_tree};
 ghost use Rattle.vtl_groups.specs.Windowed.{given_kind};
 ghost use Rattle.vtl_shapes.specs.Clauses.{calc_form};
 ghost use Rattle.vtl_shapes.specs.Names.{is_among};
@@ -134,11 +134,15 @@ fn targets_of(
     Ok(targets)
 }
 
-fn calc_structure(alloc: Global, operand: &Node, items: &[CalcItem]) -> Result<Structure, TypeErr>
-    ensures { Answers (λ s. s) result (calc_form (map (target_of (components_in (node_tree operand.now))) (map item_tree items.now)) (components_in (node_tree operand.now))) }
+fn calc_structure(
+    alloc: Global,
+    structure: &Structure,
+    items: &[CalcItem],
+) -> Result<Structure, TypeErr>
+    ensures { Answers (λ s. s) result (calc_form (map (target_of structure.now.components) (map item_tree items.now)) structure.now.components) }
 {
-    let targets = targets_of(alloc, operand.structure.components.as_slice(), items)?;
-    vtl_shapes::calc(alloc, &operand.structure, &targets)
+    let targets = targets_of(alloc, structure.components.as_slice(), items)?;
+    vtl_shapes::calc(alloc, structure, &targets)
 }
 
 fn is_analytic(item: &CalcItem) -> bool
@@ -192,6 +196,6 @@ fn made_calc(
 pub fn calc(alloc: Global, operand: Box<Node>, items: Vec<CalcItem>) -> Result<Box<Node>, TypeErr>
     ensures { Answers boxed_tree result (calc_clause (boxed_tree operand) (items_view items)) }
 {
-    let structure = calc_structure(alloc, &operand, &items)?;
+    let structure = calc_structure(alloc, &operand.structure, &items)?;
     made_calc(alloc, structure, operand, items)
 }
