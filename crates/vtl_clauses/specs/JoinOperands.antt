@@ -36,16 +36,21 @@ abbrev pub alias_of : Exp → Option (List ℕ) → Result (List ℕ) ℕ
 alias_of e (Some alias) = Ok alias
 alias_of e None = own_alias e
 
--- one more operand behind others: it has an alias (21), which none before it has (5)
-unfoldable pub with_part : List PartTyped → Exp → Option (List ℕ) → TypedTree → Result (List PartTyped) ℕ
-with_part done e a x =
-    alias_of e a >>= λ alias. ruled ((5, is_among alias (aliases_in done)) ∷ []) (tt {0})
-    >>= λ u. Ok (done ++ record { operand = x; alias = alias } ∷ [])
+-- the alias of one more operand behind others: it has one (21), which none before it has (5)
+abbrev pub new_alias : List PartTyped → Exp → Option (List ℕ) → Result (List ℕ) ℕ
+new_alias done e a = alias_of e a >>= λ alias. ruled ((5, is_among alias (aliases_in done)) ∷ []) alias
 
--- all operands have to be data sets (14)
+-- one more operand behind others
+unfoldable pub with_part : List PartTyped → Exp → Option (List ℕ) → TypedTree → Result (List PartTyped) ℕ
+with_part done e a x = new_alias done e a >>= λ alias. Ok (done ++ record { operand = x; alias = alias } ∷ [])
+
+-- an operand has to be a data set (14)
+abbrev pub operand_in : PartTyped → Result OperandTree ℕ
+operand_in x = dataset_in x.operand >>= λ n. Ok (record { node = n; alias = x.alias })
+
 abbrev pub operands_in : List PartTyped → Result (List OperandTree) ℕ
 operands_in [] = Ok []
-operands_in (x ∷ xs) = dataset_in x.operand >>= λ n. operands_in xs >>= λ os. Ok (record { node = n; alias = x.alias } ∷ os)
+operands_in (x ∷ xs) = operand_in x >>= λ o. operands_in xs >>= λ os. Ok (o ∷ os)
 
 abbrev pub shape_of : OperandTree → Operand
 shape_of o = record { alias = o.alias; structure = structure_of o.node }

@@ -15,10 +15,10 @@ use Rattle.vtl_tree.specs.CompExp.{CompExp}
 use Rattle.vtl_tree.specs.declared.expression.AggCall.{AggCall}
 use Rattle.vtl_tree.specs.declared.structure.Component.{Component}
 use Rattle.vtl_tree.specs.declared.structure.Role.{Role}
+use Rattle.vtl_tree.specs.declared.structure.Structure.{Structure}
 use Rattle.vtl_tree.specs.declared.structure.Role.TheVariants as role
 use Rattle.vtl_nodes.specs.Trees as nodes
 use Rattle.vtl_nodes.specs.Trees.{AggTree, FormTree, ItemTree, NodeTree, ValueTree}
-use Rattle.vtl_nodes.specs.declared.calls.AnalyticCall.{AnalyticCall}
 use Rattle.vtl_nodes.specs.declared.specifications.AggItems.TheVariants as items
 use Rattle.vtl_nodes.specs.declared.specifications.AggTarget.{AggTarget}
 use Rattle.vtl_rule_tests.specs.Rules.{◌>>=◌, ruled}
@@ -108,6 +108,11 @@ targets_in made = map (λ m. m.target) made
 
 abbrev pub aggr_tree : Option GroupPart → NodeTree → List Made → Option CompExp → AggTree
 aggr_tree g n made having = record { items = items.Targets (targets_in made); grouping = grouping_of g (components_in n); having = having }
+
+-- the structure that `aggr` gives, and the identifiers by which its groups are formed
+abbrev pub grouped : Option GroupPart → NodeTree → List Made → Result (Structure × List (List ℕ)) ℕ
+grouped g n made =
+    aggr_form (grouping_choice g) (grouping_names g) (map made_target made) (components_in n) >>= λ s. Ok (s, grouping_of g (components_in n))
 
 unfoldable pub aggr_clause : Option GroupPart → NodeTree → List Made → Option CompExp → Result NodeTree ℕ
 aggr_clause g n made having =

@@ -36,7 +36,7 @@ fn push_components(out: &mut Vec<Component>, components: &[Component]) -> Result
     Ok(())
 }
 
-fn share_structure(alloc: Global, structure: &Structure) -> Result<Structure, AllocError>
+pub(crate) fn share_structure(alloc: Global, structure: &Structure) -> Result<Structure, AllocError>
     ensures { IfOk result (λ copy. copy ≡ structure.now) }
 {
     let mut components = Vec::new(alloc);
