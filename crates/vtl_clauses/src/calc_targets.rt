@@ -4,7 +4,6 @@ ghost use Rattle.std.specs.Prelude.{◌≡◌, IfOk, map};
 ghost use Rattle.vtl_nodes.specs.View.{form_tree, item_tree, node_tree, value_tree};
 ghost use Rattle.vtl_rule_tests.specs.Answers.{Answers};
 ghost use Rattle.vtl_forms.specs.Typed.{boxed_tree};
-ghost use Rattle.vtl_groups.specs.Windowed.{given_kind};
 ghost use Rattle.vtl_shapes.specs.Clauses.{calc_form};
 ghost use Rattle.vtl_shapes.specs.Names.{is_among};
 ghost use Rattle.vtl_clauses.specs.Clauses.{made_of};
@@ -15,13 +14,14 @@ use crate::clauses::made;
 use crate::targets::role_of;
 use std::alloc::{AllocError, Global};
 use vtl_cell::Kind;
-use vtl_nodes::{AnalyticOp, AnalyticSpec, CalcItem, CalcValue, Node, NodeForm};
+use vtl_groups::given_kind;
+use vtl_nodes::{AnalyticSpec, CalcItem, CalcValue, Node, NodeForm};
 use vtl_rule_tests::{TypeErr, broken};
 use vtl_shapes::{Target, component_of, is_identifier_name};
 use vtl_syntax::{Comp, WrittenRole};
 use vtl_text::{List, Txt};
 use vtl_tree::{Component, Structure};
-use vtl_typing::{kind, meets, name};
+use vtl_typing::{kind, name};
 
 fn is_target(name: &Txt, done: &[CalcItem]) -> bool
     ensures { result ≡ is_among name.now (item_names (map item_tree done.now)) }
@@ -73,29 +73,6 @@ fn component_kind(components: &[Component], name: &Option<Txt>) -> Kind
     match component_of(name, components) {
         Some(component) => component.kind,
         None => Kind::Null,
-    }
-}
-
-fn sum_kind(kind: Kind) -> Kind
-    ensures { result ≡ given_kind AnalyticOp.Sum kind }
-{
-    if meets(Kind::Int, kind) {
-        Kind::Int
-    } else {
-        Kind::Num
-    }
-}
-
-fn given_kind(op: &AnalyticOp, kind: Kind) -> Kind
-    ensures { result ≡ given_kind op.now kind }
-{
-    match op {
-        AnalyticOp::Sum => sum_kind(kind),
-        AnalyticOp::Avg => Kind::Num,
-        AnalyticOp::Count => Kind::Int,
-        AnalyticOp::Rank => Kind::Int,
-        AnalyticOp::RatioToReport => Kind::Num,
-        _ => kind,
     }
 }
 

@@ -8,7 +8,6 @@ ghost use Rattle.vtl_forms.specs.Typed.{typed_tree};
 ghost use Rattle.vtl_groups.specs.Windowed.{kind_beside, no_window, over_columns, over_of, over_parts};
 
 use crate::Call;
-use crate::beside::beside_kind;
 use crate::calls::call_typed;
 use std::alloc::Global;
 use vtl_cell::Kind;
@@ -78,7 +77,7 @@ fn kind_beside(operand: &Option<Typed>) -> Kind
     ensures { result ≡ kind_beside (option_map typed_tree operand.now) }
 {
     match operand {
-        Some(operand) => beside_kind(operand),
+        Some(operand) => operand.beside_kind(),
         None => Kind::Null,
     }
 }

@@ -2,7 +2,6 @@
 #![tactic(auto)]
 
 mod aggregates;
-mod beside;
 mod calc_targets;
 mod call_windows;
 mod calls;
