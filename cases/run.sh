@@ -117,6 +117,7 @@ for folder in cases/*/; do
                 done
             done
             ;;
+        types) for file in cases/types/*.csv; do table types cases/types/structures.txt "$file"; done ;;
         prefix) for file in cases/prefix/*.csv; do table prefixes "${file%.*}.vtl" "$file"; done ;;
         *) for file in "cases/$word"/*.csv; do table "$word" "$file"; done ;;
     esac

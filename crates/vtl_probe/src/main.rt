@@ -23,6 +23,7 @@ mod times;
 mod tokens;
 mod tree;
 mod trouble;
+mod types;
 mod values;
 mod words;
 
@@ -70,7 +71,33 @@ fn carried_out<'a, F: Files>(
             let text = files::text(alloc, files, path)?;
             tables::verdict(alloc, tables::Table::Prefixes, &script, &text)
         }
+        Command::Types { structures, path } => {
+            let structures = files::text(alloc, files, structures)?;
+            let text = files::text(alloc, files, path)?;
+            tables::verdict(alloc, tables::Table::Types, &structures, &text)
+        }
+        Command::Check {
+            script,
+            structures,
+            scale,
+        } => {
+            let script = files::text(alloc, files, script)?;
+            let structures = files::text(alloc, files, structures)?;
+            checked(alloc, &script, &structures, scale)
+        }
         Command::Tokens(path) => Ok(tokens::printed(alloc, &files::text(alloc, files, path)?)?),
         Command::Tree(path) => Ok(syntax::printed(alloc, &files::text(alloc, files, path)?)?),
+    }
+}
+
+fn checked<'a>(
+    alloc: Global,
+    script: &str,
+    structures: &str,
+    scale: &str,
+) -> Result<Report, Trouble<'a>> {
+    match types::printed(alloc, script, structures, scale) {
+        Ok(report) => Ok(report),
+        Err(error) => Err(Trouble::Words(error.why())),
     }
 }

@@ -57,7 +57,7 @@ fn push_record(out: &mut String, dataset: &Txt, component: &Component) -> Result
     )
 }
 
-fn role_word(role: Role) -> &'static str {
+pub(crate) fn role_word(role: Role) -> &'static str {
     match role {
         Role::Identifier => "identifier",
         Role::Measure => "measure",
@@ -65,7 +65,7 @@ fn role_word(role: Role) -> &'static str {
     }
 }
 
-fn push_codes(
+pub(crate) fn push_codes(
     alloc: Global,
     out: &mut String,
     codes: &Option<Shared<Txt>>,

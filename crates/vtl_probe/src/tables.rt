@@ -2,7 +2,7 @@
 use crate::report::{Report, Tally};
 use crate::rows::Row;
 use crate::trouble::{CaseErr, Trouble};
-use crate::{datasets, order, structures, sums, syntax, tokens, values};
+use crate::{datasets, order, structures, sums, syntax, tokens, types, values};
 use csv::{Reader, ReaderBuilder, StringRecord};
 use std::alloc::{AllocError, Global};
 
@@ -29,6 +29,8 @@ pub(crate) enum Table {
     Depth,
     // The same as for `Syntax`, of the texts at the front of a script.
     Prefixes,
+    // What scripts are typed as over structures, or their faults.
+    Types,
     // What structures files declare, or their faults.
     Structures,
     // What CSV files of a data set hold, or their faults.
@@ -67,12 +69,14 @@ impl Table {
             Table::Syntax => ("text,done,byte", 1),
             Table::Depth => ("head,open,middle,close,tail,most", 6),
             Table::Prefixes => ("from,to,done,byte", 2),
+            Table::Types => ("scale,script,answer", 2),
             Table::Structures => ("text,answer", 1),
             Table::Datasets => ("scale,rounding,structures,text,answer", 4),
         }
     }
 
-    // What comes of a case, as its wanted columns have it. A table of prefixes has a script.
+    // What comes of a case, as its wanted columns have it. A table of prefixes has a script, one of types
+    // structures.
     fn came(self, alloc: Global, script: &str, row: &Row) -> Result<String, CaseErr> {
         match self {
             Table::Scalars => values::scalar(alloc, row),
@@ -85,6 +89,7 @@ impl Table {
             Table::Syntax => Ok(syntax::outcome(alloc, row.field(0))?),
             Table::Depth => syntax::nested(alloc, row),
             Table::Prefixes => syntax::fronts(alloc, script, row),
+            Table::Types => types::outcome(alloc, script, row),
             Table::Structures => Ok(structures::declared(alloc, row.field(0))?),
             Table::Datasets => datasets::rewritten(alloc, row),
         }

@@ -4,6 +4,8 @@ use std::alloc::{AllocError, AllocFailed, Global};
 const USAGE: &str = "the words are one of
   scalars|values|order|periods|names|sums|lexed|syntax|depth|structures|datasets TABLE
   prefixes SCRIPT TABLE
+  types STRUCTURES TABLE
+  check SCRIPT STRUCTURES [--scale D]
   tokens FILE
   tree FILE
   time add|mul|div|read|write|records|data_sets|codes COUNT";
@@ -14,6 +16,7 @@ pub(crate) enum Trouble<'a> {
     File { path: &'a str, why: &'static str },
     Header(&'static str),
     Case { case: usize, why: &'static str },
+    Words(&'static str),
     Memory,
 }
 
@@ -25,6 +28,7 @@ impl<'a> Trouble<'a> {
             Trouble::File { path, why } => joined(alloc, why, ": ", path),
             Trouble::Header(header) => joined(alloc, "the header is not", " ", header),
             Trouble::Case { case, why } => format!(in alloc; "case {case}: {why}"),
+            Trouble::Words(why) => String::from_str(alloc, why),
             Trouble::Memory => String::from_str(alloc, "no memory"),
         }
     }

@@ -6,6 +6,8 @@ use crate::times::{Order, order_of};
 pub(crate) enum Command<'a> {
     Table { table: Table, path: &'a str },
     Prefixes { script: &'a str, path: &'a str },
+    Types { structures: &'a str, path: &'a str },
+    Check { script: &'a str, structures: &'a str, scale: &'a str },
     Tokens(&'a str),
     Tree(&'a str),
     Time(Order),
@@ -18,6 +20,7 @@ pub(crate) fn command_of(words: &[String]) -> Option<Command> {
     match words.len() {
         2 => with_one(name, first),
         3 => with_two(name, first, words.get(2)?.as_str()),
+        5 => scaled(words),
         _ => None,
     }
 }
@@ -39,7 +42,28 @@ fn with_two<'a>(name: &str, first: &'a str, second: &'a str) -> Option<Command<'
             script: first,
             path: second,
         }),
+        "types" => Some(Command::Types {
+            structures: first,
+            path: second,
+        }),
+        "check" => Some(Command::Check {
+            script: first,
+            structures: second,
+            scale: "6",
+        }),
         "time" => Some(Command::Time(order_of(first, second)?)),
+        _ => None,
+    }
+}
+
+// `check SCRIPT STRUCTURES --scale D`
+fn scaled(words: &[String]) -> Option<Command> {
+    match (words.first()?.as_str(), words.get(3)?.as_str()) {
+        ("check", "--scale") => Some(Command::Check {
+            script: words.get(1)?.as_str(),
+            structures: words.get(2)?.as_str(),
+            scale: words.get(4)?.as_str(),
+        }),
         _ => None,
     }
 }

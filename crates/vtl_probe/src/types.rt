@@ -1,0 +1,127 @@
+// The typing of scripts.
+use crate::notation::{kind_word, profile};
+use crate::report::Report;
+use crate::rows::Row;
+use crate::structures::{push_codes, role_word};
+use crate::trouble::CaseErr;
+use std::alloc::{AllocError, Global};
+use vtl_check::{CheckErr, Checked, check, defines_rulesets};
+use vtl_csv::{StructErr, read_structures};
+use vtl_decimal::Profile;
+use vtl_parser::{ParseErr, parse};
+use vtl_syntax::Script;
+use vtl_tree::{Component, Structures};
+
+// What is told of a script, with the exit code that `vtl` has for it.
+fn answered(
+    alloc: Global,
+    text: &str,
+    structures: &str,
+    profile: &Profile,
+) -> Result<Report, AllocError> {
+    match parse(alloc, text) {
+        Ok(script) => over_structures(alloc, &script, structures, profile),
+        Err(ParseErr::Syntax { done, byte }) => Ok(Report {
+            text: format!(in alloc; "error: syntax after {done} statements at byte {byte}")?,
+            code: 2,
+        }),
+        Err(ParseErr::OutOfMemory) => Err(AllocError),
+    }
+}
+
+fn over_structures(
+    alloc: Global,
+    script: &Script,
+    structures: &str,
+    profile: &Profile,
+) -> Result<Report, AllocError> {
+    match read_structures(alloc, structures.as_bytes()) {
+        Ok(structures) => typed(alloc, script, &structures, profile),
+        Err(StructErr::Structure { line, rule }) => Ok(Report {
+            text: format!(in alloc; "error: structures line {line} rule {rule}")?,
+            code: 2,
+        }),
+        Err(StructErr::OutOfMemory) => Err(AllocError),
+    }
+}
+
+fn typed(
+    alloc: Global,
+    script: &Script,
+    structures: &Structures,
+    profile: &Profile,
+) -> Result<Report, AllocError> {
+    if defines_rulesets(script) {
+        return Ok(Report {
+            text: String::from_str(alloc, "error: unbuilt: rulesets")?,
+            code: 8,
+        });
+    }
+    match check(alloc, script, structures, profile) {
+        Ok(checked) => Ok(Report {
+            text: last_structure(alloc, &checked)?,
+            code: 0,
+        }),
+        Err(CheckErr::Mistyped { statement, rule }) => Ok(Report {
+            text: format!(in alloc; "error: type in statement {statement} rule {rule}")?,
+            code: 3,
+        }),
+        Err(CheckErr::OutOfMemory) => Err(AllocError),
+    }
+}
+
+// The structure of the last result, a component behind the other.
+fn last_structure(alloc: Global, checked: &Checked) -> Result<String, AllocError> {
+    let mut out = String::from_str(alloc, "typed")?;
+    if let Some(node) = checked.nodes().last() {
+        for component in node.structure.components.as_slice() {
+            push_component(alloc, &mut out, component)?;
+        }
+    }
+    Ok(out)
+}
+
+fn push_component(
+    alloc: Global,
+    out: &mut String,
+    component: &Component,
+) -> Result<(), AllocError> {
+    write!(
+        out,
+        "; {} {} {}",
+        component.name.as_str(),
+        role_word(component.role),
+        kind_word(component.kind)
+    )?;
+    if component.codes.is_some() {
+        out.push(' ')?;
+    }
+    push_codes(alloc, out, &component.codes)
+}
+
+// What comes of a script by the structures that its table has.
+pub(crate) fn outcome(alloc: Global, structures: &str, row: &Row) -> Result<String, CaseErr> {
+    let profile = profile(row.field(0), "half_up")?;
+    Ok(answered(alloc, row.field(1), structures, &profile)?.text)
+}
+
+// `typed`, or the line that `vtl` would answer.
+pub(crate) fn printed(
+    alloc: Global,
+    text: &str,
+    structures: &str,
+    scale: &str,
+) -> Result<Report, CaseErr> {
+    let profile = profile(scale, "half_up")?;
+    let answer = answered(alloc, text, structures, &profile)?;
+    if answer.code == 0 {
+        return Ok(Report {
+            text: String::from_str(alloc, "typed\n")?,
+            code: 0,
+        });
+    }
+    Ok(Report {
+        text: format!(in alloc; "{}\n", answer.text)?,
+        code: answer.code,
+    })
+}
