@@ -2,6 +2,7 @@
 #![tactic(auto)]
 
 mod checked;
+mod count;
 mod error;
 
 pub use checked::{Checked, check, defines_rulesets};
