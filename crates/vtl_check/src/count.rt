@@ -1,10 +1,25 @@
 // How many nodes expressions have.
-ghost use Rattle.std.specs.Prelude.{◌≡◌, map, option_map};
+ghost use Rattle.std.specs.Prelude.{◌≡◌, ◌≤◌, ◌+◌, if◌then◌else◌, map, IfSome, None, Some, option_map};
 ghost use Rattle.vtl_nodes.specs.Trees.{maybe_node, nodes_of, operands_of};
 ghost use Rattle.vtl_nodes.specs.View.{node_tree, operand_tree};
+ghost use Rattle.vtl_check.specs.Count.{count};
+ghost use Rattle.vtl_check.specs.Script.{is_too_much, most_nodes};
 ghost use Rattle.vtl_check.specs.Spent.{all_spent, maybe_spent, operands_spent, spent, without};
 
 use vtl_nodes::{JoinOperand, Node, NodeForm};
+
+/// The most nodes of a script.
+const MAX_NODES: usize = 4096;
+
+/// The nodes so far and those of an expression, or none where they are more than a script may have.
+pub fn counted(before: usize, node: &Node) -> Option<usize>
+    requires { before ≤ most_nodes }
+    ensures sum { result ≡ (if is_too_much before (node_tree node.now) then None else Some (before + count (node_tree node.now))) }
+    ensures few { IfSome result (λ all. all ≤ most_nodes) }
+{
+    let left = spend(node, MAX_NODES - before)?;
+    Some(MAX_NODES - left)
+}
 
 fn one_less(left: usize) -> Option<usize>
     ensures { result ≡ without 1 left }
@@ -14,7 +29,7 @@ fn one_less(left: usize) -> Option<usize>
 
 // What is left of so many nodes behind an expression, or none where it has more. So no sum can overflow.
 #[cycle(count)]
-pub fn spend(node: &Node, left: usize) -> Option<usize>
+fn spend(node: &Node, left: usize) -> Option<usize>
     ensures { result ≡ spent (node_tree node.now) left }
 {
     match &node.form {

@@ -4,6 +4,7 @@
 mod checked;
 mod count;
 mod error;
+mod script;
 
 pub use checked::{Checked, check, defines_rulesets};
 pub use error::CheckErr;
