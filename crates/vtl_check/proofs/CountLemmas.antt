@@ -15,7 +15,7 @@ pub without-many : (taken left : ℕ) → left < taken → without taken left �
 without-many taken left h = go (leb_tells taken left)
   where
     go : ((leb taken left ≡ true) × (taken ≤ left)) ⊎ ((leb taken left ≡ false) × (left < taken)) → without taken left ≡ None
-    go (inl p) = let bad : 1 ≤ 0 = omega (arith, p.1) in grind arith
+    go (inl p) = absurd (omega (arith, p.1))
     go (inr p) = ap (λ b. cond b (Some (left - taken)) None) p.0
 
 pub without-none : (left : ℕ) → without 0 left ≡ Some left
@@ -123,5 +123,5 @@ pub sum-few : (n : NodeTree) (before rest : ℕ) → before ≤ most_nodes → r
 sum-few n before rest h e = go (leb_tells (suc most_nodes) (before + count n))
   where
     go : ((leb (suc most_nodes) (before + count n) ≡ true) × (suc most_nodes ≤ before + count n)) ⊎ ((leb (suc most_nodes) (before + count n) ≡ false) × (before + count n < suc most_nodes)) → Some (most_nodes - rest) ≡ sum n before
-    go (inl p) = let bad : 1 ≤ 0 = omega (arith, p.1) in grind arith
+    go (inl p) = absurd (omega (arith, p.1))
     go (inr p) = ap Some (omega (arith, p.1)) ∙ sym (ap (λ b. cond b None (Some (before + count n))) p.0)

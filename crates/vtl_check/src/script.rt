@@ -11,6 +11,7 @@ ghost use Rattle.vtl_check.specs.Script.{Checks, assigned, fault_at, most_nodes,
 
 use crate::CheckErr;
 use crate::count::counted;
+use indexmap::IndexMap;
 use std::alloc::{AllocError, Global};
 use vtl_forms::{Place, Scope};
 use vtl_nodes::Node;
@@ -32,6 +33,25 @@ pub fn share_structure(alloc: Global, structure: &Structure) -> Result<Structure
     Ok(Structure {
         components: List::of(components),
     })
+}
+
+fn is_known(known: &IndexMap<Txt, Structure>, name: &Txt) -> bool
+    ensures { result ≡ has_name name.now known.now.entries }
+{
+    known.contains_key(name)
+}
+
+// Puts a structure behind the others, under a name that none has yet.
+fn put(
+    known: &mut IndexMap<Txt, Structure>,
+    name: &Txt,
+    structure: Structure,
+) -> Result<(), AllocError>
+    requires { has_name name.now known.old.entries ≡ false }
+    ensures { OnOk result (known.new.entries ≡ known.old.entries ++ (name.now, structure) ∷ []) }
+{
+    known.insert(name.share()?, structure)?;
+    Ok(())
 }
 
 // The value of a statement, where it is a data set.
@@ -56,7 +76,7 @@ fn assigned(
     ensures sum { IfOk result (λ r. r.1 ≡ before + count (boxed_tree r.0)) }
     ensures few { IfOk result (λ r. r.1 ≤ most_nodes) }
 {
-    if scope.known.contains_key(name) {
+    if is_known(&scope.known, name) {
         return Err(TypeErr::Broken(2));
     }
     let node = value(alloc, scope, e)?;
@@ -77,8 +97,7 @@ fn add_result(
     ensures { OnOk result (env_of scope.new ≡ with_result (env_of scope.old) name.now (node_tree node.now)) }
 {
     let structure = share_structure(alloc, &node.structure)?;
-    scope.known.insert(name.share()?, structure)?;
-    Ok(())
+    put(&mut scope.known, name, structure)
 }
 
 // A fault with the number of its statement.
