@@ -1,3 +1,4 @@
 pub mod Checked
 pub mod Count
 pub mod Script
+pub mod Spent

@@ -2,7 +2,9 @@
 #![tactic(auto)]
 
 mod checked;
+mod count;
 mod error;
+mod script;
 
 pub use checked::{Checked, check, defines_rulesets};
 pub use error::CheckErr;

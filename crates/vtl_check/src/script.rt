@@ -1,0 +1,144 @@
+// The typing of statements, each over the declared data sets and the results before it.
+ghost use Rattle.std.specs.Prelude.{◌≡◌, ◌≤◌, ◌+◌, ◌++◌, [], ◌∷◌, false, map, IfOk, OnOk};
+ghost use Rattle.vtl_syntax.specs.View.{expr_tree, statement_tree};
+ghost use Rattle.vtl_tree.specs.Structures.{has_name};
+ghost use Rattle.vtl_nodes.specs.View.{node_tree};
+ghost use Rattle.vtl_rule_tests.specs.Answers.{Answers};
+ghost use Rattle.vtl_forms.specs.Places.{env_of};
+ghost use Rattle.vtl_forms.specs.Typed.{boxed_tree};
+ghost use Rattle.vtl_check.specs.Count.{count};
+ghost use Rattle.vtl_check.specs.Script.{Checks, assigned, fault_at, most_nodes, statements_typed, value_typed, with_result};
+
+use crate::CheckErr;
+use crate::count::counted;
+use indexmap::IndexMap;
+use std::alloc::{AllocError, Global};
+use vtl_forms::{Place, Scope};
+use vtl_nodes::Node;
+use vtl_rule_tests::{TypeErr};
+use vtl_shapes::share_component;
+use vtl_syntax::{Expr, Statement};
+use vtl_text::{List, Txt};
+use vtl_tree::Structure;
+use vtl_walk::typing;
+
+/// Another owner of a structure.
+pub fn share_structure(alloc: Global, structure: &Structure) -> Result<Structure, AllocError>
+    ensures { IfOk result (λ s. s ≡ structure.now) }
+{
+    let mut components = Vec::new(alloc);
+    for component in structure.components.as_slice() {
+        components.push(share_component(component)?)?;
+    }
+    Ok(Structure {
+        components: List::of(components),
+    })
+}
+
+fn is_known(known: &IndexMap<Txt, Structure>, name: &Txt) -> bool
+    ensures { result ≡ has_name name.now known.now.entries }
+{
+    known.contains_key(name)
+}
+
+// Puts a structure behind the others, under a name that none has yet.
+fn put(
+    known: &mut IndexMap<Txt, Structure>,
+    name: &Txt,
+    structure: Structure,
+) -> Result<(), AllocError>
+    requires { has_name name.now known.old.entries ≡ false }
+    ensures { OnOk result (known.new.entries ≡ known.old.entries ++ (name.now, structure) ∷ []) }
+{
+    known.insert(name.share()?, structure)?;
+    Ok(())
+}
+
+// The value of a statement, where it is a data set.
+fn value(alloc: Global, scope: &Scope, e: &Expr) -> Result<Box<Node>, TypeErr>
+    ensures { Answers boxed_tree result (value_typed (env_of scope.now) (expr_tree e.now)) }
+{
+    typing(alloc, scope, &Place::Outside, e)?.dataset()
+}
+
+// The node of a statement, with the number of nodes so far and its own.
+#[tactic(auto, unfolding(crate::specs::Script::assigned))]
+fn assigned(
+    alloc: Global,
+    scope: &Scope,
+    before: usize,
+    name: &Txt,
+    e: &Expr,
+) -> Result<(Box<Node>, usize), TypeErr>
+    requires { before ≤ most_nodes }
+    ensures typing { Answers (λ r. boxed_tree r.0) result (assigned (env_of scope.now) before name.now (expr_tree e.now)) }
+    ensures new_name { IfOk result (λ r. has_name name.now scope.now.known.entries ≡ false) }
+    ensures sum { IfOk result (λ r. r.1 ≡ before + count (boxed_tree r.0)) }
+    ensures few { IfOk result (λ r. r.1 ≤ most_nodes) }
+{
+    if is_known(&scope.known, name) {
+        return Err(TypeErr::Broken(2));
+    }
+    let node = value(alloc, scope, e)?;
+    match counted(before, &node) {
+        Some(all) => Ok((node, all)),
+        None => Err(TypeErr::Broken(20)),
+    }
+}
+
+// Makes the result of a statement known.
+fn add_result(
+    alloc: Global,
+    scope: &mut Scope,
+    name: &Txt,
+    node: &Node,
+) -> Result<(), AllocError>
+    requires { has_name name.now scope.old.known.entries ≡ false }
+    ensures { OnOk result (env_of scope.new ≡ with_result (env_of scope.old) name.now (node_tree node.now)) }
+{
+    let structure = share_structure(alloc, &node.structure)?;
+    put(&mut scope.known, name, structure)
+}
+
+// A fault with the number of its statement.
+fn fault(statement: usize, error: TypeErr) -> CheckErr
+    ensures { result ≡ fault_at statement error }
+{
+    match error {
+        TypeErr::Broken(rule) => CheckErr::Mistyped { statement, rule },
+        TypeErr::OutOfMemory => CheckErr::OutOfMemory,
+    }
+}
+
+/// The nodes of statements.
+pub fn typed_statements(
+    alloc: Global,
+    mut scope: Scope,
+    statements: &[Statement],
+) -> Result<Vec<Node>, CheckErr>
+    ensures { Checks (λ v. map node_tree v.items) result (statements_typed (env_of scope) 1 0 [] (map statement_tree statements.now)) }
+{
+    let mut nodes = Vec::new(alloc);
+    let mut before = 0;
+    for i in 0..statements.len() {
+        match &statements[i] {
+            Statement::Assignment { name, value, .. } => {
+                match assigned(alloc, &scope, before, name, value) {
+                    Ok((node, all)) => {
+                        add_result(alloc, &mut scope, name, &node)?;
+                        nodes.push(Box::into_inner(node))?;
+                        before = all;
+                    }
+                    Err(error) => return Err(fault(i + 1, error)),
+                }
+            }
+            _ => {
+                return Err(CheckErr::Mistyped {
+                    statement: i + 1,
+                    rule: 0,
+                });
+            }
+        }
+    }
+    Ok(nodes)
+}
