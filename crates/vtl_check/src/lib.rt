@@ -5,6 +5,8 @@ mod checked;
 mod count;
 mod error;
 mod script;
+mod verdicts;
 
 pub use checked::{Checked, check, defines_rulesets};
 pub use error::CheckErr;
+pub use verdicts::verdict;

@@ -1,0 +1,27 @@
+// Whether a script is typed.
+ghost use Rattle.std.specs.Prelude.{◌≡◌, false};
+ghost use Rattle.vtl_syntax.specs.View.{script_tree};
+ghost use Rattle.vtl_check.specs.Checked.{env_over};
+ghost use Rattle.vtl_check.specs.Script.{Checks, has_definitions, script_typed, verdict};
+
+use crate::{CheckErr, check};
+use std::alloc::Global;
+use vtl_decimal::Profile;
+use vtl_syntax::Script;
+use vtl_tree::Structures;
+
+/// Whether a script is typed over declared structures, as `check` says, without its nodes.
+pub fn verdict(
+    alloc: Global,
+    script: &Script,
+    structures: &Structures,
+    profile: &Profile,
+) -> Result<(), CheckErr>
+    requires { has_definitions (script_tree script.now) ≡ false }
+    ensures { Checks (λ u. u) result (verdict (script_typed (env_over profile.now structures.now) (script_tree script.now))) }
+{
+    match check(alloc, script, structures, profile) {
+        Ok(_) => Ok(()),
+        Err(error) => Err(error),
+    }
+}
