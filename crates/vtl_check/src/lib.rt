@@ -4,6 +4,7 @@
 mod checked;
 mod count;
 mod error;
+mod known;
 mod script;
 
 pub use checked::{Checked, check, defines_rulesets};
