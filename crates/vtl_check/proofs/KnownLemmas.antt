@@ -1,5 +1,5 @@
 -- Data sets that are known, as a map by name, and as it is copied.
-use Rattle.std.proofs.Common.{◌≡◌, ℕ, ◌+◌, ◌<◌, Bool, true, false, cond, ◌||◌, ◌++◌, List, [], ◌∷◌, length, map, take, get_or, slice_get, Some, is_some, option_map, Result, Ok, Err, OnOk, refl, sym, ap, ◌∙◌}
+use Rattle.std.proofs.Common.{◌≡◌, ℕ, ◌+◌, Bool, true, false, cond, ◌||◌, ◌++◌, List, [], ◌∷◌, take, slice_get, Some, is_some, option_map, Result, Ok, Err, OnOk, refl, sym, ap, ◌∙◌}
 use Rattle.std.specs.List.{list_any}
 use Rattle.std.specs.Map.{keys_of, lookup}
 use Rattle.std.proofs.lemmas.List.{take-map, take_more}

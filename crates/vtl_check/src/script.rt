@@ -15,7 +15,7 @@ use crate::known::{is_known, put, share_structure};
 use std::alloc::{AllocError, Global};
 use vtl_forms::{Place, Scope};
 use vtl_nodes::Node;
-use vtl_rule_tests::{TypeErr};
+use vtl_rule_tests::TypeErr;
 use vtl_syntax::{Expr, Statement};
 use vtl_text::Txt;
 use vtl_walk::typing;
@@ -53,12 +53,7 @@ fn assigned(
 }
 
 // Makes the result of a statement known.
-fn add_result(
-    alloc: Global,
-    scope: &mut Scope,
-    name: &Txt,
-    node: &Node,
-) -> Result<(), AllocError>
+fn add_result(alloc: Global, scope: &mut Scope, name: &Txt, node: &Node) -> Result<(), AllocError>
     requires { has_name name.now scope.old.known.entries ≡ false }
     ensures { OnOk result (env_of scope.new ≡ with_result (env_of scope.old) name.now (node_tree node.now)) }
 {

@@ -1,4 +1,4 @@
-use Rattle.std.proofs.Common.{◌≡◌, sym, ◌∙◌}
+use Rattle.std.proofs.Common.{sym, ◌∙◌}
 use Rattle.vtl_check.proofs.KnownLemmas.{has_name-lookup}
 use Rattle.vtl_check.proofs.known.is_known.Goals as goal
 

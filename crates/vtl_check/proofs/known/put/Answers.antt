@@ -1,4 +1,4 @@
-use Rattle.std.proofs.Common.{◌≡◌, ap, ◌∙◌}
+use Rattle.std.proofs.Common.{ap, ◌∙◌}
 use Rattle.indexmap.specs.IndexMap.{insert_entry}
 use Rattle.vtl_tree.specs.Structure.{same_name}
 use Rattle.vtl_tree.proofs.StructuresLemmas.{insert_new}
