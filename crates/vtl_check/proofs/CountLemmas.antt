@@ -1,6 +1,6 @@
 -- What is left behind an expression is the number without its nodes.
-use Rattle.std.proofs.Common.{◌≡◌, ℕ, zero, suc, ◌+◌, ◌-◌, ◌≤◌, ◌<◌, ◌⊎◌, inl, inr, Bool, true, false, cond, nat_le, nat_lt, leb, Option, Some, None, option_and_then, refl, sym, ap, ◌∙◌, arith}
-use Rattle.std.proofs.lemmas.Bool.{leb-true, le-leb}
+use Rattle.std.proofs.Common.{◌≡◌, ℕ, suc, ◌+◌, ◌-◌, ◌≤◌, ◌<◌, ◌⊎◌, inl, inr, true, false, cond, leb, Option, Some, None, option_and_then, refl, sym, ap, ◌∙◌, arith}
+use Rattle.std.proofs.lemmas.Bool.{le-leb}
 use Rattle.std.proofs.lemmas.Bool.Decides.{leb_tells}
 use Rattle.vtl_nodes.specs.Trees as nodes
 use Rattle.vtl_nodes.specs.Trees.{FormTree, MaybeNode, NodeTree, NodeTrees, OperandTrees}
@@ -27,6 +27,7 @@ then-without a b left = go (leb_tells a left)
     rest : a ≤ left → ((leb b (left - a) ≡ true) × (b ≤ left - a)) ⊎ ((leb b (left - a) ≡ false) × (left - a < b)) → without b (left - a) ≡ without (a + b) left
     rest h (inl p) = without-few b (left - a) p.1 ∙ ap Some (omega arith) ∙ sym (without-few (a + b) left (omega (arith, p.1)))
     rest h (inr p) = without-many b (left - a) p.1 ∙ sym (without-many (a + b) left (omega (arith, p.1)))
+
     go : ((leb a left ≡ true) × (a ≤ left)) ⊎ ((leb a left ≡ false) × (left < a)) → option_and_then (without b) (without a left) ≡ without (a + b) left
     go (inl p) = ap (option_and_then (without b)) (without-few a left p.1) ∙ rest p.1 (leb_tells b (left - a))
     go (inr p) = ap (option_and_then (without b)) (without-many a left p.1) ∙ sym (without-many (a + b) left (omega (arith, p.1)))

@@ -3,6 +3,7 @@ use Rattle.std.specs.Prelude.{◌≡◌, List, Ok, map}
 use Rattle.vtl_decimal.specs.Settings.{Settings}
 use Rattle.vtl_syntax.specs.Trees.{ScriptTree}
 use Rattle.vtl_syntax.specs.View.{statement_tree}
+use Rattle.vtl_syntax.specs.declared.statements.Script.{Script}
 use Rattle.vtl_syntax.specs.declared.statements.Statement.{Statement}
 use Rattle.vtl_tree.specs.Structures.{Named}
 use Rattle.vtl_nodes.specs.Trees.{NodeTree}
@@ -17,6 +18,10 @@ pub record TypedScript : Type 0 where
   pub declared : Named
   pub settings : Settings
   pub nodes : List Node
+
+-- a script with structures, settings and nodes
+abbrev pub typed_script : Script → Named → Settings → List Node → TypedScript
+typed_script script declared settings nodes = record { script = script.statements; declared = declared; settings = settings; nodes = nodes }
 
 abbrev pub env_over : Settings → Named → Env
 env_over settings declared = record { settings = settings; known = declared }

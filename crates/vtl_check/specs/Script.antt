@@ -1,9 +1,9 @@
 -- The typing of scripts: statements in order, each over the declared data sets and the results before it.
-use Rattle.std.specs.Prelude.{◌≡◌, ℕ, suc, nat_lt, ◌+◌, Bool, true, false, not, List, [], ◌∷◌, ◌++◌, Result, Ok, Err}
+use Rattle.std.specs.Prelude.{◌≡◌, ℕ, suc, nat_lt, ◌+◌, Bool, true, false, List, [], ◌∷◌, ◌++◌, Result, Ok, Err}
 use Rattle.std.specs.List.{list_any}
 use Rattle.vtl_syntax.specs.Trees as tree
 use Rattle.vtl_syntax.specs.Trees.{Exp, ScriptTree, StatementTree}
-use Rattle.vtl_tree.specs.Structures.{Named, has_name}
+use Rattle.vtl_tree.specs.Structures.{has_name}
 use Rattle.vtl_nodes.specs.Trees.{NodeTree, structure_of}
 use Rattle.vtl_rule_tests.specs.Rules.{◌>>=◌, ruled}
 use Rattle.vtl_rule_tests.specs.declared.error.TypeErr.{TypeErr}

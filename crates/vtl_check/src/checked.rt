@@ -2,14 +2,17 @@
 ghost use Rattle.std.specs.Prelude.{◌≡◌, IfOk, Ok, false, map};
 ghost use Rattle.vtl_syntax.specs.View.{script_tree, statement_tree};
 ghost use Rattle.vtl_nodes.specs.View.{node_tree};
-ghost use Rattle.vtl_check.specs.Checked.{IsTyped, TypedScript, env_over, nodes_of};
+ghost use Rattle.vtl_check.specs.Checked.{IsTyped, TypedScript, env_over, nodes_of, typed_script};
 ghost use Rattle.vtl_check.specs.Script.{Checks, has_definitions, is_definition, script_typed};
 
 use crate::CheckErr;
+use crate::known::share_structures;
+use crate::script::typed_statements;
 use indexmap::IndexMap;
-use std::alloc::Global;
+use std::alloc::{AllocError, Global};
 use std::marker::Model;
 use vtl_decimal::Profile;
+use vtl_forms::Scope;
 use vtl_nodes::Node;
 use vtl_syntax::{Script, Statement};
 use vtl_text::{Shared, Txt};
@@ -84,6 +87,26 @@ pub fn defines_rulesets(script: &Script) -> bool
     false
 }
 
+// The script with its nodes.
+fn with_nodes(
+    alloc: Global,
+    script: &Script,
+    structures: &Structures,
+    profile: &Profile,
+    nodes: Vec<Node>,
+) -> Result<Checked, AllocError>
+    requires { IsTyped (typed_script script.now structures.now profile.now nodes.items) }
+    ensures { IfOk result (λ c. c ≡ typed_script script.now structures.now profile.now nodes.items) }
+{
+    let declared = share_structures(alloc, structures)?;
+    Ok(Checked {
+        script: script.statements.share()?,
+        declared,
+        profile: *profile,
+        nodes,
+    })
+}
+
 /// The typing of a script over declared structures (VTL 2.0; docs/TYPES.md): the script with its nodes, or the first statement that
 /// breaks a rule, and the smallest rule that its first wrong part breaks. It takes a script without rulesets, and shares it.
 pub fn check(
@@ -98,5 +121,11 @@ pub fn check(
     ensures declared { IfOk result (λ c. c.declared ≡ structures.now) }
     ensures settings { IfOk result (λ c. c.settings ≡ profile.now) }
 {
-    Err(CheckErr::OutOfMemory)
+    let known = share_structures(alloc, structures)?;
+    let scope = Scope {
+        profile: *profile,
+        known,
+    };
+    let nodes = typed_statements(alloc, scope, script.statements.as_slice())?;
+    Ok(with_nodes(alloc, script, structures, profile, nodes)?)
 }

@@ -4,6 +4,7 @@
 mod checked;
 mod count;
 mod error;
+mod known;
 mod script;
 mod verdicts;
 

@@ -11,48 +11,14 @@ ghost use Rattle.vtl_check.specs.Script.{Checks, assigned, fault_at, most_nodes,
 
 use crate::CheckErr;
 use crate::count::counted;
-use indexmap::IndexMap;
+use crate::known::{is_known, put, share_structure};
 use std::alloc::{AllocError, Global};
 use vtl_forms::{Place, Scope};
 use vtl_nodes::Node;
-use vtl_rule_tests::{TypeErr};
-use vtl_shapes::share_component;
+use vtl_rule_tests::TypeErr;
 use vtl_syntax::{Expr, Statement};
-use vtl_text::{List, Txt};
-use vtl_tree::Structure;
+use vtl_text::Txt;
 use vtl_walk::typing;
-
-/// Another owner of a structure.
-pub fn share_structure(alloc: Global, structure: &Structure) -> Result<Structure, AllocError>
-    ensures { IfOk result (λ s. s ≡ structure.now) }
-{
-    let mut components = Vec::new(alloc);
-    for component in structure.components.as_slice() {
-        components.push(share_component(component)?)?;
-    }
-    Ok(Structure {
-        components: List::of(components),
-    })
-}
-
-fn is_known(known: &IndexMap<Txt, Structure>, name: &Txt) -> bool
-    ensures { result ≡ has_name name.now known.now.entries }
-{
-    known.contains_key(name)
-}
-
-// Puts a structure behind the others, under a name that none has yet.
-fn put(
-    known: &mut IndexMap<Txt, Structure>,
-    name: &Txt,
-    structure: Structure,
-) -> Result<(), AllocError>
-    requires { has_name name.now known.old.entries ≡ false }
-    ensures { OnOk result (known.new.entries ≡ known.old.entries ++ (name.now, structure) ∷ []) }
-{
-    known.insert(name.share()?, structure)?;
-    Ok(())
-}
 
 // The value of a statement, where it is a data set.
 fn value(alloc: Global, scope: &Scope, e: &Expr) -> Result<Box<Node>, TypeErr>
@@ -87,12 +53,7 @@ fn assigned(
 }
 
 // Makes the result of a statement known.
-fn add_result(
-    alloc: Global,
-    scope: &mut Scope,
-    name: &Txt,
-    node: &Node,
-) -> Result<(), AllocError>
+fn add_result(alloc: Global, scope: &mut Scope, name: &Txt, node: &Node) -> Result<(), AllocError>
     requires { has_name name.now scope.old.known.entries ≡ false }
     ensures { OnOk result (env_of scope.new ≡ with_result (env_of scope.old) name.now (node_tree node.now)) }
 {

@@ -8,5 +8,5 @@ use Rattle.vtl_check.proofs.script.typed_statements.Given as goal
 abbrev pub invariant-loop-i : goal.invariant-loop-i
 invariant-loop-i l = record {
   few : l.before ≤ most_nodes;
-  typing : statements_typed (env_of l.scope) (l.i + 1) l.before (map node_tree l.nodes.items) (map statement_tree (drop l.i l.statements)) ≡ statements_typed (env_of l.fn.scope) 1 0 [] (map statement_tree l.statements)
+  typing : statements_typed (env_of l.scope) (l.i + 1) l.before (map node_tree l.nodes.items) (map statement_tree (drop l.i l.statements)) ≡ statements_typed (env_of l.fn.scope) 1 0 [] (map statement_tree l.statements);
 }

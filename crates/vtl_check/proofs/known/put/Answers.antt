@@ -1,8 +1,8 @@
-use Rattle.std.proofs.Common.{◌≡◌, ap, ◌∙◌}
+use Rattle.std.proofs.Common.{ap, ◌∙◌}
 use Rattle.indexmap.specs.IndexMap.{insert_entry}
 use Rattle.vtl_tree.specs.Structure.{same_name}
-use Rattle.vtl_check.proofs.KnownLemmas.{insert_new}
-use Rattle.vtl_check.proofs.script.put.Goals as goal
+use Rattle.vtl_tree.proofs.StructuresLemmas.{insert_new}
+use Rattle.vtl_check.proofs.known.put.Goals as goal
 
 pub returns : goal.returns
 returns c =
