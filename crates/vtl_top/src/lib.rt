@@ -13,6 +13,7 @@ mod structures;
 #[cfg(test)]
 mod tests;
 mod top;
+mod typing;
 mod words;
 
 pub use laws::{expected_is_determined, output_is_meant, structures_have_identifiers};
