@@ -1,6 +1,6 @@
 -- The outputs are what the script means.
-use Rattle.std.proofs.Common.{◌≡◌, ℕ, Bool, true, false, cond, List, [], map, Option, Some, None, Result, Ok, Err, refl, sym, subst}
-use Rattle.std.specs.Prelude.{IsUtf8, chars}
+use Rattle.std.proofs.Common.{◌≡◌, ℕ, Bool, true, false, List, [], map, Option, Some, None, Result, Ok, Err, refl, sym, subst}
+use Rattle.std.specs.Prelude.{IsUtf8}
 use Rattle.vtl_cell.specs.Outcome.{Fault as EvaluationFault}
 use Rattle.vtl_syntax.specs.Trees.{ScriptTree}
 use Rattle.vtl_parser.specs.Parsed.{IsScript}
@@ -11,24 +11,23 @@ use Rattle.vtl_check.specs.Checked.{env_over}
 use Rattle.vtl_check.specs.Script.{has_definitions, script_typed, verdict}
 use Rattle.vtl_plan.specs.Assigned.{Assigned, assigned_in}
 use Rattle.vtl_plan.specs.Typed.{checked, inputs_of}
-use Rattle.vtl_top.specs.Expected.{checked_step, data_step, declared_step, formed, inputs_step, output_of, outputs_of, planned_step, read, results_step, run_step, script_in, script_limit, script_of, script_step, statements_step, structures_step, typed_or_fault, typed_step, typing_of}
+use Rattle.vtl_top.specs.Expected.{checked_step, data_step, declared_step, formed, inputs_step, output_of, outputs_of, planned_step, read, results_step, run_step, script_in, script_limit, script_of, script_step, statements_step, structures_step, typed_or_fault, typed_step, typing_of, without_rulesets}
 use Rattle.vtl_top.specs.Words.{Run}
 use Rattle.vtl_top.specs.Steps.{Behind, File, Held, Step, onward, settled}
 use Rattle.vtl_top.specs.ScriptFile.{IsParsed, Parsed, faulty, no_text, whole}
 use Rattle.vtl_top.specs.Meant.{IsMeant}
 use Rattle.vtl_top.specs.declared.status.Status.{Status}
-use Rattle.vtl_top.specs.declared.status.Status.TheVariants as st
 
-formed_some : {A : Type 0} (path : List ℕ) (o : Option A) (x : A) → formed path o ≡ Ok x → o ≡ Some x
+formed_some : {A : Type 0} (path : List ℕ) (o : Option A) (x : A) → Ok x ≡ formed path o → o ≡ Some x
 formed_some path None x e = cc
 formed_some path (Some y) x e = cc
 
 -- the tree is that of the text
-record IsRead (text : List ℕ) (tree : ScriptTree) : Type 0 where
-  utf8 : IsUtf8 text
-  parsed : IsScript text tree
+pub record IsRead (text : List ℕ) (tree : ScriptTree) : Type 0 where
+  pub utf8 : IsUtf8 text
+  pub parsed : IsScript text tree
 
-read_from : (path text : List ℕ) (parsed : Parsed) (tree : ScriptTree) → IsParsed text parsed → Ok tree ≡ script_in path parsed → IsRead text tree
+pub read_from : (path text : List ℕ) (parsed : Parsed) (tree : ScriptTree) → IsParsed text parsed → Ok tree ≡ script_in path parsed → IsRead text tree
 read_from path text no_text tree is e = cc
 read_from path text (faulty done byte) tree is e = cc
 read_from path text (whole t) tree is e = let same : tree ≡ t = cc in record { utf8 = is.0; parsed = subst (λ x. IsScript text x) (sym same) is.1 }
@@ -37,7 +36,7 @@ read_from path text (whole t) tree is e = let same : tree ≡ t = cc in record {
 plain_from : (r : Run) (tree : ScriptTree) (held : Held) (files : List File) → (statements_step r tree).gives held (Ok files) → (has_definitions tree ≡ false) × (declared_step r tree).gives held (Ok files)
 plain_from r tree held files g = go (has_definitions tree) refl g
   where
-    go : (b : Bool) → has_definitions tree ≡ b → (cond b (settled (Err (st.Unbuilt (chars r.script)))) (declared_step r tree)).gives held (Ok files) → (has_definitions tree ≡ false) × (declared_step r tree).gives held (Ok files)
+    go : (b : Bool) → has_definitions tree ≡ b → (without_rulesets r tree b).gives held (Ok files) → (has_definitions tree ≡ false) × (declared_step r tree).gives held (Ok files)
     go true is g = cc
     go false is g = (is, g)
 
@@ -52,7 +51,7 @@ written_from r (Ok results) files e = (results, refl, cc)
 written_from r (Err fault) files e = cc
 
 -- a value of two steps is a value of the first and then of the second
-went_on : {A B : Type 0} (step : Step A) (next : A → Step B) (held : Held) (y : B) → (onward step next).gives held (Ok y) → (x : A) × step.gives held (Ok x) × (next x).gives held (Ok y)
+pub went_on : {A B : Type 0} (step : Step A) (next : A → Step B) (held : Held) (y : B) → (onward step next).gives held (Ok y) → (x : A) × step.gives held (Ok x) × (next x).gives held (Ok y)
 went_on {A} step next held y (first, is, rest) = by_first first is rest
   where
     by_first : (first : Result A Status) → step.gives held first → Behind first (λ x. (next x).gives held) (Ok y) → (x : A) × step.gives held (Ok x) × (next x).gives held (Ok y)
@@ -87,8 +86,8 @@ meant r held files g =
       plain = p.0;
       declared = c.1;
       fits = n.1;
-      built = formed_some r.script (assigned_in a.0) b.0 (sym b.1);
-      typed = formed_some r.script (checked c.0 b.0) o.0 (sym o.1);
+      built = formed_some r.script (assigned_in a.0) b.0 b.1;
+      typed = formed_some r.script (checked c.0 b.0) o.0 o.1;
       read = d.1;
       means = w.1;
       written = w.2;

@@ -31,7 +31,7 @@ use Rattle.std.proofs.lemmas.Str.{IsUtf8-from_is_utf8, is_utf8-from_IsUtf8}
 use Rattle.std.proofs.Common.{Bool, true, false, cond}
 use Rattle.vtl_top.specs.Kinds.{Told, refused, told_by}
 use Rattle.std.proofs.Common.{◌∷◌, []}
-use Rattle.vtl_top.specs.Expected.{checked_step, csv_limit, data_step, dataset_step, declared_step, formed, input_path, inputs_step, one_more_step, outputs_of, planned_step, points_or_fault, read, results_step, run_step, script_in, script_limit, script_of, script_step, statements_step, structures_limit, structures_step, typed_or_fault, typed_step, typing_of, with_points}
+use Rattle.vtl_top.specs.Expected.{checked_step, csv_limit, data_step, dataset_step, declared_step, formed, input_path, inputs_step, one_more_step, outputs_of, planned_step, points_or_fault, read, results_step, run_step, script_in, script_limit, script_of, script_step, statements_step, structures_limit, structures_step, typed_or_fault, typed_step, typing_of, with_points, without_rulesets}
 use Rattle.vtl_top.specs.Words.{Run}
 use Rattle.vtl_tree.specs.Structures.{Named}
 use Rattle.vtl_top.specs.ScriptFile.{IsParsed, Parsed, faulty, no_text, whole}
@@ -177,7 +177,7 @@ declared_once r script held =
 statements_once : (r : Run) (script : ScriptTree) (held : Held) → Once (statements_step r script) held
 statements_once r script held = by (has_definitions script)
   where
-    by : (b : Bool) → Once (cond b (settled (Err (st.Unbuilt (chars r.script)))) (declared_step r script)) held
+    by : (b : Bool) → Once (without_rulesets r script b) held
     by true = settled_once (Err (st.Unbuilt (chars r.script))) held
     by false = declared_once r script held
 

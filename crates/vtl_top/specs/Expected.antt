@@ -1,5 +1,5 @@
 -- What the words and the files that are held give: the outputs of the run, or the first refusal.
-use Rattle.std.specs.Prelude.{◌≡◌, ℕ, List, [], ◌∷◌, ◌++◌, length, map, nat_lt, Option, Some, None, Result, Ok, Err, codes, chars, encode_utf8_all, if◌then◌else◌}
+use Rattle.std.specs.Prelude.{◌≡◌, ℕ, Bool, true, false, List, [], ◌∷◌, ◌++◌, length, map, nat_lt, Option, Some, None, Result, Ok, Err, codes, chars, encode_utf8_all, if◌then◌else◌}
 use Rattle.vtl_files.specs.Outside.{bytes_at}
 use Rattle.vtl_cell.specs.Outcome.{Fault as EvaluationFault}
 use Rattle.vtl_cell.specs.Row.{Row}
@@ -140,9 +140,14 @@ checked_step r script structures = onward (settled (typing_of r script structure
 abbrev pub declared_step : Run → ScriptTree → Step (List File)
 declared_step r script = onward (structures_step r.structures) (checked_step r script)
 
--- what follows the script's tree: a script that defines rulesets is not built
+-- a script that defines rulesets is not built
+abbrev pub without_rulesets : Run → ScriptTree → Bool → Step (List File)
+without_rulesets r script true = settled (Err (st.Unbuilt (chars r.script)))
+without_rulesets r script false = declared_step r script
+
+-- what follows the script's tree
 abbrev pub statements_step : Run → ScriptTree → Step (List File)
-statements_step r script = if has_definitions script then settled (Err (st.Unbuilt (chars r.script))) else declared_step r script
+statements_step r script = without_rulesets r script (has_definitions script)
 
 -- what a run gives: its outputs, or the first refusal
 abbrev pub run_step : Run → Step (List File)

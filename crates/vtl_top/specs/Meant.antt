@@ -1,5 +1,5 @@
 -- The outputs of a run in the words of the language: what the script means over its inputs.
-use Rattle.std.specs.Prelude.{◌≡◌, ℕ, false, List, [], map, Ok, Some, IsUtf8}
+use Rattle.std.specs.Prelude.{◌≡◌, ℕ, false, List, [], map, Err, Ok, Some, IsUtf8}
 use Rattle.vtl_syntax.specs.Trees.{ScriptTree}
 use Rattle.vtl_parser.specs.Parsed.{IsScript}
 use Rattle.vtl_tree.specs.Meaning.{Environment, Outputs, Statement, meaning}
@@ -34,3 +34,16 @@ pub record IsMeant (r : Run) (held files : List (List ℕ × List ℕ)) : Type 0
   pub read : (inputs_step r [] (inputs_of structures plan)).gives held (Ok inputs)
   pub means : meaning r.settings statements inputs ≡ Ok results
   pub written : files ≡ map (output_of r) results
+
+-- The script's tree and the structures are those of the files; the script defines no rulesets, and this is its first fault over
+-- the structures: the number of the statement, and the rule.
+pub record IsMistyped (r : Run) (held : List (List ℕ × List ℕ)) (statement rule : ℕ) : Type 0 where
+  pub text : List ℕ
+  pub tree : ScriptTree
+  pub structures : Named
+  pub script : content r.script script_limit held ≡ Ok text
+  pub utf8 : IsUtf8 text
+  pub parsed : IsScript text tree
+  pub plain : has_definitions tree ≡ false
+  pub declared : (structures_step r.structures).gives held (Ok structures)
+  pub fault : script_typed (env_over r.settings structures) tree ≡ Err (statement, rule)

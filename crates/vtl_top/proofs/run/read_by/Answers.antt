@@ -1,6 +1,5 @@
+use Rattle.std.proofs.Common.{Ok, Err}
 use Rattle.vtl_syntax.specs.View.{script_tree}
-use Rattle.vtl_check.specs.Checked.{env_over}
-use Rattle.vtl_check.specs.Script.{script_typed, verdict}
 use Rattle.vtl_top.specs.Expected.{planned_step, typing_of}
 use Rattle.vtl_top.specs.OutputView.{outputs_view}
 use Rattle.vtl_top.specs.RunView.{run_view}
