@@ -1,5 +1,6 @@
 pub mod DeclaredLemmas
 pub mod MeantLemmas
+pub mod MistypedLemmas
 pub mod OutputLemmas
 pub mod ReadScripts
 pub mod RunLemmas

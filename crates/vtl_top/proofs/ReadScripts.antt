@@ -7,7 +7,7 @@ use Rattle.vtl_grammar.specs.Faults.{SyntaxFault, WholeScript, kinds}
 use Rattle.vtl_grammar.proofs.UniqueLemmas.{fault_determined, spells_unique, whole_no_fault}
 use Rattle.vtl_syntax.specs.Trees.{ScriptTree}
 use Rattle.vtl_parser.specs.Parsed.{IsFaulty, IsScript}
-use Rattle.vtl_top.specs.Refusal.{IsScriptOf, SettlesBy}
+use Rattle.vtl_top.specs.Refusal.{IsScriptOf, Settles, SettlesBy}
 use Rattle.std.specs.Prelude.{IsUtf8}
 use Rattle.vtl_files.specs.declared.files.Files.{Ghosts}
 use Rattle.vtl_syntax.specs.View.{script_tree}
@@ -20,6 +20,8 @@ use Rattle.vtl_top.specs.Steps.{Behind, Held, Step, onward, settled}
 use Rattle.vtl_tree.specs.Meaning.{Environment, meaning}
 use Rattle.vtl_tree.specs.declared.structure.Structure.{Structure}
 use Rattle.vtl_csv.specs.InputFile.{dataset_rows}
+use Rattle.vtl_check.specs.Checked.{env_over}
+use Rattle.vtl_check.specs.Script.{has_definitions, script_typed, verdict}
 use Rattle.vtl_plan.specs.Assigned.{assigned_in}
 use Rattle.vtl_plan.specs.Typed.{checked, inputs_of}
 use Rattle.vtl_top.specs.Structures.{declared, structures_in}
@@ -29,7 +31,7 @@ use Rattle.std.proofs.lemmas.Str.{IsUtf8-from_is_utf8, is_utf8-from_IsUtf8}
 use Rattle.std.proofs.Common.{Bool, true, false, cond}
 use Rattle.vtl_top.specs.Kinds.{Told, refused, told_by}
 use Rattle.std.proofs.Common.{◌∷◌, []}
-use Rattle.vtl_top.specs.Expected.{csv_limit, data_step, dataset_step, declared_step, formed, input_path, inputs_step, one_more_step, outputs_of, points_or_fault, read, results_step, run_step, script_in, script_limit, script_of, script_step, statements_step, structures_limit, structures_step, typed_step, with_points}
+use Rattle.vtl_top.specs.Expected.{checked_step, csv_limit, data_step, dataset_step, declared_step, formed, input_path, inputs_step, one_more_step, outputs_of, planned_step, points_or_fault, read, results_step, run_step, script_in, script_limit, script_of, script_step, statements_step, structures_limit, structures_step, typed_or_fault, typed_step, typing_of, with_points, without_rulesets}
 use Rattle.vtl_top.specs.Words.{Run}
 use Rattle.vtl_tree.specs.Structures.{Named}
 use Rattle.vtl_top.specs.ScriptFile.{IsParsed, Parsed, faulty, no_text, whole}
@@ -119,6 +121,14 @@ structures_refuse path bytes status e = go (is_utf8 bytes) (structures_of_file b
     go true (Err fault) q = let same : st.Structure fault.0 fault.1 ≡ status = cc in ap told_by (sym same)
     go false r q = let same : st.NotText (chars path) ≡ status = cc in ap told_by (sym same)
 
+-- a script that is not typed is refused
+pub typing_refuses : (typing : Result (Unit {0}) (ℕ × ℕ)) (status : Status) → typed_or_fault typing ≡ Err status → told_by status ≡ refused
+typing_refuses (Ok u) status e = cc
+typing_refuses (Err fault) status e = let same : st.Mistyped fault.0 fault.1 ≡ status = cc in ap told_by (sym same)
+
+pub typing_given : {F : Type 0} (g : Ghosts F) (a : F) (r : Run) (script : ScriptTree) (structures : Named) (result : Result (Unit {0}) Status) → Settles (typing_of r script structures) result → Takes g a a (settled (typing_of r script structures)) (λ u. u) result
+typing_given g a r script structures = settled_given g a (λ u. u) (typing_of r script structures) (typing_refuses (verdict (script_typed (env_over r.settings structures) script)))
+
 -- ---- what is settled, is one; and so is a step that follows one
 abbrev pub Once : {A : Type 0} → Step A → Held → Type 0
 Once {A} step held = (x y : Result A Status) → step.gives held x → step.gives held y → x ≡ y
@@ -155,11 +165,23 @@ inputs_once r before (e ∷ rest) held =
     (onward_once (dataset_step r e) (λ points. settled (Ok (with_points before e points))) held (dataset_once r e held) (λ points. settled_once (Ok (with_points before e points)) held))
     (λ more. inputs_once r more rest held)
 
-pub determined : (r : Run) (held : Held) → Once (run_step r) held
-determined r held =
-    onward_once (script_step r.script) (statements_step r) held (onward_once (read r.script script_limit) (script_of r.script) held (read_once r.script script_limit held) (λ bytes. script_once r.script bytes held)) (λ script.
-    onward_once (settled (formed r.script (assigned_in script))) (declared_step r) held (settled_once (formed r.script (assigned_in script)) held) (λ plan.
-    onward_once (structures_step r.structures) (typed_step r plan) held (structures_once r.structures held) (λ structures.
+declared_once : (r : Run) (script : ScriptTree) (held : Held) → Once (declared_step r script) held
+declared_once r script held =
+    onward_once (structures_step r.structures) (checked_step r script) held (structures_once r.structures held) (λ structures.
+    onward_once (settled (typing_of r script structures)) (λ u. planned_step r script structures) held (settled_once (typing_of r script structures) held) (λ u.
+    onward_once (settled (formed r.script (assigned_in script))) (λ plan. typed_step r plan structures) held (settled_once (formed r.script (assigned_in script)) held) (λ plan.
     onward_once (settled (formed r.script (checked structures plan))) (data_step r (inputs_of structures plan)) held (settled_once (formed r.script (checked structures plan)) held) (λ statements.
     onward_once (inputs_step r [] (inputs_of structures plan)) (results_step r statements) held (inputs_once r [] (inputs_of structures plan) held) (λ env.
     settled_once (outputs_of r (meaning r.settings statements env)) held)))))
+
+statements_once : (r : Run) (script : ScriptTree) (held : Held) → Once (statements_step r script) held
+statements_once r script held = by (has_definitions script)
+  where
+    by : (b : Bool) → Once (without_rulesets r script b) held
+    by true = settled_once (Err (st.Unbuilt (chars r.script))) held
+    by false = declared_once r script held
+
+pub determined : (r : Run) (held : Held) → Once (run_step r) held
+determined r held =
+    onward_once (script_step r.script) (statements_step r) held (onward_once (read r.script script_limit) (script_of r.script) held (read_once r.script script_limit held) (λ bytes. script_once r.script bytes held))
+    (λ script. statements_once r script held)

@@ -17,6 +17,8 @@ use Rattle.vtl_tree.specs.declared.structure.Structure.{Structure}
 use Rattle.vtl_csv.specs.InputFile.{Fault, Reads}
 use Rattle.vtl_csv.specs.declared.input.InputErr.{InputErr}
 use Rattle.vtl_csv.specs.declared.input.InputErr.TheVariants as input
+use Rattle.vtl_syntax.specs.Trees.{ScriptTree}
+use Rattle.vtl_check.specs.Script.{has_definitions}
 use Rattle.vtl_plan.specs.Assigned.{Assigned}
 use Rattle.vtl_plan.specs.InputsView.{inputs_shown}
 use Rattle.vtl_plan.specs.Results.{IsChecked, structures_in}
@@ -24,7 +26,7 @@ use Rattle.vtl_plan.proofs.MeantLemmas.{checked_typed}
 use Rattle.vtl_plan.specs.Runs.{Runs}
 use Rattle.vtl_plan.specs.Typed.{checked, inputs_of, typed}
 use Rattle.vtl_top.specs.Answered.{Came, Takes}
-use Rattle.vtl_top.specs.Expected.{data_step, formed, output_of, outputs_of, points_or_fault, typed_step}
+use Rattle.vtl_top.specs.Expected.{data_step, declared_step, formed, output_of, outputs_of, points_or_fault, statements_step, typed_step, without_rulesets}
 use Rattle.vtl_top.specs.InputsRead.{points_of}
 use Rattle.vtl_top.specs.Kinds.{refused, told_by}
 use Rattle.vtl_top.specs.Refusal.{IsDataSetOf, IsOrMemory, SettlesBy, input_refusal}
@@ -49,6 +51,16 @@ module _ {F : Type 0} (g : Ghosts F) (a : F) where
     came = subst (λ (s : Status). Came g a a (settled (formed path o)) view (Err s)) (sym e)
         (if_some_all (g.held a) (λ held. (settled (formed path o)).gives held (Err (st.Unbuilt (chars path)))) (λ held. sym (ap (formed path) none)));
   }
+
+  module _ {Y : Type 0} (r : Run) (script : ScriptTree) (view : Y → List File) where
+    pub rulesets_take : (status : Status) → has_definitions script ≡ true → IsOrMemory (st.Unbuilt (chars r.script)) status → Takes g a a (statements_step r script) view (Err status)
+    rulesets_take status defines is =
+        subst (λ d. Takes g a a (without_rulesets r script d) view (Err status)) (sym defines)
+        (unbuilt_takes view r.script None status refl is)
+
+    pub plain_takes : (b : F) (result : Result Y Status) → has_definitions script ≡ false → Takes g a b (declared_step r script) view result → Takes g a b (statements_step r script) view result
+    plain_takes b result plain is =
+        subst (λ d. Takes g a b (without_rulesets r script d) view result) (sym plain) is
 
 -- ---- a data set that is read
 pub input_refused : (name : List ℕ) (s : Structure) (read : Result (List Row) Fault) (error : InputErr) (status : Status) → Reads s (Err error) read → IsOrMemory (input_refusal name error) status → IsDataSetOf name s read (Err status)

@@ -1,5 +1,5 @@
 -- What the words and the files that are held give: the outputs of the run, or the first refusal.
-use Rattle.std.specs.Prelude.{◌≡◌, ℕ, List, [], ◌∷◌, ◌++◌, length, map, nat_lt, Option, Some, None, Result, Ok, Err, codes, chars, encode_utf8_all, if◌then◌else◌}
+use Rattle.std.specs.Prelude.{◌≡◌, ℕ, Bool, true, false, List, [], ◌∷◌, ◌++◌, length, map, nat_lt, Option, Some, None, Result, Ok, Err, codes, chars, encode_utf8_all, if◌then◌else◌}
 use Rattle.vtl_files.specs.Outside.{bytes_at}
 use Rattle.vtl_cell.specs.Outcome.{Fault as EvaluationFault}
 use Rattle.vtl_cell.specs.Row.{Row}
@@ -9,6 +9,8 @@ use Rattle.vtl_tree.specs.Structures.{Named}
 use Rattle.vtl_tree.specs.declared.structure.Structure.{Structure}
 use Rattle.vtl_csv.specs.CsvText.{csv_of}
 use Rattle.vtl_csv.specs.InputFile.{Fault, dataset_rows}
+use Rattle.vtl_check.specs.Checked.{env_over}
+use Rattle.vtl_check.specs.Script.{has_definitions, script_typed, verdict}
 use Rattle.vtl_plan.specs.Assigned.{Assigned, assigned_in}
 use Rattle.vtl_plan.specs.Typed.{checked, inputs_of}
 use Rattle.vtl_top.specs.ScriptFile.{IsParsed, Parsed, faulty, no_text, whole}
@@ -113,17 +115,39 @@ data_step r inputs statements = onward (inputs_step r [] inputs) (results_step r
 abbrev pub structures_step : List ℕ → Step Named
 structures_step path = onward (read path structures_limit) (λ bytes. settled (structures_in path bytes))
 
--- what follows the structures: statements that are not built over them are told of the script
+-- what follows the statements: those that are not built over the structures are told of the script
 abbrev pub typed_step : Run → List Assigned → Named → Step (List File)
 typed_step r plan structures = onward (settled (formed r.script (checked structures plan))) (data_step r (inputs_of structures plan))
 
+-- what follows the typing: statements of a form that is not built are told of the script
+abbrev pub planned_step : Run → ScriptTree → Named → Step (List File)
+planned_step r script structures = onward (settled (formed r.script (assigned_in script))) (λ plan. typed_step r plan structures)
+
+-- the status of the first statement that breaks a rule of typing
+abbrev pub typed_or_fault : Result (Unit {0}) (ℕ × ℕ) → Result (Unit {0}) Status
+typed_or_fault (Ok u) = Ok u
+typed_or_fault (Err fault) = Err (st.Mistyped fault.0 fault.1)
+
+-- the typing of a script over structures
+abbrev pub typing_of : Run → ScriptTree → Named → Result (Unit {0}) Status
+typing_of r script structures = typed_or_fault (verdict (script_typed (env_over r.settings structures) script))
+
+-- what follows the structures: a script that is not typed over them is refused by its first fault
+abbrev pub checked_step : Run → ScriptTree → Named → Step (List File)
+checked_step r script structures = onward (settled (typing_of r script structures)) (λ u. planned_step r script structures)
+
 -- what the structures file and then the inputs give
-abbrev pub declared_step : Run → List Assigned → Step (List File)
-declared_step r plan = onward (structures_step r.structures) (typed_step r plan)
+abbrev pub declared_step : Run → ScriptTree → Step (List File)
+declared_step r script = onward (structures_step r.structures) (checked_step r script)
+
+-- a script that defines rulesets is not built
+abbrev pub without_rulesets : Run → ScriptTree → Bool → Step (List File)
+without_rulesets r script true = settled (Err (st.Unbuilt (chars r.script)))
+without_rulesets r script false = declared_step r script
 
 -- what follows the script's tree
 abbrev pub statements_step : Run → ScriptTree → Step (List File)
-statements_step r script = onward (settled (formed r.script (assigned_in script))) (declared_step r)
+statements_step r script = without_rulesets r script (has_definitions script)
 
 -- what a run gives: its outputs, or the first refusal
 abbrev pub run_step : Run → Step (List File)

@@ -1,12 +1,12 @@
 // Laws of the definitions that the top call cites.
-ghost use Rattle.std.specs.Prelude.{◌≡◌, ◌≤◌, ℕ, List, Ok, Result, Some};
+ghost use Rattle.std.specs.Prelude.{◌≡◌, ◌≤◌, ℕ, Err, List, Ok, Result, Some};
 ghost use Rattle.std.specs.Map.{lookup};
 ghost use Rattle.vtl_tree.specs.Structure.{IsStructure, key_width, same_name};
 ghost use Rattle.vtl_tree.specs.Structures.{Named};
 ghost use Rattle.vtl_tree.specs.declared.structure.Structure.{Structure};
 ghost use Rattle.vtl_csv.specs.StructuresFile.{structures_of_file};
 ghost use Rattle.vtl_top.specs.Expected.{run_step};
-ghost use Rattle.vtl_top.specs.Meant.{IsMeant};
+ghost use Rattle.vtl_top.specs.Meant.{IsMeant, IsMistyped};
 ghost use Rattle.vtl_top.specs.Words.{Run};
 ghost use Rattle.vtl_top.specs.declared.status.Status.{Status};
 
@@ -14,6 +14,13 @@ ghost use Rattle.vtl_top.specs.declared.status.Status.{Status};
 /// hold, gives results, and each file is named after a result and holds its CSV text, in order.
 pub fn output_is_meant()
     ensures { (r : Run) (held files : List (List ℕ × List ℕ)) → (run_step r).gives held (Ok files) → IsMeant r held files }
+{}
+
+/// A run is `Mistyped` exactly where its script, without rulesets, breaks a rule over its structures: by the first statement
+/// that does, and by its rule. Neither the form of the statements nor the data sets are looked at before.
+pub fn mistyped_is_first_fault()
+    ensures only { (r : Run) (held : List (List ℕ × List ℕ)) (statement rule : ℕ) → (run_step r).gives held (Err (Status.Mistyped statement rule)) → IsMistyped r held statement rule }
+    ensures always { (r : Run) (held : List (List ℕ × List ℕ)) (statement rule : ℕ) → IsMistyped r held statement rule → (run_step r).gives held (Err (Status.Mistyped statement rule)) }
 {}
 
 /// What a run gives is one: two outcomes over the same held bytes are equal.

@@ -1,14 +1,15 @@
 // The run of a script, from the paths of its files to the texts of its outputs.
-ghost use Rattle.std.specs.Prelude.{◌≡◌, List, Some, true, IfOk};
+ghost use Rattle.std.specs.Prelude.{◌≡◌, List, Some, false, true, IfOk};
 ghost use Rattle.std.specs.List.{AllByRecursion};
 ghost use Rattle.std.specs.Option.{is_some};
 ghost use Rattle.vtl_syntax.specs.View.{script_tree};
 ghost use Rattle.vtl_tree.specs.Meaning.{Statement};
 ghost use Rattle.vtl_tree.specs.Structures.{AreStructures};
+ghost use Rattle.vtl_check.specs.Script.{has_definitions};
 ghost use Rattle.vtl_plan.specs.InputsView.{inputs_shown};
 ghost use Rattle.vtl_plan.specs.Typed.{typed};
 ghost use Rattle.vtl_top.specs.Answered.{Takes};
-ghost use Rattle.vtl_top.specs.Expected.{data_step, declared_step, run_step, script_step, statements_step, structures_step, typed_step};
+ghost use Rattle.vtl_top.specs.Expected.{checked_step, data_step, declared_step, planned_step, run_step, script_step, statements_step, structures_step, typed_step};
 ghost use Rattle.vtl_top.specs.OutputView.{NamesPath, outputs_view};
 ghost use Rattle.vtl_top.specs.Refusal.{IsScriptOf, IsScriptOfText, fault_of};
 ghost use Rattle.vtl_top.specs.RunView.{run_view};
@@ -20,9 +21,11 @@ use crate::refusal::{not_text, unbuilt};
 use crate::results::results;
 use crate::status::Status;
 use crate::structures::structures_of;
+use crate::typing::typed;
 use crate::words::Run;
 use std::alloc::Global;
 use std::str;
+use vtl_check::defines_rulesets;
 use vtl_files::Files;
 use vtl_parser::{ParseErr, parse};
 use vtl_plan::{Assignment, Inputs, assignments, checked_inputs};
@@ -101,8 +104,8 @@ fn read_data<F: Files>(
     }
 }
 
-// What the inputs give by the structures.
-fn read_by<F: Files>(
+// What the inputs give by the structures, for statements that are built.
+fn read_typed<F: Files>(
     alloc: Global,
     files: &mut F,
     run: &Run<'_>,
@@ -118,18 +121,54 @@ fn read_by<F: Files>(
     }
 }
 
+// What the inputs give for a script that is typed over the structures.
+fn read_planned<F: Files>(
+    alloc: Global,
+    files: &mut F,
+    run: &Run<'_>,
+    script: &Script,
+    structures: &Structures,
+) -> Result<Vec<Output>, Status>
+    ensures takes { Takes F.Files files.old files.new (planned_step (run_view run.now) (script_tree script.now) structures.now) outputs_view result }
+    ensures named { IfOk result (λ o. AllByRecursion NamesPath o.items) }
+{
+    match assignments(alloc, script)? {
+        Some(statements) => read_typed(alloc, files, run, &statements, structures),
+        None => Err(unbuilt(alloc, run.script)),
+    }
+}
+
+// What the inputs give by the structures, over which the script is typed first.
+fn read_by<F: Files>(
+    alloc: Global,
+    files: &mut F,
+    run: &Run<'_>,
+    script: &Script,
+    structures: &Structures,
+) -> Result<Vec<Output>, Status>
+    requires { has_definitions (script_tree script.now) ≡ false }
+    ensures takes { Takes F.Files files.old files.new (checked_step (run_view run.now) (script_tree script.now) structures.now) outputs_view result }
+    ensures named { IfOk result (λ o. AllByRecursion NamesPath o.items) }
+{
+    match typed(alloc, script, structures, &run.profile) {
+        Ok(()) => read_planned(alloc, files, run, script, structures),
+        Err(status) => Err(status),
+    }
+}
+
 // The structures file and the inputs, and the outputs that they give.
 fn read_declared<F: Files>(
     alloc: Global,
     files: &mut F,
     run: &Run<'_>,
-    statements: &[Assignment<'_>],
+    script: &Script,
 ) -> Result<Vec<Output>, Status>
-    ensures takes { Takes F.Files files.old files.new (declared_step (run_view run.now) statements.now) outputs_view result }
+    requires { has_definitions (script_tree script.now) ≡ false }
+    ensures takes { Takes F.Files files.old files.new (declared_step (run_view run.now) (script_tree script.now)) outputs_view result }
     ensures named { IfOk result (λ o. AllByRecursion NamesPath o.items) }
 {
     match read_structures(alloc, files, run.structures) {
-        Ok(structures) => read_by(alloc, files, run, statements, &structures),
+        Ok(structures) => read_by(alloc, files, run, script, &structures),
         Err(status) => Err(status),
     }
 }
@@ -144,10 +183,10 @@ fn carry_out<F: Files>(
     ensures takes { Takes F.Files files.old files.new (statements_step (run_view run.now) (script_tree script.now)) outputs_view result }
     ensures named { IfOk result (λ o. AllByRecursion NamesPath o.items) }
 {
-    match assignments(alloc, script)? {
-        Some(statements) => read_declared(alloc, files, run, &statements),
-        None => Err(unbuilt(alloc, run.script)),
+    if defines_rulesets(script) {
+        return Err(unbuilt(alloc, run.script));
     }
+    read_declared(alloc, files, run, script)
 }
 
 /// Reads the files of a run, and makes its outputs: nothing is created. The answer is the outputs, or the first refusal

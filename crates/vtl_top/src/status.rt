@@ -31,6 +31,13 @@ pub enum Status {
         /// The number of the rule.
         rule: u8,
     },
+    /// A statement of the script breaks a rule of docs/TYPES.md over the structures: the first that does.
+    Mistyped {
+        /// The number of the statement, counted from 1 with all statements.
+        statement: usize,
+        /// The number of the rule.
+        rule: u8,
+    },
     /// The file of a data set that is read holds none of its structure: its first fault, by line and column from 1 on.
     Input {
         /// The name of the data set.
@@ -59,7 +66,7 @@ pub enum Status {
 }
 
 impl Status {
-    /// The exit code: 0 done, 1 usage, 2 no script, no structures or no text, 4 no file, too long or no data set, 6 a fault of reading or writing, 7 memory, 8 not built.
+    /// The exit code: 0 done, 1 usage, 2 no script, no structures or no text, 3 not typed, 4 no file, too long or no data set, 6 a fault of reading or writing, 7 memory, 8 not built.
     pub fn code(&self) -> u8
         ensures { result ≡ code_of self.now }
     {
@@ -67,6 +74,7 @@ impl Status {
             Status::Done => 0,
             Status::Usage => 1,
             Status::Syntax { .. } | Status::Structure { .. } | Status::NotText(_) => 2,
+            Status::Mistyped { .. } => 3,
             Status::NoFile(_) | Status::TooLong(_) | Status::Input { .. } => 4,
             Status::ReadFault(_) | Status::WriteFault(_) => 6,
             Status::Memory => 7,
@@ -91,6 +99,13 @@ impl Status {
             Status::Structure { line, rule } => padded([
                 Part::Text("error: structures line "),
                 Part::Number(*line),
+                Part::Text(" rule "),
+                Part::Number(*rule as u64),
+                END,
+            ]),
+            Status::Mistyped { statement, rule } => padded([
+                Part::Text("error: type in statement "),
+                Part::Number(*statement as u64),
                 Part::Text(" rule "),
                 Part::Number(*rule as u64),
                 END,

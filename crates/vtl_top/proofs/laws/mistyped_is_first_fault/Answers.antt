@@ -1,0 +1,5 @@
+use Rattle.vtl_top.proofs.MistypedLemmas.{mistyped_always, mistyped_only}
+use Rattle.vtl_top.proofs.laws.mistyped_is_first_fault.Goals as goal
+
+pub returns : goal.returns
+returns c = record { only = mistyped_only; always = mistyped_always }
