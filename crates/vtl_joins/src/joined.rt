@@ -171,11 +171,7 @@ fn push_joined_identifiers(
         return Ok(());
     };
     let others = structures_of(alloc, operands)?;
-    push_identifiers(
-        out,
-        &others,
-        reference.structure.components.as_slice(),
-    )
+    push_identifiers(out, &others, reference.structure.components.as_slice())
 }
 
 fn joined_components(

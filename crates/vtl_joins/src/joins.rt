@@ -12,7 +12,8 @@ ghost use Rattle.vtl_joins.specs.Joins.{agrees, all_go_with, clashes, go_togethe
 use std::alloc::{AllocError, Global};
 use vtl_rule_tests::{TypeErr, broken};
 use vtl_shapes::{
-    Compared, agree, component_of, contains, count_role, is_among, is_identifier, is_identifier_name,
+    Compared, agree, component_of, contains, count_role, is_among, is_identifier,
+    is_identifier_name,
 };
 use vtl_syntax::JoinKind;
 use vtl_text::Txt;

@@ -4,10 +4,23 @@ use crate::times::{Order, order_of};
 
 // What is asked for.
 pub(crate) enum Command<'a> {
-    Table { table: Table, path: &'a str },
-    Prefixes { script: &'a str, path: &'a str },
-    Types { structures: &'a str, path: &'a str },
-    Check { script: &'a str, structures: &'a str, scale: &'a str },
+    Table {
+        table: Table,
+        path: &'a str,
+    },
+    Prefixes {
+        script: &'a str,
+        path: &'a str,
+    },
+    Types {
+        structures: &'a str,
+        path: &'a str,
+    },
+    Check {
+        script: &'a str,
+        structures: &'a str,
+        scale: &'a str,
+    },
     Tokens(&'a str),
     Tree(&'a str),
     Time(Order),

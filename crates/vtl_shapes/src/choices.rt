@@ -80,12 +80,7 @@ pub fn choose(
     ensures { Answers (λ s. s) result (shaped (chosen choice names.now structure.now.components)) }
 {
     let mut out = Vec::new(alloc);
-    push_chosen(
-        &mut out,
-        choice,
-        names,
-        structure.components.as_slice(),
-    )?;
+    push_chosen(&mut out, choice, names, structure.components.as_slice())?;
     shaped(alloc, out)
 }
 

@@ -15,8 +15,8 @@ mod shape;
 mod targets;
 
 pub use choices::{Choice, choose, choose_known, is_identifier, is_identifier_name};
-pub use counting::count_role;
 pub use copies::{share_codes, share_component};
+pub use counting::count_role;
 pub use measures::{Operator, Outcome, measured};
 pub use names::{Wanted, check_names, check_new_name, component_of, is_among, known};
 pub use operands::{Compared, agree, push_identifiers};

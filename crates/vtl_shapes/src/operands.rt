@@ -6,8 +6,8 @@ ghost use Rattle.vtl_shapes.specs.Operands.{agree, all_meet, agreed, agreed_iden
 
 use crate::choices::is_identifier;
 use crate::copies::share_component;
-use crate::kinds::{is_same_kind, meets};
 use crate::counting::count_measures;
+use crate::kinds::{is_same_kind, meets};
 use crate::measures::is_measure;
 use crate::names::{component_of, is_role};
 use std::alloc::{AllocError, Global};
@@ -111,10 +111,7 @@ fn are_coded_alike(component: &Component, others: &[&Structure]) -> bool
     true
 }
 
-fn agreed(
-    others: &[&Structure],
-    component: &Component,
-) -> Result<Component, AllocError>
+fn agreed(others: &[&Structure], component: &Component) -> Result<Component, AllocError>
     ensures { IfOk result (λ x. x ≡ agreed (shown others.now) component.now) }
 {
     if are_coded_alike(component, others) {

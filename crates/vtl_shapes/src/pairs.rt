@@ -10,9 +10,7 @@ ghost use Rattle.vtl_shapes.specs.Pairs.{are_choices, check_form, check_measures
 
 use crate::choices::is_identifier;
 use crate::counting::count_measures;
-use crate::measures::{
-    any_unmet, bool_var, is_miscounted, new_measure, push_given, push_measures,
-};
+use crate::measures::{any_unmet, bool_var, is_miscounted, new_measure, push_given, push_measures};
 use crate::operands::{
     Compared, agree, all_agree, all_meet, has_one_measure, is_there, is_within, push_identifiers,
 };

@@ -57,12 +57,7 @@ fn pivot_components(
     ensures { IfOk result (λ v. v.items ≡ pivot_components name.now kind texts.now components.now) }
 {
     let mut out = Vec::new(alloc);
-    push_chosen(
-        &mut out,
-        Choice::Except,
-        &[name.share()?],
-        components,
-    )?;
+    push_chosen(&mut out, Choice::Except, &[name.share()?], components)?;
     push_code_measures(&mut out, kind, texts)?;
     Ok(out)
 }

@@ -30,10 +30,7 @@ fn new_name<'a>(renamings: &'a [Renaming], name: &'a Txt) -> &'a Txt
     name
 }
 
-fn renamed(
-    renamings: &[Renaming],
-    component: &Component,
-) -> Result<Component, AllocError>
+fn renamed(renamings: &[Renaming], component: &Component) -> Result<Component, AllocError>
     ensures { IfOk result (λ x. x ≡ renamed renamings.now component.now) }
 {
     Ok(Component {

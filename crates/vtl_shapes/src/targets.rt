@@ -47,10 +47,7 @@ fn target_of<'a>(name: &Txt, targets: &'a [Target]) -> Option<&'a Target>
     None
 }
 
-fn calculated(
-    targets: &[Target],
-    component: &Component,
-) -> Result<Component, AllocError>
+fn calculated(targets: &[Target], component: &Component) -> Result<Component, AllocError>
     ensures { IfOk result (λ x. x ≡ calculated targets.now component.now) }
 {
     match target_of(&component.name, targets) {
@@ -133,12 +130,7 @@ pub fn aggr(
     ensures { Answers (λ s. s) result (aggr_form choice names.now targets.now structure.now.components) }
 {
     let mut out = Vec::new(alloc);
-    push_chosen(
-        &mut out,
-        choice,
-        names,
-        structure.components.as_slice(),
-    )?;
+    push_chosen(&mut out, choice, names, structure.components.as_slice())?;
     push_targets(&mut out, targets)?;
     shaped(alloc, out)
 }

@@ -11,6 +11,8 @@ mod windows;
 pub use calls::{call, kinds_in};
 pub use columns::{column, name};
 pub use kinds::{kind, meets, operator_kind, shared_kind};
-pub use literals::{constant, is_null_kind, literal, literal_kind, literals_fit, set, still_wanted, wanted_or};
+pub use literals::{
+    constant, is_null_kind, literal, literal_kind, literals_fit, set, still_wanted, wanted_or,
+};
 pub use operators::{binary_operator, function_operator, takes, unary_operator};
 pub use windows::{points, window};

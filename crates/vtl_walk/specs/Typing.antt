@@ -87,10 +87,6 @@ calc_value p at (tree.shift f e n l o) plain operand = operand >>= target_typed 
 calc_value p at (tree.rank o) plain operand = operand >>= target_typed p at (tree.rank o)
 calc_value p at e plain operand = plain >>= scalar_value
 
--- the joined set behind its operands, and what the body of the join sees of them
-abbrev pub joined_start : JoinKind → Option (List Comp) → List PartTyped → Result (Option Joined × NodeTree) ℕ
-joined_start kind u parts = operands_in parts >>= λ os. joined_node kind u os >>= λ n. Ok (Some (joined_of kind os), n)
-
 abbrev pub last_step : Option Joined → NodeTree → Result NodeTree ℕ
 last_step None n = Ok n
 last_step (Some j) n = last_naming j n
@@ -124,8 +120,9 @@ abbrev mutual
   typed env at (tree.check_hierarchy e n r m d o) = typed env place.Outside e >>= λ x. Err 3
   typed env at (tree.hierarchy e n r m i o) = typed env place.Outside e >>= λ x. Err 3
   typed env at (tree.join kind ps u f m k rs) =
-      parts_typed env [] ps >>= joined_start kind u >>= λ s. filter_step env s.0 s.1 f
-      >>= λ a. targets_step env s.0 a m >>= body_end s.0 k rs
+      parts_typed env [] ps >>= operands_in
+      >>= λ os. (joined_node kind u os >>= λ n. filter_step env (Some (joined_of kind os)) n f)
+      >>= λ a. targets_step env (Some (joined_of kind os)) a m >>= body_end (Some (joined_of kind os)) k rs
 
   -- operands behind others
   pub operands_typed : Env → Place → List TypedTree → Exps → Result (List TypedTree) ℕ
@@ -202,5 +199,10 @@ difference_typed env f x e = typed env place.Outside e >>= difference_form f x
 abbrev pub exists_typed : Env → Option Retain → TypedTree → Exp → Result TypedTree ℕ
 exists_typed env r x e = typed env place.Outside e >>= exists_form r x
 
-abbrev pub body_typed : Env → MaybeExp → MaybeTargets → Option Keeping → Option (List RenamePart) → Option Joined × NodeTree → Result TypedTree ℕ
-body_typed env f m k rs s = filter_step env s.0 s.1 f >>= λ a. targets_step env s.0 a m >>= body_end s.0 k rs
+-- a joined set with the filter of the body
+abbrev pub filtered_join : Env → Option Joined → MaybeExp → JoinKind → Option (List Comp) → List OperandTree → Result NodeTree ℕ
+filtered_join env j f kind u os = joined_node kind u os >>= λ n. filter_step env j n f
+
+-- the rest of the body
+abbrev pub join_end : Env → Option Joined → MaybeTargets → Option Keeping → Option (List RenamePart) → NodeTree → Result TypedTree ℕ
+join_end env j m k rs a = targets_step env j a m >>= body_end j k rs

@@ -1,6 +1,8 @@
 //! The typing of expressions.
 #![tactic(auto)]
 
+mod join;
+mod value;
 mod walk;
 
 pub use walk::typing;
