@@ -16,6 +16,8 @@ mod top;
 mod typing;
 mod words;
 
-pub use laws::{expected_is_determined, mistyped_is_first_fault, output_is_meant, structures_have_identifiers};
+pub use laws::{
+    expected_is_determined, mistyped_is_first_fault, output_is_meant, structures_have_identifiers,
+};
 pub use status::{Status, tell};
 pub use top::vtl;
