@@ -5,11 +5,10 @@ use Rattle.vtl_cell.specs.Outcome.{Fault as EvaluationFault}
 use Rattle.vtl_syntax.specs.Trees.{ScriptTree}
 use Rattle.vtl_parser.specs.Parsed.{IsScript}
 use Rattle.vtl_tree.specs.Meaning.{Outputs, meaning}
-use Rattle.vtl_tree.specs.Structures.{Named}
 use Rattle.vtl_nodes.specs.Trees.{NodeTree}
 use Rattle.vtl_check.specs.Checked.{env_over}
 use Rattle.vtl_check.specs.Script.{has_definitions, script_typed, verdict}
-use Rattle.vtl_plan.specs.Assigned.{Assigned, assigned_in}
+use Rattle.vtl_plan.specs.Assigned.{assigned_in}
 use Rattle.vtl_plan.specs.Typed.{checked, inputs_of}
 use Rattle.vtl_top.specs.Expected.{checked_step, data_step, declared_step, formed, inputs_step, output_of, outputs_of, planned_step, read, results_step, run_step, script_in, script_limit, script_of, script_step, statements_step, structures_step, typed_or_fault, typed_step, typing_of, without_rulesets}
 use Rattle.vtl_top.specs.Words.{Run}

@@ -1,13 +1,12 @@
 -- A run is mistyped exactly where the typing of its script over its structures has a fault, and by that fault.
 use Rattle.std.proofs.Common.{◌≡◌, ◌⊎◌, inl, inr, ℕ, Bool, true, false, cond, List, [], ◌∷◌, length, nat_lt, Option, Some, None, Result, Ok, Err, refl, sym, ap, subst}
-use Rattle.std.specs.Prelude.{IsUtf8, chars}
+use Rattle.std.specs.Prelude.{chars}
 use Rattle.std.specs.Str.{is_utf8}
 use Rattle.vtl_files.specs.Outside.{bytes_at}
 use Rattle.vtl_cell.specs.Outcome.{Fault as EvaluationFault}
 use Rattle.vtl_cell.specs.Row.{Row}
 use Rattle.vtl_syntax.specs.Trees.{ScriptTree}
-use Rattle.vtl_parser.specs.Parsed.{IsScript}
-use Rattle.vtl_tree.specs.Meaning.{Environment, Outputs, Statement, meaning}
+use Rattle.vtl_tree.specs.Meaning.{Environment, Outputs, meaning}
 use Rattle.vtl_tree.specs.Structures.{Named}
 use Rattle.vtl_tree.specs.declared.structure.Structure.{Structure}
 use Rattle.vtl_csv.specs.InputFile.{Fault, dataset_rows}
@@ -15,11 +14,11 @@ use Rattle.vtl_csv.specs.StructuresFile.{Fault as StructuresFault, structures_of
 use Rattle.vtl_nodes.specs.Trees.{NodeTree}
 use Rattle.vtl_check.specs.Checked.{env_over}
 use Rattle.vtl_check.specs.Script.{has_definitions, script_typed, verdict}
-use Rattle.vtl_plan.specs.Assigned.{Assigned, assigned_in}
+use Rattle.vtl_plan.specs.Assigned.{assigned_in}
 use Rattle.vtl_plan.specs.Typed.{checked, inputs_of}
-use Rattle.vtl_top.specs.Expected.{checked_step, content, csv_limit, data_step, dataset_step, declared_step, formed, input_path, inputs_step, one_more_step, outputs_of, planned_step, points_or_fault, read, results_step, run_step, script_in, script_limit, script_of, script_step, sized, statements_step, structures_limit, structures_step, typed_or_fault, typed_step, typing_of, with_points, without_rulesets}
+use Rattle.vtl_top.specs.Expected.{checked_step, csv_limit, data_step, dataset_step, declared_step, formed, input_path, inputs_step, one_more_step, outputs_of, planned_step, points_or_fault, read, results_step, run_step, script_in, script_limit, script_of, script_step, sized, statements_step, structures_limit, structures_step, typed_or_fault, typed_step, typing_of, with_points, without_rulesets}
 use Rattle.vtl_top.specs.Meant.{IsMistyped}
-use Rattle.vtl_top.specs.ScriptFile.{IsParsed, Parsed, faulty, no_text, whole}
+use Rattle.vtl_top.specs.ScriptFile.{Parsed, faulty, no_text, whole}
 use Rattle.vtl_top.specs.Steps.{Behind, Held, Step, onward, settled}
 use Rattle.vtl_top.specs.Structures.{declared, structures_in}
 use Rattle.vtl_top.specs.Words.{Run}

@@ -190,7 +190,7 @@ fn carry_out<F: Files>(
 }
 
 /// Reads the files of a run, and makes its outputs: nothing is created. The answer is the outputs, or the first refusal
-/// of the files in the order script, structures file, inputs; or want of memory at any place.
+/// in the order script, structures file, types of the script over the structures, inputs; or want of memory at any place.
 pub fn prepare<F: Files>(alloc: Global, files: &mut F, run: &Run<'_>) -> Result<Vec<Output>, Status>
     ensures takes { Takes F.Files files.old files.new (run_step (run_view run.now)) outputs_view result }
     ensures named { IfOk result (λ o. AllByRecursion NamesPath o.items) }

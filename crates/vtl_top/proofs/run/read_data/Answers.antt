@@ -1,4 +1,4 @@
-use Rattle.std.proofs.Common.{◌≡◌, Ok, sym, ap, ◌∙◌}
+use Rattle.std.proofs.Common.{ap, ◌∙◌}
 use Rattle.std.specs.Option.{is_some}
 use Rattle.vtl_plan.specs.Typed.{typed}
 use Rattle.vtl_tree.specs.Structures.{Named}
