@@ -1,0 +1,5 @@
+pub mod Columns
+pub mod Made
+pub mod Meaning
+pub mod Operators
+pub mod Points

@@ -1,0 +1,164 @@
+-- What typing gives: which expressions are typed over which columns, and how the structure of each node fits its operands.
+use Rattle.std.specs.Prelude.{◌≡◌, ℕ, zero, suc, true, ◌||◌, cond, List, [], ◌∷◌, ◌++◌, map, Some, None}
+use Rattle.std.specs.List.{AllByRecursion, list_any}
+use Rattle.std.specs.Map.{lookup}
+use Rattle.vtl_decimal.specs.Settings.{Settings}
+use Rattle.vtl_cell.specs.Profile.{IsOfProfile}
+use Rattle.vtl_cell.specs.ScalarKinds.{kinds_of, meets}
+use Rattle.vtl_cell.specs.declared.kind.Kind.{Kind}
+use Rattle.vtl_cell.specs.declared.kind.Kind.TheVariants as k
+use Rattle.vtl_cell.specs.declared.operator.ScalarOp.{ScalarOp}
+use Rattle.vtl_cell.specs.Kinds.{is_of}
+use Rattle.vtl_tree.specs.CompExp.{CompExp, CompExps, column, const, call, aggregate, no_comp_exps, comp_exp}
+use Rattle.vtl_tree.specs.Structure.{IsStructure, columns_of, names_of, same_name}
+use Rattle.vtl_tree.specs.Structures.{Named}
+use Rattle.vtl_tree.specs.declared.structure.Component.{Component}
+use Rattle.vtl_tree.specs.declared.structure.Structure.{Structure}
+use Rattle.vtl_nodes.specs.Trees as nodes
+use Rattle.vtl_nodes.specs.Trees.{FormTree, ItemTree, MaybeNode, MeasureTree, NodeTree, NodeTrees, OperandTrees, structure_of}
+use Rattle.vtl_nodes.specs.declared.clauses.SubItem.{SubItem}
+use Rattle.vtl_shapes.specs.Pairs.{contains}
+use Rattle.vtl_typing.specs.Kinds.{exp_kind}
+use Rattle.vtl_meaning.specs.Columns.{identifiers_of, kind_named, measures_of, place_of}
+use Rattle.vtl_meaning.specs.Operators.{calculated_exps, measured_exps, pair_columns, pair_exps, target_named}
+
+-- ---- expressions
+-- the column at a place has this name and this kind
+abbrev pub IsColumnAt : ℕ → List ℕ → Kind → List Component → Type 0
+IsColumnAt place name kind [] = ⊥
+IsColumnAt zero name kind (x ∷ xs) = (x.name ≡ name) × (x.kind ≡ kind)
+IsColumnAt (suc place) name kind (x ∷ xs) = IsColumnAt place name kind xs
+
+abbrev pub kinds_in : CompExps → List Kind
+kinds_in no_comp_exps = []
+kinds_in (comp_exp e es) = exp_kind e ∷ kinds_in es
+
+-- Each column is one of these, each constant is a value of the profile, and each operator has the kind of its row.
+abbrev mutual
+  pub IsTyped : Settings → List Component → CompExp → Type 0
+  IsTyped p xs (column place name kind) = IsColumnAt place name kind xs
+  IsTyped p xs (const v) = IsOfProfile p v
+  IsTyped p xs (call o kind args) = (kinds_of o (kinds_in args) ≡ Some kind) × AreTyped p xs args
+  IsTyped p xs (aggregate a kind) = ⊥
+
+  pub AreTyped : Settings → List Component → CompExps → Type 0
+  AreTyped p xs no_comp_exps = Unit {0}
+  AreTyped p xs (comp_exp e es) = IsTyped p xs e × AreTyped p xs es
+
+-- as many expressions as columns, each typed over the columns that it sees and of the kind of the one that it makes
+abbrev pub AreFor : Settings → List Component → List CompExp → List Component → Type 0
+AreFor p xs [] [] = Unit {0}
+AreFor p xs [] (y ∷ ys) = ⊥
+AreFor p xs (e ∷ es) [] = ⊥
+AreFor p xs (e ∷ es) (y ∷ ys) = IsTyped p xs e × (exp_kind e ≡ y.kind) × AreFor p xs es ys
+
+-- the columns are columns of these names and kinds
+abbrev pub AreAmong : List Component → List Component → Type 0
+AreAmong ys xs = AllByRecursion (λ y. IsColumnAt (place_of y.name xs) y.name y.kind xs) ys
+
+-- the same identifiers, in the same order
+abbrev pub HasIdentifiers : Structure → List Component → Type 0
+HasIdentifiers s xs = (names_of (identifiers_of s) ≡ names_of xs) × (map (λ x. x.kind) (identifiers_of s) ≡ map (λ x. x.kind) xs)
+
+-- ---- how a structure fits an operator and its operands
+pub record IsMeasured (p : Settings) (m : MeasureTree) (a s : Structure) : Type 0 where
+  pub well_formed : IsStructure s
+  pub identifiers : HasIdentifiers s (identifiers_of a)
+  pub columns : AreFor p (columns_of a) (measured_exps m a s) (columns_of s)
+
+pub record IsPaired (p : Settings) (o : ScalarOp) (a b s : Structure) : Type 0 where
+  pub well_formed : IsStructure s
+  pub contained : contains a b || contains b a ≡ true
+  pub identifiers : HasIdentifiers s (identifiers_of (cond (contains a b) a b))
+  pub columns : AreFor p (pair_columns a b) (pair_exps o a b s) (columns_of s)
+
+-- an operand of `if` has the condition's identifiers, in any order, and the measures of the result
+pub record IsAlternative (t a s : Structure) : Type 0 where
+  pub there : AreAmong (identifiers_of a) (identifiers_of t)
+  pub back : AreAmong (identifiers_of t) (identifiers_of a)
+  pub measures : AreAmong (measures_of s) (columns_of a)
+
+pub record IsChoice (t a b s : Structure) : Type 0 where
+  pub well_formed : IsStructure s
+  pub tested : map (λ x. x.kind) (measures_of t) ≡ k.Bool ∷ []
+  pub first : IsAlternative t a s
+  pub second : IsAlternative t b s
+  pub identifiers : HasIdentifiers s (identifiers_of t)
+  pub no_attributes : columns_of s ≡ identifiers_of s ++ measures_of s
+
+pub record IsFiltered (p : Settings) (e : CompExp) (a s : Structure) : Type 0 where
+  pub same : s ≡ a
+  pub condition : IsTyped p (columns_of a) e
+  pub boolean : meets k.Bool (exp_kind e) ≡ true
+
+pub record IsCalculated (p : Settings) (items : List ItemTree) (a s : Structure) : Type 0 where
+  pub well_formed : IsStructure s
+  pub identifiers : HasIdentifiers s (identifiers_of a)
+  pub free : AllByRecursion (λ x. target_named items x.name ≡ None) (identifiers_of a)
+  pub columns : AreFor p (columns_of a) (calculated_exps items a s) (columns_of s)
+
+-- some of the columns, with all identifiers: `keep`, `drop`, `a#m`
+pub record IsLeft (a s : Structure) : Type 0 where
+  pub well_formed : IsStructure s
+  pub identifiers : HasIdentifiers s (identifiers_of a)
+  pub columns : AreAmong (columns_of s) (columns_of a)
+
+-- other names in the same places
+pub record IsRenamed (a s : Structure) : Type 0 where
+  pub well_formed : IsStructure s
+  pub kinds : map (λ x. x.kind) (columns_of s) ≡ map (λ x. x.kind) (columns_of a)
+  pub roles : map (λ x. x.role) (columns_of s) ≡ map (λ x. x.role) (columns_of a)
+
+-- some of the columns; each identifier is left, or is one at whose value the points are taken
+pub record IsSub (items : List SubItem) (a s : Structure) : Type 0 where
+  pub well_formed : IsStructure s
+  pub columns : AreAmong (columns_of s) (columns_of a)
+  pub left : AreAmong (identifiers_of s) (identifiers_of a)
+  pub identifiers : AllByRecursion (λ x. list_any (λ y. same_name y.name x.name) (identifiers_of s) || list_any (λ i. same_name i.id x.name) items ≡ true) (identifiers_of a)
+  pub values : AllByRecursion (λ i. (is_of (kind_named i.id (identifiers_of a)) i.value ≡ true) × IsColumnAt (place_of i.id (identifiers_of a)) i.id (kind_named i.id (identifiers_of a)) (identifiers_of a)) items
+
+-- ---- nodes
+-- Each node has a structure that fits its operands, and each name is known with its structure. Of the forms that are not
+-- evaluated yet only the operands are told.
+abbrev mutual
+  pub IsMade : Settings → Named → NodeTree → Type 0
+  IsMade p known (nodes.node s form) = IsStructure s × IsMadeForm p known s form
+
+  pub IsMadeForm : Settings → Named → Structure → FormTree → Type 0
+  IsMadeForm p known s (nodes.named name) = lookup (same_name name) known ≡ Some s
+  IsMadeForm p known s (nodes.measures m a) = IsMade p known a × IsMeasured p m (structure_of a) s
+  IsMadeForm p known s (nodes.pair o a b) = IsMade p known a × IsMade p known b × IsPaired p o (structure_of a) (structure_of b) s
+  IsMadeForm p known s (nodes.choose t a b) = IsMade p known t × IsMade p known a × IsMade p known b × IsChoice (structure_of t) (structure_of a) (structure_of b) s
+  IsMadeForm p known s (nodes.member a m) = IsMade p known a × IsLeft (structure_of a) s
+  IsMadeForm p known s (nodes.filter a e) = IsMade p known a × IsFiltered p e (structure_of a) s
+  IsMadeForm p known s (nodes.calc a items) = IsMade p known a × IsCalculated p items (structure_of a) s
+  IsMadeForm p known s (nodes.keep a names) = IsMade p known a × IsLeft (structure_of a) s
+  IsMadeForm p known s (nodes.drop_named a names) = IsMade p known a × IsLeft (structure_of a) s
+  IsMadeForm p known s (nodes.rename a pairs) = IsMade p known a × IsRenamed (structure_of a) s
+  IsMadeForm p known s (nodes.sub a items) = IsMade p known a × IsSub items (structure_of a) s
+  IsMadeForm p known s (nodes.pivot a id m) = IsMade p known a
+  IsMadeForm p known s (nodes.unpivot a id m) = IsMade p known a
+  IsMadeForm p known s (nodes.join os spec) = AreMadeOperands p known os
+  IsMadeForm p known s (nodes.union ns) = AreMade p known ns
+  IsMadeForm p known s (nodes.intersect ns) = AreMade p known ns
+  IsMadeForm p known s (nodes.set_diff a b) = IsMade p known a × IsMade p known b
+  IsMadeForm p known s (nodes.sym_diff a b) = IsMade p known a × IsMade p known b
+  IsMadeForm p known s (nodes.exists_in a b r) = IsMade p known a × IsMade p known b
+  IsMadeForm p known s (nodes.aggregate a spec) = IsMade p known a
+  IsMadeForm p known s (nodes.analytic_of a spec) = IsMade p known a
+  IsMadeForm p known s (nodes.check a i spec) = IsMade p known a × IsMadeMaybe p known i
+  IsMadeForm p known s (nodes.check_datapoint a rules out) = IsMade p known a
+  IsMadeForm p known s (nodes.check_hierarchy a rules m out) = IsMade p known a
+  IsMadeForm p known s (nodes.hierarchy a rules m i out) = IsMade p known a
+
+  pub AreMade : Settings → Named → NodeTrees → Type 0
+  AreMade p known nodes.no_nodes = Unit {0}
+  AreMade p known (nodes.and_node n ns) = IsMade p known n × AreMade p known ns
+
+  pub IsMadeMaybe : Settings → Named → MaybeNode → Type 0
+  IsMadeMaybe p known nodes.no_node = Unit {0}
+  IsMadeMaybe p known (nodes.some_node n) = IsMade p known n
+
+  pub AreMadeOperands : Settings → Named → OperandTrees → Type 0
+  AreMadeOperands p known nodes.no_operands = Unit {0}
+  AreMadeOperands p known (nodes.operand n alias os) = IsMade p known n × AreMadeOperands p known os

@@ -1,0 +1,79 @@
+-- The meaning of typed expressions and of statements over an environment of data sets.
+use Rattle.std.specs.Prelude.{ℕ, Bool, true, false, ◌&&◌, cond, List, [], ◌∷◌, Result, Ok, Err}
+use Rattle.std.specs.Option.{option_map_or}
+use Rattle.vtl_decimal.specs.Settings.{Settings}
+use Rattle.vtl_cell.specs.Row.{Row}
+use Rattle.vtl_cell.specs.Outcome.{Fault, Outcome, after}
+use Rattle.vtl_tree.specs.Clauses.{filter_of}
+use Rattle.vtl_tree.specs.Meaning.{DataSet, Environment, Outputs, data_of, with_output}
+use Rattle.vtl_tree.specs.declared.structure.Structure.{Structure}
+use Rattle.vtl_nodes.specs.Trees as nodes
+use Rattle.vtl_nodes.specs.Trees.{FormTree, NodeTree, structure_of}
+use Rattle.vtl_meaning.specs.Operators.{calculated_of, choice_of, left_of, measured_of, pair_of, sub_of}
+
+-- the points of a data set; a name that is missing has none, and no typed script holds one
+abbrev pub points_named : List ℕ → Environment → List Row
+points_named name env = option_map_or (λ d. d.points) (data_of name env) []
+
+-- The points of an expression, or the fault of the first of its parts that has one: operands before operators, from left to right.
+-- A form that is not evaluated yet has no points, and no script that is run holds one (`is_built`).
+abbrev mutual
+  pub node_value : Settings → Environment → NodeTree → Outcome (List Row)
+  node_value p env (nodes.node s form) = form_value p env s form
+
+  pub form_value : Settings → Environment → Structure → FormTree → Outcome (List Row)
+  form_value p env s (nodes.named name) = Ok (points_named name env)
+  form_value p env s (nodes.measures m a) = after (node_value p env a) (measured_of p m (structure_of a) s)
+  form_value p env s (nodes.pair o a b) = after (node_value p env a) (λ d. after (node_value p env b) (pair_of p o (structure_of a) (structure_of b) s d))
+  form_value p env s (nodes.choose t a b) = after (node_value p env t) (λ tests. after (node_value p env a) (λ d. after (node_value p env b) (λ e. Ok (choice_of (structure_of t) (structure_of a) (structure_of b) s tests d e))))
+  form_value p env s (nodes.member a m) = after (node_value p env a) (λ d. Ok (left_of (structure_of a) s d))
+  form_value p env s (nodes.filter a e) = after (node_value p env a) (filter_of p e)
+  form_value p env s (nodes.calc a items) = after (node_value p env a) (calculated_of p items (structure_of a) s)
+  form_value p env s (nodes.keep a names) = after (node_value p env a) (λ d. Ok (left_of (structure_of a) s d))
+  form_value p env s (nodes.drop_named a names) = after (node_value p env a) (λ d. Ok (left_of (structure_of a) s d))
+  form_value p env s (nodes.rename a pairs) = node_value p env a
+  form_value p env s (nodes.sub a items) = after (node_value p env a) (λ d. Ok (sub_of items (structure_of a) s d))
+  form_value p env s other = Ok []
+
+-- the data set of an expression, or its fault
+abbrev pub data_set_of : Settings → Environment → NodeTree → Outcome DataSet
+data_set_of p env n = after (node_value p env n) (λ d. Ok (record { structure = structure_of n; points = d }))
+
+-- a statement: the name of its result, whether the result is written, and what it is
+pub record Statement : Type 0 where
+  pub result : List ℕ
+  pub persistent : Bool
+  pub node : NodeTree
+
+-- a result among the outputs, where it is written
+abbrev pub kept_output : Statement → DataSet → Result Outputs (Fault × List ℕ) → Result Outputs (Fault × List ℕ)
+kept_output s d rest = cond s.persistent (with_output s.result d rest) rest
+
+-- how a statement's value goes into the results: the fault with the result's name, or what follows with one more data set
+abbrev pub stated : Statement → Outcome DataSet → (DataSet → Result Outputs (Fault × List ℕ)) → Result Outputs (Fault × List ℕ)
+stated s (Ok d) rest = kept_output s d (rest d)
+stated s (Err f) rest = Err (f, s.result)
+
+-- The results that are written, in order, or the first fault with the name of its statement's result. All statements are evaluated.
+abbrev pub meaning : Settings → List Statement → Environment → Result Outputs (Fault × List ℕ)
+meaning p [] env = Ok []
+meaning p (s ∷ rest) env = stated s (data_set_of p env s.node) (λ d. meaning p rest ((s.result, d) ∷ env))
+
+-- ---- what is evaluated so far
+abbrev mutual
+  pub is_built : NodeTree → Bool
+  is_built (nodes.node s form) = is_built_form form
+
+  pub is_built_form : FormTree → Bool
+  is_built_form (nodes.named name) = true
+  is_built_form (nodes.measures m a) = is_built a
+  is_built_form (nodes.pair o a b) = is_built a && is_built b
+  is_built_form (nodes.choose t a b) = is_built t && (is_built a && is_built b)
+  is_built_form (nodes.member a m) = is_built a
+  is_built_form (nodes.filter a e) = is_built a
+  is_built_form (nodes.calc a items) = is_built a
+  is_built_form (nodes.keep a names) = is_built a
+  is_built_form (nodes.drop_named a names) = is_built a
+  is_built_form (nodes.rename a pairs) = is_built a
+  is_built_form (nodes.sub a items) = is_built a
+  is_built_form other = false
