@@ -15,6 +15,8 @@ code_of (st.Mistyped statement rule) = 3
 code_of (st.Input dataset line column kind) = 4
 code_of (st.NoFile path) = 4
 code_of (st.TooLong path) = 4
+code_of (st.DivZero result) = 5
+code_of (st.Range result) = 5
 code_of (st.ReadFault path) = 6
 code_of (st.WriteFault path) = 6
 code_of st.Memory = 7
@@ -43,9 +45,9 @@ bytes_of (number n) = decimal n
 abbrev pub end : Part
 end = text (codes "\n")
 
--- what is said of a path, which is in UTF-8
+-- what is said of a path or of a result, in UTF-8
 abbrev pub at : List ℕ → List ℕ → List Part
-at lead path = text lead ∷ text (encode_utf8_all path) ∷ end ∷ []
+at lead name = text lead ∷ text (encode_utf8_all name) ∷ end ∷ []
 
 abbrev pub parts_of : Status → List Part
 parts_of st.Done = []
@@ -55,6 +57,8 @@ parts_of (st.Structure line rule) = text (codes "error: structures line ") ∷ n
 parts_of (st.Mistyped statement rule) = text (codes "error: type in statement ") ∷ number statement ∷ text (codes " rule ") ∷ number rule ∷ end ∷ []
 parts_of (st.Input dataset line column kind) =
     text (codes "error: input ") ∷ text (encode_utf8_all dataset) ∷ text (codes " line ") ∷ number line ∷ text (codes " column ") ∷ number column ∷ text (codes " ") ∷ text (name_of_kind kind) ∷ end ∷ []
+parts_of (st.DivZero result) = at (codes "error: division by zero in ") result
+parts_of (st.Range result) = at (codes "error: out of range in ") result
 parts_of (st.NotText path) = at (codes "error: not text: ") path
 parts_of (st.NoFile path) = at (codes "error: no file: ") path
 parts_of (st.TooLong path) = at (codes "error: too long: ") path

@@ -49,6 +49,10 @@ pub enum Status {
         /// What is wrong there.
         kind: InputKind,
     },
+    /// The statement with this result divides by zero.
+    DivZero(Txt),
+    /// The statement with this result has a number out of range, and divides nothing by zero before it.
+    Range(Txt),
     /// The file at the path, the script or the structures file, is not text in UTF-8.
     NotText(Txt),
     /// There is no file at the path.
@@ -66,7 +70,7 @@ pub enum Status {
 }
 
 impl Status {
-    /// The exit code: 0 done, 1 usage, 2 no script, no structures or no text, 3 not typed, 4 no file, too long or no data set, 6 a fault of reading or writing, 7 memory, 8 not built.
+    /// The exit code: 0 done, 1 usage, 2 no script, no structures or no text, 3 not typed, 4 no file, too long or no data set, 5 a fault of evaluation, 6 a fault of reading or writing, 7 memory, 8 not built.
     pub fn code(&self) -> u8
         ensures { result ≡ code_of self.now }
     {
@@ -76,6 +80,7 @@ impl Status {
             Status::Syntax { .. } | Status::Structure { .. } | Status::NotText(_) => 2,
             Status::Mistyped { .. } => 3,
             Status::NoFile(_) | Status::TooLong(_) | Status::Input { .. } => 4,
+            Status::DivZero(_) | Status::Range(_) => 5,
             Status::ReadFault(_) | Status::WriteFault(_) => 6,
             Status::Memory => 7,
             Status::Unbuilt(_) => 8,
@@ -126,6 +131,8 @@ impl Status {
                 Part::Text(kind_name(*kind)),
                 END,
             ],
+            Status::DivZero(result) => naming("error: division by zero in ", result),
+            Status::Range(result) => naming("error: out of range in ", result),
             Status::NotText(path) => naming("error: not text: ", path),
             Status::NoFile(path) => naming("error: no file: ", path),
             Status::TooLong(path) => naming("error: too long: ", path),
@@ -174,13 +181,13 @@ fn padded(parts: [Part<'_>; 5]) -> [Part<'_>; 9]
     [a, b, c, d, e, NOTHING, NOTHING, NOTHING, NOTHING]
 }
 
-// The parts of a line that names a path.
-fn naming<'a>(lead: &'a str, path: &'a Txt) -> [Part<'a>; 9]
-    ensures { all_said result ≡ flat_map bytes_of (at lead.now path.now) }
+// The parts of a line that ends with a name.
+fn naming<'a>(lead: &'a str, name: &'a Txt) -> [Part<'a>; 9]
+    ensures { all_said result ≡ flat_map bytes_of (at lead.now name.now) }
 {
     padded([
         Part::Text(lead),
-        Part::Text(path.as_str()),
+        Part::Text(name.as_str()),
         END,
         NOTHING,
         NOTHING,
