@@ -1,19 +1,21 @@
 -- What the words and the files that are held give: the outputs of the run, or the first refusal.
 use Rattle.std.specs.Prelude.{◌≡◌, ℕ, Bool, true, false, List, [], ◌∷◌, ◌++◌, length, map, nat_lt, Option, Some, None, Result, Ok, Err, codes, chars, encode_utf8_all, if◌then◌else◌}
 use Rattle.vtl_files.specs.Outside.{bytes_at}
-use Rattle.vtl_cell.specs.Outcome.{Fault as EvaluationFault}
+use Rattle.vtl_cell.specs.Outcome.{DivZero, Fault as EvaluationFault, Range}
 use Rattle.vtl_cell.specs.Row.{Row}
 use Rattle.vtl_syntax.specs.Trees.{ScriptTree}
 use Rattle.vtl_tree.specs.Environment.{DataSet, Environment}
-use Rattle.vtl_plan.specs.Meaning.{Outputs, Statement, meaning}
 use Rattle.vtl_tree.specs.Structures.{Named}
+use Rattle.vtl_nodes.specs.Trees.{NodeTree}
+use Rattle.vtl_meaning.specs.Meaning.{Outputs, Statement, is_built, meaning}
+use Rattle.vtl_backend.specs.Statements.{with_nodes}
+use Rattle.std.specs.List.{list_all}
 use Rattle.vtl_tree.specs.declared.structure.Structure.{Structure}
 use Rattle.vtl_csv.specs.CsvText.{csv_of}
 use Rattle.vtl_csv.specs.InputFile.{Fault, dataset_rows}
 use Rattle.vtl_check.specs.Checked.{env_over}
-use Rattle.vtl_check.specs.Script.{has_definitions, script_typed, verdict}
-use Rattle.vtl_plan.specs.Assigned.{Assigned, assigned_in}
-use Rattle.vtl_plan.specs.Typed.{checked, inputs_of}
+use Rattle.vtl_check.specs.Script.{has_definitions, script_typed}
+use Rattle.vtl_check.specs.Uses.{reads}
 use Rattle.vtl_top.specs.ScriptFile.{IsParsed, Parsed, faulty, no_text, whole}
 use Rattle.vtl_top.specs.Steps.{File, Held, Step, onward, settled}
 use Rattle.vtl_top.specs.Structures.{structures_in}
@@ -42,11 +44,6 @@ sized path limit (Some bytes) = if nat_lt limit (length bytes) then Err (st.TooL
 
 abbrev pub content : List ℕ → ℕ → Held → Result (List ℕ) Status
 content path limit held = sized path limit (bytes_at path held)
-
--- what a file spells
-abbrev pub formed : {A : Type 0} → List ℕ → Option A → Result A Status
-formed path None = Err (st.Unbuilt (chars path))
-formed path (Some x) = Ok x
 
 -- ---- the steps of a run
 -- the bytes of a file
@@ -98,10 +95,15 @@ inputs_step r before (e ∷ rest) = onward (one_more_step r before e) (λ more. 
 abbrev pub output_of : Run → List ℕ × DataSet → File
 output_of r result = (file_in r.output result.0, csv_of r.settings result.1.structure result.1.points)
 
--- The files of all results, in order. No statement that is run so far has a fault; one that had would not be built.
+-- the status of a fault, which names the result of its statement
+abbrev pub fault_status : EvaluationFault → List ℕ → Status
+fault_status DivZero name = st.DivZero name
+fault_status Range name = st.Range name
+
+-- the files of all results, in order, or the status of the fault
 abbrev pub outputs_of : Run → Result Outputs (EvaluationFault × List ℕ) → Result (List File) Status
 outputs_of r (Ok results) = Ok (map (output_of r) results)
-outputs_of r (Err fault) = Err (st.Unbuilt (chars r.script))
+outputs_of r (Err fault) = Err (fault_status fault.0 fault.1)
 
 -- what the statements mean over the data sets that were read
 abbrev pub results_step : Run → List Statement → Environment → Step (List File)
@@ -116,26 +118,26 @@ data_step r inputs statements = onward (inputs_step r [] inputs) (results_step r
 abbrev pub structures_step : List ℕ → Step Named
 structures_step path = onward (read path structures_limit) (λ bytes. settled (structures_in path bytes))
 
--- what follows the statements: those that are not built over the structures are told of the script
-abbrev pub typed_step : Run → List Assigned → Named → Step (List File)
-typed_step r plan structures = onward (settled (formed r.script (checked structures plan))) (data_step r (inputs_of structures plan))
+-- a script with a form that is not evaluated yet is told of
+abbrev pub built_or_not : Run → List NodeTree → Result (Unit {0}) Status
+built_or_not r nodes = if list_all is_built nodes then Ok tt else Err (st.Unbuilt (chars r.script))
 
--- what follows the typing: statements of a form that is not built are told of the script
-abbrev pub planned_step : Run → ScriptTree → Named → Step (List File)
-planned_step r script structures = onward (settled (formed r.script (assigned_in script))) (λ plan. typed_step r plan structures)
+-- what follows the typing: the data sets that the statements read, and what they mean
+abbrev pub planned_step : Run → ScriptTree → Named → List NodeTree → Step (List File)
+planned_step r script structures nodes = onward (settled (built_or_not r nodes)) (λ u. data_step r (reads structures nodes) (with_nodes script nodes))
 
 -- the status of the first statement that breaks a rule of typing
-abbrev pub typed_or_fault : Result (Unit {0}) (ℕ × ℕ) → Result (Unit {0}) Status
-typed_or_fault (Ok u) = Ok u
+abbrev pub typed_or_fault : {A : Type 0} → Result A (ℕ × ℕ) → Result A Status
+typed_or_fault (Ok x) = Ok x
 typed_or_fault (Err fault) = Err (st.Mistyped fault.0 fault.1)
 
 -- the typing of a script over structures
-abbrev pub typing_of : Run → ScriptTree → Named → Result (Unit {0}) Status
-typing_of r script structures = typed_or_fault (verdict (script_typed (env_over r.settings structures) script))
+abbrev pub typing_of : Run → ScriptTree → Named → Result (List NodeTree) Status
+typing_of r script structures = typed_or_fault (script_typed (env_over r.settings structures) script)
 
 -- what follows the structures: a script that is not typed over them is refused by its first fault
 abbrev pub checked_step : Run → ScriptTree → Named → Step (List File)
-checked_step r script structures = onward (settled (typing_of r script structures)) (λ u. planned_step r script structures)
+checked_step r script structures = onward (settled (typing_of r script structures)) (planned_step r script structures)
 
 -- what the structures file and then the inputs give
 abbrev pub declared_step : Run → ScriptTree → Step (List File)

@@ -1,10 +1,17 @@
--- Data sets that were read, without where they lie in memory.
-use Rattle.std.specs.Prelude.{List}
+-- Tables that were read, without where they lie in memory.
+use Rattle.std.specs.Prelude.{◌≡◌, ℕ, List, [], ◌∷◌, ◌++◌}
 use Rattle.vtl_cell.specs.Row.{Row}
-use Rattle.vtl_tree.specs.Environment.{DataSet}
+use Rattle.vtl_rows.specs.Named.{NamedTables}
+use Rattle.vtl_rows.specs.Tables.{Listed}
+use Rattle.vtl_tree.specs.Tables.{IsTableOf}
+use Rattle.vtl_tree.specs.declared.structure.Structure.{Structure}
 
-abbrev pub points_of : DataSet → List Row
-points_of d = d.points
+abbrev pub rows_in : Listed → List Row
+rows_in t = t.rows
+
+-- one more table stands behind the others, of a data set of this structure
+abbrev pub Adds : List ℕ → Structure → (before now : NamedTables) → Type 0
+Adds name s before now = (t : Listed) × IsTableOf s t × (now ≡ before ++ (name, t) ∷ [])
 
 -- the type of a value
 abbrev pub SameType : {X : Type 0} → X → Type 0

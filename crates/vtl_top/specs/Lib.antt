@@ -6,6 +6,7 @@ pub mod Meant
 pub mod OutputView
 pub mod PartView
 pub mod Refusal
+pub mod ResultTables
 pub mod RunView
 pub mod Said
 pub mod ScriptFile

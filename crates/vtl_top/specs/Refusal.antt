@@ -9,7 +9,10 @@ use Rattle.vtl_parser.specs.Parsed.{IsFaulty, IsScript}
 use Rattle.vtl_syntax.specs.View.{script_tree}
 use Rattle.vtl_syntax.specs.declared.statements.Script.{Script}
 use Rattle.vtl_cell.specs.Row.{Row}
-use Rattle.vtl_tree.specs.Environment.{DataSet}
+use Rattle.vtl_rows.specs.Tables.{Listed}
+use Rattle.vtl_tree.specs.Tables.{IsTableOf}
+use Rattle.vtl_backend.specs.declared.error.RunErr.{RunErr}
+use Rattle.vtl_backend.specs.declared.error.RunErr.TheVariants as run
 use Rattle.vtl_tree.specs.declared.structure.Structure.{Structure}
 use Rattle.vtl_csv.specs.InputFile.{Fault}
 use Rattle.vtl_csv.specs.declared.input.InputErr.{InputErr}
@@ -34,10 +37,16 @@ abbrev pub input_refusal : List ℕ → InputErr → Status
 input_refusal name (input.Fault line column kind) = st.Input name line column kind
 input_refusal name input.OutOfMemory = st.Memory
 
--- the data set of this structure whose points these are, or the fault of its file, or want of memory
-abbrev pub IsDataSetOf : List ℕ → Structure → Result (List Row) Fault → Result DataSet Status → Type 0
-IsDataSetOf name s read (Ok d) = (d.structure ≡ s) × (points_or_fault name read ≡ Ok d.points)
-IsDataSetOf name s read (Err status) = (status ≡ st.Memory) ⊎ (points_or_fault name read ≡ Err status)
+-- the table of a data set of this structure whose points are its rows, or the fault of its file, or want of memory
+abbrev pub IsTableRead : List ℕ → Structure → Result (List Row) Fault → Result Listed Status → Type 0
+IsTableRead name s read (Ok t) = IsTableOf s t × (points_or_fault name read ≡ Ok t.rows)
+IsTableRead name s read (Err status) = (status ≡ st.Memory) ⊎ (points_or_fault name read ≡ Err status)
+
+-- the status of a run that gave no tables
+abbrev pub faulted : RunErr → Status
+faulted (run.DivZero name) = st.DivZero name
+faulted (run.Range name) = st.Range name
+faulted run.OutOfMemory = st.Memory
 
 -- the fault of a text
 abbrev pub fault_of : ParseErr → Status

@@ -1,113 +1,122 @@
 // The data sets that a script reads, from their files.
-ghost use Rattle.std.specs.Prelude.{◌≡◌, ◌<◌, ◌++◌, ◌∷◌, [], true, false, length, slice_index_or, IfOk, OnOk};
-ghost use Rattle.vtl_tree.specs.Structures.{AreStructures, has_name, is_declarable};
+ghost use Rattle.std.specs.Prelude.{◌≡◌, ◌<◌, ◌∷◌, [], None, Some, length, slice_index_or, IfOk, OnOk};
+ghost use Rattle.std.specs.Map.{lookup};
+ghost use Rattle.std.specs.Option.{is_some};
+ghost use Rattle.vtl_rows.specs.Named.{table_of};
+ghost use Rattle.vtl_tree.specs.Structure.{same_name};
+ghost use Rattle.vtl_tree.specs.Structures.{is_declarable};
 ghost use Rattle.vtl_csv.specs.InputFile.{dataset_rows};
-ghost use Rattle.vtl_plan.specs.InputsView.{inputs_shown};
-ghost use Rattle.vtl_plan.specs.Results.{structures_in};
+ghost use Rattle.vtl_backend.specs.Inputs.{AreInputs, environment_of, inputs_of, rows_named};
+ghost use Rattle.vtl_tree.specs.Tables.{IsTableOf};
 ghost use Rattle.vtl_top.specs.Answered.{Takes};
-ghost use Rattle.vtl_top.specs.Expected.{dataset_step, inputs_step, one_more_step};
-ghost use Rattle.vtl_top.specs.InputsRead.{points_of};
-ghost use Rattle.vtl_top.specs.Refusal.{IsDataSetOf};
+ghost use Rattle.vtl_top.specs.Expected.{dataset_step, inputs_step};
+ghost use Rattle.vtl_top.specs.InputsRead.{Adds, rows_in};
+ghost use Rattle.vtl_top.specs.Refusal.{IsTableRead};
 ghost use Rattle.vtl_top.specs.RunView.{run_view};
 
 use crate::reading::{file_in, read_file};
 use crate::refusal::input_refusal;
 use crate::status::Status;
 use crate::words::Run;
-use indexmap::IndexMap;
 use std::alloc::Global;
+use vtl_check::Checked;
 use vtl_csv::read_dataset;
 use vtl_decimal::Profile;
 use vtl_files::Files;
-use vtl_plan::{DataSet, DataSets, Inputs, put};
+use vtl_rows::{Table, Tables};
 use vtl_text::Txt;
-use vtl_tree::Structure;
+use vtl_tree::{Structure, Structures};
 
 const CSV_LIMIT: usize = 67_108_864;
 
-// The data set of this name that the bytes of a file hold.
-fn data_set_of<'a>(
+// The table of the data set of this name that the bytes of a file hold.
+fn table_in(
     alloc: Global,
     name: &Txt,
-    structure: &'a Structure,
+    structure: &Structure,
     bytes: &[u8],
     profile: &Profile,
-) -> Result<DataSet<'a>, Status>
+) -> Result<Table, Status>
     requires { is_declarable structure.now ≡ true }
-    ensures { IsDataSetOf name.now structure.now (dataset_rows profile.now structure.now bytes.now) result }
+    ensures { IsTableRead name.now structure.now (dataset_rows profile.now structure.now bytes.now) result }
 {
     match read_dataset(alloc, bytes, structure, profile) {
-        Ok(table) => Ok(DataSet::new(alloc, structure, table)?),
+        Ok(table) => Ok(table),
         Err(error) => Err(input_refusal(name, error)),
     }
 }
 
-// The data set of this name, from its file.
-fn read_input<'a, F: Files>(
+// The table of the data set of this name, from its file.
+fn read_input<F: Files>(
     alloc: Global,
     files: &mut F,
     run: &Run<'_>,
     name: &Txt,
-    structure: &'a Structure,
-) -> Result<DataSet<'a>, Status>
+    structure: &Structure,
+) -> Result<Table, Status>
     requires { is_declarable structure.now ≡ true }
-    ensures takes { Takes F.Files files.old files.new (dataset_step (run_view run.now) (name.now, structure.now)) points_of result }
-    ensures structure { IfOk result (λ d. d.structure ≡ structure.now) }
+    ensures takes { Takes F.Files files.old files.new (dataset_step (run_view run.now) (name.now, structure.now)) rows_in result }
+    ensures table { IfOk result (λ t. IsTableOf structure.now t) }
 {
     let path = file_in(alloc, run.input, name)?;
     match read_file(alloc, files, path.as_str(), CSV_LIMIT) {
-        Ok(bytes) => data_set_of(alloc, name, structure, &bytes, &run.profile),
+        Ok(bytes) => table_in(alloc, name, structure, &bytes, &run.profile),
         Err(status) => Err(status),
     }
 }
 
-// Reads one more data set, and puts it behind the others.
-fn add_input<'a, F: Files>(
+// Reads one more data set, and puts its table behind the others.
+fn add_input<F: Files>(
     alloc: Global,
     files: &mut F,
     run: &Run<'_>,
     name: &Txt,
-    structure: &'a Structure,
-    known: &mut DataSets<'a>,
+    structure: &Structure,
+    tables: &mut Tables,
 ) -> Result<(), Status>
-    requires declared { is_declarable structure.now ≡ true }
-    requires new { has_name name.now (structures_in known.old.entries) ≡ false }
-    ensures takes { Takes F.Files files.old files.new (one_more_step (run_view run.now) known.old.entries (name.now, structure.now)) (λ _. known.new.entries) result }
-    ensures structures { OnOk result (structures_in known.new.entries ≡ structures_in known.old.entries ++ (name.now, structure.now) ∷ []) }
+    requires declarable { is_declarable structure.now ≡ true }
+    requires new { table_of name.now tables.old ≡ None }
+    ensures takes { Takes F.Files files.old files.new (dataset_step (run_view run.now) (name.now, structure.now)) (λ _. rows_named name.now tables.new) result }
+    ensures put { OnOk result (Adds name.now structure.now tables.old tables.new) }
 {
     match read_input(alloc, files, run, name, structure) {
-        Ok(read) => Ok(put(known, name, read)?),
+        Ok(table) => Ok(tables.put(name.share()?, table)?),
         Err(status) => Err(status),
     }
 }
 
-// The name and the structure at a place.
-fn input_at<'i, 'a>(inputs: &'i Inputs<'a>, i: usize) -> (&'i Txt, &'a Structure)
-    requires { i < length inputs.now.entries }
-    ensures { (result.0.now, result.1.now) ≡ slice_index_or (inputs_shown inputs.now.entries) i (result.0.now, result.1.now) }
+// The structure of a declared name.
+fn declared<'s>(structures: &'s Structures, name: &Txt) -> &'s Structure
+    requires { is_some (lookup (same_name name.now) structures.now) ≡ true }
+    ensures found { lookup (same_name name.now) structures.now ≡ Some result.now }
+    ensures declarable { is_declarable result.now ≡ true }
 {
-    let (name, structure) = inputs.get_index(i).unwrap();
-    (name, *structure)
+    match structures.get(name) {
+        Some(structure) => structure,
+        None => unreachable!(),
+    }
 }
 
-/// The data sets of these names and structures, each from its file, in order.
-pub fn read_inputs<'a, F: Files>(
+/// The tables of the data sets that a script reads, each from its file, in order of first use.
+pub fn read_inputs<F: Files>(
     alloc: Global,
     files: &mut F,
     run: &Run<'_>,
-    inputs: &Inputs<'a>,
-) -> Result<DataSets<'a>, Status>
-    requires { AreStructures (inputs_shown inputs.now.entries) }
-    ensures takes { Takes F.Files files.old files.new (inputs_step (run_view run.now) [] (inputs_shown inputs.now.entries)) (λ known. known.entries) result }
-    ensures structures { IfOk result (λ known. structures_in known.entries ≡ inputs_shown inputs.now.entries) }
+    structures: &Structures,
+    checked: &Checked,
+) -> Result<Tables, Status>
+    requires { checked.now.declared ≡ structures.now }
+    ensures takes { Takes F.Files files.old files.new (inputs_step (run_view run.now) [] (inputs_of checked.now)) (environment_of checked.now) result }
+    ensures inputs { IfOk result (λ t. AreInputs checked.now t) }
 {
-    let mut known = IndexMap::new(alloc);
-    for i in 0..inputs.len() {
-        let (name, structure) = input_at(inputs, i);
-        match add_input(alloc, files, run, name, structure, &mut known) {
+    let names = checked.inputs();
+    let mut tables = Tables::new(alloc);
+    for i in 0..names.len() {
+        let structure = declared(structures, &names[i]);
+        match add_input(alloc, files, run, &names[i], structure, &mut tables) {
             Ok(()) => {}
             Err(status) => return Err(status),
         }
     }
-    Ok(known)
+    Ok(tables)
 }

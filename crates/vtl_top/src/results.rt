@@ -1,77 +1,112 @@
 // The outputs of the results.
-ghost use Rattle.std.specs.Prelude.{◌≡◌, ◌≤◌, ◌<◌, List, Some, Ok, true, length, drop, map, slice_index_or, IfOk};
+ghost use Rattle.std.specs.Prelude.{◌≡◌, ◌<◌, true, length, map, slice_index_or, IfOk};
 ghost use Rattle.std.specs.List.{AllByRecursion};
-ghost use Rattle.std.specs.Option.{is_some};
-ghost use Rattle.vtl_plan.specs.Meaning.{Statement, meaning};
-ghost use Rattle.vtl_plan.specs.Results.{structures_in};
-ghost use Rattle.vtl_plan.specs.Typed.{typed};
-ghost use Rattle.vtl_top.specs.Expected.{output_of, outputs_of};
+ghost use Rattle.vtl_tree.specs.Tables.{IsTableOf};
+ghost use Rattle.vtl_check.specs.Checked.{known_of};
+ghost use Rattle.vtl_backend.specs.Inputs.{AreInputs};
+ghost use Rattle.vtl_backend.specs.Runs.{script_meaning};
+ghost use Rattle.vtl_backend.specs.Statements.{is_script_built};
+ghost use Rattle.vtl_top.specs.Expected.{data_set, output_of, outputs_of};
 ghost use Rattle.vtl_top.specs.OutputView.{NamesPath, output_view, outputs_view};
+ghost use Rattle.vtl_top.specs.Refusal.{SettlesBy, faulted};
+ghost use Rattle.vtl_top.specs.ResultTables.{AreKnown, IsKnown, file_for};
 ghost use Rattle.vtl_top.specs.RunView.{run_view};
 
 use crate::output::Output;
 use crate::reading::file_in;
+use crate::status::Status;
 use crate::words::Run;
 use std::alloc::{AllocError, Global};
-use vtl_plan::{Assignment, DataSet, DataSets};
+use vtl_backend::{Backend, RunErr};
+use vtl_check::Checked;
+use vtl_csv::write_dataset;
+use vtl_rows::{Table, Tables};
 use vtl_text::Txt;
+use vtl_tree::Structure;
 
 // What is written of a result: its text, and the path of its file.
 fn make_output(
     alloc: Global,
     run: &Run<'_>,
     name: &Txt,
-    result_set: &DataSet<'_>,
+    table: &Table,
+    structure: &Structure,
 ) -> Result<Output, AllocError>
-    ensures view { IfOk result (λ o. output_view o ≡ output_of (run_view run.now) (name.now, result_set.now)) }
+    requires { IsTableOf structure.now table.now }
+    ensures view { IfOk result (λ o. output_view o ≡ output_of (run_view run.now) (name.now, data_set structure.now table.now.rows)) }
     ensures named { IfOk result NamesPath }
 {
     let path = file_in(alloc, run.output, name)?;
     let named = Txt::new(alloc, path.as_str())?;
-    let bytes = result_set.csv(alloc, &run.profile)?;
+    let bytes = write_dataset(alloc, table, structure, &run.profile)?;
     Ok(Output { path, named, bytes })
 }
 
-// The name and the data set at a place.
-fn data_set_at<'k, 'a>(known: &'k DataSets<'a>, i: usize) -> (&'k Txt, &'k DataSet<'a>)
-    requires { i < length known.now.entries }
-    ensures { (result.0.now, result.1.now) ≡ slice_index_or known.now.entries i (result.0.now, result.1.now) }
+// What is written of the table at a place.
+fn make_output_at(
+    alloc: Global,
+    run: &Run<'_>,
+    checked: &Checked,
+    tables: &Tables,
+    i: usize,
+) -> Result<Output, AllocError>
+    requires within { i < length tables.now }
+    requires known { AreKnown (known_of checked.now) tables.now }
+    ensures view { IfOk result (λ o. output_view o ≡ slice_index_or (map (file_for (run_view run.now) (known_of checked.now)) tables.now) i (output_view o)) }
+    ensures named { IfOk result NamesPath }
 {
-    known.get_index(i).unwrap()
+    let (name, table) = tables.at(i);
+    match checked.structure(name) {
+        Some(structure) => make_output(alloc, run, name, table, structure),
+        None => unreachable!(),
+    }
 }
 
-// The outputs of the data sets from a place on.
+// The outputs of all tables, in order.
 fn make_outputs(
     alloc: Global,
     run: &Run<'_>,
-    known: &DataSets<'_>,
-    first: usize,
+    checked: &Checked,
+    tables: &Tables,
 ) -> Result<Vec<Output>, AllocError>
-    requires { first ≤ length known.now.entries }
-    ensures view { IfOk result (λ o. outputs_view o ≡ map (output_of (run_view run.now)) (drop first known.now.entries)) }
+    requires { AreKnown (known_of checked.now) tables.now }
+    ensures view { IfOk result (λ o. outputs_view o ≡ map (file_for (run_view run.now) (known_of checked.now)) tables.now) }
     ensures named { IfOk result (λ o. AllByRecursion NamesPath o.items) }
 {
     let mut outputs = Vec::new(alloc);
-    for i in first..known.len() {
-        let (name, result_set) = data_set_at(known, i);
-        outputs.push(make_output(alloc, run, name, result_set)?)?;
+    for i in 0..tables.len() {
+        outputs.push(make_output_at(alloc, run, checked, tables, i)?)?;
     }
     Ok(outputs)
 }
 
-/// The outputs of the results that the statements give over their inputs. It fails only for want of memory.
-pub fn results(
+// The status of a run that gave no tables.
+fn faulted(error: RunErr) -> Status
+    ensures { result ≡ faulted error }
+{
+    match error {
+        RunErr::DivZero(name) => Status::DivZero(name),
+        RunErr::Range(name) => Status::Range(name),
+        RunErr::OutOfMemory => Status::Memory,
+    }
+}
+
+/// The outputs that a script means over its inputs, or the status of its fault; or want of memory.
+pub fn results<B: Backend>(
     alloc: Global,
+    back: &mut B,
     run: &Run<'_>,
-    statements: &[Assignment<'_>],
-    inputs: DataSets<'_>,
-) -> Result<Vec<Output>, AllocError>
-    requires { is_some (typed (structures_in inputs.entries) statements.now) ≡ true }
-    ensures view { IfOk result (λ o. (meant : List Statement) → typed (structures_in inputs.entry.entries) statements.now ≡ Some meant → outputs_of (run_view run.now) (meaning (run_view run.now).settings meant inputs.entry.entries) ≡ Ok (outputs_view o)) }
+    checked: &Checked,
+    inputs: &Tables,
+) -> Result<Vec<Output>, Status>
+    requires inputs { AreInputs checked.now inputs.now }
+    requires built { is_script_built checked.now ≡ true }
+    ensures view { SettlesBy outputs_view (outputs_of (run_view run.now) (script_meaning checked.now inputs.now)) result }
     ensures named { IfOk result (λ o. AllByRecursion NamesPath o.items) }
 {
-    let first = inputs.len();
-    let known = vtl_plan::run(alloc, inputs, statements, &run.profile)?;
-    let outputs = make_outputs(alloc, run, &known, first)?;
-    Ok(outputs)
+    let mut tables = Tables::new(alloc);
+    match back.run(alloc, checked, inputs, &mut tables) {
+        Ok(()) => Ok(make_outputs(alloc, run, checked, &tables)?),
+        Err(error) => Err(faulted(error)),
+    }
 }

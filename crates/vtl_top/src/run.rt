@@ -1,15 +1,13 @@
 // The run of a script, from the paths of its files to the texts of its outputs.
-ghost use Rattle.std.specs.Prelude.{◌≡◌, List, Some, false, true, IfOk};
+ghost use Rattle.std.specs.Prelude.{◌≡◌, false, true, IfOk};
 ghost use Rattle.std.specs.List.{AllByRecursion};
-ghost use Rattle.std.specs.Option.{is_some};
 ghost use Rattle.vtl_syntax.specs.View.{script_tree};
-ghost use Rattle.vtl_plan.specs.Meaning.{Statement};
-ghost use Rattle.vtl_tree.specs.Structures.{AreStructures};
+ghost use Rattle.vtl_check.specs.Checked.{nodes_of, tree_of};
 ghost use Rattle.vtl_check.specs.Script.{has_definitions};
-ghost use Rattle.vtl_plan.specs.InputsView.{inputs_shown};
-ghost use Rattle.vtl_plan.specs.Typed.{typed};
+ghost use Rattle.vtl_backend.specs.Inputs.{inputs_of};
+ghost use Rattle.vtl_backend.specs.Statements.{is_script_built, statements_of};
 ghost use Rattle.vtl_top.specs.Answered.{Takes};
-ghost use Rattle.vtl_top.specs.Expected.{checked_step, data_step, declared_step, planned_step, run_step, script_step, statements_step, structures_step, typed_step};
+ghost use Rattle.vtl_top.specs.Expected.{checked_step, data_step, declared_step, planned_step, run_step, script_step, statements_step, structures_step};
 ghost use Rattle.vtl_top.specs.OutputView.{NamesPath, outputs_view};
 ghost use Rattle.vtl_top.specs.Refusal.{IsScriptOf, IsScriptOfText, fault_of};
 ghost use Rattle.vtl_top.specs.RunView.{run_view};
@@ -25,10 +23,10 @@ use crate::typing::typed;
 use crate::words::Run;
 use std::alloc::Global;
 use std::str;
-use vtl_check::defines_rulesets;
+use vtl_backend::{Backend, is_built};
+use vtl_check::{Checked, defines_rulesets};
 use vtl_files::Files;
 use vtl_parser::{ParseErr, parse};
-use vtl_plan::{Assignment, Inputs, assignments, checked_inputs};
 use vtl_syntax::Script;
 use vtl_tree::Structures;
 
@@ -86,61 +84,51 @@ fn read_structures<F: Files>(alloc: Global, files: &mut F, path: &str) -> Result
 }
 
 // What the data sets that are read give.
-fn read_data<F: Files>(
+fn read_data<B: Backend, F: Files>(
     alloc: Global,
+    back: &mut B,
     files: &mut F,
     run: &Run<'_>,
-    statements: &[Assignment<'_>],
-    inputs: &Inputs<'_>,
+    structures: &Structures,
+    checked: &Checked,
 ) -> Result<Vec<Output>, Status>
-    requires declared { AreStructures (inputs_shown inputs.now.entries) }
-    requires typed { is_some (typed (inputs_shown inputs.now.entries) statements.now) ≡ true }
-    ensures takes { (meant : List Statement) → typed (inputs_shown inputs.now.entries) statements.now ≡ Some meant → Takes F.Files files.old files.new (data_step (run_view run.now) (inputs_shown inputs.now.entries) meant) outputs_view result }
+    requires declared { checked.now.declared ≡ structures.now }
+    requires settings { checked.now.settings ≡ run.now.profile }
+    requires built { is_script_built checked.now ≡ true }
+    ensures takes { Takes F.Files files.old files.new (data_step (run_view run.now) (inputs_of checked.now) (statements_of checked.now)) outputs_view result }
     ensures named { IfOk result (λ o. AllByRecursion NamesPath o.items) }
 {
-    match read_inputs(alloc, files, run, inputs) {
-        Ok(known) => Ok(results(alloc, run, statements, known)?),
+    match read_inputs(alloc, files, run, structures, checked) {
+        Ok(inputs) => results(alloc, back, run, checked, &inputs),
         Err(status) => Err(status),
     }
 }
 
-// What the inputs give by the structures, for statements that are built.
-fn read_typed<F: Files>(
-    alloc: Global,
-    files: &mut F,
-    run: &Run<'_>,
-    statements: &[Assignment<'_>],
-    structures: &Structures,
-) -> Result<Vec<Output>, Status>
-    ensures takes { Takes F.Files files.old files.new (typed_step (run_view run.now) statements.now structures.now) outputs_view result }
-    ensures named { IfOk result (λ o. AllByRecursion NamesPath o.items) }
-{
-    match checked_inputs(alloc, structures, statements)? {
-        Some(inputs) => read_data(alloc, files, run, statements, &inputs),
-        None => Err(unbuilt(alloc, run.script)),
-    }
-}
-
 // What the inputs give for a script that is typed over the structures.
-fn read_planned<F: Files>(
+fn read_checked<B: Backend, F: Files>(
     alloc: Global,
+    back: &mut B,
     files: &mut F,
     run: &Run<'_>,
-    script: &Script,
     structures: &Structures,
+    checked: &Checked,
 ) -> Result<Vec<Output>, Status>
-    ensures takes { Takes F.Files files.old files.new (planned_step (run_view run.now) (script_tree script.now) structures.now) outputs_view result }
+    requires declared { checked.now.declared ≡ structures.now }
+    requires settings { checked.now.settings ≡ run.now.profile }
+    ensures takes { Takes F.Files files.old files.new (planned_step (run_view run.now) (tree_of checked.now) checked.now.declared (nodes_of checked.now)) outputs_view result }
     ensures named { IfOk result (λ o. AllByRecursion NamesPath o.items) }
 {
-    match assignments(alloc, script)? {
-        Some(statements) => read_typed(alloc, files, run, &statements, structures),
-        None => Err(unbuilt(alloc, run.script)),
+    if is_built(checked) {
+        read_data(alloc, back, files, run, structures, checked)
+    } else {
+        Err(unbuilt(alloc, run.script))
     }
 }
 
 // What the inputs give by the structures, over which the script is typed first.
-fn read_by<F: Files>(
+fn read_by<B: Backend, F: Files>(
     alloc: Global,
+    back: &mut B,
     files: &mut F,
     run: &Run<'_>,
     script: &Script,
@@ -151,14 +139,15 @@ fn read_by<F: Files>(
     ensures named { IfOk result (λ o. AllByRecursion NamesPath o.items) }
 {
     match typed(alloc, script, structures, &run.profile) {
-        Ok(()) => read_planned(alloc, files, run, script, structures),
+        Ok(checked) => read_checked(alloc, back, files, run, structures, &checked),
         Err(status) => Err(status),
     }
 }
 
 // The structures file and the inputs, and the outputs that they give.
-fn read_declared<F: Files>(
+fn read_declared<B: Backend, F: Files>(
     alloc: Global,
+    back: &mut B,
     files: &mut F,
     run: &Run<'_>,
     script: &Script,
@@ -168,14 +157,15 @@ fn read_declared<F: Files>(
     ensures named { IfOk result (λ o. AllByRecursion NamesPath o.items) }
 {
     match read_structures(alloc, files, run.structures) {
-        Ok(structures) => read_by(alloc, files, run, script, &structures),
+        Ok(structures) => read_by(alloc, back, files, run, script, &structures),
         Err(status) => Err(status),
     }
 }
 
 // What the files give by the script's tree.
-fn carry_out<F: Files>(
+fn carry_out<B: Backend, F: Files>(
     alloc: Global,
+    back: &mut B,
     files: &mut F,
     run: &Run<'_>,
     script: &Script,
@@ -186,17 +176,22 @@ fn carry_out<F: Files>(
     if defines_rulesets(script) {
         return Err(unbuilt(alloc, run.script));
     }
-    read_declared(alloc, files, run, script)
+    read_declared(alloc, back, files, run, script)
 }
 
 /// Reads the files of a run, and makes its outputs: nothing is created. The answer is the outputs, or the first refusal
 /// in the order script, structures file, types of the script over the structures, inputs; or want of memory at any place.
-pub fn prepare<F: Files>(alloc: Global, files: &mut F, run: &Run<'_>) -> Result<Vec<Output>, Status>
+pub fn prepare<B: Backend, F: Files>(
+    alloc: Global,
+    back: &mut B,
+    files: &mut F,
+    run: &Run<'_>,
+) -> Result<Vec<Output>, Status>
     ensures takes { Takes F.Files files.old files.new (run_step (run_view run.now)) outputs_view result }
     ensures named { IfOk result (λ o. AllByRecursion NamesPath o.items) }
 {
     match read_script(alloc, files, run.script) {
-        Ok(script) => carry_out(alloc, files, run, &script),
+        Ok(script) => carry_out(alloc, back, files, run, &script),
         Err(status) => Err(status),
     }
 }

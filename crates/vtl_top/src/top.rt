@@ -11,7 +11,9 @@ use crate::run::prepare;
 use crate::status::{Status, tell};
 use crate::words::{Run, command_of};
 use std::alloc::Global;
+use vtl_backend::Backend;
 use vtl_files::{Files, Sink};
+use vtl_interp::Interp;
 
 /// Carries out the words of a command line over the files and the sink that are handed in, and answers how it went.
 ///
@@ -39,7 +41,7 @@ pub fn vtl<F: Files, O: Sink>(alloc: Global, words: &[String], files: &mut F, ou
     ensures says { Says O.Sink out.old out.new (command_of (map string_bytes words.now)) (F.held files.old) result }
     ensures quiet { result ≡ Status.Done → out.new ≡ out.old }
 {
-    let status = answer(alloc, words, files);
+    let status = answer(alloc, &mut Interp, words, files);
     if is_done(&status) {
         return status;
     }
@@ -54,7 +56,12 @@ fn is_done(status: &Status) -> bool
 }
 
 // The status of the words, without its line.
-fn answer<F: Files>(alloc: Global, words: &[String], files: &mut F) -> Status
+fn answer<B: Backend, F: Files>(
+    alloc: Global,
+    back: &mut B,
+    words: &[String],
+    files: &mut F,
+) -> Status
     requires { F.creating files.old ≡ false }
     ensures held { F.held files.new ≡ F.held files.old }
     ensures misuses { F.misuses files.new ≡ F.misuses files.old }
@@ -64,13 +71,18 @@ fn answer<F: Files>(alloc: Global, words: &[String], files: &mut F) -> Status
     ensures ends { Ends F.Files files.old files.new (asked_step (command_of (map string_bytes words.now))) result }
 {
     match command_of(words) {
-        Some(run) => carry_out(alloc, files, &run),
+        Some(run) => carry_out(alloc, back, files, &run),
         None => Status::Usage,
     }
 }
 
 // The status of a run.
-fn carry_out<F: Files>(alloc: Global, files: &mut F, run: &Run<'_>) -> Status
+fn carry_out<B: Backend, F: Files>(
+    alloc: Global,
+    back: &mut B,
+    files: &mut F,
+    run: &Run<'_>,
+) -> Status
     requires { F.creating files.old ≡ false }
     ensures held { F.held files.new ≡ F.held files.old }
     ensures misuses { F.misuses files.new ≡ F.misuses files.old }
@@ -79,7 +91,7 @@ fn carry_out<F: Files>(alloc: Global, files: &mut F, run: &Run<'_>) -> Status
     ensures usage { result ≢ Status.Usage }
     ensures ends { Ends F.Files files.old files.new (run_step (run_view run.now)) result }
 {
-    match prepare(alloc, files, run) {
+    match prepare(alloc, back, files, run) {
         Ok(outputs) => write_outputs(files, outputs),
         Err(status) => status,
     }

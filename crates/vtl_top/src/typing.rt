@@ -1,30 +1,34 @@
 // Whether the script is typed over the structures.
-ghost use Rattle.std.specs.Prelude.{◌≡◌, false};
+ghost use Rattle.std.specs.Prelude.{◌≡◌, IfOk, false};
 ghost use Rattle.vtl_syntax.specs.View.{script_tree};
-ghost use Rattle.vtl_check.specs.Checked.{env_over};
-ghost use Rattle.vtl_check.specs.Script.{has_definitions, script_typed, verdict};
+ghost use Rattle.vtl_check.specs.Checked.{env_over, nodes_of};
+ghost use Rattle.vtl_check.specs.Script.{has_definitions, script_typed};
 ghost use Rattle.vtl_top.specs.Expected.{typed_or_fault};
-ghost use Rattle.vtl_top.specs.Refusal.{Settles};
+ghost use Rattle.vtl_top.specs.Refusal.{SettlesBy};
 
 use crate::status::Status;
 use std::alloc::Global;
-use vtl_check::{CheckErr, verdict};
+use vtl_check::{CheckErr, Checked, check};
 use vtl_decimal::Profile;
 use vtl_syntax::Script;
 use vtl_tree::Structures;
 
-/// The status of the first statement that breaks a rule over the structures, where there is one; or want of memory.
+/// The script with its typing over the structures, or the status of the first statement that breaks a rule; or want of
+/// memory.
 pub fn typed(
     alloc: Global,
     script: &Script,
     structures: &Structures,
     profile: &Profile,
-) -> Result<(), Status>
+) -> Result<Checked, Status>
     requires { has_definitions (script_tree script.now) ≡ false }
-    ensures { Settles (typed_or_fault (verdict (script_typed (env_over profile.now structures.now) (script_tree script.now)))) result }
+    ensures typing { SettlesBy nodes_of (typed_or_fault (script_typed (env_over profile.now structures.now) (script_tree script.now))) result }
+    ensures script { IfOk result (λ c. c.script ≡ script.now.statements) }
+    ensures declared { IfOk result (λ c. c.declared ≡ structures.now) }
+    ensures settings { IfOk result (λ c. c.settings ≡ profile.now) }
 {
-    match verdict(alloc, script, structures, profile) {
-        Ok(()) => Ok(()),
+    match check(alloc, script, structures, profile) {
+        Ok(checked) => Ok(checked),
         Err(CheckErr::Mistyped { statement, rule }) => Err(Status::Mistyped { statement, rule }),
         Err(CheckErr::OutOfMemory) => Err(Status::Memory),
     }

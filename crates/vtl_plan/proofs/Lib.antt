@@ -1,6 +1,0 @@
-pub mod ConditionLemmas
-pub mod DigitLemmas
-pub mod InputLemmas
-pub mod MeantLemmas
-pub mod PlaceLemmas
-pub mod TableLemmas

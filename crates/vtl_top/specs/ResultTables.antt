@@ -1,0 +1,25 @@
+-- Tables of results, and the files that they are written as.
+use Rattle.std.specs.Prelude.{◌≡◌, ℕ, List, Some}
+use Rattle.std.specs.List.{AllByRecursion}
+use Rattle.std.specs.Map.{lookup}
+use Rattle.vtl_rows.specs.Named.{NamedTables}
+use Rattle.vtl_rows.specs.Tables.{Listed}
+use Rattle.vtl_tree.specs.Structure.{same_name}
+use Rattle.vtl_tree.specs.Structures.{Named}
+use Rattle.vtl_tree.specs.Tables.{IsTableOf}
+use Rattle.vtl_tree.specs.declared.structure.Structure.{Structure}
+use Rattle.vtl_backend.specs.Inputs.{structure_named}
+use Rattle.vtl_top.specs.Expected.{data_set, output_of}
+use Rattle.vtl_top.specs.Steps.{File}
+use Rattle.vtl_top.specs.Words.{Run}
+
+-- a table of a data set of the structure that is known under its name
+abbrev pub IsKnown : Named → List ℕ × Listed → Type 0
+IsKnown known t = (s : Structure) × (lookup (same_name t.0) known ≡ Some s) × IsTableOf s t.1
+
+abbrev pub AreKnown : Named → NamedTables → Type 0
+AreKnown known tables = AllByRecursion (IsKnown known) tables
+
+-- the file of such a table
+abbrev pub file_for : Run → Named → List ℕ × Listed → File
+file_for r known t = output_of r (t.0, data_set (structure_named t.0 known) t.1.rows)
