@@ -1,0 +1,5 @@
+pub mod Inputs
+pub mod Names
+pub mod Runs
+pub mod Statements
+pub mod Tables
