@@ -2,7 +2,7 @@
 ghost use Rattle.std.specs.Prelude.{◌≡◌, ◌∷◌, ◌++◌, [], true, false, IfOk, IfSome, OnOk, option_map};
 ghost use Rattle.std.specs.List.{list_all, list_any};
 ghost use Rattle.std.specs.Option.{is_some};
-ghost use Rattle.vtl_tree.specs.BuiltView.{compared_view};
+ghost use Rattle.vtl_plan.specs.BuiltView.{compared_view};
 ghost use Rattle.vtl_tree.specs.Structures.{AreStructures, has_name, is_declarable};
 ghost use Rattle.vtl_plan.specs.InputsView.{inputs_shown, structure_shown};
 ghost use Rattle.vtl_plan.specs.Results.{IsChecked};
@@ -13,7 +13,8 @@ use indexmap::IndexMap;
 use std::alloc::{AllocError, Global};
 use vtl_cell::Kind;
 use vtl_text::Txt;
-use vtl_tree::{Component, FilterCondition, Structure, Structures};
+use crate::built_form::FilterCondition;
+use vtl_tree::{Component, Structure, Structures};
 
 /// Data sets by name, with their structures: those that the statements of a script read.
 pub type Inputs<'a> = IndexMap<Txt, &'a Structure>;

@@ -1,9 +1,9 @@
--- The names that expressions on data sets read.
+-- The names of the data sets that expressions read, as often as they stand, in written order.
 use Rattle.std.specs.Prelude.{ℕ, List, [], ◌∷◌, ◌++◌}
+use Rattle.std.specs.List.{flat_map}
 use Rattle.vtl_nodes.specs.Trees as nodes
 use Rattle.vtl_nodes.specs.Trees.{FormTree, MaybeNode, NodeTree, NodeTrees, OperandTrees}
 
--- in written order, each as often as it stands there
 abbrev mutual
   pub names_in : NodeTree → List (List ℕ)
   names_in (nodes.node s form) = form_names form
@@ -12,7 +12,7 @@ abbrev mutual
   form_names (nodes.named name) = name ∷ []
   form_names (nodes.measures m a) = names_in a
   form_names (nodes.pair o a b) = names_in a ++ names_in b
-  form_names (nodes.choose c a b) = names_in c ++ (names_in a ++ names_in b)
+  form_names (nodes.choose c a b) = names_in c ++ names_in a ++ names_in b
   form_names (nodes.member a m) = names_in a
   form_names (nodes.filter a c) = names_in a
   form_names (nodes.calc a items) = names_in a
@@ -46,3 +46,7 @@ abbrev mutual
   pub operands_names : OperandTrees → List (List ℕ)
   operands_names nodes.no_operands = []
   operands_names (nodes.operand n alias os) = names_in n ++ operands_names os
+
+-- the names that expressions read, one expression behind the other
+abbrev pub names_of : List NodeTree → List (List ℕ)
+names_of ns = flat_map names_in ns
