@@ -1,0 +1,4 @@
+pub mod Inputs
+pub mod Runs
+pub mod Statements
+pub mod Tables

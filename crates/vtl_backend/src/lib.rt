@@ -1,0 +1,10 @@
+//! What every back end that runs scripts keeps to.
+#![tactic(auto)]
+
+mod backend;
+mod built;
+mod error;
+
+pub use backend::Backend;
+pub use built::is_built;
+pub use error::RunErr;
