@@ -3,7 +3,7 @@ use Rattle.std.specs.Prelude.{ℕ, List, [], map, Option, None, Some}
 use Rattle.std.specs.List.{AllByRecursion}
 use Rattle.std.specs.Option.{option_map_or}
 use Rattle.vtl_cell.specs.Row.{Row}
-use Rattle.vtl_tree.specs.Tables.{IsTableOf}
+use Rattle.vtl_csv.specs.TableText.{IsTableOf}
 use Rattle.vtl_rows.specs.Named.{NamedTables, table_of}
 use Rattle.vtl_rows.specs.Tables.{Listed}
 use Rattle.vtl_tree.specs.Environment.{DataSet, Environment}

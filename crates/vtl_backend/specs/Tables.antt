@@ -1,5 +1,5 @@
 -- Tables that stand for data sets.
-use Rattle.vtl_tree.specs.Tables.{IsTableOf}
+use Rattle.vtl_csv.specs.TableText.{IsTableOf}
 use Rattle.vtl_rows.specs.Tables.{Listed}
 use Rattle.vtl_tree.specs.DataSet.{StandsFor}
 use Rattle.vtl_tree.specs.Environment.{DataSet}

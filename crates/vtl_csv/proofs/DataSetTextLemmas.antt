@@ -20,8 +20,7 @@ use Rattle.vtl_tree.specs.declared.structure.Component.{Component}
 use Rattle.vtl_tree.specs.declared.structure.Role.TheVariants as role
 use Rattle.vtl_tree.specs.declared.structure.Structure.{Structure}
 use Rattle.vtl_csv.specs.CsvText.{csv_of, header_of}
-use Rattle.vtl_tree.specs.Tables.{IsTableOf, column_for}
-use Rattle.vtl_csv.specs.TableText.{rows_text}
+use Rattle.vtl_csv.specs.TableText.{IsTableOf, column_for, rows_text}
 use Rattle.vtl_csv.proofs.TableTextLemmas.{first_keys_within, sorted_by_keys}
 
 point_wide : (xs : List Component) (r : Row) → is_point xs r ≡ true → length r ≡ length xs

@@ -16,7 +16,7 @@ use Rattle.vtl_csv.specs.InputFields.{Flaw, record_row}
 use Rattle.vtl_csv.specs.InputFile.{Fault, Layout, at_line, dataset_rows, in_column_order, is_repeat, joined, layout_of, rows_below, rows_in_records, rows_with}
 use Rattle.vtl_csv.specs.InputSteps.{IsLayout}
 use Rattle.vtl_csv.specs.StructuresFile.{records_in}
-use Rattle.vtl_tree.specs.Tables.{IsTableOf, table_columns}
+use Rattle.vtl_csv.specs.TableText.{IsTableOf, table_columns}
 use Rattle.vtl_csv.proofs.InputLayoutLemmas.{layout_points}
 use Rattle.vtl_csv.proofs.InputPointLemmas.{ArePoints, ok_same, points_more, record_good}
 use Rattle.vtl_csv.proofs.RepeatLemmas.{still_apart}

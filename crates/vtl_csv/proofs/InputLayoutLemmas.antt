@@ -21,7 +21,7 @@ use Rattle.vtl_tree.specs.Structure.{IsStructure, columns_of, key_width, names_o
 use Rattle.vtl_csv.proofs.InputPointLemmas.{is_good, ok_same}
 use Rattle.vtl_csv.specs.InputFile.{Layout, at_name, columns_with, laid_out, layout_of, named_by, newly_named, none_before, place_from, place_in, with_places}
 use Rattle.vtl_csv.specs.InputSteps.{IsLayout}
-use Rattle.vtl_tree.specs.Tables.{column_for, table_columns}
+use Rattle.vtl_csv.specs.TableText.{column_for, table_columns}
 
 -- ---- components of a list
 abbrev pub Has : {X : Type 0} → List X → X → Type 0

@@ -26,7 +26,7 @@ use Rattle.vtl_csv.specs.declared.input.InputKind.TheVariants as i
 use Rattle.vtl_csv.specs.InputFields.{Flaw, at_column, coded_cell, field_cell, is_coded, most_points, record_row, row_with, text_cell}
 use Rattle.vtl_csv.specs.InputSteps.{on_row, taken, taken_with}
 use Rattle.vtl_csv.specs.StructuresFile.{is_identifier}
-use Rattle.vtl_tree.specs.Tables.{column_for}
+use Rattle.vtl_csv.specs.TableText.{column_for}
 
 abbrev ok_of : {X E : Type 0} → X → Result X E
 ok_of x = Ok x

@@ -15,7 +15,7 @@ use Rattle.vtl_csv.specs.declared.input.InputErr.TheVariants as e
 use Rattle.vtl_csv.specs.declared.input.InputKind.TheVariants as i
 use Rattle.vtl_csv.specs.InputFields.{Flaw, record_row}
 use Rattle.vtl_csv.specs.StructuresFile.{records_in}
-use Rattle.vtl_tree.specs.Tables.{table_columns}
+use Rattle.vtl_csv.specs.TableText.{table_columns}
 
 -- the component of which a field is the name
 abbrev pub named_by : List Component → List ℕ → Option Component

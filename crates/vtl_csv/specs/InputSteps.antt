@@ -13,7 +13,7 @@ use Rattle.vtl_csv.specs.declared.input.Flaw.{Flaw as FlawFields}
 use Rattle.vtl_csv.specs.declared.input.InputKind.TheVariants as i
 use Rattle.vtl_csv.specs.InputFields.{Flaw, record_row}
 use Rattle.vtl_csv.specs.InputFile.{Fault, Layout, layout_of}
-use Rattle.vtl_tree.specs.Tables.{table_columns}
+use Rattle.vtl_csv.specs.TableText.{table_columns}
 
 abbrev pub flaw_of : FlawFields → Flaw
 flaw_of f = (f.column, f.kind)

@@ -37,3 +37,16 @@ in_listed_order listed columns rows = sorted_by (le_by (by_keys (map rising (lis
 -- the text of a table, its rows by the listed columns and then by all
 abbrev pub table_text : Settings → List ℕ → Listed → List ℕ
 table_text p listed t = rows_text p t.columns (in_listed_order listed t.columns (whole_rows t.columns t.rows))
+
+-- the column of a component
+abbrev pub column_for : Component → Column
+column_for x = record { name = x.name; kind = x.kind }
+
+-- the columns of a data set's table
+abbrev pub table_columns : Structure → List Column
+table_columns s = map column_for (columns_of s)
+
+-- the table is one of a data set of the structure
+pub record IsTableOf (s : Structure) (t : Listed) : Type 0 where
+  pub columns : t.columns ≡ table_columns s
+  pub points : IsDataSet s t.rows

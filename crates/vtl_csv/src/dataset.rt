@@ -6,7 +6,7 @@ ghost use Rattle.vtl_rows.specs.Tables.{cells_at, column_at, fits};
 ghost use Rattle.vtl_tree.specs.Structure.{IsStructure, key_width};
 ghost use Rattle.vtl_csv.specs.InputFile.{Reads, dataset_rows, rows_below, rows_with};
 ghost use Rattle.vtl_csv.specs.InputSteps.{Answers, IsLayout, fault_among, fault_of, flaw_of, layout_seen, rows_outcome, taken, taken_with};
-ghost use Rattle.vtl_tree.specs.Tables.{IsTableOf, column_for};
+ghost use Rattle.vtl_csv.specs.TableText.{IsTableOf, column_for};
 
 use crate::file_column::FileColumn;
 use crate::header::{Layout, read_layout};

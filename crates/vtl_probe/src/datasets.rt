@@ -1,5 +1,5 @@
 // Data sets: what a CSV file of one is read as, written again.
-ghost use Rattle.vtl_tree.specs.Tables.{IsTableOf};
+ghost use Rattle.vtl_csv.specs.TableText.{IsTableOf};
 ghost use Rattle.vtl_tree.specs.Structure.{IsStructure};
 
 use crate::notation::{profile, text_of};

@@ -1,14 +1,14 @@
 -- Tables of results, and the files that they are written as.
-use Rattle.std.specs.Prelude.{◌≡◌, ℕ, List, Some}
+use Rattle.std.specs.Prelude.{◌≡◌, ℕ, List, [], Some}
+use Rattle.std.specs.Option.{option_map_or}
 use Rattle.std.specs.List.{AllByRecursion}
 use Rattle.std.specs.Map.{lookup}
 use Rattle.vtl_rows.specs.Named.{NamedTables}
 use Rattle.vtl_rows.specs.Tables.{Listed}
 use Rattle.vtl_tree.specs.Structure.{same_name}
-use Rattle.vtl_tree.specs.Structures.{Named}
-use Rattle.vtl_tree.specs.Tables.{IsTableOf}
+use Rattle.vtl_tree.specs.Structures.{Named, structure_of}
+use Rattle.vtl_csv.specs.TableText.{IsTableOf}
 use Rattle.vtl_tree.specs.declared.structure.Structure.{Structure}
-use Rattle.vtl_backend.specs.Inputs.{structure_named}
 use Rattle.vtl_top.specs.Expected.{data_set, output_of}
 use Rattle.vtl_top.specs.Steps.{File}
 use Rattle.vtl_top.specs.Words.{Run}
@@ -19,6 +19,9 @@ IsKnown known t = (s : Structure) × (lookup (same_name t.0) known ≡ Some s) �
 
 abbrev pub AreKnown : Named → NamedTables → Type 0
 AreKnown known tables = AllByRecursion (IsKnown known) tables
+
+abbrev pub structure_named : List ℕ → Named → Structure
+structure_named name known = option_map_or (λ s. s) (lookup (same_name name) known) (structure_of [])
 
 -- the file of such a table
 abbrev pub file_for : Run → Named → List ℕ × Listed → File

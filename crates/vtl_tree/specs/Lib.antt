@@ -8,6 +8,5 @@ pub mod Seen
 pub mod Shown
 pub mod Structure
 pub mod Structures
-pub mod Tables
 pub mod Value
 pub mod View
