@@ -4,22 +4,29 @@ use Rattle.std.specs.Prelude.{IsUtf8}
 use Rattle.vtl_cell.specs.Outcome.{Fault as EvaluationFault}
 use Rattle.vtl_syntax.specs.Trees.{ScriptTree}
 use Rattle.vtl_parser.specs.Parsed.{IsScript}
-use Rattle.vtl_plan.specs.Meaning.{Outputs, meaning}
 use Rattle.vtl_nodes.specs.Trees.{NodeTree}
 use Rattle.vtl_check.specs.Checked.{env_over}
-use Rattle.vtl_check.specs.Script.{has_definitions, script_typed, verdict}
-use Rattle.vtl_plan.specs.Assigned.{assigned_in}
-use Rattle.vtl_plan.specs.Typed.{checked, inputs_of}
-use Rattle.vtl_top.specs.Expected.{checked_step, data_step, declared_step, formed, inputs_step, output_of, outputs_of, planned_step, read, results_step, run_step, script_in, script_limit, script_of, script_step, statements_step, structures_step, typed_or_fault, typed_step, typing_of, without_rulesets}
+use Rattle.vtl_check.specs.Script.{has_definitions, script_typed}
+use Rattle.vtl_check.specs.Uses.{reads}
+use Rattle.vtl_meaning.specs.Meaning.{Outputs, is_built, meaning}
+use Rattle.vtl_backend.specs.Statements.{with_nodes}
+use Rattle.std.specs.List.{list_all}
+use Rattle.std.proofs.Common.{cond}
+use Rattle.std.specs.Prelude.{chars}
+use Rattle.vtl_top.specs.declared.status.Status.TheVariants as st
+use Rattle.vtl_top.specs.Expected.{built_or_not, checked_step, data_step, declared_step, inputs_step, output_of, outputs_of, planned_step, read, results_step, run_step, script_in, script_limit, script_of, script_step, statements_step, structures_step, typed_or_fault, typing_of, without_rulesets}
 use Rattle.vtl_top.specs.Words.{Run}
 use Rattle.vtl_top.specs.Steps.{Behind, File, Held, Step, onward, settled}
 use Rattle.vtl_top.specs.ScriptFile.{IsParsed, Parsed, faulty, no_text, whole}
 use Rattle.vtl_top.specs.Meant.{IsMeant}
 use Rattle.vtl_top.specs.declared.status.Status.{Status}
 
-formed_some : {A : Type 0} (path : List ℕ) (o : Option A) (x : A) → Ok x ≡ formed path o → o ≡ Some x
-formed_some path None x e = cc
-formed_some path (Some y) x e = cc
+pub built_from : (r : Run) (nodes : List NodeTree) (u : Unit {0}) → Ok u ≡ built_or_not r nodes → list_all is_built nodes ≡ true
+built_from r nodes u e = go (list_all is_built nodes) refl e
+  where
+    go : (b : Bool) → list_all is_built nodes ≡ b → Ok u ≡ cond b (Ok tt) (Err (st.Unbuilt (chars r.script))) → list_all is_built nodes ≡ true
+    go true is e = is
+    go false is e = cc
 
 -- the tree is that of the text
 pub record IsRead (text : List ℕ) (tree : ScriptTree) : Type 0 where
@@ -32,7 +39,7 @@ read_from path text (faulty done byte) tree is e = cc
 read_from path text (whole t) tree is e = let same : tree ≡ t = cc in record { utf8 = is.0; parsed = subst (λ x. IsScript text x) (sym same) is.1 }
 
 -- a script that gives outputs defines no rulesets
-plain_from : (r : Run) (tree : ScriptTree) (held : Held) (files : List File) → (statements_step r tree).gives held (Ok files) → (has_definitions tree ≡ false) × (declared_step r tree).gives held (Ok files)
+pub plain_from : (r : Run) (tree : ScriptTree) (held : Held) (files : List File) → (statements_step r tree).gives held (Ok files) → (has_definitions tree ≡ false) × (declared_step r tree).gives held (Ok files)
 plain_from r tree held files g = go (has_definitions tree) refl g
   where
     go : (b : Bool) → has_definitions tree ≡ b → (without_rulesets r tree b).gives held (Ok files) → (has_definitions tree ≡ false) × (declared_step r tree).gives held (Ok files)
@@ -40,9 +47,9 @@ plain_from r tree held files g = go (has_definitions tree) refl g
     go false is g = (is, g)
 
 -- the nodes of a script without a fault
-nodes_from : (typing : Result (List NodeTree) (ℕ × ℕ)) (u : Unit {0}) → Ok u ≡ typed_or_fault (verdict typing) → (nodes : List NodeTree) × (typing ≡ Ok nodes)
-nodes_from (Ok nodes) u e = (nodes, refl)
-nodes_from (Err fault) u e = cc
+pub nodes_from : (typing : Result (List NodeTree) (ℕ × ℕ)) (nodes : List NodeTree) → Ok nodes ≡ typed_or_fault typing → typing ≡ Ok nodes
+nodes_from (Ok ns) nodes e = cc
+nodes_from (Err fault) nodes e = cc
 
 -- the results that are written
 written_from : (r : Run) (m : Result Outputs (EvaluationFault × List ℕ)) (files : List File) → Ok files ≡ outputs_of r m → (results : Outputs) × (m ≡ Ok results) × (files ≡ map (output_of r) results)
@@ -64,19 +71,15 @@ meant r held files g =
     let script : IsRead t.0 a.0 = read_from r.script t.0 t.2.0 a.0 t.2.1 t.2.2 in
     let p = plain_from r a.0 held files a.2 in
     let c = went_on (structures_step r.structures) (checked_step r a.0) held files p.1 in
-    let k = went_on (settled (typing_of r a.0 c.0)) (λ u. planned_step r a.0 c.0) held files c.2 in
-    let n = nodes_from (script_typed (env_over r.settings c.0) a.0) k.0 k.1 in
-    let b = went_on (settled (formed r.script (assigned_in a.0))) (λ plan. typed_step r plan c.0) held files k.2 in
-    let o = went_on (settled (formed r.script (checked c.0 b.0))) (data_step r (inputs_of c.0 b.0)) held files b.2 in
-    let d = went_on (inputs_step r [] (inputs_of c.0 b.0)) (results_step r o.0) held files o.2 in
-    let w = written_from r (meaning r.settings o.0 d.0) files d.2 in
+    let k = went_on (settled (typing_of r a.0 c.0)) (planned_step r a.0 c.0) held files c.2 in
+    let b = went_on (settled (built_or_not r k.0)) (λ u. data_step r (reads c.0 k.0) (with_nodes a.0 k.0)) held files k.2 in
+    let d = went_on (inputs_step r [] (reads c.0 k.0)) (results_step r (with_nodes a.0 k.0)) held files b.2 in
+    let w = written_from r (meaning r.settings (with_nodes a.0 k.0) d.0) files d.2 in
     record {
       text = t.0;
       tree = a.0;
       structures = c.0;
-      nodes = n.0;
-      plan = b.0;
-      statements = o.0;
+      nodes = k.0;
       inputs = d.0;
       results = w.0;
       script = sym t.1;
@@ -84,9 +87,8 @@ meant r held files g =
       parsed = script.parsed;
       plain = p.0;
       declared = c.1;
-      fits = n.1;
-      built = formed_some r.script (assigned_in a.0) b.0 b.1;
-      typed = formed_some r.script (checked c.0 b.0) o.0 o.1;
+      fits = nodes_from (script_typed (env_over r.settings c.0) a.0) k.0 k.1;
+      built = built_from r k.0 b.0 b.1;
       read = d.1;
       means = w.1;
       written = w.2;

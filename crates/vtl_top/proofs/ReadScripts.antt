@@ -18,13 +18,14 @@ use Rattle.vtl_top.specs.Answered.{Came, Gives, Stops, Takes}
 use Rattle.vtl_top.proofs.StepLemmas.{nothing_read}
 use Rattle.vtl_top.specs.Steps.{Behind, Held, Step, onward, settled}
 use Rattle.vtl_tree.specs.Environment.{Environment}
-use Rattle.vtl_plan.specs.Meaning.{meaning}
 use Rattle.vtl_tree.specs.declared.structure.Structure.{Structure}
 use Rattle.vtl_csv.specs.InputFile.{dataset_rows}
 use Rattle.vtl_check.specs.Checked.{env_over}
-use Rattle.vtl_check.specs.Script.{has_definitions, script_typed, verdict}
-use Rattle.vtl_plan.specs.Assigned.{assigned_in}
-use Rattle.vtl_plan.specs.Typed.{checked, inputs_of}
+use Rattle.vtl_check.specs.Script.{has_definitions, script_typed}
+use Rattle.vtl_check.specs.Uses.{reads}
+use Rattle.vtl_nodes.specs.Trees.{NodeTree}
+use Rattle.vtl_meaning.specs.Meaning.{meaning}
+use Rattle.vtl_backend.specs.Statements.{with_nodes}
 use Rattle.vtl_top.specs.Structures.{declared, structures_in}
 use Rattle.vtl_csv.specs.StructuresFile.{Fault, structures_of_file}
 use Rattle.std.specs.Str.{is_utf8}
@@ -32,7 +33,7 @@ use Rattle.std.proofs.lemmas.Str.{IsUtf8-from_is_utf8, is_utf8-from_IsUtf8}
 use Rattle.std.proofs.Common.{Bool, true, false, cond}
 use Rattle.vtl_top.specs.Kinds.{Told, refused, told_by}
 use Rattle.std.proofs.Common.{◌∷◌, []}
-use Rattle.vtl_top.specs.Expected.{checked_step, csv_limit, data_step, dataset_step, declared_step, formed, input_path, inputs_step, one_more_step, outputs_of, planned_step, points_or_fault, read, results_step, run_step, script_in, script_limit, script_of, script_step, statements_step, structures_limit, structures_step, typed_or_fault, typed_step, typing_of, with_points, without_rulesets}
+use Rattle.vtl_top.specs.Expected.{checked_step, csv_limit, built_or_not, data_step, dataset_step, declared_step, input_path, inputs_step, one_more_step, outputs_of, planned_step, points_or_fault, read, results_step, run_step, script_in, script_limit, script_of, script_step, statements_step, structures_limit, structures_step, typed_or_fault, typing_of, with_points, without_rulesets}
 use Rattle.vtl_top.specs.Words.{Run}
 use Rattle.vtl_tree.specs.Structures.{Named}
 use Rattle.vtl_top.specs.ScriptFile.{IsParsed, Parsed, faulty, no_text, whole}
@@ -123,12 +124,13 @@ structures_refuse path bytes status e = go (is_utf8 bytes) (structures_of_file b
     go false r q = let same : st.NotText (chars path) ≡ status = cc in ap told_by (sym same)
 
 -- a script that is not typed is refused
-pub typing_refuses : (typing : Result (Unit {0}) (ℕ × ℕ)) (status : Status) → typed_or_fault typing ≡ Err status → told_by status ≡ refused
-typing_refuses (Ok u) status e = cc
+pub typing_refuses : (typing : Result (List NodeTree) (ℕ × ℕ)) (status : Status) → typed_or_fault typing ≡ Err status → told_by status ≡ refused
+typing_refuses (Ok nodes) status e = cc
 typing_refuses (Err fault) status e = let same : st.Mistyped fault.0 fault.1 ≡ status = cc in ap told_by (sym same)
 
-pub typing_given : {F : Type 0} (g : Ghosts F) (a : F) (r : Run) (script : ScriptTree) (structures : Named) (result : Result (Unit {0}) Status) → Settles (typing_of r script structures) result → Takes g a a (settled (typing_of r script structures)) (λ u. u) result
-typing_given g a r script structures = settled_given g a (λ u. u) (typing_of r script structures) (typing_refuses (verdict (script_typed (env_over r.settings structures) script)))
+pub typing_given : {F X : Type 0} (g : Ghosts F) (a : F) (r : Run) (script : ScriptTree) (structures : Named) (view : X → List NodeTree) (result : Result X Status) → SettlesBy view (typing_of r script structures) result
+    → Takes g a a (settled (typing_of r script structures)) view result
+typing_given g a r script structures view = settled_given g a view (typing_of r script structures) (typing_refuses (script_typed (env_over r.settings structures) script))
 
 -- ---- what is settled, is one; and so is a step that follows one
 abbrev pub Once : {A : Type 0} → Step A → Held → Type 0
@@ -169,11 +171,10 @@ inputs_once r before (e ∷ rest) held =
 declared_once : (r : Run) (script : ScriptTree) (held : Held) → Once (declared_step r script) held
 declared_once r script held =
     onward_once (structures_step r.structures) (checked_step r script) held (structures_once r.structures held) (λ structures.
-    onward_once (settled (typing_of r script structures)) (λ u. planned_step r script structures) held (settled_once (typing_of r script structures) held) (λ u.
-    onward_once (settled (formed r.script (assigned_in script))) (λ plan. typed_step r plan structures) held (settled_once (formed r.script (assigned_in script)) held) (λ plan.
-    onward_once (settled (formed r.script (checked structures plan))) (data_step r (inputs_of structures plan)) held (settled_once (formed r.script (checked structures plan)) held) (λ statements.
-    onward_once (inputs_step r [] (inputs_of structures plan)) (results_step r statements) held (inputs_once r [] (inputs_of structures plan) held) (λ env.
-    settled_once (outputs_of r (meaning r.settings statements env)) held)))))
+    onward_once (settled (typing_of r script structures)) (planned_step r script structures) held (settled_once (typing_of r script structures) held) (λ nodes.
+    onward_once (settled (built_or_not r nodes)) (λ u. data_step r (reads structures nodes) (with_nodes script nodes)) held (settled_once (built_or_not r nodes) held) (λ u.
+    onward_once (inputs_step r [] (reads structures nodes)) (results_step r (with_nodes script nodes)) held (inputs_once r [] (reads structures nodes) held) (λ env.
+    settled_once (outputs_of r (meaning r.settings (with_nodes script nodes) env)) held))))
 
 statements_once : (r : Run) (script : ScriptTree) (held : Held) → Once (statements_step r script) held
 statements_once r script held = by (has_definitions script)

@@ -5,8 +5,9 @@ ghost use Rattle.vtl_tree.specs.Structure.{IsStructure, key_width, same_name};
 ghost use Rattle.vtl_tree.specs.Structures.{Named};
 ghost use Rattle.vtl_tree.specs.declared.structure.Structure.{Structure};
 ghost use Rattle.vtl_csv.specs.StructuresFile.{structures_of_file};
-ghost use Rattle.vtl_top.specs.Expected.{run_step};
-ghost use Rattle.vtl_top.specs.Meant.{IsMeant, IsMistyped};
+ghost use Rattle.vtl_cell.specs.Outcome.{Fault};
+ghost use Rattle.vtl_top.specs.Expected.{fault_status, run_step};
+ghost use Rattle.vtl_top.specs.Meant.{IsFaulted, IsMeant, IsMistyped};
 ghost use Rattle.vtl_top.specs.Words.{Run};
 ghost use Rattle.vtl_top.specs.declared.status.Status.{Status};
 
@@ -21,6 +22,13 @@ pub fn output_is_meant()
 pub fn mistyped_is_first_fault()
     ensures only { (r : Run) (held : List (List ℕ × List ℕ)) (statement rule : ℕ) → (run_step r).gives held (Err (Status.Mistyped statement rule)) → IsMistyped r held statement rule }
     ensures always { (r : Run) (held : List (List ℕ × List ℕ)) (statement rule : ℕ) → IsMistyped r held statement rule → (run_step r).gives held (Err (Status.Mistyped statement rule)) }
+{}
+
+/// A run divides by zero, or a number leaves its range, exactly where what its script means over its inputs is this fault, in
+/// the statement with this result.
+pub fn faults_are_meant()
+    ensures only { (r : Run) (held : List (List ℕ × List ℕ)) (fault : Fault) (name : List ℕ) → (run_step r).gives held (Err (fault_status fault name)) → IsFaulted r held fault name }
+    ensures always { (r : Run) (held : List (List ℕ × List ℕ)) (fault : Fault) (name : List ℕ) → IsFaulted r held fault name → (run_step r).gives held (Err (fault_status fault name)) }
 {}
 
 /// What a run gives is one: two outcomes over the same held bytes are equal.

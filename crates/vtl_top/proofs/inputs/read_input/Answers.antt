@@ -2,12 +2,12 @@ use Rattle.std.proofs.Common.{Vec, Global, ℕ, Ok, subst, ◌∙◌}
 use Rattle.vtl_csv.specs.InputFile.{dataset_rows}
 use Rattle.vtl_top.specs.Answered.{Takes}
 use Rattle.vtl_top.specs.Expected.{csv_limit, input_path, points_or_fault, read}
-use Rattle.vtl_top.specs.InputsRead.{points_of}
-use Rattle.vtl_top.specs.Refusal.{IsDataSetOf}
+use Rattle.vtl_top.specs.InputsRead.{rows_in}
+use Rattle.vtl_top.specs.Refusal.{IsTableRead}
 use Rattle.vtl_top.specs.RunView.{run_view}
 use Rattle.vtl_top.specs.Steps.{settled}
 use Rattle.vtl_top.proofs.ReadScripts.{settled_given}
-use Rattle.vtl_top.proofs.RunLemmas.{input_refuses, input_settles, input_structure}
+use Rattle.vtl_top.proofs.RunLemmas.{input_refuses, input_settles}
 use Rattle.vtl_top.proofs.StepLemmas.{takes_onward}
 use Rattle.vtl_top.proofs.inputs.read_input.Goals as goal
 
@@ -18,9 +18,6 @@ returns-in-Ok-clause-takes g c =
     let s = c.args.structure.now in
     let rows = dataset_rows r.settings s c.in-Ok.bytes.items in
     let first = subst (λ path. Takes g.F.Files c.args.files.now c.read_file.new.files (read path csv_limit) (λ (v : Vec ℕ Global). v.items) (Ok c.in-Ok.bytes)) (c.as_str.ensures.value ∙ c.in_ok-path.ensures) c.in-Ok.ensures in
-    let is = subst (λ bytes. IsDataSetOf name s (dataset_rows r.settings s bytes) c.data_set_of.result) c.deref.ensures.value c.data_set_of.ensures in
-    takes_onward g.F.Files (read (input_path r name) csv_limit) (λ bytes. settled (points_or_fault name (dataset_rows r.settings s bytes))) c.args.files.now c.read_file.new.files c.read_file.new.files (λ (v : Vec ℕ Global). v.items) points_of c.in-Ok.bytes c.data_set_of.result first
-    (settled_given g.F.Files c.read_file.new.files points_of (points_or_fault name rows) (input_refuses name rows) c.data_set_of.result (input_settles name s rows c.data_set_of.result is))
-
-pub returns-in-Ok-clause-structure : goal.returns-in-Ok-clause-structure
-returns-in-Ok-clause-structure g c = input_structure c.args.name.now c.args.structure.now (dataset_rows c.args.run.now.profile c.args.structure.now c.deref.result.now) c.data_set_of.result c.data_set_of.ensures
+    let is = subst (λ bytes. IsTableRead name s (dataset_rows r.settings s bytes) c.table_in.result) c.deref.ensures.value c.table_in.ensures in
+    takes_onward g.F.Files (read (input_path r name) csv_limit) (λ bytes. settled (points_or_fault name (dataset_rows r.settings s bytes))) c.args.files.now c.read_file.new.files c.read_file.new.files (λ (v : Vec ℕ Global). v.items) rows_in c.in-Ok.bytes c.table_in.result first
+    (settled_given g.F.Files c.read_file.new.files rows_in (points_or_fault name rows) (input_refuses name rows) c.table_in.result (input_settles name s rows c.table_in.result is))

@@ -1,4 +1,4 @@
-use Rattle.vtl_top.proofs.MistypedLemmas.{mistyped_always, mistyped_only}
+use Rattle.vtl_top.proofs.RefusedLemmas.{mistyped_always, mistyped_only}
 use Rattle.vtl_top.proofs.laws.mistyped_is_first_fault.Goals as goal
 
 pub returns : goal.returns
