@@ -1,3 +1,4 @@
+pub mod Drawn
 pub mod Kept
 pub mod Places
 pub mod ValueKinds
