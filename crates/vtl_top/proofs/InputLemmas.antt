@@ -1,5 +1,5 @@
 -- The data sets that a script reads: declared ones, each once; and the tables of those that were read so far.
-use Rattle.std.proofs.Common.{◌≡◌, ℕ, ◌+◌, ◌<◌, Bool, true, false, cond, ◌||◌, List, [], ◌∷◌, ◌++◌, drop, take, length, get_or, map, Option, Some, None, refl, sym, ap, subst, ◌∙◌, arith}
+use Rattle.std.proofs.Common.{zero, suc, Ok, ◌≡◌, ℕ, ◌+◌, ◌<◌, ◌≤◌, Bool, true, false, cond, ◌||◌, List, [], ◌∷◌, ◌++◌, drop, take, length, get_or, map, Option, Some, None, refl, sym, ap, subst, ◌∙◌, arith}
 use Rattle.std.specs.List.{AllByRecursion, list_any}
 use Rattle.std.specs.Map.{keys_of, lookup}
 use Rattle.std.specs.Option.{option_map_or}
@@ -21,7 +21,10 @@ use Rattle.vtl_check.specs.Names.{names_of}
 use Rattle.vtl_check.specs.Uses.{read_behind, reads, with_declared}
 use Rattle.vtl_backend.specs.Inputs.{Holds, input_of, rows_named}
 use Rattle.vtl_top.specs.Expected.{data_set, with_points}
-use Rattle.vtl_top.specs.InputsRead.{Adds}
+use Rattle.vtl_files.specs.declared.files.Files.{Ghosts}
+use Rattle.vtl_top.specs.Answered.{Gives, Takes}
+use Rattle.vtl_top.specs.InputsRead.{Adds, rows_in}
+use Rattle.vtl_top.specs.Steps.{Step}
 
 -- ---- what is read is declared
 abbrev IsDeclared : Named → List ℕ × Structure → Type 0
@@ -55,7 +58,7 @@ pub reads_declared : (declared : Named) (ns : List NodeTree) → AreStructures d
 reads_declared declared ns are = read_declared declared [] (names_of ns) are (record { structures = record { declarable = refl; distinct = refl }; found = tt })
 
 -- ---- the tables so far
-new_found : (ts : NamedTables) (name : List ℕ) (x : Listed) → table_of name ts ≡ None → table_of name (ts ++ (name, x) ∷ []) ≡ Some x
+pub new_found : (ts : NamedTables) (name : List ℕ) (x : Listed) → table_of name ts ≡ None → table_of name (ts ++ (name, x) ∷ []) ≡ Some x
 new_found [] name x e = rw (nat_list_eq_equiv.refl name) refl
 new_found (t ∷ ts) name x e = go (same_name name t.0) e (new_found ts name x)
   where
@@ -115,9 +118,6 @@ new_at ins i e are h at = go (list_any (same_name e.0) (take i (keys_of ins))) r
         let no_more : false ≡ true = repeated (keys_of ins) i e.0 within (at_key ins i e h at) q ∙ are.distinct in
         cc
 
-names_of_tables : NamedTables → List (List ℕ)
-names_of_tables ts = map (λ t. t.0) ts
-
 no_table : (ts : NamedTables) (name : List ℕ) → list_any (same_name name) (map (λ t. t.0) ts) ≡ false → table_of name ts ≡ None
 no_table [] name e = refl
 no_table (t ∷ ts) name e = go (same_name name t.0) e (no_table ts name)
@@ -167,3 +167,52 @@ one_more ins i e before now are so h at adds = subst (λ ts. OneMore ins i e bef
           };
           env = ap (map (input_of (before ++ (e.0, x) ∷ []))) taken ∙ map-append (input_of (before ++ (e.0, x) ∷ [])) (take i ins) (e ∷ []) ∙ ap (λ env. env ++ input_of (before ++ (e.0, x) ∷ []) e ∷ []) stay.1;
         }
+
+-- ---- a name that is read, with its structure
+pub key_within : (declared : Named) (ns : List NodeTree) (names : List (List ℕ)) (i : ℕ) → names ≡ keys_of (reads declared ns) → i < length (reads declared ns) → i < length names
+key_within declared ns names i is h = let l = length-keys_of (reads declared ns) in let m = ap length is in omega arith
+
+found_at : (declared ins : Named) (i : ℕ) (name : List ℕ) → AllByRecursion (IsDeclared declared) ins → i < length ins → name ≡ get_or (keys_of ins) i name → (s : Structure) × (lookup (same_name name) declared ≡ Some s) × ((name, s) ≡ get_or ins i (name, s))
+found_at declared [] i name all h at = absurd (omega (arith, h))
+found_at declared (e ∷ es) zero name all h at = (e.1, ap (λ n. lookup (same_name n) declared) at ∙ all.0, ap (λ (n : List ℕ). (n, e.1)) at)
+found_at declared (e ∷ es) (suc i) name all h at = found_at declared es i name all.1 (omega (arith, h)) at
+
+there : (declared : Named) (ns : List NodeTree) (names : List (List ℕ)) (i : ℕ) (name : List ℕ) → AreStructures declared → names ≡ keys_of (reads declared ns) → i < length (reads declared ns) → name ≡ get_or names i name
+    → (s : Structure) × (lookup (same_name name) declared ≡ Some s) × ((name, s) ≡ get_or (reads declared ns) i (name, s))
+there declared ns names i name are is h at = found_at declared (reads declared ns) i name (reads_declared declared ns are).found h (at ∙ ap (λ l. get_or l i name) is)
+
+pub input_there : (declared structures : Named) (ns : List NodeTree) (names : List (List ℕ)) (i : ℕ) (name : List ℕ) (s : Structure) → declared ≡ structures → AreStructures structures → names ≡ keys_of (reads declared ns)
+    → i < length (reads declared ns) → name ≡ get_or names i name → Some s ≡ lookup (same_name name) structures → (name, s) ≡ get_or (reads declared ns) i (name, s)
+input_there declared structures ns names i name s same are is h at found =
+    let it = there declared ns names i name (subst AreStructures (sym same) are) is h at in
+    let one : it.0 ≡ s = let q : Some it.0 ≡ Some s = sym it.1 ∙ ap (lookup (same_name name)) same ∙ sym found in cc in
+    subst (λ t. (name, t) ≡ get_or (reads declared ns) i (name, t)) one it.2
+
+pub input_not_missing : (declared structures : Named) (ns : List NodeTree) (names : List (List ℕ)) (i : ℕ) (name : List ℕ) → declared ≡ structures → AreStructures structures → names ≡ keys_of (reads declared ns)
+    → i < length (reads declared ns) → name ≡ get_or names i name → None ≡ lookup (same_name name) structures → ⊥
+input_not_missing declared structures ns names i name same are is h at found =
+    let it = there declared ns names i name (subst AreStructures (sym same) are) is h at in
+    let q : Some it.0 ≡ None = sym it.1 ∙ ap (lookup (same_name name)) same ∙ sym found in
+    cc
+
+-- ---- one more table that was read
+added_rows : (before now : NamedTables) (name shared : List ℕ) (t : Listed) → table_of name before ≡ None → shared ≡ name → now ≡ before ++ (shared, t) ∷ [] → rows_named name now ≡ t.rows
+added_rows before now name shared t none same is =
+    ap (λ (ts : NamedTables). rows_named name ts) (is ∙ ap (λ n. before ++ (n, t) ∷ []) same)
+    ∙ ap (λ (o : Option Listed). option_map_or (λ x. x.rows) o []) (new_found before name t none)
+
+pub takes_added : {F : Type 0} (g : Ghosts F) (a b : F) (step : Step (List Row)) (t : Listed) (before now : NamedTables) (name shared : List ℕ) (u : Unit {0}) → Takes g a b step rows_in (Ok t)
+    → table_of name before ≡ None → shared ≡ name → now ≡ before ++ (shared, t) ∷ [] → Takes g a b step (λ (x : Unit {0}). rows_named name now) (Ok u)
+takes_added g a b step t before now name shared u takes none same is = record {
+  reads = takes.reads;
+  came = subst (λ rows. Gives g a step (Ok rows)) (sym (added_rows before now name shared t none same is)) takes.came;
+}
+
+pub place_within : (ins : Named) (names : List (List ℕ)) (i : ℕ) → names ≡ keys_of ins → i < length names → i < length ins
+place_within ins names i is h = let l = length-keys_of ins in let m = ap length is in omega (arith, h)
+
+pub place_ended : (ins : Named) (names : List (List ℕ)) (i : ℕ) → names ≡ keys_of ins → length names ≤ i → length ins ≤ i
+place_ended ins names i is h = let l = length-keys_of ins in let m = ap length is in omega (arith, h)
+
+pub inputs_are : (declared structures : Named) (ns : List NodeTree) → declared ≡ structures → AreStructures structures → AreStructures (reads declared ns)
+inputs_are declared structures ns same are = (reads_declared declared ns (subst AreStructures (sym same) are)).structures

@@ -1,10 +1,7 @@
 // The data sets that a script reads, from their files.
-ghost use Rattle.std.specs.Prelude.{◌≡◌, ◌<◌, ◌∷◌, [], None, Some, length, slice_index_or, IfOk, OnOk};
-ghost use Rattle.std.specs.Map.{lookup};
-ghost use Rattle.std.specs.Option.{is_some};
+ghost use Rattle.std.specs.Prelude.{◌≡◌, ◌<◌, [], None, true, length, slice_index_or, IfOk, OnOk};
 ghost use Rattle.vtl_rows.specs.Named.{table_of};
-ghost use Rattle.vtl_tree.specs.Structure.{same_name};
-ghost use Rattle.vtl_tree.specs.Structures.{is_declarable};
+ghost use Rattle.vtl_tree.specs.Structures.{AreStructures, is_declarable};
 ghost use Rattle.vtl_csv.specs.InputFile.{dataset_rows};
 ghost use Rattle.vtl_backend.specs.Inputs.{AreInputs, environment_of, inputs_of, rows_named};
 ghost use Rattle.vtl_csv.specs.TableText.{IsTableOf};
@@ -66,6 +63,7 @@ fn read_input<F: Files>(
 }
 
 // Reads one more data set, and puts its table behind the others.
+#[tactic(auto, using(crate::proofs::InputLemmas::takes_added))]
 fn add_input<F: Files>(
     alloc: Global,
     files: &mut F,
@@ -85,14 +83,22 @@ fn add_input<F: Files>(
     }
 }
 
-// The structure of a declared name.
-fn declared<'s>(structures: &'s Structures, name: &Txt) -> &'s Structure
-    requires { is_some (lookup (same_name name.now) structures.now) ≡ true }
-    ensures found { lookup (same_name name.now) structures.now ≡ Some result.now }
-    ensures declarable { is_declarable result.now ≡ true }
+// The name and the declared structure of the data set at a place among those that are read.
+#[tactic(auto, using(crate::proofs::InputLemmas::key_within, crate::proofs::InputLemmas::input_there, crate::proofs::InputLemmas::input_not_missing))]
+fn input_at<'c, 's>(
+    structures: &'s Structures,
+    checked: &'c Checked,
+    i: usize,
+) -> (&'c Txt, &'s Structure)
+    requires declared { checked.now.declared ≡ structures.now }
+    requires structures { AreStructures structures.now }
+    requires within { i < length (inputs_of checked.now) }
+    ensures at { (result.0.now, result.1.now) ≡ slice_index_or (inputs_of checked.now) i (result.0.now, result.1.now) }
+    ensures declarable { is_declarable result.1.now ≡ true }
 {
+    let name = &checked.inputs()[i];
     match structures.get(name) {
-        Some(structure) => structure,
+        Some(structure) => (name, structure),
         None => unreachable!(),
     }
 }
@@ -105,15 +111,15 @@ pub fn read_inputs<F: Files>(
     structures: &Structures,
     checked: &Checked,
 ) -> Result<Tables, Status>
-    requires { checked.now.declared ≡ structures.now }
+    requires declared { checked.now.declared ≡ structures.now }
+    requires structures { AreStructures structures.now }
     ensures takes { Takes F.Files files.old files.new (inputs_step (run_view run.now) [] (inputs_of checked.now)) (environment_of checked.now) result }
     ensures inputs { IfOk result (λ t. AreInputs checked.now t) }
 {
-    let names = checked.inputs();
     let mut tables = Tables::new(alloc);
-    for i in 0..names.len() {
-        let structure = declared(structures, &names[i]);
-        match add_input(alloc, files, run, &names[i], structure, &mut tables) {
+    for i in 0..checked.inputs().len() {
+        let (name, structure) = input_at(structures, checked, i);
+        match add_input(alloc, files, run, name, structure, &mut tables) {
             Ok(()) => {}
             Err(status) => return Err(status),
         }

@@ -2,7 +2,7 @@
 ghost use Rattle.std.specs.Prelude.{◌≡◌, ◌<◌, true, length, map, slice_index_or, IfOk};
 ghost use Rattle.std.specs.List.{AllByRecursion};
 ghost use Rattle.vtl_csv.specs.TableText.{IsTableOf};
-ghost use Rattle.vtl_check.specs.Checked.{known_of};
+ghost use Rattle.vtl_check.specs.Checked.{IsTyped, known_of};
 ghost use Rattle.vtl_backend.specs.Inputs.{AreInputs};
 ghost use Rattle.vtl_backend.specs.Runs.{script_meaning};
 ghost use Rattle.vtl_backend.specs.Statements.{is_script_built};
@@ -80,6 +80,13 @@ fn make_outputs(
     Ok(outputs)
 }
 
+// What a checked script keeps: its nodes are its typing.
+fn is_typed(checked: &Checked)
+    ensures { IsTyped checked.now }
+{
+    let _nodes = checked.nodes();
+}
+
 // The status of a run that gave no tables.
 fn faulted(error: RunErr) -> Status
     ensures { result ≡ faulted error }
@@ -104,6 +111,7 @@ pub fn results<B: Backend>(
     ensures view { SettlesBy outputs_view (outputs_of (run_view run.now) (script_meaning checked.now inputs.now)) result }
     ensures named { IfOk result (λ o. AllByRecursion NamesPath o.items) }
 {
+    is_typed(checked);
     let mut tables = Tables::new(alloc);
     match back.run(alloc, checked, inputs, &mut tables) {
         Ok(()) => Ok(make_outputs(alloc, run, checked, &tables)?),

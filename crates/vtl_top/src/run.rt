@@ -2,6 +2,7 @@
 ghost use Rattle.std.specs.Prelude.{◌≡◌, false, true, IfOk};
 ghost use Rattle.std.specs.List.{AllByRecursion};
 ghost use Rattle.vtl_syntax.specs.View.{script_tree};
+ghost use Rattle.vtl_tree.specs.Structures.{AreStructures};
 ghost use Rattle.vtl_check.specs.Checked.{nodes_of, tree_of};
 ghost use Rattle.vtl_check.specs.Script.{has_definitions};
 ghost use Rattle.vtl_backend.specs.Inputs.{inputs_of};
@@ -93,6 +94,7 @@ fn read_data<B: Backend, F: Files>(
     checked: &Checked,
 ) -> Result<Vec<Output>, Status>
     requires declared { checked.now.declared ≡ structures.now }
+    requires structures { AreStructures structures.now }
     requires settings { checked.now.settings ≡ run.now.profile }
     requires built { is_script_built checked.now ≡ true }
     ensures takes { Takes F.Files files.old files.new (data_step (run_view run.now) (inputs_of checked.now) (statements_of checked.now)) outputs_view result }
@@ -114,6 +116,7 @@ fn read_checked<B: Backend, F: Files>(
     checked: &Checked,
 ) -> Result<Vec<Output>, Status>
     requires declared { checked.now.declared ≡ structures.now }
+    requires structures { AreStructures structures.now }
     requires settings { checked.now.settings ≡ run.now.profile }
     ensures takes { Takes F.Files files.old files.new (planned_step (run_view run.now) (tree_of checked.now) checked.now.declared (nodes_of checked.now)) outputs_view result }
     ensures named { IfOk result (λ o. AllByRecursion NamesPath o.items) }
@@ -123,6 +126,13 @@ fn read_checked<B: Backend, F: Files>(
     } else {
         Err(unbuilt(alloc, run.script))
     }
+}
+
+// What the type of structures keeps: each is as it may be declared, and their names are distinct.
+fn are_structures(structures: &Structures)
+    ensures { AreStructures structures.now }
+{
+    let _count = structures.len();
 }
 
 // What the inputs give by the structures, over which the script is typed first.
@@ -138,6 +148,7 @@ fn read_by<B: Backend, F: Files>(
     ensures takes { Takes F.Files files.old files.new (checked_step (run_view run.now) (script_tree script.now) structures.now) outputs_view result }
     ensures named { IfOk result (λ o. AllByRecursion NamesPath o.items) }
 {
+    are_structures(structures);
     match typed(alloc, script, structures, &run.profile) {
         Ok(checked) => read_checked(alloc, back, files, run, structures, &checked),
         Err(status) => Err(status),
