@@ -1,0 +1,2 @@
+//! What typing gives: typed scripts and their nodes, as laws.
+#![tactic(auto)]
