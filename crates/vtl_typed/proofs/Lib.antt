@@ -1,3 +1,5 @@
 pub mod Columns
 pub mod Lists
+pub mod Shapes
 pub mod Steps
+pub mod Tests

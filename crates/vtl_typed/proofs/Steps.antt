@@ -28,3 +28,12 @@ tested P (test ∷ tests) x h = go test.1 refl (tested P tests x)
     go : (b : Bool) → test.1 ≡ b → ((ArePassed tests → P x) → Gives P (ruled tests x)) → Gives P (cond b (Err test.0) (ruled tests x))
     go true e ih = tt
     go false e ih = ih (λ k. h (e, k))
+
+-- one step before others
+pub after : {A B : Type 0} (Q : B → Type 0) (r : Result A ℕ) (f : A → Result B ℕ) → ((x : A) → Gives Q (f x)) → Gives Q (r >>= f)
+after Q (Ok x) f g = g x
+after Q (Err rule) f g = tt
+
+-- tests before others
+pub tested-then : {B : Type 0} (Q : B → Type 0) (tests : Tests) (f : Unit {0} → Result B ℕ) → (ArePassed tests → Gives Q (f tt)) → Gives Q (ruled tests (tt {0}) >>= f)
+tested-then Q tests f g = then (λ u. ArePassed tests) Q (ruled tests (tt {0})) f (tested (λ u. ArePassed tests) tests tt (λ k. k)) (λ u k. g k)
