@@ -1,3 +1,4 @@
+pub mod Expressions
 pub mod Columns
 pub mod Lists
 pub mod Shapes

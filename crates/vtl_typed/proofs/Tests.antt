@@ -1,7 +1,6 @@
 -- Tests that are not broken.
 use Rattle.std.proofs.Common.{◌≡◌, ℕ, ◌≤◌, ◌<◌, ◌⊎◌, suc, inl, inr, Bool, true, false, ◌||◌, ◌&&◌, not, leb, eqb, refl, sym, ◌∙◌, true≢false, arith}
-use Rattle.std.proofs.lemmas.Bool.{eqb-false, eqb-true, false≢true}
-use Rattle.std.proofs.lemmas.Bool.Decides.{leb_tells}
+use Rattle.std.proofs.lemmas.Bool.{eqb-false, false≢true, ltb-false}
 use Rattle.std.specs.Prelude.{nat_eq, nat_lt}
 
 pub not-false : (b : Bool) → not b ≡ false → b ≡ true
@@ -28,8 +27,4 @@ pub nonzero : (n : ℕ) → nat_eq n 0 ≡ false → 1 ≤ n
 nonzero n e = let h : n ≡ 0 → ⊥ = eqb-false n 0 e in omega (arith, h)
 
 pub below : (m n : ℕ) → nat_lt m n ≡ false → n ≤ m
-below m n e = go (leb_tells (suc m) n)
-  where
-    go : ((leb (suc m) n ≡ true) × (suc m ≤ n)) ⊎ ((leb (suc m) n ≡ false) × (n < suc m)) → n ≤ m
-    go (inl p) = absurd (true≢false (sym p.0 ∙ e))
-    go (inr p) = omega (arith, p.1)
+below m n e = ltb-false m n e
