@@ -1,7 +1,10 @@
 pub mod Expressions
+pub mod Chosen
 pub mod Columns
 pub mod Lists
 pub mod Measured
+pub mod Paired
 pub mod Shapes
 pub mod Steps
 pub mod Tests
+pub mod Twins

@@ -77,3 +77,6 @@ any_fails p (x ∷ xs) h = go (p x) refl h (any_fails p xs)
     go : (b : Bool) → p x ≡ b → (b || list_any p xs) ≡ false → (list_any p xs ≡ false → AllByRecursion (λ x. p x ≡ false) xs) → AllByRecursion (λ x. p x ≡ false) (x ∷ xs)
     go true e k ih = absurd (true≢false k)
     go false e k ih = (e, ih k)
+
+pub passing : {X : Type 0} (p : X → Bool) (xs : List X) → AllByRecursion (λ x. p x ≡ true) (filter p xs)
+passing p xs = weaker (λ x. Unit {0} × (p x ≡ true)) (λ x. p x ≡ true) (filter p xs) (λ x k. k.1) (kept (λ x. Unit {0}) p xs (every (λ x. Unit {0}) xs (λ x. tt)))
