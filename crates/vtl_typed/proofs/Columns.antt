@@ -100,7 +100,7 @@ has-more x xs y h = go (same_name x.name y.name)
     go true = refl
     go false = h
 
-has-itself : (xs : List Component) → AllByRecursion (HasName xs) xs
+pub has-itself : (xs : List Component) → AllByRecursion (HasName xs) xs
 has-itself [] = tt
 has-itself (x ∷ xs) = (ap (λ b. b || list_any (λ z. same_name z.name x.name) xs) (same-refl x.name), lists.weaker (HasName xs) (HasName (x ∷ xs)) xs (has-more x xs) (has-itself xs))
 

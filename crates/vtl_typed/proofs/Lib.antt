@@ -1,9 +1,12 @@
 pub mod Expressions
+pub mod Calculated
 pub mod Chosen
 pub mod Columns
+pub mod Left
 pub mod Lists
 pub mod Measured
 pub mod Paired
+pub mod Renamed
 pub mod Shapes
 pub mod Steps
 pub mod Tests
