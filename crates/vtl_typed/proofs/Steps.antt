@@ -37,3 +37,7 @@ after Q (Err rule) f g = tt
 -- tests before others
 pub tested-then : {B : Type 0} (Q : B → Type 0) (tests : Tests) (f : Unit {0} → Result B ℕ) → (ArePassed tests → Gives Q (f tt)) → Gives Q (ruled tests (tt {0}) >>= f)
 tested-then Q tests f g = then (λ u. ArePassed tests) Q (ruled tests (tt {0})) f (tested (λ u. ArePassed tests) tests tt (λ k. k)) (λ u k. g k)
+
+pub anything : {A : Type 0} (r : Result A ℕ) → Gives (λ x. Unit {0}) r
+anything (Ok x) = tt
+anything (Err rule) = tt

@@ -6,7 +6,7 @@ use Rattle.vtl_tree.specs.Structure.{IsStructure}
 use Rattle.vtl_tree.specs.Structures.{is_null_kind}
 use Rattle.vtl_tree.specs.declared.structure.Structure.{Structure}
 
-abbrev pub Gives : {A : Type 0} → (A → Type 0) → Result A ℕ → Type 0
+abbrev pub Gives : {A E : Type 0} → (A → Type 0) → Result A E → Type 0
 Gives P (Ok x) = P x
 Gives P (Err rule) = Unit {0}
 
