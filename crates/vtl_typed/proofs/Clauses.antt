@@ -63,7 +63,7 @@ use Rattle.vtl_typed.proofs.Lists as lists
 use Rattle.vtl_typed.proofs.Literals.{literal-as, valued-gives, wanted-meets}
 use Rattle.vtl_typed.proofs.Operators.{IsMadeWith}
 use Rattle.vtl_typed.proofs.Renamed.{renamed-fits}
-use Rattle.vtl_typed.proofs.Shapes.{any-shaped, shaped-gives}
+use Rattle.vtl_typed.proofs.OtherForms.{aggr-shaped, calc-shaped, pivot-shaped, unpivot-shaped}
 use Rattle.vtl_typed.proofs.Steps.{after, tested, then, weaker}
 use Rattle.vtl_typed.proofs.Tests.{not-false}
 
@@ -77,7 +77,7 @@ unfolding filter_form
 filter-gives env j n (dataset m) is h = tt
 filter-gives env j n (value e) is h =
     then (λ c. IsFiltered env.settings c (structure_of n) (structure_of n)) (IsNode env.settings env.known) (condition_in (value e)) (λ c. made_of (nodes.filter n c) (structure_of n))
-    (tested (λ c. IsFiltered env.settings c (structure_of n) (structure_of n)) _ e (λ passed. record { same = refl; condition = h; boolean = not-false (meets k.Bool (exp_kind e)) passed.0 }))
+    (tested (λ c. IsFiltered env.settings c (structure_of n) (structure_of n)) ((7, not (meets k.Bool (exp_kind e))) ∷ []) e (λ passed. record { same = refl; condition = h; boolean = not-false (meets k.Bool (exp_kind e)) passed.0 }))
     (λ c fits. (is.0, (is.0.well_formed, (is.1, fits))))
 
 -- ---- `keep` and `drop`
@@ -139,12 +139,12 @@ pub pivot-gives : (env : Env) (id m : Comp) (n : NodeTree) → IsNode env.settin
 unfolding pivot_of
 pivot-gives env id m n is =
     node-gives env (nodes.pivot n (name_of id) (name_of m)) (pivot_form (name_of id) (name_of m) (components_in n)) (weaker IsShaped (IsMadeWith env (nodes.pivot n (name_of id) (name_of m))) (pivot_form (name_of id) (name_of m) (components_in n)) (λ s f. (f, is.1))
-      (after IsShaped _ _ (λ texts. after IsShaped _ _ (λ m. any-shaped _ _))))
+      (pivot-shaped (name_of id) (name_of m) (components_in n)))
 
 pub unpivot-gives : (env : Env) (id m : Comp) (n : NodeTree) → IsNode env.settings env.known n → Gives (IsNode env.settings env.known) (unpivot_of id m n)
 unfolding unpivot_of
 unpivot-gives env id m n is =
-    node-gives env (nodes.unpivot n (name_of id) (name_of m)) (unpivot_form (name_of id) (name_of m) (components_in n)) (weaker IsShaped (IsMadeWith env (nodes.unpivot n (name_of id) (name_of m))) (unpivot_form (name_of id) (name_of m) (components_in n)) (λ s f. (f, is.1)) (any-shaped _ _))
+    node-gives env (nodes.unpivot n (name_of id) (name_of m)) (unpivot_form (name_of id) (name_of m) (components_in n)) (weaker IsShaped (IsMadeWith env (nodes.unpivot n (name_of id) (name_of m))) (unpivot_form (name_of id) (name_of m) (components_in n)) (λ s f. (f, is.1)) (unpivot-shaped (name_of id) (name_of m) (components_in n)))
 
 -- ---- `calc`
 -- a value of a target: an expression that is typed over the operand's columns, or an analytic call
@@ -204,7 +204,7 @@ calc-gives env n items is are = go (list_any is_analytic items) refl
     r = calc_form (map (target_of (components_in n)) items) (components_in n)
 
     go : (b : Bool) → list_any is_analytic items ≡ b → Gives (IsNode env.settings env.known) (r >>= made_of (cond b (nodes.analytic_of n (nodes.of_items items)) (nodes.calc n items)))
-    go true e = node-gives env (nodes.analytic_of n (nodes.of_items items)) r (weaker IsShaped (IsMadeWith env (nodes.analytic_of n (nodes.of_items items))) r (λ s f. (f, is.1)) (shaped-gives IsShaped _ (λ f. f)))
+    go true e = node-gives env (nodes.analytic_of n (nodes.of_items items)) r (weaker IsShaped (IsMadeWith env (nodes.analytic_of n (nodes.of_items items))) r (λ s f. (f, is.1)) (calc-shaped (map (target_of (components_in n)) items) (components_in n)))
     go false e =
         node-gives env (nodes.calc n items) r (weaker (λ s. IsShaped s × IsCalculated env.settings items (structure_of n) s) (IsMadeWith env (nodes.calc n items)) r (λ s f. (f.0, (is.1, f.1)))
           (calculated-fits env.settings items (target_of (components_in n)) (structure_of n) is.0 are.apart (λ i. refl)
@@ -215,4 +215,4 @@ pub aggr-gives : (env : Env) (g : Option GroupPart) (n : NodeTree) (made : List 
 unfolding aggr_clause
 aggr-gives env g n made having is =
     node-gives env (nodes.aggregate n (aggr_tree g n made having)) (aggr_form (grouping_choice g) (grouping_names g) (map made_target made) (components_in n))
-    (weaker IsShaped (IsMadeWith env (nodes.aggregate n (aggr_tree g n made having))) (aggr_form (grouping_choice g) (grouping_names g) (map made_target made) (components_in n)) (λ s f. (f, is.1)) (shaped-gives IsShaped _ (λ f. f)))
+    (weaker IsShaped (IsMadeWith env (nodes.aggregate n (aggr_tree g n made having))) (aggr_form (grouping_choice g) (grouping_names g) (map made_target made) (components_in n)) (λ s f. (f, is.1)) (aggr-shaped (grouping_choice g) (grouping_names g) (map made_target made) (components_in n)))

@@ -1,8 +1,8 @@
 -- Aggregates and analytic calls.
-use Rattle.std.proofs.Common.{◌≡◌, ℕ, Bool, true, false, cond, List, [], ◌∷◌, map, Option, Some, None, Result, Ok, Err, refl, sym, subst}
+use Rattle.std.proofs.Common.{◌≡◌, ℕ, Bool, true, false, cond, not, List, [], ◌∷◌, map, Option, Some, None, Result, Ok, Err, refl, sym, subst}
 use Rattle.std.specs.Option.{IfSome, is_some, option_map}
 use Rattle.vtl_decimal.specs.Settings.{Settings}
-use Rattle.vtl_rule_tests.specs.Rules.{◌>>=◌, ruled}
+use Rattle.vtl_rule_tests.specs.Rules.{◌>>=◌, ruled, Tests}
 use Rattle.vtl_syntax.specs.Trees as tree
 use Rattle.vtl_syntax.specs.Trees.{Exp, MaybeExp}
 use Rattle.vtl_syntax.specs.declared.parts.GroupPart.{GroupPart}
@@ -14,6 +14,7 @@ use Rattle.vtl_tree.specs.declared.structure.Structure.{Structure}
 use Rattle.vtl_nodes.specs.Trees as nodes
 use Rattle.vtl_nodes.specs.Trees.{NodeTree, ValueTree, structure_of}
 use Rattle.vtl_nodes.specs.declared.calls.AnalyticOp.{AnalyticOp}
+use Rattle.vtl_nodes.specs.declared.calls.AnalyticOp.TheVariants as analytic
 use Rattle.vtl_nodes.specs.declared.calls.Window.{Window}
 use Rattle.vtl_shapes.specs.Measures.{measured_form}
 use Rattle.vtl_shapes.specs.declared.choices.Choice.TheVariants as choice
@@ -27,20 +28,21 @@ use Rattle.vtl_forms.specs.declared.places.Place.{Place}
 use Rattle.vtl_forms.specs.declared.places.Place.TheVariants as place
 use Rattle.vtl_groups.specs.Aggregates.{aggregate_node, aggregate_tree, call_kind, component_call, count_call, group_call, group_call_by, group_operand, grouping_choice, grouping_names, grouping_typed, is_group, no_dataset, of_measure, outcome_of, written_call}
 use Rattle.vtl_groups.specs.Windowed as windowed
-use Rattle.vtl_groups.specs.Windowed.{call_of, call_tree, or_count, over_form, over_node, over_parts, over_structure, over_typed, rank_call, target_form, target_typed, value_call}
+use Rattle.vtl_groups.specs.Windowed.{argument, call_of, call_tree, is_misplaced, is_unfit_over, or_count, over_form, over_node, over_parts, over_structure, over_typed, rank_call, suits, target_form, target_typed, value_call}
 use Rattle.vtl_groups.specs.declared.calls.Call.{Call}
+use Rattle.vtl_meaning.specs.Made.{IsTyped}
 use Rattle.vtl_walk.specs.Typing.{or_call}
 use Rattle.vtl_typed.specs.Gives.{Gives, IsShaped}
 use Rattle.vtl_typed.specs.WellTyped.{IfUngrouped, IsNode, IsValueAt, IsWellTyped}
 use Rattle.vtl_typed.proofs.Sets.{shape-gives}
-use Rattle.vtl_typed.proofs.Shapes.{any-shaped}
+use Rattle.vtl_typed.proofs.OtherForms.{measured-shaped}
 use Rattle.vtl_typed.proofs.Steps.{after, anything, tested, then, weaker}
 
 -- ---- of a data set
 pub aggregate-gives : (env : Env) (at : Place) (f : AggregateName) (g : Option GroupPart) (a : NodeTree) (having : Option CompExp) → IsNode env.settings env.known a → Gives (IsWellTyped env at) (aggregate_node f g a having)
 unfolding aggregate_node
 aggregate-gives env at f g a having is =
-    shape-gives env at (nodes.aggregate a (aggregate_tree f g a having)) (measured_form (outcome_of f) (of_measure f) true (grouping_choice g) (grouping_names g) (components_in a)) (any-shaped _ _) (λ s shaped. (shaped, is.1))
+    shape-gives env at (nodes.aggregate a (aggregate_tree f g a having)) (measured_form (outcome_of f) (of_measure f) true (grouping_choice g) (grouping_names g) (components_in a)) (measured-shaped (outcome_of f) (of_measure f) true (grouping_choice g) (grouping_names g) (components_in a)) (λ s shaped. (shaped, is.1))
 
 -- ---- values over groups
 -- some value
@@ -50,7 +52,7 @@ IsSomeValue (dataset n) = ⊥
 
 call-by : (f : AggregateName) (component : Option (List ℕ)) (grouped : Bool) (kind : Option Kind) → Gives IsSomeValue (group_call_by f component grouped kind)
 call-by f component grouped None = tt
-call-by f component grouped (Some kind) = after IsSomeValue (ruled _ (tt {0})) (λ u. group_call f component kind) (λ u. tt)
+call-by f component grouped (Some kind) = after IsSomeValue (ruled ((15, grouped) ∷ []) (tt {0})) (λ u. group_call f component kind) (λ u. tt)
 
 written-call : (i : Inside) (f : AggregateName) (grouped : Bool) (w : Written) → Gives IsSomeValue (written_call i f grouped w)
 unfolding written_call
@@ -67,7 +69,7 @@ at-groups env i r grouped h = weaker IsSomeValue (IsWellTyped env (place.Inside 
     free (Some names) P e = tt
 
     one : (x : TypedTree) → IsSomeValue x → IsWellTyped env (place.Inside i) x
-    one (value e) k = free i.grouping _ grouped
+    one (value e) k = free i.grouping (IsTyped env.settings i.components e) grouped
     one (dataset n) k = absurd k
 
 pub no-dataset-gives : (env : Env) (at : Place) (f : AggregateName) (grouped : Bool) (kind : Option Kind) → Gives (IsWellTyped env at) (no_dataset at f grouped kind)
@@ -91,9 +93,12 @@ or-call-gives env (place.Inside i) (tree.some_exp e) f grouped rest h = go (is_s
     go false e o = h
 
 -- ---- analytic calls
+abbrev tests : Call → Window → Tests
+tests call w = (16, is_misplaced call.op) ∷ (16, not (suits call.needed w)) ∷ []
+
 over-structure : (e : Exp) (call : Call) (w : Window) (xs : List Component) → Gives IsShaped (over_structure e call w xs)
 unfolding over_structure
-over-structure e call w xs = then IsShaped IsShaped (measured_form outcome.All (windowed.of_measure e) true choice.Except [] xs) (λ s. ruled _ s) (any-shaped _ _) (λ s is. tested IsShaped _ s (λ passed. is))
+over-structure e call w xs = then IsShaped IsShaped (measured_form outcome.All (windowed.of_measure e) true choice.Except [] xs) (λ s. ruled (tests call w) s) (measured-shaped outcome.All (windowed.of_measure e) true choice.Except [] xs) (λ s is. tested IsShaped (tests call w) s (λ passed. is))
 
 over-node : (env : Env) (at : Place) (e : Exp) (call : Call) (w : Window) (a : NodeTree) → IsNode env.settings env.known a → Gives (IsWellTyped env at) (over_node e call w a)
 unfolding over_node
@@ -117,7 +122,7 @@ call-analytic : (call : Call) (named : Option (List ℕ)) (w : Window) (o : Opti
 call-analytic call None w None = tt
 call-analytic call None w (Some o) = tt
 call-analytic call (Some name) w None = tt
-call-analytic call (Some name) w (Some o) = tested IsAnalytic _ (call_tree o (Some name) w) (λ passed. tt)
+call-analytic call (Some name) w (Some o) = tested IsAnalytic ((16, not (suits call.needed w)) ∷ []) (call_tree o (Some name) w) (λ passed. tt)
 
 pub target-analytic : (p : Settings) (at : Place) (e : Exp) (x : Option TypedTree) → Gives IsAnalytic (target_typed p at e x)
 unfolding target_typed
@@ -125,9 +130,9 @@ target-analytic p at e x = after IsAnalytic (over_parts p at e x) (λ parts. tar
   where
     go : (x : Option TypedTree) (call : Call) (w : Window) → Gives IsAnalytic (target_form e x call w)
     go (Some (dataset n)) call w = after IsAnalytic (over_node e call w n) (λ t. Err 14) (λ t. tt)
-    go (Some (value v)) call w = after IsAnalytic (ruled _ (tt {0})) (λ u. call_of call _ w call.op) (λ u. call-analytic call _ w call.op)
+    go (Some (value v)) call w = after IsAnalytic (ruled ((7, is_unfit_over e (Some (exp_kind v))) ∷ []) (tt {0})) (λ u. call_of call (argument e v) w call.op) (λ u. call-analytic call (argument e v) w call.op)
     go None call w = rank (windowed.is_rank e)
       where
         rank : (b : Bool) → Gives IsAnalytic (cond b (rank_call call w) (Err 7))
-        rank true = tested IsAnalytic _ (call_tree AnalyticOp.TheVariants.Rank None w) (λ passed. tt)
+        rank true = tested IsAnalytic ((16, not (suits call.needed w)) ∷ []) (call_tree analytic.Rank None w) (λ passed. tt)
         rank false = tt

@@ -25,7 +25,7 @@ use Rattle.vtl_typed.proofs.Clauses.{node-gives, renamed-gives}
 use Rattle.vtl_typed.proofs.Lists as lists
 use Rattle.vtl_typed.proofs.Operators.{IsMadeWith}
 use Rattle.vtl_typed.proofs.Sets.{dataset-gives}
-use Rattle.vtl_typed.proofs.Shapes.{any-shaped}
+use Rattle.vtl_typed.proofs.OtherForms.{join-shaped}
 use Rattle.vtl_typed.proofs.Steps.{after, then, weaker}
 
 abbrev pub IsPart : Env → PartTyped → Type 0
@@ -51,9 +51,6 @@ operands-give env (x ∷ xs) h =
 operands-made : (env : Env) (os : List OperandTree) → AllByRecursion (IsOperand env) os → AreMadeOperands env.settings env.known (operands_of os)
 operands-made env [] h = tt
 operands-made env (o ∷ os) h = (h.0.1, operands-made env os h.1)
-
-join-shaped : (kind : JoinKind) (listed : Option (List (List ℕ))) (os : List Operand) → Gives IsShaped (joins.join_form kind listed os)
-join-shaped kind listed os = after IsShaped _ _ (λ u. any-shaped _ _)
 
 pub joined-gives : (env : Env) (kind : JoinKind) (u : Option (List Comp)) (os : List OperandTree) → AllByRecursion (IsOperand env) os → Gives (IsNode env.settings env.known) (joined_node kind u os)
 unfolding joined_node

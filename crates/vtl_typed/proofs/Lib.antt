@@ -10,6 +10,7 @@ pub mod Lists
 pub mod Literals
 pub mod Measured
 pub mod Operators
+pub mod OtherForms
 pub mod Over
 pub mod Paired
 pub mod Renamed

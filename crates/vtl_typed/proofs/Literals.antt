@@ -90,13 +90,32 @@ null-of k.Text = refl
 null-of k.Day = refl
 null-of k.Period = refl
 
+-- which numbers belong to a kind does not depend on the number
+int-of : (kind : Kind) (m n : ℤ) → is_of kind (c.Int m) ≡ true → is_of kind (c.Int n) ≡ true
+int-of k.Null m n e = e
+int-of k.Bool m n e = e
+int-of k.Int m n e = e
+int-of k.Num m n e = e
+int-of k.Text m n e = e
+int-of k.Day m n e = e
+int-of k.Period m n e = e
+
+num-of : (kind : Kind) (m n : ℤ) → is_of kind (c.Num m) ≡ true → is_of kind (c.Num n) ≡ true
+num-of k.Null m n e = e
+num-of k.Bool m n e = e
+num-of k.Int m n e = e
+num-of k.Num m n e = e
+num-of k.Text m n e = e
+num-of k.Day m n e = e
+num-of k.Period m n e = e
+
 negated : (p : Settings) (kind : Kind) (v : Cell) → IsCell p kind v → IfSome (result_ok (negation_of p v)) (IsCell p kind)
 negated p kind (c.Int n) h = go (nat_lt (unsigned_abs (neg_ℤ n)) (10 ^ (18 - p.scale))) refl
   where
     go : (b : Bool) → nat_lt (unsigned_abs (neg_ℤ n)) (10 ^ (18 - p.scale)) ≡ b → IfSome (result_ok (integer (cond b (Ok (neg_ℤ n)) (Err Range)))) (IsCell p kind)
-    go true e = (subst (λ b. IsOk {T = ℤ} {E = Fault} (cond b (Ok (neg_ℤ n)) (Err Range))) (sym e) refl, h.1)
+    go true e = (subst (λ b. IsOk {T = ℤ} {E = Fault} (cond b (Ok (neg_ℤ n)) (Err Range))) (sym e) refl, int-of kind n (neg_ℤ n) h.1)
     go false e = tt
-negated p kind (c.Num x) h = (tt, h.1)
+negated p kind (c.Num x) h = (tt, num-of kind x (neg_ℤ x) h.1)
 negated p kind c.Null h = (tt, null-of kind)
 negated p kind (c.Bool x) h = (tt, null-of kind)
 negated p kind (c.Text x) h = (tt, null-of kind)

@@ -1,5 +1,5 @@
 -- Operators on typed operands.
-use Rattle.std.proofs.Common.{◌≡◌, ℕ, Bool, true, false, cond, List, [], ◌∷◌, ◌++◌, length, map, Option, Some, None, option_map, Result, Ok, Err, refl, sym, ap, ◌∙◌}
+use Rattle.std.proofs.Common.{◌≡◌, ℕ, Bool, true, false, cond, List, [], ◌∷◌, ◌++◌, length, map, Option, Some, None, option_map, not, Result, Ok, Err, refl, sym, ap, ◌∙◌}
 use Rattle.std.specs.List.{AllByRecursion}
 use Rattle.vtl_decimal.specs.Settings.{Settings}
 use Rattle.vtl_cell.specs.Profile.{IsOfProfile}
@@ -16,12 +16,12 @@ use Rattle.vtl_tree.specs.Structure.{columns_of}
 use Rattle.vtl_tree.specs.declared.structure.Component.{Component}
 use Rattle.vtl_tree.specs.declared.structure.Structure.{Structure}
 use Rattle.vtl_nodes.specs.Trees.{FormTree, NodeTree, choose, measures, pair, structure_of}
-use Rattle.vtl_shapes.specs.Measures.{measured_form}
+use Rattle.vtl_shapes.specs.Measures.{any_unmet, measured_form}
 use Rattle.vtl_shapes.specs.Pairs as pairs
 use Rattle.vtl_shapes.specs.declared.choices.Choice.TheVariants as choice
 use Rattle.vtl_typing.specs.Calls.{call_form}
 use Rattle.vtl_typing.specs.Literals.{set_typed}
-use Rattle.vtl_forms.specs.Operators.{Operands, between_values, given_structure, if_placed, is_binary, is_choice, membership, misplaced_rule, no_operands, of_two, on_choice, on_datasets, on_measures, on_operands, on_pair, on_values, operator_form, outcome_of, parted, set_form, takes_dataset, with_operand, with_value}
+use Rattle.vtl_forms.specs.Operators.{Operands, between_values, by_operands, given_structure, if_placed, is_binary, is_choice, membership, misplaced_rule, no_operands, of_two, on_choice, on_datasets, on_measures, on_operands, on_pair, on_values, operator_form, outcome_of, parted, set_form, takes_dataset, with_operand, with_value}
 use Rattle.vtl_forms.specs.Typed.{TypedTree, value, dataset, beside_kind, components_in, made_of}
 use Rattle.vtl_forms.specs.Places.{Env}
 use Rattle.vtl_forms.specs.declared.places.Place.{Place}
@@ -135,7 +135,7 @@ measures-give : (env : Env) (at : Place) (o : ScalarOp) (literals : Bool) (befor
 unfolding on_measures
 measures-give env at o literals before after' a is hb ha =
     made-gives env at (measures (record { op = o; before = before; after = after' }) a) (given_structure o literals before after' (components_in a))
-    (tested-then (IsMadeWith env (measures (record { op = o; before = before; after = after' }) a)) _ (λ u. measured_form (outcome_of o) (between_values o before after') literals choice.Except [] (components_in a))
+    (tested-then (IsMadeWith env (measures (record { op = o; before = before; after = after' }) a)) ((7, any_unmet (by_operands o before after') None (components_in a)) ∷ (8, any_unmet (between_values o before after') None (components_in a)) ∷ []) (λ u. measured_form (outcome_of o) (between_values o before after') literals choice.Except [] (components_in a))
     (λ passed. weaker (λ s. IsShaped s × IsMeasured env.settings (record { op = o; before = before; after = after' }) (structure_of a) s) (IsMadeWith env (measures (record { op = o; before = before; after = after' }) a)) (measured_form (outcome_of o) (between_values o before after') literals choice.Except [] (components_in a))
       (λ s h. (h.0, (is.1, h.1)))
       (measured-fits env.settings (record { op = o; before = before; after = after' }) (structure_of a) (outcome_of o) (between_values o before after') literals is.0 (outcome-given o) (λ x b. refl) (over-columns env.settings (columns_of (structure_of a)) before hb) (over-columns env.settings (columns_of (structure_of a)) after' ha))))
@@ -193,7 +193,7 @@ operands-give : (env : Env) (at : Place) (o : ScalarOp) (number literals : Bool)
 operands-give env place.Outside o number literals before [] after' hb hn ha = value-tree env place.Outside (call_form o literals before) (values-give env.settings place.Outside o literals before hb)
 operands-give env (place.Inside i) o number literals before [] after' hb hn ha = value-tree env (place.Inside i) (call_form o literals before) (values-give env.settings (place.Inside i) o literals before hb)
 operands-give env (place.Inside i) o number literals before (n ∷ ns) after' hb hn ha = tt
-operands-give env place.Outside o number literals before (n ∷ ns) after' hb hn ha = tested-then (IsWellTyped env place.Outside) _ (λ u. on_datasets o literals before (n ∷ ns) after') (λ passed. datasets-give env place.Outside o literals before (n ∷ ns) after' hb hn ha)
+operands-give env place.Outside o number literals before (n ∷ ns) after' hb hn ha = tested-then (IsWellTyped env place.Outside) ((7, not number) ∷ []) (λ u. on_datasets o literals before (n ∷ ns) after') (λ passed. datasets-give env place.Outside o literals before (n ∷ ns) after' hb hn ha)
 
 pub operator-gives : (env : Env) (at : Place) (o : ScalarOp) (number literals : Bool) (xs : List TypedTree) → AllByRecursion (IsWellTyped env at) xs → Gives (IsWellTyped env at) (operator_form at o number literals xs)
 unfolding operator_form

@@ -85,10 +85,10 @@ made-same p known other n same m = made_over p known other n (lists.every (λ na
 assigned-gives : (env : Env) (before : ℕ) (name : List ℕ) (e : Exp) → AreShaped env.known → Gives (λ n. (has_name name env.known ≡ false) × IsNode env.settings env.known n) (assigned env before name e)
 unfolding assigned
 assigned-gives env before name e are =
-    tested-then Q _ (λ u. value_typed env e >>= λ n. ruled ((20, is_too_much before n) ∷ []) n)
+    tested-then Q ((2, has_name name env.known) ∷ []) (λ u. value_typed env e >>= λ n. ruled ((20, is_too_much before n) ∷ []) n)
     (λ passed. then (IsNode env.settings env.known) Q (value_typed env e) (λ n. ruled ((20, is_too_much before n) ∷ []) n)
       (then (IsWellTyped env place.Outside) (IsNode env.settings env.known) (typed env place.Outside e) dataset_in (sound env are place.Outside e) (dataset-gives env place.Outside))
-      (λ n is. tested Q _ n (λ few. (passed.0, is))))
+      (λ n is. tested Q ((20, is_too_much before n) ∷ []) n (λ few. (passed.0, is))))
   where
     Q : NodeTree → Type 0
     Q n = (has_name name env.known ≡ false) × IsNode env.settings env.known n
@@ -104,14 +104,14 @@ statements-give : (env : Env) (other : Named) (i before : ℕ) (done : List Node
 statements-give env other i before done [] are same = ([], sym (append-nil done), tt)
 statements-give env other i before done (tree.assignment name kind e ∷ ss) are same =
     at-then (λ n. (has_name name env.known ≡ false) × IsNode env.settings env.known n) (AreBehind env.settings other (tree.assignment name kind e ∷ ss) done) i (assigned env before name e) (λ n. statements_typed (with_result env name n) (suc i) (before + count n) (done ++ n ∷ []) ss) (assigned-gives env before name e are)
-    (λ n h. weaken n h (statements-give (with_result env name n) ((name, structure_of n) ∷ other) (suc i) (before + count n) (done ++ n ∷ []) ss (lists.appended (λ e. IsShaped e.1) env.known ((name, structure_of n) ∷ []) are (h.1.0, tt)) (same-more env.known other name (structure_of n) h.0 same)))
+    (λ n h. weaken n h (statements_typed (with_result env name n) (suc i) (before + count n) (done ++ n ∷ []) ss) (statements-give (with_result env name n) ((name, structure_of n) ∷ other) (suc i) (before + count n) (done ++ n ∷ []) ss (lists.appended (λ e. IsShaped e.1) env.known ((name, structure_of n) ∷ []) are (h.1.0, tt)) (same-more env.known other name (structure_of n) h.0 same)))
   where
     new-there : has_name name env.known ≡ false → has_name name other ≡ false
     new-there new = has_name-lookup name other ∙ ap is_some (sym (same name)) ∙ sym (has_name-lookup name env.known) ∙ new
 
-    weaken : (n : NodeTree) → (has_name name env.known ≡ false) × IsNode env.settings env.known n → {r : Result (List NodeTree) (ℕ × ℕ)} → Gives (AreBehind env.settings ((name, structure_of n) ∷ other) ss (done ++ n ∷ [])) r → Gives (AreBehind env.settings other (tree.assignment name kind e ∷ ss) done) r
-    weaken n h {Ok all} k = (n ∷ k.0, k.1 ∙ append_assoc done (n ∷ []) k.0, (new-there h.0, made-same env.settings env.known other n same h.1.1, k.2))
-    weaken n h {Err fault} k = tt
+    weaken : (n : NodeTree) → (has_name name env.known ≡ false) × IsNode env.settings env.known n → (r : Result (List NodeTree) (ℕ × ℕ)) → Gives (AreBehind env.settings ((name, structure_of n) ∷ other) ss (done ++ n ∷ [])) r → Gives (AreBehind env.settings other (tree.assignment name kind e ∷ ss) done) r
+    weaken n h (Ok all) k = (n ∷ k.0, k.1 ∙ append_assoc done (n ∷ []) k.0, (new-there h.0, made-same env.settings env.known other n same h.1.1, k.2))
+    weaken n h (Err fault) k = tt
 statements-give env other i before done (tree.datapoint n vs rs b ∷ ss) are same = tt
 statements-give env other i before done (tree.hierarchical n v rs b ∷ ss) are same = tt
 

@@ -43,7 +43,7 @@ use Rattle.vtl_typed.specs.WellTyped.{IsNode, IsValueAt, IsWellTyped}
 use Rattle.vtl_typed.proofs.Left.{member-fits}
 use Rattle.vtl_typed.proofs.Lists as lists
 use Rattle.vtl_typed.proofs.Operators.{IsMadeWith, made-gives}
-use Rattle.vtl_typed.proofs.Shapes.{any-shaped}
+use Rattle.vtl_typed.proofs.OtherForms.{check-shaped, exists-shaped, set-shaped}
 use Rattle.vtl_typed.proofs.Steps.{after, anything, then, weaker}
 
 -- where a data set is needed
@@ -73,9 +73,6 @@ datasets-behind env done (x ∷ xs) hd h =
 all-made : (p : Settings) (known : Named) (ns : List NodeTree) → AllByRecursion (IsNode p known) ns → AreMade p known (nodes_of ns)
 all-made p known [] h = tt
 all-made p known (n ∷ ns) h = (h.0.1, all-made p known ns h.1)
-
-set-shaped : (s : Structure) (others : List Structure) → Gives IsShaped (pairs.set_form s others)
-set-shaped s others = any-shaped _ _
 
 set-structure : (ns : List NodeTree) → Gives IsShaped (set_structure ns)
 set-structure [] = tt
@@ -107,7 +104,7 @@ unfolding exists_form
 exists-gives env at r x y hx hy =
     then (IsNode env.settings env.known) (IsWellTyped env at) (dataset_in x) (λ a. dataset_in y >>= λ b. pairs.exists_form (structure_of a) (structure_of b) >>= made_of (nodes.exists_in a b (unwrap_or r retain.All))) (dataset-gives env place.Outside x hx)
     (λ a ia. then (IsNode env.settings env.known) (IsWellTyped env at) (dataset_in y) (λ b. pairs.exists_form (structure_of a) (structure_of b) >>= made_of (nodes.exists_in a b (unwrap_or r retain.All))) (dataset-gives env place.Outside y hy)
-      (λ b ib. shape-gives env at (nodes.exists_in a b (unwrap_or r retain.All)) (pairs.exists_form (structure_of a) (structure_of b)) (any-shaped _ _) (λ s is. (is, (ia.1, ib.1)))))
+      (λ b ib. shape-gives env at (nodes.exists_in a b (unwrap_or r retain.All)) (pairs.exists_form (structure_of a) (structure_of b)) (exists-shaped (structure_of a) (structure_of b)) (λ s is. (is, (ia.1, ib.1)))))
 
 -- ---- `check`
 imbalance-gives : (env : Env) (i : Option TypedTree) → IfSome i (IsWellTyped env place.Outside) → Gives (λ b. IfSome b (IsNode env.settings env.known)) (imbalance_in i)
@@ -123,4 +120,4 @@ unfolding check_form
 check-gives env at spec x i hx hi =
     then (IsNode env.settings env.known) (IsWellTyped env at) (dataset_in x) (λ a. imbalance_in i >>= λ b. pairs.check_form (structure_of a) (structures_in (option_to_list b)) >>= made_of (nodes.check a (maybe_node b) spec)) (dataset-gives env place.Outside x hx)
     (λ a ia. then (λ b. IfSome b (IsNode env.settings env.known)) (IsWellTyped env at) (imbalance_in i) (λ b. pairs.check_form (structure_of a) (structures_in (option_to_list b)) >>= made_of (nodes.check a (maybe_node b) spec)) (imbalance-gives env i hi)
-      (λ b ib. shape-gives env at (nodes.check a (maybe_node b) spec) (pairs.check_form (structure_of a) (structures_in (option_to_list b))) (any-shaped _ _) (λ s is. (is, (ia.1, maybe-made env.settings env.known b ib)))))
+      (λ b ib. shape-gives env at (nodes.check a (maybe_node b) spec) (pairs.check_form (structure_of a) (structures_in (option_to_list b))) (check-shaped (structure_of a) (structures_in (option_to_list b))) (λ s is. (is, (ia.1, maybe-made env.settings env.known b ib)))))

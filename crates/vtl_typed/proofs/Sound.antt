@@ -17,10 +17,13 @@ use Rattle.vtl_syntax.specs.declared.word_groups.JoinKind.{JoinKind}
 use Rattle.vtl_tree.specs.CompExp.{CompExp}
 use Rattle.vtl_nodes.specs.Trees as nodes
 use Rattle.vtl_nodes.specs.Trees.{ItemTree, NodeTree, OperandTree, ValueTree}
+use Rattle.vtl_typing.specs.Kinds.{exp_kind}
 use Rattle.vtl_typing.specs.Operators.{exps_length, of_binary, of_function, of_unary, takes}
 use Rattle.vtl_typing.specs.Literals.{literals_fit}
+use Rattle.vtl_shapes.specs.Clauses.{target_tests}
+use Rattle.vtl_typing.specs.Columns.{name_of}
 use Rattle.vtl_forms.specs.Operators.{operator_form, set_form}
-use Rattle.vtl_forms.specs.Places.{Env, Written, at_groups, at_points, member_inside, member_written, written_typed}
+use Rattle.vtl_forms.specs.Places.{Env, Written, at_groups, at_points, columns_in, member_inside, member_written, written_typed}
 use Rattle.vtl_forms.specs.Sets.{check_form, check_spec, difference_form, exists_form, member_of, sets_form}
 use Rattle.vtl_forms.specs.Typed.{TypedTree, value, dataset, components_in, condition_in, dataset_in, value_in}
 use Rattle.vtl_forms.specs.declared.places.Inside.{Inside}
@@ -31,10 +34,10 @@ use Rattle.vtl_groups.specs.Aggregates.{aggregate_node, grouping_typed}
 use Rattle.vtl_groups.specs.Windowed.{over_typed, target_typed}
 use Rattle.vtl_clauses.specs.Clauses.{filter_form}
 use Rattle.vtl_clauses.specs.JoinOperands.{PartTyped, joined_node, joined_of, operands_in, with_part}
-use Rattle.vtl_clauses.specs.Targets.{aggr_clause, calc_clause, calc_name, with_item}
+use Rattle.vtl_clauses.specs.Targets.{aggr_clause, calc_clause, calc_name, item_names, with_item}
 use Rattle.vtl_clauses.specs.declared.targets.Made.{Made}
 use Rattle.vtl_walk.specs.Typing.{Having, aggrs_typed, as_dataset, behind, body_end, calc_value, calcs_typed, clause_typed, filter_step, filtered_join, grouped_of, has_exp, having_typed, join_end, keeping_step, last_step, maybe_typed, operands_typed, or_call, or_component, over_operand, parts_typed, renaming_step, scalar_value, targets_step, targets_typed, typed}
-use Rattle.vtl_typed.specs.Gives.{Gives, IsShaped}
+use Rattle.vtl_typed.specs.Gives.{ArePassed, Gives}
 use Rattle.vtl_typed.specs.WellTyped.{AreShaped, IsNode, IsWellTyped}
 use Rattle.vtl_typed.proofs.Clauses.{AreTargets, IsTargetValue, aggr-gives, calc-gives, filter-gives, item-more, keeping-gives, name-free, pivot-gives, renaming-gives, sub-gives, unpivot-gives}
 use Rattle.vtl_typed.proofs.Groups.{IsAnalytic, aggregate-gives, no-dataset-gives, or-call-gives, over-gives, target-analytic}
@@ -69,7 +72,7 @@ component-gives env (place.Inside i) e c rest h = go (member_written e c)
 
 grouped-gives : (env : Env) (at : Place) (f : AggregateName) (g : Option GroupPart) (grouped : Bool) (having : Having) (x : Option TypedTree) → IfSome x (IsWellTyped env at) → Gives (IsWellTyped env at) (grouped_of at f g grouped having x)
 grouped-gives env at f g grouped having (Some (dataset n)) h = after (IsWellTyped env at) (grouping_typed (components_in n) g) (λ names. having n names >>= aggregate_node f g n) (λ names. after (IsWellTyped env at) (having n names) (aggregate_node f g n) (λ c. aggregate-gives env at f g n c h))
-grouped-gives env at f g grouped having (Some (value v)) h = no-dataset-gives env at f grouped _
+grouped-gives env at f g grouped having (Some (value v)) h = no-dataset-gives env at f grouped (Some (exp_kind v))
 grouped-gives env at f g grouped having None h = no-dataset-gives env at f grouped None
 
 keeping-step : (env : Env) (j : Option Joined) (k : Option Keeping) (n : NodeTree) → IsNode env.settings env.known n → Gives (IsNode env.settings env.known) (keeping_step j k n)
@@ -190,7 +193,7 @@ mutual
   sound-calcs : (env : Env) → AreShaped env.known → (j : Option Joined) (n : NodeTree) (done : List ItemTree) (cs : Calcs) → AreTargets env.settings n done → Gives (AreTargets env.settings n) (calcs_typed env (place.Inside (at_points j n)) n done cs)
   sound-calcs env are j n done tree.no_calcs hd = hd
   sound-calcs env are j n done (tree.calc_part r c e cs) hd =
-      then _ (AreTargets env.settings n) (calc_name n done c) (λ u. calc_value env.settings (place.Inside (at_points j n)) e (typed env (place.Inside (at_points j n)) e) (over_operand env (place.Inside (at_points j n)) e) >>= with_item r c done >>= λ items. calcs_typed env (place.Inside (at_points j n)) n items cs) (name-free n done c)
+      then (λ u. ArePassed (target_tests (components_in n) (item_names done) (name_of c))) (AreTargets env.settings n) (calc_name n done c) (λ u. calc_value env.settings (place.Inside (at_points j n)) e (typed env (place.Inside (at_points j n)) e) (over_operand env (place.Inside (at_points j n)) e) >>= with_item r c done >>= λ items. calcs_typed env (place.Inside (at_points j n)) n items cs) (name-free n done c)
       (λ u passed. then (AreTargets env.settings n) (AreTargets env.settings n) (calc_value env.settings (place.Inside (at_points j n)) e (typed env (place.Inside (at_points j n)) e) (over_operand env (place.Inside (at_points j n)) e) >>= with_item r c done) (λ items. calcs_typed env (place.Inside (at_points j n)) n items cs)
         (then (IsTargetValue env.settings (columns_in n)) (AreTargets env.settings n) (calc_value env.settings (place.Inside (at_points j n)) e (typed env (place.Inside (at_points j n)) e) (over_operand env (place.Inside (at_points j n)) e)) (with_item r c done)
           (target-gives env j n e (typed env (place.Inside (at_points j n)) e) (over_operand env (place.Inside (at_points j n)) e) (sound env are (place.Inside (at_points j n)) e))

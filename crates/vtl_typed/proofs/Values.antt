@@ -1,5 +1,5 @@
 -- Values and names at a place.
-use Rattle.std.proofs.Common.{◌≡◌, ℕ, suc, ◌+◌, Bool, true, false, cond, List, [], ◌∷◌, ◌++◌, length, map, Option, Some, None, is_none, Result, Ok, Err, refl, sym, ap, ◌∙◌, subst, true≢false, append_assoc, length-append, arith}
+use Rattle.std.proofs.Common.{◌≡◌, ℕ, suc, ◌+◌, Bool, true, false, cond, List, [], ◌∷◌, ◌++◌, length, map, Option, Some, None, is_none, not, Result, Ok, Err, refl, sym, ap, ◌∙◌, subst, true≢false, append_assoc, length-append, arith}
 use Rattle.std.specs.List.{AllByRecursion}
 use Rattle.std.specs.Map.{lookup}
 use Rattle.vtl_decimal.specs.Settings.{Settings}
@@ -20,7 +20,7 @@ use Rattle.vtl_nodes.specs.Trees.{NodeTree, named, node}
 use Rattle.vtl_shapes.specs.Names.{is_among}
 use Rattle.vtl_typing.specs.Calls.{call_form, call_kind, or_null}
 use Rattle.vtl_typing.specs.Columns.{column_from, column_typed, name_of}
-use Rattle.vtl_typing.specs.Kinds.{exp_kind}
+use Rattle.vtl_typing.specs.Kinds.{exp_kind, kind_by_operands}
 use Rattle.vtl_typing.specs.Literals.{constant_typed}
 use Rattle.vtl_forms.specs.Places.{Env, Written, alone, component_typed, constant_form, dataset_named, known_by, name_typed, name_written, written_typed}
 use Rattle.vtl_forms.specs.Typed.{TypedTree, value, dataset, of_value}
@@ -51,7 +51,7 @@ value-tree env at (Err rule) h = tt
 -- ---- operators on values
 call-form : (p : Settings) (xs : List Component) (o : ScalarOp) (literals : Bool) (args : List CompExp) → AllByRecursion (IsTyped p xs) args → Gives (IsTyped p xs) (call_form o literals args)
 call-form p xs o literals args h =
-    tested (IsTyped p xs) _ (call o (or_null (call_kind o args)) (comp_exps_of args)) (λ passed. call-typed p xs o (or_null (call_kind o args)) args (kind (call_kind o args) passed.1.0) h)
+    tested (IsTyped p xs) ((7, is_none (kind_by_operands o (map exp_kind args))) ∷ (8, is_none (call_kind o args)) ∷ (8, not literals) ∷ []) (call o (or_null (call_kind o args)) (comp_exps_of args)) (λ passed. call-typed p xs o (or_null (call_kind o args)) args (kind (call_kind o args) passed.1.0) h)
   where
     kind : (m : Option Kind) → is_none m ≡ false → m ≡ Some (or_null m)
     kind None e = absurd (true≢false e)
@@ -93,7 +93,7 @@ component-gives env i name = then (IsTyped env.settings i.components) (IsWellTyp
 
     same : (g : Option (List (List ℕ))) (e : CompExp) → IsTyped env.settings i.components e → Gives (P g) (alone g name e)
     same None e h = h
-    same (Some names) e h = after (P (Some names)) (ruled _ (tt {0})) (λ u. of_value e) (λ u. tt)
+    same (Some names) e h = after (P (Some names)) (ruled ((15, not (is_among name names)) ∷ []) (tt {0})) (λ u. of_value e) (λ u. tt)
 
     one : (e : CompExp) → IsTyped env.settings i.components e → Gives (IsWellTyped env (place.Inside i)) (alone i.grouping name e)
     one e h = weaker (P i.grouping) (IsWellTyped env (place.Inside i)) (alone i.grouping name e) (λ x k. there x k) (same i.grouping e h)
