@@ -1,3 +1,4 @@
+pub mod Alike
 pub mod Calculated
 pub mod Chosen
 pub mod Clauses

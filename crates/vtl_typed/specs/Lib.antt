@@ -1,3 +1,4 @@
 pub mod Gives
+pub mod Reads
 pub mod Scripts
 pub mod WellTyped
