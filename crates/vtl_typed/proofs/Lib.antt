@@ -5,6 +5,7 @@ pub mod Clauses
 pub mod Columns
 pub mod Expressions
 pub mod Groups
+pub mod Inner
 pub mod Joins
 pub mod Left
 pub mod Lists
@@ -22,4 +23,5 @@ pub mod Sound
 pub mod Steps
 pub mod Tests
 pub mod Twins
+pub mod ValueKinds
 pub mod Values

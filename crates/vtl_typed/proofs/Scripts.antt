@@ -3,7 +3,7 @@ use Rattle.std.proofs.Common.{◌≡◌, ℕ, suc, ◌+◌, ◌≤◌, Bool, tru
 use Rattle.std.proofs.lemmas.Bool.{leb-true}
 use Rattle.std.proofs.lemmas.List.{append-nil}
 use Rattle.std.specs.List.{AllByRecursion, list_all}
-use Rattle.std.specs.Map.{lookup}
+use Rattle.std.specs.Map.{keys_of, lookup}
 use Rattle.std.specs.Prelude.{nat_le}
 use Rattle.vtl_decimal.specs.Settings.{Settings}
 use Rattle.vtl_lists.specs.Apart.{all_apart}
@@ -11,7 +11,7 @@ use Rattle.vtl_text.specs.Words.{is_component_name}
 use Rattle.vtl_rule_tests.specs.Rules.{◌>>=◌, ruled}
 use Rattle.vtl_syntax.specs.Trees as tree
 use Rattle.vtl_syntax.specs.Trees.{Exp, ScriptTree}
-use Rattle.vtl_tree.specs.Structure.{names_of, same_name}
+use Rattle.vtl_tree.specs.Structure.{IsStructure, names_of, same_name}
 use Rattle.vtl_tree.specs.Structures.{AreStructures, Named, are_declarable, codes_fit, has_name, is_declarable, is_declarable_component, is_declarable_entry, is_null_kind}
 use Rattle.vtl_tree.proofs.StructuresLemmas.{not_found}
 use Rattle.vtl_tree.specs.declared.structure.Component.{Component}
@@ -28,11 +28,13 @@ use Rattle.vtl_check.specs.Script.{assigned, at, is_too_much, statements_typed, 
 use Rattle.vtl_check.proofs.KnownLemmas.{has_name-lookup}
 use Rattle.vtl_meaning.specs.Made.{IsMade}
 use Rattle.vtl_typed.specs.Gives.{Gives, IsShaped}
-use Rattle.vtl_typed.specs.Scripts.{AreMadeFrom}
+use Rattle.vtl_typed.specs.Nodes.{nodes_in}
+use Rattle.vtl_typed.specs.Scripts.{AreMadeFrom, AreReadFrom}
 use Rattle.vtl_typed.specs.WellTyped.{AreShaped, IsNode, IsWellTyped}
 use Rattle.vtl_typed.proofs.Columns.{same-true}
 use Rattle.vtl_typed.proofs.Lists as lists
-use Rattle.vtl_typed.proofs.Over.{made_over}
+use Rattle.vtl_typed.proofs.Inner.{inner-structures}
+use Rattle.vtl_typed.proofs.Over.{made_over, names_known}
 use Rattle.vtl_typed.proofs.Sets.{dataset-gives}
 use Rattle.vtl_typed.proofs.Sound.{sound}
 use Rattle.vtl_typed.proofs.Steps.{tested, tested-then, then}
@@ -120,3 +122,30 @@ script-made t are is = go (subst (Gives (AreBehind t.settings t.declared (tree_o
   where
     go : AreBehind t.settings t.declared (tree_of t) [] (nodes_of t) → AreMadeFrom t.settings t.declared (tree_of t) (nodes_of t)
     go h = subst (AreMadeFrom t.settings t.declared (tree_of t)) (sym h.1) h.2
+
+-- ---- what follows of all nodes
+read-from : (p : Settings) (known : Named) (ss : ScriptTree) (ns : List NodeTree) → AreMadeFrom p known ss ns → AreReadFrom (keys_of known) ss ns
+read-from p known [] [] m = tt
+read-from p known [] (n ∷ ns) m = absurd m
+read-from p known (tree.assignment name kind e ∷ ss) [] m = absurd m
+read-from p known (tree.assignment name kind e ∷ ss) (n ∷ ns) m = (names_known p known n m.1, read-from p ((name, structure_of n) ∷ known) ss ns m.2)
+read-from p known (tree.datapoint n vs rs b ∷ ss) [] m = absurd m
+read-from p known (tree.datapoint n vs rs b ∷ ss) (x ∷ xs) m = absurd m
+read-from p known (tree.hierarchical n v rs b ∷ ss) [] m = absurd m
+read-from p known (tree.hierarchical n v rs b ∷ ss) (x ∷ xs) m = absurd m
+
+pub script-reads : (t : TypedScript) → AreStructures t.declared → IsTyped t → AreReadFrom (keys_of t.declared) (tree_of t) (nodes_of t)
+script-reads t are is = read-from t.settings t.declared (tree_of t) (nodes_of t) (script-made t are is)
+
+abbrev HasStructures : NodeTree → Type 0
+HasStructures n = AllByRecursion (λ m. IsStructure (structure_of m)) (nodes_in n)
+
+structures-from : (p : Settings) (known : Named) (ss : ScriptTree) (ns : List NodeTree) → AreMadeFrom p known ss ns → AllByRecursion HasStructures ns
+structures-from p known ss [] m = tt
+structures-from p known [] (n ∷ ns) m = absurd m
+structures-from p known (tree.assignment name kind e ∷ ss) (n ∷ ns) m = (inner-structures p known n m.1, structures-from p ((name, structure_of n) ∷ known) ss ns m.2)
+structures-from p known (tree.datapoint n vs rs b ∷ ss) (x ∷ xs) m = absurd m
+structures-from p known (tree.hierarchical n v rs b ∷ ss) (x ∷ xs) m = absurd m
+
+pub script-structures : (t : TypedScript) → AreStructures t.declared → IsTyped t → AllByRecursion HasStructures (nodes_of t)
+script-structures t are is = structures-from t.settings t.declared (tree_of t) (nodes_of t) (script-made t are is)
