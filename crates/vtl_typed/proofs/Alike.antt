@@ -1,6 +1,5 @@
 -- Typing depends only on the structures of the names that are read.
 use Rattle.std.proofs.Common.{◌≡◌, ℕ, suc, ◌+◌, Bool, true, false, cond, ◌||◌, ◌&&◌, List, [], ◌∷◌, ◌++◌, Option, Some, None, is_some, option_map, Result, Ok, Err, refl, sym, ap, ◌∙◌}
-use Rattle.std.specs.List.{AllByRecursion}
 use Rattle.std.specs.Map.{lookup}
 use Rattle.vtl_decimal.specs.Settings.{Settings}
 use Rattle.vtl_cell.specs.declared.operator.ScalarOp.TheVariants as op
@@ -11,12 +10,10 @@ use Rattle.vtl_syntax.specs.declared.parts.Comp.{Comp}
 use Rattle.vtl_syntax.specs.declared.parts.Comp.TheVariants as comp
 use Rattle.vtl_syntax.specs.declared.parts.GroupPart.{GroupPart}
 use Rattle.vtl_syntax.specs.declared.word_groups.AggregateName.{AggregateName}
-use Rattle.vtl_syntax.specs.declared.word_groups.JoinKind.{JoinKind}
-use Rattle.vtl_tree.specs.CompExp.{CompExp}
 use Rattle.vtl_tree.specs.Structure.{same_name}
 use Rattle.vtl_tree.specs.Structures.{Named, has_name}
 use Rattle.vtl_tree.specs.declared.structure.Structure.{Structure}
-use Rattle.vtl_nodes.specs.Trees.{ItemTree, NodeTree, OperandTree, structure_of}
+use Rattle.vtl_nodes.specs.Trees.{ItemTree, NodeTree, structure_of}
 use Rattle.vtl_typing.specs.Literals.{literals_fit}
 use Rattle.vtl_typing.specs.Operators.{exps_length, of_binary, of_function, of_unary, takes}
 use Rattle.vtl_forms.specs.Operators.{operator_form, set_form}
@@ -98,8 +95,8 @@ module _ (p : Settings) (known other : Named) where
         same-then (typed one at c >>= behind []) (typed two at c >>= behind []) (λ xs. typed one at a >>= behind xs >>= λ ys. typed one at b >>= behind ys >>= operator_form at op.If true true) (λ xs. typed two at a >>= behind xs >>= λ ys. typed two at b >>= behind ys >>= operator_form at op.If true true)
         (same-first (typed one at c) (typed two at c) (behind []) (typed-alike at c (front (names_read (is_inside at) c) (names_read (is_inside at) a ++ names_read (is_inside at) b) h)))
         (λ xs. same-then (typed one at a >>= behind xs) (typed two at a >>= behind xs) (λ ys. typed one at b >>= behind ys >>= operator_form at op.If true true) (λ ys. typed two at b >>= behind ys >>= operator_form at op.If true true)
-          (same-first (typed one at a) (typed two at a) (behind xs) (typed-alike at a (front (names_read (is_inside at) a) (names_read (is_inside at) b) (back (names_read (is_inside at) c) (names_read (is_inside at) a ++ names_read (is_inside at) b) h))))
-          (λ ys. ap (λ r. r >>= behind ys >>= operator_form at op.If true true) (typed-alike at b (back (names_read (is_inside at) a) (names_read (is_inside at) b) (back (names_read (is_inside at) c) (names_read (is_inside at) a ++ names_read (is_inside at) b) h)))))
+        (same-first (typed one at a) (typed two at a) (behind xs) (typed-alike at a (front (names_read (is_inside at) a) (names_read (is_inside at) b) (back (names_read (is_inside at) c) (names_read (is_inside at) a ++ names_read (is_inside at) b) h))))
+        (λ ys. ap (λ r. r >>= behind ys >>= operator_form at op.If true true) (typed-alike at b (back (names_read (is_inside at) a) (names_read (is_inside at) b) (back (names_read (is_inside at) c) (names_read (is_inside at) a ++ names_read (is_inside at) b) h)))))
     typed-alike at (tree.binary l o r) h =
         same-then (typed one at l >>= behind []) (typed two at l >>= behind []) (λ xs. typed one at r >>= behind xs >>= operator_form at (of_binary o) true true) (λ xs. typed two at r >>= behind xs >>= operator_form at (of_binary o) true true)
         (same-first (typed one at l) (typed two at l) (behind []) (typed-alike at l (front (names_read (is_inside at) l) (names_read (is_inside at) r) h)))
@@ -119,8 +116,8 @@ module _ (p : Settings) (known other : Named) where
     typed-alike at (tree.aggregate f e g x) h =
         ap (or_call (group_operand at e) f (is_some g || has_exp x))
         (same-then (maybe_typed one at e) (maybe_typed two at e) (grouped_of at f g (is_some g || has_exp x) (λ n names. having_typed one None n names x)) (grouped_of at f g (is_some g || has_exp x) (λ n names. having_typed two None n names x))
-          (maybe-alike at e (front (maybe_read (is_inside at) e) (maybe_read true x) h))
-          (grouped-alike at f g (is_some g || has_exp x) (λ n names. having_typed one None n names x) (λ n names. having_typed two None n names x) (λ n names. having-alike None n names x (back (maybe_read (is_inside at) e) (maybe_read true x) h))))
+        (maybe-alike at e (front (maybe_read (is_inside at) e) (maybe_read true x) h))
+        (grouped-alike at f g (is_some g || has_exp x) (λ n names. having_typed one None n names x) (λ n names. having_typed two None n names x) (λ n names. having-alike None n names x (back (maybe_read (is_inside at) e) (maybe_read true x) h))))
     typed-alike at (tree.aggregate_over f e o) h = same-first (maybe_typed one at e) (maybe_typed two at e) (over_typed p at (tree.aggregate_over f e o)) (maybe-alike at e h)
     typed-alike at (tree.value_window f e o) h = same-first (typed one at e) (typed two at e) (λ x. over_typed p at (tree.value_window f e o) (Some x)) (typed-alike at e h)
     typed-alike at (tree.shift f e n l o) h = same-first (typed one at e) (typed two at e) (λ x. over_typed p at (tree.shift f e n l o) (Some x)) (typed-alike at e h)
@@ -142,8 +139,8 @@ module _ (p : Settings) (known other : Named) where
         same-then (parts_typed one [] ps >>= operands_in) (parts_typed two [] ps >>= operands_in) (λ os. filtered_join one (Some (joined_of kind os)) f kind u os >>= join_end one (Some (joined_of kind os)) m k rs) (λ os. filtered_join two (Some (joined_of kind os)) f kind u os >>= join_end two (Some (joined_of kind os)) m k rs)
         (same-first (parts_typed one [] ps) (parts_typed two [] ps) operands_in (parts-alike [] ps (front (parts_read ps) (maybe_read true f ++ step_reads m) h)))
         (λ os. same-then (filtered_join one (Some (joined_of kind os)) f kind u os) (filtered_join two (Some (joined_of kind os)) f kind u os) (join_end one (Some (joined_of kind os)) m k rs) (join_end two (Some (joined_of kind os)) m k rs)
-          (same-rest (joined_node kind u os) (λ n. filter_step one (Some (joined_of kind os)) n f) (λ n. filter_step two (Some (joined_of kind os)) n f) (λ n. filter-alike (Some (joined_of kind os)) n f (front (maybe_read true f) (step_reads m) (back (parts_read ps) (maybe_read true f ++ step_reads m) h))))
-          (λ a. same-first (targets_step one (Some (joined_of kind os)) a m) (targets_step two (Some (joined_of kind os)) a m) (body_end (Some (joined_of kind os)) k rs) (step-alike (Some (joined_of kind os)) a m (back (maybe_read true f) (step_reads m) (back (parts_read ps) (maybe_read true f ++ step_reads m) h)))))
+        (same-rest (joined_node kind u os) (λ n. filter_step one (Some (joined_of kind os)) n f) (λ n. filter_step two (Some (joined_of kind os)) n f) (λ n. filter-alike (Some (joined_of kind os)) n f (front (maybe_read true f) (step_reads m) (back (parts_read ps) (maybe_read true f ++ step_reads m) h))))
+        (λ a. same-first (targets_step one (Some (joined_of kind os)) a m) (targets_step two (Some (joined_of kind os)) a m) (body_end (Some (joined_of kind os)) k rs) (step-alike (Some (joined_of kind os)) a m (back (maybe_read true f) (step_reads m) (back (parts_read ps) (maybe_read true f ++ step_reads m) h)))))
 
     operands-alike : (at : Place) (done : List TypedTree) (es : Exps) → Alike (all_read (is_inside at) es) → operands_typed one at done es ≡ operands_typed two at done es
     operands-alike at done tree.no_exps h = refl
@@ -174,16 +171,16 @@ module _ (p : Settings) (known other : Named) where
         same-then (aggrs_typed one (place.Inside (at_groups j n [])) [] cs) (aggrs_typed two (place.Inside (at_groups j n [])) [] cs) (λ made. grouping_typed (components_in n) g >>= λ names. having_typed one j n names x >>= aggr_clause g n made) (λ made. grouping_typed (components_in n) g >>= λ names. having_typed two j n names x >>= aggr_clause g n made)
         (aggrs-alike j n [] cs (front (calcs_read cs) (maybe_read true x) h))
         (λ made. same-rest (grouping_typed (components_in n) g) (λ names. having_typed one j n names x >>= aggr_clause g n made) (λ names. having_typed two j n names x >>= aggr_clause g n made)
-          (λ names. same-first (having_typed one j n names x) (having_typed two j n names x) (aggr_clause g n made) (having-alike j n names x (back (calcs_read cs) (maybe_read true x) h))))
+        (λ names. same-first (having_typed one j n names x) (having_typed two j n names x) (aggr_clause g n made) (having-alike j n names x (back (calcs_read cs) (maybe_read true x) h))))
 
     calcs-alike : (j : Option Joined) (n : NodeTree) (done : List ItemTree) (cs : Calcs) → Alike (calcs_read cs) → calcs_typed one (place.Inside (at_points j n)) n done cs ≡ calcs_typed two (place.Inside (at_points j n)) n done cs
     calcs-alike j n done tree.no_calcs h = refl
     calcs-alike j n done (tree.calc_part r c e cs) h =
         same-rest (calc_name n done c) (λ u. calc_value p (place.Inside (at_points j n)) e (typed one (place.Inside (at_points j n)) e) (over_operand one (place.Inside (at_points j n)) e) >>= with_item r c done >>= λ items. calcs_typed one (place.Inside (at_points j n)) n items cs) (λ u. calc_value p (place.Inside (at_points j n)) e (typed two (place.Inside (at_points j n)) e) (over_operand two (place.Inside (at_points j n)) e) >>= with_item r c done >>= λ items. calcs_typed two (place.Inside (at_points j n)) n items cs)
         (λ u. same-then (calc_value p (place.Inside (at_points j n)) e (typed one (place.Inside (at_points j n)) e) (over_operand one (place.Inside (at_points j n)) e) >>= with_item r c done) (calc_value p (place.Inside (at_points j n)) e (typed two (place.Inside (at_points j n)) e) (over_operand two (place.Inside (at_points j n)) e) >>= with_item r c done) (λ items. calcs_typed one (place.Inside (at_points j n)) n items cs) (λ items. calcs_typed two (place.Inside (at_points j n)) n items cs)
-          (ap (λ t. calc_value p (place.Inside (at_points j n)) e t (over_operand one (place.Inside (at_points j n)) e) >>= with_item r c done) (typed-alike (place.Inside (at_points j n)) e (front (names_read true e) (calcs_read cs) h))
-            ∙ ap (λ t. calc_value p (place.Inside (at_points j n)) e (typed two (place.Inside (at_points j n)) e) t >>= with_item r c done) (over-alike (place.Inside (at_points j n)) e (front (names_read true e) (calcs_read cs) h)))
-          (λ items. calcs-alike j n items cs (back (names_read true e) (calcs_read cs) h)))
+        (ap (λ t. calc_value p (place.Inside (at_points j n)) e t (over_operand one (place.Inside (at_points j n)) e) >>= with_item r c done) (typed-alike (place.Inside (at_points j n)) e (front (names_read true e) (calcs_read cs) h))
+        ∙ ap (λ t. calc_value p (place.Inside (at_points j n)) e (typed two (place.Inside (at_points j n)) e) t >>= with_item r c done) (over-alike (place.Inside (at_points j n)) e (front (names_read true e) (calcs_read cs) h)))
+        (λ items. calcs-alike j n items cs (back (names_read true e) (calcs_read cs) h)))
 
     over-alike : (at : Place) (e : Exp) → Alike (names_read (is_inside at) e) → over_operand one at e ≡ over_operand two at e
     over-alike at (tree.aggregate_over f e o) h = maybe-alike at e h
@@ -196,8 +193,8 @@ module _ (p : Settings) (known other : Named) where
     aggrs-alike j n done (tree.calc_part r c e cs) h =
         same-rest (aggr_name done c) (λ u. typed one (place.Inside (at_groups j n [])) e >>= with_made r c e done >>= λ made. aggrs_typed one (place.Inside (at_groups j n [])) made cs) (λ u. typed two (place.Inside (at_groups j n [])) e >>= with_made r c e done >>= λ made. aggrs_typed two (place.Inside (at_groups j n [])) made cs)
         (λ u. same-then (typed one (place.Inside (at_groups j n [])) e >>= with_made r c e done) (typed two (place.Inside (at_groups j n [])) e >>= with_made r c e done) (λ made. aggrs_typed one (place.Inside (at_groups j n [])) made cs) (λ made. aggrs_typed two (place.Inside (at_groups j n [])) made cs)
-          (same-first (typed one (place.Inside (at_groups j n [])) e) (typed two (place.Inside (at_groups j n [])) e) (with_made r c e done) (typed-alike (place.Inside (at_groups j n [])) e (front (names_read true e) (calcs_read cs) h)))
-          (λ made. aggrs-alike j n made cs (back (names_read true e) (calcs_read cs) h)))
+        (same-first (typed one (place.Inside (at_groups j n [])) e) (typed two (place.Inside (at_groups j n [])) e) (with_made r c e done) (typed-alike (place.Inside (at_groups j n [])) e (front (names_read true e) (calcs_read cs) h)))
+        (λ made. aggrs-alike j n made cs (back (names_read true e) (calcs_read cs) h)))
 
     parts-alike : (done : List PartTyped) (ps : Parts) → Alike (parts_read ps) → parts_typed one done ps ≡ parts_typed two done ps
     parts-alike done tree.no_parts h = refl
@@ -236,7 +233,7 @@ unfolding assigned
 assigned-alike p known other before name e same h =
     ap (λ b. ruled ((2, b) ∷ []) (tt {0}) >>= λ u. value_typed (env_over p known) e >>= λ n. ruled ((20, is_too_much before n) ∷ []) n) (has_name-lookup name known ∙ ap is_some same ∙ sym (has_name-lookup name other))
     ∙ same-rest (ruled ((2, has_name name other) ∷ []) (tt {0})) (λ u. value_typed (env_over p known) e >>= λ n. ruled ((20, is_too_much before n) ∷ []) n) (λ u. value_typed (env_over p other) e >>= λ n. ruled ((20, is_too_much before n) ∷ []) n)
-      (λ u. ap (λ t. t >>= dataset_in >>= λ n. ruled ((20, is_too_much before n) ∷ []) n) (typed-alike p known other place.Outside e h))
+    (λ u. ap (λ t. t >>= dataset_in >>= λ n. ruled ((20, is_too_much before n) ∷ []) n) (typed-alike p known other place.Outside e h))
 
 at-each : {A B : Type 0} (i : ℕ) (s : Result A ℕ) (f g : A → Result B (ℕ × ℕ)) → ((x : A) → f x ≡ g x) → at i s f ≡ at i s g
 at-each i (Ok x) f g h = h x

@@ -1,5 +1,5 @@
 -- `calc`.
-use Rattle.std.proofs.Common.{◌≡◌, ℕ, Bool, true, false, cond, ◌||◌, not, List, [], ◌∷◌, ◌++◌, map, Option, Some, None, is_none, option_map, refl, sym, ap, ◌∙◌, subst, true≢false}
+use Rattle.std.proofs.Common.{◌≡◌, ℕ, Bool, true, false, cond, List, [], ◌∷◌, ◌++◌, map, Option, Some, None, option_map, refl, sym, ap, ◌∙◌, subst}
 use Rattle.std.proofs.lemmas.Bool.{false≢true}
 use Rattle.std.proofs.lemmas.List.{append-nil}
 use Rattle.std.proofs.lemmas.List.Elements.{filter-append}
@@ -9,7 +9,6 @@ use Rattle.std.specs.Prelude.{unwrap_or}
 use Rattle.vtl_decimal.specs.Settings.{Settings}
 use Rattle.vtl_lists.specs.Apart.{all_apart}
 use Rattle.vtl_lists.proofs.Aparts.{apart_parts}
-use Rattle.vtl_tree.specs.CompExp.{CompExp}
 use Rattle.vtl_tree.specs.Structure.{columns_of, names_of, same_name, same_role}
 use Rattle.vtl_tree.specs.Structures.{structure_of}
 use Rattle.vtl_tree.specs.declared.structure.Component.{Component}
@@ -23,9 +22,9 @@ use Rattle.vtl_shapes.specs.Measures.{made}
 use Rattle.vtl_shapes.specs.Names.{component_of}
 use Rattle.vtl_shapes.specs.declared.targets.Target.{Target}
 use Rattle.vtl_typing.specs.Kinds.{exp_kind}
-use Rattle.vtl_meaning.specs.Columns.{column_named, identifiers_of}
-use Rattle.vtl_meaning.specs.Made.{AreFor, HasIdentifiers, IsCalculated, IsTyped}
-use Rattle.vtl_meaning.specs.Operators.{calculated_exp, calculated_exps, target_named, value_exp}
+use Rattle.vtl_meaning.specs.Columns.{column_named}
+use Rattle.vtl_meaning.specs.Made.{IsCalculated, IsTyped}
+use Rattle.vtl_meaning.specs.Operators.{calculated_exp, target_named, value_exp}
 use Rattle.vtl_typed.specs.Gives.{Gives, IsShaped}
 use Rattle.vtl_typed.proofs.Columns.{IsFound, all-found, of-columns, same-refl, same-true}
 use Rattle.vtl_typed.proofs.Expressions.{IsFor, for-map}
@@ -52,9 +51,11 @@ find-passes P p (y ∷ ys) x h e = go (p y) refl e (find-passes P p ys x h.1)
 
 pub items-found : (items : List ItemTree) → all_apart same_name (map (λ i. i.target) items) ≡ true → AllByRecursion (λ i. target_named items i.target ≡ Some i) items
 items-found [] e = tt
-items-found (i ∷ items) e =
-    (ap (λ b. cond b (Some i) (target_named items i.target)) (same-refl i.target), lists.joined (λ j. same_name i.target j.target ≡ false) (λ j. target_named items j.target ≡ Some j) (λ j. target_named (i ∷ items) j.target ≡ Some j) items
-      (λ j no found. ap (λ b. cond b (Some i) (target_named items j.target)) no ∙ found) (lists.unmapped (λ n. same_name i.target n ≡ false) (λ i. i.target) items parts.0) (items-found items parts.1))
+items-found (i ∷ items) e = (
+  ap (λ b. cond b (Some i) (target_named items i.target)) (same-refl i.target),
+  lists.joined (λ j. same_name i.target j.target ≡ false) (λ j. target_named items j.target ≡ Some j) (λ j. target_named (i ∷ items) j.target ≡ Some j) items
+      (λ j no found. ap (λ b. cond b (Some i) (target_named items j.target)) no ∙ found) (lists.unmapped (λ n. same_name i.target n ≡ false) (λ i. i.target) items parts.0) (items-found items parts.1),
+)
   where
     parts : AllByRecursion (λ n. same_name i.target n ≡ false) (map (λ i. i.target) items) × (all_apart same_name (map (λ i. i.target) items) ≡ true)
     parts = apart_parts same_name i.target (map (λ i. i.target) items) e
@@ -91,14 +92,17 @@ not-identifier y h = go (is_identifier y) refl
 pub calculated-fits : (p : Settings) (items : List ItemTree) (target : ItemTree → Target) (a : Structure) → IsShaped a → all_apart same_name (map (λ i. i.target) items) ≡ true → ((i : ItemTree) → (target i).name ≡ i.target) → AllByRecursion (IsItemFor p a target) items
     → Gives (λ s. IsShaped s × IsCalculated p items a s) (calc_form (map target items) a.components)
 calculated-fits p items target a ia apart names h =
-    shaped-gives (λ s. IsShaped s × IsCalculated p items a s) (old ++ new) (λ s. (s, record {
-      well_formed = s.well_formed;
-      identifiers = (ap names_of same, ap (map (λ x. x.kind)) same);
-      free = lists.joined (IsFound xs) (λ x. is_identifier x ≡ true) (λ x. target_named items x.name ≡ None) (filter is_identifier xs) free (lists.filtered (IsFound xs) is_identifier xs (all-found a ia.well_formed)) (lists.passing is_identifier xs);
-      columns = for-map p (columns_of a) (calculated_exp items (columns_of a)) (columns_of (structure_of (old ++ new))) (of-columns Good (structure_of (old ++ new)) (lists.appended Good old new
-        (lists.mapped Good (calculated ts) xs (lists.weaker (λ x. IsFor p (columns_of a) (column_named (columns_of a) x.name) x) (λ x. Good (calculated ts x)) xs good-old (found-columns p a ia)))
-        (lists.mapped Good target_component (filter (is_new xs) ts) (lists.filtered (λ t. Good (target_component t)) (is_new xs) ts (lists.mapped (λ t. Good (target_component t)) target items (lists.joined (IsItemFor p a target) (λ i. target_named items i.target ≡ Some i) (λ i. Good (target_component (target i))) items good-new h (items-found items apart)))))))
-    }))
+    shaped-gives (λ s. IsShaped s × IsCalculated p items a s) (old ++ new) (λ s. (
+      s,
+      record {
+        well_formed = s.well_formed;
+        identifiers = (ap names_of same, ap (map (λ x. x.kind)) same);
+        free = lists.joined (IsFound xs) (λ x. is_identifier x ≡ true) (λ x. target_named items x.name ≡ None) (filter is_identifier xs) free (lists.filtered (IsFound xs) is_identifier xs (all-found a ia.well_formed)) (lists.passing is_identifier xs);
+        columns = for-map p (columns_of a) (calculated_exp items (columns_of a)) (columns_of (structure_of (old ++ new))) (of-columns Good (structure_of (old ++ new)) (lists.appended Good old new
+            (lists.mapped Good (calculated ts) xs (lists.weaker (λ x. IsFor p (columns_of a) (column_named (columns_of a) x.name) x) (λ x. Good (calculated ts x)) xs good-old (found-columns p a ia)))
+            (lists.mapped Good target_component (filter (is_new xs) ts) (lists.filtered (λ t. Good (target_component t)) (is_new xs) ts (lists.mapped (λ t. Good (target_component t)) target items (lists.joined (IsItemFor p a target) (λ i. target_named items i.target ≡ Some i) (λ i. Good (target_component (target i))) items good-new h (items-found items apart)))))));
+      },
+    ))
   where
     xs : List Component
     xs = a.components

@@ -1,12 +1,12 @@
 -- `if` on data sets.
-use Rattle.std.proofs.Common.{◌≡◌, ℕ, suc, Bool, true, false, cond, ◌&&◌, ◌||◌, not, List, [], ◌∷◌, ◌++◌, length, map, Option, Some, None, refl, sym, ap, ◌∙◌, subst, true≢false, arith}
+use Rattle.std.proofs.Common.{◌≡◌, true, false, ◌&&◌, not, List, [], ◌∷◌, ◌++◌, length, map, Some, None, refl, sym, ap, ◌∙◌, subst, true≢false, arith}
 use Rattle.std.proofs.lemmas.Bool.{eqb-true, false≢true}
-use Rattle.std.specs.List.{AllByRecursion, filter, list_all}
+use Rattle.std.specs.List.{AllByRecursion, filter}
 use Rattle.std.specs.Prelude.{nat_eq}
 use Rattle.vtl_cell.specs.ScalarKinds.{meets}
 use Rattle.vtl_cell.specs.declared.kind.Kind.{Kind}
 use Rattle.vtl_cell.specs.declared.kind.Kind.TheVariants as k
-use Rattle.vtl_tree.specs.Structure.{columns_of, names_of, of_role}
+use Rattle.vtl_tree.specs.Structure.{columns_of}
 use Rattle.vtl_tree.specs.Structures.{is_null_kind, structure_of}
 use Rattle.vtl_tree.specs.declared.structure.Component.{Component}
 use Rattle.vtl_tree.specs.declared.structure.Role.TheVariants as role
@@ -18,13 +18,13 @@ use Rattle.vtl_shapes.specs.Operands.{agree, agreed_identifiers, all_agree, all_
 use Rattle.vtl_shapes.specs.Pairs.{are_choices, if_form, if_tests}
 use Rattle.vtl_shapes.specs.Shape.{shaped}
 use Rattle.vtl_shapes.specs.declared.operands.Compared.TheVariants as compared
-use Rattle.vtl_meaning.specs.Columns.{identifiers_of, measures_of, place_of}
-use Rattle.vtl_meaning.specs.Made.{AreAmong, IsAlternative, IsChoice, IsColumnAt}
+use Rattle.vtl_meaning.specs.Columns.{identifiers_of, place_of}
+use Rattle.vtl_meaning.specs.Made.{AreAmong, IsChoice, IsColumnAt}
 use Rattle.vtl_typed.specs.Gives.{ArePassed, Gives, IsShaped}
 use Rattle.vtl_typed.proofs.Columns.{IsFound, at-place, found-filter, in-columns, into-columns}
 use Rattle.vtl_typed.proofs.Lists as lists
 use Rattle.vtl_typed.proofs.Measured.{has-identifiers}
-use Rattle.vtl_typed.proofs.Shapes.{AreParts, measure-roles, parts-attributes, parts-columns, parts-identifiers, parts-measures, shaped-gives}
+use Rattle.vtl_typed.proofs.Shapes.{AreParts, measure-roles, parts-columns, parts-identifiers, parts-measures, shaped-gives}
 use Rattle.vtl_typed.proofs.Steps.{tested-then}
 use Rattle.vtl_typed.proofs.Tests.{and-true, not-false}
 use Rattle.vtl_typed.proofs.Twins.{HasTwin, agreed-kinds, agreed-names, agreed-roles, within-twins}
@@ -101,5 +101,5 @@ chosen-fits t a b it ia ib =
           first = record { there = (agreeing a agreed.0).0; back = (agreeing a agreed.0).1; measures = subst (λ l. AreAmong l (columns_of a)) (sym (parts-measures ids ms are)) own };
           second = record { there = (agreeing b agreed.1.0).0; back = (agreeing b agreed.1.0).1; measures = subst (λ l. AreAmong l (columns_of b)) (sym (parts-measures ids ms are)) (same-measures a b ib within.0) };
           identifiers = has-identifiers ids ms (identifiers_of t) are (agreed-names (a ∷ b ∷ []) t.components) (agreed-kinds (a ∷ b ∷ []) t.components);
-          no_attributes = parts-columns ids ms are ∙ ap (λ l. l ++ ms) (sym (parts-identifiers ids ms are)) ∙ ap (λ l. identifiers_of (structure_of (ids ++ ms)) ++ l) (sym (parts-measures ids ms are))
+          no_attributes = parts-columns ids ms are ∙ ap (λ l. l ++ ms) (sym (parts-identifiers ids ms are)) ∙ ap (λ l. identifiers_of (structure_of (ids ++ ms)) ++ l) (sym (parts-measures ids ms are));
         }

@@ -1,17 +1,14 @@
 -- Clauses on typed data sets.
 use Rattle.std.proofs.Common.{◌≡◌, ℕ, Bool, true, false, cond, not, ◌||◌, List, [], ◌∷◌, ◌++◌, map, Option, Some, None, Result, Ok, Err, refl, sym, ap, ◌∙◌, subst, true≢false}
-use Rattle.std.proofs.lemmas.Bool.{false≢true}
 use Rattle.std.specs.List.{AllByRecursion, list_any}
-use Rattle.std.specs.Option.{option_map_or}
 use Rattle.std.specs.Prelude.{unwrap_or}
 use Rattle.vtl_decimal.specs.Settings.{Settings}
 use Rattle.vtl_lists.specs.Apart.{all_apart}
 use Rattle.vtl_cell.specs.Kinds.{is_of}
 use Rattle.vtl_cell.specs.ScalarKinds.{meets}
-use Rattle.vtl_cell.specs.declared.cell.Cell.{Cell}
 use Rattle.vtl_cell.specs.declared.kind.Kind.{Kind}
 use Rattle.vtl_cell.specs.declared.kind.Kind.TheVariants as k
-use Rattle.vtl_rule_tests.specs.Rules.{◌>>=◌, ruled}
+use Rattle.vtl_rule_tests.specs.Rules.{◌>>=◌}
 use Rattle.vtl_syntax.specs.declared.parts.Comp.{Comp}
 use Rattle.vtl_syntax.specs.declared.parts.GroupPart.{GroupPart}
 use Rattle.vtl_syntax.specs.declared.parts.Keeping.{Keeping}
@@ -23,7 +20,7 @@ use Rattle.vtl_syntax.specs.declared.parts.SubPart.{SubPart}
 use Rattle.vtl_syntax.specs.declared.word_groups.WrittenRole.{WrittenRole}
 use Rattle.vtl_syntax.specs.declared.word_groups.WrittenRole.TheVariants as written
 use Rattle.vtl_tree.specs.CompExp.{CompExp}
-use Rattle.vtl_tree.specs.Structure.{columns_of, same_name}
+use Rattle.vtl_tree.specs.Structure.{same_name}
 use Rattle.vtl_tree.proofs.StructuresLemmas.{apart_push}
 use Rattle.vtl_tree.specs.declared.structure.Component.{Component}
 use Rattle.vtl_tree.specs.declared.structure.Role.{Role}
@@ -34,7 +31,7 @@ use Rattle.vtl_nodes.specs.Trees.{FormTree, ItemTree, NodeTree, ValueTree, struc
 use Rattle.vtl_nodes.specs.declared.clauses.SubItem.{SubItem}
 use Rattle.vtl_shapes.specs.Choices.{chosen, is_identifier_name}
 use Rattle.vtl_shapes.specs.Clauses.{aggr_form, calc_form, pivot_form, rename_form, target_tests, unpivot_form}
-use Rattle.vtl_shapes.specs.Names.{component_of, is_among, known}
+use Rattle.vtl_shapes.specs.Names.{is_among, known}
 use Rattle.vtl_shapes.specs.Shape.{shaped}
 use Rattle.vtl_shapes.specs.declared.choices.Choice.TheVariants as choice
 use Rattle.vtl_shapes.specs.declared.names.Wanted.{Wanted}
@@ -44,18 +41,17 @@ use Rattle.vtl_typing.specs.Columns.{name_of}
 use Rattle.vtl_typing.specs.Kinds.{exp_kind}
 use Rattle.vtl_typing.specs.Literals.{literal_cell, literal_kind, still_wanted, valued, wanted_or}
 use Rattle.vtl_forms.specs.Places.{Env, at_points, columns_in, name_written, written_by}
-use Rattle.vtl_forms.specs.Typed.{TypedTree, value, dataset, components_in, condition_in, value_in}
+use Rattle.vtl_forms.specs.Typed.{TypedTree, value, dataset, components_in, condition_in}
 use Rattle.vtl_forms.specs.declared.places.Joined.{Joined}
-use Rattle.vtl_forms.specs.declared.places.Place.{Place}
 use Rattle.vtl_forms.specs.declared.places.Place.TheVariants as place
 use Rattle.vtl_groups.specs.Aggregates.{grouping_choice, grouping_names}
-use Rattle.vtl_clauses.specs.Clauses.{cell_as, filter_form, kept_of, keeping_choice, keeping_form, keeping_tree, made_of, name_known, names_typed, pivot_of, references_in, renamed_of, renaming_form, renamings_typed, sub_form, sub_item, sub_known, sub_names, sub_of, sub_value, subs_typed, unpivot_of}
-use Rattle.vtl_clauses.specs.Targets.{aggr_clause, aggr_tree, calc_clause, calc_name, calc_tree, is_analytic, is_analytic_value, item_names, item_of, made_target, role_of, target_of, value_kind}
+use Rattle.vtl_clauses.specs.Clauses.{cell_as, filter_form, kept_of, keeping_form, made_of, name_known, names_typed, pivot_of, references_in, renamed_of, renaming_form, renamings_typed, sub_form, sub_item, sub_known, sub_names, sub_of, sub_value, subs_typed, unpivot_of}
+use Rattle.vtl_clauses.specs.Targets.{aggr_clause, aggr_tree, calc_clause, calc_name, is_analytic, is_analytic_value, item_names, item_of, made_target, role_of, target_of, value_kind}
 use Rattle.vtl_clauses.specs.declared.targets.Made.{Made}
-use Rattle.vtl_meaning.specs.Made.{IsCalculated, IsFiltered, IsLeft, IsMadeForm, IsRenamed, IsSub, IsTyped}
+use Rattle.vtl_meaning.specs.Made.{IsCalculated, IsFiltered, IsLeft, IsRenamed, IsSub, IsTyped}
 use Rattle.vtl_meaning.specs.Operators.{value_exp}
 use Rattle.vtl_typed.specs.Gives.{ArePassed, Gives, IsShaped}
-use Rattle.vtl_typed.specs.WellTyped.{IsNode, IsValueAt, IsWellTyped}
+use Rattle.vtl_typed.specs.WellTyped.{IsNode, IsWellTyped}
 use Rattle.vtl_typed.proofs.Calculated.{IsItemFor, calculated-fits}
 use Rattle.vtl_typed.proofs.Columns.{same-symm}
 use Rattle.vtl_typed.proofs.Left.{IsItem, IsName, IsNamed, drop-fits, keep-fits, known-gives, sub-fits}
@@ -139,7 +135,7 @@ pub pivot-gives : (env : Env) (id m : Comp) (n : NodeTree) → IsNode env.settin
 unfolding pivot_of
 pivot-gives env id m n is =
     node-gives env (nodes.pivot n (name_of id) (name_of m)) (pivot_form (name_of id) (name_of m) (components_in n)) (weaker IsShaped (IsMadeWith env (nodes.pivot n (name_of id) (name_of m))) (pivot_form (name_of id) (name_of m) (components_in n)) (λ s f. (f, is.1))
-      (pivot-shaped (name_of id) (name_of m) (components_in n)))
+    (pivot-shaped (name_of id) (name_of m) (components_in n)))
 
 pub unpivot-gives : (env : Env) (id m : Comp) (n : NodeTree) → IsNode env.settings env.known n → Gives (IsNode env.settings env.known) (unpivot_of id m n)
 unfolding unpivot_of
@@ -179,21 +175,21 @@ names-more (x ∷ items) i = ap (λ l. x.target ∷ l) (names-more items i)
 
 pub item-more : (p : Settings) (n : NodeTree) (r : Option WrittenRole) (c : Comp) (done : List ItemTree) (v : ValueTree) → AreTargets p n done → ArePassed (target_tests (components_in n) (item_names done) (name_of c)) → IsTargetValue p (columns_in n) v → AreTargets p n (done ++ item_of r c v ∷ [])
 item-more p n r c done v are passed is = record {
-    each = lists.appended (IsTarget p n) done (item_of r c v ∷ []) are.each (record { value = is; free = passed.1.0; role = written-role r }, tt);
-    apart = ap (all_apart same_name) (names-more done (item_of r c v)) ∙ apart_push (item_names done) (name_of c) are.apart (sym (among-any (name_of c) (item_names done)) ∙ passed.0)
-  }
+  each = lists.appended (IsTarget p n) done (item_of r c v ∷ []) are.each (record { value = is; free = passed.1.0; role = written-role r }, tt);
+  apart = ap (all_apart same_name) (names-more done (item_of r c v)) ∙ apart_push (item_names done) (name_of c) are.apart (sym (among-any (name_of c) (item_names done)) ∙ passed.0);
+}
 
 item-for : (p : Settings) (n : NodeTree) (i : ItemTree) → IsTarget p n i → is_analytic i ≡ false → IsItemFor p (structure_of n) (target_of (components_in n)) i
 item-for p n i is plain = go i.value refl is.value plain
   where
     go : (v : ValueTree) → i.value ≡ v → IsTargetValue p (columns_in n) v → is_analytic_value v ≡ false → IsItemFor p (structure_of n) (target_of (components_in n)) i
     go (nodes.scalar e) s t plain = record {
-        name = refl;
-        role = is.role;
-        kind = ap (λ v. exp_kind (value_exp v)) s ∙ sym (ap (value_kind (components_in n)) s);
-        typed = subst (λ v. IsTyped p (columns_in n) (value_exp v)) (sym s) t;
-        free = is.free
-      }
+      name = refl;
+      role = is.role;
+      kind = ap (λ v. exp_kind (value_exp v)) s ∙ sym (ap (value_kind (components_in n)) s);
+      typed = subst (λ v. IsTyped p (columns_in n) (value_exp v)) (sym s) t;
+      free = is.free;
+    }
     go (nodes.analytic call) s t plain = absurd (true≢false plain)
 
 pub calc-gives : (env : Env) (n : NodeTree) (items : List ItemTree) → IsNode env.settings env.known n → AreTargets env.settings n items → Gives (IsNode env.settings env.known) (calc_clause n items)
@@ -207,8 +203,8 @@ calc-gives env n items is are = go (list_any is_analytic items) refl
     go true e = node-gives env (nodes.analytic_of n (nodes.of_items items)) r (weaker IsShaped (IsMadeWith env (nodes.analytic_of n (nodes.of_items items))) r (λ s f. (f, is.1)) (calc-shaped (map (target_of (components_in n)) items) (components_in n)))
     go false e =
         node-gives env (nodes.calc n items) r (weaker (λ s. IsShaped s × IsCalculated env.settings items (structure_of n) s) (IsMadeWith env (nodes.calc n items)) r (λ s f. (f.0, (is.1, f.1)))
-          (calculated-fits env.settings items (target_of (components_in n)) (structure_of n) is.0 are.apart (λ i. refl)
-            (lists.joined (IsTarget env.settings n) (λ i. is_analytic i ≡ false) (IsItemFor env.settings (structure_of n) (target_of (components_in n))) items (item-for env.settings n) are.each (lists.any_fails is_analytic items e))))
+        (calculated-fits env.settings items (target_of (components_in n)) (structure_of n) is.0 are.apart (λ i. refl)
+        (lists.joined (IsTarget env.settings n) (λ i. is_analytic i ≡ false) (IsItemFor env.settings (structure_of n) (target_of (components_in n))) items (item-for env.settings n) are.each (lists.any_fails is_analytic items e))))
 
 -- ---- `aggr`
 pub aggr-gives : (env : Env) (g : Option GroupPart) (n : NodeTree) (made : List Made) (having : Option CompExp) → IsNode env.settings env.known n → Gives (IsNode env.settings env.known) (aggr_clause g n made having)

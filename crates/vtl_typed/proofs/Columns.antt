@@ -1,12 +1,11 @@
 -- Columns by their names: where they stand, and that the order of columns does not matter.
-use Rattle.std.proofs.Common.{◌≡◌, ℕ, zero, suc, ◌+◌, ◌≤◌, Bool, true, false, cond, ◌||◌, not, List, [], ◌∷◌, ◌++◌, length, map, Option, Some, None, refl, sym, ap, ◌∙◌, subst, true≢false, arith}
+use Rattle.std.proofs.Common.{◌≡◌, ℕ, suc, ◌+◌, Bool, true, false, cond, ◌||◌, not, List, [], ◌∷◌, ◌++◌, Some, refl, sym, ap, ◌∙◌, subst, arith}
 use Rattle.std.proofs.lemmas.Bool.{false≢true}
 use Rattle.std.specs.Cmp.Lexicographic.{bytes_decides, nat_list_eq_equiv}
-use Rattle.std.specs.List.{AllByRecursion, filter, find, list_any, position_or_len}
+use Rattle.std.specs.List.{AllByRecursion, filter, list_any}
 use Rattle.std.specs.Option.{option_map_or}
 use Rattle.vtl_lists.specs.Apart.{all_apart}
 use Rattle.vtl_lists.proofs.Aparts.{apart_parts}
-use Rattle.vtl_cell.specs.declared.kind.Kind.{Kind}
 use Rattle.vtl_cell.specs.declared.kind.Kind.TheVariants as k
 use Rattle.vtl_tree.specs.Structure.{IsStructure, columns_of, names_of, of_role, same_name, same_role}
 use Rattle.vtl_tree.specs.declared.structure.Component.{Component}
@@ -14,8 +13,8 @@ use Rattle.vtl_tree.specs.declared.structure.Role.{Role}
 use Rattle.vtl_tree.specs.declared.structure.Role.TheVariants as role
 use Rattle.vtl_tree.specs.declared.structure.Structure.{Structure}
 use Rattle.vtl_shapes.specs.Names.{component_of}
-use Rattle.vtl_meaning.specs.Columns.{identifiers_of, kind_named, measures_of, place_of}
-use Rattle.vtl_meaning.specs.Made.{AreAmong, IsColumnAt}
+use Rattle.vtl_meaning.specs.Columns.{kind_named, place_of}
+use Rattle.vtl_meaning.specs.Made.{IsColumnAt}
 use Rattle.vtl_typed.proofs.Lists as lists
 
 -- ---- names
@@ -140,8 +139,8 @@ from-columns P s h =
     lists.joined If Two P s.components (λ x f g. role-cases x.role (P x) f g.0 g.1)
     (lists.from_kept P (λ x. same_role x.role role.Identifier) s.components (lists.front P (of_role role.Identifier s) (of_role role.Measure s) before))
     (lists.both (λ x. same_role x.role role.Measure ≡ true → P x) (λ x. same_role x.role role.Attribute ≡ true → P x) s.components
-      (lists.from_kept P (λ x. same_role x.role role.Measure) s.components (lists.back P (of_role role.Identifier s) (of_role role.Measure s) before))
-      (lists.from_kept P (λ x. same_role x.role role.Attribute) s.components (lists.back P (of_role role.Identifier s ++ of_role role.Measure s) (of_role role.Attribute s) h)))
+    (lists.from_kept P (λ x. same_role x.role role.Measure) s.components (lists.back P (of_role role.Identifier s) (of_role role.Measure s) before))
+    (lists.from_kept P (λ x. same_role x.role role.Attribute) s.components (lists.back P (of_role role.Identifier s ++ of_role role.Measure s) (of_role role.Attribute s) h)))
   where
     If : Component → Type 0
     If x = same_role x.role role.Identifier ≡ true → P x

@@ -1,21 +1,18 @@
 -- Expressions that are typed over columns, and lists of them.
-use Rattle.std.proofs.Common.{◌≡◌, ℕ, zero, suc, ◌+◌, List, [], ◌∷◌, ◌++◌, length, map, Option, Some, None, refl, sym, ap, ◌∙◌, subst, arith}
+use Rattle.std.proofs.Common.{◌≡◌, ℕ, zero, suc, ◌+◌, List, [], ◌∷◌, ◌++◌, length, map, Some, refl, sym, ap, ◌∙◌, subst, arith}
 use Rattle.std.specs.List.{AllByRecursion}
 use Rattle.vtl_decimal.specs.Settings.{Settings}
 use Rattle.vtl_cell.specs.ScalarKinds.{kinds_of}
 use Rattle.vtl_cell.specs.declared.kind.Kind.{Kind}
 use Rattle.vtl_cell.specs.declared.operator.ScalarOp.{ScalarOp}
 use Rattle.vtl_tree.specs.CompExp.{CompExp, CompExps, column, const, call, aggregate, comp_exp, no_comp_exps}
-use Rattle.vtl_tree.specs.Structure.{columns_of}
 use Rattle.vtl_tree.specs.View.{comp_exps_of}
 use Rattle.vtl_tree.specs.declared.structure.Component.{Component}
-use Rattle.vtl_tree.specs.declared.structure.Structure.{Structure}
 use Rattle.vtl_shapes.specs.Names.{component_of}
 use Rattle.vtl_typing.specs.Kinds.{exp_kind}
-use Rattle.vtl_meaning.specs.Columns.{column_behind, column_named, columns_named, kind_named, place_of}
+use Rattle.vtl_meaning.specs.Columns.{column_behind, column_named, kind_named, place_of}
 use Rattle.vtl_meaning.specs.Made.{AreFor, AreTyped, IsColumnAt, IsTyped, kinds_in}
-use Rattle.vtl_typed.specs.Gives.{IsShaped}
-use Rattle.vtl_typed.proofs.Columns.{IsFound, at-place, kind-found, in-columns}
+use Rattle.vtl_typed.proofs.Columns.{at-place, kind-found}
 
 -- ---- kinds
 pub kinds-listed : (es : List CompExp) → kinds_in (comp_exps_of es) ≡ map exp_kind es

@@ -1,8 +1,8 @@
 -- Aggregates and analytic calls.
-use Rattle.std.proofs.Common.{◌≡◌, ℕ, Bool, true, false, cond, not, List, [], ◌∷◌, map, Option, Some, None, Result, Ok, Err, refl, sym, subst}
+use Rattle.std.proofs.Common.{◌≡◌, ℕ, Bool, true, false, cond, not, List, [], ◌∷◌, Option, Some, None, Result, Err, refl}
 use Rattle.std.specs.Option.{IfSome, is_some, option_map}
 use Rattle.vtl_decimal.specs.Settings.{Settings}
-use Rattle.vtl_rule_tests.specs.Rules.{◌>>=◌, ruled, Tests}
+use Rattle.vtl_rule_tests.specs.Rules.{ruled, Tests}
 use Rattle.vtl_syntax.specs.Trees as tree
 use Rattle.vtl_syntax.specs.Trees.{Exp, MaybeExp}
 use Rattle.vtl_syntax.specs.declared.parts.GroupPart.{GroupPart}
@@ -10,7 +10,6 @@ use Rattle.vtl_syntax.specs.declared.word_groups.AggregateName.{AggregateName}
 use Rattle.vtl_cell.specs.declared.kind.Kind.{Kind}
 use Rattle.vtl_tree.specs.CompExp.{CompExp}
 use Rattle.vtl_tree.specs.declared.structure.Component.{Component}
-use Rattle.vtl_tree.specs.declared.structure.Structure.{Structure}
 use Rattle.vtl_nodes.specs.Trees as nodes
 use Rattle.vtl_nodes.specs.Trees.{NodeTree, ValueTree, structure_of}
 use Rattle.vtl_nodes.specs.declared.calls.AnalyticOp.{AnalyticOp}
@@ -22,21 +21,21 @@ use Rattle.vtl_shapes.specs.declared.measures.Outcome.TheVariants as outcome
 use Rattle.vtl_typing.specs.Columns.{column_typed}
 use Rattle.vtl_typing.specs.Kinds.{exp_kind}
 use Rattle.vtl_forms.specs.Places.{Env, Written, name_written, written_in}
-use Rattle.vtl_forms.specs.Typed.{TypedTree, value, dataset, components_in, made_of}
+use Rattle.vtl_forms.specs.Typed.{TypedTree, value, dataset, components_in}
 use Rattle.vtl_forms.specs.declared.places.Inside.{Inside}
 use Rattle.vtl_forms.specs.declared.places.Place.{Place}
 use Rattle.vtl_forms.specs.declared.places.Place.TheVariants as place
-use Rattle.vtl_groups.specs.Aggregates.{aggregate_node, aggregate_tree, call_kind, component_call, count_call, group_call, group_call_by, group_operand, grouping_choice, grouping_names, grouping_typed, is_group, no_dataset, of_measure, outcome_of, written_call}
+use Rattle.vtl_groups.specs.Aggregates.{aggregate_node, aggregate_tree, call_kind, component_call, count_call, group_call, group_call_by, group_operand, grouping_choice, grouping_names, no_dataset, of_measure, outcome_of, written_call}
 use Rattle.vtl_groups.specs.Windowed as windowed
 use Rattle.vtl_groups.specs.Windowed.{argument, call_of, call_tree, is_misplaced, is_unfit_over, or_count, over_form, over_node, over_parts, over_structure, over_typed, rank_call, suits, target_form, target_typed, value_call}
 use Rattle.vtl_groups.specs.declared.calls.Call.{Call}
 use Rattle.vtl_meaning.specs.Made.{IsTyped}
 use Rattle.vtl_walk.specs.Typing.{or_call}
 use Rattle.vtl_typed.specs.Gives.{Gives, IsShaped}
-use Rattle.vtl_typed.specs.WellTyped.{IfUngrouped, IsNode, IsValueAt, IsWellTyped}
+use Rattle.vtl_typed.specs.WellTyped.{IfUngrouped, IsNode, IsWellTyped}
 use Rattle.vtl_typed.proofs.Sets.{shape-gives}
 use Rattle.vtl_typed.proofs.OtherForms.{measured-shaped}
-use Rattle.vtl_typed.proofs.Steps.{after, anything, tested, then, weaker}
+use Rattle.vtl_typed.proofs.Steps.{after, tested, then, weaker}
 
 -- ---- of a data set
 pub aggregate-gives : (env : Env) (at : Place) (f : AggregateName) (g : Option GroupPart) (a : NodeTree) (having : Option CompExp) → IsNode env.settings env.known a → Gives (IsWellTyped env at) (aggregate_node f g a having)

@@ -1,11 +1,8 @@
 -- Clauses that leave some of the components: `keep`, `drop`, `sub`, and `a#m`.
-use Rattle.std.proofs.Common.{◌≡◌, ℕ, Bool, true, false, cond, ◌||◌, not, List, [], ◌∷◌, ◌++◌, map, Option, Some, None, refl, sym, ap, ◌∙◌, subst, true≢false}
+use Rattle.std.proofs.Common.{◌≡◌, ℕ, Bool, true, false, cond, ◌||◌, not, List, [], ◌∷◌, map, Option, Some, None, refl, sym, ap, ◌∙◌, subst}
 use Rattle.std.proofs.lemmas.Bool.{false≢true}
 use Rattle.std.specs.List.{AllByRecursion, filter, list_any}
-use Rattle.std.specs.Option.{option_map_or}
 use Rattle.vtl_cell.specs.Kinds.{is_of}
-use Rattle.vtl_cell.specs.declared.kind.Kind.TheVariants as k
-use Rattle.vtl_rule_tests.specs.Rules.{◌>>=◌, ruled}
 use Rattle.vtl_tree.specs.Structure.{columns_of, names_of, same_name}
 use Rattle.vtl_tree.specs.Structures.{structure_of}
 use Rattle.vtl_tree.specs.declared.structure.Component.{Component}
@@ -18,10 +15,10 @@ use Rattle.vtl_shapes.specs.declared.choices.Choice.TheVariants as choice
 use Rattle.vtl_shapes.specs.declared.names.Wanted.{Wanted}
 use Rattle.vtl_shapes.specs.declared.names.Wanted.TheVariants as wanted
 use Rattle.vtl_meaning.specs.Columns.{identifiers_of, kind_named, place_of}
-use Rattle.vtl_meaning.specs.Made.{AreAmong, HasIdentifiers, IsColumnAt, IsLeft, IsSub}
-use Rattle.vtl_typed.specs.Gives.{ArePassed, Gives, IsShaped}
+use Rattle.vtl_meaning.specs.Made.{AreAmong, IsColumnAt, IsLeft, IsSub}
+use Rattle.vtl_typed.specs.Gives.{Gives, IsShaped}
 use Rattle.vtl_typed.proofs.Chosen.{own-columns}
-use Rattle.vtl_typed.proofs.Columns.{HasName, IsFound, all-found, at-place, found-filter, has-itself, kind-found, name-found, of-columns, same-true}
+use Rattle.vtl_typed.proofs.Columns.{HasName, IsFound, all-found, at-place, found-filter, has-itself, kind-found, of-columns, same-true}
 use Rattle.vtl_typed.proofs.Lists as lists
 use Rattle.vtl_typed.proofs.Shapes.{shaped-gives}
 use Rattle.vtl_typed.proofs.Steps.{after, tested}
@@ -59,11 +56,14 @@ left-columns p a ia = of-columns (λ x. IsColumnAt (place_of x.name (columns_of 
 
 left-fits : (p : Component → Bool) (a : Structure) → IsShaped a → AllByRecursion (λ x. is_identifier x ≡ true → p x ≡ true) a.components → Gives (λ s. IsShaped s × IsLeft a s) (shaped (filter p a.components))
 left-fits p a ia all =
-    shaped-gives (λ s. IsShaped s × IsLeft a s) (filter p a.components) (λ s. (s, record {
-      well_formed = s.well_formed;
-      identifiers = (ap names_of same, ap (map (λ x. x.kind)) same);
-      columns = left-columns p a ia
-    }))
+    shaped-gives (λ s. IsShaped s × IsLeft a s) (filter p a.components) (λ s. (
+      s,
+      record {
+        well_formed = s.well_formed;
+        identifiers = (ap names_of same, ap (map (λ x. x.kind)) same);
+        columns = left-columns p a ia;
+      },
+    ))
   where
     same : filter is_identifier (filter p a.components) ≡ filter is_identifier a.components
     same = left-identifiers p a.components all
@@ -103,14 +103,17 @@ among-items name (i ∷ items) = ap (λ b. same_name i.id name || b) (among-item
 
 pub sub-fits : (items : List SubItem) (a : Structure) → IsShaped a → AllByRecursion (IsItem a.components) items → Gives (λ s. IsShaped s × IsSub items a s) (shaped (chosen choice.Drop (map (λ i. i.id) items) a.components))
 sub-fits items a ia h =
-    shaped-gives (λ s. IsShaped s × IsSub items a s) (filter left a.components) (λ s. (s, record {
-      well_formed = s.well_formed;
-      columns = left-columns left a ia;
-      left = some;
-      identifiers = lists.joined (λ x. left x ≡ true → is_identifier x ≡ true → HasName ids x) (λ x. is_identifier x ≡ true) (λ x. (list_any (λ y. same_name y.name x.name) ids || list_any (λ i. same_name i.id x.name) items) ≡ true) (filter is_identifier a.components)
-        each (lists.filtered (λ x. left x ≡ true → is_identifier x ≡ true → HasName ids x) is_identifier a.components kept) (lists.passing is_identifier a.components);
-      values = lists.weaker (IsItem a.components) (λ i. (is_of (kind_named i.id (identifiers_of a)) i.value ≡ true) × IsColumnAt (place_of i.id (identifiers_of a)) i.id (kind_named i.id (identifiers_of a)) (identifiers_of a)) items value h
-    }))
+    shaped-gives (λ s. IsShaped s × IsSub items a s) (filter left a.components) (λ s. (
+      s,
+      record {
+        well_formed = s.well_formed;
+        columns = left-columns left a ia;
+        left = some;
+        identifiers = lists.joined (λ x. left x ≡ true → is_identifier x ≡ true → HasName ids x) (λ x. is_identifier x ≡ true) (λ x. (list_any (λ y. same_name y.name x.name) ids || list_any (λ i. same_name i.id x.name) items) ≡ true) (filter is_identifier a.components)
+            each (lists.filtered (λ x. left x ≡ true → is_identifier x ≡ true → HasName ids x) is_identifier a.components kept) (lists.passing is_identifier a.components);
+        values = lists.weaker (IsItem a.components) (λ i. (is_of (kind_named i.id (identifiers_of a)) i.value ≡ true) × IsColumnAt (place_of i.id (identifiers_of a)) i.id (kind_named i.id (identifiers_of a)) (identifiers_of a)) items value h;
+      },
+    ))
   where
     left : Component → Bool
     left = is_chosen choice.Drop (map (λ i. i.id) items)

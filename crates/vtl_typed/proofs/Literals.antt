@@ -1,5 +1,5 @@
 -- The values of literals.
-use Rattle.std.proofs.Common.{◌≡◌, ℕ, Bool, true, false, cond, ◌^◌, ◌-◌, ◌%◌, ◌/◌, ◌⊎◌, inl, inr, List, [], ◌∷◌, ◌++◌, Option, Some, None, option_map, option_and_then, Result, Ok, Err, refl, sym, ap, ◌∙◌, subst, true≢false}
+use Rattle.std.proofs.Common.{◌≡◌, ℕ, Bool, true, false, cond, ◌^◌, ◌-◌, ◌%◌, ◌/◌, ◌⊎◌, inl, inr, List, [], ◌∷◌, ◌++◌, Option, Some, None, option_map, option_and_then, Result, Ok, Err, refl, sym, subst, true≢false}
 use Rattle.std.proofs.lemmas.Bool.{false≢true}
 use Rattle.std.proofs.lemmas.Option.{IfSome_then}
 use Rattle.std.specs.List.{AllByRecursion}
@@ -15,7 +15,6 @@ use Rattle.vtl_rule_tests.specs.Rules.{◌>>=◌}
 use Rattle.vtl_cell.specs.Conversion.{as_kind}
 use Rattle.vtl_cell.specs.Kinds.{is_of}
 use Rattle.vtl_cell.specs.Profile.{IsOfProfile}
-use Rattle.vtl_cell.specs.Reading.{reads}
 use Rattle.vtl_cell.specs.ScalarArithmetic.{integer, negation_of, number, units}
 use Rattle.vtl_cell.specs.ScalarKinds.{meets}
 use Rattle.vtl_cell.specs.declared.cell.Cell.{Cell}
@@ -30,8 +29,8 @@ use Rattle.vtl_syntax.specs.declared.parts.Numeral.TheVariants as numeral
 use Rattle.vtl_syntax.specs.declared.parts.Numeral.{Numeral as Written}
 use Rattle.vtl_syntax.specs.declared.word_groups.CastKind.{CastKind}
 use Rattle.vtl_syntax.specs.declared.word_groups.CastKind.TheVariants as cast
-use Rattle.vtl_tree.specs.CompExp.{CompExp, const}
-use Rattle.vtl_typing.specs.Literals.{cast_kind, constant_cell, constant_typed, integer_written, is_null_kind, literal_cell, literal_kind, members_typed, numeral_cell, numeral_kind, set_typed, still_wanted, valued, wanted_or, with_sign, written}
+use Rattle.vtl_tree.specs.CompExp.{const}
+use Rattle.vtl_typing.specs.Literals.{cast_kind, constant_cell, constant_typed, integer_written, is_null_kind, literal_cell, literal_kind, members_typed, numeral_cell, numeral_kind, set_typed, still_wanted, valued, wanted_or, written}
 use Rattle.vtl_tree.specs.declared.structure.Component.{Component}
 use Rattle.vtl_time.specs.Days.{read_day_of}
 use Rattle.vtl_time.specs.Periods.{read_period_of}
@@ -149,7 +148,7 @@ members-give p is_free kind done [] h = h
 members-give p is_free kind done (l ∷ ls) h =
     after (AllByRecursion (IsOfProfile p)) (wanted_or (still_wanted is_free kind (literal_kind l))) (λ kind. valued (literal_cell p l) >>= λ cell. members_typed p is_free kind (done ++ cell ∷ []) ls)
     (λ kind. then (IsCell p (literal_kind l)) (AllByRecursion (IsOfProfile p)) (valued (literal_cell p l)) (λ cell. members_typed p is_free kind (done ++ cell ∷ []) ls) (valued-gives (IsCell p (literal_kind l)) (literal_cell p l) (literal-cell p l))
-      (λ cell is. members-give p is_free kind (done ++ cell ∷ []) ls (lists.appended (IsOfProfile p) done (cell ∷ []) h (is.0, tt))))
+    (λ cell is. members-give p is_free kind (done ++ cell ∷ []) ls (lists.appended (IsOfProfile p) done (cell ∷ []) h (is.0, tt))))
 
 pub set-gives : (p : Settings) (kind : Kind) (ls : List Literal) → Gives (AllByRecursion (IsOfProfile p)) (set_typed p kind ls)
 set-gives p kind ls = members-give p (is_null_kind kind) kind [] ls tt

@@ -1,6 +1,6 @@
 -- Operators on the measures of one operand.
-use Rattle.std.proofs.Common.{◌≡◌, ℕ, suc, ◌+◌, Bool, true, false, cond, ◌&&◌, List, [], ◌∷◌, ◌++◌, length, map, Option, Some, None, is_none, refl, sym, ap, ◌∙◌, subst, true≢false, arith}
-use Rattle.std.proofs.lemmas.Bool.{eqb-true, false≢true}
+use Rattle.std.proofs.Common.{◌≡◌, Bool, true, false, ◌&&◌, List, [], ◌∷◌, ◌++◌, length, map, Option, Some, None, is_none, refl, sym, ap, ◌∙◌, subst, true≢false, arith}
+use Rattle.std.proofs.lemmas.Bool.{eqb-true}
 use Rattle.std.proofs.lemmas.List.{map-append}
 use Rattle.std.specs.List.{AllByRecursion, filter}
 use Rattle.std.specs.Prelude.{nat_eq, unwrap_or}
@@ -16,7 +16,6 @@ use Rattle.vtl_tree.specs.declared.structure.Component.{Component}
 use Rattle.vtl_tree.specs.declared.structure.Role.TheVariants as role
 use Rattle.vtl_tree.specs.declared.structure.Structure.{Structure}
 use Rattle.vtl_nodes.specs.Trees.{MeasureTree}
-use Rattle.vtl_rule_tests.specs.Rules.{◌>>=◌}
 use Rattle.vtl_shapes.specs.Choices.{chosen, is_identifier}
 use Rattle.vtl_shapes.specs.Measures.{Gives as GivesKind, any_unmet, bool_var, given_measure, given_measures, is_measure, is_miscounted, is_unmet, measured_form, measured_tests, measures, namesake, paired}
 use Rattle.vtl_shapes.specs.Shape.{shaped}
@@ -26,10 +25,10 @@ use Rattle.vtl_shapes.specs.declared.measures.Outcome.TheVariants as outcome
 use Rattle.vtl_typing.specs.Kinds.{exp_kind}
 use Rattle.vtl_meaning.specs.Columns.{column_named, columns_named, identifiers_of, measures_of}
 use Rattle.vtl_meaning.specs.Made.{AreFor, HasIdentifiers, IsMeasured, IsTyped}
-use Rattle.vtl_meaning.specs.Operators.{for_measures, measured_exps, with_measure}
-use Rattle.vtl_typed.specs.Gives.{ArePassed, Gives, IsShaped}
+use Rattle.vtl_meaning.specs.Operators.{for_measures, with_measure}
+use Rattle.vtl_typed.specs.Gives.{Gives, IsShaped}
 use Rattle.vtl_typed.proofs.Columns.{IsFound, in-columns}
-use Rattle.vtl_typed.proofs.Expressions.{IsFor, call-typed, for-append, for-map, named-at, named-for}
+use Rattle.vtl_typed.proofs.Expressions.{IsFor, call-typed, for-append, for-map, named-for}
 use Rattle.vtl_typed.proofs.Lists as lists
 use Rattle.vtl_typed.proofs.Shapes.{AreParts, all-identifiers, identifier-roles, parts-columns, parts-identifiers, parts-measures, shaped-gives}
 use Rattle.vtl_typed.proofs.Steps.{tested-then}
@@ -125,12 +124,15 @@ pub measured-fits : (p : Settings) (m : MeasureTree) (a : Structure) (o : Outcom
 measured-fits p m a o g literals is by row before after =
     tested-then Q (measured_tests o g literals a.components) (λ u. shaped (chosen choice.Except [] a.components ++ ms))
     (λ passed. subst (λ ids. Gives Q (shaped (ids ++ ms))) (sym (all-identifiers a.components))
-      (shaped-gives Q (ids ++ ms) (λ s. (s, record {
+    (shaped-gives Q (ids ++ ms) (λ s. (
+      s,
+      record {
         well_formed = s.well_formed;
         identifiers = has-identifiers ids ms ids are refl refl;
         columns = for-parts p (columns_of a) ids ms (columns_of a) f (measures a.components) are (lists.filtered (λ y. IsFor p (columns_of a) (column_named (columns_of a) y.name) y) is_identifier a.components (found-columns p a is))
-            (for-given p (columns_of a) o m.op g None f a.components by passed.1.1.0 (lists.joined (λ x. is_none (paired g x.kind (namesake None x)) ≡ false) (IsFound (columns_of a)) Good (measures a.components) good (met-measures g None a.components passed.0) (lists.filtered (IsFound (columns_of a)) is_measure a.components (in-columns a is.well_formed))))
-      }))))
+            (for-given p (columns_of a) o m.op g None f a.components by passed.1.1.0 (lists.joined (λ x. is_none (paired g x.kind (namesake None x)) ≡ false) (IsFound (columns_of a)) Good (measures a.components) good (met-measures g None a.components passed.0) (lists.filtered (IsFound (columns_of a)) is_measure a.components (in-columns a is.well_formed))));
+      },
+    ))))
   where
     Q : Structure → Type 0
     Q s = IsShaped s × IsMeasured p m a s

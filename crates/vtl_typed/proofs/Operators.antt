@@ -1,15 +1,15 @@
 -- Operators on typed operands.
-use Rattle.std.proofs.Common.{◌≡◌, ℕ, Bool, true, false, cond, List, [], ◌∷◌, ◌++◌, length, map, Option, Some, None, option_map, not, Result, Ok, Err, refl, sym, ap, ◌∙◌}
+use Rattle.std.proofs.Common.{◌≡◌, ℕ, Bool, true, false, cond, List, [], ◌∷◌, length, map, Option, Some, None, option_map, not, Result, Ok, Err, refl}
 use Rattle.std.specs.List.{AllByRecursion}
 use Rattle.vtl_decimal.specs.Settings.{Settings}
 use Rattle.vtl_cell.specs.Profile.{IsOfProfile}
-use Rattle.vtl_cell.specs.ScalarKinds.{common_kind, is_set_of, kinds_of, truth_of_alike, truth_of_set}
+use Rattle.vtl_cell.specs.ScalarKinds.{common_kind, is_set_of, kinds_of}
 use Rattle.vtl_cell.specs.declared.cell.Cell.{Cell}
 use Rattle.vtl_cell.specs.declared.kind.Kind.{Kind}
 use Rattle.vtl_cell.specs.declared.kind.Kind.TheVariants as k
 use Rattle.vtl_cell.specs.declared.operator.ScalarOp.{ScalarOp}
 use Rattle.vtl_cell.specs.declared.operator.ScalarOp.TheVariants as op
-use Rattle.vtl_rule_tests.specs.Rules.{◌>>=◌, ruled}
+use Rattle.vtl_rule_tests.specs.Rules.{◌>>=◌}
 use Rattle.vtl_syntax.specs.declared.parts.Literal.{Literal}
 use Rattle.vtl_tree.specs.CompExp.{CompExp, const}
 use Rattle.vtl_tree.specs.Structure.{columns_of}
@@ -21,12 +21,12 @@ use Rattle.vtl_shapes.specs.Pairs as pairs
 use Rattle.vtl_shapes.specs.declared.choices.Choice.TheVariants as choice
 use Rattle.vtl_typing.specs.Calls.{call_form}
 use Rattle.vtl_typing.specs.Literals.{set_typed}
-use Rattle.vtl_forms.specs.Operators.{Operands, between_values, by_operands, given_structure, if_placed, is_binary, is_choice, membership, misplaced_rule, no_operands, of_two, on_choice, on_datasets, on_measures, on_operands, on_pair, on_values, operator_form, outcome_of, parted, set_form, takes_dataset, with_operand, with_value}
+use Rattle.vtl_forms.specs.Operators.{Operands, between_values, by_operands, given_structure, if_placed, is_binary, is_choice, membership, no_operands, of_two, on_choice, on_datasets, on_measures, on_operands, on_pair, operator_form, outcome_of, parted, set_form, takes_dataset, with_operand, with_value}
 use Rattle.vtl_forms.specs.Typed.{TypedTree, value, dataset, beside_kind, components_in, made_of}
 use Rattle.vtl_forms.specs.Places.{Env}
 use Rattle.vtl_forms.specs.declared.places.Place.{Place}
 use Rattle.vtl_forms.specs.declared.places.Place.TheVariants as place
-use Rattle.vtl_meaning.specs.Made.{IsChoice, IsMade, IsMadeForm, IsMeasured, IsPaired, IsTyped}
+use Rattle.vtl_meaning.specs.Made.{IsChoice, IsMadeForm, IsMeasured, IsPaired, IsTyped}
 use Rattle.vtl_typed.specs.Gives.{Gives, IsShaped}
 use Rattle.vtl_typed.specs.WellTyped.{IfUngrouped, IsNode, IsValueAt, IsWellTyped}
 use Rattle.vtl_typed.proofs.Chosen.{chosen-fits}
@@ -36,7 +36,7 @@ use Rattle.vtl_typed.proofs.Literals.{set-gives}
 use Rattle.vtl_typed.proofs.Measured.{IsGivenBy, measured-fits}
 use Rattle.vtl_typed.proofs.Paired.{paired-fits}
 use Rattle.vtl_typed.proofs.Steps.{tested-then, then, weaker}
-use Rattle.vtl_typed.proofs.Values.{at-any, value-tree, values-give}
+use Rattle.vtl_typed.proofs.Values.{value-tree, values-give}
 
 -- ---- what operators give of measures
 truth-of : {A : Type 0} (o : Option A) (kind : Kind) → option_map (λ x. k.Bool) o ≡ Some kind → kind ≡ k.Bool
@@ -137,22 +137,22 @@ measures-give env at o literals before after' a is hb ha =
     made-gives env at (measures (record { op = o; before = before; after = after' }) a) (given_structure o literals before after' (components_in a))
     (tested-then (IsMadeWith env (measures (record { op = o; before = before; after = after' }) a)) ((7, any_unmet (by_operands o before after') None (components_in a)) ∷ (8, any_unmet (between_values o before after') None (components_in a)) ∷ []) (λ u. measured_form (outcome_of o) (between_values o before after') literals choice.Except [] (components_in a))
     (λ passed. weaker (λ s. IsShaped s × IsMeasured env.settings (record { op = o; before = before; after = after' }) (structure_of a) s) (IsMadeWith env (measures (record { op = o; before = before; after = after' }) a)) (measured_form (outcome_of o) (between_values o before after') literals choice.Except [] (components_in a))
-      (λ s h. (h.0, (is.1, h.1)))
-      (measured-fits env.settings (record { op = o; before = before; after = after' }) (structure_of a) (outcome_of o) (between_values o before after') literals is.0 (outcome-given o) (λ x b. refl) (over-columns env.settings (columns_of (structure_of a)) before hb) (over-columns env.settings (columns_of (structure_of a)) after' ha))))
+    (λ s h. (h.0, (is.1, h.1)))
+    (measured-fits env.settings (record { op = o; before = before; after = after' }) (structure_of a) (outcome_of o) (between_values o before after') literals is.0 (outcome-given o) (λ x b. refl) (over-columns env.settings (columns_of (structure_of a)) before hb) (over-columns env.settings (columns_of (structure_of a)) after' ha))))
 
 pair-gives : (env : Env) (at : Place) (o : ScalarOp) (a b : NodeTree) → IsNode env.settings env.known a → IsNode env.settings env.known b → Gives (IsWellTyped env at) (on_pair o a b)
 unfolding on_pair
 pair-gives env at o a b ia ib =
     made-gives env at (pair o a b) (pairs.pair_form (outcome_of o) (of_two o) (structure_of a) (structure_of b))
     (weaker (λ s. IsShaped s × IsPaired env.settings o (structure_of a) (structure_of b) s) (IsMadeWith env (pair o a b)) (pairs.pair_form (outcome_of o) (of_two o) (structure_of a) (structure_of b)) (λ s h. (h.0, (ia.1, ib.1, h.1)))
-      (paired-fits env.settings (outcome_of o) o (of_two o) (structure_of a) (structure_of b) ia.0 ib.0 (outcome-given o) (λ x y. refl)))
+    (paired-fits env.settings (outcome_of o) o (of_two o) (structure_of a) (structure_of b) ia.0 ib.0 (outcome-given o) (λ x y. refl)))
 
 choice-gives : (env : Env) (at : Place) (t a b : NodeTree) → IsNode env.settings env.known t → IsNode env.settings env.known a → IsNode env.settings env.known b → Gives (IsWellTyped env at) (on_choice t a b)
 unfolding on_choice
 choice-gives env at t a b it ia ib =
     made-gives env at (choose t a b) (pairs.if_form (structure_of t) (structure_of a) (structure_of b))
     (weaker (λ s. IsShaped s × IsChoice (structure_of t) (structure_of a) (structure_of b) s) (IsMadeWith env (choose t a b)) (pairs.if_form (structure_of t) (structure_of a) (structure_of b)) (λ s h. (h.0, (it.1, ia.1, ib.1, h.1)))
-      (chosen-fits (structure_of t) (structure_of a) (structure_of b) it.0 ia.0 ib.0))
+    (chosen-fits (structure_of t) (structure_of a) (structure_of b) it.0 ia.0 ib.0))
 
 placed : (env : Env) (at : Place) (fits literals : Bool) (form : Result TypedTree ℕ) → Gives (IsWellTyped env at) form → Gives (IsWellTyped env at) (if_placed fits literals form)
 placed env at true literals form h = h

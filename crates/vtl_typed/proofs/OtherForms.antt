@@ -1,5 +1,5 @@
 -- Forms of which only this is told, that they give a structure.
-use Rattle.std.proofs.Common.{◌≡◌, ℕ, Bool, not, ◌||◌, List, [], ◌∷◌, ◌++◌, map, Option, None, Result}
+use Rattle.std.proofs.Common.{ℕ, Bool, List, [], ◌∷◌, ◌++◌, map, Option, None}
 use Rattle.std.specs.List.{filter}
 use Rattle.vtl_rule_tests.specs.Rules.{◌>>=◌, ruled}
 use Rattle.vtl_syntax.specs.declared.word_groups.JoinKind.{JoinKind}
@@ -13,7 +13,7 @@ use Rattle.vtl_shapes.specs.Clauses.{aggr_form, are_unlike, calc_form, calculate
 use Rattle.vtl_shapes.specs.Measures.{Gives as GivesKind, bool_var, given_measures, made, measured_form, measured_tests, measures}
 use Rattle.vtl_shapes.specs.Names.{known}
 use Rattle.vtl_shapes.specs.Operands.{agreed_identifiers}
-use Rattle.vtl_shapes.specs.Pairs.{check_form, check_measures, check_tests, exists_form, exists_tests, identified, set_form, set_tests}
+use Rattle.vtl_shapes.specs.Pairs.{check_form, check_measures, check_tests, exists_form, exists_tests, set_form, set_tests}
 use Rattle.vtl_shapes.specs.Shape.{shaped}
 use Rattle.vtl_shapes.specs.declared.choices.Choice.{Choice}
 use Rattle.vtl_shapes.specs.declared.choices.Choice.TheVariants as choice
@@ -49,7 +49,7 @@ pub pivot-shaped : (name measure : List ℕ) (xs : List Component) → Gives IsS
 pivot-shaped name measure xs =
     after IsShaped (known wanted.Identifier xs [] name >>= λ x. pivot_codes x.codes) (λ texts. known wanted.Measure xs [] measure >>= λ m. ruled ((11, has_no_name texts) ∷ []) (tt {0}) >>= λ u. shaped (pivot_components name m.kind texts xs))
     (λ texts. after IsShaped (known wanted.Measure xs [] measure) (λ m. ruled ((11, has_no_name texts) ∷ []) (tt {0}) >>= λ u. shaped (pivot_components name m.kind texts xs))
-      (λ m. any-shaped (ruled ((11, has_no_name texts) ∷ []) (tt {0})) (λ u. pivot_components name m.kind texts xs)))
+    (λ m. any-shaped (ruled ((11, has_no_name texts) ∷ []) (tt {0})) (λ u. pivot_components name m.kind texts xs)))
 
 pub unpivot-shaped : (name measure : List ℕ) (xs : List Component) → Gives IsShaped (unpivot_form name measure xs)
 unpivot-shaped name measure xs =

@@ -1,5 +1,5 @@
 -- What is made over some structures is made over all others in which the names that it reads stand for the same.
-use Rattle.std.proofs.Common.{◌≡◌, ℕ, List, [], ◌∷◌, ◌++◌, Some, is_some, true, sym, ap, ◌∙◌, refl}
+use Rattle.std.proofs.Common.{◌≡◌, ℕ, List, ◌++◌, is_some, true, sym, ap, ◌∙◌}
 use Rattle.std.specs.List.{AllByRecursion}
 use Rattle.std.specs.Map.{lookup}
 use Rattle.vtl_decimal.specs.Settings.{Settings}
@@ -25,10 +25,12 @@ mutual
   form_over p known other s (nodes.named name) h m = sym h.0 ∙ m
   form_over p known other s (nodes.measures o a) h m = (made_over p known other a h m.0, m.1)
   form_over p known other s (nodes.pair o a b) h m = (made_over p known other a (lists.front (IsAlike known other) (names_in a) (names_in b) h) m.0, made_over p known other b (lists.back (IsAlike known other) (names_in a) (names_in b) h) m.1, m.2)
-  form_over p known other s (nodes.choose t a b) h m =
-      (made_over p known other t (lists.front (IsAlike known other) (names_in t) (names_in a) (lists.front (IsAlike known other) (names_in t ++ names_in a) (names_in b) h)) m.0,
-       made_over p known other a (lists.back (IsAlike known other) (names_in t) (names_in a) (lists.front (IsAlike known other) (names_in t ++ names_in a) (names_in b) h)) m.1,
-       made_over p known other b (lists.back (IsAlike known other) (names_in t ++ names_in a) (names_in b) h) m.2, m.3)
+  form_over p known other s (nodes.choose t a b) h m = (
+    made_over p known other t (lists.front (IsAlike known other) (names_in t) (names_in a) (lists.front (IsAlike known other) (names_in t ++ names_in a) (names_in b) h)) m.0,
+    made_over p known other a (lists.back (IsAlike known other) (names_in t) (names_in a) (lists.front (IsAlike known other) (names_in t ++ names_in a) (names_in b) h)) m.1,
+    made_over p known other b (lists.back (IsAlike known other) (names_in t ++ names_in a) (names_in b) h) m.2,
+    m.3,
+  )
   form_over p known other s (nodes.member a name) h m = (made_over p known other a h m.0, m.1)
   form_over p known other s (nodes.filter a c) h m = (made_over p known other a h m.0, m.1)
   form_over p known other s (nodes.calc a items) h m = (made_over p known other a h m.0, m.1)

@@ -1,12 +1,12 @@
 -- Operators on the measures of two operands.
-use Rattle.std.proofs.Common.{◌≡◌, ℕ, Bool, true, false, cond, ◌&&◌, ◌||◌, not, List, [], ◌∷◌, ◌++◌, length, map, Option, Some, None, is_none, refl, sym, ap, ◌∙◌, subst}
+use Rattle.std.proofs.Common.{◌≡◌, ℕ, Bool, true, false, cond, ◌||◌, not, List, [], ◌∷◌, ◌++◌, length, Some, None, is_none, refl, sym, ap, ◌∙◌}
 use Rattle.std.specs.List.{AllByRecursion, filter}
 use Rattle.vtl_decimal.specs.Settings.{Settings}
 use Rattle.vtl_cell.specs.ScalarKinds.{kinds_of}
 use Rattle.vtl_cell.specs.declared.kind.Kind.{Kind}
 use Rattle.vtl_cell.specs.declared.operator.ScalarOp.{ScalarOp}
 use Rattle.vtl_tree.specs.CompExp.{CompExp}
-use Rattle.vtl_tree.specs.Structure.{columns_of, names_of, same_role}
+use Rattle.vtl_tree.specs.Structure.{columns_of, same_role}
 use Rattle.vtl_tree.specs.Structures.{structure_of}
 use Rattle.vtl_tree.specs.declared.structure.Component.{Component}
 use Rattle.vtl_tree.specs.declared.structure.Role.TheVariants as role
@@ -22,7 +22,7 @@ use Rattle.vtl_shapes.specs.declared.operands.Compared.TheVariants as compared
 use Rattle.vtl_typing.specs.Kinds.{exp_kind}
 use Rattle.vtl_meaning.specs.Columns.{column_behind, column_named, columns_named, identifiers_of, measures_of}
 use Rattle.vtl_meaning.specs.Made.{AreFor, HasIdentifiers, IsPaired}
-use Rattle.vtl_meaning.specs.Operators.{for_measures, pair_columns, pair_exps, with_namesake}
+use Rattle.vtl_meaning.specs.Operators.{for_measures, with_namesake}
 use Rattle.vtl_typed.specs.Gives.{ArePassed, Gives, IsShaped}
 use Rattle.vtl_typed.proofs.Columns.{IsFound, in-columns, into-columns}
 use Rattle.vtl_typed.proofs.Expressions.{IsFor, call-typed, named-after, named-before}
@@ -51,16 +51,16 @@ matched oc o g a b ia ib by row met within =
     lists.joined (λ x. is_none (paired g x.kind (namesake (Some b.components) x)) ≡ false) (λ x. (IsFound (columns_of a) x × HasTwin compared.Names b.components x) × (is_measure x ≡ true)) (λ x. IsMatched o a b x (given_of oc g (Some b.components) x)) (measures a.components) one
     (met-measures g (Some b.components) a.components met)
     (lists.both (λ x. IsFound (columns_of a) x × HasTwin compared.Names b.components x) (λ x. is_measure x ≡ true) (measures a.components)
-      (lists.both (IsFound (columns_of a)) (HasTwin compared.Names b.components) (measures a.components) (lists.filtered (IsFound (columns_of a)) is_measure a.components (in-columns a ia.well_formed)) (within-twins compared.Names role.Measure a.components b.components within))
-      (lists.passing is_measure a.components))
+    (lists.both (IsFound (columns_of a)) (HasTwin compared.Names b.components) (measures a.components) (lists.filtered (IsFound (columns_of a)) is_measure a.components (in-columns a ia.well_formed)) (within-twins compared.Names role.Measure a.components b.components within))
+    (lists.passing is_measure a.components))
   where
     one : (x : Component) → is_none (paired g x.kind (namesake (Some b.components) x)) ≡ false → (IsFound (columns_of a) x × HasTwin compared.Names b.components x) × (is_measure x ≡ true) → IsMatched o a b x (given_of oc g (Some b.components) x)
     one x met h = record {
-        other = h.0.1.twin;
-        left = h.0.0;
-        right = into-columns b ib.well_formed x.name h.0.1.twin h.0.1.found;
-        kind = given-kind oc o g (Some b.components) x (x.kind ∷ h.0.1.twin.kind ∷ []) by (ap (paired g x.kind) same ∙ row x.kind h.0.1.twin.kind) met
-      }
+      other = h.0.1.twin;
+      left = h.0.0;
+      right = into-columns b ib.well_formed x.name h.0.1.twin h.0.1.found;
+      kind = given-kind oc o g (Some b.components) x (x.kind ∷ h.0.1.twin.kind ∷ []) by (ap (paired g x.kind) same ∙ row x.kind h.0.1.twin.kind) met;
+    }
       where
         same : namesake (Some b.components) x ≡ Some h.0.1.twin.kind
         same = ap measure_kind h.0.1.found ∙ ap (λ b. cond b (Some h.0.1.twin.kind) None) (ap (λ r. same_role r role.Measure) (sym h.0.1.role) ∙ h.1)
@@ -82,7 +82,7 @@ ids-for : (p : Settings) (others : List Structure) (a : Structure) (more : List 
 ids-for p others a more is =
     lists.mapped (λ y. IsFor p (columns_of a ++ more) (column_named (columns_of a) y.name) y) (agreed others) (filter is_identifier a.components)
     (lists.filtered (λ y. IsFor p (columns_of a ++ more) (column_named (columns_of a) (agreed others y).name) (agreed others y)) is_identifier a.components
-      (lists.weaker (IsFound (columns_of a)) (λ y. IsFor p (columns_of a ++ more) (column_named (columns_of a) (agreed others y).name) (agreed others y)) a.components one (in-columns a is.well_formed)))
+    (lists.weaker (IsFound (columns_of a)) (λ y. IsFor p (columns_of a ++ more) (column_named (columns_of a) (agreed others y).name) (agreed others y)) a.components one (in-columns a is.well_formed)))
   where
     one : (y : Component) → IsFound (columns_of a) y → IsFor p (columns_of a ++ more) (column_named (columns_of a) (agreed others y).name) (agreed others y)
     one y found =
@@ -93,12 +93,15 @@ pub paired-fits : (p : Settings) (oc : Outcome) (o : ScalarOp) (g : GivesKind) (
     → Gives (λ s. IsShaped s × IsPaired p o a b s) (pair_form oc g a b)
 paired-fits p oc o g a b ia ib by row =
     tested-then Q (pair_tests oc g a b) (λ u. shaped (pair_identifiers a b ++ ms))
-    (λ passed. shaped-gives Q (pair_identifiers a b ++ ms) (λ s. (s, record {
-      well_formed = s.well_formed;
-      contained = not-false (contains a b || contains b a) passed.1.0;
-      identifiers = ids-has (contains a b) a b ms (are (contains a b));
-      columns = columns passed (contains a b)
-    })))
+    (λ passed. shaped-gives Q (pair_identifiers a b ++ ms) (λ s. (
+      s,
+      record {
+        well_formed = s.well_formed;
+        contained = not-false (contains a b || contains b a) passed.1.0;
+        identifiers = ids-has (contains a b) a b ms (are (contains a b));
+        columns = columns passed (contains a b);
+      },
+    )))
   where
     Q : Structure → Type 0
     Q s = IsShaped s × IsPaired p o a b s
@@ -119,15 +122,15 @@ paired-fits p oc o g a b ia ib by row =
         let within = and-true (is_within compared.Names role.Measure a.components b.components) (is_within compared.Names role.Measure b.components a.components) (not-false (agree compared.Names role.Measure a.components b.components) tests.0) in
         for-given p xs oc o g (Some b.components) (with_namesake o left right) a.components by tests.1
         (lists.weaker (λ x. IsMatched o a b x (z x)) (λ x. IsFor p xs (with_namesake o left right x (z x)) (z x)) (measures a.components)
-          (λ x m. matched-for p xs o a b left right x (z x) m (l x m.left) (r x.name m.other m.right))
-          (matched oc o g a b ia ib by row passed.0 within.0))
+        (λ x m. matched-for p xs o a b left right x (z x) m (l x m.left) (r x.name m.other m.right))
+        (matched oc o g a b ia ib by row passed.0 within.0))
 
     columns : ArePassed (pair_tests oc g a b) → (first : Bool)
         → AreFor p (cond first (columns_of a ++ columns_of b) (columns_of b ++ columns_of a))
-            (cond first
-              (columns_named (columns_of a) (identifiers_of (structure_of (ids-of first a b ++ ms))) ++ for_measures (with_namesake o (column_named (columns_of a)) (column_behind (length (columns_of a)) (columns_of b))) (measures_of a) (measures_of (structure_of (ids-of first a b ++ ms))))
-              (columns_named (columns_of b) (identifiers_of (structure_of (ids-of first a b ++ ms))) ++ for_measures (with_namesake o (column_behind (length (columns_of b)) (columns_of a)) (column_named (columns_of b))) (measures_of a) (measures_of (structure_of (ids-of first a b ++ ms)))))
-            (columns_of (structure_of (ids-of first a b ++ ms)))
+        (cond first
+        (columns_named (columns_of a) (identifiers_of (structure_of (ids-of first a b ++ ms))) ++ for_measures (with_namesake o (column_named (columns_of a)) (column_behind (length (columns_of a)) (columns_of b))) (measures_of a) (measures_of (structure_of (ids-of first a b ++ ms))))
+        (columns_named (columns_of b) (identifiers_of (structure_of (ids-of first a b ++ ms))) ++ for_measures (with_namesake o (column_behind (length (columns_of b)) (columns_of a)) (column_named (columns_of b))) (measures_of a) (measures_of (structure_of (ids-of first a b ++ ms)))))
+        (columns_of (structure_of (ids-of first a b ++ ms)))
     columns passed true =
         for-parts p (columns_of a ++ columns_of b) (ids-of true a b) ms (columns_of a) (with_namesake o (column_named (columns_of a)) (column_behind (length (columns_of a)) (columns_of b))) (measures a.components) (are true) (ids-for p (b ∷ []) a (columns_of b) ia)
         (for-ms passed (columns_of a ++ columns_of b) (column_named (columns_of a)) (column_behind (length (columns_of a)) (columns_of b)) (λ x e. named-before p (columns_of a) (columns_of b) x.name x e) (λ name y e. named-after p (columns_of a) (columns_of b) name y e))

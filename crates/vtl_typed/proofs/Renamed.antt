@@ -37,8 +37,11 @@ renamed-columns rs a =
 
 pub renamed-fits : (rs : List Renaming) (a : Structure) → Gives (λ s. IsShaped s × IsRenamed a s) (rename_form rs a.components)
 renamed-fits rs a =
-    shaped-gives (λ s. IsShaped s × IsRenamed a s) (map (renamed rs) a.components) (λ s. (s, record {
-      well_formed = s.well_formed;
-      kinds = ap (map (λ x. x.kind)) (renamed-columns rs a) ∙ maps-same (renamed rs) (λ x. x.kind) (columns_of a) (λ x. refl);
-      roles = ap (map (λ x. x.role)) (renamed-columns rs a) ∙ maps-same (renamed rs) (λ x. x.role) (columns_of a) (λ x. refl)
-    }))
+    shaped-gives (λ s. IsShaped s × IsRenamed a s) (map (renamed rs) a.components) (λ s. (
+      s,
+      record {
+        well_formed = s.well_formed;
+        kinds = ap (map (λ x. x.kind)) (renamed-columns rs a) ∙ maps-same (renamed rs) (λ x. x.kind) (columns_of a) (λ x. refl);
+        roles = ap (map (λ x. x.role)) (renamed-columns rs a) ∙ maps-same (renamed rs) (λ x. x.role) (columns_of a) (λ x. refl);
+      },
+    ))

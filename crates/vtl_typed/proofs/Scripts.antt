@@ -1,5 +1,5 @@
 -- The nodes of typed scripts.
-use Rattle.std.proofs.Common.{◌≡◌, ℕ, suc, ◌+◌, ◌≤◌, Bool, true, false, cond, ◌||◌, ◌&&◌, not, leb, List, [], ◌∷◌, ◌++◌, length, map, Option, Some, None, is_some, Result, Ok, Err, refl, sym, ap, ◌∙◌, subst, append_assoc, true≢false}
+use Rattle.std.proofs.Common.{◌≡◌, ℕ, suc, ◌+◌, Bool, true, false, cond, ◌&&◌, not, List, [], ◌∷◌, ◌++◌, length, Some, None, is_some, Result, Ok, Err, refl, sym, ap, ◌∙◌, subst, append_assoc}
 use Rattle.std.proofs.lemmas.Bool.{leb-true}
 use Rattle.std.proofs.lemmas.List.{append-nil}
 use Rattle.std.specs.List.{AllByRecursion, list_all}
@@ -12,7 +12,7 @@ use Rattle.vtl_rule_tests.specs.Rules.{◌>>=◌, ruled}
 use Rattle.vtl_syntax.specs.Trees as tree
 use Rattle.vtl_syntax.specs.Trees.{Exp, ScriptTree}
 use Rattle.vtl_tree.specs.Structure.{IsStructure, names_of, same_name}
-use Rattle.vtl_tree.specs.Structures.{AreStructures, Named, are_declarable, codes_fit, has_name, is_declarable, is_declarable_component, is_declarable_entry, is_null_kind}
+use Rattle.vtl_tree.specs.Structures.{AreStructures, Named, codes_fit, has_name, is_declarable, is_declarable_component, is_declarable_entry, is_null_kind}
 use Rattle.vtl_tree.proofs.StructuresLemmas.{not_found}
 use Rattle.vtl_tree.specs.declared.structure.Component.{Component}
 use Rattle.vtl_tree.specs.declared.structure.Structure.{Structure}
@@ -51,7 +51,7 @@ declared-shaped s e =
     let one = and-true (nat_le 1 (length s.components)) (nat_le (length s.components) 64) two.0 in
     record {
       well_formed = record { some = leb-true 1 (length s.components) one.0; few = leb-true (length s.components) 64 one.1; distinct = two.1 };
-      kinds = lists.weaker (λ x. is_declarable_component x ≡ true) (λ x. is_null_kind x.kind ≡ false) s.components component-kind (lists.all_pass is_declarable_component s.components three.1)
+      kinds = lists.weaker (λ x. is_declarable_component x ≡ true) (λ x. is_null_kind x.kind ≡ false) s.components component-kind (lists.all_pass is_declarable_component s.components three.1);
     }
 
 pub structures-shaped : (known : Named) → AreStructures known → AreShaped known
@@ -89,8 +89,8 @@ unfolding assigned
 assigned-gives env before name e are =
     tested-then Q ((2, has_name name env.known) ∷ []) (λ u. value_typed env e >>= λ n. ruled ((20, is_too_much before n) ∷ []) n)
     (λ passed. then (IsNode env.settings env.known) Q (value_typed env e) (λ n. ruled ((20, is_too_much before n) ∷ []) n)
-      (then (IsWellTyped env place.Outside) (IsNode env.settings env.known) (typed env place.Outside e) dataset_in (sound env are place.Outside e) (dataset-gives env place.Outside))
-      (λ n is. tested Q ((20, is_too_much before n) ∷ []) n (λ few. (passed.0, is))))
+    (then (IsWellTyped env place.Outside) (IsNode env.settings env.known) (typed env place.Outside e) dataset_in (sound env are place.Outside e) (dataset-gives env place.Outside))
+    (λ n is. tested Q ((20, is_too_much before n) ∷ []) n (λ few. (passed.0, is))))
   where
     Q : NodeTree → Type 0
     Q n = (has_name name env.known ≡ false) × IsNode env.settings env.known n

@@ -1,50 +1,40 @@
 -- Operators on whole data sets, aggregates and analytic calls.
-use Rattle.std.proofs.Common.{◌≡◌, ℕ, Bool, true, false, cond, List, [], ◌∷◌, ◌++◌, map, Option, Some, None, Result, Ok, Err, refl, sym, subst}
+use Rattle.std.proofs.Common.{ℕ, List, [], ◌∷◌, ◌++◌, Option, Some, None, Result, Ok}
 use Rattle.std.specs.List.{AllByRecursion}
-use Rattle.std.specs.Option.{IfSome, is_some, option_map}
+use Rattle.std.specs.Option.{IfSome}
 use Rattle.std.specs.Prelude.{option_to_list, unwrap_or}
 use Rattle.vtl_decimal.specs.Settings.{Settings}
-use Rattle.vtl_rule_tests.specs.Rules.{◌>>=◌, ruled}
-use Rattle.vtl_syntax.specs.Trees as tree
-use Rattle.vtl_syntax.specs.Trees.{Exp, MaybeExp}
+use Rattle.vtl_rule_tests.specs.Rules.{◌>>=◌}
 use Rattle.vtl_syntax.specs.declared.parts.Comp.{Comp}
-use Rattle.vtl_syntax.specs.declared.parts.GroupPart.{GroupPart}
-use Rattle.vtl_syntax.specs.declared.word_groups.AggregateName.{AggregateName}
 use Rattle.vtl_syntax.specs.declared.word_groups.DifferenceName.{DifferenceName}
 use Rattle.vtl_syntax.specs.declared.word_groups.DifferenceName.TheVariants as difference
 use Rattle.vtl_syntax.specs.declared.word_groups.Retain.{Retain}
 use Rattle.vtl_syntax.specs.declared.word_groups.Retain.TheVariants as retain
 use Rattle.vtl_syntax.specs.declared.word_groups.SetOpName.{SetOpName}
 use Rattle.vtl_syntax.specs.declared.word_groups.SetOpName.TheVariants as set
-use Rattle.vtl_tree.specs.CompExp.{CompExp}
 use Rattle.vtl_tree.specs.Structures.{Named}
-use Rattle.vtl_tree.specs.declared.structure.Component.{Component}
 use Rattle.vtl_tree.specs.declared.structure.Structure.{Structure}
 use Rattle.vtl_nodes.specs.Trees as nodes
 use Rattle.vtl_nodes.specs.Trees.{NodeTree, ValueTree, maybe_node, nodes_of, structure_of}
-use Rattle.vtl_nodes.specs.declared.calls.Window.{Window}
 use Rattle.vtl_nodes.specs.declared.specifications.CheckSpec.{CheckSpec}
 use Rattle.vtl_shapes.specs.Choices.{choice_form}
-use Rattle.vtl_shapes.specs.Measures.{measured_form}
 use Rattle.vtl_shapes.specs.Pairs as pairs
 use Rattle.vtl_shapes.specs.declared.choices.Choice.TheVariants as choice
-use Rattle.vtl_shapes.specs.declared.measures.Outcome.TheVariants as outcome
 use Rattle.vtl_shapes.specs.declared.names.Wanted.TheVariants as wanted
 use Rattle.vtl_typing.specs.Columns.{name_of}
-use Rattle.vtl_forms.specs.Places.{Env, Written, name_written, written_in}
+use Rattle.vtl_forms.specs.Places.{Env}
 use Rattle.vtl_forms.specs.Sets.{check_form, datasets_behind, datasets_in, difference_form, difference_tree, exists_form, imbalance_in, member_of, set_of, set_structure, set_tree, sets_form, structures_in}
 use Rattle.vtl_forms.specs.Typed.{TypedTree, value, dataset, components_in, dataset_in, made_of}
-use Rattle.vtl_forms.specs.declared.places.Inside.{Inside}
 use Rattle.vtl_forms.specs.declared.places.Place.{Place}
 use Rattle.vtl_forms.specs.declared.places.Place.TheVariants as place
-use Rattle.vtl_meaning.specs.Made.{AreMade, IsLeft, IsMade, IsMadeMaybe}
+use Rattle.vtl_meaning.specs.Made.{AreMade, IsLeft, IsMadeMaybe}
 use Rattle.vtl_typed.specs.Gives.{Gives, IsShaped}
-use Rattle.vtl_typed.specs.WellTyped.{IsNode, IsValueAt, IsWellTyped}
+use Rattle.vtl_typed.specs.WellTyped.{IsNode, IsWellTyped}
 use Rattle.vtl_typed.proofs.Left.{member-fits}
 use Rattle.vtl_typed.proofs.Lists as lists
 use Rattle.vtl_typed.proofs.Operators.{IsMadeWith, made-gives}
 use Rattle.vtl_typed.proofs.OtherForms.{check-shaped, exists-shaped, set-shaped}
-use Rattle.vtl_typed.proofs.Steps.{after, anything, then, weaker}
+use Rattle.vtl_typed.proofs.Steps.{then, weaker}
 
 -- where a data set is needed
 pub dataset-gives : (env : Env) (at : Place) (x : TypedTree) → IsWellTyped env at x → Gives (IsNode env.settings env.known) (dataset_in x)
@@ -61,7 +51,7 @@ unfolding member_of
 member-gives env at c a is =
     made-gives env at (nodes.member a (name_of c)) (choice_form wanted.Measure choice.Keep (name_of c ∷ []) (components_in a))
     (weaker (λ s. IsShaped s × IsLeft (structure_of a) s) (IsMadeWith env (nodes.member a (name_of c))) (choice_form wanted.Measure choice.Keep (name_of c ∷ []) (components_in a)) (λ s h. (h.0, (is.1, h.1)))
-      (member-fits (name_of c ∷ []) (structure_of a) is.0))
+    (member-fits (name_of c ∷ []) (structure_of a) is.0))
 
 -- ---- set operators
 datasets-behind : (env : Env) (done : List NodeTree) (xs : List TypedTree) → AllByRecursion (IsNode env.settings env.known) done → AllByRecursion (IsWellTyped env place.Outside) xs → Gives (AllByRecursion (IsNode env.settings env.known)) (datasets_behind done xs)
@@ -93,7 +83,7 @@ unfolding difference_form
 difference-gives env at f x y hx hy =
     then (IsNode env.settings env.known) (IsWellTyped env at) (dataset_in x) (λ a. dataset_in y >>= λ b. pairs.set_form (structure_of a) (structure_of b ∷ []) >>= made_of (difference_tree f a b)) (dataset-gives env place.Outside x hx)
     (λ a ia. then (IsNode env.settings env.known) (IsWellTyped env at) (dataset_in y) (λ b. pairs.set_form (structure_of a) (structure_of b ∷ []) >>= made_of (difference_tree f a b)) (dataset-gives env place.Outside y hy)
-      (λ b ib. shape-gives env at (difference_tree f a b) (pairs.set_form (structure_of a) (structure_of b ∷ [])) (set-shaped (structure_of a) (structure_of b ∷ [])) (made f a b ia ib)))
+    (λ b ib. shape-gives env at (difference_tree f a b) (pairs.set_form (structure_of a) (structure_of b ∷ [])) (set-shaped (structure_of a) (structure_of b ∷ [])) (made f a b ia ib)))
   where
     made : (f : DifferenceName) (a b : NodeTree) → IsNode env.settings env.known a → IsNode env.settings env.known b → (s : Structure) → IsShaped s → IsMadeWith env (difference_tree f a b) s
     made difference.Setdiff a b ia ib s is = (is, (ia.1, ib.1))
@@ -104,7 +94,7 @@ unfolding exists_form
 exists-gives env at r x y hx hy =
     then (IsNode env.settings env.known) (IsWellTyped env at) (dataset_in x) (λ a. dataset_in y >>= λ b. pairs.exists_form (structure_of a) (structure_of b) >>= made_of (nodes.exists_in a b (unwrap_or r retain.All))) (dataset-gives env place.Outside x hx)
     (λ a ia. then (IsNode env.settings env.known) (IsWellTyped env at) (dataset_in y) (λ b. pairs.exists_form (structure_of a) (structure_of b) >>= made_of (nodes.exists_in a b (unwrap_or r retain.All))) (dataset-gives env place.Outside y hy)
-      (λ b ib. shape-gives env at (nodes.exists_in a b (unwrap_or r retain.All)) (pairs.exists_form (structure_of a) (structure_of b)) (exists-shaped (structure_of a) (structure_of b)) (λ s is. (is, (ia.1, ib.1)))))
+    (λ b ib. shape-gives env at (nodes.exists_in a b (unwrap_or r retain.All)) (pairs.exists_form (structure_of a) (structure_of b)) (exists-shaped (structure_of a) (structure_of b)) (λ s is. (is, (ia.1, ib.1)))))
 
 -- ---- `check`
 imbalance-gives : (env : Env) (i : Option TypedTree) → IfSome i (IsWellTyped env place.Outside) → Gives (λ b. IfSome b (IsNode env.settings env.known)) (imbalance_in i)
@@ -120,4 +110,4 @@ unfolding check_form
 check-gives env at spec x i hx hi =
     then (IsNode env.settings env.known) (IsWellTyped env at) (dataset_in x) (λ a. imbalance_in i >>= λ b. pairs.check_form (structure_of a) (structures_in (option_to_list b)) >>= made_of (nodes.check a (maybe_node b) spec)) (dataset-gives env place.Outside x hx)
     (λ a ia. then (λ b. IfSome b (IsNode env.settings env.known)) (IsWellTyped env at) (imbalance_in i) (λ b. pairs.check_form (structure_of a) (structures_in (option_to_list b)) >>= made_of (nodes.check a (maybe_node b) spec)) (imbalance-gives env i hi)
-      (λ b ib. shape-gives env at (nodes.check a (maybe_node b) spec) (pairs.check_form (structure_of a) (structures_in (option_to_list b))) (check-shaped (structure_of a) (structures_in (option_to_list b))) (λ s is. (is, (ia.1, maybe-made env.settings env.known b ib)))))
+    (λ b ib. shape-gives env at (nodes.check a (maybe_node b) spec) (pairs.check_form (structure_of a) (structures_in (option_to_list b))) (check-shaped (structure_of a) (structures_in (option_to_list b))) (λ s is. (is, (ia.1, maybe-made env.settings env.known b ib)))))

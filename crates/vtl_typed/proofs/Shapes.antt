@@ -1,13 +1,13 @@
 -- The structures that forms give.
-use Rattle.std.proofs.Common.{◌≡◌, ℕ, ◌+◌, suc, Bool, true, false, cond, ◌||◌, ◌&&◌, not, List, [], ◌∷◌, ◌++◌, length, map, Option, Some, None, Result, refl, sym, ap, ◌∙◌, subst, true≢false, arith}
+use Rattle.std.proofs.Common.{◌≡◌, ℕ, Bool, true, false, cond, ◌&&◌, List, [], ◌∷◌, ◌++◌, length, Result, refl, ap, ◌∙◌}
 use Rattle.std.proofs.lemmas.Bool.{false≢true}
 use Rattle.std.proofs.lemmas.List.{append-nil}
 use Rattle.std.proofs.lemmas.List.Elements.{filter-append}
-use Rattle.std.specs.List.{AllByRecursion, filter, list_any}
+use Rattle.std.specs.List.{AllByRecursion, filter}
 use Rattle.std.specs.Prelude.{nat_eq, nat_lt}
 use Rattle.vtl_lists.specs.Apart.{all_apart}
-use Rattle.vtl_rule_tests.specs.Rules.{◌>>=◌, ruled}
-use Rattle.vtl_tree.specs.Structure.{IsStructure, columns_of, names_of, of_role, same_name, same_role}
+use Rattle.vtl_rule_tests.specs.Rules.{◌>>=◌}
+use Rattle.vtl_tree.specs.Structure.{columns_of, names_of, of_role, same_name, same_role}
 use Rattle.vtl_tree.specs.Structures.{is_null_kind, structure_of}
 use Rattle.vtl_tree.specs.declared.structure.Component.{Component}
 use Rattle.vtl_tree.specs.declared.structure.Role.{Role}
@@ -32,9 +32,9 @@ shaped-gives P xs f = tested P (result_tests xs) (structure_of xs) (λ passed. f
           well_formed = record {
             some = nonzero (length xs) counts.0;
             few = below 64 (length xs) counts.1;
-            distinct = not-false (all_apart same_name (names_of xs)) passed.0
+            distinct = not-false (all_apart same_name (names_of xs)) passed.0;
           };
-          kinds = lists.any_fails (λ x. is_null_kind x.kind) xs passed.1.1.0
+          kinds = lists.any_fails (λ x. is_null_kind x.kind) xs passed.1.1.0;
         }
 
 -- whatever the components are

@@ -1,8 +1,7 @@
 -- What is typed is typed over the columns of its place, and its nodes are made.
-use Rattle.std.proofs.Common.{◌≡◌, ℕ, Bool, true, false, ◌||◌, List, [], ◌∷◌, ◌++◌, map, Option, Some, None, option_map, Result, Ok, Err, refl}
+use Rattle.std.proofs.Common.{ℕ, Bool, true, ◌||◌, List, [], ◌∷◌, Option, Some, None, option_map, Result, Ok, Err, refl}
 use Rattle.std.specs.List.{AllByRecursion}
 use Rattle.std.specs.Option.{IfSome, is_some}
-use Rattle.vtl_decimal.specs.Settings.{Settings}
 use Rattle.vtl_cell.specs.declared.operator.ScalarOp.{ScalarOp}
 use Rattle.vtl_cell.specs.declared.operator.ScalarOp.TheVariants as op
 use Rattle.vtl_rule_tests.specs.Rules.{◌>>=◌}
@@ -13,8 +12,6 @@ use Rattle.vtl_syntax.specs.declared.parts.GroupPart.{GroupPart}
 use Rattle.vtl_syntax.specs.declared.parts.Keeping.{Keeping}
 use Rattle.vtl_syntax.specs.declared.parts.RenamePart.{RenamePart}
 use Rattle.vtl_syntax.specs.declared.word_groups.AggregateName.{AggregateName}
-use Rattle.vtl_syntax.specs.declared.word_groups.JoinKind.{JoinKind}
-use Rattle.vtl_tree.specs.CompExp.{CompExp}
 use Rattle.vtl_nodes.specs.Trees as nodes
 use Rattle.vtl_nodes.specs.Trees.{ItemTree, NodeTree, OperandTree, ValueTree}
 use Rattle.vtl_typing.specs.Kinds.{exp_kind}
@@ -23,10 +20,9 @@ use Rattle.vtl_typing.specs.Literals.{literals_fit}
 use Rattle.vtl_shapes.specs.Clauses.{target_tests}
 use Rattle.vtl_typing.specs.Columns.{name_of}
 use Rattle.vtl_forms.specs.Operators.{operator_form, set_form}
-use Rattle.vtl_forms.specs.Places.{Env, Written, at_groups, at_points, columns_in, member_inside, member_written, written_typed}
+use Rattle.vtl_forms.specs.Places.{Env, Written, at_groups, at_points, columns_in, member_inside, member_written}
 use Rattle.vtl_forms.specs.Sets.{check_form, check_spec, difference_form, exists_form, member_of, sets_form}
-use Rattle.vtl_forms.specs.Typed.{TypedTree, value, dataset, components_in, condition_in, dataset_in, value_in}
-use Rattle.vtl_forms.specs.declared.places.Inside.{Inside}
+use Rattle.vtl_forms.specs.Typed.{TypedTree, value, dataset, components_in, dataset_in}
 use Rattle.vtl_forms.specs.declared.places.Joined.{Joined}
 use Rattle.vtl_forms.specs.declared.places.Place.{Place}
 use Rattle.vtl_forms.specs.declared.places.Place.TheVariants as place
@@ -35,8 +31,7 @@ use Rattle.vtl_groups.specs.Windowed.{over_typed, target_typed}
 use Rattle.vtl_clauses.specs.Clauses.{filter_form}
 use Rattle.vtl_clauses.specs.JoinOperands.{PartTyped, joined_node, joined_of, operands_in, with_part}
 use Rattle.vtl_clauses.specs.Targets.{aggr_clause, calc_clause, calc_name, item_names, with_item}
-use Rattle.vtl_clauses.specs.declared.targets.Made.{Made}
-use Rattle.vtl_walk.specs.Typing.{Having, aggrs_typed, as_dataset, behind, body_end, calc_value, calcs_typed, clause_typed, filter_step, filtered_join, grouped_of, has_exp, having_typed, join_end, keeping_step, last_step, maybe_typed, operands_typed, or_call, or_component, over_operand, parts_typed, renaming_step, scalar_value, targets_step, targets_typed, typed}
+use Rattle.vtl_walk.specs.Typing.{Having, aggrs_typed, as_dataset, behind, body_end, calc_value, calcs_typed, clause_typed, filter_step, filtered_join, grouped_of, has_exp, having_typed, join_end, keeping_step, last_step, maybe_typed, operands_typed, or_component, over_operand, parts_typed, renaming_step, scalar_value, targets_step, targets_typed, typed}
 use Rattle.vtl_typed.specs.Gives.{ArePassed, Gives}
 use Rattle.vtl_typed.specs.WellTyped.{AreShaped, IsNode, IsWellTyped}
 use Rattle.vtl_typed.proofs.Clauses.{AreTargets, IsTargetValue, aggr-gives, calc-gives, filter-gives, item-more, keeping-gives, name-free, pivot-gives, renaming-gives, sub-gives, unpivot-gives}
@@ -126,7 +121,7 @@ mutual
   sound env are at (tree.if_then c a b) =
       then (AllByRecursion (IsWellTyped env at)) (IsWellTyped env at) (typed env at c >>= behind []) (λ xs. typed env at a >>= behind xs >>= λ ys. typed env at b >>= behind ys >>= operator_form at op.If true true) (behind-gives env at [] (typed env at c) tt (sound env are at c))
       (λ xs hx. then (AllByRecursion (IsWellTyped env at)) (IsWellTyped env at) (typed env at a >>= behind xs) (λ ys. typed env at b >>= behind ys >>= operator_form at op.If true true) (behind-gives env at xs (typed env at a) hx (sound env are at a))
-        (λ ys hy. operator-step env at op.If true true (typed env at b >>= behind ys) (behind-gives env at ys (typed env at b) hy (sound env are at b))))
+      (λ ys hy. operator-step env at op.If true true (typed env at b >>= behind ys) (behind-gives env at ys (typed env at b) hy (sound env are at b))))
   sound env are at (tree.binary l o r) =
       then (AllByRecursion (IsWellTyped env at)) (IsWellTyped env at) (typed env at l >>= behind []) (λ xs. typed env at r >>= behind xs >>= operator_form at (of_binary o) true true) (behind-gives env at [] (typed env at l) tt (sound env are at l))
       (λ xs hx. operator-step env at (of_binary o) true true (typed env at r >>= behind xs) (behind-gives env at xs (typed env at r) hx (sound env are at r)))
@@ -155,7 +150,7 @@ mutual
   sound env are at (tree.check e err i o) =
       then (IsWellTyped env place.Outside) (IsWellTyped env at) (typed env place.Outside e) (λ x. check_spec env.settings err o >>= λ s. maybe_typed env place.Outside i >>= check_form s x) (sound env are place.Outside e)
       (λ x hx. after (IsWellTyped env at) (check_spec env.settings err o) (λ s. maybe_typed env place.Outside i >>= check_form s x)
-        (λ s. then (λ y. IfSome y (IsWellTyped env place.Outside)) (IsWellTyped env at) (maybe_typed env place.Outside i) (check_form s x) (sound-maybe env are place.Outside i) (λ y hy. check-gives env at s x y hx hy)))
+      (λ s. then (λ y. IfSome y (IsWellTyped env place.Outside)) (IsWellTyped env at) (maybe_typed env place.Outside i) (check_form s x) (sound-maybe env are place.Outside i) (λ y hy. check-gives env at s x y hx hy)))
   sound env are at (tree.check_datapoint e n o) = after (IsWellTyped env at) (typed env place.Outside e) (λ x. Err 3) (λ x. tt)
   sound env are at (tree.check_hierarchy e n r m d o) = after (IsWellTyped env at) (typed env place.Outside e) (λ x. Err 3) (λ x. tt)
   sound env are at (tree.hierarchy e n r m i o) = after (IsWellTyped env at) (typed env place.Outside e) (λ x. Err 3) (λ x. tt)
@@ -163,8 +158,8 @@ mutual
       then (AllByRecursion (IsOperand env)) (IsWellTyped env at) (parts_typed env [] ps >>= operands_in) (λ os. filtered_join env (Some (joined_of kind os)) f kind u os >>= join_end env (Some (joined_of kind os)) m k rs)
       (then (AllByRecursion (IsPart env)) (AllByRecursion (IsOperand env)) (parts_typed env [] ps) operands_in (sound-parts env are [] ps tt) (operands-give env))
       (λ os hos. then (IsNode env.settings env.known) (IsWellTyped env at) (filtered_join env (Some (joined_of kind os)) f kind u os) (join_end env (Some (joined_of kind os)) m k rs)
-        (then (IsNode env.settings env.known) (IsNode env.settings env.known) (joined_node kind u os) (λ n. filter_step env (Some (joined_of kind os)) n f) (joined-gives env kind u os hos) (λ n is. sound-filter env are (Some (joined_of kind os)) n f is))
-        (λ a ia. then (IsNode env.settings env.known) (IsWellTyped env at) (targets_step env (Some (joined_of kind os)) a m) (body_end (Some (joined_of kind os)) k rs) (sound-step env are (Some (joined_of kind os)) a m ia) (end-gives env at (Some (joined_of kind os)) k rs)))
+      (then (IsNode env.settings env.known) (IsNode env.settings env.known) (joined_node kind u os) (λ n. filter_step env (Some (joined_of kind os)) n f) (joined-gives env kind u os hos) (λ n is. sound-filter env are (Some (joined_of kind os)) n f is))
+      (λ a ia. then (IsNode env.settings env.known) (IsWellTyped env at) (targets_step env (Some (joined_of kind os)) a m) (body_end (Some (joined_of kind os)) k rs) (sound-step env are (Some (joined_of kind os)) a m ia) (end-gives env at (Some (joined_of kind os)) k rs)))
 
   sound-operands : (env : Env) → AreShaped env.known → (at : Place) (done : List TypedTree) (es : Exps) → AllByRecursion (IsWellTyped env at) done → Gives (AllByRecursion (IsWellTyped env at)) (operands_typed env at done es)
   sound-operands env are at done tree.no_exps hd = hd
@@ -188,17 +183,17 @@ mutual
   sound-targets env are j n (tree.aggr cs g h) is =
       after (IsNode env.settings env.known) (aggrs_typed env (place.Inside (at_groups j n [])) [] cs) (λ made. grouping_typed (components_in n) g >>= λ names. having_typed env j n names h >>= aggr_clause g n made)
       (λ made. after (IsNode env.settings env.known) (grouping_typed (components_in n) g) (λ names. having_typed env j n names h >>= aggr_clause g n made)
-        (λ names. after (IsNode env.settings env.known) (having_typed env j n names h) (aggr_clause g n made) (λ c. aggr-gives env g n made c is)))
+      (λ names. after (IsNode env.settings env.known) (having_typed env j n names h) (aggr_clause g n made) (λ c. aggr-gives env g n made c is)))
 
   sound-calcs : (env : Env) → AreShaped env.known → (j : Option Joined) (n : NodeTree) (done : List ItemTree) (cs : Calcs) → AreTargets env.settings n done → Gives (AreTargets env.settings n) (calcs_typed env (place.Inside (at_points j n)) n done cs)
   sound-calcs env are j n done tree.no_calcs hd = hd
   sound-calcs env are j n done (tree.calc_part r c e cs) hd =
       then (λ u. ArePassed (target_tests (components_in n) (item_names done) (name_of c))) (AreTargets env.settings n) (calc_name n done c) (λ u. calc_value env.settings (place.Inside (at_points j n)) e (typed env (place.Inside (at_points j n)) e) (over_operand env (place.Inside (at_points j n)) e) >>= with_item r c done >>= λ items. calcs_typed env (place.Inside (at_points j n)) n items cs) (name-free n done c)
       (λ u passed. then (AreTargets env.settings n) (AreTargets env.settings n) (calc_value env.settings (place.Inside (at_points j n)) e (typed env (place.Inside (at_points j n)) e) (over_operand env (place.Inside (at_points j n)) e) >>= with_item r c done) (λ items. calcs_typed env (place.Inside (at_points j n)) n items cs)
-        (then (IsTargetValue env.settings (columns_in n)) (AreTargets env.settings n) (calc_value env.settings (place.Inside (at_points j n)) e (typed env (place.Inside (at_points j n)) e) (over_operand env (place.Inside (at_points j n)) e)) (with_item r c done)
-          (target-gives env j n e (typed env (place.Inside (at_points j n)) e) (over_operand env (place.Inside (at_points j n)) e) (sound env are (place.Inside (at_points j n)) e))
-          (λ v is. item-more env.settings n r c done v hd passed is))
-        (λ items h. sound-calcs env are j n items cs h))
+      (then (IsTargetValue env.settings (columns_in n)) (AreTargets env.settings n) (calc_value env.settings (place.Inside (at_points j n)) e (typed env (place.Inside (at_points j n)) e) (over_operand env (place.Inside (at_points j n)) e)) (with_item r c done)
+      (target-gives env j n e (typed env (place.Inside (at_points j n)) e) (over_operand env (place.Inside (at_points j n)) e) (sound env are (place.Inside (at_points j n)) e))
+      (λ v is. item-more env.settings n r c done v hd passed is))
+      (λ items h. sound-calcs env are j n items cs h))
 
   sound-parts : (env : Env) → AreShaped env.known → (done : List PartTyped) (ps : Parts) → AllByRecursion (IsPart env) done → Gives (AllByRecursion (IsPart env)) (parts_typed env done ps)
   sound-parts env are done tree.no_parts hd = hd

@@ -1,5 +1,5 @@
 -- What a typing gives, step by step.
-use Rattle.std.proofs.Common.{◌≡◌, ℕ, Bool, true, false, cond, List, [], ◌∷◌, Result, Ok, Err, refl, subst}
+use Rattle.std.proofs.Common.{◌≡◌, ℕ, Bool, true, false, cond, [], ◌∷◌, Result, Ok, Err, refl, subst}
 use Rattle.vtl_rule_tests.specs.Rules.{◌>>=◌, ruled, Tests}
 use Rattle.vtl_typed.specs.Gives.{ArePassed, Gives}
 

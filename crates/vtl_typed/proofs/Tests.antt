@@ -1,5 +1,5 @@
 -- Tests that are not broken.
-use Rattle.std.proofs.Common.{◌≡◌, ℕ, ◌≤◌, ◌<◌, ◌⊎◌, suc, inl, inr, Bool, true, false, ◌||◌, ◌&&◌, not, leb, eqb, refl, sym, ◌∙◌, true≢false, arith}
+use Rattle.std.proofs.Common.{◌≡◌, ℕ, ◌≤◌, ◌⊎◌, inl, inr, Bool, true, false, ◌||◌, ◌&&◌, not, refl, true≢false, arith}
 use Rattle.std.proofs.lemmas.Bool.{eqb-false, false≢true, ltb-false}
 use Rattle.std.specs.Prelude.{nat_eq, nat_lt}
 

@@ -1,5 +1,5 @@
 -- The values of typed expressions.
-use Rattle.std.proofs.Common.{◌≡◌, ℕ, List, true, Option, Some, None, Ok, subst}
+use Rattle.std.proofs.Common.{◌≡◌, true, None, Ok, subst}
 use Rattle.std.specs.Prelude.{IfOk}
 use Rattle.vtl_cell.specs.Kinds.{is_of}
 use Rattle.vtl_cell.specs.Row.{Row}

@@ -1,9 +1,8 @@
 -- Values and names at a place.
-use Rattle.std.proofs.Common.{◌≡◌, ℕ, suc, ◌+◌, Bool, true, false, cond, List, [], ◌∷◌, ◌++◌, length, map, Option, Some, None, is_none, not, Result, Ok, Err, refl, sym, ap, ◌∙◌, subst, true≢false, append_assoc, length-append, arith}
+use Rattle.std.proofs.Common.{◌≡◌, ℕ, suc, ◌+◌, Bool, true, false, cond, List, [], ◌∷◌, ◌++◌, length, map, Option, Some, None, is_none, not, Result, Ok, Err, refl, subst, true≢false, append_assoc, length-append, arith}
 use Rattle.std.specs.List.{AllByRecursion}
 use Rattle.std.specs.Map.{lookup}
 use Rattle.vtl_decimal.specs.Settings.{Settings}
-use Rattle.vtl_cell.specs.ScalarKinds.{kinds_of}
 use Rattle.vtl_cell.specs.declared.kind.Kind.{Kind}
 use Rattle.vtl_cell.specs.declared.operator.ScalarOp.{ScalarOp}
 use Rattle.vtl_rule_tests.specs.Rules.{◌>>=◌, ruled}
@@ -16,19 +15,18 @@ use Rattle.vtl_tree.specs.Structures.{Named}
 use Rattle.vtl_tree.specs.View.{comp_exps_of}
 use Rattle.vtl_tree.specs.declared.structure.Component.{Component}
 use Rattle.vtl_tree.specs.declared.structure.Structure.{Structure}
-use Rattle.vtl_nodes.specs.Trees.{NodeTree, named, node}
 use Rattle.vtl_shapes.specs.Names.{is_among}
 use Rattle.vtl_typing.specs.Calls.{call_form, call_kind, or_null}
 use Rattle.vtl_typing.specs.Columns.{column_from, column_typed, name_of}
 use Rattle.vtl_typing.specs.Kinds.{exp_kind, kind_by_operands}
 use Rattle.vtl_typing.specs.Literals.{constant_typed}
-use Rattle.vtl_forms.specs.Places.{Env, Written, alone, component_typed, constant_form, dataset_named, known_by, name_typed, name_written, written_typed}
+use Rattle.vtl_forms.specs.Places.{Env, Written, alone, component_typed, constant_form, known_by, name_typed, name_written, written_typed}
 use Rattle.vtl_forms.specs.Typed.{TypedTree, value, dataset, of_value}
 use Rattle.vtl_forms.specs.declared.places.Inside.{Inside}
 use Rattle.vtl_forms.specs.declared.places.Place.{Place}
 use Rattle.vtl_forms.specs.declared.places.Place.TheVariants as place
-use Rattle.vtl_meaning.specs.Made.{IsColumnAt, IsMade, IsTyped}
-use Rattle.vtl_typed.specs.Gives.{ArePassed, Gives, IsShaped}
+use Rattle.vtl_meaning.specs.Made.{IsColumnAt, IsTyped}
+use Rattle.vtl_typed.specs.Gives.{Gives, IsShaped}
 use Rattle.vtl_typed.specs.WellTyped.{AreShaped, IfUngrouped, IsNode, IsValueAt, IsWellTyped}
 use Rattle.vtl_typed.proofs.Expressions.{call-typed, column-after}
 use Rattle.vtl_typed.proofs.Literals.{constant-gives}

@@ -1,5 +1,5 @@
 -- What holds of what a typing gives, where no rule is broken.
-use Rattle.std.specs.Prelude.{◌≡◌, ℕ, false, List, [], ◌∷◌, Result, Ok, Err}
+use Rattle.std.specs.Prelude.{◌≡◌, false, [], ◌∷◌, Result, Ok, Err}
 use Rattle.std.specs.List.{AllByRecursion}
 use Rattle.vtl_rule_tests.specs.Rules.{Tests}
 use Rattle.vtl_tree.specs.Structure.{IsStructure}
