@@ -40,9 +40,6 @@ name-found name (x ∷ xs) y e = go (same_name x.name name) refl e (name-found n
     go true h e ih = let s : x ≡ y = cc in ap (λ z. z.name) (sym s) ∙ same-true x.name name h
     go false h e ih = ih e
 
-pub found-itself : (name : List ℕ) (xs : List Component) (y : Component) → component_of name xs ≡ Some y → IsFound xs y
-found-itself name xs y e = ap (λ n. component_of n xs) (name-found name xs y e) ∙ e
-
 -- what holds of each holds of the one that is found
 pub at-found : (P : Component → Type 0) (name : List ℕ) (xs : List Component) (y : Component) → AllByRecursion P xs → component_of name xs ≡ Some y → P y
 at-found P name [] y all e = cc

@@ -1,9 +1,9 @@
 -- Operators on typed operands.
-use Rattle.std.proofs.Common.{◌≡◌, ℕ, Bool, true, false, cond, List, [], ◌∷◌, length, map, Option, Some, None, option_map, not, Result, Ok, Err, refl}
+use Rattle.std.proofs.Common.{◌≡◌, ℕ, Bool, true, false, cond, List, [], ◌∷◌, length, map, Option, Some, None, option_map, not, Result, Ok, Err, refl, sym, ◌∙◌}
 use Rattle.std.specs.List.{AllByRecursion}
 use Rattle.vtl_decimal.specs.Settings.{Settings}
 use Rattle.vtl_cell.specs.Profile.{IsOfProfile}
-use Rattle.vtl_cell.specs.ScalarKinds.{common_kind, is_set_of, kinds_of}
+use Rattle.vtl_cell.specs.ScalarKinds.{common_kind, is_set_of, kinds_of, truth_of_alike, truth_of_set}
 use Rattle.vtl_cell.specs.declared.cell.Cell.{Cell}
 use Rattle.vtl_cell.specs.declared.kind.Kind.{Kind}
 use Rattle.vtl_cell.specs.declared.kind.Kind.TheVariants as k
@@ -47,75 +47,42 @@ truth-if : (b : Bool) (kind : Kind) → cond b (Some k.Bool) None ≡ Some kind 
 truth-if true kind e = cc
 truth-if false kind e = cc
 
+-- an operator that gives a truth of two operands of one kind, and of no others
+two-given : (f : List Kind → Option Kind) → f [] ≡ None → ((a : Kind) → f (a ∷ []) ≡ None) → ((a b : Kind) → f (a ∷ b ∷ []) ≡ truth_of_alike (a ∷ b ∷ [])) → ((a b x : Kind) (xs : List Kind) → f (a ∷ b ∷ x ∷ xs) ≡ None) → (kinds : List Kind) (kind : Kind) → f kinds ≡ Some kind → kind ≡ k.Bool
+two-given f none one two more [] kind e = let no : None ≡ Some kind = sym none ∙ e in cc
+two-given f none one two more (a ∷ []) kind e = let no : None ≡ Some kind = sym (one a) ∙ e in cc
+two-given f none one two more (a ∷ b ∷ []) kind e = truth-of (common_kind (a ∷ b ∷ [])) kind (sym (two a b) ∙ e)
+two-given f none one two more (a ∷ b ∷ x ∷ xs) kind e = let no : None ≡ Some kind = sym (more a b x xs) ∙ e in cc
+
+-- an operator that gives a truth of an operand and a set
+set-given : (f : List Kind → Option Kind) → f [] ≡ None → ((a : Kind) → f (a ∷ []) ≡ None) → ((a x : Kind) (xs : List Kind) → f (a ∷ x ∷ xs) ≡ truth_of_set a (x ∷ xs)) → (kinds : List Kind) (kind : Kind) → f kinds ≡ Some kind → kind ≡ k.Bool
+set-given f none one more [] kind e = let no : None ≡ Some kind = sym none ∙ e in cc
+set-given f none one more (a ∷ []) kind e = let no : None ≡ Some kind = sym (one a) ∙ e in cc
+set-given f none one more (a ∷ x ∷ xs) kind e = truth-if (is_set_of a (x ∷ xs)) kind (sym (more a x xs) ∙ e)
+
+between-given : (kinds : List Kind) (kind : Kind) → kinds_of op.Between kinds ≡ Some kind → kind ≡ k.Bool
+between-given [] kind e = cc
+between-given (a ∷ []) kind e = cc
+between-given (a ∷ b ∷ []) kind e = cc
+between-given (a ∷ b ∷ x ∷ []) kind e = truth-of (common_kind (a ∷ b ∷ x ∷ [])) kind e
+between-given (a ∷ b ∷ x ∷ y ∷ xs) kind e = cc
+
+null-given : (kinds : List Kind) (kind : Kind) → kinds_of op.IsNull kinds ≡ Some kind → kind ≡ k.Bool
+null-given [] kind e = cc
+null-given (a ∷ []) kind e = cc
+null-given (a ∷ x ∷ xs) kind e = cc
+
 pub outcome-given : (o : ScalarOp) → IsGivenBy (outcome_of o) o
-outcome-given op.Equal = go
-  where
-    go : (kinds : List Kind) (kind : Kind) → kinds_of op.Equal kinds ≡ Some kind → kind ≡ k.Bool
-    go [] kind e = cc
-    go (a ∷ []) kind e = cc
-    go (a ∷ b ∷ []) kind e = truth-of (common_kind (a ∷ b ∷ [])) kind e
-    go (a ∷ b ∷ x ∷ xs) kind e = cc
-outcome-given op.NotEqual = go
-  where
-    go : (kinds : List Kind) (kind : Kind) → kinds_of op.NotEqual kinds ≡ Some kind → kind ≡ k.Bool
-    go [] kind e = cc
-    go (a ∷ []) kind e = cc
-    go (a ∷ b ∷ []) kind e = truth-of (common_kind (a ∷ b ∷ [])) kind e
-    go (a ∷ b ∷ x ∷ xs) kind e = cc
-outcome-given op.Less = go
-  where
-    go : (kinds : List Kind) (kind : Kind) → kinds_of op.Less kinds ≡ Some kind → kind ≡ k.Bool
-    go [] kind e = cc
-    go (a ∷ []) kind e = cc
-    go (a ∷ b ∷ []) kind e = truth-of (common_kind (a ∷ b ∷ [])) kind e
-    go (a ∷ b ∷ x ∷ xs) kind e = cc
-outcome-given op.LessOrEqual = go
-  where
-    go : (kinds : List Kind) (kind : Kind) → kinds_of op.LessOrEqual kinds ≡ Some kind → kind ≡ k.Bool
-    go [] kind e = cc
-    go (a ∷ []) kind e = cc
-    go (a ∷ b ∷ []) kind e = truth-of (common_kind (a ∷ b ∷ [])) kind e
-    go (a ∷ b ∷ x ∷ xs) kind e = cc
-outcome-given op.Greater = go
-  where
-    go : (kinds : List Kind) (kind : Kind) → kinds_of op.Greater kinds ≡ Some kind → kind ≡ k.Bool
-    go [] kind e = cc
-    go (a ∷ []) kind e = cc
-    go (a ∷ b ∷ []) kind e = truth-of (common_kind (a ∷ b ∷ [])) kind e
-    go (a ∷ b ∷ x ∷ xs) kind e = cc
-outcome-given op.GreaterOrEqual = go
-  where
-    go : (kinds : List Kind) (kind : Kind) → kinds_of op.GreaterOrEqual kinds ≡ Some kind → kind ≡ k.Bool
-    go [] kind e = cc
-    go (a ∷ []) kind e = cc
-    go (a ∷ b ∷ []) kind e = truth-of (common_kind (a ∷ b ∷ [])) kind e
-    go (a ∷ b ∷ x ∷ xs) kind e = cc
-outcome-given op.Between = go
-  where
-    go : (kinds : List Kind) (kind : Kind) → kinds_of op.Between kinds ≡ Some kind → kind ≡ k.Bool
-    go [] kind e = cc
-    go (a ∷ []) kind e = cc
-    go (a ∷ b ∷ []) kind e = cc
-    go (a ∷ b ∷ x ∷ []) kind e = truth-of (common_kind (a ∷ b ∷ x ∷ [])) kind e
-    go (a ∷ b ∷ x ∷ y ∷ xs) kind e = cc
-outcome-given op.In = go
-  where
-    go : (kinds : List Kind) (kind : Kind) → kinds_of op.In kinds ≡ Some kind → kind ≡ k.Bool
-    go [] kind e = cc
-    go (a ∷ []) kind e = cc
-    go (a ∷ x ∷ xs) kind e = truth-if (is_set_of a (x ∷ xs)) kind e
-outcome-given op.NotIn = go
-  where
-    go : (kinds : List Kind) (kind : Kind) → kinds_of op.NotIn kinds ≡ Some kind → kind ≡ k.Bool
-    go [] kind e = cc
-    go (a ∷ []) kind e = cc
-    go (a ∷ x ∷ xs) kind e = truth-if (is_set_of a (x ∷ xs)) kind e
-outcome-given op.IsNull = go
-  where
-    go : (kinds : List Kind) (kind : Kind) → kinds_of op.IsNull kinds ≡ Some kind → kind ≡ k.Bool
-    go [] kind e = cc
-    go (a ∷ []) kind e = cc
-    go (a ∷ x ∷ xs) kind e = cc
+outcome-given op.Equal = two-given (kinds_of op.Equal) refl (λ a. refl) (λ a b. refl) (λ a b x xs. refl)
+outcome-given op.NotEqual = two-given (kinds_of op.NotEqual) refl (λ a. refl) (λ a b. refl) (λ a b x xs. refl)
+outcome-given op.Less = two-given (kinds_of op.Less) refl (λ a. refl) (λ a b. refl) (λ a b x xs. refl)
+outcome-given op.LessOrEqual = two-given (kinds_of op.LessOrEqual) refl (λ a. refl) (λ a b. refl) (λ a b x xs. refl)
+outcome-given op.Greater = two-given (kinds_of op.Greater) refl (λ a. refl) (λ a b. refl) (λ a b x xs. refl)
+outcome-given op.GreaterOrEqual = two-given (kinds_of op.GreaterOrEqual) refl (λ a. refl) (λ a b. refl) (λ a b x xs. refl)
+outcome-given op.Between = between-given
+outcome-given op.In = set-given (kinds_of op.In) refl (λ a. refl) (λ a x xs. refl)
+outcome-given op.NotIn = set-given (kinds_of op.NotIn) refl (λ a. refl) (λ a x xs. refl)
+outcome-given op.IsNull = null-given
 outcome-given o = tt
 
 -- ---- a node of its structure

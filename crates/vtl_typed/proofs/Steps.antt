@@ -12,11 +12,7 @@ pub weaker : {A : Type 0} (P Q : A → Type 0) (r : Result A ℕ) → ((x : A) �
 weaker P Q (Ok x) f h = f x h
 weaker P Q (Err rule) f h = tt
 
--- a step is given with its result
-pub itself : {A : Type 0} (r : Result A ℕ) → Gives (λ x. r ≡ Ok x) r
-itself (Ok x) = refl
-itself (Err rule) = tt
-
+-- where there is a result, this holds of it
 pub given : {A : Type 0} (P : A → Type 0) (r : Result A ℕ) (x : A) → Gives P r → r ≡ Ok x → P x
 given P r x h e = subst (Gives P) e h
 
