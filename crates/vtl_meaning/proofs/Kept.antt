@@ -252,14 +252,15 @@ count_split (x ∷ xs) ys h i = rw h.0 (ap suc (count_split xs ys h.1 i))
 width_by_roles : (s : Structure) → identifier_count (map (λ x. x.role) (columns_of s)) ≡ key_width s
 width_by_roles s = ap (λ xs. identifier_count (map (λ x. x.role) xs)) (columns_split s) ∙ count_split (identifiers_of s) (others_of s) (are_identifiers s) (are_others s)
 
+pub key_widths : (a s : Structure) → IsRenamed a s → key_width s ≡ key_width a
+key_widths a s i = sym (width_by_roles s) ∙ ap identifier_count i.roles ∙ width_by_roles a
+
 pub renamed_kept : (a s : Structure) (d : List Row) → IsRenamed a s → IsDataSet a d → IsDataSet s d
-renamed_kept a s d i h =
-    let width : key_width s ≡ key_width a = sym (width_by_roles s) ∙ ap identifier_count i.roles ∙ width_by_roles a in
-    record {
-      well_formed = i.well_formed;
-      typed = all_more (λ r. is_point (columns_of a) r ≡ true) (λ r. is_point (columns_of s) r ≡ true) (λ r k. point_of_same (columns_of a) (columns_of s) r (sym i.kinds) (sym i.roles) k) d h.typed;
-      distinct = subst (λ n. Distinct n d) (sym width) h.distinct;
-    }
+renamed_kept a s d i h = record {
+  well_formed = i.well_formed;
+  typed = all_more (λ r. is_point (columns_of a) r ≡ true) (λ r. is_point (columns_of s) r ≡ true) (λ r k. point_of_same (columns_of a) (columns_of s) r (sym i.kinds) (sym i.roles) k) d h.typed;
+  distinct = subst (λ n. Distinct n d) (sym (key_widths a s i)) h.distinct;
+}
 
 -- ---- `sub`
 -- a column among the first ones

@@ -1,5 +1,6 @@
 pub mod Drawn
 pub mod Kept
+pub mod LookUps
 pub mod Looks
 pub mod Orders
 pub mod Places
