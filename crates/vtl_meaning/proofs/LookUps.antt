@@ -96,11 +96,9 @@ measured_values p m xs r (u ∷ us) (y ∷ ys) =
 
 pub measured_look : (p : Settings) (m : MeasureTree) (a s : Structure) (d out : List Row) (k : Row) → IsMeasured p m a s → IsDataSet a d → measured_of p m a s d ≡ Ok out → look (key_width s) out k ≡ option_map (λ r. k ++ measured_at p m a s r) (look (key_width a) d k)
 measured_look p m a s d out k i h e =
-    each_look p a s (for_measures (with_measure m (columns_of a)) (measures_of a) (measures_of s)) d out k i.identifiers i.columns h e
-    ∙ ap (λ f. option_map f (look (key_width a) d k)) (same_values (λ r. ap (λ l. k ++ l) (measured_values p m (columns_of a) r (measures_of a) (measures_of s))))
-  where
-    same_values : {f g : Row → Row} → ((r : Row) → f r ≡ g r) → f ≡ g
-    same_values h = λ i r. h r i
+    let rest = for_measures (with_measure m (columns_of a)) (measures_of a) (measures_of s) in
+    each_look p a s rest d out k i.identifiers i.columns h e
+    ∙ found_map (λ r. is_point (columns_of a) r ≡ true) (key_width a) d k (λ r. k ++ point_of p rest r) (λ r. k ++ measured_at p m a s r) h.typed (λ r w key. ap (λ l. k ++ l) (measured_values p m (columns_of a) r (measures_of a) (measures_of s)))
 
 calculated_values : (p : Settings) (items : List ItemTree) (a : Structure) (r : Row) (ys : List Component) → point_of p (map (calculated_exp items (columns_of a)) ys) r ≡ map (calculated_at p items a r) ys
 calculated_values p items a r [] = refl
@@ -139,3 +137,135 @@ filtered_look p e a s d out k i h q =
 -- ---- `rename`
 pub renamed_look : (a s : Structure) (d : List Row) (k : Row) → IsRenamed a s → look (key_width s) d k ≡ look (key_width a) d k
 renamed_look a s d k i = ap (λ n. look n d k) (key_widths a s i)
+
+-- ---- two operands
+-- identifiers of an operand that the other one contains
+alike_role : (a b : Role) → same_role a b ≡ true → same_role a role.Identifier ≡ true → same_role b role.Identifier ≡ true
+alike_role role.Identifier role.Identifier e h = refl
+alike_role role.Identifier role.Measure e h = cc
+alike_role role.Identifier role.Attribute e h = cc
+alike_role role.Measure b e h = cc
+alike_role role.Attribute b e h = cc
+
+there_within : (y : Component) (xs : List Component) → IsIdentifier y → is_there compared.Kinds xs y ≡ true → place_of y.name (filter (λ x. same_role x.role role.Identifier) xs) < length (filter (λ x. same_role x.role role.Identifier) xs)
+there_within y [] h e = cc
+there_within y (x ∷ xs) h e = go (same_name x.name y.name) refl (same_role x.role role.Identifier) refl e (there_within y xs h)
+  where
+    rest : List Component
+    rest = filter (λ z. same_role z.role role.Identifier) xs
+
+    go : (n : Bool) → same_name x.name y.name ≡ n → (b : Bool) → same_role x.role role.Identifier ≡ b → option_map_or (is_alike compared.Kinds y) (cond n (Some x) (component_of y.name xs)) false ≡ true
+        → (is_there compared.Kinds xs y ≡ true → place_of y.name rest < length rest) → place_of y.name (cond b (x ∷ rest) rest) < length (cond b (x ∷ rest) rest)
+    go true f true g t ih = let here = place_here y.name x rest f in omega (arith, here)
+    go true f false g t ih = absurd (true≢false (sym (alike_role y.role x.role (and_parts (same_role y.role x.role) (same_kind y.kind x.kind) t).0 h) ∙ g))
+    go false f true g t ih = let later = place_later y.name x rest f in let less = ih t in omega (arith, later, less)
+    go false f false g t ih = ih t
+
+contained_within : (a b : Structure) → contains a b ≡ true → AllByRecursion (λ y. place_of y.name (identifiers_of a) < length (identifiers_of a)) (identifiers_of b)
+contained_within a b e = each_there (identifiers_of b) (are_identifiers b) e
+  where
+    each_there : (ys : List Component) → AllByRecursion IsIdentifier ys → list_all (is_there compared.Kinds a.components) ys ≡ true → AllByRecursion (λ y. place_of y.name (identifiers_of a) < length (identifiers_of a)) ys
+    each_there [] all h = tt
+    each_there (y ∷ ys) all h =
+        let parts = and_parts (is_there compared.Kinds a.components y) (list_all (is_there compared.Kinds a.components) ys) h in
+        (there_within y a.components all.0 parts.0, each_there ys all.1 parts.1)
+
+-- the value of a column in front of others
+null_alone : (v : Cell) → IsOf k.Null v → v ≡ c.Null
+null_alone c.Null h = refl
+null_alone (c.Bool x) h = cc
+null_alone (c.Int x) h = cc
+null_alone (c.Num x) h = cc
+null_alone (c.Text x) h = cc
+null_alone (c.Day x) h = cc
+null_alone (c.Period x) h = cc
+
+kind_of_none : (name : List ℕ) (xs : List Component) → length xs ≤ place_of name xs → kind_named name xs ≡ k.Null
+kind_of_none name [] h = refl
+kind_of_none name (x ∷ xs) h = go (same_name x.name name) refl (kind_of_none name xs)
+  where
+    go : (b : Bool) → same_name x.name name ≡ b → (length xs ≤ place_of name xs → kind_named name xs ≡ k.Null) → option_map_or (λ z. z.kind) (cond b (Some x) (component_of name xs)) k.Null ≡ k.Null
+    go true e ih = let here = place_here name x xs e in absurd (omega (arith, here, h))
+    go false e ih = let later = place_later name x xs e in ih (omega (arith, later, h))
+
+-- an expression that is the column of this name over rows that begin with these columns
+value_in_front : (p : Settings) (xs ys : List Component) (r q : Row) (name : List ℕ) → is_point xs r ≡ true → is_point ys q ≡ true → IsTyped p (xs ++ ys) (column_named xs name) → column_of (place_of name xs) (r ++ q) ≡ value_named xs r name
+value_in_front p xs ys r q name h g i =
+    let len = point_length xs r h in
+    elim (cases_lt (place_of name xs) (length xs)) [
+      | inl less ↦ get_or_append_left r q c.Null (place_of name xs) (omega (arith, less, len))
+      | inr past ↦
+          let kind = kind_of_none name xs past in
+          let typed : IsOf (kind_named name xs) (column_of (place_of name xs) (r ++ q)) = cell_is_of (place_of name xs) name (kind_named name xs) (xs ++ ys) (r ++ q) i (point_append xs ys r q h g) in
+          null_alone (column_of (place_of name xs) (r ++ q)) (subst (λ z. IsOf z (column_of (place_of name xs) (r ++ q))) kind typed)
+          ∙ sym (get_or_past r (place_of name xs) c.Null (omega (arith, past, len)))
+    ]
+
+value_behind : (xs ys : List Component) (r q : Row) (name : List ℕ) → is_point xs r ≡ true → column_of (length xs + place_of name ys) (r ++ q) ≡ value_named ys q name
+value_behind xs ys r q name h = ap (λ n. column_of (n + place_of name ys) (r ++ q)) (sym (point_length xs r h)) ∙ get_or-append-add r q (place_of name ys) c.Null
+
+-- the values of an operator on namesakes, whose columns have these values at a row
+namesake_values : (p : Settings) (o : ScalarOp) (xs : List Component) (left right : List ℕ → CompExp) (x : Row) (l r : List ℕ → Cell)
+    → ((n : List ℕ) → IsTyped p xs (left n) → value p (left n) x ≡ Ok (l n)) → ((n : List ℕ) → IsTyped p xs (right n) → value p (right n) x ≡ Ok (r n))
+    → (us ys zs : List Component) → AreFor p xs (for_measures (with_namesake o left right) us ys) zs
+    → point_of p (for_measures (with_namesake o left right) us ys) x ≡ values_for (λ u y. result_at p o y.kind (Ok (l u.name) ∷ Ok (r u.name) ∷ [])) us ys
+namesake_values p o xs left right x l r f g [] ys zs i = refl
+namesake_values p o xs left right x l r f g (u ∷ us) [] zs i = refl
+namesake_values p o xs left right x l r f g (u ∷ us) (y ∷ ys) [] i = absurd i
+namesake_values p o xs left right x l r f g (u ∷ us) (y ∷ ys) (z ∷ zs) i =
+    ap (λ m. result_at p o y.kind (m ∷ value p (right u.name) x ∷ []) ∷ point_of p (for_measures (with_namesake o left right) us ys) x) (f u.name i.0.1.0)
+    ∙ ap (λ m. result_at p o y.kind (Ok (l u.name) ∷ m ∷ []) ∷ point_of p (for_measures (with_namesake o left right) us ys) x) (g u.name i.0.1.1.0)
+    ∙ ap (λ v. result_at p o y.kind (Ok (l u.name) ∷ Ok (r u.name) ∷ []) ∷ v) (namesake_values p o xs left right x l r f g us ys zs i.2)
+
+-- the operand with all identifiers leads
+side_look : (p : Settings) (a b s : Structure) (rest : List CompExp) (F : Row → Row → Row) (d e out : List Row) (k : Row) → IsDataSet a d → IsDataSet b e → AllByRecursion (λ y. place_of y.name (identifiers_of a) < length (identifiers_of a)) (identifiers_of b)
+    → HasIdentifiers s (identifiers_of a) → AreFor p (columns_of a ++ columns_of b) (columns_named (columns_of a) (identifiers_of s) ++ rest) (columns_of s)
+    → ((r q : Row) → is_point (columns_of a) r ≡ true → is_point (columns_of b) q ≡ true → point_of p rest (r ++ q) ≡ F r q)
+    → each_point p (columns_named (columns_of a) (identifiers_of s) ++ rest) (paired a b d e) ≡ Ok out
+    → look (key_width s) out k ≡ of_both (λ r q. k ++ F r q) (look (key_width a) d k) (look (key_width b) e (part_for a b k))
+side_look p a b s rest F d e out k h g within i j f u =
+    ap (λ l. look n l k) (sym (unless_ok (faults_by (point_fault p es) rows) (map (point_of p es) rows) out u).1)
+    ∙ look-map w n (point_of p es) rows k k keys
+    ∙ ap (option_map (point_of p es)) (look-drawn w w (λ r. option_map (λ q. r ++ q) (partner a b e r)) d k own_keys h.distinct)
+    ∙ map_then (point_of p es) (λ r. option_map (λ q. r ++ q) (partner a b e r)) (look w d k)
+    ∙ found_then (λ r. is_point (columns_of a) r ≡ true) w d k (λ r. option_map (point_of p es) (option_map (λ q. r ++ q) (partner a b e r))) (λ r. option_map (λ q. k ++ F r q) (look (key_width b) e (part_for a b k))) h.typed at
+  where
+    n : ℕ
+    n = key_width s
+
+    w : ℕ
+    w = key_width a
+
+    es : List CompExp
+    es = columns_named (columns_of a) (identifiers_of s) ++ rest
+
+    rows : List Row
+    rows = paired a b d e
+
+    keys : AllByRecursion (λ x. same_row (take n (point_of p es x)) k ≡ same_row (take w x) k) rows
+    keys = drawn_all (Pairs a b) (λ x. same_row (take n (point_of p es x)) k ≡ same_row (take w x) k) (λ r x t. ap (λ z. same_row z k) (exps_keep p (columns_of a ++ columns_of b) a s rest x h.well_formed i j t.0 t.1 t.2).1) (beside a b e) d (all_paired a b d e h.typed g.typed)
+
+    own_keys : AllByRecursion (λ r. IfSome (option_map (λ q. r ++ q) (partner a b e r)) (λ q. take w q ≡ take w r)) d
+    own_keys = all_more (λ r. is_point (columns_of a) r ≡ true) (λ r. IfSome (option_map (λ q. r ++ q) (partner a b e r)) (λ q. take w q ≡ take w r)) (λ r t. some_if (λ q. take w q ≡ take w r) (λ q. r ++ q) (partner a b e r) (λ q found. take-append-le w r q (key_within a r t))) d h.typed
+
+    both : (r q : Row) → is_point (columns_of a) r ≡ true → take w r ≡ k → is_point (columns_of b) q ≡ true → point_of p es (r ++ q) ≡ k ++ F r q
+    both r q t key v =
+        let x = (Rattle.vtl_meaning.proofs.Kept.pairs_with a b r q t v) in
+        exps_split p a s rest (r ++ q) h.well_formed i x.1 ∙ ap (λ l. l ++ point_of p rest (r ++ q)) (x.3 ∙ key) ∙ ap (λ l. k ++ l) (f r q t v)
+
+    at : (r : Row) → is_point (columns_of a) r ≡ true → take w r ≡ k → option_map (point_of p es) (option_map (λ q. r ++ q) (partner a b e r)) ≡ option_map (λ q. k ++ F r q) (look (key_width b) e (part_for a b k))
+    at r t key =
+        map_twice (point_of p es) (λ q. r ++ q) (partner a b e r)
+        ∙ ap (λ z. option_map (λ q. point_of p es (r ++ q)) (look (key_width b) e z)) (part_of_point a b r k within key)
+        ∙ found_map (λ q. is_point (columns_of b) q ≡ true) (key_width b) e (part_for a b k) (λ q. point_of p es (r ++ q)) (λ q. k ++ F r q) g.typed (λ q v own. both r q t key v)
+
+pub pair_look : (p : Settings) (o : ScalarOp) (a b s : Structure) (d e out : List Row) (k : Row) → contains a b ≡ true → IsPaired p o a b s → IsDataSet a d → IsDataSet b e → pair_of p o a b s d e ≡ Ok out → look (key_width s) out k ≡ of_both (λ r q. k ++ paired_at p o a b s r q) (look (key_width a) d k) (look (key_width b) e (part_for a b k))
+pair_look p o a b s d e out k t i h g u =
+    let exps = for_measures (with_namesake o (column_named (columns_of a)) (column_behind (length (columns_of a)) (columns_of b))) (measures_of a) (measures_of s) in
+    let ids = subst (λ x. HasIdentifiers s (identifiers_of (cond x a b))) t i.identifiers in
+    let typed : AreFor p (columns_of a ++ columns_of b) (columns_named (columns_of a) (identifiers_of s) ++ exps) (columns_of s) = rw t at i.columns in
+    let split = for_back p (columns_of a ++ columns_of b) (columns_named (columns_of a) (identifiers_of s)) exps (identifiers_of s) (others_of s) (length-map (identifiers_of s) (λ y. column_named (columns_of a) y.name)) (subst (λ ys. AreFor p (columns_of a ++ columns_of b) (columns_named (columns_of a) (identifiers_of s) ++ exps) ys) (columns_split s) typed) in
+    side_look p a b s exps (λ r q. paired_at p o a b s r q) d e out k h g (contained_within a b t) ids typed
+    (λ r q v w. namesake_values p o (columns_of a ++ columns_of b) (column_named (columns_of a)) (column_behind (length (columns_of a)) (columns_of b)) (r ++ q) (value_named (columns_of a) r) (value_named (columns_of b) q)
+      (λ n j. ap Ok (value_in_front p (columns_of a) (columns_of b) r q n v w j)) (λ n j. ap Ok (value_behind (columns_of a) (columns_of b) r q n v)) (measures_of a) (measures_of s) (others_of s) split)
+    (rw t at u)
