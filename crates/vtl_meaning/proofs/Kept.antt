@@ -36,7 +36,7 @@ use Rattle.vtl_typing.specs.Kinds.{exp_kind}
 use Rattle.vtl_meaning.specs.Columns.{column_behind, column_named, columns_named, identifiers_of, measures_of, others_of, place_of, places_in}
 use Rattle.vtl_meaning.specs.Made.{AreAmong, AreFor, HasIdentifiers, IsAlternative, IsCalculated, IsChoice, IsColumnAt, IsFiltered, IsLeft, IsMade, IsMadeForm, IsMeasured, IsPaired, IsRenamed, IsSub}
 use Rattle.vtl_meaning.specs.Meaning.{AreDataSets, form_value, is_built, is_built_form, known_in, node_value, points_named}
-use Rattle.vtl_meaning.specs.Operators.{calculated_exp, calculated_exps, calculated_of, choice_of, for_measures, has_values, is_first_chosen, joined_point, left_of, measured_exps, measured_of, pair_columns, pair_exps, pair_of, pairs_of, sub_of, taken_at, taken_from, target_named, value_exp, with_measure, with_namesake}
+use Rattle.vtl_meaning.specs.Operators.{calculated_exp, calculated_exps, calculated_of, choice_of, for_measures, has_values, is_first_chosen, joined_point, left_of, measured_of, pair_of, sub_of, taken_at, taken_from, target_named, value_exp, with_measure, with_namesake}
 use Rattle.vtl_meaning.specs.Points.{beside, cell_or_null, each_point, paired, partner, point_fault, point_of}
 use Rattle.vtl_meaning.proofs.Drawn.{AreDrawn, AtMostOne, Keeps, drawn_all, drawn_apart, drawn_kept, map_drawn, mapped_kept, one_of_option, same_keys_back}
 use Rattle.vtl_meaning.proofs.Places.{IsIdentifier, IsOther, all_back, all_filtered, all_map, all_more, are_identifiers, are_measures, are_others, cells_fit, columns_split, joined_point_is, key_cells, key_for, key_of_joined, key_of_point, key_within, place_here, place_later, point_append, point_of_same, same_name-is, same_name-sym}

@@ -1,30 +1,28 @@
 -- The operators by look-up.
-use Rattle.std.proofs.Common.{◌≡◌, ℕ, zero, suc, ◌+◌, ◌<◌, ◌≤◌, ◌⊎◌, inl, inr, Bool, true, false, cond, ◌&&◌, ◌||◌, List, [], ◌∷◌, ◌++◌, length, map, take, get_or, Option, Some, None, Result, Ok, Err, refl, sym, ap, ◌∙◌, subst, arith, true≢false}
-use Rattle.std.specs.Prelude.{IfSome, find, option_map}
+use Rattle.std.proofs.Common.{◌≡◌, ℕ, ◌+◌, ◌<◌, ◌≤◌, inl, inr, Bool, true, false, cond, ◌&&◌, ◌||◌, List, [], ◌∷◌, ◌++◌, length, map, take, Option, Some, None, Ok, refl, sym, ap, ◌∙◌, subst, arith, true≢false}
+use Rattle.std.specs.Prelude.{IfSome, option_map}
 use Rattle.std.specs.List.{AllByRecursion, filter, flat_map, list_all, list_any}
 use Rattle.std.specs.Option.{option_and_then, option_map_or, option_to_list}
 use Rattle.std.proofs.lemmas.Bool.{and_parts, cases_lt}
-use Rattle.std.proofs.lemmas.List.{get_or-append-add, get_or_append_left, get_or_past, get_or-take, length-map, length-take-le, map-append, take-append-le}
+use Rattle.std.proofs.lemmas.List.{get_or-append-add, get_or_append_left, get_or_past, append-nil, get_or-take, length-map, length-take-le, map-append, take-append-le, take_all}
 use Rattle.vtl_decimal.specs.Settings.{Settings}
-use Rattle.vtl_lists.proofs.Aparts.{all_apart-filter}
 use Rattle.vtl_lists.proofs.Sorts.{AllByRecursion-filter}
 use Rattle.vtl_cell.specs.Kinds.{is_of}
 use Rattle.vtl_cell.specs.Order.{same_cell}
-use Rattle.vtl_cell.specs.Outcome.{Fault, Outcome, faults_by}
-use Rattle.vtl_cell.specs.Row.{Row, column_of, same_key, same_row}
+use Rattle.vtl_cell.specs.Outcome.{faults_by}
+use Rattle.vtl_cell.specs.Row.{Row, column_of, same_row}
 use Rattle.vtl_cell.specs.declared.cell.Cell.{Cell}
 use Rattle.vtl_cell.specs.declared.cell.Cell.TheVariants as c
-use Rattle.vtl_cell.specs.declared.kind.Kind.{Kind}
 use Rattle.vtl_cell.specs.declared.kind.Kind.TheVariants as k
 use Rattle.vtl_cell.specs.declared.operator.ScalarOp.{ScalarOp}
 use Rattle.vtl_cell.proofs.Rows.{same_row-is, same_row-refl}
 use Rattle.vtl_rows.specs.Tables.{cells_at}
 use Rattle.vtl_tree.specs.Clauses.{filter_of, is_true, kept}
-use Rattle.vtl_tree.specs.CompExp.{CompExp, call, comp_exp, no_comp_exps}
-use Rattle.vtl_tree.specs.DataSet.{Distinct, IsDataSet, is_point, look}
+use Rattle.vtl_tree.specs.CompExp.{CompExp}
+use Rattle.vtl_tree.specs.DataSet.{IsDataSet, is_point, look}
 use Rattle.vtl_tree.specs.Kept.{kept_row}
-use Rattle.vtl_tree.specs.Structure.{IsStructure, columns_of, key_width, names_of, same_name, same_role}
-use Rattle.vtl_tree.specs.Value.{called, value, values}
+use Rattle.vtl_tree.specs.Structure.{IsStructure, columns_of, key_width, same_name, same_role}
+use Rattle.vtl_tree.specs.Value.{value, values}
 use Rattle.vtl_tree.specs.View.{comp_exps_of}
 use Rattle.vtl_tree.specs.declared.structure.Component.{Component}
 use Rattle.vtl_tree.specs.declared.structure.Role.{Role}
@@ -41,12 +39,12 @@ use Rattle.vtl_shapes.specs.declared.operands.Compared.TheVariants as compared
 use Rattle.vtl_meaning.specs.Columns.{column_behind, column_named, columns_named, identifiers_of, kind_named, measures_of, others_of, place_of, places_in}
 use Rattle.vtl_meaning.specs.LookUps.{calculated_at, chosen_at, has_key_values, measured_at, of_both, paired_at, part_for, result_at, value_named, values_for, values_named}
 use Rattle.vtl_meaning.specs.Made.{AreAmong, AreFor, HasIdentifiers, IsAlternative, IsCalculated, IsChoice, IsColumnAt, IsFiltered, IsLeft, IsMeasured, IsPaired, IsRenamed, IsSub, IsTyped}
-use Rattle.vtl_meaning.specs.Operators.{calculated_exp, calculated_exps, calculated_of, choice_of, for_measures, has_values, is_first_chosen, joined_point, left_of, measured_exps, measured_of, pair_exps, pair_of, sub_of, taken_at, target_named, value_exp, with_measure, with_namesake}
+use Rattle.vtl_meaning.specs.Operators.{calculated_exp, calculated_of, choice_of, for_measures, has_values, is_first_chosen, joined_point, left_of, measured_of, pair_of, sub_of, taken_at, target_named, value_exp, with_measure, with_namesake}
 use Rattle.vtl_meaning.specs.Points.{beside, cell_or_null, each_point, paired, partner, point_fault, point_of}
-use Rattle.vtl_meaning.proofs.Drawn.{Keeps, drawn_all, drawn_apart, same_keys_back}
-use Rattle.vtl_meaning.proofs.Kept.{Alike, Pairs, alike_by_columns, alike_by_values, alike_cells, all_paired, both_all, calculated_split, column_within, exps_keep, exps_split, for_back, key_widths, look_is, one_of, place_front, shown_keeps, shown_split, sub_keys, unless_ok}
-use Rattle.vtl_meaning.proofs.Looks.{found_map, found_of_map, found_then, kept_all, look-drawn, look-map, map_then, map_twice, some_if, then_turned}
-use Rattle.vtl_meaning.proofs.Places.{IsIdentifier, all_filtered, all_more, are_identifiers, columns_split, first_cells, identifiers_apart, key_cells, key_of_joined, key_of_point, key_within, place_here, place_later, point_append, point_length}
+use Rattle.vtl_meaning.proofs.Drawn.{drawn_all}
+use Rattle.vtl_meaning.proofs.Kept.{Alike, Pairs, alike_by_columns, alike_by_values, alike_cells, all_paired, both_all, calculated_split, column_within, exps_keep, exps_split, for_back, key_widths, joined_keeps, look_is, one_of, pairs_with, place_front, shown_keeps, shown_split, taken_key, unless_ok}
+use Rattle.vtl_meaning.proofs.Looks.{found_map, found_of_map, found_then, kept_all, look-drawn, look-map, look_key, map_then, map_twice, some_if, then_turned}
+use Rattle.vtl_meaning.proofs.Places.{IsIdentifier, all_filtered, all_more, are_identifiers, columns_split, first_cells, identifiers_apart, key_cells, key_of_point, key_within, place_here, place_later, point_append, point_length}
 use Rattle.vtl_meaning.proofs.ValueKinds.{IsOf, cell_is_of}
 
 -- ---- values by name
@@ -124,8 +122,8 @@ left_look a s d k i h =
     look-map (key_width a) (key_width s) f d k k keys
     ∙ found_map P (key_width a) d k f (λ r. k ++ values_named (columns_of a) (others_of s) r) h.typed
     (λ r w key. shown_split (columns_of a) s r
-      ∙ ap (λ l. l ++ cells_at (places_in (columns_of a) (others_of s)) r) (key_cells a s r h.well_formed i.identifiers (key_within a r w) ∙ key)
-      ∙ ap (λ l. k ++ l) (named_cells (columns_of a) (others_of s) r))
+    ∙ ap (λ l. l ++ cells_at (places_in (columns_of a) (others_of s)) r) (key_cells a s r h.well_formed i.identifiers (key_within a r w) ∙ key)
+    ∙ ap (λ l. k ++ l) (named_cells (columns_of a) (others_of s) r))
 
 -- ---- `filter`
 pub filtered_look : (p : Settings) (e : CompExp) (a s : Structure) (d out : List Row) (k : Row) → IsFiltered p e a s → IsDataSet a d → filter_of p e d ≡ Ok out → look (key_width s) out k ≡ kept_row (λ r. is_true (value p e r)) (look (key_width a) d k)
@@ -250,7 +248,7 @@ side_look p a b s rest F d e out k h g within i j f u =
 
     both : (r q : Row) → is_point (columns_of a) r ≡ true → take w r ≡ k → is_point (columns_of b) q ≡ true → point_of p es (r ++ q) ≡ k ++ F r q
     both r q t key v =
-        let x = (Rattle.vtl_meaning.proofs.Kept.pairs_with a b r q t v) in
+        let x = pairs_with a b r q t v in
         exps_split p a s rest (r ++ q) h.well_formed i x.1 ∙ ap (λ l. l ++ point_of p rest (r ++ q)) (x.3 ∙ key) ∙ ap (λ l. k ++ l) (f r q t v)
 
     at : (r : Row) → is_point (columns_of a) r ≡ true → take w r ≡ k → option_map (point_of p es) (option_map (λ q. r ++ q) (partner a b e r)) ≡ option_map (λ q. k ++ F r q) (look (key_width b) e (part_for a b k))
@@ -267,5 +265,145 @@ pair_look p o a b s d e out k t i h g u =
     let split = for_back p (columns_of a ++ columns_of b) (columns_named (columns_of a) (identifiers_of s)) exps (identifiers_of s) (others_of s) (length-map (identifiers_of s) (λ y. column_named (columns_of a) y.name)) (subst (λ ys. AreFor p (columns_of a ++ columns_of b) (columns_named (columns_of a) (identifiers_of s) ++ exps) ys) (columns_split s) typed) in
     side_look p a b s exps (λ r q. paired_at p o a b s r q) d e out k h g (contained_within a b t) ids typed
     (λ r q v w. namesake_values p o (columns_of a ++ columns_of b) (column_named (columns_of a)) (column_behind (length (columns_of a)) (columns_of b)) (r ++ q) (value_named (columns_of a) r) (value_named (columns_of b) q)
-      (λ n j. ap Ok (value_in_front p (columns_of a) (columns_of b) r q n v w j)) (λ n j. ap Ok (value_behind (columns_of a) (columns_of b) r q n v)) (measures_of a) (measures_of s) (others_of s) split)
+    (λ n j. ap Ok (value_in_front p (columns_of a) (columns_of b) r q n v w j)) (λ n j. ap Ok (value_behind (columns_of a) (columns_of b) r q n v)) (measures_of a) (measures_of s) (others_of s) split)
     (rw t at u)
+
+or_second : (x y : Bool) → (x || y) ≡ true → x ≡ false → y ≡ true
+or_second true y h e = absurd (true≢false e)
+or_second false y h e = h
+
+pub pair_look_right : (p : Settings) (o : ScalarOp) (a b s : Structure) (d e out : List Row) (k : Row) → contains a b ≡ false → IsPaired p o a b s → IsDataSet a d → IsDataSet b e → pair_of p o a b s d e ≡ Ok out → look (key_width s) out k ≡ of_both (λ r q. k ++ paired_at p o a b s r q) (look (key_width a) d (part_for b a k)) (look (key_width b) e k)
+pair_look_right p o a b s d e out k t i h g u =
+    let exps = for_measures (with_namesake o (column_behind (length (columns_of b)) (columns_of a)) (column_named (columns_of b))) (measures_of a) (measures_of s) in
+    let ids = subst (λ x. HasIdentifiers s (identifiers_of (cond x a b))) t i.identifiers in
+    let typed : AreFor p (columns_of b ++ columns_of a) (columns_named (columns_of b) (identifiers_of s) ++ exps) (columns_of s) = rw t at i.columns in
+    let split = for_back p (columns_of b ++ columns_of a) (columns_named (columns_of b) (identifiers_of s)) exps (identifiers_of s) (others_of s) (length-map (identifiers_of s) (λ y. column_named (columns_of b) y.name)) (subst (λ ys. AreFor p (columns_of b ++ columns_of a) (columns_named (columns_of b) (identifiers_of s) ++ exps) ys) (columns_split s) typed) in
+    side_look p b a s exps (λ q r. paired_at p o a b s r q) e d out k g h (contained_within b a (or_second (contains a b) (contains b a) i.contained t)) ids typed
+    (λ q r v w. namesake_values p o (columns_of b ++ columns_of a) (column_behind (length (columns_of b)) (columns_of a)) (column_named (columns_of b)) (q ++ r) (value_named (columns_of a) r) (value_named (columns_of b) q)
+    (λ n j. ap Ok (value_behind (columns_of b) (columns_of a) q r n v)) (λ n j. ap Ok (value_in_front p (columns_of b) (columns_of a) q r n v w j)) (measures_of a) (measures_of s) (others_of s) split)
+    (rw t at u)
+    ∙ then_turned (λ r q. k ++ paired_at p o a b s r q) (look (key_width a) d (part_for b a k)) (look (key_width b) e k)
+
+-- ---- `if`
+module _ (t a b s : Structure) (tests d e : List Row) (k : Row) (i : IsChoice t a b s) (g : IsDataSet t tests) (h : IsDataSet a d) (l : IsDataSet b e) where
+  abbrev Chosen : Row → Option Row
+  Chosen r = cond (is_first_chosen t r) (option_map (joined_point t a s r) (partner t a d r)) (option_map (joined_point t b s r) (partner t b e r))
+
+  taken_chosen : (r : Row) → taken_at t a b s d e r ≡ option_to_list (Chosen r)
+  taken_chosen r = go (is_first_chosen t r) (option_map (joined_point t a s r) (partner t a d r)) (option_map (joined_point t b s r) (partner t b e r))
+    where
+      go : (x : Bool) (o u : Option Row) → cond x (option_to_list o) (option_to_list u) ≡ option_to_list (cond x o u)
+      go true o u = refl
+      go false o u = refl
+
+  joined_keys : (other : Structure) (points : List Row) (r : Row) → IsAlternative t other s → IsDataSet other points → is_point (columns_of t) r ≡ true → IfSome (option_map (joined_point t other s r) (partner t other points r)) (λ q. take (key_width s) q ≡ take (key_width t) r)
+  joined_keys other points r f u w =
+      some_if (λ q. take (key_width s) q ≡ take (key_width t) r) (joined_point t other s r) (partner t other points r)
+      (λ q found. (joined_keeps t other s r q g.well_formed i.identifiers i.no_attributes f.measures w
+      (look_is (λ z. is_point (columns_of other) z ≡ true) (key_width other) points (cells_at (places_in (columns_of t) (identifiers_of other)) r) q u.typed found)).1)
+
+  chosen_keys : (r : Row) → is_point (columns_of t) r ≡ true → IfSome (Chosen r) (λ q. take (key_width s) q ≡ take (key_width t) r)
+  chosen_keys r w = go (is_first_chosen t r)
+    where
+      go : (x : Bool) → IfSome (cond x (option_map (joined_point t a s r) (partner t a d r)) (option_map (joined_point t b s r) (partner t b e r))) (λ q. take (key_width s) q ≡ take (key_width t) r)
+      go true = joined_keys a d r i.first h w
+      go false = joined_keys b e r i.second l w
+
+  joined_at : (other : Structure) (points : List Row) (r : Row) → IsAlternative t other s → is_point (columns_of t) r ≡ true → take (key_width t) r ≡ k → option_map (joined_point t other s r) (partner t other points r) ≡ chosen_at t other s points k
+  joined_at other points r f w key =
+      ap (λ z. option_map (joined_point t other s r) (look (key_width other) points z)) (part_of_point t other r k (among_within (identifiers_of other) (identifiers_of t) f.there) key)
+      ∙ ap (λ f. option_map f (look (key_width other) points (part_for t other k))) whole
+    where
+      own : cells_at (places_in (columns_of t) (identifiers_of s)) r ≡ k
+      own = key_cells t s r g.well_formed i.identifiers (key_within t r w) ∙ key
+
+      whole : joined_point t other s r ≡ (λ q. k ++ values_named (columns_of other) (measures_of s) q)
+      whole = λ x q. (ap (λ z. z ++ cells_at (places_in (columns_of other) (measures_of s)) q) own ∙ ap (λ z. k ++ z) (named_cells (columns_of other) (measures_of s) q)) x
+
+  pub choice_look : look (key_width s) (choice_of t a b s tests d e) k ≡ option_and_then (λ r. cond (is_first_chosen t r) (chosen_at t a s d k) (chosen_at t b s e k)) (look (key_width t) tests k)
+  choice_look =
+      ap (λ f. look (key_width s) (flat_map f tests) k) (λ x r. taken_chosen r x)
+      ∙ look-drawn (key_width t) (key_width s) Chosen tests k (all_more (λ r. is_point (columns_of t) r ≡ true) (λ r. IfSome (Chosen r) (λ q. take (key_width s) q ≡ take (key_width t) r)) chosen_keys tests g.typed) g.distinct
+      ∙ found_then (λ r. is_point (columns_of t) r ≡ true) (key_width t) tests k Chosen (λ r. cond (is_first_chosen t r) (chosen_at t a s d k) (chosen_at t b s e k)) g.typed
+      (λ r w key. ap (λ o. cond (is_first_chosen t r) o (option_map (joined_point t b s r) (partner t b e r))) (joined_at a d r i.first w key) ∙ ap (λ o. cond (is_first_chosen t r) (chosen_at t a s d k) o) (joined_at b e r i.second w key))
+
+-- ---- `sub`
+same_truth : (x y : Bool) → (x ≡ true → y ≡ true) → (y ≡ true → x ≡ true) → x ≡ y
+same_truth true y f g = sym (f refl)
+same_truth false true f g = g refl
+same_truth false false f g = refl
+
+module _ (items : List SubItem) (a s : Structure) (i : IsSub items a s) (w : IsStructure a) where
+  within_key : (r : Row) (name : List ℕ) → place_of name (identifiers_of a) < length (identifiers_of a) → value_named (columns_of a) r name ≡ value_named (identifiers_of a) (take (key_width a) r) name
+  within_key r name h = ap (λ xs. value_named xs r name) (columns_split a) ∙ named_front (identifiers_of a) (others_of a) r name h
+
+  -- a point has these values where its key has them
+  values_of_key : (r : Row) → has_values a items r ≡ has_key_values a items (take (key_width a) r)
+  values_of_key r = go items i.values
+    where
+      go : (us : List SubItem) → AllByRecursion (λ x. (is_of (kind_named x.id (identifiers_of a)) x.value ≡ true) × IsColumnAt (place_of x.id (identifiers_of a)) x.id (kind_named x.id (identifiers_of a)) (identifiers_of a)) us → has_values a us r ≡ has_key_values a us (take (key_width a) r)
+      go [] all = refl
+      go (x ∷ us) all =
+          ap (λ v. same_cell v x.value && has_values a us r) (within_key r x.id (column_within (place_of x.id (identifiers_of a)) x.id (kind_named x.id (identifiers_of a)) (identifiers_of a) all.0.1))
+          ∙ ap (λ b. same_cell (value_named (identifiers_of a) (take (key_width a) r) x.id) x.value && b) (go us all.1)
+
+  -- tuples with these values that agree on what is left are one
+  one_tuple : (j l : Row) → length j ≡ key_width a → length l ≡ key_width a → has_key_values a items j ≡ true → has_key_values a items l ≡ true → part_for a s j ≡ part_for a s l → j ≡ l
+  one_tuple j l lj ll hj hl e =
+      let cells : cells_at (places_in (identifiers_of a) (identifiers_of s)) j ≡ cells_at (places_in (identifiers_of a) (identifiers_of s)) l = named_cells (identifiers_of a) (identifiers_of s) j ∙ e ∙ sym (named_cells (identifiers_of a) (identifiers_of s) l) in
+      let each_one : (x : Component) → (list_any (λ y. same_name y.name x.name) (identifiers_of s) || list_any (λ y. same_name y.id x.name) items) ≡ true → Alike (identifiers_of a) j l x.name = λ x t.
+      elim (one_of (list_any (λ y. same_name y.name x.name) (identifiers_of s)) (list_any (λ y. same_name y.id x.name) items) t) [
+        | inl m ↦ alike_by_columns (identifiers_of a) j l (identifiers_of s) x.name cells m
+        | inr m ↦ alike_by_values (identifiers_of a) j l items x.name hj hl m
+      ] in
+      let all = all_more (λ x. (list_any (λ y. same_name y.name x.name) (identifiers_of s) || list_any (λ y. same_name y.id x.name) items) ≡ true) (λ x. Alike (identifiers_of a) j l x.name) each_one (identifiers_of a) i.identifiers in
+      sym (whole j lj) ∙ alike_cells (identifiers_of a) j l (identifiers_of a) all ∙ whole l ll
+    where
+      whole : (m : Row) → length m ≡ key_width a → cells_at (places_in (identifiers_of a) (identifiers_of a)) m ≡ m
+      whole m h =
+          ap (λ xs. cells_at (places_in xs (identifiers_of a)) m) (sym (append-nil (identifiers_of a)))
+          ∙ first_cells (identifiers_of a) [] m (identifiers_apart a w) (omega (arith, h))
+          ∙ take_all (key_width a) m (omega (arith, h))
+
+  sub_key : (r : Row) → is_point (columns_of a) r ≡ true → has_values a items r ≡ true → take (key_width s) (cells_at (places_in (columns_of a) (columns_of s)) r) ≡ part_for a s (take (key_width a) r)
+  sub_key r h v =
+      taken_key items a s w i r (cells_at (places_in (columns_of a) (columns_of s)) r) (h, v, refl)
+      ∙ part_of_point a s r (take (key_width a) r) (among_within (identifiers_of s) (identifiers_of a) i.left) refl
+
+  key_length : (r : Row) → is_point (columns_of a) r ≡ true → length (take (key_width a) r) ≡ key_width a
+  key_length r h = length-take-le (key_width a) r (key_within a r h)
+
+  module _ (d : List Row) (h : IsDataSet a d) where
+    abbrev IsTaken : Row → Type 0
+    IsTaken r = (is_point (columns_of a) r ≡ true) × (has_values a items r ≡ true)
+
+    all_taken : AllByRecursion IsTaken (filter (has_values a items) d)
+    all_taken =
+        both_all (λ r. is_point (columns_of a) r ≡ true) (λ r. has_values a items r ≡ true) IsTaken (λ r t v. (t, v)) (filter (has_values a items) d)
+        (AllByRecursion-filter (λ r. is_point (columns_of a) r ≡ true) (has_values a items) d h.typed) (all_filtered (has_values a items) d)
+
+    pub sub_look : (j : Row) → length j ≡ key_width a → has_key_values a items j ≡ true → look (key_width s) (sub_of items a s d) (part_for a s j) ≡ option_map (λ r. part_for a s j ++ values_named (columns_of a) (others_of s) r) (look (key_width a) d j)
+    sub_look j len values =
+        look-map (key_width a) (key_width s) shown_row (filter (has_values a items) d) (part_for a s j) j (all_more IsTaken (λ r. same_row (take (key_width s) (shown_row r)) (part_for a s j) ≡ same_row (take (key_width a) r) j) keys (filter (has_values a items) d) all_taken)
+        ∙ ap (option_map shown_row) (look-filter (key_width a) (has_values a items) d j h.distinct ∙ kept_all (has_values a items) (look (key_width a) d j) (λ r e. values_of_key r ∙ ap (has_key_values a items) (look_key (key_width a) d j r e) ∙ values))
+        ∙ found_map (λ r. is_point (columns_of a) r ≡ true) (key_width a) d j shown_row (λ r. part_for a s j ++ values_named (columns_of a) (others_of s) r) h.typed
+        (λ r t key. shown_split (columns_of a) s r
+        ∙ ap (λ l. l ++ cells_at (places_in (columns_of a) (others_of s)) r) (part_of_point a s r j (among_within (identifiers_of s) (identifiers_of a) i.left) key)
+        ∙ ap (λ l. part_for a s j ++ l) (named_cells (columns_of a) (others_of s) r))
+      where
+        shown_row : Row → Row
+        shown_row = cells_at (places_in (columns_of a) (columns_of s))
+
+        keys : (r : Row) → IsTaken r → same_row (take (key_width s) (shown_row r)) (part_for a s j) ≡ same_row (take (key_width a) r) j
+        keys r t =
+            let key = sub_key r t.0 t.1 in
+            same_truth (same_row (take (key_width s) (shown_row r)) (part_for a s j)) (same_row (take (key_width a) r) j)
+            (λ e. let one = one_tuple (take (key_width a) r) j (key_length r t.0) len (sym (values_of_key r) ∙ t.1) values (sym key ∙ same_row-is (take (key_width s) (shown_row r)) (part_for a s j) e) in
+            ap (same_row (take (key_width a) r)) (sym one) ∙ same_row-refl (take (key_width a) r))
+            (λ e. ap (same_row (take (key_width s) (shown_row r))) (sym (key ∙ ap (part_for a s) (same_row-is (take (key_width a) r) j e))) ∙ same_row-refl (take (key_width s) (shown_row r)))
+
+    pub sub_look_only : (k q : Row) → look (key_width s) (sub_of items a s d) k ≡ Some q → (j : Row) × (length j ≡ key_width a) × (has_key_values a items j ≡ true) × (part_for a s j ≡ k)
+    sub_look_only k q e =
+        let found = found_of_map (key_width s) IsTaken (cells_at (places_in (columns_of a) (columns_of s))) (filter (has_values a items) d) k q all_taken e in
+        let r = found.0 in
+        (take (key_width a) r, key_length r found.1.0, sym (values_of_key r) ∙ found.1.1, sym (sub_key r found.1.0 found.1.1) ∙ found.2)

@@ -1,4 +1,5 @@
 pub mod Columns
+pub mod Faults
 pub mod LookUps
 pub mod Made
 pub mod Meaning

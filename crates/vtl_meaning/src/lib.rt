@@ -4,6 +4,6 @@
 mod laws;
 
 pub use laws::{
-    meaning_does_not_see_order, operators_do_not_see_order, operators_keep_data_sets, scripts_keep_data_sets,
-    values_are_of_their_kind,
+    meaning_does_not_see_order, operators_do_not_see_order, operators_keep_data_sets,
+    scripts_keep_data_sets, values_are_of_their_kind,
 };
