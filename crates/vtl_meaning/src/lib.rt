@@ -4,6 +4,7 @@
 mod laws;
 
 pub use laws::{
-    meaning_does_not_see_order, operators_do_not_see_order, operators_keep_data_sets,
-    scripts_keep_data_sets, values_are_of_their_kind,
+    faults_are_joined, meaning_does_not_see_order, operators_by_look_up,
+    operators_do_not_see_order, operators_keep_data_sets, scripts_keep_data_sets,
+    values_are_of_their_kind,
 };
