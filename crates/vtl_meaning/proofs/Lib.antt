@@ -1,4 +1,5 @@
 pub mod Drawn
+pub mod Examples
 pub mod Faults
 pub mod Kept
 pub mod LookUps
