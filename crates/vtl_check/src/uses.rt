@@ -4,7 +4,7 @@ ghost use Rattle.std.specs.Option.{option_copied};
 ghost use Rattle.std.specs.Prelude.{◌≡◌, ◌<◌, ◌++◌, IfOk, OnOk, Some, length, map, slice_get};
 ghost use Rattle.vtl_nodes.specs.View.{node_tree};
 ghost use Rattle.vtl_syntax.specs.View.{statement_tree};
-ghost use Rattle.vtl_check.specs.Uses.{output_in, outputs_in, reads, results_behind, with_declared, with_new};
+ghost use Rattle.vtl_check.specs.Uses.{output_in, outputs_in, read_behind, reads, results_behind, with_declared, with_new};
 
 use crate::known::{is_known, put};
 use crate::names::read_names;
@@ -57,6 +57,21 @@ fn put_declared(
     }
 }
 
+// Puts the declared data sets of some names behind others.
+fn put_reads(
+    alloc: Global,
+    declared: &IndexMap<Txt, Structure>,
+    known: &mut IndexMap<Txt, Structure>,
+    names: &[Txt],
+) -> Result<(), AllocError>
+    ensures { OnOk result (known.new.entries ≡ read_behind declared.now.entries known.old.entries names.now) }
+{
+    for name in names {
+        put_declared(alloc, known, name, declared.get(name))?;
+    }
+    Ok(())
+}
+
 // The declared data sets that expressions read.
 fn reads(
     alloc: Global,
@@ -67,9 +82,7 @@ fn reads(
 {
     let names = read_names(alloc, nodes)?;
     let mut known = IndexMap::new(alloc);
-    for name in &names {
-        put_declared(alloc, &mut known, name, declared.get(name))?;
-    }
+    put_reads(alloc, declared, &mut known, &names)?;
     Ok(known)
 }
 
@@ -81,7 +94,6 @@ fn entry(known: &IndexMap<Txt, Structure>, i: usize) -> (&Txt, &Structure)
 }
 
 // The names of data sets, in order.
-#[tactic(auto, using(crate::proofs::KnownLemmas::name_more))]
 fn names_by_place(alloc: Global, known: &IndexMap<Txt, Structure>) -> Result<Vec<Txt>, AllocError>
     ensures { IfOk result (λ v. v.items ≡ keys_of known.now.entries) }
 {
