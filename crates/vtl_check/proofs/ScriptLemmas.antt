@@ -39,14 +39,15 @@ nodes-typed env i before done (tree.assignment name kind x ∷ ss) ns e =
 nodes-typed env i before done (tree.datapoint n vs rs b ∷ ss) ns e = cc
 nodes-typed env i before done (tree.hierarchical n v rs b ∷ ss) ns e = cc
 
-pub as_many_nodes : (t : TypedScript) → IsTyped t → length t.nodes ≡ length t.script
-as_many_nodes t typed =
-    sym (length-map t.nodes node_tree)
-    ∙ nodes-typed (env_over t.settings t.declared) 1 0 [] (map statement_tree t.script) (map node_tree t.nodes) typed
-    ∙ omega (arith, length-map t.script statement_tree)
-
 abbrev with_parts : List Statement → Named → Settings → List Node → TypedScript
 with_parts script declared settings nodes = record { script = script; declared = declared; settings = settings; nodes = nodes }
+
+pub as_many_nodes : (script : List Statement) (declared : Named) (settings : Settings) (nodes : List Node)
+    → IsTyped (with_parts script declared settings nodes) → length nodes ≡ length script
+as_many_nodes script declared settings nodes typed =
+    sym (length-map nodes node_tree)
+    ∙ nodes-typed (env_over settings declared) 1 0 [] (map statement_tree script) (map node_tree nodes) typed
+    ∙ omega (arith, length-map script statement_tree)
 
 -- the same script, and the uses that were found of it
 pub typed_parts : (script shared : List Statement) (structures declared : Named) (settings : Settings) (nodes : List Node) (u : Uses)

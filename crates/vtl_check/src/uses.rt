@@ -1,10 +1,10 @@
 // The data sets that a typed script reads, and those that it gives.
 ghost use Rattle.std.specs.Map.{keys_of};
 ghost use Rattle.std.specs.Option.{option_copied};
-ghost use Rattle.std.specs.Prelude.{◌≡◌, ◌++◌, IfOk, OnOk, length, map};
+ghost use Rattle.std.specs.Prelude.{◌≡◌, ◌<◌, ◌++◌, IfOk, OnOk, Some, length, map, slice_get};
 ghost use Rattle.vtl_nodes.specs.View.{node_tree};
 ghost use Rattle.vtl_syntax.specs.View.{statement_tree};
-ghost use Rattle.vtl_check.specs.Uses.{output_in, outputs_in, reads, results_behind, with_declared, with_new};
+ghost use Rattle.vtl_check.specs.Uses.{output_in, outputs_in, read_behind, reads, results_behind, with_declared, with_new};
 
 use crate::known::{is_known, put};
 use crate::names::read_names;
@@ -57,6 +57,21 @@ fn put_declared(
     }
 }
 
+// Puts the declared data sets of some names behind others.
+fn put_reads(
+    alloc: Global,
+    declared: &IndexMap<Txt, Structure>,
+    known: &mut IndexMap<Txt, Structure>,
+    names: &[Txt],
+) -> Result<(), AllocError>
+    ensures { OnOk result (known.new.entries ≡ read_behind declared.now.entries known.old.entries names.now) }
+{
+    for name in names {
+        put_declared(alloc, known, name, declared.get(name))?;
+    }
+    Ok(())
+}
+
 // The declared data sets that expressions read.
 fn reads(
     alloc: Global,
@@ -67,10 +82,15 @@ fn reads(
 {
     let names = read_names(alloc, nodes)?;
     let mut known = IndexMap::new(alloc);
-    for name in &names {
-        put_declared(alloc, &mut known, name, declared.get(name))?;
-    }
+    put_reads(alloc, declared, &mut known, &names)?;
     Ok(known)
+}
+
+fn entry(known: &IndexMap<Txt, Structure>, i: usize) -> (&Txt, &Structure)
+    requires { i < length known.now.entries }
+    ensures { slice_get known.now.entries i ≡ Some (result.0.now, result.1.now) }
+{
+    known.get_index(i).unwrap()
 }
 
 // The names of data sets, in order.
@@ -78,7 +98,8 @@ fn names_by_place(alloc: Global, known: &IndexMap<Txt, Structure>) -> Result<Vec
     ensures { IfOk result (λ v. v.items ≡ keys_of known.now.entries) }
 {
     let mut names = Vec::new(alloc);
-    for name in known.keys() {
+    for i in 0..known.len() {
+        let (name, _) = entry(known, i);
         names.push(name.share()?)?;
     }
     Ok(names)
