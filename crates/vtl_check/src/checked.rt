@@ -65,7 +65,7 @@ impl Checked {
         requires { IsTyped (typed_script script.now structures.now profile.now nodes.items) }
         ensures { IfOk result (λ c. c ≡ typed_script script.now structures.now profile.now nodes.items) }
     {
-        match parts(alloc, script, structures, &nodes) {
+        match parts_of(alloc, script, structures, &nodes) {
             Ok(
                 Parts {
                     script,
@@ -166,7 +166,7 @@ struct Parts {
 }
 
 // What a script holds beside its nodes. They are borrowed, so that nothing here has to drop them.
-fn parts(
+fn parts_of(
     alloc: Global,
     script: &Script,
     structures: &Structures,
