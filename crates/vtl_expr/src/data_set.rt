@@ -1,0 +1,69 @@
+// Data sets that are kept in tables.
+ghost use Rattle.std.specs.Prelude.{◌≡◌, IfOk};
+ghost use Rattle.vtl_csv.specs.TableText.{IsTableOf};
+ghost use Rattle.vtl_expr.specs.DataSets.{data_set};
+
+use std::alloc::{AllocError, Global};
+use std::marker::Model;
+use vtl_rows::Table;
+use vtl_tree::Structure;
+
+/// A data set: its structure, and a table of its points with the structure's columns. A contract sees the structure and
+/// the list of the points.
+#[derive(Drop)]
+pub struct DataSet {
+    structure: Structure,
+    table: Table,
+}
+
+impl Model for DataSet {
+    ghost use Rattle.vtl_csv.specs.TableText.{IsTableOf};
+    ghost use Rattle.vtl_tree.specs.Meaning as meaning;
+    ghost use Rattle.vtl_expr.specs.DataSets.{data_set};
+
+    ghost Value = { meaning.DataSet };
+
+    ghost view = { λ d. data_set d.structure d.table.rows };
+
+    ghost invariant = { λ d. IsTableOf d.structure d.table };
+}
+
+impl DataSet {
+    /// The data set of a table that is one of this structure.
+    pub fn of(structure: Structure, table: Table) -> DataSet
+        requires { IsTableOf structure table }
+        ensures { result ≡ data_set structure table.rows }
+    {
+        DataSet { structure, table }
+    }
+
+    /// The structure.
+    pub fn structure(&self) -> &Structure
+        ensures { result.now ≡ self.now.structure }
+    {
+        &self.structure
+    }
+
+    /// The table of the points.
+    pub fn table(&self) -> &Table
+        ensures points { result.now.rows ≡ self.now.points }
+        ensures table { IsTableOf self.now.structure result.now }
+    {
+        &self.table
+    }
+
+    /// The table of the points, handed on.
+    pub fn into_table(self) -> Table
+        ensures points { result.rows ≡ self.points }
+        ensures table { IsTableOf self.structure result }
+    {
+        self.table
+    }
+
+    /// One more of the data set, whose texts are shared. It fails only for want of memory.
+    pub fn copy(&self, _alloc: Global) -> Result<DataSet, AllocError>
+        ensures { IfOk result (λ d. d ≡ self.now) }
+    {
+        Err(AllocError)
+    }
+}
