@@ -1,1 +1,3 @@
 pub mod DataSets
+pub mod Partners
+pub mod Sides
