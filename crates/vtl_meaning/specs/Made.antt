@@ -20,6 +20,7 @@ use Rattle.vtl_nodes.specs.declared.clauses.SubItem.{SubItem}
 use Rattle.vtl_shapes.specs.Pairs.{contains}
 use Rattle.vtl_typing.specs.Kinds.{exp_kind}
 use Rattle.vtl_meaning.specs.Columns.{identifiers_of, kind_named, measures_of, place_of}
+use Rattle.vtl_meaning.specs.Meaning.{Statement}
 use Rattle.vtl_meaning.specs.Operators.{calculated_exps, measured_exps, pair_columns, pair_exps, target_named}
 
 -- ---- expressions
@@ -162,3 +163,9 @@ abbrev mutual
   pub AreMadeOperands : Settings → Named → OperandTrees → Type 0
   AreMadeOperands p known nodes.no_operands = Unit {0}
   AreMadeOperands p known (nodes.operand n alias os) = IsMade p known n × AreMadeOperands p known os
+
+-- ---- statements
+-- each expression is made over what is known there: what was known before, and the results of earlier statements
+abbrev pub AreMadeStatements : Settings → Named → List Statement → Type 0
+AreMadeStatements p known [] = Unit {0}
+AreMadeStatements p known (s ∷ rest) = IsMade p known s.node × AreMadeStatements p ((s.result, structure_of s.node) ∷ known) rest

@@ -1,10 +1,13 @@
 -- The meaning of typed expressions and of statements over an environment of data sets.
-use Rattle.std.specs.Prelude.{ℕ, Bool, true, false, ◌&&◌, cond, List, [], ◌∷◌, Result, Ok, Err}
+use Rattle.std.specs.Prelude.{ℕ, Bool, true, false, ◌&&◌, cond, List, [], ◌∷◌, map, Result, Ok, Err}
+use Rattle.std.specs.List.{AllByRecursion}
 use Rattle.std.specs.Option.{option_map_or}
 use Rattle.vtl_decimal.specs.Settings.{Settings}
 use Rattle.vtl_cell.specs.Row.{Row}
 use Rattle.vtl_cell.specs.Outcome.{Fault, Outcome, after}
 use Rattle.vtl_tree.specs.Clauses.{filter_of}
+use Rattle.vtl_tree.specs.DataSet.{IsDataSet}
+use Rattle.vtl_tree.specs.Structures.{Named}
 use Rattle.vtl_tree.specs.Meaning.{DataSet, Environment, Outputs, data_of, with_output}
 use Rattle.vtl_tree.specs.declared.structure.Structure.{Structure}
 use Rattle.vtl_nodes.specs.Trees as nodes
@@ -14,6 +17,14 @@ use Rattle.vtl_meaning.specs.Operators.{calculated_of, choice_of, left_of, measu
 -- the points of a data set; a name that is missing has none, and no typed script holds one
 abbrev pub points_named : List ℕ → Environment → List Row
 points_named name env = option_map_or (λ d. d.points) (data_of name env) []
+
+-- what is known of an environment: each name with its structure
+abbrev pub known_in : Environment → Named
+known_in env = map (λ d. (d.0, d.1.structure)) env
+
+-- each data set of an environment is one
+abbrev pub AreDataSets : Environment → Type 0
+AreDataSets env = AllByRecursion (λ d. IsDataSet d.1.structure d.1.points) env
 
 -- The points of an expression, or the fault of the first of its parts that has one: operands before operators, from left to right.
 -- A form that is not evaluated yet has no points, and no script that is run holds one (`is_built`).
