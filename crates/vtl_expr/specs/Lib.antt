@@ -1,3 +1,4 @@
+pub mod Choices
 pub mod DataSets
 pub mod Partners
 pub mod Sides

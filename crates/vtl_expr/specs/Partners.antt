@@ -25,10 +25,6 @@ sought_by s other points = record { places = places_in (columns_of s) (identifie
 abbrev pub with_found : (Row → Row → Row) → Sought → Row → List Row
 with_found f sought r = option_to_list (option_map (f r) (found sought r))
 
--- cells at places of a row, and behind them those at places of the point that it asks for
-abbrev pub taken : List ℕ → List ℕ → Sought → Row → List Row
-taken identifiers measures = with_found (λ r q. cells_at identifiers r ++ cells_at measures q)
-
 -- the first n cells of each row with its number, from a first one on
 abbrev pub numbered : ℕ → ℕ → List Row → List (Row × ℕ)
 numbered n i [] = []

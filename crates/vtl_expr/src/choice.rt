@@ -1,15 +1,13 @@
 // `if` on data sets.
-ghost use Rattle.std.specs.Prelude.{◌≡◌, ◌<◌, ◌++◌, true, map, Ok, Some, IfOk, OnOk};
-ghost use Rattle.vtl_cell.specs.Row.{Row, column_of};
-ghost use Rattle.vtl_rows.specs.Tables.{cells_at, fits};
+ghost use Rattle.std.specs.Prelude.{◌≡◌, ◌<◌, ◌++◌, Ok, IfOk, OnOk};
+ghost use Rattle.vtl_cell.specs.Row.{column_of};
+ghost use Rattle.vtl_rows.specs.Tables.{cells_at};
 ghost use Rattle.vtl_tree.specs.Clauses.{is_true};
-ghost use Rattle.vtl_tree.specs.Structure.{columns_of};
 ghost use Rattle.vtl_csv.specs.TableText.{table_columns};
-ghost use Rattle.vtl_meaning.specs.Columns.{measures_of, places_in};
 ghost use Rattle.vtl_meaning.specs.Made.{IsChoice};
 ghost use Rattle.vtl_meaning.specs.Operators.{choice_of};
+ghost use Rattle.vtl_expr.specs.Choices.{Fits, IsAsked, IsBetween, chosen, taken};
 ghost use Rattle.vtl_expr.specs.DataSets.{data_set};
-ghost use Rattle.vtl_expr.specs.Partners.{found, sought_by, taken};
 
 use crate::DataSet;
 use crate::columns::measures;
@@ -26,9 +24,9 @@ use vtl_tree::Structure;
 
 // Where the condition's points find those of an operand, and the places of the measures that are taken.
 #[derive(Drop)]
-struct Alternative<'a> {
-    partners: Partners<'a>,
-    measures: Vec<usize>,
+pub(crate) struct Alternative<'a> {
+    pub(crate) partners: Partners<'a>,
+    pub(crate) measures: Vec<usize>,
 }
 
 impl<'a> Alternative<'a> {
@@ -39,12 +37,10 @@ impl<'a> Alternative<'a> {
         made: &Structure,
         steps: &mut Steps<L>,
     ) -> Result<Alternative<'a>, AllocError>
-        ensures partners { IfOk result (λ x. x.partners ≡ sought_by condition.now operand.now.structure operand.now.points) }
-        ensures measures { IfOk result (λ x. x.measures.items ≡ places_in (columns_of operand.now.structure) (measures_of made.now)) }
+        ensures { IfOk result (IsAsked condition.now operand.now made.now) }
     {
         let partners = Partners::of(alloc, condition, operand, steps)?;
-        let columns = operand.structure().columns(alloc)?;
-        let measures = places_in(alloc, &columns, &measures(alloc, made)?)?;
+        let measures = places_in(alloc, operand.structure(), &measures(alloc, made)?)?;
         Ok(Alternative { partners, measures })
     }
 }
@@ -82,14 +78,63 @@ fn push_taken<L: Ledger>(
     row: &[Cell],
     steps: &mut Steps<L>,
 ) -> Result<(), AllocError>
-    requires { (q : Row) → found operand.now.partners row.now ≡ Some q → fits out.old.columns (cells_at identifiers.now row.now ++ cells_at operand.now.measures.items q) ≡ true }
+    requires { Fits out.old.columns identifiers.now operand.now row.now }
     ensures columns { out.new.columns ≡ out.old.columns }
-    ensures rows { OnOk result (out.new.rows ≡ out.old.rows ++ taken identifiers.now operand.now.measures.items operand.now.partners row.now) }
+    ensures rows { OnOk result (out.new.rows ≡ out.old.rows ++ taken identifiers.now operand.now row.now) }
 {
     if let Some(point) = operand.partners.find(alloc, row, steps)? {
         out.push_row(joined(alloc, row, identifiers, point, &operand.measures)?)?;
     }
     Ok(())
+}
+
+// What `if` takes its points from: the place of the test, those of the identifiers, and both operands.
+#[derive(Drop)]
+pub(crate) struct Choice<'a> {
+    pub(crate) test: usize,
+    pub(crate) identifiers: Vec<usize>,
+    pub(crate) first: Alternative<'a>,
+    pub(crate) second: Alternative<'a>,
+}
+
+impl<'a> Choice<'a> {
+    fn of<L: Ledger>(
+        alloc: Global,
+        condition: &Structure,
+        then: &'a DataSet,
+        other: &'a DataSet,
+        made: &Structure,
+        steps: &mut Steps<L>,
+    ) -> Result<Choice<'a>, AllocError>
+        ensures { IfOk result (IsBetween condition.now then.now other.now made.now) }
+    {
+        Ok(Choice {
+            test: condition.identifiers(alloc)?.len(),
+            identifiers: places_in(alloc, condition, &made.identifiers(alloc)?)?,
+            first: Alternative::of(alloc, condition, then, made, steps)?,
+            second: Alternative::of(alloc, condition, other, made, steps)?,
+        })
+    }
+
+    // Adds the point that is taken at a point of the condition, where there is one.
+    fn push<L: Ledger>(
+        &self,
+        alloc: Global,
+        out: &mut Table,
+        row: &[Cell],
+        steps: &mut Steps<L>,
+    ) -> Result<(), AllocError>
+        requires first { Fits out.old.columns self.now.identifiers.items self.now.first row.now }
+        requires second { Fits out.old.columns self.now.identifiers.items self.now.second row.now }
+        ensures columns { out.new.columns ≡ out.old.columns }
+        ensures rows { OnOk result (out.new.rows ≡ out.old.rows ++ chosen self.now row.now) }
+    {
+        if is_true_at(row, self.test) {
+            push_taken(alloc, out, &self.identifiers, &self.first, row, steps)
+        } else {
+            push_taken(alloc, out, &self.identifiers, &self.second, row, steps)
+        }
+    }
 }
 
 fn choice_table<L: Ledger>(
@@ -108,22 +153,11 @@ fn choice_table<L: Ledger>(
     ensures rows { IfOk result (λ t. t.rows ≡ choice_of condition.now.structure then.now.structure other.now.structure made.now condition.now.points then.now.points other.now.points) }
 {
     let mut steps: Steps<L> = Steps::new(blank);
-    let asking = condition.structure();
-    let first = Alternative::of(alloc, asking, then, made, &mut steps)?;
-    let second = Alternative::of(alloc, asking, other, made, &mut steps)?;
-    let columns = asking.columns(alloc)?;
-    let identifiers = places_in(alloc, &columns, &made.identifiers(alloc)?)?;
-    let test = asking.identifiers(alloc)?.len();
+    let choice = Choice::of(alloc, condition.structure(), then, other, made, &mut steps)?;
     let mut out = new_table(alloc, made)?;
     let table = condition.table();
     for i in 0..table.len() {
-        let row = table.row(i);
-        let chosen = if is_true_at(row, test) {
-            &first
-        } else {
-            &second
-        };
-        push_taken(alloc, &mut out, &identifiers, chosen, row, &mut steps)?;
+        choice.push(alloc, &mut out, table.row(i), &mut steps)?;
     }
     Ok(out)
 }

@@ -25,12 +25,15 @@ pub(crate) fn place_of(columns: &[&Component], name: &Txt) -> usize
 }
 
 // The kind of the column of this name, or that of null where there is none.
+#[tactic(auto, using(crate::proofs::ColumnLemmas::kind_there, crate::proofs::ColumnLemmas::kind_gone))]
 pub(crate) fn kind_named(columns: &[&Component], name: &Txt) -> Kind
     ensures { result ≡ kind_named name.now (shown columns.now) }
 {
-    match columns.get(place_of(columns, name)) {
-        Some(column) => column.kind,
-        None => Kind::Null,
+    let place = place_of(columns, name);
+    if place < columns.len() {
+        columns[place].kind
+    } else {
+        Kind::Null
     }
 }
 

@@ -1,11 +1,16 @@
 // Data sets that are kept in tables.
-ghost use Rattle.std.specs.Prelude.{◌≡◌, IfOk};
+ghost use Rattle.std.specs.Prelude.{◌≡◌, IfOk, List};
+ghost use Rattle.vtl_cell.specs.Outcome.{Outcome};
+ghost use Rattle.vtl_cell.specs.Row.{Row};
+ghost use Rattle.vtl_scalar.specs.Answers.{Answers, AnswersBy};
+ghost use Rattle.vtl_tree.specs.DataSet.{IsDataSet};
 ghost use Rattle.vtl_csv.specs.TableText.{IsTableOf};
-ghost use Rattle.vtl_expr.specs.DataSets.{data_set};
+ghost use Rattle.vtl_expr.specs.DataSets.{data_set, with_structure};
 
 use std::alloc::{AllocError, Global};
 use std::marker::Model;
 use vtl_rows::Table;
+use vtl_scalar::ScalarErr;
 use vtl_tree::Structure;
 
 /// A data set: its structure, and a table of its points with the structure's columns. A contract sees the structure and
@@ -37,9 +42,24 @@ impl DataSet {
         DataSet { structure, table }
     }
 
+    /// The data set of a table that was answered, which is one of this structure.
+    pub fn answered(
+        structure: Structure,
+        table: Result<Table, ScalarErr>,
+    ) -> Result<DataSet, ScalarErr>
+        requires { IfOk table (IsTableOf structure) }
+        ensures { (m : Outcome (List Row)) → AnswersBy (λ t. t.rows) table m → Answers result (with_structure structure m) }
+    {
+        match table {
+            Ok(table) => Ok(DataSet::of(structure, table)),
+            Err(error) => Err(error),
+        }
+    }
+
     /// The structure.
     pub fn structure(&self) -> &Structure
-        ensures { result.now ≡ self.now.structure }
+        ensures structure { result.now ≡ self.now.structure }
+        ensures points { IsDataSet self.now.structure self.now.points }
     {
         &self.structure
     }

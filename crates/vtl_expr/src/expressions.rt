@@ -1,6 +1,7 @@
 // Expressions that are made from columns and other expressions.
 ghost use Rattle.std.specs.Prelude.{◌≡◌, ◌++◌, ◌∷◌, [], length, map, IfOk, OnOk};
 ghost use Rattle.vtl_tree.specs.Shown.{shown};
+ghost use Rattle.vtl_tree.specs.Structure.{columns_of};
 ghost use Rattle.vtl_tree.specs.View.{comp_exp_of};
 ghost use Rattle.vtl_meaning.specs.Columns.{column_behind, column_named, columns_named};
 
@@ -8,7 +9,7 @@ use crate::columns::{kind_named, place_of};
 use std::alloc::{AllocError, Global};
 use vtl_cell::clone_cell;
 use vtl_text::Txt;
-use vtl_tree::{AggCall, CompExpr, Component};
+use vtl_tree::{AggCall, CompExpr, Component, Structure};
 
 fn copied_name(name: &Option<Txt>) -> Result<Option<Txt>, AllocError>
     ensures { IfOk result (λ copy. copy ≡ name.now) }
@@ -98,17 +99,18 @@ pub fn push_column(
     Ok(())
 }
 
-// The columns of the names of others, as expressions.
+// The columns of a structure that have the names of others, as expressions.
 pub(crate) fn columns_named(
     alloc: Global,
-    columns: &[&Component],
+    structure: &Structure,
     wanted: &[&Component],
 ) -> Result<Vec<CompExpr>, AllocError>
-    ensures { IfOk result (λ v. map comp_exp_of v.items ≡ columns_named (shown columns.now) (shown wanted.now)) }
+    ensures { IfOk result (λ v. map comp_exp_of v.items ≡ columns_named (columns_of structure.now) (shown wanted.now)) }
 {
+    let columns = structure.columns(alloc)?;
     let mut exps = Vec::new(alloc);
     for column in wanted {
-        push_column(&mut exps, columns, &column.name)?;
+        push_column(&mut exps, &columns, &column.name)?;
     }
     Ok(exps)
 }

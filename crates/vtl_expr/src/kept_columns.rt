@@ -16,8 +16,8 @@ fn kept_table(alloc: Global, a: &DataSet, made: &Structure) -> Result<Table, All
     ensures columns { IfOk result (λ t. t.columns ≡ table_columns made.now) }
     ensures rows { IfOk result (λ t. t.rows ≡ left_of a.now.structure made.now a.now.points) }
 {
-    let columns = a.structure().columns(alloc)?;
-    let places = places_in(alloc, &columns, &made.columns(alloc)?)?;
+    let columns = made.columns(alloc)?;
+    let places = places_in(alloc, a.structure(), &columns)?;
     a.table().project(alloc, &places)
 }
 

@@ -2,6 +2,7 @@
 ghost use Rattle.std.specs.Prelude.{◌≡◌, ◌++◌, ◌∷◌, [], map, IfOk, OnOk};
 ghost use Rattle.vtl_scalar.specs.Answers.{Answers, AnswersBy};
 ghost use Rattle.vtl_tree.specs.Shown.{shown};
+ghost use Rattle.vtl_tree.specs.Structure.{columns_of};
 ghost use Rattle.vtl_tree.specs.View.{comp_exp_of};
 ghost use Rattle.vtl_csv.specs.TableText.{table_columns};
 ghost use Rattle.vtl_nodes.specs.View.{measure_tree};
@@ -46,14 +47,15 @@ fn push_measured(
     alloc: Global,
     exps: &mut Vec<CompExpr>,
     op: &MeasureOp,
-    columns: &[&Component],
+    structure: &Structure,
     measures: &[&Component],
     made: &[&Component],
 ) -> Result<(), AllocError>
-    ensures { OnOk result (map comp_exp_of exps.new.items ≡ map comp_exp_of exps.old.items ++ for_measures (with_measure (measure_tree op.now) (shown columns.now)) (shown measures.now) (shown made.now)) }
+    ensures { OnOk result (map comp_exp_of exps.new.items ≡ map comp_exp_of exps.old.items ++ for_measures (with_measure (measure_tree op.now) (columns_of structure.now)) (shown measures.now) (shown made.now)) }
 {
+    let columns = structure.columns(alloc)?;
     for i in 0..measures.len().min(made.len()) {
-        exps.push(with_measure(alloc, op, columns, measures[i], made[i])?)?;
+        exps.push(with_measure(alloc, op, &columns, measures[i], made[i])?)?;
     }
     Ok(())
 }
@@ -67,11 +69,10 @@ fn measured_exps(
 ) -> Result<Vec<CompExpr>, AllocError>
     ensures { IfOk result (λ v. map comp_exp_of v.items ≡ measured_exps (measure_tree op.now) a.now made.now) }
 {
-    let columns = a.columns(alloc)?;
     let ours = measures(alloc, a)?;
     let theirs = measures(alloc, made)?;
-    let mut exps = columns_named(alloc, &columns, &made.identifiers(alloc)?)?;
-    push_measured(alloc, &mut exps, op, &columns, &ours, &theirs)?;
+    let mut exps = columns_named(alloc, a, &made.identifiers(alloc)?)?;
+    push_measured(alloc, &mut exps, op, a, &ours, &theirs)?;
     Ok(exps)
 }
 
@@ -103,6 +104,6 @@ pub fn map_measures(
     requires { IsMeasured p.now (measure_tree op.now) a.now.structure made }
     ensures { Answers result (with_structure made (measured_of p.now (measure_tree op.now) a.now.structure made a.now.points)) }
 {
-    let table = measured_table(alloc, op, a, &made, p)?;
-    Ok(DataSet::of(made, table))
+    let table = measured_table(alloc, op, a, &made, p);
+    DataSet::answered(made, table)
 }

@@ -100,13 +100,13 @@ fn push_namesakes(
 pub(crate) fn namesake_exps(
     alloc: Global,
     op: ScalarOp,
-    lead: &[&Component],
+    lead: &Structure,
     left: &Side<'_>,
     right: &Side<'_>,
     a: &Structure,
     made: &Structure,
 ) -> Result<Vec<CompExpr>, AllocError>
-    ensures { IfOk result (λ v. map comp_exp_of v.items ≡ columns_named (shown lead.now) (identifiers_of made.now) ++ for_measures (with_namesake op (side_column left.now) (side_column right.now)) (measures_of a.now) (measures_of made.now)) }
+    ensures { IfOk result (λ v. map comp_exp_of v.items ≡ columns_named (columns_of lead.now) (identifiers_of made.now) ++ for_measures (with_namesake op (side_column left.now) (side_column right.now)) (measures_of a.now) (measures_of made.now)) }
 {
     let ours = measures(alloc, a)?;
     let theirs = measures(alloc, made)?;

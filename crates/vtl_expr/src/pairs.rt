@@ -4,6 +4,7 @@ ghost use Rattle.vtl_cell.specs.Outcome.{faults_by, join};
 ghost use Rattle.vtl_cell.specs.Row.{Row};
 ghost use Rattle.vtl_rows.specs.Tables.{fits};
 ghost use Rattle.vtl_scalar.specs.Answers.{Answers, AnswersBy};
+ghost use Rattle.vtl_tree.specs.DataSet.{IsDataSet};
 ghost use Rattle.vtl_tree.specs.Seen.{seen_of};
 ghost use Rattle.vtl_tree.specs.Structure.{IsStructure, columns_of};
 ghost use Rattle.vtl_tree.specs.View.{comp_exp_of};
@@ -77,6 +78,7 @@ fn each_pair<L: Ledger>(
     requires parts { blank.parts ≡ L.parts }
     requires some { 0 < L.parts }
     requires structure { IsStructure made.now }
+    requires other { IsDataSet other.now.structure other.now.points }
     requires expressions { AreFor p.now (columns_of lead.now.structure ++ columns_of other.now.structure) (map comp_exp_of exps.now) (columns_of made.now) }
     ensures columns { IfOk result (λ t. t.columns ≡ table_columns made.now) }
     ensures rows { AnswersBy (λ t. t.rows) result (each_point p.now (map comp_exp_of exps.now) (paired lead.now.structure other.now.structure lead.now.points other.now.points)) }
@@ -106,17 +108,11 @@ fn left_leads(
     ensures columns { IfOk result (λ t. t.columns ≡ table_columns made.now) }
     ensures rows { AnswersBy (λ t. t.rows) result (pair_of p.now op a.now.structure b.now.structure made.now a.now.points b.now.points) }
 {
-    let left = Side::leading(alloc, a.structure())?;
-    let right = Side::behind(alloc, a.structure(), b.structure())?;
-    let exps = namesake_exps(
-        alloc,
-        op,
-        &left.columns,
-        &left,
-        &right,
-        a.structure(),
-        made,
-    )?;
+    let ours = a.structure();
+    let theirs = b.structure();
+    let left = Side::leading(alloc, ours)?;
+    let right = Side::behind(alloc, ours, theirs)?;
+    let exps = namesake_exps(alloc, op, ours, &left, &right, ours, made)?;
     each_pair::<Brand>(alloc, &exps, a, b, made, p, Blank::new(1))
 }
 
@@ -134,17 +130,11 @@ fn right_leads(
     ensures columns { IfOk result (λ t. t.columns ≡ table_columns made.now) }
     ensures rows { AnswersBy (λ t. t.rows) result (pair_of p.now op a.now.structure b.now.structure made.now a.now.points b.now.points) }
 {
-    let left = Side::behind(alloc, b.structure(), a.structure())?;
-    let right = Side::leading(alloc, b.structure())?;
-    let exps = namesake_exps(
-        alloc,
-        op,
-        &right.columns,
-        &left,
-        &right,
-        a.structure(),
-        made,
-    )?;
+    let ours = a.structure();
+    let theirs = b.structure();
+    let left = Side::behind(alloc, theirs, ours)?;
+    let right = Side::leading(alloc, theirs)?;
+    let exps = namesake_exps(alloc, op, theirs, &left, &right, ours, made)?;
     each_pair::<Brand>(alloc, &exps, b, a, made, p, Blank::new(1))
 }
 
@@ -181,6 +171,6 @@ pub fn pair_measures(
     requires { IsPaired p.now op a.now.structure b.now.structure made }
     ensures { Answers result (with_structure made (pair_of p.now op a.now.structure b.now.structure made a.now.points b.now.points)) }
 {
-    let table = pair_table(alloc, op, a, b, &made, p)?;
-    Ok(DataSet::of(made, table))
+    let table = pair_table(alloc, op, a, b, &made, p);
+    DataSet::answered(made, table)
 }

@@ -1,5 +1,5 @@
 // The points of a data set by their identifiers.
-ghost use Rattle.std.specs.Prelude.{◌≡◌, ◌≤◌, length, IfOk};
+ghost use Rattle.std.specs.Prelude.{◌≡◌, ◌≤◌, length, take, IfOk};
 ghost use Rattle.std.specs.Option.{option_copied};
 ghost use Rattle.vtl_index.specs.Index.{rows_by, width_of};
 ghost use Rattle.vtl_index.specs.Lookup.{rows_of};
@@ -36,6 +36,14 @@ impl<'a> Model for Partners<'a> {
     ghost invariant = { λ p. (width_of p.index ≡ length p.places.items) × (rows_by p.index ≡ rows_of (numbered (length p.places.items) 0 p.table.now.rows)) };
 }
 
+fn first_cells(row: &[Cell], width: usize) -> &[Cell]
+    requires { width ≤ length row.now }
+    ensures cells { result.now ≡ take width row.now }
+    ensures width { length result.now ≡ width }
+{
+    &row[..width]
+}
+
 // The numbers of rows by their first cells.
 fn index_of<L: Ledger>(
     alloc: Global,
@@ -49,8 +57,7 @@ fn index_of<L: Ledger>(
 {
     let mut index = Index::new(alloc, width);
     for i in 0..table.len() {
-        let row = table.row(i);
-        index.add(&row[..width], i, steps)?;
+        index.add(first_cells(table.row(i), width), i, steps)?;
     }
     Ok(index)
 }
@@ -65,9 +72,8 @@ impl<'a> Partners<'a> {
     ) -> Result<Partners<'a>, AllocError>
         ensures { IfOk result (λ partners. partners ≡ sought_by asking.now other.now.structure other.now.points) }
     {
-        let columns = asking.columns(alloc)?;
         let identifiers = other.structure().identifiers(alloc)?;
-        let places = places_in(alloc, &columns, &identifiers)?;
+        let places = places_in(alloc, asking, &identifiers)?;
         let table = other.table();
         let index = index_of(alloc, table, places.len(), steps)?;
         Ok(Partners {

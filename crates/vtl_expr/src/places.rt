@@ -3,24 +3,26 @@ ghost use Rattle.std.specs.Prelude.{◌≡◌, ◌++◌, IfOk, OnOk};
 ghost use Rattle.vtl_cell.specs.Row.{column_of};
 ghost use Rattle.vtl_rows.specs.Tables.{cells_at};
 ghost use Rattle.vtl_tree.specs.Shown.{shown};
+ghost use Rattle.vtl_tree.specs.Structure.{columns_of};
 ghost use Rattle.vtl_meaning.specs.Columns.{places_in};
 
 use crate::columns::place_of;
 use std::alloc::{AllocError, Global};
 use vtl_cell::{Cell, clone_cell};
-use vtl_tree::Component;
+use vtl_tree::{Component, Structure};
 
-/// The places of columns, by their names, among others.
+/// The places of components, by their names, among the columns of a structure.
 pub fn places_in(
     alloc: Global,
-    columns: &[&Component],
+    structure: &Structure,
     wanted: &[&Component],
 ) -> Result<Vec<usize>, AllocError>
-    ensures { IfOk result (λ v. v.items ≡ places_in (shown columns.now) (shown wanted.now)) }
+    ensures { IfOk result (λ v. v.items ≡ places_in (columns_of structure.now) (shown wanted.now)) }
 {
+    let columns = structure.columns(alloc)?;
     let mut places = Vec::with_capacity(alloc, wanted.len())?;
     for column in wanted {
-        places.push(place_of(columns, &column.name))?;
+        places.push(place_of(&columns, &column.name))?;
     }
     Ok(places)
 }
