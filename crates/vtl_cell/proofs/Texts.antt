@@ -1,16 +1,16 @@
 -- The text of a value stands for the value.
 use Rattle.std.proofs.Common.{ℕ, suc, ℤ, pos, negsuc, ◌≡◌, ◌-◌, ◌*◌, ◌/◌, ◌%◌, ◌^◌, ◌<◌, ◌≤◌, Bool, true, false, cond, List, [], ◌∷◌, ◌++◌, length, Option, Some, None, Ok, Err, refl, ap, sym, ◌∙◌, arith, append-nil, length-append}
-use Rattle.std.specs.Prelude.{IsOk, unsigned_abs, nat_lt, option_and_then, option_map, ◌==◌}
+use Rattle.std.specs.Prelude.{IsOk, unsigned_abs, nat_lt, nat_le, option_and_then, option_map, ◌==◌}
 use Rattle.std.specs.Fmt.{decimal, signed_decimal}
 use Rattle.std.specs.Result.{result_ok}
 use Rattle.std.specs.Str.{all_ascii_digits}
 use Rattle.std.specs.Str.Parse.{digits_value}
 use Rattle.std.proofs.Math.Nat.{pow-le-pow_right}
-use Rattle.std.proofs.lemmas.Bool.{eq-eqb, ltb-true}
+use Rattle.std.proofs.lemmas.Bool.{eq-eqb, ltb-true, le-leb, cond-true}
 use Rattle.std.proofs.lemmas.Fmt.{decimal_nonempty, digits_decimal, digits_value-decimal, length-decimal-le}
 use Rattle.std.proofs.lemmas.Str.{chars-IsAscii}
 use Rattle.std.proofs.lemmas.Str.Parse.{IsNumeralModel, numerals_by_value, tells_all_ascii_digits}
-use Rattle.vtl_decimal.specs.Numeral.{Numeral, SpellsNumeral, IsSign, no_sign, minus, no_point, no_exponent, signed, numerator, integer_of, integer_read}
+use Rattle.vtl_decimal.specs.Numeral.{Numeral, SpellsNumeral, IsSign, no_sign, minus, no_point, no_exponent, signed, numerator, IsShort, integer_of, integer_spelled, integer_read}
 use Rattle.vtl_decimal.specs.Range.{fit_integer}
 use Rattle.vtl_decimal.specs.Settings.{Settings}
 use Rattle.vtl_decimal.specs.declared.number.Fault.TheVariants.{Range}
@@ -35,13 +35,12 @@ whole_numeral negative n = record {
   exponent = pos 0;
 }
 
-whole_spelled : (sign : List ℕ) (negative : Bool) (n : ℕ) → IsSign sign negative → length sign ≤ 1 → n < 10 ^ 18 → SpellsNumeral (sign ++ decimal n) (whole_numeral negative n)
-whole_spelled sign negative n is few small = record {
+whole_spelled : (sign : List ℕ) (negative : Bool) (n : ℕ) → IsSign sign negative → n < 10 ^ 18 → SpellsNumeral (sign ++ decimal n) (whole_numeral negative n)
+whole_spelled sign negative n is small = record {
   sign = sign;
   separator = [];
   power = [];
   parts = ap (λ l. sign ++ l) (sym (append-nil (decimal n)));
-  short = omega (arith, length-append sign (decimal n), length-decimal-le 18 n (omega arith) small (omega arith));
   signs = is;
   whole_digits = digits_decimal own n (omega arith);
   points = no_point;
@@ -49,6 +48,9 @@ whole_spelled sign negative n is few small = record {
   some_digit = omega (arith, decimal_nonempty n (omega arith));
   exponents = no_exponent;
 }
+
+whole_short : (sign : List ℕ) (n : ℕ) → length sign ≤ 1 → n < 10 ^ 18 → IsShort (sign ++ decimal n)
+whole_short sign n few small = omega (arith, length-append sign (decimal n), length-decimal-le 18 n (omega arith) small (omega arith))
 
 whole_value : (s : ℕ) (negative : Bool) (n : ℕ) → n < 10 ^ 18 → nat_lt (unsigned_abs (signed negative n)) (10 ^ (18 - s)) ≡ true → integer_of s (whole_numeral negative n) ≡ Some (signed negative n)
 whole_value s negative n small fits =
@@ -70,7 +72,9 @@ small_enough s n negative fits =
 whole_read : (s : ℕ) (sign : List ℕ) (negative : Bool) (n : ℕ) → IsSign sign negative → length sign ≤ 1 → nat_lt (unsigned_abs (signed negative n)) (10 ^ (18 - s)) ≡ true → integer_read s (sign ++ decimal n) ≡ Some (signed negative n)
 whole_read s sign negative n is few fits =
     let small = small_enough s n negative fits in
-    ap (option_and_then (integer_of s)) (spelled_numeral (sign ++ decimal n) (whole_numeral negative n) (whole_spelled sign negative n is few small))
+    let t = sign ++ decimal n in
+    cond-true (nat_le (length t) 64) (integer_spelled s t) None (le-leb (length t) 64 (whole_short sign n few small))
+    ∙ ap (option_and_then (integer_of s)) (spelled_numeral t (whole_numeral negative n) (whole_spelled sign negative n is small))
     ∙ whole_value s negative n small fits
 
 integer_read_back : (s : ℕ) (n : ℤ) → nat_lt (unsigned_abs n) (10 ^ (18 - s)) ≡ true → integer_read s (signed_decimal n) ≡ Some n

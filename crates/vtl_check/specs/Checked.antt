@@ -1,5 +1,6 @@
 -- Scripts that are typed, with their nodes.
-use Rattle.std.specs.Prelude.{◌≡◌, List, Ok, map}
+use Rattle.std.specs.Prelude.{◌≡◌, ℕ, List, Ok, map}
+use Rattle.std.specs.Map.{keys_of}
 use Rattle.vtl_decimal.specs.Settings.{Settings}
 use Rattle.vtl_syntax.specs.Trees.{ScriptTree}
 use Rattle.vtl_syntax.specs.View.{statement_tree}
@@ -11,6 +12,8 @@ use Rattle.vtl_nodes.specs.View.{node_tree}
 use Rattle.vtl_nodes.specs.declared.nodes.Node.{Node}
 use Rattle.vtl_forms.specs.Places.{Env}
 use Rattle.vtl_check.specs.Script.{script_typed}
+use Rattle.vtl_check.specs.Uses.{outputs_in, reads, results_behind}
+use Rattle.vtl_check.specs.declared.uses.Uses.{Uses}
 
 -- a script with the structures and the settings that it is typed over, and its nodes, one for each statement
 pub record TypedScript : Type 0 where
@@ -34,3 +37,21 @@ nodes_of t = map node_tree t.nodes
 
 abbrev pub IsTyped : TypedScript → Type 0
 IsTyped t = script_typed (env_over t.settings t.declared) (tree_of t) ≡ Ok (nodes_of t)
+
+-- the names of the declared data sets that the script reads, in order of first use
+abbrev pub inputs_of : TypedScript → List (List ℕ)
+inputs_of t = keys_of (reads t.declared (nodes_of t))
+
+-- the names of the results that the script writes with `<-`, in order
+abbrev pub outputs_of : TypedScript → List (List ℕ)
+outputs_of t = outputs_in (tree_of t)
+
+-- the data sets that the script reads, and then all its results, with their structures
+abbrev pub known_of : TypedScript → Named
+known_of t = results_behind (reads t.declared (nodes_of t)) (tree_of t) (nodes_of t)
+
+-- these are the data sets that the script reads and gives
+pub record AreUses (t : TypedScript) (u : Uses) : Type 0 where
+  pub known_data : u.known.entries ≡ known_of t
+  pub read_names : u.inputs.items ≡ inputs_of t
+  pub written_names : u.outputs.items ≡ outputs_of t

@@ -1,4 +1,6 @@
 pub mod Checked
 pub mod Count
+pub mod Names
 pub mod Script
 pub mod Spent
+pub mod Uses

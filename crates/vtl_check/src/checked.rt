@@ -1,13 +1,18 @@
 // Scripts that are typed.
-ghost use Rattle.std.specs.Prelude.{◌≡◌, IfOk, Ok, false, map};
+ghost use Rattle.std.specs.Map.{keys_of, lookup};
+ghost use Rattle.std.specs.Option.{option_copied};
+ghost use Rattle.std.specs.Prelude.{◌≡◌, IfOk, Ok, false, length, map};
 ghost use Rattle.vtl_syntax.specs.View.{script_tree, statement_tree};
 ghost use Rattle.vtl_nodes.specs.View.{node_tree};
-ghost use Rattle.vtl_check.specs.Checked.{IsTyped, TypedScript, env_over, nodes_of, typed_script};
+ghost use Rattle.vtl_tree.specs.Structure.{same_name};
+ghost use Rattle.vtl_check.specs.Checked.{AreUses, IsTyped, TypedScript, env_over, inputs_of, known_of, nodes_of, outputs_of, typed_script};
+ghost use Rattle.vtl_check.specs.Uses.{outputs_in, reads, results_behind};
 ghost use Rattle.vtl_check.specs.Script.{Checks, has_definitions, is_definition, script_typed};
 
 use crate::CheckErr;
 use crate::known::share_structures;
 use crate::script::typed_statements;
+use crate::uses::{Uses, uses_of};
 use indexmap::IndexMap;
 use std::alloc::{AllocError, Global};
 use std::marker::Model;
@@ -15,21 +20,23 @@ use vtl_decimal::Profile;
 use vtl_forms::Scope;
 use vtl_nodes::Node;
 use vtl_syntax::{Script, Statement};
-use vtl_text::{Shared, Txt};
+use vtl_text::Txt;
 use vtl_tree::{Structure, Structures};
 
 /// A script that is typed over declared structures, with its nodes. The script is shared.
 #[derive(Drop)]
 pub struct Checked {
-    script: Shared<Statement>,
+    script: Script,
     declared: IndexMap<Txt, Structure>,
     profile: Profile,
     nodes: Vec<Node>,
+    uses: Uses,
 }
 
 impl Model for Checked {
     ghost use Rattle.std.specs.Coded.{codes};
-    ghost use Rattle.vtl_check.specs.Checked.{IsTyped, TypedScript};
+    ghost use Rattle.std.specs.Prelude.{◌≡◌};
+    ghost use Rattle.vtl_check.specs.Checked.{AreUses, IsTyped, TypedScript};
     ghost use Rattle.vtl_syntax.specs.contracts.statements.Statement as s;
     ghost use Rattle.vtl_nodes.specs.contracts.nodes.Node as n;
 
@@ -37,23 +44,65 @@ impl Model for Checked {
 
     ghost coded = { Prim.hlevel (codes, s.the_row.coded, n.the_row.coded) };
 
-    ghost view = { λ c. record { script = c.script; declared = c.declared.entries; settings = c.profile; nodes = c.nodes.items } };
+    ghost view = { λ c. record { script = c.script.statements; declared = c.declared.entries; settings = c.profile; nodes = c.nodes.items } };
 
-    ghost invariant = { λ c. IsTyped (record { script = c.script; declared = c.declared.entries; settings = c.profile; nodes = c.nodes.items }) };
+    ghost invariant = { λ c.
+        IsTyped (record { script = c.script.statements; declared = c.declared.entries; settings = c.profile; nodes = c.nodes.items })
+        × AreUses (record { script = c.script.statements; declared = c.declared.entries; settings = c.profile; nodes = c.nodes.items }) c.uses };
 }
 
 impl Checked {
+    /// A script that is typed over these structures with these nodes, one for each statement. The script is shared. It fails only
+    /// for want of memory.
+    #[tactic(auto, using(crate::proofs::ScriptLemmas::as_many_nodes, crate::proofs::ScriptLemmas::typed_parts))]
+    pub fn of(
+        alloc: Global,
+        script: &Script,
+        structures: &Structures,
+        nodes: Vec<Node>,
+        profile: &Profile,
+    ) -> Result<Checked, AllocError>
+        requires { IsTyped (typed_script script.now structures.now profile.now nodes.items) }
+        ensures { IfOk result (λ c. c ≡ typed_script script.now structures.now profile.now nodes.items) }
+    {
+        match parts(alloc, script, structures, &nodes) {
+            Ok(
+                Parts {
+                    script,
+                    declared,
+                    uses,
+                },
+            ) => Ok(Checked {
+                script,
+                declared,
+                profile: *profile,
+                nodes,
+                uses,
+            }),
+            Err(error) => Err(error),
+        }
+    }
+
+    /// The script.
+    pub fn script(&self) -> &Script
+        ensures { result.now.statements ≡ self.now.script }
+    {
+        &self.script
+    }
+
     /// The statements of the script.
     pub fn statements(&self) -> &[Statement]
         ensures { result.now ≡ self.now.script }
     {
-        self.script.as_slice()
+        self.script.statements.as_slice()
     }
 
     /// The nodes of the statements, in order.
+    #[tactic(auto, using(crate::proofs::ScriptLemmas::as_many_nodes))]
     pub fn nodes(&self) -> &[Node]
         ensures nodes { result.now ≡ self.now.nodes }
         ensures typed { IsTyped self.now }
+        ensures as_many { length result.now ≡ length self.now.script }
     {
         self.nodes.as_slice()
     }
@@ -63,6 +112,27 @@ impl Checked {
         ensures { result.now ≡ self.now.settings }
     {
         &self.profile
+    }
+
+    /// The names of the declared data sets that the script reads, in order of first use.
+    pub fn inputs(&self) -> &[Txt]
+        ensures { result.now ≡ inputs_of self.now }
+    {
+        &self.uses.inputs
+    }
+
+    /// The names of the results that the script writes with `<-`, in order.
+    pub fn outputs(&self) -> &[Txt]
+        ensures { result.now ≡ outputs_of self.now }
+    {
+        &self.uses.outputs
+    }
+
+    /// The structure of a declared data set that the script reads, or of a result. There is none for another name.
+    pub fn structure(&self, name: &Txt) -> Option<&Structure>
+        ensures { option_copied result ≡ lookup (same_name name.now) (known_of self.now) }
+    {
+        self.uses.known.get(name)
     }
 }
 
@@ -87,23 +157,35 @@ pub fn defines_rulesets(script: &Script) -> bool
     false
 }
 
-// The script with its nodes.
-fn with_nodes(
+// What a typed script holds beside its nodes.
+#[derive(Drop)]
+struct Parts {
+    script: Script,
+    declared: IndexMap<Txt, Structure>,
+    uses: Uses,
+}
+
+// What a script holds beside its nodes. They are borrowed, so that nothing here has to drop them.
+fn parts(
     alloc: Global,
     script: &Script,
     structures: &Structures,
-    profile: &Profile,
-    nodes: Vec<Node>,
-) -> Result<Checked, AllocError>
-    requires { IsTyped (typed_script script.now structures.now profile.now nodes.items) }
-    ensures { IfOk result (λ c. c ≡ typed_script script.now structures.now profile.now nodes.items) }
+    nodes: &[Node],
+) -> Result<Parts, AllocError>
+    requires { length nodes.now ≡ length script.now.statements }
+    ensures script { IfOk result (λ p. p.script.statements ≡ script.now.statements) }
+    ensures declared { IfOk result (λ p. p.declared.entries ≡ structures.now) }
+    ensures known { IfOk result (λ p. p.uses.known.entries ≡ results_behind (reads structures.now (map node_tree nodes.now)) (map statement_tree script.now.statements) (map node_tree nodes.now)) }
+    ensures inputs { IfOk result (λ p. p.uses.inputs.items ≡ keys_of (reads structures.now (map node_tree nodes.now))) }
+    ensures outputs { IfOk result (λ p. p.uses.outputs.items ≡ outputs_in (map statement_tree script.now.statements)) }
 {
     let declared = share_structures(alloc, structures)?;
-    Ok(Checked {
-        script: script.statements.share()?,
+    let uses = uses_of(alloc, &declared, script.statements.as_slice(), nodes)?;
+    let script = script.share()?;
+    Ok(Parts {
+        script,
         declared,
-        profile: *profile,
-        nodes,
+        uses,
     })
 }
 
@@ -127,5 +209,5 @@ pub fn check(
         known,
     };
     let nodes = typed_statements(alloc, scope, script.statements.as_slice())?;
-    Ok(with_nodes(alloc, script, structures, profile, nodes)?)
+    Ok(Checked::of(alloc, script, structures, nodes, profile)?)
 }

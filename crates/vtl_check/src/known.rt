@@ -4,22 +4,9 @@ ghost use Rattle.vtl_tree.specs.Structures.{AreStructures, has_name};
 
 use indexmap::IndexMap;
 use std::alloc::{AllocError, Global};
-use vtl_shapes::share_component;
-use vtl_text::{List, Txt};
+use vtl_shapes::share_structure;
+use vtl_text::Txt;
 use vtl_tree::{Structure, Structures};
-
-/// Another owner of a structure.
-pub fn share_structure(alloc: Global, structure: &Structure) -> Result<Structure, AllocError>
-    ensures { IfOk result (λ s. s ≡ structure.now) }
-{
-    let mut components = Vec::new(alloc);
-    for component in structure.components.as_slice() {
-        components.push(share_component(component)?)?;
-    }
-    Ok(Structure {
-        components: List::of(components),
-    })
-}
 
 /// Whether a name is known.
 pub fn is_known(known: &IndexMap<Txt, Structure>, name: &Txt) -> bool

@@ -11,11 +11,12 @@ ghost use Rattle.vtl_check.specs.Script.{Checks, assigned, fault_at, most_nodes,
 
 use crate::CheckErr;
 use crate::count::counted;
-use crate::known::{is_known, put, share_structure};
+use crate::known::{is_known, put};
 use std::alloc::{AllocError, Global};
 use vtl_forms::{Place, Scope};
 use vtl_nodes::Node;
 use vtl_rule_tests::TypeErr;
+use vtl_shapes::share_structure;
 use vtl_syntax::{Expr, Statement};
 use vtl_text::Txt;
 use vtl_walk::typing;

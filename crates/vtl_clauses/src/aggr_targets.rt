@@ -17,11 +17,10 @@ ghost use Rattle.vtl_clauses.specs.Targets.{aggr_clause, aggr_name, call_in, gro
 ghost use Rattle.vtl_clauses.specs.TargetsView.{AnswersLeft};
 
 use crate::Made;
-use crate::clauses::made;
 use crate::targets::role_of;
 use std::alloc::{AllocError, Global};
 use vtl_cell::Kind;
-use vtl_forms::Typed;
+use vtl_forms::{Typed, made_node};
 use vtl_groups::{grouping_choice, grouping_names};
 use vtl_nodes::{AggItems, AggSpec, AggTarget, Node, NodeForm};
 use vtl_rule_tests::{TypeErr, broken};
@@ -194,7 +193,7 @@ fn made_aggregate(
 ) -> Result<Box<Node>, TypeErr>
     ensures { Answers boxed_tree result (made_of (tree.aggregate (boxed_tree operand) (agg_tree spec)) structure) }
 {
-    made(alloc, structure, NodeForm::Aggregate { a: operand, spec })
+    made_node(alloc, structure, NodeForm::Aggregate { a: operand, spec })
 }
 
 fn aggr_spec(

@@ -10,10 +10,10 @@ ghost use Rattle.vtl_clauses.specs.Clauses.{made_of};
 ghost use Rattle.vtl_clauses.specs.Targets.{calc_clause, calc_name, calc_tree, component_kind, is_analytic, item_names, role_of, target_of, value_kind, with_item};
 ghost use Rattle.vtl_clauses.specs.TargetsView.{AnswersLeft, items_view};
 
-use crate::clauses::made;
 use crate::targets::role_of;
 use std::alloc::{AllocError, Global};
 use vtl_cell::Kind;
+use vtl_forms::made_node;
 use vtl_groups::given_kind;
 use vtl_nodes::{AnalyticSpec, CalcItem, CalcValue, Node, NodeForm};
 use vtl_rule_tests::{TypeErr, broken};
@@ -165,7 +165,7 @@ fn made_calc(
 ) -> Result<Box<Node>, TypeErr>
     ensures { Answers boxed_tree result (made_of (calc_tree (boxed_tree operand) (items_view items)) structure) }
 {
-    made(alloc, structure, form_of(operand, items))
+    made_node(alloc, structure, form_of(operand, items))
 }
 
 /// `calc`, behind its targets. It breaks rules 12 and 19.

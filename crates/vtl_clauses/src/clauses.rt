@@ -1,50 +1,20 @@
 // The clauses `filter`, `keep` and `drop`.
-ghost use Rattle.std.specs.Prelude.{◌≡◌, ◌++◌, [], IfOk, OnOk};
+ghost use Rattle.std.specs.Prelude.{◌≡◌, []};
 ghost use Rattle.vtl_nodes.specs.View.{form_tree};
 ghost use Rattle.vtl_tree.specs.View.{comp_exp_of};
 ghost use Rattle.vtl_rule_tests.specs.Answers.{Answers};
 ghost use Rattle.vtl_shapes.specs.declared.names.Wanted.TheVariants as wanted_role;
 ghost use Rattle.vtl_forms.specs.Typed.{boxed_tree, typed_tree};
-ghost use Rattle.vtl_clauses.specs.Clauses.{filter_form, keeping_choice, keeping_form, keeping_tree, made_of, name_known, names_typed, references_in};
+ghost use Rattle.vtl_clauses.specs.Clauses.{filter_form, keeping_choice, keeping_form, keeping_tree, name_known, names_typed, references_in};
 
-use std::alloc::{AllocError, Global};
-use vtl_forms::{Joined, Typed, name_written, written_by};
+use std::alloc::Global;
+use vtl_forms::{Joined, Typed, made_node, name_written, written_by};
 use vtl_nodes::{Node, NodeForm};
 use vtl_rule_tests::TypeErr;
-use vtl_shapes::{Choice, Wanted, choose, known, share_component};
+use vtl_shapes::{Choice, Wanted, choose, known, share_structure};
 use vtl_syntax::{Keeping, Reference};
 use vtl_text::{List, Txt};
-use vtl_tree::{Component, Structure};
-
-// A data set of this structure, made so.
-pub(crate) fn made(
-    alloc: Global,
-    structure: Structure,
-    form: NodeForm,
-) -> Result<Box<Node>, TypeErr>
-    ensures { Answers boxed_tree result (made_of (form_tree form) structure) }
-{
-    Ok(Box::new(alloc, Node { structure, form })?)
-}
-
-fn push_components(out: &mut Vec<Component>, components: &[Component]) -> Result<(), AllocError>
-    ensures { OnOk result (out.new.items ≡ out.old.items ++ components.now) }
-{
-    for component in components {
-        out.push(share_component(component)?)?;
-    }
-    Ok(())
-}
-
-pub(crate) fn share_structure(alloc: Global, structure: &Structure) -> Result<Structure, AllocError>
-    ensures { IfOk result (λ copy. copy ≡ structure.now) }
-{
-    let mut components = Vec::new(alloc);
-    push_components(&mut components, structure.components.as_slice())?;
-    Ok(Structure {
-        components: List::of(components),
-    })
-}
+use vtl_tree::Component;
 
 /// `filter`. The condition breaks rules 7 and 14.
 #[tactic(auto, unfolding(crate::specs::Clauses::filter_form))]
@@ -53,7 +23,7 @@ pub fn filter(alloc: Global, operand: Box<Node>, condition: Typed) -> Result<Box
 {
     let c = vtl_forms::condition(condition)?;
     let structure = share_structure(alloc, &operand.structure)?;
-    made(alloc, structure, NodeForm::Filter { a: operand, c })
+    made_node(alloc, structure, NodeForm::Filter { a: operand, c })
 }
 
 // The name that a reference is, where it stands for a component of the wanted role behind other names.
@@ -129,5 +99,5 @@ pub fn keeping(
     let components = operand.structure.components.as_slice();
     let names = names_typed(alloc, joined, components, references(keeping))?;
     let structure = choose(alloc, choice(keeping), &operand.structure, &names)?;
-    made(alloc, structure, form(keeping, operand, names))
+    made_node(alloc, structure, form(keeping, operand, names))
 }

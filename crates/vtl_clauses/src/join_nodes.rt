@@ -12,14 +12,13 @@ ghost use Rattle.vtl_clauses.specs.Clauses.{made_of};
 ghost use Rattle.vtl_clauses.specs.JoinOperands.{is_left, joined_node, joined_of, last_naming, left_names, shape_of, using_names};
 ghost use Rattle.vtl_clauses.specs.JoinView.{operands_view};
 
-use crate::clauses::{made, share_structure};
 use crate::renames::renamed;
 use std::alloc::{AllocError, Global};
-use vtl_forms::Joined;
+use vtl_forms::{Joined, made_node};
 use vtl_joins::{Operand, held_names, join, last_renamings};
 use vtl_nodes::{JoinOperand, JoinSpec, Node, NodeForm};
 use vtl_rule_tests::TypeErr;
-use vtl_shapes::{Renaming, component_of};
+use vtl_shapes::{Renaming, component_of, share_structure};
 use vtl_syntax::{Comp, JoinKind};
 use vtl_text::{List, Shared, Txt};
 use vtl_tree::{Component, Structure};
@@ -106,7 +105,7 @@ fn made_join(
 ) -> Result<Box<Node>, TypeErr>
     ensures { Answers boxed_tree result (made_of (tree.join (operands_of (operands_view operands)) spec) structure) }
 {
-    made(alloc, structure, NodeForm::Join { operands, spec })
+    made_node(alloc, structure, NodeForm::Join { operands, spec })
 }
 
 /// The joined set. The names behind `using` break rules 4, 5, 6 and 21, the operands 9, and the result 11 and 12.

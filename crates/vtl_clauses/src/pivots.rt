@@ -3,8 +3,8 @@ ghost use Rattle.vtl_rule_tests.specs.Answers.{Answers};
 ghost use Rattle.vtl_forms.specs.Typed.{boxed_tree};
 ghost use Rattle.vtl_clauses.specs.Clauses.{pivot_of, unpivot_of};
 
-use crate::clauses::made;
 use std::alloc::Global;
+use vtl_forms::made_node;
 use vtl_nodes::{Node, NodeForm};
 use vtl_rule_tests::TypeErr;
 use vtl_syntax::Comp;
@@ -23,7 +23,7 @@ pub fn pivot(
     let id = name(identifier).share()?;
     let m = name(measure).share()?;
     let structure = vtl_shapes::pivot(alloc, &operand.structure, &id, &m)?;
-    made(alloc, structure, NodeForm::Pivot { a: operand, id, m })
+    made_node(alloc, structure, NodeForm::Pivot { a: operand, id, m })
 }
 
 /// `unpivot`. It breaks rules 10, 11 and 12.
@@ -39,5 +39,5 @@ pub fn unpivot(
     let id = name(identifier).share()?;
     let m = name(measure).share()?;
     let structure = vtl_shapes::unpivot(alloc, &operand.structure, &id, &m)?;
-    made(alloc, structure, NodeForm::Unpivot { a: operand, id, m })
+    made_node(alloc, structure, NodeForm::Unpivot { a: operand, id, m })
 }

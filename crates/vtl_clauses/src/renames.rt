@@ -4,9 +4,9 @@ ghost use Rattle.vtl_rule_tests.specs.Answers.{Answers};
 ghost use Rattle.vtl_forms.specs.Typed.{boxed_tree};
 ghost use Rattle.vtl_clauses.specs.Clauses.{old_names, renamed_of, renaming_form, renaming_known, renamings_typed};
 
-use crate::clauses::{made, name_known};
+use crate::clauses::name_known;
 use std::alloc::Global;
-use vtl_forms::Joined;
+use vtl_forms::{Joined, made_node};
 use vtl_nodes::{Node, NodeForm};
 use vtl_rule_tests::TypeErr;
 use vtl_shapes::{Renaming, Wanted, rename};
@@ -25,7 +25,7 @@ pub(crate) fn renamed(
 {
     let structure = rename(alloc, &operand.structure, &renamings)?;
     let pairs = List::of(renamings);
-    made(alloc, structure, NodeForm::Rename { a: operand, pairs })
+    made_node(alloc, structure, NodeForm::Rename { a: operand, pairs })
 }
 
 // A renaming behind others, whose old names these are.

@@ -7,10 +7,10 @@ ghost use Rattle.vtl_typing.specs.Literals.{literal_cell, valued};
 ghost use Rattle.vtl_forms.specs.Typed.{boxed_tree};
 ghost use Rattle.vtl_clauses.specs.Clauses.{cell_as, sub_form, sub_known, sub_names, sub_of, sub_value, subs_typed};
 
-use crate::clauses::made;
 use std::alloc::{AllocError, Global};
 use vtl_cell::{Cell, Kind};
 use vtl_decimal::Profile;
+use vtl_forms::made_node;
 use vtl_nodes::{Node, NodeForm, SubItem};
 use vtl_rule_tests::TypeErr;
 use vtl_scalar::to_kind;
@@ -114,7 +114,7 @@ fn subset(alloc: Global, operand: Box<Node>, items: Vec<SubItem>) -> Result<Box<
 {
     let structure = structure_without(alloc, &operand.structure, &items)?;
     let values = List::of(items);
-    made(alloc, structure, NodeForm::Sub { a: operand, values })
+    made_node(alloc, structure, NodeForm::Sub { a: operand, values })
 }
 
 /// `sub`. A name breaks rules 4, 5 and 6, a literal 7 and 8, and the clause 12 where nothing is left.

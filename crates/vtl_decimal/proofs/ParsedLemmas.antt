@@ -1,5 +1,5 @@
 -- What every numeral that is read keeps.
-use Rattle.std.proofs.Common.{ℕ, ℤ, ◌≡◌, ◌+◌, ◌<◌, ◌≤◌, List, ◌++◌, length, Option, Some, None, sym, arith, ap, length-append, Bool, true, false, refl}
+use Rattle.std.proofs.Common.{ℕ, ℤ, ◌≡◌, ◌<◌, List, Option, Some, None, sym, arith, Bool, true, false, refl}
 use Rattle.std.specs.Prelude.{unsigned_abs, IfSome}
 use Rattle.std.specs.Option.{option_map}
 use Rattle.std.specs.Str.Parse.{digits_value}
@@ -18,16 +18,12 @@ exponent_small _ _ no_exponent = omega arith
 exponent_small _ _ (times_ten_to mark sign digits negative marked signs h some few) =
     omega (arith, signed_size negative (digits_value 10 digits), value_of_three digits h few)
 
-parts_short : (a b c d e : List ℕ) → length (a ++ (b ++ (c ++ (d ++ e)))) ≤ 64 → length b + length d ≤ 64
-parts_short a b c d e h = omega (arith, length-append a (b ++ (c ++ (d ++ e))), length-append b (c ++ (d ++ e)), length-append c (d ++ e), length-append d e)
-
 pub numeral_parsed : (t : List ℕ) (n : Numeral) → numeral_of t ≡ Some n → IsTakenApart n
 numeral_parsed t n h =
     let s = numeral_spelled t n h in
     record {
       whole_digits = s.whole_digits;
       fraction_digits = s.fraction_digits;
-      short = parts_short s.sign n.whole s.separator n.fraction s.power (omega (arith, ap length s.parts, s.short));
       exponent_fits = exponent_small s.power n.exponent s.exponents;
     }
 

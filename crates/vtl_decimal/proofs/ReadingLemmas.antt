@@ -133,9 +133,7 @@ pub spelled_numeral : (t : List ℕ) (n : Numeral) → SpellsNumeral t n → num
 spelled_numeral t n s =
     let body = n.whole ++ (s.separator ++ (n.fraction ++ s.power)) in
     let start = mantissa_no_sign n.whole s.separator n.fraction s.power s.whole_digits s.points s.some_digit in
-    let fits : nat_le (length t) 64 ≡ true = le-leb (length t) 64 s.short in
-    cond-true (nat_le (length t) 64) (unsigned_numeral_of (starts_with_minus t) (without_leading_sign t)) None fits
-    ∙ ap (λ text. unsigned_numeral_of (starts_with_minus text) (without_leading_sign text)) s.parts
+    ap (λ text. unsigned_numeral_of (starts_with_minus text) (without_leading_sign text)) s.parts
     ∙ ap (λ b. unsigned_numeral_of b (without_leading_sign (s.sign ++ body))) (minus_read s.sign body n.negative s.signs start)
     ∙ ap (unsigned_numeral_of n.negative) (body_read s.sign body n.negative s.signs start)
     ∙ unsigned_read n s.separator s.power s.whole_digits s.points s.fraction_digits s.some_digit s.exponents

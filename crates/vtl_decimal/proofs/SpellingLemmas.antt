@@ -1,9 +1,9 @@
 -- What is read is what the text spells.
-use Rattle.std.proofs.Common.{ℕ, ℤ, pos, ◌≡◌, ◌+◌, ◌≤◌, Bool, true, false, List, [], ◌∷◌, ◌++◌, inl, inr, drop, length, Option, Some, None, refl, ap, sym, subst, ◌∙◌, append_assoc}
+use Rattle.std.proofs.Common.{ℕ, ℤ, pos, ◌≡◌, ◌+◌, Bool, true, false, List, [], ◌∷◌, ◌++◌, inl, inr, drop, length, Option, Some, None, refl, ap, sym, subst, ◌∙◌, append_assoc}
 use Rattle.std.specs.Prelude.{option_and_then, nat_lt, nat_le, ◌&&◌, ◌==◌}
 use Rattle.std.specs.List.{before_first}
 use Rattle.std.specs.Str.Parse.{digits_value, starts_with_minus, without_leading_sign}
-use Rattle.std.proofs.lemmas.Bool.{cases_Bool, cases_eq, ne_eqb, eqb-true, and_parts, or_cases, ltb-true, leb-true}
+use Rattle.std.proofs.lemmas.Bool.{cases_eq, ne_eqb, eqb-true, and_parts, or_cases, ltb-true, leb-true}
 use Rattle.std.proofs.lemmas.Option.{cond_some, none-some}
 use Rattle.std.specs.Str.{all_ascii_digits}
 use Rattle.vtl_decimal.specs.Numeral.{Numeral, signed, IsSign, no_sign, plus, minus, IsPoint, no_point, point, IsMark, small, capital, IsExponent, no_exponent, times_ten_to, SpellsNumeral, is_mark, is_decimal_point, from_first, power_of, exponent_of, with_digits, unsigned_numeral_of, numeral_of}
@@ -81,8 +81,8 @@ exponent_split t e h =
     all h
 
 -- ---- together
-unsigned_spelled : (sign body : List ℕ) (negative : Bool) (n : Numeral) → IsSign sign negative → length (sign ++ body) ≤ 64 → unsigned_numeral_of negative body ≡ Some n → SpellsNumeral (sign ++ body) n
-unsigned_spelled sign body negative n signs short h =
+unsigned_spelled : (sign body : List ℕ) (negative : Bool) (n : Numeral) → IsSign sign negative → unsigned_numeral_of negative body ≡ Some n → SpellsNumeral (sign ++ body) n
+unsigned_spelled sign body negative n signs h =
     let mantissa = before_first is_mark body in
     let whole = before_first is_decimal_point mantissa in
     let fraction = drop 1 (from_first is_decimal_point mantissa) in
@@ -100,7 +100,6 @@ unsigned_spelled sign body negative n signs short h =
       separator = p.separator;
       power = from_first is_mark body;
       parts = ap (λ xs. sign ++ xs) parts;
-      short = short;
       signs = signs;
       whole_digits = facts.0;
       points = p.points;
@@ -114,10 +113,4 @@ pub numeral_spelled : (t : List ℕ) (n : Numeral) → numeral_of t ≡ Some n �
 numeral_spelled t n h =
     let s = sign_split t in
     let P : List ℕ → Type 0 = λ text. SpellsNumeral text n in
-    elim (cases_Bool (nat_le (length t) 64)) [
-      | inl fits ↦
-          let given : unsigned_numeral_of (starts_with_minus t) (without_leading_sign t) ≡ Some n = sym (rw fits refl) ∙ h in
-          subst P (sym s.parts) (unsigned_spelled s.sign (without_leading_sign t) (starts_with_minus t) n s.signs
-          (subst (λ text. length text ≤ 64) s.parts (leb-true (length t) 64 fits)) given)
-      | inr long ↦ absurd (none-some n (sym (rw long refl) ∙ h))
-    ]
+    subst P (sym s.parts) (unsigned_spelled s.sign (without_leading_sign t) (starts_with_minus t) n s.signs h)

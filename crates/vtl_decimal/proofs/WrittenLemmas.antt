@@ -1,19 +1,19 @@
 -- The text that is written spells the number that it was written for.
-use Rattle.std.proofs.Common.{ℕ, zero, suc, ℤ, pos, negsuc, ◌≡◌, ◌≢◌, ◌+◌, ◌-◌, ◌*◌, ◌/◌, ◌%◌, ◌^◌, ◌<◌, ◌≤◌, inl, inr, Bool, true, false, cond, List, [], ◌∷◌, ◌++◌, length, get_or, Some, Ok, Err, refl, ap, sym, subst, ◌∙◌, arith, rules, append-nil, length-append, pow-suc, add-zero}
-use Rattle.std.specs.Prelude.{unsigned_abs, nat_lt, option_and_then, IsTrue}
+use Rattle.std.proofs.Common.{ℕ, zero, suc, ℤ, pos, negsuc, ◌≡◌, ◌≢◌, ◌+◌, ◌-◌, ◌*◌, ◌/◌, ◌%◌, ◌^◌, ◌<◌, ◌≤◌, inl, inr, Bool, true, false, cond, List, [], ◌∷◌, ◌++◌, length, get_or, Some, None, Ok, Err, refl, ap, sym, subst, ◌∙◌, arith, rules, append-nil, length-append, pow-suc, add-zero}
+use Rattle.std.specs.Prelude.{unsigned_abs, nat_lt, nat_le, option_and_then, IsTrue}
 use Rattle.std.specs.Fmt.{decimal}
 use Rattle.std.specs.Int.{is_negative}
 use Rattle.std.specs.Result.{result_ok}
 use Rattle.std.specs.Str.Parse.{digits_value}
 use Rattle.std.proofs.Math.Nat.{one-le-pow, div-le_self, mul-mod_left}
 use Rattle.std.proofs.lemmas.Grind.{common_steps}
-use Rattle.std.proofs.lemmas.Bool.{cond-true, lt-ltb}
+use Rattle.std.proofs.lemmas.Bool.{cond-true, lt-ltb, le-leb}
 use Rattle.std.proofs.lemmas.Fmt.{decimal_nonempty, digits_decimal, digits_value-decimal, first_decimal, decimal_digit, length-decimal-le}
 use Rattle.std.proofs.lemmas.Int.Digits.{digits_value_push}
 use Rattle.std.proofs.lemmas.Nat.{div-add-mod', div-mul-add}
 use Rattle.std.proofs.lemmas.Str.Parse.{IsNumeralModel, numerals_by_value}
 use Rattle.std.specs.Str.{all_ascii_digits}
-use Rattle.vtl_decimal.specs.Numeral.{Numeral, signed, IsSign, no_sign, minus, IsPoint, no_point, point, no_exponent, SpellsNumeral, number_of, number_read, numerator, denominator}
+use Rattle.vtl_decimal.specs.Numeral.{Numeral, signed, IsSign, no_sign, minus, IsPoint, no_point, point, no_exponent, SpellsNumeral, IsShort, number_of, number_spelled, number_read, numerator, denominator}
 use Rattle.vtl_decimal.specs.Range.{fit_number}
 use Rattle.vtl_decimal.specs.declared.number.Fault.TheVariants.{Range}
 use Rattle.vtl_decimal.specs.declared.settings.Rounding.{Rounding}
@@ -133,27 +133,31 @@ length-sign : (k : ℤ) → length (sign_text k) ≤ 1
 length-sign (pos n) = let not_below : is_negative (pos n) ≡ false = grind arith in rw not_below (omega arith)
 length-sign (negsuc n) = omega arith
 
+pub text_short : (s : ℕ) (k : ℤ) → s ≤ 9 → unsigned_abs k < 10 ^ 18 → IsShort (number_text s k)
+text_short s k low small =
+    let n = written_numeral s k in
+    let fit : unsigned_abs k / 10 ^ s < 10 ^ 18 = omega (arith, div-le_self (unsigned_abs k) (10 ^ s)) in
+    omega (
+      arith,
+      length-append (sign_text k) (n.whole ++ behind_point n.fraction),
+      length-append n.whole (behind_point n.fraction),
+      length-behind n.fraction,
+      length-sign k,
+      length-shortest_digits-le s (unsigned_abs k % 10 ^ s),
+      length-decimal-le 18 (unsigned_abs k / 10 ^ s) (omega arith) fit (omega arith),
+    )
+
 pub text_spelled : (s : ℕ) (k : ℤ) → s ≤ 9 → unsigned_abs k < 10 ^ 18 → SpellsNumeral (number_text s k) (written_numeral s k)
 text_spelled s k low small =
     let n = written_numeral s k in
     let fit : unsigned_abs k / 10 ^ s < 10 ^ 18 = omega (arith, div-le_self (unsigned_abs k) (10 ^ s)) in
     let digits = digits_decimal own (unsigned_abs k / 10 ^ s) (omega arith) in
     let first = decimal_nonempty (unsigned_abs k / 10 ^ s) (omega arith) in
-    let size = length-decimal-le 18 (unsigned_abs k / 10 ^ s) (omega arith) fit (omega arith) in
     record {
       sign = sign_text k;
       separator = point_before n.fraction;
       power = [];
       parts = ap (λ l. sign_text k ++ (n.whole ++ l)) (behind_is n.fraction);
-      short = omega (
-        arith,
-        length-append (sign_text k) (n.whole ++ behind_point n.fraction),
-        length-append n.whole (behind_point n.fraction),
-        length-behind n.fraction,
-        length-sign k,
-        length-shortest_digits-le s (unsigned_abs k % 10 ^ s),
-        size,
-      );
       signs = sign_is k;
       whole_digits = digits;
       points = point_is n.fraction;
@@ -209,7 +213,9 @@ written_value p k small =
 -- what is written is read as the number
 pub reads_back : (p : Settings) (k : ℤ) → p.scale ≤ 9 → unsigned_abs k < 10 ^ 18 → number_read p (number_text p.scale k) ≡ Some k
 reads_back p k low small =
-    ap (option_and_then (number_of p)) (spelled_numeral (number_text p.scale k) (written_numeral p.scale k) (text_spelled p.scale k low small))
+    let t = number_text p.scale k in
+    cond-true (nat_le (length t) 64) (number_spelled p t) None (le-leb (length t) 64 (text_short p.scale k low small))
+    ∙ ap (option_and_then (number_of p)) (spelled_numeral (number_text p.scale k) (written_numeral p.scale k) (text_spelled p.scale k low small))
     ∙ written_value p k small
 
 -- ---- no needless digit
@@ -246,7 +252,7 @@ no_needless_digit s k small = record {
   plain = refl;
 }
 
-pub shortest_spelled : (s : ℕ) (k : ℤ) → s ≤ 9 → unsigned_abs k < 10 ^ 18 → (n : Numeral) × SpellsNumeral (number_text s k) n × HasNoNeedlessDigit n
-shortest_spelled s k low small = (written_numeral s k, text_spelled s k low small, no_needless_digit s k small)
+pub shortest_spelled : (s : ℕ) (k : ℤ) → s ≤ 9 → unsigned_abs k < 10 ^ 18 → (n : Numeral) × SpellsNumeral (number_text s k) n × IsShort (number_text s k) × HasNoNeedlessDigit n
+shortest_spelled s k low small = (written_numeral s k, text_spelled s k low small, text_short s k low small, no_needless_digit s k small)
 
 pub ruleset written_laws = (reads_back, shortest_spelled)

@@ -43,13 +43,12 @@ pub data IsExponent : List ℕ → ℤ → Type 0 where
   no_exponent : IsExponent [] (pos 0)
   times_ten_to : (mark : ℕ) (sign digits : List ℕ) (negative : Bool) → IsMark mark → IsSign sign negative → IsTrue (all_ascii_digits digits) → 0 < length digits → length digits ≤ 3 → IsExponent (mark ∷ (sign ++ digits)) (signed negative (digits_value 10 digits))
 
--- a text of at most 64 bytes is a sign, digits, a point, digits and an exponent, with a digit on one side of the point
+-- a text is a sign, digits, a point, digits and an exponent, with a digit on one side of the point
 pub record SpellsNumeral (text : List ℕ) (n : Numeral) : Type 0 where
   pub sign : List ℕ
   pub separator : List ℕ
   pub power : List ℕ
   pub parts : text ≡ sign ++ (n.whole ++ (separator ++ (n.fraction ++ power)))
-  pub short : length text ≤ 64
   pub signs : IsSign sign n.negative
   pub whole_digits : IsTrue (all_ascii_digits n.whole)
   pub points : IsPoint separator n.fraction
@@ -90,7 +89,7 @@ unsigned_numeral_of negative t =
 
 -- the numeral that the text spells
 abbrev pub numeral_of : List ℕ → Option Numeral
-numeral_of t = if nat_le (length t) 64 then unsigned_numeral_of (starts_with_minus t) (without_leading_sign t) else None
+numeral_of t = unsigned_numeral_of (starts_with_minus t) (without_leading_sign t)
 
 -- ---- its value: in units of the scale s it is the numerator over the denominator
 
@@ -117,9 +116,20 @@ number_of p n = result_ok (fit_number (rounded_quotient p.rounding (signed n.neg
 abbrev pub integer_of : ℕ → Numeral → Option ℤ
 integer_of s n = if numerator 0 n % denominator n == 0 then result_ok (fit_integer s (signed n.negative (numerator 0 n / denominator n))) else None
 
--- the number and the integer that a text spells
+-- the number and the integer that a text of any length spells
+abbrev pub number_spelled : Settings → List ℕ → Option ℤ
+number_spelled p t = option_and_then (number_of p) (numeral_of t)
+
+abbrev pub integer_spelled : ℕ → List ℕ → Option ℤ
+integer_spelled s t = option_and_then (integer_of s) (numeral_of t)
+
+-- a text of at most this many bytes is read
+abbrev pub IsShort : List ℕ → Type 0
+IsShort t = length t ≤ 64
+
+-- the number and the integer that are read from a text
 abbrev pub number_read : Settings → List ℕ → Option ℤ
-number_read p t = option_and_then (number_of p) (numeral_of t)
+number_read p t = if nat_le (length t) 64 then number_spelled p t else None
 
 abbrev pub integer_read : ℕ → List ℕ → Option ℤ
-integer_read s t = option_and_then (integer_of s) (numeral_of t)
+integer_read s t = if nat_le (length t) 64 then integer_spelled s t else None

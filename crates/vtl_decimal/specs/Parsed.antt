@@ -1,5 +1,5 @@
 -- What a contract sees of a numeral that was taken apart.
-use Rattle.std.specs.Prelude.{◌+◌, ◌<◌, ◌≤◌, IsTrue, length, unsigned_abs}
+use Rattle.std.specs.Prelude.{◌<◌, IsTrue, unsigned_abs}
 use Rattle.vtl_decimal.specs.declared.parse.Numeral.{Numeral as Parsed}
 use Rattle.std.specs.Str.{all_ascii_digits}
 use Rattle.vtl_decimal.specs.Numeral.{Numeral}
@@ -11,5 +11,4 @@ numeral_view n = record { negative = n.negative; whole = n.whole.now; fraction =
 pub record IsTakenApart (n : Numeral) : Type 0 where
   pub whole_digits : IsTrue (all_ascii_digits n.whole)
   pub fraction_digits : IsTrue (all_ascii_digits n.fraction)
-  pub short : length n.whole + length n.fraction ≤ 64
   pub exponent_fits : unsigned_abs n.exponent < 1000

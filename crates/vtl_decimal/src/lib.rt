@@ -17,7 +17,7 @@ mod writing;
 
 pub use number::{Dec, Fault};
 pub use operators::{abs, add, div, modulo, modulo_whole, mul, neg, sub};
-pub use reading::{BadNumber, read, read_whole};
+pub use reading::{BadNumber, read, read_literal, read_whole, read_whole_literal};
 pub use settings::{Profile, Rounding};
 pub use total::Sum;
 pub use wholes::{ceil, floor, from_whole, round, trunc, whole};

@@ -150,15 +150,12 @@ fn unsigned_numeral(negative: bool, text: &[u8]) -> Option<Numeral<'_>>
     with_digits(negative, whole, behind_point(rest), exponent)
 }
 
-// The numeral that a text spells.
+// The numeral that a text of any length spells.
 #[tactic(auto, using(crate::proofs::ParsedLemmas::numeral_parsed))]
 pub(crate) fn parse_numeral(text: &[u8]) -> Option<Numeral<'_>>
     ensures value { option_map numeral_view result ≡ numeral_of text.now }
     ensures parsed { IfSome result (λ n. IsTakenApart (numeral_view n)) }
 {
-    if text.len() > 64 {
-        return None;
-    }
     let (negative, rest) = split_sign(text);
     unsigned_numeral(negative, rest)
 }

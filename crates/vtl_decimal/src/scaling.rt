@@ -91,7 +91,7 @@ fn cut(kept: &[u8], more_kept: &[u8], dropped: &[u8], more_dropped: &[u8]) -> Op
 }
 
 // The digits divided by a power of ten that has more places than they.
-fn cut_all(whole: &[u8], fraction: &[u8], dropped: usize) -> Divided
+fn cut_all(whole: &[u8], fraction: &[u8], dropped: u128) -> Divided
     requires whole_digits { IsTrue (all_ascii_digits whole.now) }
     requires fraction_digits { IsTrue (all_ascii_digits fraction.now) }
     requires more { length whole.now + length fraction.now < dropped }
@@ -107,28 +107,28 @@ fn cut_all(whole: &[u8], fraction: &[u8], dropped: usize) -> Divided
 
 // The digits divided by a power of ten.
 #[tactic(auto, using(crate::proofs::DigitLemmas::digit_parts))]
-fn divided_by_power(whole: &[u8], fraction: &[u8], dropped: usize) -> Option<Divided>
+fn divided_by_power(whole: &[u8], fraction: &[u8], dropped: u128) -> Option<Divided>
     requires whole_digits { IsTrue (all_ascii_digits whole.now) }
     requires fraction_digits { IsTrue (all_ascii_digits fraction.now) }
-    requires short { length whole.now + length fraction.now ≤ 64 }
     ensures { MatchOption result (10 ^ 18 ≤ digits_value 10 (whole.now ++ fraction.now) / 10 ^ dropped) (IsDivided (digits_value 10 (whole.now ++ fraction.now)) (10 ^ dropped)) }
 {
-    let count = whole.len() + fraction.len();
+    let before_point = whole.len() as u128;
+    let count = before_point + fraction.len() as u128;
     if dropped > count {
         return Some(cut_all(whole, fraction, dropped));
     }
     let kept = count - dropped;
-    if kept <= whole.len() {
-        let (front, back) = whole.split_at(kept);
+    if kept <= before_point {
+        let (front, back) = whole.split_at(kept as usize);
         cut(front, &[], back, fraction)
     } else {
-        let (front, back) = fraction.split_at(kept - whole.len());
+        let (front, back) = fraction.split_at((kept - before_point) as usize);
         cut(whole, front, &[], back)
     }
 }
 
 // The digits times a power of ten.
-fn times_power(whole: &[u8], fraction: &[u8], zeros: u32) -> Option<u64>
+fn times_power(whole: &[u8], fraction: &[u8], zeros: u128) -> Option<u64>
     requires whole_digits { IsTrue (all_ascii_digits whole.now) }
     requires fraction_digits { IsTrue (all_ascii_digits fraction.now) }
     ensures value { MatchOption result (10 ^ 18 ≤ digits_value 10 (whole.now ++ fraction.now) * 10 ^ zeros) (λ v. v ≡ digits_value 10 (whole.now ++ fraction.now) * 10 ^ zeros) }
@@ -141,7 +141,7 @@ fn times_power(whole: &[u8], fraction: &[u8], zeros: u32) -> Option<u64>
     if zeros > 18 {
         return None;
     }
-    let units = u128::from(value) * u128::from(10_u64.pow(zeros));
+    let units = u128::from(value) * u128::from(10_u64.pow(zeros as u32));
     if units < u128::from(LIMIT) {
         Some(units as u64)
     } else {
@@ -151,13 +151,12 @@ fn times_power(whole: &[u8], fraction: &[u8], zeros: u32) -> Option<u64>
 
 // How many places the digits move to the left, so that the last one stands at the last place of
 // the scale.
-fn places_to_left(n: &Numeral, scale: u8) -> i32
+fn places_to_left(n: &Numeral, scale: u8) -> i128
     requires scale_in_range { scale ≤ 9 }
     requires parsed { IsTakenApart (numeral_view n.now) }
-    ensures value { result ≡ (pos scale +ℤ n.now.exponent) -ℤ pos (length n.now.fraction.now) }
-    ensures bound { unsigned_abs result < 2000 }
+    ensures { result ≡ (pos scale +ℤ n.now.exponent) -ℤ pos (length n.now.fraction.now) }
 {
-    i32::from(scale) + i32::from(n.exponent) - n.fraction.len() as i32
+    i128::from(scale) + i128::from(n.exponent) - n.fraction.len() as i128
 }
 
 // The numeral in units of the scale, with the rest behind them.
@@ -169,7 +168,7 @@ pub(crate) fn scaled(n: &Numeral, scale: u8) -> Option<Divided>
     let shift = places_to_left(n, scale);
     let places = shift.unsigned_abs();
     if shift < 0 {
-        return divided_by_power(n.whole, n.fraction, places as usize);
+        return divided_by_power(n.whole, n.fraction, places);
     }
     let units = times_power(n.whole, n.fraction, places)?;
     let rest = Rest::Zero;

@@ -1,7 +1,7 @@
 ghost use Rattle.std.specs.Prelude.{◌≡◌, ◌≤◌, ◌<◌, ◌+◌, ◌^◌, [], ◌++◌, length, Some, OnOk, OnErr};
 ghost use Rattle.std.specs.Fmt.{decimal, signed_decimal};
 ghost use Rattle.vtl_decimal.specs.Written.{last_digits, shortest_digits, behind_point, number_text, HasNoNeedlessDigit};
-ghost use Rattle.vtl_decimal.specs.Numeral.{Numeral, SpellsNumeral, number_read};
+ghost use Rattle.vtl_decimal.specs.Numeral.{Numeral, SpellsNumeral, IsShort, number_read};
 
 use crate::line::Line;
 use crate::number::Dec;
@@ -64,7 +64,7 @@ fn push_whole(line: &mut Line, n: u64)
 fn text_of(d: Dec, p: &Profile) -> Line
     ensures text { result ≡ number_text p.now.scale d }
     ensures reads_back { number_read p.now (number_text p.now.scale d) ≡ Some d }
-    ensures shortest { (n : Numeral) × SpellsNumeral (number_text p.now.scale d) n × HasNoNeedlessDigit n }
+    ensures shortest { (n : Numeral) × SpellsNumeral (number_text p.now.scale d) n × IsShort (number_text p.now.scale d) × HasNoNeedlessDigit n }
 {
     let k = d.k();
     let unit = power_of_ten(p.scale()).unsigned_abs();
@@ -85,7 +85,7 @@ fn text_of(d: Dec, p: &Profile) -> Line
 pub fn write(d: Dec, p: &Profile, out: &mut Vec<u8>) -> Result<(), AllocError>
     ensures ok { OnOk result (out.new.items ≡ out.old.items ++ number_text p.now.scale d) }
     ensures reads_back { number_read p.now (number_text p.now.scale d) ≡ Some d }
-    ensures shortest { (n : Numeral) × SpellsNumeral (number_text p.now.scale d) n × HasNoNeedlessDigit n }
+    ensures shortest { (n : Numeral) × SpellsNumeral (number_text p.now.scale d) n × IsShort (number_text p.now.scale d) × HasNoNeedlessDigit n }
     ensures err { OnErr result (out.new.items ≡ out.old.items) }
 {
     out.extend_from_slice(text_of(d, p).as_slice())

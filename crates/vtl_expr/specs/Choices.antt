@@ -4,7 +4,7 @@ use Rattle.vtl_cell.specs.Row.{Row, column_of}
 use Rattle.vtl_rows.specs.Tables.{cells_at, fits}
 use Rattle.vtl_rows.specs.declared.column.Column.{Column}
 use Rattle.vtl_tree.specs.Clauses.{is_true}
-use Rattle.vtl_tree.specs.Meaning.{DataSet}
+use Rattle.vtl_tree.specs.Environment.{DataSet}
 use Rattle.vtl_tree.specs.Structure.{columns_of, key_width}
 use Rattle.vtl_tree.specs.declared.structure.Structure.{Structure}
 use Rattle.vtl_meaning.specs.Columns.{identifiers_of, measures_of, places_in}

@@ -2,7 +2,7 @@
 use Rattle.std.specs.Prelude.{Ok, List}
 use Rattle.vtl_cell.specs.Row.{Row}
 use Rattle.vtl_cell.specs.Outcome.{Outcome, after}
-use Rattle.vtl_tree.specs.Meaning.{DataSet}
+use Rattle.vtl_tree.specs.Environment.{DataSet}
 use Rattle.vtl_tree.specs.declared.structure.Structure.{Structure}
 
 abbrev pub data_set : Structure → List Row → DataSet

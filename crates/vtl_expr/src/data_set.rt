@@ -23,7 +23,7 @@ pub struct DataSet {
 
 impl Model for DataSet {
     ghost use Rattle.vtl_csv.specs.TableText.{IsTableOf};
-    ghost use Rattle.vtl_tree.specs.Meaning as meaning;
+    ghost use Rattle.vtl_tree.specs.Environment as meaning;
     ghost use Rattle.vtl_expr.specs.DataSets.{data_set};
 
     ghost Value = { meaning.DataSet };

@@ -1,6 +1,7 @@
 -- Operators on typed operands: on values, and on each measure of data sets.
-use Rattle.std.specs.Prelude.{ℕ, Bool, true, false, not, ◌&&◌, ◌||◌, ◌==◌, List, [], ◌∷◌, ◌++◌, Result, Err, map, length}
+use Rattle.std.specs.Prelude.{ℕ, Bool, true, false, not, ◌&&◌, ◌||◌, ◌==◌, List, [], ◌∷◌, ◌++◌, None, Result, Err, map, length}
 use Rattle.vtl_cell.specs.ScalarKinds.{kinds_of}
+use Rattle.vtl_cell.specs.declared.kind.Kind.{Kind}
 use Rattle.vtl_cell.specs.declared.kind.Kind.TheVariants as k
 use Rattle.vtl_cell.specs.declared.operator.ScalarOp.{ScalarOp}
 use Rattle.vtl_cell.specs.declared.operator.ScalarOp.TheVariants as op
@@ -8,15 +9,17 @@ use Rattle.vtl_decimal.specs.Settings.{Settings}
 use Rattle.vtl_syntax.specs.declared.parts.Literal.{Literal}
 use Rattle.vtl_tree.specs.CompExp.{CompExp, const}
 use Rattle.vtl_tree.specs.View.{comp_exp_of}
+use Rattle.vtl_tree.specs.declared.structure.Component.{Component}
+use Rattle.vtl_tree.specs.declared.structure.Structure.{Structure}
 use Rattle.vtl_nodes.specs.Trees.{NodeTree, structure_of, measures, pair, choose}
 use Rattle.vtl_rule_tests.specs.Rules.{◌>>=◌, ruled}
-use Rattle.vtl_shapes.specs.Measures.{Gives, measured_form}
+use Rattle.vtl_shapes.specs.Measures.{Gives, any_unmet, measured_form}
 use Rattle.vtl_shapes.specs.Pairs as pairs
 use Rattle.vtl_shapes.specs.declared.choices.Choice.TheVariants as choice
 use Rattle.vtl_shapes.specs.declared.measures.Outcome.{Outcome}
 use Rattle.vtl_shapes.specs.declared.measures.Outcome.TheVariants as outcome
 use Rattle.vtl_typing.specs.Calls.{call_form}
-use Rattle.vtl_typing.specs.Kinds.{exp_kind}
+use Rattle.vtl_typing.specs.Kinds.{counted_kinds, exp_kind}
 use Rattle.vtl_typing.specs.Literals.{set_typed}
 use Rattle.vtl_forms.specs.Typed.{TypedTree, value, dataset, beside_kind, boxed_tree, components_in, made_of, of_value}
 use Rattle.vtl_forms.specs.declared.operands.Parted.{Parted}
@@ -101,9 +104,17 @@ outcome_of op.IsNull = outcome.Truth
 outcome_of o = outcome.Each
 
 -- ---- on data sets
--- the kind that an operator gives of a measure between values
+-- the kind that an operator gives of a measure between values of these kinds
+abbrev pub between_kinds : ScalarOp → List Kind → List Kind → Gives
+between_kinds o before after a b = kinds_of o (before ++ a ∷ after)
+
+-- the same between values
 abbrev pub between_values : ScalarOp → List CompExp → List CompExp → Gives
-between_values o before after a b = kinds_of o (map exp_kind before ++ a ∷ map exp_kind after)
+between_values o before after = between_kinds o (map exp_kind before) (map exp_kind after)
+
+-- the same where the measure and the values that need not be literals meet the operator's row
+abbrev pub by_operands : ScalarOp → List CompExp → List CompExp → Gives
+by_operands o before after = between_kinds o (map exp_kind before) (counted_kinds o (map exp_kind after))
 
 -- the same as the program holds it
 abbrev pub given_by : GivenKinds → Gives
@@ -119,9 +130,18 @@ given_by given k.Period b = given.period
 abbrev pub of_two : ScalarOp → Gives
 of_two o a b = kinds_of o (a ∷ b ∷ [])
 
+-- What an operator gives of measures between values: they meet its row but for literals (7), and with the literals (8).
+abbrev pub given_structure : ScalarOp → (literals : Bool) → List CompExp → List CompExp → List Component → Result Structure ℕ
+given_structure o literals before after xs =
+    ruled
+    ((7, any_unmet (by_operands o before after) None xs)
+    ∷ (8, any_unmet (between_values o before after) None xs) ∷ [])
+    (tt {0})
+    >>= λ u. measured_form (outcome_of o) (between_values o before after) literals choice.Except [] xs
+
 unfoldable pub on_measures : ScalarOp → (literals : Bool) → List CompExp → NodeTree → List CompExp → Result TypedTree ℕ
 on_measures o literals before a after =
-    measured_form (outcome_of o) (between_values o before after) literals choice.Except [] (components_in a)
+    given_structure o literals before after (components_in a)
     >>= made_of (measures (record { op = o; before = before; after = after }) a)
 
 unfoldable pub on_pair : ScalarOp → NodeTree → NodeTree → Result TypedTree ℕ

@@ -1,7 +1,6 @@
 -- Operators on whole data sets.
-use Rattle.std.specs.Prelude.{ℕ, List, [], ◌∷◌, ◌++◌, Option, Some, None, Result, Ok, Err, map, encode_utf8_all, ℤ}
+use Rattle.std.specs.Prelude.{ℕ, List, [], ◌∷◌, ◌++◌, Option, Some, None, Result, Ok, Err, map, ℤ}
 use Rattle.std.specs.Prelude.{option_to_list, unwrap_or}
-use Rattle.vtl_decimal.specs.Numeral.{integer_read}
 use Rattle.vtl_decimal.specs.Settings.{Settings}
 use Rattle.vtl_syntax.specs.declared.parts.ErrorPart.{ErrorPart}
 use Rattle.vtl_syntax.specs.declared.word_groups.BasicOut.{BasicOut}
@@ -22,6 +21,7 @@ use Rattle.vtl_shapes.specs.Pairs as pairs
 use Rattle.vtl_shapes.specs.declared.choices.Choice.TheVariants as choice
 use Rattle.vtl_shapes.specs.declared.names.Wanted.TheVariants as wanted
 use Rattle.vtl_typing.specs.Columns.{name_of}
+use Rattle.vtl_typing.specs.Literals.{integer_written}
 use Rattle.vtl_forms.specs.Typed.{TypedTree, components_in, dataset_in, made_of}
 
 -- operands that all have to be data sets, behind those that are done
@@ -75,7 +75,7 @@ level_read (Some n) = Ok (Some n)
 
 abbrev pub level_typed : Settings → Option (List ℕ) → Result (Option ℤ) ℕ
 level_typed p None = Ok None
-level_typed p (Some digits) = level_read (integer_read p.scale (encode_utf8_all digits))
+level_typed p (Some digits) = level_read (integer_written p digits)
 
 abbrev pub check_spec : Settings → ErrorPart → Option BasicOut → Result CheckSpec ℕ
 check_spec p e o = level_typed p e.level >>= λ level. Ok (record { errorcode = e.code; errorlevel = level; output = unwrap_or o out.All })

@@ -15,7 +15,7 @@ pub use operators::{operator, set};
 pub use places::{Inside, Joined, Place, columns_at, groups, points};
 pub use scope::{Scope, name};
 pub use set_operators::{check, check_spec, difference, exists, member, sets};
-pub use typed::{Typed, condition};
+pub use typed::{Typed, condition, made_node, made_of};
 pub use written_names::{
     WrittenName, constant, member_inside, name_written, written, written_by, written_in,
 };

@@ -1,15 +1,12 @@
 // Operators by the kinds that they take and give: on a measure between values, and on a measure and its namesake.
-ghost use Rattle.std.specs.Prelude.{◌≡◌, ◌++◌, ◌∷◌, IfOk, map};
+ghost use Rattle.std.specs.Prelude.{◌≡◌, ◌++◌, ◌∷◌, IfOk};
 ghost use Rattle.vtl_cell.specs.ScalarKinds.{kinds_of};
-ghost use Rattle.vtl_tree.specs.View.{comp_exp_of};
-ghost use Rattle.vtl_typing.specs.Kinds.{exp_kind};
-ghost use Rattle.vtl_forms.specs.Operators.{between_values, given_by};
+ghost use Rattle.vtl_forms.specs.Operators.{between_kinds, given_by};
 
 use std::alloc::{AllocError, Global};
 use vtl_cell::{Kind, ScalarOp};
 use vtl_shapes::Operator;
-use vtl_tree::CompExpr;
-use vtl_typing::{kinds_in, operator_kind};
+use vtl_typing::operator_kind;
 
 /// The kinds that an operator between values gives of a measure, for each kind that the measure may have.
 #[derive(Clone, Copy)]
@@ -41,31 +38,31 @@ impl Operator for GivenKinds {
     }
 }
 
-// The kind that an operator gives of a measure of one kind between values.
+// The kind that an operator gives of a measure of one kind between values of these kinds.
 fn given_kind(
     alloc: Global,
     op: ScalarOp,
-    before: &[CompExpr],
+    before: &[Kind],
     measure: Kind,
-    after: &[CompExpr],
+    after: &[Kind],
 ) -> Result<Option<Kind>, AllocError>
-    ensures { IfOk result (λ kind. kind ≡ kinds_of op (map exp_kind (map comp_exp_of before.now) ++ measure ∷ map exp_kind (map comp_exp_of after.now))) }
+    ensures { IfOk result (λ kind. kind ≡ kinds_of op (before.now ++ measure ∷ after.now)) }
 {
-    let behind = kinds_in(alloc, after)?;
-    let mut kinds = kinds_in(alloc, before)?;
+    let mut kinds = Vec::new(alloc);
+    kinds.extend_from_slice(before)?;
     kinds.push(measure)?;
-    kinds.extend_from_slice(&behind)?;
+    kinds.extend_from_slice(after)?;
     Ok(operator_kind(op, &kinds))
 }
 
-/// The kinds that an operator between values gives of measures.
-pub(crate) fn between_values(
+/// The kinds that an operator gives of measures between values of these kinds.
+pub(crate) fn between_kinds(
     alloc: Global,
     op: ScalarOp,
-    before: &[CompExpr],
-    after: &[CompExpr],
+    before: &[Kind],
+    after: &[Kind],
 ) -> Result<GivenKinds, AllocError>
-    ensures { IfOk result (λ given. given_by given ≡ between_values op (map comp_exp_of before.now) (map comp_exp_of after.now)) }
+    ensures { IfOk result (λ given. given_by given ≡ between_kinds op before.now after.now) }
 {
     Ok(GivenKinds {
         null: given_kind(alloc, op, before, Kind::Null, after)?,

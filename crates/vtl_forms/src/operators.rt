@@ -1,14 +1,13 @@
 // Operators on typed operands: on values, and on each measure of data sets.
 ghost use Rattle.std.specs.Prelude.{◌≡◌, ◌≢◌, ◌++◌, ◌∷◌, [], IfOk, OnOk, length, map};
 ghost use Rattle.vtl_rule_tests.specs.Answers.{Answers};
-ghost use Rattle.vtl_shapes.specs.Measures.{measured_form};
 ghost use Rattle.vtl_tree.specs.CompExp.{const};
 ghost use Rattle.vtl_tree.specs.View.{comp_exp_of};
-ghost use Rattle.vtl_forms.specs.Operators.{between_values, membership, outcome_of, on_choice, on_datasets, on_measures, on_operands, on_pair, on_values, operator_form, parted_view, set_form};
+ghost use Rattle.vtl_forms.specs.Operators.{given_structure, membership, on_choice, on_datasets, on_measures, on_operands, on_pair, on_values, operator_form, parted_view, set_form};
 ghost use Rattle.vtl_forms.specs.Typed.{boxed_tree, typed_tree, typed_trees, value};
 
 use crate::operands::{Parted, part};
-use crate::operator_kinds::{OfTwo, between_values};
+use crate::operator_kinds::{OfTwo, between_kinds};
 use crate::placing::{is_binary, is_choice, misplaced_rule, outcome_of, takes_dataset};
 use crate::typed::made_of;
 use crate::{Place, Typed};
@@ -16,13 +15,14 @@ use std::alloc::{AllocError, Global};
 use vtl_cell::{Cell, ScalarOp};
 use vtl_decimal::Profile;
 use vtl_nodes::{MeasureOp, Node, NodeForm};
-use vtl_rule_tests::TypeErr;
-use vtl_shapes::{Choice, choose_by, measured, pair};
+use vtl_rule_tests::{TypeErr, broken};
+use vtl_shapes::{Choice, any_unmet, choose_by, measured, pair};
 use vtl_syntax::Literal;
 use vtl_text::List;
 use vtl_tree::{CompExpr, Structure};
-use vtl_typing::{call, set as set_members};
+use vtl_typing::{call, counted_kinds, kinds_in, set as set_members};
 
+// What an operator gives of the measures of a structure between values.
 fn measures_structure(
     alloc: Global,
     op: ScalarOp,
@@ -31,9 +31,16 @@ fn measures_structure(
     after: &[CompExpr],
     structure: &Structure,
 ) -> Result<Structure, TypeErr>
-    ensures { Answers (λ s. s) result (measured_form (outcome_of op) (between_values op (map comp_exp_of before.now) (map comp_exp_of after.now)) literals Choice.Except [] structure.now.components) }
+    ensures { Answers (λ s. s) result (given_structure op literals (map comp_exp_of before.now) (map comp_exp_of after.now) structure.now.components) }
 {
-    let given = between_values(alloc, op, before, after)?;
+    let before = kinds_in(alloc, before)?;
+    let after = kinds_in(alloc, after)?;
+    let counted = counted_kinds(alloc, op, &after)?;
+    let by_operands = between_kinds(alloc, op, &before, &counted)?;
+    let given = between_kinds(alloc, op, &before, &after)?;
+    let components = structure.components.as_slice();
+    broken(7, any_unmet(&by_operands, None, components))?;
+    broken(8, any_unmet(&given, None, components))?;
     measured(
         alloc,
         outcome_of(op),

@@ -1,6 +1,6 @@
 // What the names of a script are known to stand for.
 ghost use Rattle.std.specs.Option.{option_copied};
-ghost use Rattle.std.specs.Prelude.{◌≡◌, ◌++◌, IfOk, OnOk};
+ghost use Rattle.std.specs.Prelude.{◌≡◌};
 ghost use Rattle.vtl_rule_tests.specs.Answers.{Answers};
 ghost use Rattle.vtl_tree.specs.View.{comp_exp_of};
 ghost use Rattle.vtl_forms.specs.Places.{alone, component_typed, dataset_named, env_of, known_by, name_typed};
@@ -9,14 +9,14 @@ ghost use Rattle.vtl_forms.specs.Typed.{typed_tree};
 use crate::typed::made_of;
 use crate::{Inside, Place, Typed};
 use indexmap::IndexMap;
-use std::alloc::{AllocError, Global};
+use std::alloc::Global;
 use vtl_decimal::Profile;
 use vtl_nodes::NodeForm;
 use vtl_rule_tests::TypeErr;
-use vtl_shapes::{is_among, share_component};
+use vtl_shapes::{is_among, share_structure};
 use vtl_syntax::Comp;
 use vtl_text::{List, Txt};
-use vtl_tree::{CompExpr, Component, Structure};
+use vtl_tree::{CompExpr, Structure};
 use vtl_typing::{column, name as name_of};
 
 /// How numbers are read, and the data sets that are known: the declared ones, and then the results so far.
@@ -26,25 +26,6 @@ pub struct Scope {
     pub profile: Profile,
     /// The structures of the data sets, by name.
     pub known: IndexMap<Txt, Structure>,
-}
-
-fn push_shared(out: &mut Vec<Component>, components: &[Component]) -> Result<(), AllocError>
-    ensures { OnOk result (out.new.items ≡ out.old.items ++ components.now) }
-{
-    for component in components {
-        out.push(share_component(component)?)?;
-    }
-    Ok(())
-}
-
-fn share_structure(alloc: Global, structure: &Structure) -> Result<Structure, AllocError>
-    ensures { IfOk result (λ s. s ≡ structure.now) }
-{
-    let mut components = Vec::new(alloc);
-    push_shared(&mut components, structure.components.as_slice())?;
-    Ok(Structure {
-        components: List::of(components),
-    })
 }
 
 fn known_by(alloc: Global, name: &Txt, structure: Option<&Structure>) -> Result<Typed, TypeErr>

@@ -14,14 +14,14 @@ ghost use Rattle.vtl_forms.specs.Typed.{boxed_tree, typed_tree, typed_trees};
 use crate::Typed;
 use crate::typed::made_of;
 use std::alloc::{AllocError, Global};
-use vtl_decimal::{Profile, read_whole};
+use vtl_decimal::Profile;
 use vtl_nodes::{CheckSpec, Node, NodeForm};
 use vtl_rule_tests::TypeErr;
 use vtl_shapes::{Choice, Wanted, choose_known, exists_in, set_operator};
 use vtl_syntax::{BasicOut, Comp, DifferenceName, ErrorPart, Retain, SetOpName};
 use vtl_text::Txt;
 use vtl_tree::Structure;
-use vtl_typing::name;
+use vtl_typing::{integer_written, name};
 
 fn member_structure(alloc: Global, name: &Txt, structure: &Structure) -> Result<Structure, TypeErr>
     ensures { Answers (λ s. s) result (choice_form Wanted.Measure Choice.Keep (name.now ∷ []) structure.now.components) }
@@ -145,9 +145,9 @@ fn level(profile: &Profile, digits: &Option<Txt>) -> Result<Option<i64>, TypeErr
     ensures { Answers (λ level. level) result (level_typed profile.now digits.now) }
 {
     match digits {
-        Some(digits) => match read_whole(digits.as_str(), profile) {
-            Ok(level) => Ok(Some(level)),
-            Err(_) => Err(TypeErr::Broken(8)),
+        Some(digits) => match integer_written(profile, digits) {
+            Some(level) => Ok(Some(level)),
+            None => Err(TypeErr::Broken(8)),
         },
         None => Ok(None),
     }

@@ -1,6 +1,7 @@
 // Typed expressions: values and data sets.
 ghost use Rattle.std.specs.Prelude.{◌≡◌, ◌∷◌, [], not};
 ghost use Rattle.vtl_cell.specs.ScalarKinds.{meets};
+ghost use Rattle.vtl_nodes.specs.Trees.{node};
 ghost use Rattle.vtl_nodes.specs.View.{form_tree};
 ghost use Rattle.vtl_rule_tests.specs.Answers.{Answers};
 ghost use Rattle.vtl_rule_tests.specs.Rules.{ruled};
@@ -78,14 +79,18 @@ fn first_measure_kind(components: &[Component]) -> Kind
     Kind::Null
 }
 
+/// The node of a data set of this structure, made so.
+pub fn made_node(alloc: Global, structure: Structure, form: NodeForm) -> Result<Box<Node>, TypeErr>
+    ensures { Answers boxed_tree result (Ok (node structure (form_tree form))) }
+{
+    Ok(Box::new(alloc, Node { structure, form })?)
+}
+
 /// A data set of this structure, made so.
-pub(crate) fn made_of(alloc: Global, structure: Structure, form: NodeForm) -> Result<Typed, TypeErr>
+pub fn made_of(alloc: Global, structure: Structure, form: NodeForm) -> Result<Typed, TypeErr>
     ensures { Answers typed_tree result (made_of (form_tree form) structure) }
 {
-    match Box::new(alloc, Node { structure, form }) {
-        Ok(node) => Ok(Typed::Dataset(node)),
-        Err(_) => Err(TypeErr::OutOfMemory),
-    }
+    Ok(Typed::Dataset(made_node(alloc, structure, form)?))
 }
 
 fn boolean(e: CompExpr) -> Result<CompExpr, TypeErr>

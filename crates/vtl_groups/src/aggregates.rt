@@ -14,11 +14,10 @@ ghost use Rattle.vtl_groups.specs.Aggregates.{agg_kind, aggregate_node, componen
 
 use crate::groups::grouping_of;
 use crate::kinds::{agg_kind, aggregate_kind, call_kind, is_unfit};
-use crate::made::made_of;
 use crate::{grouping_choice, grouping_names};
 use std::alloc::Global;
 use vtl_cell::Kind;
-use vtl_forms::{Inside, Place, Typed, WrittenName, name_written, written_in};
+use vtl_forms::{Inside, Place, Typed, WrittenName, made_of, name_written, written_in};
 use vtl_nodes::{AggItems, AggSpec, Node, NodeForm};
 use vtl_rule_tests::{TypeErr, broken};
 use vtl_shapes::{Operator, Outcome, measured};
@@ -181,7 +180,7 @@ pub fn aggregate(
     let structure = aggregated(alloc, function, group, &operand.structure)?;
     let grouping = grouping_of(alloc, operand.structure.components.as_slice(), group)?;
     let form = aggregate_form(function, operand, grouping, having);
-    made_of(alloc, form, structure)
+    made_of(alloc, structure, form)
 }
 
 fn is_group(place: &Place) -> bool

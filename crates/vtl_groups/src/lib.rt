@@ -7,7 +7,6 @@ mod call_windows;
 mod calls;
 mod groups;
 mod kinds;
-mod made;
 mod over_kinds;
 mod over_nodes;
 mod windowed;

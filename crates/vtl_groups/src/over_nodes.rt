@@ -9,11 +9,10 @@ ghost use Rattle.vtl_groups.specs.Windowed.{is_misplaced, or_count, over_node, o
 
 use crate::Call;
 use crate::calls::suits;
-use crate::made::made_of;
 use crate::over_kinds::over_kind;
 use std::alloc::Global;
 use vtl_cell::Kind;
-use vtl_forms::Typed;
+use vtl_forms::{Typed, made_of};
 use vtl_nodes::{AnalyticOp, AnalyticSpec, Node, NodeForm, Window};
 use vtl_rule_tests::{TypeErr, broken};
 use vtl_shapes::{Choice, Operator, Outcome, measured};
@@ -102,5 +101,5 @@ pub(crate) fn over_node(
     ensures { Answers typed_tree result (over_node (expr_tree e.now) call window (boxed_tree operand)) }
 {
     let structure = over_structure(alloc, e, &call, &window, &operand.structure)?;
-    made_of(alloc, analytic_form(call.op, window, operand), structure)
+    made_of(alloc, structure, analytic_form(call.op, window, operand))
 }

@@ -14,7 +14,8 @@ use Rattle.vtl_rows.specs.Tables.{cells_at}
 use Rattle.vtl_tree.specs.Clauses.{filter_of, is_true}
 use Rattle.vtl_tree.specs.CompExp.{CompExp}
 use Rattle.vtl_tree.specs.DataSet.{Distinct, IsDataSet}
-use Rattle.vtl_tree.specs.Meaning.{DataSet, Environment, Outputs, data_of, with_output}
+use Rattle.vtl_tree.specs.Environment.{DataSet, Environment, data_of}
+use Rattle.vtl_meaning.specs.Meaning.{Outputs, with_output}
 use Rattle.vtl_tree.specs.SameResult.{Same}
 use Rattle.vtl_tree.specs.Structure.{columns_of, key_width, same_name}
 use Rattle.vtl_tree.specs.Value.{value}

@@ -7,8 +7,8 @@ use Rattle.vtl_cell.specs.Row.{Row}
 use Rattle.vtl_cell.specs.Outcome.{Fault, Outcome, after}
 use Rattle.vtl_tree.specs.Clauses.{filter_of}
 use Rattle.vtl_tree.specs.DataSet.{IsDataSet}
+use Rattle.vtl_tree.specs.Environment.{DataSet, Environment, data_of}
 use Rattle.vtl_tree.specs.Structures.{Named}
-use Rattle.vtl_tree.specs.Meaning.{DataSet, Environment, Outputs, data_of, with_output}
 use Rattle.vtl_tree.specs.declared.structure.Structure.{Structure}
 use Rattle.vtl_nodes.specs.Trees as nodes
 use Rattle.vtl_nodes.specs.Trees.{FormTree, NodeTree, structure_of}
@@ -55,6 +55,14 @@ pub record Statement : Type 0 where
   pub result : List ℕ
   pub persistent : Bool
   pub node : NodeTree
+
+-- results by name, in order
+abbrev pub Outputs : Type 0
+Outputs = List (List ℕ × DataSet)
+
+abbrev pub with_output : List ℕ → DataSet → Result Outputs (Fault × List ℕ) → Result Outputs (Fault × List ℕ)
+with_output name d (Ok out) = Ok ((name, d) ∷ out)
+with_output name d (Err f) = Err f
 
 -- a result among the outputs, where it is written
 abbrev pub kept_output : Statement → DataSet → Result Outputs (Fault × List ℕ) → Result Outputs (Fault × List ℕ)

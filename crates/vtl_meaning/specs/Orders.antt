@@ -2,7 +2,8 @@
 use Rattle.std.specs.Prelude.{◌≡◌, ℕ, List, [], ◌∷◌, Result, Ok, Err}
 use Rattle.vtl_lists.specs.Perm.{Perm}
 use Rattle.vtl_cell.specs.Outcome.{Fault}
-use Rattle.vtl_tree.specs.Meaning.{Environment, Outputs}
+use Rattle.vtl_tree.specs.Environment.{Environment}
+use Rattle.vtl_meaning.specs.Meaning.{Outputs}
 
 -- the same names and structures in the same order, the points of each data set in any order
 abbrev pub SameData : Environment → Environment → Type 0

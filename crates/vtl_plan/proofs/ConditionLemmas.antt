@@ -5,12 +5,12 @@ use Rattle.vtl_cell.specs.Outcome.{fault_in, faults_by, unless}
 use Rattle.vtl_cell.specs.Row.{Row, column_of}
 use Rattle.vtl_cell.specs.declared.cell.Cell.{Cell}
 use Rattle.vtl_cell.specs.declared.kind.Kind.TheVariants as k
-use Rattle.vtl_tree.specs.Built.{Compared}
-use Rattle.vtl_tree.specs.BuiltView.{scalar_op}
+use Rattle.vtl_plan.specs.Built.{Compared}
+use Rattle.vtl_plan.specs.BuiltView.{scalar_op}
 use Rattle.vtl_tree.specs.Clauses.{filter_of, kept}
 use Rattle.vtl_tree.specs.Value.{result_of, value}
-use Rattle.vtl_tree.specs.declared.built_form.CompareOp.{CompareOp}
-use Rattle.vtl_tree.specs.declared.built_form.CompareOp.TheVariants as op
+use Rattle.vtl_plan.specs.declared.built_form.CompareOp.{CompareOp}
+use Rattle.vtl_plan.specs.declared.built_form.CompareOp.TheVariants as op
 use Rattle.vtl_tree.specs.declared.structure.Component.{Component}
 use Rattle.vtl_plan.specs.Condition.{condition_in, place_of}
 

@@ -1,4 +1,5 @@
 pub mod ConditionLemmas
+pub mod DigitLemmas
 pub mod InputLemmas
 pub mod MeantLemmas
 pub mod PlaceLemmas

@@ -8,9 +8,10 @@ use Rattle.std.proofs.lemmas.List.{append-nil, map-append}
 use Rattle.vtl_decimal.specs.Settings.{Settings}
 use Rattle.vtl_cell.specs.Outcome.{after}
 use Rattle.vtl_cell.specs.Row.{Row}
-use Rattle.vtl_tree.specs.Built.{Compared}
+use Rattle.vtl_plan.specs.Built.{Compared}
 use Rattle.vtl_tree.specs.Clauses.{filter_of, kept}
-use Rattle.vtl_tree.specs.Meaning.{DataSet, Environment, Statement, data_of, found, meaning, node_value, stated, with_output}
+use Rattle.vtl_tree.specs.Environment.{DataSet, Environment, data_of, found}
+use Rattle.vtl_plan.specs.Meaning.{Statement, meaning, node_value, stated, with_output}
 use Rattle.vtl_tree.specs.Structure.{columns_of, same_name}
 use Rattle.vtl_tree.specs.Structures.{Named, has_name}
 use Rattle.vtl_tree.specs.declared.structure.Structure.{Structure}

@@ -4,7 +4,7 @@ use Rattle.vtl_lists.specs.Each.{each_some}
 use Rattle.vtl_syntax.specs.Trees as tree
 use Rattle.vtl_syntax.specs.Trees.{Exp, ScriptTree, StatementTree}
 use Rattle.vtl_syntax.specs.declared.word_groups.AssignKind.TheVariants as kept
-use Rattle.vtl_tree.specs.Built.{Compared, filter_clause, operand_in, plain_name_of}
+use Rattle.vtl_plan.specs.Built.{Compared, filter_clause, operand_in, plain_name_of}
 
 -- the statement `result <- operand;` or `result <- operand [filter condition];`
 pub record Assigned : Type 0 where

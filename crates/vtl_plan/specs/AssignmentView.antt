@@ -1,6 +1,6 @@
 -- A statement that the program has found, without where its parts lie in memory.
 use Rattle.std.specs.Prelude.{option_map}
-use Rattle.vtl_tree.specs.BuiltView.{compared_view}
+use Rattle.vtl_plan.specs.BuiltView.{compared_view}
 use Rattle.vtl_plan.specs.Assigned.{Assigned}
 use Rattle.vtl_plan.specs.declared.assignment.Assignment.TheInside.{Inside}
 

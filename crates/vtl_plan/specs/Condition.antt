@@ -3,8 +3,8 @@ use Rattle.std.specs.Prelude.{ℕ, List}
 use Rattle.std.specs.List.{position_or_len}
 use Rattle.vtl_cell.specs.Kinds.{kind_of}
 use Rattle.vtl_cell.specs.declared.kind.Kind.TheVariants as k
-use Rattle.vtl_tree.specs.Built.{Compared}
-use Rattle.vtl_tree.specs.BuiltView.{scalar_op}
+use Rattle.vtl_plan.specs.Built.{Compared}
+use Rattle.vtl_plan.specs.BuiltView.{scalar_op}
 use Rattle.vtl_tree.specs.CompExp.{CompExp, column, const, call, no_comp_exps, comp_exp}
 use Rattle.vtl_tree.specs.Structure.{columns_of, same_name}
 use Rattle.vtl_tree.specs.declared.structure.Component.{Component}

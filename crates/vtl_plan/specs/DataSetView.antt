@@ -1,5 +1,5 @@
 -- A data set that is kept in a table.
-use Rattle.vtl_tree.specs.Meaning.{DataSet}
+use Rattle.vtl_tree.specs.Environment.{DataSet}
 use Rattle.vtl_csv.specs.TableText.{IsTableOf}
 use Rattle.vtl_plan.specs.declared.data_set.DataSet.TheInside.{Inside}
 

@@ -1,9 +1,12 @@
 pub mod Assigned
 pub mod AssignmentView
+pub mod Built
+pub mod BuiltView
 pub mod Condition
 pub mod DataSetView
 pub mod Fitting
 pub mod InputsView
+pub mod Meaning
 pub mod Results
 pub mod Runs
 pub mod Typed

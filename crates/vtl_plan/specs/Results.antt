@@ -3,9 +3,9 @@ use Rattle.std.specs.Prelude.{◌≡◌, ℕ, List, [], ◌∷◌, ◌++◌, map
 use Rattle.std.specs.Option.{is_some, option_map_or}
 use Rattle.vtl_decimal.specs.Settings.{Settings}
 use Rattle.vtl_cell.specs.Row.{Row}
-use Rattle.vtl_tree.specs.Built.{Compared}
+use Rattle.vtl_plan.specs.Built.{Compared}
 use Rattle.vtl_tree.specs.Clauses.{kept}
-use Rattle.vtl_tree.specs.Meaning.{DataSet, Environment, data_of}
+use Rattle.vtl_tree.specs.Environment.{DataSet, Environment, data_of}
 use Rattle.vtl_tree.specs.Structures.{Named}
 use Rattle.vtl_tree.specs.declared.structure.Structure.{Structure}
 use Rattle.vtl_plan.specs.Assigned.{Assigned}

@@ -6,8 +6,8 @@ use Rattle.std.specs.Option.{option_and_then, option_map_or}
 use Rattle.vtl_cell.specs.declared.kind.Kind.{Kind}
 use Rattle.vtl_cell.specs.declared.kind.Kind.TheVariants as k
 use Rattle.vtl_cell.specs.Kinds.{kind_of}
-use Rattle.vtl_tree.specs.Built.{Compared}
-use Rattle.vtl_tree.specs.Meaning.{Node, Statement, named, filtered}
+use Rattle.vtl_plan.specs.Built.{Compared}
+use Rattle.vtl_plan.specs.Meaning.{Node, Statement, named, filtered}
 use Rattle.vtl_tree.specs.Structure.{same_name}
 use Rattle.vtl_tree.specs.Structures.{Named, has_name}
 use Rattle.vtl_tree.specs.declared.structure.Component.{Component}

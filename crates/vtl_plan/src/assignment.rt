@@ -2,15 +2,15 @@
 ghost use Rattle.std.specs.Prelude.{◌≡◌, IfOk, IsTrue, option_map};
 ghost use Rattle.std.specs.Str.{all_ascii_digits};
 ghost use Rattle.vtl_syntax.specs.View.{clause_tree, expr_tree, script_tree, statement_tree};
-ghost use Rattle.vtl_tree.specs.Built.{constant_value, compared_in, comparison_of, component_named, filter_clause, literal_in, name_of, number_written, operand_in, plain_name_of};
-ghost use Rattle.vtl_tree.specs.BuiltView.{compared_view, literal_cell};
+ghost use Rattle.vtl_plan.specs.Built.{constant_value, compared_in, comparison_of, component_named, filter_clause, literal_in, name_of, number_written, operand_in, plain_name_of};
+ghost use Rattle.vtl_plan.specs.BuiltView.{compared_view, literal_cell};
 ghost use Rattle.vtl_plan.specs.Assigned.{assigned, assigned_in, assigned_value};
 
+use crate::built_form::{CompareOp, FilterCondition, FilterLiteral};
 use std::alloc::{AllocError, Global};
 use std::marker::Model;
 use vtl_syntax::{AssignKind, BinaryOp, Clause, Comp, Constant, Expr, Numeral, Script, Statement};
 use vtl_text::Txt;
-use vtl_tree::{CompareOp, FilterCondition, FilterLiteral};
 
 /// A statement that gives a data set a name, whole or filtered, with names and texts of the script's tree.
 #[derive(Drop)]
@@ -144,7 +144,7 @@ fn operand(expr: &Expr) -> Option<&Txt>
 }
 
 // `C op L`
-#[tactic(auto, unfolding(vtl_tree::specs::Built::compared_in))]
+#[tactic(auto, unfolding(crate::specs::Built::compared_in))]
 fn condition(expr: &Expr) -> Option<FilterCondition<'_>>
     ensures { option_map compared_view result ≡ compared_in (expr_tree expr.now) }
 {

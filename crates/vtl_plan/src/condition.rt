@@ -1,16 +1,17 @@
 // The condition of a statement, over the columns of its operand.
 ghost use Rattle.std.specs.Prelude.{◌≡◌, IfOk};
-ghost use Rattle.vtl_tree.specs.BuiltView.{compared_view};
+ghost use Rattle.vtl_plan.specs.BuiltView.{compared_view};
 ghost use Rattle.vtl_tree.specs.Shown.{shown};
 ghost use Rattle.vtl_tree.specs.Structure.{same_name};
 ghost use Rattle.vtl_tree.specs.View.{comp_exp_of};
 ghost use Rattle.vtl_plan.specs.Condition.{condition_in, condition_over, place_of};
 
+use crate::built_form::FilterCondition;
 use std::alloc::{AllocError, Global};
 use vtl_cell::Kind;
 use vtl_csv::column;
 use vtl_text::Txt;
-use vtl_tree::{CompExpr, Component, FilterCondition, Structure};
+use vtl_tree::{CompExpr, Component, Structure};
 
 /// The condition of a statement whose operand has this structure.
 pub fn condition(

@@ -1,10 +1,11 @@
 // Data sets that are kept in tables.
 ghost use Rattle.std.specs.Prelude.{◌≡◌, Some, IfOk, option_map};
-ghost use Rattle.vtl_tree.specs.BuiltView.{compared_view};
+ghost use Rattle.vtl_plan.specs.BuiltView.{compared_view};
 ghost use Rattle.vtl_csv.specs.CsvText.{csv_of};
 ghost use Rattle.vtl_csv.specs.TableText.{IsTableOf};
 ghost use Rattle.vtl_plan.specs.Results.{of_points, value_of};
 
+use crate::built_form::FilterCondition;
 use crate::condition::condition;
 use crate::filtering::kept;
 use std::alloc::{AllocError, Global};
@@ -13,7 +14,7 @@ use std::rc::Rc;
 use vtl_csv::write_dataset;
 use vtl_decimal::Profile;
 use vtl_rows::Table;
-use vtl_tree::{FilterCondition, Structure};
+use vtl_tree::Structure;
 
 /// A data set: its structure, and a table of its points, which several data sets may share. A contract sees the structure
 /// and the list of the points.
@@ -24,9 +25,9 @@ pub struct DataSet<'a> {
 }
 
 impl<'a> Model for DataSet<'a> {
-    ghost use Rattle.vtl_tree.specs.Meaning as meaning;
+    ghost use Rattle.vtl_tree.specs.Environment as environment;
 
-    ghost Value = { meaning.DataSet };
+    ghost Value = { environment.DataSet };
 
     ghost use Rattle.vtl_plan.specs.DataSetView.{IsHeld, data_set_view};
 

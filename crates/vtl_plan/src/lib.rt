@@ -3,6 +3,7 @@
 #![tactic(auto)]
 
 mod assignment;
+mod built_form;
 mod condition;
 mod data_set;
 mod filtering;
@@ -10,6 +11,7 @@ mod running;
 mod typing;
 
 pub use assignment::{Assignment, assignments};
+pub use built_form::{CompareOp, FilterCondition, FilterLiteral};
 pub use data_set::DataSet;
 pub use running::{DataSets, put, run};
 pub use typing::{Inputs, checked_inputs};

@@ -1,7 +1,8 @@
 // Statements that are carried out over data sets.
 ghost use Rattle.std.specs.Prelude.{◌≡◌, ◌++◌, ◌∷◌, [], List, Some, true, false, IfOk, OnOk, option_map};
 ghost use Rattle.std.specs.Option.{is_some};
-ghost use Rattle.vtl_tree.specs.Meaning.{Statement, data_of};
+ghost use Rattle.vtl_tree.specs.Environment.{data_of};
+ghost use Rattle.vtl_plan.specs.Meaning.{Statement};
 ghost use Rattle.vtl_tree.specs.Structures.{has_name};
 ghost use Rattle.vtl_plan.specs.Results.{structures_in, value_of, with_result};
 ghost use Rattle.vtl_plan.specs.Runs.{Runs};

@@ -2,18 +2,19 @@
 ghost use Rattle.std.specs.Prelude.{◌≡◌, ◌∷◌, ◌++◌, [], true, false, IfOk, IfSome, OnOk, option_map};
 ghost use Rattle.std.specs.List.{list_all, list_any};
 ghost use Rattle.std.specs.Option.{is_some};
-ghost use Rattle.vtl_tree.specs.BuiltView.{compared_view};
+ghost use Rattle.vtl_plan.specs.BuiltView.{compared_view};
 ghost use Rattle.vtl_tree.specs.Structures.{AreStructures, has_name, is_declarable};
 ghost use Rattle.vtl_plan.specs.InputsView.{inputs_shown, structure_shown};
 ghost use Rattle.vtl_plan.specs.Results.{IsChecked};
 ghost use Rattle.vtl_plan.specs.Typed.{are_new, fits, fitting, inputs_of, is_compared, same_kind, structure_over, typed, with_input};
 
 use crate::Assignment;
+use crate::built_form::FilterCondition;
 use indexmap::IndexMap;
 use std::alloc::{AllocError, Global};
 use vtl_cell::Kind;
 use vtl_text::Txt;
-use vtl_tree::{Component, FilterCondition, Structure, Structures};
+use vtl_tree::{Component, Structure, Structures};
 
 /// Data sets by name, with their structures: those that the statements of a script read.
 pub type Inputs<'a> = IndexMap<Txt, &'a Structure>;

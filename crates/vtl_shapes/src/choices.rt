@@ -42,7 +42,8 @@ pub fn is_identifier_name(components: &[Component], name: &Txt) -> bool
     }
 }
 
-fn is_chosen(choice: Choice, names: &[Txt], component: &Component) -> bool
+/// Whether a component is one of those that are chosen.
+pub fn is_chosen(choice: Choice, names: &[Txt], component: &Component) -> bool
     ensures { result ≡ is_chosen choice names.now component.now }
 {
     match choice {

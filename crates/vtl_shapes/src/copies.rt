@@ -1,9 +1,9 @@
-// Components are shared: their names and codes are the same texts.
+// Components and structures are shared: their names and codes are the same texts.
 ghost use Rattle.std.specs.Prelude.{◌≡◌, IfOk};
 
-use std::alloc::AllocError;
-use vtl_text::{Shared, Txt};
-use vtl_tree::Component;
+use std::alloc::{AllocError, Global};
+use vtl_text::{List, Shared, Txt};
+use vtl_tree::{Component, Structure};
 
 /// One more of the codes of a component.
 pub fn share_codes(codes: &Option<Shared<Txt>>) -> Result<Option<Shared<Txt>>, AllocError>
@@ -24,5 +24,18 @@ pub fn share_component(component: &Component) -> Result<Component, AllocError>
         role: component.role,
         kind: component.kind,
         codes: share_codes(&component.codes)?,
+    })
+}
+
+/// One more of a structure.
+pub fn share_structure(alloc: Global, structure: &Structure) -> Result<Structure, AllocError>
+    ensures { IfOk result (λ copy. copy ≡ structure.now) }
+{
+    let mut components = Vec::new(alloc);
+    for component in structure.components.as_slice() {
+        components.push(share_component(component)?)?;
+    }
+    Ok(Structure {
+        components: List::of(components),
     })
 }

@@ -14,10 +14,10 @@ mod renaming;
 mod shape;
 mod targets;
 
-pub use choices::{Choice, choose, choose_known, is_identifier, is_identifier_name};
-pub use copies::{share_codes, share_component};
+pub use choices::{Choice, choose, choose_known, is_chosen, is_identifier, is_identifier_name};
+pub use copies::{share_codes, share_component, share_structure};
 pub use counting::count_role;
-pub use measures::{Operator, Outcome, measured};
+pub use measures::{Operator, Outcome, any_unmet, measured};
 pub use names::{Wanted, check_names, check_new_name, component_of, is_among, known};
 pub use operands::{Compared, agree, push_identifiers};
 pub use pairs::{check, choose_by, contains, exists_in, pair, set_operator};

@@ -90,7 +90,8 @@ fn is_unmet<F: Operator>(operator: &F, others: Option<&[Component]>, component: 
     is_measure(component) && paired(operator, component.kind, namesake(others, component)).is_none()
 }
 
-pub(crate) fn any_unmet<F: Operator>(
+/// Whether a measure does not meet the operator's row, beside its namesake among others, or alone where there are no others.
+pub fn any_unmet<F: Operator>(
     operator: &F,
     others: Option<&[Component]>,
     components: &[Component],

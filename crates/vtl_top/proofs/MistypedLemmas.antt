@@ -6,7 +6,8 @@ use Rattle.vtl_files.specs.Outside.{bytes_at}
 use Rattle.vtl_cell.specs.Outcome.{Fault as EvaluationFault}
 use Rattle.vtl_cell.specs.Row.{Row}
 use Rattle.vtl_syntax.specs.Trees.{ScriptTree}
-use Rattle.vtl_tree.specs.Meaning.{Environment, Outputs, meaning}
+use Rattle.vtl_tree.specs.Environment.{Environment}
+use Rattle.vtl_plan.specs.Meaning.{Outputs, meaning}
 use Rattle.vtl_tree.specs.Structures.{Named}
 use Rattle.vtl_tree.specs.declared.structure.Structure.{Structure}
 use Rattle.vtl_csv.specs.InputFile.{Fault, dataset_rows}

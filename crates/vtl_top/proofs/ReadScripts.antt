@@ -17,7 +17,8 @@ use Rattle.std.specs.Prelude.{chars}
 use Rattle.vtl_top.specs.Answered.{Came, Gives, Stops, Takes}
 use Rattle.vtl_top.proofs.StepLemmas.{nothing_read}
 use Rattle.vtl_top.specs.Steps.{Behind, Held, Step, onward, settled}
-use Rattle.vtl_tree.specs.Meaning.{Environment, meaning}
+use Rattle.vtl_tree.specs.Environment.{Environment}
+use Rattle.vtl_plan.specs.Meaning.{meaning}
 use Rattle.vtl_tree.specs.declared.structure.Structure.{Structure}
 use Rattle.vtl_csv.specs.InputFile.{dataset_rows}
 use Rattle.vtl_check.specs.Checked.{env_over}

@@ -9,7 +9,8 @@ use Rattle.std.proofs.lemmas.List.{drop_more, get_or-map, length-map, map-append
 use Rattle.std.proofs.lemmas.Map.Entries.{length-keys_of}
 use Rattle.vtl_files.specs.declared.files.Files.{Ghosts}
 use Rattle.vtl_cell.specs.Row.{Row}
-use Rattle.vtl_tree.specs.Meaning.{DataSet, Environment, Statement, meaning}
+use Rattle.vtl_tree.specs.Environment.{DataSet, Environment}
+use Rattle.vtl_plan.specs.Meaning.{Statement, meaning}
 use Rattle.vtl_tree.specs.Structure.{same_name}
 use Rattle.vtl_tree.specs.Structures.{AreStructures, Named, has_name}
 use Rattle.vtl_tree.proofs.StructuresLemmas.{repeated}

@@ -4,7 +4,8 @@ use Rattle.vtl_files.specs.Outside.{bytes_at}
 use Rattle.vtl_cell.specs.Outcome.{Fault as EvaluationFault}
 use Rattle.vtl_cell.specs.Row.{Row}
 use Rattle.vtl_syntax.specs.Trees.{ScriptTree}
-use Rattle.vtl_tree.specs.Meaning.{DataSet, Environment, Outputs, Statement, meaning}
+use Rattle.vtl_tree.specs.Environment.{DataSet, Environment}
+use Rattle.vtl_plan.specs.Meaning.{Outputs, Statement, meaning}
 use Rattle.vtl_tree.specs.Structures.{Named}
 use Rattle.vtl_tree.specs.declared.structure.Structure.{Structure}
 use Rattle.vtl_csv.specs.CsvText.{csv_of}

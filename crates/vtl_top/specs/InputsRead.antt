@@ -1,7 +1,7 @@
 -- Data sets that were read, without where they lie in memory.
 use Rattle.std.specs.Prelude.{List}
 use Rattle.vtl_cell.specs.Row.{Row}
-use Rattle.vtl_tree.specs.Meaning.{DataSet}
+use Rattle.vtl_tree.specs.Environment.{DataSet}
 
 abbrev pub points_of : DataSet → List Row
 points_of d = d.points

@@ -2,7 +2,8 @@
 use Rattle.std.specs.Prelude.{◌≡◌, ℕ, false, List, [], map, Err, Ok, Some, IsUtf8}
 use Rattle.vtl_syntax.specs.Trees.{ScriptTree}
 use Rattle.vtl_parser.specs.Parsed.{IsScript}
-use Rattle.vtl_tree.specs.Meaning.{Environment, Outputs, Statement, meaning}
+use Rattle.vtl_tree.specs.Environment.{Environment}
+use Rattle.vtl_plan.specs.Meaning.{Outputs, Statement, meaning}
 use Rattle.vtl_tree.specs.Structures.{Named}
 use Rattle.vtl_nodes.specs.Trees.{NodeTree}
 use Rattle.vtl_check.specs.Checked.{env_over}

@@ -9,7 +9,7 @@ use Rattle.vtl_parser.specs.Parsed.{IsFaulty, IsScript}
 use Rattle.vtl_syntax.specs.View.{script_tree}
 use Rattle.vtl_syntax.specs.declared.statements.Script.{Script}
 use Rattle.vtl_cell.specs.Row.{Row}
-use Rattle.vtl_tree.specs.Meaning.{DataSet}
+use Rattle.vtl_tree.specs.Environment.{DataSet}
 use Rattle.vtl_tree.specs.declared.structure.Structure.{Structure}
 use Rattle.vtl_csv.specs.InputFile.{Fault}
 use Rattle.vtl_csv.specs.declared.input.InputErr.{InputErr}

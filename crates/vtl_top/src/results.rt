@@ -2,7 +2,7 @@
 ghost use Rattle.std.specs.Prelude.{◌≡◌, ◌≤◌, ◌<◌, List, Some, Ok, true, length, drop, map, slice_index_or, IfOk};
 ghost use Rattle.std.specs.List.{AllByRecursion};
 ghost use Rattle.std.specs.Option.{is_some};
-ghost use Rattle.vtl_tree.specs.Meaning.{Statement, meaning};
+ghost use Rattle.vtl_plan.specs.Meaning.{Statement, meaning};
 ghost use Rattle.vtl_plan.specs.Results.{structures_in};
 ghost use Rattle.vtl_plan.specs.Typed.{typed};
 ghost use Rattle.vtl_top.specs.Expected.{output_of, outputs_of};

@@ -3,7 +3,7 @@ ghost use Rattle.std.specs.Prelude.{◌≡◌, List, Some, false, true, IfOk};
 ghost use Rattle.std.specs.List.{AllByRecursion};
 ghost use Rattle.std.specs.Option.{is_some};
 ghost use Rattle.vtl_syntax.specs.View.{script_tree};
-ghost use Rattle.vtl_tree.specs.Meaning.{Statement};
+ghost use Rattle.vtl_plan.specs.Meaning.{Statement};
 ghost use Rattle.vtl_tree.specs.Structures.{AreStructures};
 ghost use Rattle.vtl_check.specs.Script.{has_definitions};
 ghost use Rattle.vtl_plan.specs.InputsView.{inputs_shown};

@@ -1,4 +1,3 @@
-pub mod DigitLemmas
 pub mod Faults
 pub mod LookUps
 pub mod StructuresLemmas

@@ -1,10 +1,8 @@
-pub mod Built
-pub mod BuiltView
 pub mod Clauses
 pub mod DataSet
 pub mod CompExp
+pub mod Environment
 pub mod Kept
-pub mod Meaning
 pub mod SameResult
 pub mod Seen
 pub mod Shown

@@ -1,7 +1,6 @@
 //! What the language speaks of: structures, data sets and component expressions, with their meaning.
 #![tactic(auto)]
 
-mod built_form;
 mod declarable;
 mod evaluation;
 mod expression;
@@ -10,7 +9,6 @@ mod seen;
 mod structure;
 mod structures;
 
-pub use built_form::{CompareOp, FilterCondition, FilterLiteral};
 pub use declarable::is_declarable;
 pub use evaluation::eval;
 pub use expression::{AggCall, CompExpr};

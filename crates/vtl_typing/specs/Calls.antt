@@ -7,7 +7,7 @@ use Rattle.vtl_cell.specs.declared.kind.Kind.TheVariants as k
 use Rattle.vtl_cell.specs.declared.operator.ScalarOp.{ScalarOp}
 use Rattle.vtl_tree.specs.CompExp.{CompExp, call}
 use Rattle.vtl_tree.specs.View.{comp_exps_of}
-use Rattle.vtl_typing.specs.Kinds.{exp_kind}
+use Rattle.vtl_typing.specs.Kinds.{exp_kind, kind_by_operands}
 use Rattle.vtl_rule_tests.specs.Rules.{ruled}
 
 -- the kind of an operator's value, where the operands meet its row
@@ -18,6 +18,12 @@ abbrev pub or_null : Option Kind → Kind
 or_null (Some kind) = kind
 or_null None = k.Null
 
--- an operator on values: the operands meet its row (7), and those that have to be literals are (8)
+-- An operator on values: the operands that need not be literals meet its row (7), and so do the others (8), which are literals
+-- in their intervals (8).
 abbrev pub call_form : ScalarOp → (literals : Bool) → List CompExp → Result CompExp ℕ
-call_form op literals args = ruled ((7, is_none (call_kind op args)) ∷ (8, not literals) ∷ []) (call op (or_null (call_kind op args)) (comp_exps_of args))
+call_form op literals args =
+    ruled
+    ((7, is_none (kind_by_operands op (map exp_kind args)))
+    ∷ (8, is_none (call_kind op args))
+    ∷ (8, not literals) ∷ [])
+    (call op (or_null (call_kind op args)) (comp_exps_of args))

@@ -1,9 +1,9 @@
 -- The values of literals, and their kinds.
 use Rattle.std.specs.Prelude.{ℕ, ℤ, pos, Bool, true, false, ◌&&◌, List, [], ◌∷◌, ◌++◌, Option, Some, None, option_and_then, if◌then◌else◌, Result, Ok, Err, encode_utf8_all}
 use Rattle.std.specs.Int.RustNames.{int_le}
-use Rattle.std.specs.Option.{option_map_or}
+use Rattle.std.specs.Option.{option_map, option_map_or}
 use Rattle.std.specs.Result.{result_ok}
-use Rattle.vtl_decimal.specs.Numeral.{integer_read}
+use Rattle.vtl_decimal.specs.Numeral.{integer_spelled, number_spelled}
 use Rattle.vtl_decimal.specs.Settings.{Settings}
 use Rattle.vtl_cell.specs.Reading.{reads}
 use Rattle.vtl_cell.specs.ScalarArithmetic.{negation_of}
@@ -33,20 +33,22 @@ abbrev pub numeral_kind : Numeral → Kind
 numeral_kind (numeral.Integer digits) = k.Int
 numeral_kind (numeral.Decimal digits) = k.Num
 
-abbrev pub numeral_text : Numeral → List ℕ
-numeral_text (numeral.Integer digits) = digits
-numeral_text (numeral.Decimal digits) = digits
-
 abbrev pub cast_kind : CastKind → Kind
 cast_kind cast.Date = k.Day
 cast_kind cast.TimePeriod = k.Period
 
+-- the integer that digits write, where it is in range
+abbrev pub integer_written : Settings → List ℕ → Option ℤ
+integer_written p digits = integer_spelled p.scale (encode_utf8_all digits)
+
+-- the value of a number, of however many digits: rounded once, where it is in range
+abbrev pub numeral_cell : Settings → Numeral → Option Cell
+numeral_cell p (numeral.Integer digits) = option_map c.Int (integer_written p digits)
+numeral_cell p (numeral.Decimal digits) = option_map c.Num (number_spelled p (encode_utf8_all digits))
+
 -- the value of a kind that a text of characters stands for
 abbrev pub written : Settings → Kind → List ℕ → Option Cell
 written p kind text = reads p kind (encode_utf8_all text)
-
-abbrev pub numeral_cell : Settings → Numeral → Option Cell
-numeral_cell p n = written p (numeral_kind n) (numeral_text n)
 
 -- the value of a constant, where it has one: a number in range, a day or a period that is one
 abbrev pub constant_cell : Settings → Constant → Option Cell
@@ -111,7 +113,7 @@ set_typed p kind ls = members_typed p (is_null_kind kind) kind [] ls
 
 -- the integer that an expression is, where it is an integer without a sign
 abbrev pub integer_in : Settings → Exp → Option ℤ
-integer_in p (tree.constant (constant.Number (numeral.Integer digits))) = integer_read p.scale (encode_utf8_all digits)
+integer_in p (tree.constant (constant.Number (numeral.Integer digits))) = integer_written p digits
 integer_in p e = None
 
 -- whether an expression is an integer without a sign, in this interval

@@ -1,8 +1,7 @@
 -- The windows of analytic calls, over the components of an operand.
-use Rattle.std.specs.Prelude.{ℕ, ℤ, pos, unsigned_abs, Bool, true, false, not, ◌&&◌, List, [], ◌∷◌, ◌++◌, Option, Some, None, Result, Ok, Err, encode_utf8_all, if◌then◌else◌}
+use Rattle.std.specs.Prelude.{ℕ, ℤ, pos, unsigned_abs, Bool, true, false, not, ◌&&◌, List, [], ◌∷◌, ◌++◌, Option, Some, None, Result, Ok, Err, if◌then◌else◌}
 use Rattle.std.specs.Int.RustNames.{int_le}
 use Rattle.std.specs.List.{list_any}
-use Rattle.vtl_decimal.specs.Numeral.{integer_read}
 use Rattle.vtl_decimal.specs.Settings.{Settings}
 use Rattle.vtl_syntax.specs.declared.parts.Comp.{Comp}
 use Rattle.vtl_syntax.specs.declared.parts.DataPoints.{DataPoints}
@@ -22,6 +21,7 @@ use Rattle.vtl_nodes.specs.declared.calls.Frame.{Frame}
 use Rattle.vtl_nodes.specs.declared.calls.OrderKey.{OrderKey}
 use Rattle.vtl_nodes.specs.declared.calls.Window.{Window}
 use Rattle.vtl_typing.specs.Columns.{name_of}
+use Rattle.vtl_typing.specs.Literals.{integer_written}
 use Rattle.vtl_rule_tests.specs.Rules.{◌>>=◌, ruled}
 
 abbrev pub is_known : List ℕ → List Component → Bool
@@ -59,7 +59,7 @@ points_in None = Err 8
 points_in (Some n) = if int_le (pos 0) n && int_le n (pos 1_000_000) then Ok (unsigned_abs n) else Err 8
 
 abbrev pub points_typed : Settings → List ℕ → Result ℕ ℕ
-points_typed p digits = points_in (integer_read p.scale (encode_utf8_all digits))
+points_typed p digits = points_in (integer_written p digits)
 
 abbrev pub points_at : Side → ℕ → Bound
 points_at side.Preceding n = bound.Preceding n

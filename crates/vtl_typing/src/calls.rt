@@ -1,11 +1,11 @@
 // What operators give of operands that are typed.
-ghost use Rattle.std.specs.Prelude.{◌≡◌, IfOk, map};
+ghost use Rattle.std.specs.Prelude.{◌≡◌, IfOk, is_some, map};
 ghost use Rattle.vtl_tree.specs.View.{comp_exp_of};
 ghost use Rattle.vtl_rule_tests.specs.Answers.{Answers};
 ghost use Rattle.vtl_typing.specs.Calls.{call_form, call_kind};
-ghost use Rattle.vtl_typing.specs.Kinds.{exp_kind};
+ghost use Rattle.vtl_typing.specs.Kinds.{exp_kind, kind_by_operands};
 
-use crate::{kind, operator_kind};
+use crate::{kind, kind_by_operands, operator_kind};
 use std::alloc::{AllocError, Global};
 use vtl_cell::{Kind, ScalarOp};
 use vtl_rule_tests::TypeErr;
@@ -22,27 +22,36 @@ pub fn kinds_in(alloc: Global, args: &[CompExpr]) -> Result<Vec<Kind>, AllocErro
     Ok(kinds)
 }
 
-fn call_kind(alloc: Global, op: ScalarOp, args: &[CompExpr]) -> Result<Option<Kind>, AllocError>
-    ensures { IfOk result (λ kind. kind ≡ call_kind op (map comp_exp_of args.now)) }
+// Whether the operands that need not be literals meet an operator's row, and the kind of its value.
+fn row_met(
+    alloc: Global,
+    op: ScalarOp,
+    args: &[CompExpr],
+) -> Result<(bool, Option<Kind>), AllocError>
+    ensures met { IfOk result (λ r. r.0 ≡ is_some (kind_by_operands op (map exp_kind (map comp_exp_of args.now)))) }
+    ensures kind { IfOk result (λ r. r.1 ≡ call_kind op (map comp_exp_of args.now)) }
 {
     let kinds = kinds_in(alloc, args)?;
-    Ok(operator_kind(op, &kinds))
+    let by_operands = kind_by_operands(alloc, op, &kinds)?;
+    Ok((by_operands.is_some(), operator_kind(op, &kinds)))
 }
 
-// An operator on values, where its kind is known.
+// An operator on values, where it is known whether the operands that need not be literals meet its row, and its kind.
 fn call_of_kind(
     op: ScalarOp,
+    met: bool,
     kind: Option<Kind>,
     literals: bool,
     args: Vec<CompExpr>,
 ) -> Result<CompExpr, TypeErr>
-    requires { kind ≡ call_kind op (map comp_exp_of args.items) }
+    requires met { met ≡ is_some (kind_by_operands op (map exp_kind (map comp_exp_of args.items))) }
+    requires kind { kind ≡ call_kind op (map comp_exp_of args.items) }
     ensures { Answers comp_exp_of result (call_form op literals (map comp_exp_of args.items)) }
 {
     match kind {
-        None => Err(TypeErr::Broken(7)),
-        Some(_) if !literals => Err(TypeErr::Broken(8)),
-        Some(kind) => Ok(CompExpr::Apply { op, kind, args }),
+        _ if !met => Err(TypeErr::Broken(7)),
+        Some(kind) if literals => Ok(CompExpr::Apply { op, kind, args }),
+        _ => Err(TypeErr::Broken(8)),
     }
 }
 
@@ -55,6 +64,6 @@ pub fn call(
 ) -> Result<CompExpr, TypeErr>
     ensures { Answers comp_exp_of result (call_form op literals (map comp_exp_of args.items)) }
 {
-    let kind = call_kind(alloc, op, &args)?;
-    call_of_kind(op, kind, literals, args)
+    let (met, kind) = row_met(alloc, op, &args)?;
+    call_of_kind(op, met, kind, literals, args)
 }

@@ -1,11 +1,12 @@
 // The kinds of values, and of operators on values of given kinds.
-ghost use Rattle.std.specs.Prelude.{◌≡◌, [], ◌∷◌, option_and_then, option_map, if◌then◌else◌};
+ghost use Rattle.std.specs.Prelude.{◌≡◌, [], ◌∷◌, IfOk, option_and_then, option_map, if◌then◌else◌};
 ghost use Rattle.std.specs.List.{list_all};
 ghost use Rattle.vtl_cell.specs.Kinds.{kind_of};
 ghost use Rattle.vtl_cell.specs.ScalarKinds.{common_kind, first_met, is_set_of, kinds_of, meet, meets, numeric_one, numeric_two, only, shared_kind, to, truth_of_set};
 ghost use Rattle.vtl_tree.specs.View.{comp_exp_of};
-ghost use Rattle.vtl_typing.specs.Kinds.{exp_kind};
+ghost use Rattle.vtl_typing.specs.Kinds.{counted_kinds, exp_kind, kind_by_operands, takes_literals};
 
+use std::alloc::{AllocError, Global};
 use vtl_cell::{Cell, Kind, ScalarOp};
 use vtl_tree::CompExpr;
 
@@ -285,5 +286,49 @@ pub fn operator_kind(op: ScalarOp, kinds: &[Kind]) -> Option<Kind>
         ScalarOp::IsNull => tested(kinds),
         ScalarOp::ValueOr => value_or(kinds),
         ScalarOp::If => chosen(kinds),
+    }
+}
+
+fn takes_literals(op: ScalarOp) -> bool
+    ensures { result ≡ takes_literals op }
+{
+    match op {
+        ScalarOp::Round | ScalarOp::Truncate | ScalarOp::Substring => true,
+        _ => false,
+    }
+}
+
+fn counted_kind(op: ScalarOp, kind: Kind) -> Kind
+    ensures { result ≡ (if takes_literals op then Kind.Int else kind) }
+{
+    if takes_literals(op) { Kind::Int } else { kind }
+}
+
+/// The kinds of operands behind the first, where what stands for an integer literal counts as one.
+pub fn counted_kinds(alloc: Global, op: ScalarOp, kinds: &[Kind]) -> Result<Vec<Kind>, AllocError>
+    ensures { IfOk result (λ v. v.items ≡ counted_kinds op kinds.now) }
+{
+    let mut counted = Vec::new(alloc);
+    for kind in kinds {
+        counted.push(counted_kind(op, *kind))?;
+    }
+    Ok(counted)
+}
+
+/// The kind of an operator's value on operands of these kinds, where those that need not be literals meet its row.
+pub fn kind_by_operands(
+    alloc: Global,
+    op: ScalarOp,
+    kinds: &[Kind],
+) -> Result<Option<Kind>, AllocError>
+    ensures { IfOk result (λ kind. kind ≡ kind_by_operands op kinds.now) }
+{
+    match kinds {
+        [] => Ok(operator_kind(op, &[])),
+        [first, rest @ ..] => {
+            let mut counted = counted_kinds(alloc, op, rest)?;
+            counted.insert(0, *first)?;
+            Ok(operator_kind(op, &counted))
+        }
     }
 }

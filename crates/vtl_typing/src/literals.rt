@@ -7,12 +7,12 @@ ghost use Rattle.vtl_syntax.specs.Trees.{exps_of};
 ghost use Rattle.vtl_syntax.specs.View.{expr_tree};
 ghost use Rattle.vtl_tree.specs.View.{comp_exp_of};
 ghost use Rattle.vtl_rule_tests.specs.Answers.{Answers};
-ghost use Rattle.vtl_typing.specs.Literals.{are_digits, cast_kind, constant_cell, constant_typed, integer_in, is_null_kind, lies_in, literal_cell, literal_kind, literals_fit, members_typed, numeral_cell, numeral_kind, numeral_text, second_passes, set_typed, still_wanted, third_passes, valued, wanted_or, with_sign, written};
+ghost use Rattle.vtl_typing.specs.Literals.{are_digits, cast_kind, constant_cell, constant_typed, integer_in, integer_written, is_null_kind, lies_in, literal_cell, literal_kind, literals_fit, members_typed, numeral_cell, numeral_kind, second_passes, set_typed, still_wanted, third_passes, valued, wanted_or, with_sign, written};
 
 use crate::{meets, shared_kind};
 use std::alloc::{AllocError, Global};
 use vtl_cell::{Cell, Kind, read_cell};
-use vtl_decimal::{Profile, neg, read_whole, whole};
+use vtl_decimal::{Profile, neg, read_literal, read_whole_literal, whole};
 use vtl_rule_tests::TypeErr;
 use vtl_syntax::{CastKind, Constant, Expr, FunctionName, Literal, Numeral, UnaryOp};
 use vtl_text::{List, Txt};
@@ -24,15 +24,6 @@ fn numeral_kind(numeral: &Numeral) -> Kind
     match numeral {
         Numeral::Integer(_) => Kind::Int,
         Numeral::Decimal(_) => Kind::Num,
-    }
-}
-
-fn numeral_text(numeral: &Numeral) -> &Txt
-    ensures { result.now ≡ numeral_text numeral.now }
-{
-    match numeral {
-        Numeral::Integer(digits) => digits,
-        Numeral::Decimal(digits) => digits,
     }
 }
 
@@ -57,14 +48,20 @@ fn written(
     read_cell(alloc, kind, text.as_str(), profile)
 }
 
-fn numeral_cell(
-    alloc: Global,
-    profile: &Profile,
-    numeral: &Numeral,
-) -> Result<Option<Cell>, AllocError>
-    ensures { IfOk result (λ o. o ≡ numeral_cell profile.now numeral.now) }
+/// The integer that digits write, where it is in range.
+pub fn integer_written(profile: &Profile, digits: &Txt) -> Option<i64>
+    ensures { result ≡ integer_written profile.now digits.now }
 {
-    written(alloc, profile, numeral_kind(numeral), numeral_text(numeral))
+    read_whole_literal(digits.as_str(), profile).ok()
+}
+
+fn numeral_cell(profile: &Profile, numeral: &Numeral) -> Option<Cell>
+    ensures { result ≡ numeral_cell profile.now numeral.now }
+{
+    match numeral {
+        Numeral::Integer(digits) => integer_written(profile, digits).map(Cell::Int),
+        Numeral::Decimal(digits) => read_literal(digits.as_str(), profile).ok().map(Cell::Num),
+    }
 }
 
 fn constant_cell(
@@ -75,7 +72,7 @@ fn constant_cell(
     ensures { IfOk result (λ o. o ≡ constant_cell profile.now constant.now) }
 {
     match constant {
-        Constant::Number(numeral) => numeral_cell(alloc, profile, numeral),
+        Constant::Number(numeral) => Ok(numeral_cell(profile, numeral)),
         Constant::String(text) => Ok(Some(Cell::Text(text.share()?))),
         Constant::Boolean(b) => Ok(Some(Cell::Bool(*b))),
         Constant::Null => Ok(Some(Cell::Null)),
@@ -116,8 +113,7 @@ fn literal_cell(
 {
     match literal {
         Literal::Number { negative, numeral } => {
-            let cell = numeral_cell(alloc, profile, numeral)?;
-            Ok(with_sign(profile, *negative, cell))
+            Ok(with_sign(profile, *negative, numeral_cell(profile, numeral)))
         }
         Literal::String(text) => Ok(Some(Cell::Text(text.share()?))),
         Literal::Boolean(b) => Ok(Some(Cell::Bool(*b))),
@@ -219,10 +215,7 @@ fn integer_in(profile: &Profile, e: &Expr) -> Option<i64>
 {
     match e {
         Expr::Constant(Constant::Number(Numeral::Integer(digits))) => {
-            match read_whole(digits.as_str(), profile) {
-                Ok(n) => Some(n),
-                Err(_) => None,
-            }
+            integer_written(profile, digits)
         }
         _ => None,
     }

@@ -6,9 +6,9 @@ ghost use Rattle.vtl_rule_tests.specs.Answers.{Answers};
 ghost use Rattle.vtl_typing.specs.Columns.{name_of};
 ghost use Rattle.vtl_typing.specs.Windows.{bound_typed, frame_typed, is_falling, is_known, key_of, key_typed, name_form, or_none, order_typed, partition_typed, points_at, points_typed, unbounded_at, window_typed};
 
-use crate::name;
+use crate::{integer_written, name};
 use std::alloc::{AllocError, Global};
-use vtl_decimal::{Profile, read_whole};
+use vtl_decimal::Profile;
 use vtl_nodes::{Bound, Frame, OrderKey, Window};
 use vtl_rule_tests::TypeErr;
 use vtl_syntax::{Comp, DataPoints, Direction, Limit, OrderPart, OverPart, Side};
@@ -125,8 +125,8 @@ const MOST_POINTS: i64 = 1_000_000;
 pub fn points(profile: &Profile, digits: &Txt) -> Result<u32, TypeErr>
     ensures { Answers (λ n. n) result (points_typed profile.now digits.now) }
 {
-    match read_whole(digits.as_str(), profile) {
-        Ok(n) if 0 <= n && n <= MOST_POINTS => Ok(n as u32),
+    match integer_written(profile, digits) {
+        Some(n) if 0 <= n && n <= MOST_POINTS => Ok(n as u32),
         _ => Err(TypeErr::Broken(8)),
     }
 }

@@ -2,7 +2,7 @@ use Rattle.std.proofs.Common.{◌≡◌, sym, true}
 use Rattle.std.specs.Str.{all_ascii_digits}
 use Rattle.std.proofs.lemmas.Str.Parse.{IsNumeralModel, numerals_by_value, parse_digits, tells_all_ascii_digits}
 use Rattle.std.specs.Str.Parse.{digits_value}
-use Rattle.vtl_tree.proofs.DigitLemmas.{number_written-refused}
+use Rattle.vtl_plan.proofs.DigitLemmas.{number_written-refused}
 use Rattle.vtl_plan.proofs.assignment.digits_number.Goals as goal
 
 decimal_digits : IsNumeralModel (λ ds. all_ascii_digits ds ≡ true) (digits_value 10)

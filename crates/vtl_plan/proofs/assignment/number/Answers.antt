@@ -1,7 +1,7 @@
 use Rattle.std.proofs.Common.{◌≡◌, ◌∙◌, ap, sym, true, false}
 use Rattle.std.specs.Str.{all_ascii_digits}
-use Rattle.vtl_tree.specs.Built.{number_written}
-use Rattle.vtl_tree.proofs.DigitLemmas.{digits-characters, no-digits}
+use Rattle.vtl_plan.specs.Built.{number_written}
+use Rattle.vtl_plan.proofs.DigitLemmas.{digits-characters, no-digits}
 use Rattle.vtl_plan.proofs.assignment.number.Goals as goal
 
 pub returns-then-is_digits : goal.returns-then-is_digits

@@ -1,6 +1,6 @@
 use Rattle.std.proofs.Common.{◌≡◌, false, ap, sym, ◌∙◌}
 use Rattle.std.specs.Option.{is_some, option_map}
-use Rattle.vtl_tree.specs.Meaning.{data_of}
+use Rattle.vtl_tree.specs.Environment.{data_of}
 use Rattle.vtl_plan.specs.Assigned.{Assigned}
 use Rattle.vtl_plan.specs.AssignmentView.{assignment_view}
 use Rattle.vtl_plan.specs.Results.{structures_in, value_of, with_result}

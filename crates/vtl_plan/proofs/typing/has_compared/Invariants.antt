@@ -1,6 +1,6 @@
 use Rattle.std.proofs.Common.{◌≡◌, drop}
 use Rattle.std.specs.List.{list_any}
-use Rattle.vtl_tree.specs.BuiltView.{compared_view}
+use Rattle.vtl_plan.specs.BuiltView.{compared_view}
 use Rattle.vtl_plan.specs.Typed.{is_compared}
 use Rattle.vtl_plan.proofs.typing.has_compared.Given as goal
 

@@ -1,5 +1,5 @@
 use Rattle.std.proofs.Common.{Ok, ap, sym, ◌∙◌}
-use Rattle.vtl_tree.specs.Meaning.{DataSet}
+use Rattle.vtl_tree.specs.Environment.{DataSet}
 use Rattle.vtl_csv.specs.InputFile.{dataset_rows}
 use Rattle.vtl_top.specs.Expected.{points_or_fault}
 use Rattle.vtl_top.proofs.DeclaredLemmas.{declarable_is_structure}

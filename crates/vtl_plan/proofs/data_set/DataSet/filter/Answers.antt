@@ -2,7 +2,7 @@ use Rattle.std.proofs.Common.{◌≡◌, Some, ap, sym, subst, ◌∙◌}
 use Rattle.vtl_cell.specs.Outcome.{fault_in}
 use Rattle.vtl_cell.specs.Row.{Row}
 use Rattle.vtl_rows.specs.Tables.{Listed}
-use Rattle.vtl_tree.specs.BuiltView.{compared_view}
+use Rattle.vtl_plan.specs.BuiltView.{compared_view}
 use Rattle.vtl_tree.specs.Clauses.{kept}
 use Rattle.vtl_tree.specs.Structure.{columns_of}
 use Rattle.vtl_tree.specs.Value.{value}

@@ -1,27 +1,11 @@
 -- The meaning of a script: what its statements give over an environment of data sets.
-use Rattle.std.specs.Prelude.{ℕ, cond, Result, Ok, Err, Option, Some, None, List, [], ◌∷◌}
+use Rattle.std.specs.Prelude.{ℕ, Result, Ok, Err, List, [], ◌∷◌}
 use Rattle.vtl_decimal.specs.Settings.{Settings}
-use Rattle.vtl_cell.specs.Row.{Row}
 use Rattle.vtl_cell.specs.Outcome.{Fault, Outcome, after}
 use Rattle.vtl_tree.specs.CompExp.{CompExp}
-use Rattle.vtl_tree.specs.Structure.{same_name}
 use Rattle.vtl_tree.specs.Clauses.{filter_of}
+use Rattle.vtl_tree.specs.Environment.{DataSet, Environment, data_of, found}
 use Rattle.vtl_tree.specs.declared.structure.Structure.{Structure}
-
-pub record DataSet : Type 0 where
-  pub structure : Structure
-  pub points : List Row
-
-abbrev pub no_data : Structure → DataSet
-no_data s = record { structure = s; points = [] }
-
--- data sets by name
-abbrev pub Environment : Type 0
-Environment = List (List ℕ × DataSet)
-
-abbrev pub data_of : List ℕ → Environment → Option DataSet
-data_of name [] = None
-data_of name (d ∷ ds) = cond (same_name d.0 name) (Some d.1) (data_of name ds)
 
 -- what stands for a data set in a script, with the structure that it has
 pub data Node : Type 0 where
@@ -32,10 +16,6 @@ pub data Node : Type 0 where
 pub record Statement : Type 0 where
   pub result : List ℕ
   pub node : Node
-
-abbrev pub found : Structure → Option DataSet → DataSet
-found s None = no_data s
-found s (Some d) = d
 
 -- the data set of a node, or its fault; a name that is missing has no points, and no typed script holds one
 abbrev pub node_value : Settings → Node → Environment → Outcome DataSet

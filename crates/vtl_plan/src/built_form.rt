@@ -1,7 +1,7 @@
 // Conditions of the statements that are built so far: `C op L`.
 ghost use Rattle.std.specs.Prelude.{◌≡◌, IfOk};
 ghost use Rattle.vtl_cell.specs.Kinds.{kind_of};
-ghost use Rattle.vtl_tree.specs.BuiltView.{literal_cell, scalar_op};
+ghost use Rattle.vtl_plan.specs.BuiltView.{literal_cell, scalar_op};
 
 use std::alloc::AllocError;
 use vtl_cell::{Cell, Kind, ScalarOp};

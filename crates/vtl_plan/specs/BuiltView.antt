@@ -3,12 +3,12 @@ use Rattle.vtl_cell.specs.declared.cell.Cell.{Cell}
 use Rattle.vtl_cell.specs.declared.cell.Cell.TheVariants as c
 use Rattle.vtl_cell.specs.declared.operator.ScalarOp.{ScalarOp}
 use Rattle.vtl_cell.specs.declared.operator.ScalarOp.TheVariants as scalar
-use Rattle.vtl_tree.specs.Built.{Compared}
-use Rattle.vtl_tree.specs.declared.built_form.CompareOp.{CompareOp}
-use Rattle.vtl_tree.specs.declared.built_form.CompareOp.TheVariants as op
-use Rattle.vtl_tree.specs.declared.built_form.FilterCondition.{FilterCondition}
-use Rattle.vtl_tree.specs.declared.built_form.FilterLiteral.{FilterLiteral}
-use Rattle.vtl_tree.specs.declared.built_form.FilterLiteral.TheVariants as literal
+use Rattle.vtl_plan.specs.Built.{Compared}
+use Rattle.vtl_plan.specs.declared.built_form.CompareOp.{CompareOp}
+use Rattle.vtl_plan.specs.declared.built_form.CompareOp.TheVariants as op
+use Rattle.vtl_plan.specs.declared.built_form.FilterCondition.{FilterCondition}
+use Rattle.vtl_plan.specs.declared.built_form.FilterLiteral.{FilterLiteral}
+use Rattle.vtl_plan.specs.declared.built_form.FilterLiteral.TheVariants as literal
 
 -- the value of a literal
 abbrev pub literal_cell : FilterLiteral → Cell

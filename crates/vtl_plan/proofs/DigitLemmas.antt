@@ -9,7 +9,7 @@ use Rattle.std.proofs.lemmas.Bool.Decides.{nat_tests}
 use Rattle.std.proofs.lemmas.List.Elements.{All-cons, All-nil}
 use Rattle.std.proofs.lemmas.Str.{chars-IsAscii, encodes-IsAscii}
 use Rattle.std.proofs.lemmas.Str.Ascii.{IsAscii-from_all}
-use Rattle.vtl_tree.specs.Built.{integer_limit, number_written}
+use Rattle.vtl_plan.specs.Built.{integer_limit, number_written}
 
 digit-ascii : (byte : ℕ) → is_ascii_digit byte ≡ true → byte < 128
 digit-ascii byte e = grind (arith, nat_tests, e)

@@ -16,8 +16,8 @@ use Rattle.vtl_syntax.specs.declared.word_groups.AssignKind.TheVariants as assig
 use Rattle.vtl_syntax.specs.declared.word_groups.BinaryOp.{BinaryOp}
 use Rattle.vtl_syntax.specs.declared.word_groups.BinaryOp.TheVariants as sign
 use Rattle.vtl_tree.specs.Structure.{same_name}
-use Rattle.vtl_tree.specs.declared.built_form.CompareOp.{CompareOp}
-use Rattle.vtl_tree.specs.declared.built_form.CompareOp.TheVariants as op
+use Rattle.vtl_plan.specs.declared.built_form.CompareOp.{CompareOp}
+use Rattle.vtl_plan.specs.declared.built_form.CompareOp.TheVariants as op
 
 -- what `filter` compares: a component, by one of the six comparisons, with the value of a literal
 pub record Compared : Type 0 where

@@ -1,0 +1,153 @@
+// The data sets that a typed script reads, and those that it gives.
+ghost use Rattle.std.specs.Map.{keys_of};
+ghost use Rattle.std.specs.Option.{option_copied};
+ghost use Rattle.std.specs.Prelude.{◌≡◌, ◌++◌, IfOk, OnOk, length, map};
+ghost use Rattle.vtl_nodes.specs.View.{node_tree};
+ghost use Rattle.vtl_syntax.specs.View.{statement_tree};
+ghost use Rattle.vtl_check.specs.Uses.{output_in, outputs_in, reads, results_behind, with_declared, with_new};
+
+use crate::known::{is_known, put};
+use crate::names::read_names;
+use indexmap::IndexMap;
+use std::alloc::{AllocError, Global};
+use vtl_nodes::Node;
+use vtl_shapes::share_structure;
+use vtl_syntax::{AssignKind, Statement};
+use vtl_text::Txt;
+use vtl_tree::Structure;
+
+/// The data sets that a script reads and gives.
+#[derive(Drop)]
+pub struct Uses {
+    /// The structures of the declared data sets that the script reads, and then of its results.
+    pub known: IndexMap<Txt, Structure>,
+    /// The names of the declared data sets that the script reads, in order of first use.
+    pub inputs: Vec<Txt>,
+    /// The names of the results that are written with `<-`, in order.
+    pub outputs: Vec<Txt>,
+}
+
+// Puts a structure behind others, where none has the name yet.
+fn put_new(
+    alloc: Global,
+    known: &mut IndexMap<Txt, Structure>,
+    name: &Txt,
+    structure: &Structure,
+) -> Result<(), AllocError>
+    ensures { OnOk result (known.new.entries ≡ with_new known.old.entries name.now structure.now) }
+{
+    if is_known(known, name) {
+        return Ok(());
+    }
+    let shared = share_structure(alloc, structure)?;
+    put(known, name, shared)
+}
+
+fn put_declared(
+    alloc: Global,
+    known: &mut IndexMap<Txt, Structure>,
+    name: &Txt,
+    structure: Option<&Structure>,
+) -> Result<(), AllocError>
+    ensures { OnOk result (known.new.entries ≡ with_declared known.old.entries name.now (option_copied structure.entry)) }
+{
+    match structure {
+        Some(structure) => put_new(alloc, known, name, structure),
+        None => Ok(()),
+    }
+}
+
+// The declared data sets that expressions read.
+fn reads(
+    alloc: Global,
+    declared: &IndexMap<Txt, Structure>,
+    nodes: &[Node],
+) -> Result<IndexMap<Txt, Structure>, AllocError>
+    ensures { IfOk result (λ known. known.entries ≡ reads declared.now.entries (map node_tree nodes.now)) }
+{
+    let names = read_names(alloc, nodes)?;
+    let mut known = IndexMap::new(alloc);
+    for name in &names {
+        put_declared(alloc, &mut known, name, declared.get(name))?;
+    }
+    Ok(known)
+}
+
+// The names of data sets, in order.
+fn names_by_place(alloc: Global, known: &IndexMap<Txt, Structure>) -> Result<Vec<Txt>, AllocError>
+    ensures { IfOk result (λ v. v.items ≡ keys_of known.now.entries) }
+{
+    let mut names = Vec::new(alloc);
+    for name in known.keys() {
+        names.push(name.share()?)?;
+    }
+    Ok(names)
+}
+
+// Puts the results of statements behind other data sets.
+fn put_results(
+    alloc: Global,
+    known: &mut IndexMap<Txt, Structure>,
+    statements: &[Statement],
+    nodes: &[Node],
+) -> Result<(), AllocError>
+    requires { length nodes.now ≡ length statements.now }
+    ensures { OnOk result (known.new.entries ≡ results_behind known.old.entries (map statement_tree statements.now) (map node_tree nodes.now)) }
+{
+    for i in 0..statements.len() {
+        match &statements[i] {
+            Statement::Assignment { name, .. } => {
+                put_new(alloc, known, name, &nodes[i].structure)?;
+            }
+            _ => return Ok(()),
+        }
+    }
+    Ok(())
+}
+
+fn push_output(out: &mut Vec<Txt>, statement: &Statement) -> Result<(), AllocError>
+    ensures { OnOk result (out.new.items ≡ out.old.items ++ output_in (statement_tree statement.now)) }
+{
+    match statement {
+        Statement::Assignment {
+            name,
+            kind: AssignKind::Persistent,
+            ..
+        } => Ok(out.push(name.share()?)?),
+        _ => Ok(()),
+    }
+}
+
+// The names of the results that are written with `<-`.
+fn outputs(alloc: Global, statements: &[Statement]) -> Result<Vec<Txt>, AllocError>
+    ensures { IfOk result (λ v. v.items ≡ outputs_in (map statement_tree statements.now)) }
+{
+    let mut names = Vec::new(alloc);
+    for statement in statements {
+        push_output(&mut names, statement)?;
+    }
+    Ok(names)
+}
+
+/// The data sets that statements with these nodes read and give.
+pub fn uses_of(
+    alloc: Global,
+    declared: &IndexMap<Txt, Structure>,
+    statements: &[Statement],
+    nodes: &[Node],
+) -> Result<Uses, AllocError>
+    requires { length nodes.now ≡ length statements.now }
+    ensures known { IfOk result (λ u. u.known.entries ≡ results_behind (reads declared.now.entries (map node_tree nodes.now)) (map statement_tree statements.now) (map node_tree nodes.now)) }
+    ensures inputs { IfOk result (λ u. u.inputs.items ≡ keys_of (reads declared.now.entries (map node_tree nodes.now))) }
+    ensures outputs { IfOk result (λ u. u.outputs.items ≡ outputs_in (map statement_tree statements.now)) }
+{
+    let mut known = reads(alloc, declared, nodes)?;
+    let inputs = names_by_place(alloc, &known)?;
+    put_results(alloc, &mut known, statements, nodes)?;
+    let outputs = outputs(alloc, statements)?;
+    Ok(Uses {
+        known,
+        inputs,
+        outputs,
+    })
+}
