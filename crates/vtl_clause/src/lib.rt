@@ -4,6 +4,7 @@
 mod calculation;
 mod filtering;
 mod renaming;
+mod rows;
 mod subspace;
 
 pub use calculation::calc;

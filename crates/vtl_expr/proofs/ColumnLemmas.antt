@@ -96,3 +96,9 @@ places_within xs (y ∷ ys) all = ((column_there (place_of y.name xs) y.name y.k
 
 pub all_within : (xs ys : List Component) (places : List ℕ) (n : ℕ) → AreAmong ys xs → places ≡ places_in xs ys → n ≡ length xs → All (λ i. i < n) places
 all_within xs ys places n all e l = rw (e, l) (all_below (length xs) (places_in xs ys) (places_within xs ys all))
+
+pub some_places : (a s : Structure) (places : List ℕ) → 1 ≤ length s.components → places ≡ places_in (columns_of a) (columns_of s) → 0 < length places
+some_places a s places h e =
+    let some = some_columns s.components h in
+    let l = ap length e ∙ length-map (columns_of s) (λ y. place_of y.name (columns_of a)) in
+    omega (arith, some, l)

@@ -78,3 +78,9 @@ drawn_mapped f g rows old new i r h at o n =
 pub drawn_faults : (f : Row → Option Fault) (g : Row → List Row) (rows : List Row) (old new : Option Fault) (i : ℕ) (r : Row) → i < length rows → r ≡ get_or rows i r → old ≡ faults_by f (flat_map g (take i rows)) → new ≡ join old (faults_by f (g r)) → new ≡ faults_by f (flat_map g (take (i + 1) rows))
 drawn_faults f g rows old new i r h at o n =
     n ∙ ap (λ s. join s (faults_by f (g r))) o ∙ sym (faults_by-append f (flat_map g (take i rows)) (g r)) ∙ ap (faults_by f) (sym (drawn_more g rows i r h at))
+
+-- what holds of the value holds of the answer
+pub answered_keeps : {A : Type 0} (P : A → Type 0) (r : Result A ScalarErr) (s : Option Fault) (x : A) → Answers r (unless s x) → P x → IfOk r P
+answered_keeps P (Ok z) None x a h = let same : x ≡ z = cc in subst P same h
+answered_keeps P (Ok z) (Some f) x a h = cc
+answered_keeps P (Err e) s x a h = tt

@@ -4,6 +4,7 @@ use Rattle.vtl_cell.specs.Row.{Row, column_of}
 use Rattle.vtl_rows.specs.Tables.{cells_at, fits}
 use Rattle.vtl_rows.specs.declared.column.Column.{Column}
 use Rattle.vtl_tree.specs.Clauses.{is_true}
+use Rattle.vtl_tree.specs.DataSet.{IsDataSet}
 use Rattle.vtl_tree.specs.Environment.{DataSet}
 use Rattle.vtl_tree.specs.Structure.{columns_of, key_width}
 use Rattle.vtl_tree.specs.declared.structure.Structure.{Structure}
@@ -32,6 +33,7 @@ Fits columns identifiers a r = (q : Row) → found a.partners r ≡ Some q → f
 pub record IsAsked (t : Structure) (d : DataSet) (s : Structure) (a : Alternative) : Type 0 where
   pub partners : a.partners ≡ sought_by t d.structure d.points
   pub measures : a.measures.items ≡ places_in (columns_of d.structure) (measures_of s)
+  pub points : IsDataSet d.structure d.points
 
 -- the choice between two data sets by a condition of a structure
 pub record IsBetween (t : Structure) (d e : DataSet) (s : Structure) (x : Choice) : Type 0 where

@@ -1,12 +1,17 @@
 -- Points that are found by the cells of other rows.
-use Rattle.std.specs.Prelude.{ℕ, ◌+◌, List, [], ◌∷◌, ◌++◌, length, take, Option, option_map}
+use Rattle.std.specs.Prelude.{◌≡◌, ℕ, ◌+◌, true, List, [], ◌∷◌, ◌++◌, length, take, Option, Some, option_map}
+use Rattle.std.specs.List.{AllByRecursion}
 use Rattle.std.specs.Option.{option_to_list}
+use Rattle.vtl_decimal.specs.Settings.{Settings}
 use Rattle.vtl_cell.specs.Row.{Row}
-use Rattle.vtl_rows.specs.Tables.{cells_at}
+use Rattle.vtl_rows.specs.Tables.{cells_at, fits}
+use Rattle.vtl_rows.specs.declared.column.Column.{Column}
+use Rattle.vtl_tree.specs.CompExp.{CompExp}
 use Rattle.vtl_tree.specs.DataSet.{look}
 use Rattle.vtl_tree.specs.Structure.{columns_of}
 use Rattle.vtl_tree.specs.declared.structure.Structure.{Structure}
 use Rattle.vtl_meaning.specs.Columns.{identifiers_of, places_in}
+use Rattle.vtl_meaning.specs.Points.{point_of}
 
 -- points, and the places at which rows that ask for them have their identifiers
 pub record Sought : Type 0 where
@@ -24,6 +29,10 @@ sought_by s other points = record { places = places_in (columns_of s) (identifie
 -- what comes of a row and the point that it asks for, where there is one
 abbrev pub with_found : (Row → Row → Row) → Sought → Row → List Row
 with_found f sought r = option_to_list (option_map (f r) (found sought r))
+
+-- what the expressions give at each row beside the point that it asks for fits the columns
+abbrev pub AllFit : Settings → List CompExp → List Column → Sought → List Row → Type 0
+AllFit p es columns sought rows = AllByRecursion (λ r. (q : Row) → found sought r ≡ Some q → fits columns (point_of p es (r ++ q)) ≡ true) rows
 
 -- the first n cells of each row with its number, from a first one on
 abbrev pub numbered : ℕ → ℕ → List Row → List (Row × ℕ)

@@ -3,7 +3,7 @@ ghost use Rattle.std.specs.Prelude.{◌≡◌, ◌<◌, ◌++◌, Ok, IfOk, OnOk
 ghost use Rattle.vtl_cell.specs.Row.{column_of};
 ghost use Rattle.vtl_rows.specs.Tables.{cells_at};
 ghost use Rattle.vtl_tree.specs.Clauses.{is_true};
-ghost use Rattle.vtl_csv.specs.TableText.{table_columns};
+ghost use Rattle.vtl_csv.specs.TableText.{IsTableOf};
 ghost use Rattle.vtl_meaning.specs.Made.{IsChoice};
 ghost use Rattle.vtl_meaning.specs.Operators.{choice_of};
 ghost use Rattle.vtl_expr.specs.Choices.{Fits, IsAsked, IsBetween, chosen, taken};
@@ -149,7 +149,7 @@ fn choice_table<L: Ledger>(
     requires parts { blank.parts ≡ L.parts }
     requires some { 0 < L.parts }
     requires made { IsChoice condition.now.structure then.now.structure other.now.structure made.now }
-    ensures columns { IfOk result (λ t. t.columns ≡ table_columns made.now) }
+    ensures table { IfOk result (IsTableOf made.now) }
     ensures rows { IfOk result (λ t. t.rows ≡ choice_of condition.now.structure then.now.structure other.now.structure made.now condition.now.points then.now.points other.now.points) }
 {
     let mut steps: Steps<L> = Steps::new(blank);

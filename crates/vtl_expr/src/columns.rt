@@ -11,8 +11,8 @@ use vtl_rows::Column;
 use vtl_text::Txt;
 use vtl_tree::{Component, Role, Structure};
 
-// The place of the column of this name, or their number where there is none.
-pub(crate) fn place_of(columns: &[&Component], name: &Txt) -> usize
+/// The place of the column of this name, or their number where there is none.
+pub fn place_of(columns: &[&Component], name: &Txt) -> usize
     ensures place { result ≡ place_of name.now (shown columns.now) }
     ensures within { result ≤ length columns.now }
 {

@@ -7,10 +7,12 @@ ghost use Rattle.vtl_tree.specs.DataSet.{IsDataSet};
 ghost use Rattle.vtl_csv.specs.TableText.{IsTableOf};
 ghost use Rattle.vtl_expr.specs.DataSets.{data_set, with_structure};
 
+use crate::copies::copied_table;
 use std::alloc::{AllocError, Global};
 use std::marker::Model;
 use vtl_rows::Table;
 use vtl_scalar::ScalarErr;
+use vtl_shapes::share_structure;
 use vtl_tree::Structure;
 
 /// A data set: its structure, and a table of its points with the structure's columns. A contract sees the structure and
@@ -81,9 +83,10 @@ impl DataSet {
     }
 
     /// One more of the data set, whose texts are shared. It fails only for want of memory.
-    pub fn copy(&self, _alloc: Global) -> Result<DataSet, AllocError>
+    pub fn copy(&self, alloc: Global) -> Result<DataSet, AllocError>
         ensures { IfOk result (λ d. d ≡ self.now) }
     {
-        Err(AllocError)
+        let table = copied_table(alloc, &self.table)?;
+        Ok(DataSet::of(share_structure(alloc, &self.structure)?, table))
     }
 }

@@ -4,7 +4,7 @@ ghost use Rattle.vtl_scalar.specs.Answers.{Answers, AnswersBy};
 ghost use Rattle.vtl_tree.specs.Shown.{shown};
 ghost use Rattle.vtl_tree.specs.Structure.{columns_of};
 ghost use Rattle.vtl_tree.specs.View.{comp_exp_of};
-ghost use Rattle.vtl_csv.specs.TableText.{table_columns};
+ghost use Rattle.vtl_csv.specs.TableText.{IsTableOf};
 ghost use Rattle.vtl_nodes.specs.View.{measure_tree};
 ghost use Rattle.vtl_meaning.specs.Made.{IsMeasured};
 ghost use Rattle.vtl_meaning.specs.Operators.{for_measures, measured_exps, measured_of, with_measure};
@@ -84,7 +84,7 @@ fn measured_table(
     p: &Profile,
 ) -> Result<Table, ScalarErr>
     requires { IsMeasured p.now (measure_tree op.now) a.now.structure made.now }
-    ensures columns { IfOk result (λ t. t.columns ≡ table_columns made.now) }
+    ensures table { IfOk result (IsTableOf made.now) }
     ensures rows { AnswersBy (λ t. t.rows) result (measured_of p.now (measure_tree op.now) a.now.structure made.now a.now.points) }
 {
     let exps = measured_exps(alloc, op, a.structure(), made)?;

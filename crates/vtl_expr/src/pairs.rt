@@ -1,4 +1,5 @@
 // An operator on the measures of two data sets.
+ghost use Rattle.std.specs.List.{flat_map};
 ghost use Rattle.std.specs.Prelude.{◌≡◌, ◌<◌, ◌++◌, true, false, map, Some, IfOk, IfErr, OnOk};
 ghost use Rattle.vtl_cell.specs.Outcome.{faults_by, join};
 ghost use Rattle.vtl_cell.specs.Row.{Row};
@@ -8,13 +9,13 @@ ghost use Rattle.vtl_tree.specs.DataSet.{IsDataSet};
 ghost use Rattle.vtl_tree.specs.Seen.{seen_of};
 ghost use Rattle.vtl_tree.specs.Structure.{IsStructure, columns_of};
 ghost use Rattle.vtl_tree.specs.View.{comp_exp_of};
-ghost use Rattle.vtl_csv.specs.TableText.{table_columns};
+ghost use Rattle.vtl_csv.specs.TableText.{IsTableOf, table_columns};
 ghost use Rattle.vtl_shapes.specs.Pairs.{contains};
 ghost use Rattle.vtl_meaning.specs.Made.{AreFor, IsPaired};
 ghost use Rattle.vtl_meaning.specs.Operators.{pair_of};
 ghost use Rattle.vtl_meaning.specs.Points.{each_point, paired, point_fault, point_of};
 ghost use Rattle.vtl_expr.specs.DataSets.{with_structure};
-ghost use Rattle.vtl_expr.specs.Partners.{found, with_found};
+ghost use Rattle.vtl_expr.specs.Partners.{AllFit, found, with_found};
 
 use crate::DataSet;
 use crate::namesakes::{Side, namesake_exps};
@@ -64,6 +65,29 @@ fn push_pair<L: Ledger>(
     }
 }
 
+// The table of the values of expressions at each point beside its partner.
+fn each_beside<L: Ledger>(
+    alloc: Global,
+    exps: &[CompExpr],
+    lead: &DataSet,
+    partners: &Partners<'_>,
+    made: &Structure,
+    p: &Profile,
+    steps: &mut Steps<L>,
+) -> Result<Table, ScalarErr>
+    requires structure { IsStructure made.now }
+    requires fits { AllFit p.now (map comp_exp_of exps.now) (table_columns made.now) partners.now lead.now.points }
+    ensures columns { IfOk result (λ t. t.columns ≡ table_columns made.now) }
+    ensures rows { AnswersBy (λ t. t.rows) result (each_point p.now (map comp_exp_of exps.now) (flat_map (with_found (λ r q. r ++ q) partners.now) lead.now.points)) }
+{
+    let mut points = Points::new(alloc, made)?;
+    let table = lead.table();
+    for i in 0..table.len() {
+        push_pair(alloc, &mut points, exps, partners, table.row(i), p, steps)?;
+    }
+    points.finish()
+}
+
 // The table of the values of expressions at each pair of points.
 fn each_pair<L: Ledger>(
     alloc: Global,
@@ -85,13 +109,25 @@ fn each_pair<L: Ledger>(
 {
     let mut steps: Steps<L> = Steps::new(blank);
     let partners = Partners::of(alloc, lead.structure(), other, &mut steps)?;
-    let mut points = Points::new(alloc, made)?;
-    let table = lead.table();
-    for i in 0..table.len() {
-        let row = table.row(i);
-        push_pair(alloc, &mut points, exps, &partners, row, p, &mut steps)?;
-    }
-    points.finish()
+    each_beside(alloc, exps, lead, &partners, made, p, &mut steps)
+}
+
+// The same, with a counter of steps.
+fn pairs_table(
+    alloc: Global,
+    exps: &[CompExpr],
+    lead: &DataSet,
+    other: &DataSet,
+    made: &Structure,
+    p: &Profile,
+) -> Result<Table, ScalarErr>
+    requires structure { IsStructure made.now }
+    requires other { IsDataSet other.now.structure other.now.points }
+    requires expressions { AreFor p.now (columns_of lead.now.structure ++ columns_of other.now.structure) (map comp_exp_of exps.now) (columns_of made.now) }
+    ensures columns { IfOk result (λ t. t.columns ≡ table_columns made.now) }
+    ensures rows { AnswersBy (λ t. t.rows) result (each_point p.now (map comp_exp_of exps.now) (paired lead.now.structure other.now.structure lead.now.points other.now.points)) }
+{
+    each_pair::<Brand>(alloc, exps, lead, other, made, p, Blank::new(1))
 }
 
 // The left operand has all identifiers of the right one.
@@ -105,7 +141,7 @@ fn left_leads(
 ) -> Result<Table, ScalarErr>
     requires leads { contains a.now.structure b.now.structure ≡ true }
     requires made { IsPaired p.now op a.now.structure b.now.structure made.now }
-    ensures columns { IfOk result (λ t. t.columns ≡ table_columns made.now) }
+    ensures table { IfOk result (IsTableOf made.now) }
     ensures rows { AnswersBy (λ t. t.rows) result (pair_of p.now op a.now.structure b.now.structure made.now a.now.points b.now.points) }
 {
     let ours = a.structure();
@@ -113,7 +149,7 @@ fn left_leads(
     let left = Side::leading(alloc, ours)?;
     let right = Side::behind(alloc, ours, theirs)?;
     let exps = namesake_exps(alloc, op, ours, &left, &right, ours, made)?;
-    each_pair::<Brand>(alloc, &exps, a, b, made, p, Blank::new(1))
+    pairs_table(alloc, &exps, a, b, made, p)
 }
 
 // The right operand has all identifiers of the left one, and more.
@@ -127,7 +163,7 @@ fn right_leads(
 ) -> Result<Table, ScalarErr>
     requires leads { contains a.now.structure b.now.structure ≡ false }
     requires made { IsPaired p.now op a.now.structure b.now.structure made.now }
-    ensures columns { IfOk result (λ t. t.columns ≡ table_columns made.now) }
+    ensures table { IfOk result (IsTableOf made.now) }
     ensures rows { AnswersBy (λ t. t.rows) result (pair_of p.now op a.now.structure b.now.structure made.now a.now.points b.now.points) }
 {
     let ours = a.structure();
@@ -135,7 +171,7 @@ fn right_leads(
     let left = Side::behind(alloc, theirs, ours)?;
     let right = Side::leading(alloc, theirs)?;
     let exps = namesake_exps(alloc, op, theirs, &left, &right, ours, made)?;
-    each_pair::<Brand>(alloc, &exps, b, a, made, p, Blank::new(1))
+    pairs_table(alloc, &exps, b, a, made, p)
 }
 
 fn pair_table(
@@ -147,7 +183,7 @@ fn pair_table(
     p: &Profile,
 ) -> Result<Table, ScalarErr>
     requires { IsPaired p.now op a.now.structure b.now.structure made.now }
-    ensures columns { IfOk result (λ t. t.columns ≡ table_columns made.now) }
+    ensures table { IfOk result (IsTableOf made.now) }
     ensures rows { AnswersBy (λ t. t.rows) result (pair_of p.now op a.now.structure b.now.structure made.now a.now.points b.now.points) }
 {
     if contains(a.structure(), b.structure()) {

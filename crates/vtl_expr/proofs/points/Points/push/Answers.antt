@@ -20,5 +20,5 @@ loop-e-preserved c =
     record {
       point = c.in_ok-seen.ensures.point ∙ ap (λ l. l ++ cell_or_null v ∷ []) c.loop-e.invariant.point ∙ sym (values_more p es i e row c.loop-e-test.true c.e-item.is);
       seen = c.in_ok-seen.ensures.seen ∙ ap (λ s. join s (fault_in v)) c.loop-e.invariant.seen ∙ join_assoc before (point_fault p (map comp_exp_of (take i es)) row) (fault_in v)
-      ∙ ap (join before) (sym (fault_more p es i e row c.loop-e-test.true c.e-item.is));
+          ∙ ap (join before) (sym (fault_more p es i e row c.loop-e-test.true c.e-item.is));
     }
