@@ -25,11 +25,11 @@ push_sub-requires c = λ h.
     let r = c.row.result.now in
     let rows = c.table-table.result.now.rows in
     let within : c.loop-i.i < length rows = omega (arith, c.len-i-end.ensures.rows, c.loop-i-test.true) in
-    let wanted = ap (map wanted_by) c.deref-2.ensures.value ∙ c.in_ok-pins.ensures ∙ ap (λ (x : Structure). map (wanted_in (columns_of x)) items) c.structure-structure.ensures.structure in
+    let wanted = ap (map wanted_by) c.deref-in-loop-i.ensures.value ∙ c.in_ok-pins.ensures ∙ ap (λ (x : Structure). map (wanted_in (columns_of x)) items) c.structure-structure.ensures.structure in
     let met = ap (λ (ws : List Wanted). are_met ws r) wanted ∙ ap (λ (q : Row → Bool). q r) (met_is a items) in
-    let places = c.deref-3.ensures.value ∙ c.in_ok-places.ensures ∙ ap (λ (x : Structure). places_in (columns_of x) (shown c.deref.result.now)) c.structure-structure.ensures.structure
+    let places = c.deref-in-loop-i-2.ensures.value ∙ c.in_ok-places.ensures ∙ ap (λ (x : Structure). places_in (columns_of x) (shown c.deref.result.now)) c.structure-structure.ensures.structure
     ∙ ap (λ (l : List Component). places_in (columns_of a) l) (ap shown c.deref.ensures.value ∙ c.in_ok-columns.ensures) in
-    ap (λ cs. fits cs (cells_at c.deref-3.result.now r)) c.loop-i.invariant.columns ∙ ap (λ ps. fits (table_columns s) (cells_at ps r)) places
+    ap (λ cs. fits cs (cells_at c.deref-in-loop-i-2.result.now r)) c.loop-i.invariant.columns ∙ ap (λ ps. fits (table_columns s) (cells_at ps r)) places
     ∙ sub_fits items a s rows c.loop-i.i r c.requires c.table-table.ensures.table.points within c.row.ensures.row (sym met ∙ h)
 
 pub loop-i-preserved : goal.loop-i-preserved
@@ -43,8 +43,8 @@ loop-i-preserved c =
     record {
       columns = c.push_sub.ensures.columns ∙ c.loop-i.invariant.columns;
       rows = sub_more (cells_at places) (are_met (map wanted_by pins)) rows old c.push_sub.new.out.rows c.loop-i.i r within c.row.ensures.row c.loop-i.invariant.rows
-          (c.in_ok-push_sub.ensures.rows ∙ ap (λ (d : List Pin). old ++ cond (are_met (map wanted_by d) r) (cells_at c.deref-3.result.now r ∷ []) []) c.deref-2.ensures.value
-          ∙ ap (λ (d : List ℕ). old ++ cond (are_met (map wanted_by pins) r) (cells_at d r ∷ []) []) c.deref-3.ensures.value);
+          (c.in_ok-push_sub.ensures.rows ∙ ap (λ (d : List Pin). old ++ cond (are_met (map wanted_by d) r) (cells_at c.deref-in-loop-i-2.result.now r ∷ []) []) c.deref-in-loop-i.ensures.value
+          ∙ ap (λ (d : List ℕ). old ++ cond (are_met (map wanted_by pins) r) (cells_at d r ∷ []) []) c.deref-in-loop-i-2.ensures.value);
     }
 
 pub returns-clause-rows : goal.returns-clause-rows
