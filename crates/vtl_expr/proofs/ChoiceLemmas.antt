@@ -1,5 +1,5 @@
 -- What `if` takes from its operands.
-use Rattle.std.proofs.Common.{◌≡◌, ℕ, ◌<◌, ◌≤◌, List, ◌++◌, true, cond, length, map, take, get_or, Ok, Some, sym, ap, ◌∙◌, subst}
+use Rattle.std.proofs.Common.{◌≡◌, ℕ, ◌<◌, ◌≤◌, List, ◌++◌, true, cond, length, take, get_or, Ok, Some, sym, ap, ◌∙◌, subst}
 use Rattle.std.specs.List.{flat_map}
 use Rattle.std.specs.Option.{option_map, option_to_list}
 use Rattle.std.proofs.lemmas.List.{length-map, take_all}
@@ -13,12 +13,12 @@ use Rattle.vtl_tree.specs.Structure.{IsStructure, columns_of, key_width}
 use Rattle.vtl_tree.specs.declared.structure.Structure.{Structure}
 use Rattle.vtl_csv.specs.TableText.{table_columns}
 use Rattle.vtl_meaning.specs.Columns.{identifiers_of, measures_of, place_of, places_in}
-use Rattle.vtl_meaning.specs.Made.{AreAmong, HasIdentifiers, IsAlternative, IsChoice}
+use Rattle.vtl_meaning.specs.Made.{AreAmong, HasIdentifiers}
 use Rattle.vtl_meaning.specs.Operators.{choice_of, is_first_chosen, joined_point, taken_at, taken_from}
 use Rattle.vtl_meaning.proofs.Kept.{look_is}
 use Rattle.vtl_meaning.proofs.Places.{are_measures, cells_fit, joined_point_is, key_cells, key_for, key_of_point, key_within}
 use Rattle.vtl_expr.specs.Choices.{Fits, IsAsked, IsBetween, chosen, joined, taken}
-use Rattle.vtl_expr.specs.Partners.{Sought, found, sought_by}
+use Rattle.vtl_expr.specs.Partners.{Sought, found}
 use Rattle.vtl_expr.specs.declared.choice.Alternative.{Alternative}
 use Rattle.vtl_expr.specs.declared.choice.Choice.{Choice}
 use Rattle.vtl_expr.proofs.PointLemmas.{holds_at}

@@ -1,26 +1,25 @@
 -- Points that are made one after the other, and the faults of their values.
-use Rattle.std.proofs.Common.{◌≡◌, ℕ, zero, suc, ◌+◌, ◌<◌, List, [], ◌∷◌, ◌++◌, Bool, true, length, map, take, get_or, Option, Some, None, Result, Ok, Err, refl, sym, ap, ◌∙◌, subst, arith}
+use Rattle.std.proofs.Common.{◌≡◌, ℕ, zero, suc, ◌+◌, ◌<◌, List, [], ◌∷◌, ◌++◌, true, length, map, take, get_or, Option, Some, None, Result, Ok, Err, sym, ap, ◌∙◌, subst, arith}
 use Rattle.std.specs.List.{AllByRecursion, flat_map}
 use Rattle.std.specs.Prelude.{IfOk}
 use Rattle.std.proofs.lemmas.Grind.{flat_map-append}
 use Rattle.std.proofs.lemmas.List.{append-nil, map_more, map-append, take_more}
 use Rattle.vtl_decimal.specs.Settings.{Settings}
 use Rattle.vtl_cell.specs.declared.cell.Cell.{Cell}
-use Rattle.vtl_cell.specs.Outcome.{Fault, DivZero, Range, Outcome, fault_in, faults_by, join, unless}
+use Rattle.vtl_cell.specs.Outcome.{Fault, DivZero, Range, fault_in, faults_by, join, unless}
 use Rattle.vtl_cell.specs.Row.{Row}
-use Rattle.vtl_rows.specs.Tables.{Listed, fits, fits_kinds}
+use Rattle.vtl_rows.specs.Tables.{fits, fits_kinds}
 use Rattle.vtl_scalar.specs.Answers.{Answers, AnswersBy}
 use Rattle.vtl_scalar.specs.declared.error.ScalarErr.{ScalarErr}
 use Rattle.vtl_scalar.specs.declared.error.ScalarErr.TheVariants as err
 use Rattle.vtl_tree.specs.CompExp.{CompExp}
-use Rattle.vtl_tree.specs.DataSet.{IsDataSet, is_point}
+use Rattle.vtl_tree.specs.DataSet.{is_point}
 use Rattle.vtl_tree.specs.Value.{value}
 use Rattle.vtl_tree.specs.View.{comp_exp_of}
 use Rattle.vtl_tree.specs.declared.expression.CompExpr.{CompExpr}
 use Rattle.vtl_tree.specs.declared.structure.Component.{Component}
-use Rattle.vtl_tree.specs.declared.structure.Structure.{Structure}
 use Rattle.vtl_tree.proofs.Faults.{faults_by-append, join_none}
-use Rattle.vtl_csv.specs.TableText.{IsTableOf, column_for, table_columns}
+use Rattle.vtl_csv.specs.TableText.{column_for}
 use Rattle.vtl_meaning.specs.Made.{AreFor}
 use Rattle.vtl_meaning.specs.Points.{cell_or_null, point_fault, point_of}
 use Rattle.vtl_meaning.proofs.Kept.{values_fit}

@@ -1,8 +1,6 @@
-use Rattle.std.proofs.Common.{◌≡◌, ◌<◌, ◌≤◌, ◌++◌, length, arith, ap, sym, subst, ◌∙◌}
-use Rattle.std.specs.List.{flat_map}
+use Rattle.std.proofs.Common.{◌<◌, ◌≤◌, ◌++◌, length, arith, ap, sym, subst, ◌∙◌}
 use Rattle.vtl_tree.specs.DataSet.{IsDataSet}
 use Rattle.vtl_tree.specs.declared.structure.Structure.{Structure}
-use Rattle.vtl_meaning.specs.Operators.{choice_of}
 use Rattle.vtl_meaning.proofs.Kept.{choice_kept}
 use Rattle.vtl_expr.specs.Choices.{IsBetween, chosen}
 use Rattle.vtl_expr.proofs.ChoiceLemmas.{all_chosen, taken_fits}

@@ -1,7 +1,7 @@
-use Rattle.std.proofs.Common.{◌≡◌, ℕ, ◌<◌, List, length, map, ap, sym, subst, ◌∙◌, All}
+use Rattle.std.proofs.Common.{◌≡◌, List, length, map, ap, subst, ◌∙◌}
 use Rattle.std.specs.Prelude.{IfOk}
 use Rattle.std.proofs.lemmas.List.{length-map}
-use Rattle.vtl_rows.specs.Tables.{Listed, cells_at, column_at}
+use Rattle.vtl_rows.specs.Tables.{cells_at, column_at}
 use Rattle.vtl_rows.specs.declared.column.Column.{Column}
 use Rattle.vtl_tree.specs.Shown.{shown}
 use Rattle.vtl_tree.specs.Structure.{columns_of}

@@ -1,4 +1,4 @@
-use Rattle.std.proofs.Common.{◌≡◌, ◌<◌, ◌≤◌, ◌++◌, min, length, map, ap, subst, ◌∙◌}
+use Rattle.std.proofs.Common.{◌<◌, ◌≤◌, ◌++◌, min, length, map, ap, subst, ◌∙◌}
 use Rattle.vtl_tree.specs.View.{comp_exp_of}
 use Rattle.vtl_meaning.specs.Operators.{with_namesake}
 use Rattle.vtl_expr.specs.Sides.{side_column}

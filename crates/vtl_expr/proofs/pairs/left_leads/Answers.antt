@@ -1,4 +1,4 @@
-use Rattle.std.proofs.Common.{◌≡◌, ◌++◌, List, Bool, cond, map, ap, sym, subst, ◌∙◌}
+use Rattle.std.proofs.Common.{◌++◌, List, cond, map, ap, sym, subst, ◌∙◌}
 use Rattle.vtl_cell.specs.Row.{Row}
 use Rattle.vtl_rows.specs.Tables.{Listed}
 use Rattle.vtl_scalar.specs.Answers.{AnswersBy}
@@ -7,7 +7,7 @@ use Rattle.vtl_tree.specs.Structure.{columns_of}
 use Rattle.vtl_tree.specs.View.{comp_exp_of}
 use Rattle.vtl_tree.specs.declared.structure.Component.{Component}
 use Rattle.vtl_meaning.specs.Made.{AreFor}
-use Rattle.vtl_meaning.specs.Operators.{pair_exps, pair_of, pairs_of}
+use Rattle.vtl_meaning.specs.Operators.{pair_exps, pair_of}
 use Rattle.vtl_meaning.specs.Points.{each_point, paired}
 use Rattle.vtl_meaning.proofs.Kept.{pair_kept}
 use Rattle.vtl_expr.proofs.PairLemmas.{left_exps}

@@ -1,4 +1,4 @@
-use Rattle.std.proofs.Common.{◌≡◌, ◌<◌, length, arith, ◌∙◌}
+use Rattle.std.proofs.Common.{◌<◌, length, arith, ◌∙◌}
 use Rattle.vtl_index.specs.Index.{rows_by}
 use Rattle.vtl_expr.proofs.FindingLemmas.{index_more}
 use Rattle.vtl_expr.proofs.partners.index_of.Goals as goal

@@ -1,4 +1,4 @@
-use Rattle.std.proofs.Common.{◌≡◌, ℕ, ◌++◌, List, length, ap, ◌∙◌}
+use Rattle.std.proofs.Common.{ℕ, ◌++◌, List, length, ap, ◌∙◌}
 use Rattle.vtl_cell.specs.Row.{Row}
 use Rattle.vtl_index.specs.Index.{rows_by}
 use Rattle.vtl_rows.specs.Tables.{cells_at}
