@@ -1,4 +1,4 @@
-use Rattle.std.proofs.Common.{◌≡◌, List, map, ap, sym, subst, ◌∙◌}
+use Rattle.std.proofs.Common.{List, map, ap, sym, subst, ◌∙◌}
 use Rattle.vtl_rows.specs.Tables.{Listed}
 use Rattle.vtl_scalar.specs.Answers.{AnswersBy}
 use Rattle.vtl_tree.specs.CompExp.{CompExp}
