@@ -1,0 +1,7 @@
+use Rattle.std.proofs.Common.{◌≡◌, drop, map}
+use Rattle.vtl_nodes.specs.View.{item_tree}
+use Rattle.vtl_meaning.specs.Operators.{target_named}
+use Rattle.vtl_clause.proofs.calculation.target_named.Given as goal
+
+abbrev pub invariant-loop-item : goal.invariant-loop-item
+invariant-loop-item l = target_named (map item_tree (drop l.item-index l.items)) l.name ≡ target_named (map item_tree l.items) l.name

@@ -1,0 +1,64 @@
+use Rattle.std.proofs.Common.{◌≡◌, ◌<◌, ◌≤◌, List, Option, length, true, arith, ap, sym, subst, ◌∙◌}
+use Rattle.std.proofs.lemmas.List.{take_all}
+use Rattle.vtl_cell.specs.Outcome.{Fault, fault_in, faults_by}
+use Rattle.vtl_cell.specs.Row.{Row}
+use Rattle.vtl_rows.specs.Tables.{Listed, fits}
+use Rattle.vtl_tree.specs.Clauses.{filter_of, is_true, kept}
+use Rattle.vtl_tree.specs.DataSet.{IsDataSet, is_point}
+use Rattle.vtl_tree.specs.Seen.{seen_of}
+use Rattle.vtl_tree.specs.Structure.{IsStructure, columns_of}
+use Rattle.vtl_tree.specs.Value.{value}
+use Rattle.vtl_tree.specs.View.{comp_exp_of}
+use Rattle.vtl_tree.proofs.Walks.{kept_more, seen_more}
+use Rattle.vtl_csv.specs.TableText.{table_columns}
+use Rattle.vtl_meaning.proofs.Kept.{filtered_kept}
+use Rattle.vtl_expr.proofs.PointLemmas.{answered_keeps, finished, holds_at}
+use Rattle.vtl_expr.proofs.TableLemmas.{answered_is_table, point_fits}
+use Rattle.vtl_clause.proofs.filtering.kept_table.Goals as goal
+
+pub new_table-requires : goal.new_table-requires
+new_table-requires c = subst IsStructure (sym c.requires.same) c.table-table.ensures.table.points.well_formed
+
+pub keep-requires : goal.keep-requires
+keep-requires c =
+    let a = c.args.a.now.structure in
+    let r = c.row.result.now in
+    let rows = c.table-table.result.now.rows in
+    let within : c.loop-i.i < length rows = omega (arith, c.len-i-end.ensures.rows, c.loop-i-test.true) in
+    ap (λ cs. fits cs r) (c.loop-i.invariant.columns ∙ ap table_columns c.requires.same)
+    ∙ point_fits (columns_of a) r (holds_at (λ x. is_point (columns_of a) x ≡ true) rows c.loop-i.i r c.table-table.ensures.table.points.typed within c.row.ensures.row)
+
+pub loop-i-preserved : goal.loop-i-preserved
+loop-i-preserved c =
+    let p = c.args.p.now in
+    let e = comp_exp_of c.args.condition.now in
+    let r = c.row.result.now in
+    let rows = c.table-table.result.now.rows in
+    let within : c.loop-i.i < length rows = omega (arith, c.len-i-end.ensures.rows, c.loop-i-test.true) in
+    record {
+      columns = c.keep.ensures.columns ∙ c.loop-i.invariant.columns;
+      rows = kept_more (λ x. is_true (value p e x)) rows c.loop-i.i r c.loop-i.kept.rows c.keep.new.kept.rows within c.row.ensures.row c.loop-i.invariant.rows c.in_ok-seen.ensures.rows;
+      seen = seen_more (λ x. fault_in (value p e x)) rows c.loop-i.i r (seen_of c.loop-i.seen) (seen_of c.in_ok-seen.seen) within c.row.ensures.row c.loop-i.invariant.seen c.in_ok-seen.ensures.seen;
+    }
+
+pub returns-clause-rows : goal.returns-clause-rows
+returns-clause-rows c =
+    let p = c.args.p.now in
+    let e = comp_exp_of c.args.condition.now in
+    let points = c.args.a.now.points in
+    let rows = c.table-table.result.now.rows in
+    let past : length rows ≤ c.loop-i.i = omega (arith, c.len-i-end.ensures.rows, c.loop-i-test.false) in
+    let all = take_all c.loop-i.i rows past ∙ c.table-table.ensures.points in
+    let f : Row → Option Fault = λ x. fault_in (value p e x) in
+    finished (λ (t : Listed). t.rows) c.unless.result (seen_of c.loop-i.seen) (faults_by f points) c.loop-i.kept (kept p e points) c.unless.ensures
+    (c.loop-i.invariant.seen ∙ ap (faults_by f) all) (c.loop-i.invariant.rows ∙ ap (kept p e) all)
+
+pub returns-clause-table : goal.returns-clause-table
+returns-clause-table c =
+    let p = c.args.p.now in
+    let e = comp_exp_of c.args.condition.now in
+    let a = c.args.a.now in
+    let s = c.args.made.now in
+    let columns = answered_keeps (λ (t : Listed). t.columns ≡ table_columns s) c.unless.result (seen_of c.loop-i.seen) c.loop-i.kept c.unless.ensures c.loop-i.invariant.columns in
+    let own = subst (λ (l : List Row). IsDataSet a.structure l) c.table-table.ensures.points c.table-table.ensures.table.points in
+    answered_is_table s c.unless.result (filter_of p e a.points) columns (returns-clause-rows c) (λ out q. filtered_kept p e a.structure s a.points out c.requires own q)

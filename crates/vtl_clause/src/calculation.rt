@@ -1,0 +1,111 @@
+// `calc`
+ghost use Rattle.std.specs.Option.{option_map};
+ghost use Rattle.std.specs.Prelude.{◌≡◌, ◌++◌, ◌∷◌, [], map, IfOk, OnOk};
+ghost use Rattle.vtl_scalar.specs.Answers.{Answers, AnswersBy};
+ghost use Rattle.vtl_tree.specs.Shown.{shown};
+ghost use Rattle.vtl_tree.specs.Structure.{columns_of};
+ghost use Rattle.vtl_tree.specs.View.{comp_exp_of};
+ghost use Rattle.vtl_csv.specs.TableText.{IsTableOf};
+ghost use Rattle.vtl_nodes.specs.View.{item_tree, value_tree};
+ghost use Rattle.vtl_meaning.specs.Made.{IsCalculated};
+ghost use Rattle.vtl_meaning.specs.Operators.{calculated_exp, calculated_of, target_named, value_exp};
+ghost use Rattle.vtl_expr.specs.DataSets.{with_structure};
+
+use std::alloc::{AllocError, Global};
+use vtl_cell::Cell;
+use vtl_decimal::Profile;
+use vtl_expr::{DataSet, copied, each_point, push_column};
+use vtl_nodes::{CalcItem, CalcValue};
+use vtl_rows::Table;
+use vtl_scalar::ScalarErr;
+use vtl_text::Txt;
+use vtl_tree::{CompExpr, Component, Structure};
+
+// The target of a name.
+fn target_named<'a>(items: &'a [CalcItem], name: &Txt) -> Option<&'a CalcItem>
+    ensures { option_map (λ i. item_tree i.now) result ≡ target_named (map item_tree items.now) name.now }
+{
+    for item in items {
+        if item.target == *name {
+            return Some(item);
+        }
+    }
+    None
+}
+
+// The expression of a target, which is no analytic call.
+fn value_exp(alloc: Global, value: &CalcValue) -> Result<CompExpr, AllocError>
+    ensures { IfOk result (λ e. comp_exp_of e ≡ value_exp (value_tree value.now)) }
+{
+    match value {
+        CalcValue::Scalar(e) => copied(alloc, e),
+        CalcValue::Analytic(_) => Ok(CompExpr::Const(Cell::Null)),
+    }
+}
+
+// Adds what a column of the result is made of: the target of its name, or the column as it was.
+fn push_calculated(
+    alloc: Global,
+    exps: &mut Vec<CompExpr>,
+    items: &[CalcItem],
+    columns: &[&Component],
+    column: &Component,
+) -> Result<(), AllocError>
+    ensures { OnOk result (map comp_exp_of exps.new.items ≡ map comp_exp_of exps.old.items ++ calculated_exp (map item_tree items.now) (shown columns.now) column.now ∷ []) }
+{
+    match target_named(items, &column.name) {
+        Some(item) => exps.push(value_exp(alloc, &item.value)?)?,
+        None => push_column(exps, columns, &column.name)?,
+    }
+    Ok(())
+}
+
+// What columns are made of that have these names.
+fn calculated_exps(
+    alloc: Global,
+    items: &[CalcItem],
+    a: &Structure,
+    wanted: &[&Component],
+) -> Result<Vec<CompExpr>, AllocError>
+    ensures { IfOk result (λ v. map comp_exp_of v.items ≡ map (calculated_exp (map item_tree items.now) (columns_of a.now)) (shown wanted.now)) }
+{
+    let columns = a.columns(alloc)?;
+    let mut exps = Vec::with_capacity(alloc, wanted.len())?;
+    for column in wanted {
+        push_calculated(alloc, &mut exps, items, &columns, column)?;
+    }
+    Ok(exps)
+}
+
+fn calculated_table(
+    alloc: Global,
+    a: &DataSet,
+    items: &[CalcItem],
+    made: &Structure,
+    p: &Profile,
+) -> Result<Table, ScalarErr>
+    requires { IsCalculated p.now (map item_tree items.now) a.now.structure made.now }
+    ensures table { IfOk result (IsTableOf made.now) }
+    ensures rows { AnswersBy (λ t. t.rows) result (calculated_of p.now (map item_tree items.now) a.now.structure made.now a.now.points) }
+{
+    let wanted = made.columns(alloc)?;
+    let exps = calculated_exps(alloc, items, a.structure(), &wanted)?;
+    each_point(alloc, &exps, a, made, p)
+}
+
+/// The points with the values of the targets, each computed from the point as it was, as a data set of the structure that
+/// typing gives. No target is an analytic call. The answer is DivZero where any value divides by zero, else Range where
+/// any is out of range, else it fails only for want of memory.
+pub fn calc(
+    alloc: Global,
+    a: &DataSet,
+    items: &[CalcItem],
+    made: Structure,
+    p: &Profile,
+) -> Result<DataSet, ScalarErr>
+    requires { IsCalculated p.now (map item_tree items.now) a.now.structure made }
+    ensures { Answers result (with_structure made (calculated_of p.now (map item_tree items.now) a.now.structure made a.now.points)) }
+{
+    let table = calculated_table(alloc, a, items, &made, p);
+    DataSet::answered(made, table)
+}

@@ -1,0 +1,83 @@
+// `filter`
+ghost use Rattle.std.specs.Prelude.{◌≡◌, true, ◌++◌, ◌∷◌, [], IfOk, IfErr, if◌then◌else◌};
+ghost use Rattle.vtl_cell.specs.Outcome.{fault_in, join};
+ghost use Rattle.vtl_rows.specs.Tables.{fits};
+ghost use Rattle.vtl_scalar.specs.Answers.{Answers, AnswersBy};
+ghost use Rattle.vtl_tree.specs.Clauses.{filter_of, is_true};
+ghost use Rattle.vtl_tree.specs.Seen.{seen_of};
+ghost use Rattle.vtl_tree.specs.Value.{value};
+ghost use Rattle.vtl_tree.specs.View.{comp_exp_of};
+ghost use Rattle.vtl_csv.specs.TableText.{IsTableOf};
+ghost use Rattle.vtl_meaning.specs.Made.{IsFiltered};
+ghost use Rattle.vtl_expr.specs.DataSets.{with_structure};
+
+use crate::rows::copied_row;
+use std::alloc::Global;
+use vtl_cell::Cell;
+use vtl_decimal::Profile;
+use vtl_expr::{DataSet, new_table};
+use vtl_rows::Table;
+use vtl_scalar::ScalarErr;
+use vtl_tree::{CompExpr, Seen, Structure, eval};
+
+// Puts a row behind those that are kept, where the condition is true, and sees its fault.
+fn keep(
+    alloc: Global,
+    kept: &mut Table,
+    seen: Seen,
+    condition: &CompExpr,
+    row: &[Cell],
+    p: &Profile,
+) -> Result<Seen, ScalarErr>
+    requires { fits kept.old.columns row.now ≡ true }
+    ensures columns { kept.new.columns ≡ kept.old.columns }
+    ensures rows { IfOk result (λ _. kept.new.rows ≡ kept.old.rows ++ (if is_true (value p.now (comp_exp_of condition.now) row.now) then row.now ∷ [] else [])) }
+    ensures seen { IfOk result (λ s. seen_of s ≡ join (seen_of seen) (fault_in (value p.now (comp_exp_of condition.now) row.now))) }
+    ensures err { IfErr result (λ e. e ≡ ScalarErr.OutOfMemory) }
+{
+    match eval(alloc, condition, row, p) {
+        Ok(Cell::Bool(true)) => {
+            kept.push_row(copied_row(alloc, row)?)?;
+            Ok(seen)
+        }
+        Ok(_) => Ok(seen),
+        Err(error) => seen.and(error),
+    }
+}
+
+fn kept_table(
+    alloc: Global,
+    a: &DataSet,
+    condition: &CompExpr,
+    made: &Structure,
+    p: &Profile,
+) -> Result<Table, ScalarErr>
+    requires { IsFiltered p.now (comp_exp_of condition.now) a.now.structure made.now }
+    ensures table { IfOk result (IsTableOf made.now) }
+    ensures rows { AnswersBy (λ t. t.rows) result (filter_of p.now (comp_exp_of condition.now) a.now.points) }
+{
+    let table = a.table();
+    let mut kept = new_table(alloc, made)?;
+    let mut seen = Seen::Nothing;
+    for i in 0..table.len() {
+        seen = keep(alloc, &mut kept, seen, condition, table.row(i), p)?;
+    }
+    seen.unless(kept)
+}
+
+/// The points at which the condition is true, as a data set of the same structure. The answer is DivZero where the
+/// condition divides by zero at any point, else Range where it is out of range at any, else it fails only for want of
+/// memory.
+pub fn filter(
+    alloc: Global,
+    a: &DataSet,
+    condition: &CompExpr,
+    made: Structure,
+    p: &Profile,
+) -> Result<DataSet, ScalarErr>
+    requires { IsFiltered p.now (comp_exp_of condition.now) a.now.structure made }
+    ensures { Answers result (with_structure made (filter_of p.now (comp_exp_of condition.now) a.now.points)) }
+{
+    let table = kept_table(alloc, a, condition, &made, p);
+    DataSet::answered(made, table)
+}

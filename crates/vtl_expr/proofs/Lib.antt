@@ -1,0 +1,7 @@
+pub mod ChoiceLemmas
+pub mod ColumnLemmas
+pub mod FindingLemmas
+pub mod MeasureLemmas
+pub mod PairLemmas
+pub mod PointLemmas
+pub mod TableLemmas
