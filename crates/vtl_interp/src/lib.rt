@@ -1,0 +1,13 @@
+//! The interpreter: the back end that evaluates the operators of a script one after the other, over tables in memory.
+#![tactic(auto)]
+
+mod evaluation;
+mod held;
+mod inputs;
+mod interp;
+mod operators;
+mod outputs;
+mod statements;
+mod value;
+
+pub use interp::Interp;
