@@ -1,16 +1,24 @@
--- A typed script has a node for each statement.
-use Rattle.std.proofs.Common.{◌≡◌, ℕ, suc, ◌+◌, List, [], ◌∷◌, ◌++◌, length, map, Result, Ok, Err, refl, ap, sym, ◌∙◌, arith, length-append}
+-- Typed scripts and what is held beside their nodes.
+use Rattle.std.proofs.Common.{◌≡◌, ℕ, suc, ◌+◌, List, [], ◌∷◌, ◌++◌, length, map, Result, Ok, Err, refl, ap, sym, subst, ◌∙◌, arith, length-append}
+use Rattle.std.specs.Map.{keys_of}
 use Rattle.std.proofs.lemmas.List.{length-map}
+use Rattle.vtl_decimal.specs.Settings.{Settings}
 use Rattle.vtl_syntax.specs.Trees as tree
 use Rattle.vtl_syntax.specs.Trees.{ScriptTree}
 use Rattle.vtl_syntax.specs.View.{statement_tree}
+use Rattle.vtl_syntax.specs.declared.statements.Statement.{Statement}
+use Rattle.vtl_tree.specs.Structures.{Named}
 use Rattle.vtl_nodes.specs.Trees.{NodeTree}
 use Rattle.vtl_nodes.specs.View.{node_tree}
+use Rattle.vtl_nodes.specs.declared.nodes.Node.{Node}
 use Rattle.vtl_forms.specs.Places.{Env}
-use Rattle.vtl_check.specs.Checked.{IsTyped, TypedScript, env_over}
+use Rattle.vtl_check.specs.Checked.{AreUses, IsTyped, TypedScript, env_over}
 use Rattle.vtl_check.specs.Count.{count}
 use Rattle.vtl_check.specs.Script.{assigned, at, statements_typed, with_result}
+use Rattle.vtl_check.specs.Uses.{outputs_in, reads, results_behind}
+use Rattle.vtl_check.specs.declared.uses.Uses.{Uses}
 
+-- a typed script has a node for each statement
 same-ok : {T E : Type 0} (x y : T) (r : Result T E) → r ≡ Ok x → r ≡ Ok y → x ≡ y
 same-ok x y r e d = cc
 
@@ -18,14 +26,16 @@ nodes-typed : (env : Env) (i before : ℕ) (done : List NodeTree) (ss : ScriptTr
     → statements_typed env i before done ss ≡ Ok ns → length ns ≡ length done + length ss
 nodes-typed env i before done [] ns e = sym (ap length (same-ok done ns (Ok done) refl e)) ∙ omega arith
 nodes-typed env i before done (tree.assignment name kind x ∷ ss) ns e =
-    go (assigned env before name x) (λ n. nodes-typed (with_result env name n) (suc i) (before + count n) (done ++ n ∷ []) ss ns) e
+    go (λ n. statements_typed (with_result env name n) (suc i) (before + count n) (done ++ n ∷ []) ss)
+    (assigned env before name x)
+    (λ n. nodes-typed (with_result env name n) (suc i) (before + count n) (done ++ n ∷ []) ss ns)
+    e
   where
-    rest : NodeTree → Result (List NodeTree) (ℕ × ℕ)
-    rest n = statements_typed (with_result env name n) (suc i) (before + count n) (done ++ n ∷ []) ss
-
-    go : (r : Result NodeTree ℕ) → ((n : NodeTree) → rest n ≡ Ok ns → length ns ≡ length (done ++ n ∷ []) + length ss) → at i r rest ≡ Ok ns → length ns ≡ length done + suc (length ss)
-    go (Ok n) more e = more n e ∙ omega (arith, length-append done (n ∷ []))
-    go (Err rule) more e = cc
+    go : (rest : NodeTree → Result (List NodeTree) (ℕ × ℕ)) (r : Result NodeTree ℕ)
+        → ((n : NodeTree) → rest n ≡ Ok ns → length ns ≡ length (done ++ n ∷ []) + length ss)
+        → at i r rest ≡ Ok ns → length ns ≡ length done + suc (length ss)
+    go rest (Ok n) more e = more n e ∙ omega (arith, length-append done (n ∷ []))
+    go rest (Err rule) more e = cc
 nodes-typed env i before done (tree.datapoint n vs rs b ∷ ss) ns e = cc
 nodes-typed env i before done (tree.hierarchical n v rs b ∷ ss) ns e = cc
 
@@ -34,3 +44,19 @@ as_many_nodes t typed =
     sym (length-map t.nodes node_tree)
     ∙ nodes-typed (env_over t.settings t.declared) 1 0 [] (map statement_tree t.script) (map node_tree t.nodes) typed
     ∙ omega (arith, length-map t.script statement_tree)
+
+abbrev with_parts : List Statement → Named → Settings → List Node → TypedScript
+with_parts script declared settings nodes = record { script = script; declared = declared; settings = settings; nodes = nodes }
+
+-- the same script, and the uses that were found of it
+pub typed_parts : (script shared : List Statement) (structures declared : Named) (settings : Settings) (nodes : List Node) (u : Uses)
+    → shared ≡ script → declared ≡ structures
+    → IsTyped (with_parts script structures settings nodes)
+    → u.known.entries ≡ results_behind (reads structures (map node_tree nodes)) (map statement_tree script) (map node_tree nodes)
+    → u.inputs.items ≡ keys_of (reads structures (map node_tree nodes))
+    → u.outputs.items ≡ outputs_in (map statement_tree script)
+    → IsTyped (with_parts shared declared settings nodes) × AreUses (with_parts shared declared settings nodes) u
+typed_parts script shared structures declared settings nodes u same_script same_structures typed known inputs outputs =
+    let P : List Statement → Named → Type 0 = λ s d. IsTyped (with_parts s d settings nodes) × AreUses (with_parts s d settings nodes) u in
+    let here : P script structures = (typed, record { known_data = known; read_names = inputs; written_names = outputs }) in
+    subst (λ s. P s declared) (sym same_script) (subst (P script) (sym same_structures) here)

@@ -54,6 +54,7 @@ impl Model for Checked {
 impl Checked {
     /// A script that is typed over these structures with these nodes, one for each statement. The script is shared. It fails only
     /// for want of memory.
+    #[tactic(auto, using(crate::proofs::ScriptLemmas::as_many_nodes, crate::proofs::ScriptLemmas::typed_parts))]
     pub fn of(
         alloc: Global,
         script: &Script,
@@ -65,11 +66,13 @@ impl Checked {
         ensures { IfOk result (λ c. c ≡ typed_script script.now structures.now profile.now nodes.items) }
     {
         match parts(alloc, script, structures, &nodes) {
-            Ok(Parts {
-                script,
-                declared,
-                uses,
-            }) => Ok(Checked {
+            Ok(
+                Parts {
+                    script,
+                    declared,
+                    uses,
+                },
+            ) => Ok(Checked {
                 script,
                 declared,
                 profile: *profile,

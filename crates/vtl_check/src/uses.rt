@@ -74,10 +74,7 @@ fn reads(
 }
 
 // The names of data sets, in order.
-fn names_by_place(
-    alloc: Global,
-    known: &IndexMap<Txt, Structure>,
-) -> Result<Vec<Txt>, AllocError>
+fn names_by_place(alloc: Global, known: &IndexMap<Txt, Structure>) -> Result<Vec<Txt>, AllocError>
     ensures { IfOk result (λ v. v.items ≡ keys_of known.now.entries) }
 {
     let mut names = Vec::new(alloc);

@@ -1,43 +1,454 @@
 -- The operators keep what makes a data set: widths, kinds and keys.
-use Rattle.std.proofs.Common.{◌≡◌, Bool, true, List, Ok}
+use Rattle.std.proofs.Common.{◌≡◌, ℕ, zero, suc, ◌≤◌, Bool, true, false, not, cond, ◌&&◌, ◌||◌, List, [], ◌∷◌, ◌++◌, length, map, take, Option, Some, None, Ok, Err, ◌⊎◌, inl, inr, refl, sym, ap, ◌∙◌, subst, arith, true≢false, length-append}
+use Rattle.std.specs.List.{AllByRecursion, filter, list_all, list_any}
+use Rattle.std.specs.Map.{lookup}
+use Rattle.std.specs.Option.{option_map_or}
+use Rattle.std.proofs.lemmas.Bool.{and_parts}
+use Rattle.std.proofs.lemmas.List.{length-map, map-append, take-append-le}
 use Rattle.vtl_decimal.specs.Settings.{Settings}
-use Rattle.vtl_cell.specs.Row.{Row}
+use Rattle.vtl_lists.proofs.Aparts.{all_apart-filter}
+use Rattle.vtl_lists.proofs.Sorts.{AllByRecursion-filter}
+use Rattle.vtl_cell.specs.Kinds.{is_null}
+use Rattle.vtl_cell.specs.Order.{same_cell}
+use Rattle.vtl_cell.specs.Outcome.{Fault, Outcome, after, faults_by, unless}
+use Rattle.vtl_cell.specs.Row.{Row, column_of, same_key, same_row}
+use Rattle.vtl_cell.specs.declared.cell.Cell.{Cell}
+use Rattle.vtl_cell.specs.declared.kind.Kind.{Kind}
 use Rattle.vtl_cell.specs.declared.operator.ScalarOp.{ScalarOp}
-use Rattle.vtl_tree.specs.Clauses.{filter_of}
+use Rattle.vtl_cell.proofs.Cells.{same_cell-is}
+use Rattle.vtl_cell.proofs.Rows.{same_row-is, same_row-refl}
+use Rattle.vtl_rows.specs.Tables.{cells_at, fits_kinds}
+use Rattle.vtl_tree.specs.Clauses.{filter_of, is_true, kept}
 use Rattle.vtl_tree.specs.CompExp.{CompExp}
-use Rattle.vtl_tree.specs.DataSet.{IsDataSet}
-use Rattle.vtl_tree.specs.Environment.{Environment}
+use Rattle.vtl_tree.specs.DataSet.{Distinct, IsDataSet, is_point, look}
+use Rattle.vtl_tree.specs.Environment.{Environment, data_of}
+use Rattle.vtl_tree.specs.Structure.{IsStructure, columns_of, key_width, names_of, same_name, same_role}
+use Rattle.vtl_tree.specs.Value.{value}
+use Rattle.vtl_tree.specs.declared.structure.Component.{Component}
+use Rattle.vtl_tree.specs.declared.structure.Role.{Role}
+use Rattle.vtl_tree.specs.declared.structure.Role.TheVariants as role
 use Rattle.vtl_tree.specs.declared.structure.Structure.{Structure}
-use Rattle.vtl_nodes.specs.Trees.{ItemTree, MeasureTree, NodeTree, structure_of}
+use Rattle.vtl_nodes.specs.Trees as nodes
+use Rattle.vtl_nodes.specs.Trees.{FormTree, ItemTree, MeasureTree, NodeTree, structure_of}
 use Rattle.vtl_nodes.specs.declared.clauses.SubItem.{SubItem}
-use Rattle.vtl_meaning.specs.Made.{IsCalculated, IsChoice, IsFiltered, IsLeft, IsMade, IsMeasured, IsPaired, IsRenamed, IsSub}
-use Rattle.vtl_meaning.specs.Meaning.{AreDataSets, is_built, known_in, node_value}
-use Rattle.vtl_meaning.specs.Operators.{calculated_of, choice_of, left_of, measured_of, pair_of, sub_of}
+use Rattle.vtl_shapes.specs.Pairs.{contains}
+use Rattle.vtl_typing.specs.Kinds.{exp_kind}
+use Rattle.vtl_meaning.specs.Columns.{column_behind, column_named, columns_named, identifiers_of, measures_of, place_of, places_in}
+use Rattle.vtl_meaning.specs.Made.{AreAmong, AreFor, HasIdentifiers, IsAlternative, IsCalculated, IsChoice, IsColumnAt, IsFiltered, IsLeft, IsMade, IsMadeForm, IsMeasured, IsPaired, IsRenamed, IsSub}
+use Rattle.vtl_meaning.specs.Meaning.{AreDataSets, form_value, is_built, is_built_form, known_in, node_value, points_named}
+use Rattle.vtl_meaning.specs.Operators.{calculated_exp, calculated_exps, calculated_of, choice_of, for_measures, has_values, is_first_chosen, joined_point, left_of, measured_exps, measured_of, pair_columns, pair_exps, pair_of, pairs_of, sub_of, taken_at, taken_from, target_named, with_measure, with_namesake}
+use Rattle.vtl_meaning.specs.Points.{beside, cell_or_null, each_point, paired, partner, point_fault, point_of}
+use Rattle.vtl_meaning.proofs.Drawn.{AreDrawn, AtMostOne, Keeps, drawn_all, drawn_apart, drawn_kept, map_drawn, mapped_kept, one_of_option, same_keys_back}
+use Rattle.vtl_meaning.proofs.Places.{IsIdentifier, IsOther, all_back, all_filtered, all_map, all_more, are_identifiers, are_measures, are_others, cells_fit, columns_split, joined_point_is, key_cells, key_for, key_of_joined, key_of_point, key_within, others_of, place_here, place_later, point_append, point_of_same, same_name-is, same_name-sym}
+use Rattle.vtl_meaning.proofs.ValueKinds.{GivesOf, IsOf, cell_is_of, null_is_of, point_from, point_parts, value_is_of}
+
+-- ---- outcomes
+pub unless_ok : {A : Type 0} (f : Option Fault) (x out : A) → unless f x ≡ Ok out → (f ≡ None) × (x ≡ out)
+unless_ok None x out e = (refl, cc)
+unless_ok (Some f) x out e = cc
+
+pub after_ok : {A B : Type 0} (m : Outcome A) (f : A → Outcome B) (out : B) → after m f ≡ Ok out → (x : A) × (m ≡ Ok x) × (f x ≡ Ok out)
+after_ok (Ok x) f out e = (x, refl, e)
+after_ok (Err g) f out e = cc
+
+pub ok_is : {A : Type 0} (x y : A) → unless None x ≡ Ok y → x ≡ y
+ok_is x y e = (unless_ok None x y e).1
+
+-- ---- an expression for each column
+given_or_null : (kind : Kind) (m : Outcome Cell) → GivesOf kind m → IsOf kind (cell_or_null m)
+given_or_null kind (Ok v) h = h
+given_or_null kind (Err f) h = null_is_of kind
+
+pub values_fit : (p : Settings) (xs : List Component) (es : List CompExp) (ys : List Component) (r : Row) → AreFor p xs es ys → is_point xs r ≡ true → fits_kinds (map (λ y. y.kind) ys) (point_of p es r) ≡ true
+values_fit p xs [] [] r i h = refl
+values_fit p xs [] (y ∷ ys) r i h = absurd i
+values_fit p xs (e ∷ es) [] r i h = absurd i
+values_fit p xs (e ∷ es) (y ∷ ys) r i h =
+    let one : IsOf y.kind (cell_or_null (value p e r)) = subst (λ z. IsOf z (cell_or_null (value p e r))) i.1 (given_or_null (exp_kind e) (value p e r) (value_is_of p xs e r i.0 h)) in
+    rw one (values_fit p xs es ys r i.2 h)
+
+for_back : (p : Settings) (xs : List Component) (es fs : List CompExp) (ys zs : List Component) → length es ≡ length ys → AreFor p xs (es ++ fs) (ys ++ zs) → AreFor p xs fs zs
+for_back p xs [] fs [] zs e i = i
+for_back p xs [] fs (y ∷ ys) zs e i = absurd (omega (arith, e))
+for_back p xs (x ∷ es) fs [] zs e i = absurd (omega (arith, e))
+for_back p xs (x ∷ es) fs (y ∷ ys) zs e i = for_back p xs es fs ys zs (omega (arith, e)) i.2
+
+pub columns_point : (p : Settings) (xs ys : List Component) (r : Row) → point_of p (columns_named xs ys) r ≡ cells_at (places_in xs ys) r
+columns_point p xs [] r = refl
+columns_point p xs (y ∷ ys) r = ap (λ l. column_of (place_of y.name xs) r ∷ l) (columns_point p xs ys r)
+
+-- the cells of the identifiers, and the values of the other columns
+pub exps_split : (p : Settings) (a s : Structure) (rest : List CompExp) (r : Row) → IsStructure a → HasIdentifiers s (identifiers_of a) → key_width a ≤ length r → point_of p (columns_named (columns_of a) (identifiers_of s) ++ rest) r ≡ take (key_width a) r ++ point_of p rest r
+exps_split p a s rest r w h l =
+    map-append (λ e. cell_or_null (value p e r)) (columns_named (columns_of a) (identifiers_of s)) rest
+    ∙ ap (λ k. k ++ point_of p rest r) (columns_point p (columns_of a) (identifiers_of s) r ∙ key_cells a s r w h l)
+
+exps_keep : (p : Settings) (xs : List Component) (a s : Structure) (rest : List CompExp) (r : Row) → IsStructure a → HasIdentifiers s (identifiers_of a) → AreFor p xs (columns_named (columns_of a) (identifiers_of s) ++ rest) (columns_of s) → is_point xs r ≡ true → key_width a ≤ length r → is_point (identifiers_of a) (take (key_width a) r) ≡ true → Keeps s (key_width a) r (point_of p (columns_named (columns_of a) (identifiers_of s) ++ rest) r)
+exps_keep p xs a s rest r w h i j l k =
+    let own = key_for s a (take (key_width a) r) h k in
+    let as_many : length (columns_named (columns_of a) (identifiers_of s)) ≡ length (identifiers_of s) = length-map (identifiers_of s) (λ y. column_named (columns_of a) y.name) in
+    let typed = for_back p xs (columns_named (columns_of a) (identifiers_of s)) rest (identifiers_of s) (others_of s) as_many (subst (λ ys. AreFor p xs (columns_named (columns_of a) (identifiers_of s) ++ rest) ys) (columns_split s) i) in
+    let both : Keeps s (key_width a) r (take (key_width a) r ++ point_of p rest r) = (joined_point_is s (others_of s) (take (key_width a) r) (point_of p rest r) (columns_split s) (are_others s) own (values_fit p xs rest (others_of s) r typed j), key_of_joined s (take (key_width a) r) (point_of p rest r) own) in
+    subst (λ q. Keeps s (key_width a) r q) (sym (exps_split p a s rest r w h l)) both
+
+-- on the points of one operand
+each_kept : (p : Settings) (a s : Structure) (rest : List CompExp) (d out : List Row) → IsStructure s → HasIdentifiers s (identifiers_of a) → AreFor p (columns_of a) (columns_named (columns_of a) (identifiers_of s) ++ rest) (columns_of s) → IsDataSet a d → each_point p (columns_named (columns_of a) (identifiers_of s) ++ rest) d ≡ Ok out → IsDataSet s out
+each_kept p a s rest d out w i j h e =
+    let es = columns_named (columns_of a) (identifiers_of s) ++ rest in
+    subst (λ l. IsDataSet s l) (unless_ok (faults_by (point_fault p es) d) (map (point_of p es) d) out e).1
+    (mapped_kept s (key_width a) (point_of p es) d w
+    (all_more (λ r. is_point (columns_of a) r ≡ true) (λ r. Keeps s (key_width a) r (point_of p es r)) (λ r k. exps_keep p (columns_of a) a s rest r h.well_formed i j k (key_within a r k) (key_of_point a r k)) d h.typed)
+    h.distinct)
 
 pub measured_kept : (p : Settings) (m : MeasureTree) (a s : Structure) (d out : List Row) → IsMeasured p m a s → IsDataSet a d → measured_of p m a s d ≡ Ok out → IsDataSet s out
-measured_kept p m a s d out i h e = ?
+measured_kept p m a s d out i h e = each_kept p a s (for_measures (with_measure m (columns_of a)) (measures_of a) (measures_of s)) d out i.well_formed i.identifiers i.columns h e
 
-pub pair_kept : (p : Settings) (o : ScalarOp) (a b s : Structure) (d e out : List Row) → IsPaired p o a b s → IsDataSet a d → IsDataSet b e → pair_of p o a b s d e ≡ Ok out → IsDataSet s out
-pair_kept p o a b s d e out i h k q = ?
+-- ---- `calc`
+calc_front : (items : List ItemTree) (xs ys : List Component) → AllByRecursion (λ n. target_named items n ≡ None) (names_of ys) → map (calculated_exp items xs) ys ≡ columns_named xs ys
+calc_front items xs [] all = refl
+calc_front items xs (y ∷ ys) all = ap (λ o. option_map_or (λ i. Rattle.vtl_meaning.specs.Operators.value_exp i.value) o (column_named xs y.name) ∷ map (calculated_exp items xs) ys) all.0 ∙ ap (λ l. column_named xs y.name ∷ l) (calc_front items xs ys all.1)
 
-pub choice_kept : (t a b s : Structure) (tests d e : List Row) → IsChoice t a b s → IsDataSet t tests → IsDataSet a d → IsDataSet b e → IsDataSet s (choice_of t a b s tests d e)
-choice_kept t a b s tests d e i g h k = ?
-
-pub filtered_kept : (p : Settings) (e : CompExp) (a s : Structure) (d out : List Row) → IsFiltered p e a s → IsDataSet a d → filter_of p e d ≡ Ok out → IsDataSet s out
-filtered_kept p e a s d out i h q = ?
+-- the identifiers stay as they are
+pub calculated_split : (p : Settings) (items : List ItemTree) (a s : Structure) → IsCalculated p items a s → calculated_exps items a s ≡ columns_named (columns_of a) (identifiers_of s) ++ map (calculated_exp items (columns_of a)) (others_of s)
+calculated_split p items a s i =
+    let free : AllByRecursion (λ n. target_named items n ≡ None) (names_of (identifiers_of s)) = subst (λ ns. AllByRecursion (λ n. target_named items n ≡ None) ns) (sym i.identifiers.0) (all_map (λ x. x.name) (λ n. target_named items n ≡ None) (identifiers_of a) i.free) in
+    ap (map (calculated_exp items (columns_of a))) (columns_split s)
+    ∙ map-append (calculated_exp items (columns_of a)) (identifiers_of s) (others_of s)
+    ∙ ap (λ l. l ++ map (calculated_exp items (columns_of a)) (others_of s)) (calc_front items (columns_of a) (identifiers_of s) free)
 
 pub calculated_kept : (p : Settings) (items : List ItemTree) (a s : Structure) (d out : List Row) → IsCalculated p items a s → IsDataSet a d → calculated_of p items a s d ≡ Ok out → IsDataSet s out
-calculated_kept p items a s d out i h e = ?
+calculated_kept p items a s d out i h e =
+    let same = calculated_split p items a s i in
+    each_kept p a s (map (calculated_exp items (columns_of a)) (others_of s)) d out i.well_formed i.identifiers
+    (subst (λ es. AreFor p (columns_of a) es (columns_of s)) same i.columns) h (ap (λ es. each_point p es d) (sym same) ∙ e)
+
+-- ---- two operands
+-- what a look-up gives is one of the points
+pub look_is : (P : Row → Type 0) (n : ℕ) (d : List Row) (k q : Row) → AllByRecursion P d → look n d k ≡ Some q → P q
+look_is P n [] k q all e = cc
+look_is P n (r ∷ d) k q all e = go (same_row (take n r) k) e (look_is P n d k q all.1)
+  where
+    go : (b : Bool) → cond b (Some r) (look n d k) ≡ Some q → (look n d k ≡ Some q → P q) → P q
+    go true h ih = let same : r ≡ q = cc in subst P same all.0
+    go false h ih = ih h
+
+-- a pair of points of these structures, which begins with the first one
+abbrev Pairs : Structure → Structure → Row → Row → Type 0
+Pairs a b r x = (is_point (columns_of a ++ columns_of b) x ≡ true) × (key_width a ≤ length x) × (is_point (identifiers_of a) (take (key_width a) x) ≡ true) × (take (key_width a) x ≡ take (key_width a) r)
+
+pairs_with : (a b : Structure) (r q : Row) → is_point (columns_of a) r ≡ true → is_point (columns_of b) q ≡ true → Pairs a b r (r ++ q)
+pairs_with a b r q h i =
+    let l = key_within a r h in
+    let longer : key_width a ≤ length (r ++ q) = let both = length-append r q in omega (arith, l, both) in
+    let front : take (key_width a) (r ++ q) ≡ take (key_width a) r = take-append-le (key_width a) r q l in
+    (point_append (columns_of a) (columns_of b) r q h i, longer, subst (λ k. is_point (identifiers_of a) k ≡ true) (sym front) (key_of_point a r h), front)
+
+all_paired : (a b : Structure) (d e : List Row) → AllByRecursion (λ r. is_point (columns_of a) r ≡ true) d → AllByRecursion (λ q. is_point (columns_of b) q ≡ true) e → AreDrawn (Pairs a b) (beside a b e) d
+all_paired a b d e h i =
+    all_more (λ r. is_point (columns_of a) r ≡ true) (λ r. AtMostOne (Pairs a b r) (beside a b e r))
+    (λ r j. one_of_option (Pairs a b r) (λ q. r ++ q) (partner a b e r)
+    (λ q f. pairs_with a b r q j (look_is (λ t. is_point (columns_of b) t ≡ true) (key_width b) e (cells_at (places_in (columns_of a) (identifiers_of b)) r) q i f))) d h
+
+pair_side : (p : Settings) (a b s : Structure) (rest : List CompExp) (d e out : List Row) → IsStructure s → IsDataSet a d → IsDataSet b e → HasIdentifiers s (identifiers_of a) → AreFor p (columns_of a ++ columns_of b) (columns_named (columns_of a) (identifiers_of s) ++ rest) (columns_of s) → each_point p (columns_named (columns_of a) (identifiers_of s) ++ rest) (paired a b d e) ≡ Ok out → IsDataSet s out
+pair_side p a b s rest d e out w h k i j q =
+    let es = columns_named (columns_of a) (identifiers_of s) ++ rest in
+    let all = all_paired a b d e h.typed k.typed in
+    let P : Row → Type 0 = λ x. (is_point (columns_of a ++ columns_of b) x ≡ true) × (key_width a ≤ length x) × (is_point (identifiers_of a) (take (key_width a) x) ≡ true) in
+    let points : AllByRecursion P (paired a b d e) = drawn_all (Pairs a b) P (λ r x t. (t.0, t.1, t.2)) (beside a b e) d all in
+    let apart : Distinct (key_width a) (paired a b d e) = drawn_apart (Pairs a b) (same_key (key_width a)) (same_key (key_width a)) (λ r t x z f g. same_keys_back (key_width a) (key_width a) r t x z f.3 g.3) (beside a b e) d all h.distinct in
+    subst (λ l. IsDataSet s l) (unless_ok (faults_by (point_fault p es) (paired a b d e)) (map (point_of p es) (paired a b d e)) out q).1
+    (mapped_kept s (key_width a) (point_of p es) (paired a b d e) w
+    (all_more P (λ r. Keeps s (key_width a) r (point_of p es r)) (λ r t. exps_keep p (columns_of a ++ columns_of b) a s rest r h.well_formed i j t.0 t.1 t.2) (paired a b d e) points)
+    apart)
+
+pub pair_kept : (p : Settings) (o : ScalarOp) (a b s : Structure) (d e out : List Row) → IsPaired p o a b s → IsDataSet a d → IsDataSet b e → pair_of p o a b s d e ≡ Ok out → IsDataSet s out
+pair_kept p o a b s d e out i h k q = go (contains a b) i.identifiers i.columns q
+  where
+    left : List CompExp
+    left = for_measures (with_namesake o (column_named (columns_of a)) (column_behind (length (columns_of a)) (columns_of b))) (measures_of a) (measures_of s)
+
+    right : List CompExp
+    right = for_measures (with_namesake o (column_behind (length (columns_of b)) (columns_of a)) (column_named (columns_of b))) (measures_of a) (measures_of s)
+
+    exps : Bool → List CompExp
+    exps t = cond t (columns_named (columns_of a) (identifiers_of s) ++ left) (columns_named (columns_of b) (identifiers_of s) ++ right)
+
+    go : (t : Bool) → HasIdentifiers s (identifiers_of (cond t a b)) → AreFor p (cond t (columns_of a ++ columns_of b) (columns_of b ++ columns_of a)) (exps t) (columns_of s) → each_point p (exps t) (cond t (paired a b d e) (paired b a e d)) ≡ Ok out → IsDataSet s out
+    go true f g u = pair_side p a b s left d e out i.well_formed h k f g u
+    go false f g u = pair_side p b a s right e d out i.well_formed k h f g u
+
+-- ---- `if`
+joined_keeps : (t other s : Structure) (r q : Row) → IsStructure t → HasIdentifiers s (identifiers_of t) → columns_of s ≡ identifiers_of s ++ measures_of s → AreAmong (measures_of s) (columns_of other) → is_point (columns_of t) r ≡ true → is_point (columns_of other) q ≡ true → Keeps s (key_width t) r (joined_point t other s r q)
+joined_keeps t other s r q w h n m i j =
+    let k = take (key_width t) r in
+    let vs = cells_at (places_in (columns_of other) (measures_of s)) q in
+    let own = key_for s t k h (key_of_point t r i) in
+    let both : Keeps s (key_width t) r (k ++ vs) = (joined_point_is s (measures_of s) k vs n (are_measures s) own (cells_fit (measures_of s) (columns_of other) q m j), key_of_joined s k vs own) in
+    subst (λ l. Keeps s (key_width t) r (l ++ vs)) (sym (key_cells t s r w h (key_within t r i))) both
+
+pub choice_kept : (t a b s : Structure) (tests d e : List Row) → IsChoice t a b s → IsDataSet t tests → IsDataSet a d → IsDataSet b e → IsDataSet s (choice_of t a b s tests d e)
+choice_kept t a b s tests d e i g h k = drawn_kept s (key_width t) (taken_at t a b s d e) tests i.well_formed (all_more (λ r. is_point (columns_of t) r ≡ true) (λ r. AtMostOne (Keeps s (key_width t) r) (taken_at t a b s d e r)) each_taken tests g.typed) g.distinct
+  where
+    taken : (other : Structure) (points : List Row) (r : Row) → IsAlternative t other s → IsDataSet other points → is_point (columns_of t) r ≡ true → AtMostOne (Keeps s (key_width t) r) (taken_from t other s points r)
+    taken other points r f l j =
+        one_of_option (Keeps s (key_width t) r) (joined_point t other s r) (partner t other points r)
+        (λ q found. joined_keeps t other s r q g.well_formed i.identifiers i.no_attributes f.measures j
+        (look_is (λ z. is_point (columns_of other) z ≡ true) (key_width other) points (cells_at (places_in (columns_of t) (identifiers_of other)) r) q l.typed found))
+
+    at : (r : Row) → is_point (columns_of t) r ≡ true → (first : Bool) → AtMostOne (Keeps s (key_width t) r) (cond first (taken_from t a s d r) (taken_from t b s e r))
+    at r j true = taken a d r i.first h j
+    at r j false = taken b e r i.second k j
+
+    each_taken : (r : Row) → is_point (columns_of t) r ≡ true → AtMostOne (Keeps s (key_width t) r) (taken_at t a b s d e r)
+    each_taken r j = at r j (is_first_chosen t r)
+
+-- ---- `filter`
+pub filtered_kept : (p : Settings) (e : CompExp) (a s : Structure) (d out : List Row) → IsFiltered p e a s → IsDataSet a d → filter_of p e d ≡ Ok out → IsDataSet s out
+filtered_kept p e a s d out i h q =
+    let test : Row → Bool = λ r. is_true (value p e r) in
+    let own : IsDataSet a (kept p e d) = record {
+      well_formed = h.well_formed;
+      typed = AllByRecursion-filter (λ r. is_point (columns_of a) r ≡ true) test d h.typed;
+      distinct = all_apart-filter (same_key (key_width a)) test d h.distinct;
+    } in
+    subst (λ x. IsDataSet x out) (sym i.same) (subst (λ l. IsDataSet a l) (unless_ok _ (kept p e d) out q).1 own)
+
+-- ---- chosen columns
+pub cells_append : (xs ys zs : List Component) (r : Row) → cells_at (places_in xs (ys ++ zs)) r ≡ cells_at (places_in xs ys) r ++ cells_at (places_in xs zs) r
+cells_append xs [] zs r = refl
+cells_append xs (y ∷ ys) zs r = ap (λ l. column_of (place_of y.name xs) r ∷ l) (cells_append xs ys zs r)
+
+pub shown_split : (xs : List Component) (s : Structure) (r : Row) → cells_at (places_in xs (columns_of s)) r ≡ cells_at (places_in xs (identifiers_of s)) r ++ cells_at (places_in xs (others_of s)) r
+shown_split xs s r = ap (λ ys. cells_at (places_in xs ys) r) (columns_split s) ∙ cells_append xs (identifiers_of s) (others_of s) r
+
+others_fit : (s : Structure) (xs : List Component) (r : Row) → AreAmong (columns_of s) xs → is_point xs r ≡ true → fits_kinds (map (λ y. y.kind) (others_of s)) (cells_at (places_in xs (others_of s)) r) ≡ true
+others_fit s xs r i h =
+    let P : Component → Type 0 = λ y. IsColumnAt (place_of y.name xs) y.name y.kind xs in
+    cells_fit (others_of s) xs r (all_back P (identifiers_of s) (others_of s) (subst (λ ys. AllByRecursion P ys) (columns_split s) i)) h
+
+shown_keeps : (a s : Structure) (r : Row) → IsStructure a → IsLeft a s → is_point (columns_of a) r ≡ true → Keeps s (key_width a) r (cells_at (places_in (columns_of a) (columns_of s)) r)
+shown_keeps a s r w i h =
+    let k = take (key_width a) r in
+    let vs = cells_at (places_in (columns_of a) (others_of s)) r in
+    let own = key_for s a k i.identifiers (key_of_point a r h) in
+    let both : Keeps s (key_width a) r (k ++ vs) = (joined_point_is s (others_of s) k vs (columns_split s) (are_others s) own (others_fit s (columns_of a) r i.columns h), key_of_joined s k vs own) in
+    subst (λ l. Keeps s (key_width a) r l) (sym (shown_split (columns_of a) s r ∙ ap (λ l. l ++ vs) (key_cells a s r w i.identifiers (key_within a r h)))) both
 
 pub left_kept : (a s : Structure) (d : List Row) → IsLeft a s → IsDataSet a d → IsDataSet s (left_of a s d)
-left_kept a s d i h = ?
+left_kept a s d i h =
+    mapped_kept s (key_width a) (cells_at (places_in (columns_of a) (columns_of s))) d i.well_formed
+    (all_more (λ r. is_point (columns_of a) r ≡ true) (λ r. Keeps s (key_width a) r (cells_at (places_in (columns_of a) (columns_of s)) r)) (λ r k. shown_keeps a s r h.well_formed i k) d h.typed)
+    h.distinct
+
+-- ---- `rename`
+abbrev identifier_count : List Role → ℕ
+identifier_count rs = length (filter (λ r. same_role r role.Identifier) rs)
+
+count_split : (xs ys : List Component) → AllByRecursion IsIdentifier xs → AllByRecursion IsOther ys → identifier_count (map (λ x. x.role) (xs ++ ys)) ≡ length xs
+count_split [] [] h i = refl
+count_split [] (y ∷ ys) h i = rw i.0 (count_split [] ys h i.1)
+count_split (x ∷ xs) ys h i = rw h.0 (ap suc (count_split xs ys h.1 i))
+
+width_by_roles : (s : Structure) → identifier_count (map (λ x. x.role) (columns_of s)) ≡ key_width s
+width_by_roles s = ap (λ xs. identifier_count (map (λ x. x.role) xs)) (columns_split s) ∙ count_split (identifiers_of s) (others_of s) (are_identifiers s) (are_others s)
 
 pub renamed_kept : (a s : Structure) (d : List Row) → IsRenamed a s → IsDataSet a d → IsDataSet s d
-renamed_kept a s d i h = ?
+renamed_kept a s d i h =
+    let width : key_width s ≡ key_width a = sym (width_by_roles s) ∙ ap identifier_count i.roles ∙ width_by_roles a in
+    record {
+      well_formed = i.well_formed;
+      typed = all_more (λ r. is_point (columns_of a) r ≡ true) (λ r. is_point (columns_of s) r ≡ true) (λ r k. point_of_same (columns_of a) (columns_of s) r (sym i.kinds) (sym i.roles) k) d h.typed;
+      distinct = subst (λ n. Distinct n d) (sym width) h.distinct;
+    }
+
+-- ---- `sub`
+-- a column among the first ones
+pub place_front : (name : List ℕ) (kind : Kind) (xs ys : List Component) → IsColumnAt (place_of name xs) name kind xs → place_of name (xs ++ ys) ≡ place_of name xs
+place_front name kind [] ys i = absurd i
+place_front name kind (x ∷ xs) ys i = go (same_name x.name name) refl (place_front name kind xs ys)
+  where
+    go : (b : Bool) → same_name x.name name ≡ b → (IsColumnAt (place_of name xs) name kind xs → place_of name (xs ++ ys) ≡ place_of name xs) → place_of name (x ∷ xs ++ ys) ≡ place_of name (x ∷ xs)
+    go true e ih = place_here name x (xs ++ ys) e ∙ sym (place_here name x xs e)
+    go false e ih = place_later name x (xs ++ ys) e ∙ ap suc (ih (subst (λ n. IsColumnAt n name kind (x ∷ xs)) (place_later name x xs e) i)) ∙ sym (place_later name x xs e)
+
+column_front : (place : ℕ) (name : List ℕ) (kind : Kind) (xs ys : List Component) → IsColumnAt place name kind xs → IsColumnAt place name kind (xs ++ ys)
+column_front place name kind [] ys i = absurd i
+column_front zero name kind (x ∷ xs) ys i = i
+column_front (suc place) name kind (x ∷ xs) ys i = column_front place name kind xs ys i
+
+not_true : (b : Bool) → not b ≡ true → b ≡ false
+not_true true e = cc
+not_true false e = refl
+
+identifier_filled : (place : ℕ) (name : List ℕ) (kind : Kind) (xs ys : List Component) (r : Row) → AllByRecursion IsIdentifier xs → IsColumnAt place name kind xs → is_point (xs ++ ys) r ≡ true → is_null (column_of place r) ≡ false
+identifier_filled place name kind [] ys r all i h = absurd i
+identifier_filled zero name kind (x ∷ xs) ys [] all i h = cc
+identifier_filled zero name kind (x ∷ xs) ys (v ∷ r) all i h = not_true (is_null v) (ap (λ b. not (b && is_null v)) (sym all.0) ∙ (point_parts x (xs ++ ys) v r h).1)
+identifier_filled (suc place) name kind (x ∷ xs) ys [] all i h = cc
+identifier_filled (suc place) name kind (x ∷ xs) ys (v ∷ r) all i h = identifier_filled place name kind xs ys r all.1 i (point_parts x (xs ++ ys) v r h).2
+
+-- cells of some of the identifiers
+some_identifiers : (ys xs others : List Component) (r : Row) → AllByRecursion IsIdentifier ys → AllByRecursion IsIdentifier xs → AreAmong ys xs → is_point (xs ++ others) r ≡ true → is_point ys (cells_at (places_in (xs ++ others) ys) r) ≡ true
+some_identifiers [] xs others r a b i h = refl
+some_identifiers (y ∷ ys) xs others r a b i h =
+    let at = place_of y.name xs in
+    let v = column_of at r in
+    let typed : IsOf y.kind v = cell_is_of at y.name y.kind (xs ++ others) r (column_front at y.name y.kind xs others i.0) h in
+    let filled : not (same_role y.role role.Identifier && is_null v) ≡ true = ap (λ b. not (b && is_null v)) a.0 ∙ ap not (identifier_filled at y.name y.kind xs others r b i.0 h) in
+    let rest = cells_at (places_in (xs ++ others) ys) r in
+    subst (λ n. is_point (y ∷ ys) (column_of n r ∷ rest) ≡ true) (sym (place_front y.name y.kind xs others i.0))
+    (point_from y ys v rest typed filled (some_identifiers ys xs others r a.1 b i.1 h))
+
+-- the value of a column that two rows have alike
+module _ (xs : List Component) (r t : Row) where
+  abbrev Alike : List ℕ → Type 0
+  Alike name = column_of (place_of name xs) r ≡ column_of (place_of name xs) t
+
+  alike_cells : (ys : List Component) → AllByRecursion (λ y. Alike y.name) ys → cells_at (places_in xs ys) r ≡ cells_at (places_in xs ys) t
+  alike_cells [] all = refl
+  alike_cells (y ∷ ys) all = ap (λ v. v ∷ cells_at (places_in xs ys) r) all.0 ∙ ap (λ l. column_of (place_of y.name xs) t ∷ l) (alike_cells ys all.1)
+
+  alike_by_columns : (ys : List Component) (name : List ℕ) → cells_at (places_in xs ys) r ≡ cells_at (places_in xs ys) t → list_any (λ y. same_name y.name name) ys ≡ true → Alike name
+  alike_by_columns [] name e h = cc
+  alike_by_columns (y ∷ ys) name e h = go (same_name y.name name) refl h (alike_by_columns ys name rest)
+    where
+      first : Alike y.name
+      first = cc
+
+      rest : cells_at (places_in xs ys) r ≡ cells_at (places_in xs ys) t
+      rest = cc
+
+      go : (b : Bool) → same_name y.name name ≡ b → (b || list_any (λ z. same_name z.name name) ys) ≡ true → (list_any (λ z. same_name z.name name) ys ≡ true → Alike name) → Alike name
+      go true f g ih = subst Alike (same_name-is y.name name f) first
+      go false f g ih = ih g
+
+  alike_by_values : (items : List SubItem) (name : List ℕ) → list_all (λ i. same_cell (column_of (place_of i.id xs) r) i.value) items ≡ true → list_all (λ i. same_cell (column_of (place_of i.id xs) t) i.value) items ≡ true → list_any (λ i. same_name i.id name) items ≡ true → Alike name
+  alike_by_values [] name e f h = cc
+  alike_by_values (i ∷ items) name e f h = go (same_name i.id name) refl h (alike_by_values items name left.1 right.1)
+    where
+      left : (same_cell (column_of (place_of i.id xs) r) i.value ≡ true) × (list_all (λ j. same_cell (column_of (place_of j.id xs) r) j.value) items ≡ true)
+      left = and_parts (same_cell (column_of (place_of i.id xs) r) i.value) (list_all (λ j. same_cell (column_of (place_of j.id xs) r) j.value) items) e
+
+      right : (same_cell (column_of (place_of i.id xs) t) i.value ≡ true) × (list_all (λ j. same_cell (column_of (place_of j.id xs) t) j.value) items ≡ true)
+      right = and_parts (same_cell (column_of (place_of i.id xs) t) i.value) (list_all (λ j. same_cell (column_of (place_of j.id xs) t) j.value) items) f
+
+      go : (b : Bool) → same_name i.id name ≡ b → (b || list_any (λ j. same_name j.id name) items) ≡ true → (list_any (λ j. same_name j.id name) items ≡ true → Alike name) → Alike name
+      go true g k ih = subst Alike (same_name-is i.id name g) (same_cell-is (column_of (place_of i.id xs) r) i.value left.0 ∙ sym (same_cell-is (column_of (place_of i.id xs) t) i.value right.0))
+      go false g k ih = ih k
+
+one_of : (a b : Bool) → (a || b) ≡ true → (a ≡ true) ⊎ (b ≡ true)
+one_of true b e = inl refl
+one_of false b e = inr e
+
+-- points with these values that agree on the identifiers that are left agree on all of them
+module _ (items : List SubItem) (a s : Structure) (w : IsStructure a) (i : IsSub items a s) where
+  pub sub_keys : (r : Row) → is_point (columns_of a) r ≡ true → is_point (identifiers_of s) (cells_at (places_in (columns_of a) (identifiers_of s)) r) ≡ true
+  sub_keys r h =
+      subst (λ xs. is_point (identifiers_of s) (cells_at (places_in xs (identifiers_of s)) r) ≡ true) (sym (columns_split a))
+      (some_identifiers (identifiers_of s) (identifiers_of a) (others_of a) r (are_identifiers s) (are_identifiers a) i.left (subst (λ xs. is_point xs r ≡ true) (columns_split a) h))
+
+  abbrev Taken : Row → Row → Type 0
+  Taken r q = (is_point (columns_of a) r ≡ true) × (has_values a items r ≡ true) × (q ≡ cells_at (places_in (columns_of a) (columns_of s)) r)
+
+  pub taken_key : (r q : Row) → Taken r q → take (key_width s) q ≡ cells_at (places_in (columns_of a) (identifiers_of s)) r
+  taken_key r q h =
+      ap (take (key_width s)) (h.2 ∙ shown_split (columns_of a) s r)
+      ∙ key_of_joined s (cells_at (places_in (columns_of a) (identifiers_of s)) r) (cells_at (places_in (columns_of a) (others_of s)) r) (sub_keys r h.0)
+
+  taken_is : (r q : Row) → Taken r q → is_point (columns_of s) q ≡ true
+  taken_is r q h =
+      subst (λ l. is_point (columns_of s) l ≡ true) (sym (h.2 ∙ shown_split (columns_of a) s r))
+      (joined_point_is s (others_of s) (cells_at (places_in (columns_of a) (identifiers_of s)) r) (cells_at (places_in (columns_of a) (others_of s)) r) (columns_split s) (are_others s) (sub_keys r h.0) (others_fit s (columns_of a) r i.columns h.0))
+
+  same_point : (r t : Row) → is_point (columns_of a) r ≡ true → is_point (columns_of a) t ≡ true → has_values a items r ≡ true → has_values a items t ≡ true → cells_at (places_in (columns_of a) (identifiers_of s)) r ≡ cells_at (places_in (columns_of a) (identifiers_of s)) t → take (key_width a) r ≡ take (key_width a) t
+  same_point r t h k f g e =
+      let each_one : (x : Component) → (list_any (λ y. same_name y.name x.name) (identifiers_of s) || list_any (λ y. same_name y.id x.name) items) ≡ true → Alike (columns_of a) r t x.name = λ x l.
+      elim (one_of (list_any (λ y. same_name y.name x.name) (identifiers_of s)) (list_any (λ y. same_name y.id x.name) items) l) [
+        | inl m ↦ alike_by_columns (columns_of a) r t (identifiers_of s) x.name e m
+        | inr m ↦ alike_by_values (columns_of a) r t items x.name f g m
+      ] in
+      let all = all_more (λ x. (list_any (λ y. same_name y.name x.name) (identifiers_of s) || list_any (λ y. same_name y.id x.name) items) ≡ true) (λ x. Alike (columns_of a) r t x.name) each_one (identifiers_of a) i.identifiers in
+      sym (key_cells a a r w (refl, refl) (key_within a r h)) ∙ alike_cells (columns_of a) r t (identifiers_of a) all ∙ key_cells a a t w (refl, refl) (key_within a t k)
+
+  taken_back : (r t q z : Row) → Taken r q → Taken t z → same_key (key_width s) q z ≡ true → same_key (key_width a) r t ≡ true
+  taken_back r t q z h k e =
+      let keys = sym (taken_key r q h) ∙ same_row-is (take (key_width s) q) (take (key_width s) z) e ∙ taken_key t z k in
+      ap (λ l. same_row (take (key_width a) r) l) (sym (same_point r t h.0 k.0 h.1 k.1 keys)) ∙ same_row-refl (take (key_width a) r)
+
+both_all : {X : Type 0} (P Q R : X → Type 0) → ((x : X) → P x → Q x → R x) → (xs : List X) → AllByRecursion P xs → AllByRecursion Q xs → AllByRecursion R xs
+both_all P Q R f [] p q = tt
+both_all P Q R f (x ∷ xs) p q = (f x p.0 q.0, both_all P Q R f xs p.1 q.1)
 
 pub sub_kept : (items : List SubItem) (a s : Structure) (d : List Row) → IsSub items a s → IsDataSet a d → IsDataSet s (sub_of items a s d)
-sub_kept items a s d i h = ?
+sub_kept items a s d i h =
+    let w = h.well_formed in
+    let f : Row → Row = cells_at (places_in (columns_of a) (columns_of s)) in
+    let rows = filter (has_values a items) d in
+    let typed = AllByRecursion-filter (λ r. is_point (columns_of a) r ≡ true) (has_values a items) d h.typed in
+    let all : AreDrawn (Taken items a s w i) (λ r. f r ∷ []) rows =
+    both_all (λ r. is_point (columns_of a) r ≡ true) (λ r. has_values a items r ≡ true) (λ r. Taken items a s w i r (f r)) (λ r k l. (k, l, refl)) rows typed (all_filtered (has_values a items) d) in
+    subst (λ l. IsDataSet s l) (sym (map_drawn f rows)) (record {
+      well_formed = i.well_formed;
+      typed = drawn_all (Taken items a s w i) (λ q. is_point (columns_of s) q ≡ true) (taken_is items a s w i) (λ r. f r ∷ []) rows all;
+      distinct = drawn_apart (Taken items a s w i) (same_key (key_width a)) (same_key (key_width s)) (taken_back items a s w i) (λ r. f r ∷ []) rows all (all_apart-filter (same_key (key_width a)) (has_values a items) d h.distinct);
+    })
 
--- of an expression over an environment of data sets
-pub node_kept : (p : Settings) (env : Environment) (n : NodeTree) (out : List Row) → is_built n ≡ true → IsMade p (known_in env) n → AreDataSets env → node_value p env n ≡ Ok out → IsDataSet (structure_of n) out
-node_kept p env n out b i h e = ?
+-- ---- expressions
+named_kept : (name : List ℕ) (s : Structure) (env : Environment) → lookup (same_name name) (known_in env) ≡ Some s → AreDataSets env → IsDataSet s (points_named name env)
+named_kept name s [] e h = cc
+named_kept name s (d ∷ env) e h = go (same_name name d.0) (same_name d.0 name) (same_name-sym name d.0) e (named_kept name s env)
+  where
+    go : (x y : Bool) → x ≡ y → cond x (Some d.1.structure) (lookup (same_name name) (known_in env)) ≡ Some s
+        → (lookup (same_name name) (known_in env) ≡ Some s → AreDataSets env → IsDataSet s (points_named name env))
+        → IsDataSet s (option_map_or (λ z. z.points) (cond y (Some d.1) (data_of name env)) [])
+    go true true q f ih = let same : d.1.structure ≡ s = cc in subst (λ x. IsDataSet x d.1.points) same h.0
+    go false false q f ih = ih f h.1
+    go true false q f ih = absurd (true≢false q)
+    go false true q f ih = absurd (true≢false (sym q))
+
+both_built : (x y : Bool) → (x && y) ≡ true → (x ≡ true) × (y ≡ true)
+both_built x y e = and_parts x y e
+
+mutual
+  -- of an expression over an environment of data sets
+  pub node_kept : (p : Settings) (env : Environment) (n : NodeTree) (out : List Row) → is_built n ≡ true → IsMade p (known_in env) n → AreDataSets env → node_value p env n ≡ Ok out → IsDataSet (structure_of n) out
+  node_kept p env (nodes.node s form) out b i h e = form_kept p env s form out b i.1 h e
+
+  form_kept : (p : Settings) (env : Environment) (s : Structure) (form : FormTree) (out : List Row) → is_built_form form ≡ true → IsMadeForm p (known_in env) s form → AreDataSets env → form_value p env s form ≡ Ok out → IsDataSet s out
+  form_kept p env s (nodes.named name) out b i h e = subst (λ l. IsDataSet s l) (ok_is (points_named name env) out e) (named_kept name s env i h)
+  form_kept p env s (nodes.measures m a) out b i h e =
+      let x = after_ok (node_value p env a) (measured_of p m (structure_of a) s) out e in
+      measured_kept p m (structure_of a) s x.0 out i.1 (node_kept p env a x.0 b i.0 h x.1) x.2
+  form_kept p env s (nodes.pair o a c) out b i h e =
+      let built = both_built (is_built a) (is_built c) b in
+      let x = after_ok (node_value p env a) (λ d. after (node_value p env c) (pair_of p o (structure_of a) (structure_of c) s d)) out e in
+      let y = after_ok (node_value p env c) (pair_of p o (structure_of a) (structure_of c) s x.0) out x.2 in
+      pair_kept p o (structure_of a) (structure_of c) s x.0 y.0 out i.2 (node_kept p env a x.0 built.0 i.0 h x.1) (node_kept p env c y.0 built.1 i.1 h y.1) y.2
+  form_kept p env s (nodes.choose t a c) out b i h e =
+      let built = both_built (is_built t) (is_built a && is_built c) b in
+      let others = both_built (is_built a) (is_built c) built.1 in
+      let w = after_ok (node_value p env t) (λ tests. after (node_value p env a) (λ d. after (node_value p env c) (λ z. Ok (choice_of (structure_of t) (structure_of a) (structure_of c) s tests d z)))) out e in
+      let x = after_ok (node_value p env a) (λ d. after (node_value p env c) (λ z. Ok (choice_of (structure_of t) (structure_of a) (structure_of c) s w.0 d z))) out w.2 in
+      let y = after_ok (node_value p env c) (λ z. Ok (choice_of (structure_of t) (structure_of a) (structure_of c) s w.0 x.0 z)) out x.2 in
+      subst (λ l. IsDataSet s l) (ok_is (choice_of (structure_of t) (structure_of a) (structure_of c) s w.0 x.0 y.0) out y.2)
+      (choice_kept (structure_of t) (structure_of a) (structure_of c) s w.0 x.0 y.0 i.3 (node_kept p env t w.0 built.0 i.0 h w.1) (node_kept p env a x.0 others.0 i.1 h x.1) (node_kept p env c y.0 others.1 i.2 h y.1))
+  form_kept p env s (nodes.member a m) out b i h e =
+      let x = after_ok (node_value p env a) (λ d. Ok (left_of (structure_of a) s d)) out e in
+      subst (λ l. IsDataSet s l) (ok_is (left_of (structure_of a) s x.0) out x.2) (left_kept (structure_of a) s x.0 i.1 (node_kept p env a x.0 b i.0 h x.1))
+  form_kept p env s (nodes.filter a q) out b i h e =
+      let x = after_ok (node_value p env a) (filter_of p q) out e in
+      filtered_kept p q (structure_of a) s x.0 out i.1 (node_kept p env a x.0 b i.0 h x.1) x.2
+  form_kept p env s (nodes.calc a items) out b i h e =
+      let x = after_ok (node_value p env a) (calculated_of p items (structure_of a) s) out e in
+      calculated_kept p items (structure_of a) s x.0 out i.1 (node_kept p env a x.0 b i.0 h x.1) x.2
+  form_kept p env s (nodes.keep a names) out b i h e =
+      let x = after_ok (node_value p env a) (λ d. Ok (left_of (structure_of a) s d)) out e in
+      subst (λ l. IsDataSet s l) (ok_is (left_of (structure_of a) s x.0) out x.2) (left_kept (structure_of a) s x.0 i.1 (node_kept p env a x.0 b i.0 h x.1))
+  form_kept p env s (nodes.drop_named a names) out b i h e =
+      let x = after_ok (node_value p env a) (λ d. Ok (left_of (structure_of a) s d)) out e in
+      subst (λ l. IsDataSet s l) (ok_is (left_of (structure_of a) s x.0) out x.2) (left_kept (structure_of a) s x.0 i.1 (node_kept p env a x.0 b i.0 h x.1))
+  form_kept p env s (nodes.rename a pairs) out b i h e = renamed_kept (structure_of a) s out i.1 (node_kept p env a out b i.0 h e)
+  form_kept p env s (nodes.sub a items) out b i h e =
+      let x = after_ok (node_value p env a) (λ d. Ok (sub_of items (structure_of a) s d)) out e in
+      subst (λ l. IsDataSet s l) (ok_is (sub_of items (structure_of a) s x.0) out x.2) (sub_kept items (structure_of a) s x.0 i.1 (node_kept p env a x.0 b i.0 h x.1))
+  form_kept p env s other out b i h e = cc

@@ -1,1 +1,5 @@
+pub mod Drawn
 pub mod Kept
+pub mod Orders
+pub mod Places
+pub mod ValueKinds

@@ -2,4 +2,5 @@ pub mod Columns
 pub mod Made
 pub mod Meaning
 pub mod Operators
+pub mod Orders
 pub mod Points

@@ -6,11 +6,11 @@ ghost use Rattle.vtl_plan.specs.Built.{constant_value, compared_in, comparison_o
 ghost use Rattle.vtl_plan.specs.BuiltView.{compared_view, literal_cell};
 ghost use Rattle.vtl_plan.specs.Assigned.{assigned, assigned_in, assigned_value};
 
+use crate::built_form::{CompareOp, FilterCondition, FilterLiteral};
 use std::alloc::{AllocError, Global};
 use std::marker::Model;
 use vtl_syntax::{AssignKind, BinaryOp, Clause, Comp, Constant, Expr, Numeral, Script, Statement};
 use vtl_text::Txt;
-use crate::built_form::{CompareOp, FilterCondition, FilterLiteral};
 
 /// A statement that gives a data set a name, whole or filtered, with names and texts of the script's tree.
 #[derive(Drop)]

@@ -6,11 +6,11 @@ ghost use Rattle.vtl_tree.specs.Structure.{same_name};
 ghost use Rattle.vtl_tree.specs.View.{comp_exp_of};
 ghost use Rattle.vtl_plan.specs.Condition.{condition_in, condition_over, place_of};
 
+use crate::built_form::FilterCondition;
 use std::alloc::{AllocError, Global};
 use vtl_cell::Kind;
 use vtl_csv::column;
 use vtl_text::Txt;
-use crate::built_form::FilterCondition;
 use vtl_tree::{CompExpr, Component, Structure};
 
 /// The condition of a statement whose operand has this structure.

@@ -5,6 +5,7 @@ ghost use Rattle.vtl_csv.specs.CsvText.{csv_of};
 ghost use Rattle.vtl_csv.specs.TableText.{IsTableOf};
 ghost use Rattle.vtl_plan.specs.Results.{of_points, value_of};
 
+use crate::built_form::FilterCondition;
 use crate::condition::condition;
 use crate::filtering::kept;
 use std::alloc::{AllocError, Global};
@@ -13,7 +14,6 @@ use std::rc::Rc;
 use vtl_csv::write_dataset;
 use vtl_decimal::Profile;
 use vtl_rows::Table;
-use crate::built_form::FilterCondition;
 use vtl_tree::Structure;
 
 /// A data set: its structure, and a table of its points, which several data sets may share. A contract sees the structure

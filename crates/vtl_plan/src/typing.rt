@@ -9,11 +9,11 @@ ghost use Rattle.vtl_plan.specs.Results.{IsChecked};
 ghost use Rattle.vtl_plan.specs.Typed.{are_new, fits, fitting, inputs_of, is_compared, same_kind, structure_over, typed, with_input};
 
 use crate::Assignment;
+use crate::built_form::FilterCondition;
 use indexmap::IndexMap;
 use std::alloc::{AllocError, Global};
 use vtl_cell::Kind;
 use vtl_text::Txt;
-use crate::built_form::FilterCondition;
 use vtl_tree::{Component, Structure, Structures};
 
 /// Data sets by name, with their structures: those that the statements of a script read.

@@ -22,6 +22,20 @@ pub fn kinds_in(alloc: Global, args: &[CompExpr]) -> Result<Vec<Kind>, AllocErro
     Ok(kinds)
 }
 
+// Whether the operands that need not be literals meet an operator's row, and the kind of its value.
+fn row_met(
+    alloc: Global,
+    op: ScalarOp,
+    args: &[CompExpr],
+) -> Result<(bool, Option<Kind>), AllocError>
+    ensures met { IfOk result (λ r. r.0 ≡ is_some (kind_by_operands op (map exp_kind (map comp_exp_of args.now)))) }
+    ensures kind { IfOk result (λ r. r.1 ≡ call_kind op (map comp_exp_of args.now)) }
+{
+    let kinds = kinds_in(alloc, args)?;
+    let by_operands = kind_by_operands(alloc, op, &kinds)?;
+    Ok((by_operands.is_some(), operator_kind(op, &kinds)))
+}
+
 // An operator on values, where it is known whether the operands that need not be literals meet its row, and its kind.
 fn call_of_kind(
     op: ScalarOp,
@@ -50,7 +64,6 @@ pub fn call(
 ) -> Result<CompExpr, TypeErr>
     ensures { Answers comp_exp_of result (call_form op literals (map comp_exp_of args.items)) }
 {
-    let kinds = kinds_in(alloc, &args)?;
-    let met = kind_by_operands(alloc, op, &kinds)?.is_some();
-    call_of_kind(op, met, operator_kind(op, &kinds), literals, args)
+    let (met, kind) = row_met(alloc, op, &args)?;
+    call_of_kind(op, met, kind, literals, args)
 }

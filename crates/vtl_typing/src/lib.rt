@@ -12,7 +12,8 @@ pub use calls::{call, kinds_in};
 pub use columns::{column, name};
 pub use kinds::{counted_kinds, kind, kind_by_operands, meets, operator_kind, shared_kind};
 pub use literals::{
-    constant, integer_written, is_null_kind, literal, literal_kind, literals_fit, set, still_wanted, wanted_or,
+    constant, integer_written, is_null_kind, literal, literal_kind, literals_fit, set,
+    still_wanted, wanted_or,
 };
 pub use operators::{binary_operator, function_operator, takes, unary_operator};
 pub use windows::{points, window};
