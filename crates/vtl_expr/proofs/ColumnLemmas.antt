@@ -1,0 +1,98 @@
+-- Columns of structures, and the columns of their tables.
+use Rattle.std.proofs.Common.{◌≡◌, ℕ, zero, suc, ◌+◌, ◌<◌, ◌≤◌, List, [], ◌∷◌, ◌++◌, Bool, true, false, not, cond, length, length-append, map, drop, get_or, All, Option, Some, None, refl, sym, ap, ◌∙◌, arith}
+use Rattle.std.specs.List.{AllByRecursion, filter, find, position_or_len}
+use Rattle.std.specs.Option.{option_map_or}
+use Rattle.std.specs.Prelude.{slice_get}
+use Rattle.std.specs.Borrow.{Bor}
+use Rattle.std.proofs.lemmas.List.{drop_more, drop_all, length-map}
+use Rattle.std.proofs.lemmas.List.Folds.{find_at}
+use Rattle.vtl_cell.specs.declared.kind.Kind.{Kind}
+use Rattle.vtl_cell.specs.declared.kind.Kind.TheVariants as k
+use Rattle.vtl_rows.specs.Tables.{column_at, column_kinds}
+use Rattle.vtl_rows.specs.declared.column.Column.{Column}
+use Rattle.vtl_tree.specs.Shown.{shown}
+use Rattle.vtl_tree.specs.Structure.{columns_of, key_width, of_role, same_name, same_role}
+use Rattle.vtl_tree.specs.declared.structure.Component.{Component}
+use Rattle.vtl_tree.specs.declared.structure.Role.{Role}
+use Rattle.vtl_tree.specs.declared.structure.Role.TheVariants as role
+use Rattle.vtl_tree.specs.declared.structure.Structure.{Structure}
+use Rattle.vtl_csv.specs.TableText.{column_for, table_columns}
+use Rattle.vtl_shapes.specs.Names.{component_of}
+use Rattle.vtl_meaning.specs.Columns.{kind_named, place_of, places_in}
+use Rattle.vtl_meaning.specs.Made.{AreAmong, IsColumnAt}
+
+-- ---- the kind of a column by its name
+there : (xs : List (Bor Component)) (i : ℕ) (x : Bor Component) → i < length xs → x ≡ get_or xs i x → slice_get (shown xs) i ≡ Some x.now
+there [] i x h e = absurd (omega arith)
+there (y ∷ ys) zero x h e = ap (λ (z : Bor Component). Some z.now) (sym e)
+there (y ∷ ys) (suc i) x h e = there ys i x (omega arith) e
+
+gone : (xs : List (Bor Component)) (i : ℕ) → length xs ≤ i → slice_get (shown xs) i ≡ None
+gone [] i h = refl
+gone (y ∷ ys) zero h = absurd (omega arith)
+gone (y ∷ ys) (suc i) h = gone ys i (omega arith)
+
+kind_looked : (name : List ℕ) (xs : List Component) → kind_named name xs ≡ option_map_or (λ x. x.kind) (slice_get xs (place_of name xs)) k.Null
+kind_looked name xs = ap (λ (o : Option Component). option_map_or (λ x. x.kind) o k.Null) (find_at (λ x. same_name x.name name) xs)
+
+pub kind_there : (name : List ℕ) (xs : List (Bor Component)) (i : ℕ) (x : Bor Component) → i ≡ place_of name (shown xs) → i < length xs → x ≡ get_or xs i x → x.now.kind ≡ kind_named name (shown xs)
+kind_there name xs i x at h e =
+    sym (kind_looked name (shown xs) ∙ ap (λ j. option_map_or (λ x. x.kind) (slice_get (shown xs) j) k.Null) (sym at) ∙ ap (λ (o : Option Component). option_map_or (λ x. x.kind) o k.Null) (there xs i x h e))
+
+pub kind_gone : (name : List ℕ) (xs : List (Bor Component)) (i : ℕ) → i ≡ place_of name (shown xs) → length xs ≤ i → k.Null ≡ kind_named name (shown xs)
+kind_gone name xs i at h =
+    sym (kind_looked name (shown xs) ∙ ap (λ j. option_map_or (λ x. x.kind) (slice_get (shown xs) j) k.Null) (sym at) ∙ ap (λ (o : Option Component). option_map_or (λ x. x.kind) o k.Null) (gone xs i h))
+
+-- ---- how many columns there are
+some_of_roles : (x : Component) (a b c : List Component) (r : Role)
+    → 1 ≤ length (cond (same_role r role.Identifier) (x ∷ a) a ++ cond (same_role r role.Measure) (x ∷ b) b ++ cond (same_role r role.Attribute) (x ∷ c) c)
+some_of_roles x a b c role.Identifier = let l = length-append (x ∷ a ++ b) c in let m = length-append (x ∷ a) b in omega (arith, l, m)
+some_of_roles x a b c role.Measure = let l = length-append (a ++ x ∷ b) c in let m = length-append a (x ∷ b) in omega (arith, l, m)
+some_of_roles x a b c role.Attribute = let l = length-append (a ++ b) (x ∷ c) in omega (arith, l)
+
+some_columns : (xs : List Component) → 1 ≤ length xs → 1 ≤ length (filter (λ x. same_role x.role role.Identifier) xs ++ filter (λ x. same_role x.role role.Measure) xs ++ filter (λ x. same_role x.role role.Attribute) xs)
+some_columns [] h = absurd (omega arith)
+some_columns (x ∷ xs) h = some_of_roles x (filter (λ y. same_role y.role role.Identifier) xs) (filter (λ y. same_role y.role role.Measure) xs) (filter (λ y. same_role y.role role.Attribute) xs) x.role
+
+pub some_table_columns : (s : Structure) (columns : List Column) (xs : List Component) → 1 ≤ length s.components → xs ≡ columns_of s → columns ≡ map column_for xs → 0 < length columns
+some_table_columns s columns xs h e f =
+    let some = some_columns s.components h in
+    let l = ap length f ∙ length-map xs column_for ∙ ap length e in
+    omega (arith, some, l)
+
+pub few_keys : (s : Structure) → key_width s ≤ length (columns_of s)
+few_keys s =
+    let l = length-append (of_role role.Identifier s ++ of_role role.Measure s) (of_role role.Attribute s) in
+    let m = length-append (of_role role.Identifier s) (of_role role.Measure s) in
+    omega (arith, l, m)
+
+pub kinds_of_columns : (xs : List Component) → column_kinds (map column_for xs) ≡ map (λ x. x.kind) xs
+kinds_of_columns [] = refl
+kinds_of_columns (x ∷ xs) = ap (λ l. x.kind ∷ l) (kinds_of_columns xs)
+
+-- ---- columns that are chosen by their names
+abbrev column_with : List ℕ → Kind → Column
+column_with name kind = record { name = name; kind = kind }
+
+column_there : (place : ℕ) (name : List ℕ) (kind : Kind) (xs : List Component) → IsColumnAt place name kind xs → (place < length xs) × (column_at (map column_for xs) place ≡ column_with name kind)
+column_there place name kind [] h = absurd h
+column_there zero name kind (x ∷ xs) h = (omega arith, ap (λ n. column_with n x.kind) h.0 ∙ ap (column_with name) h.1)
+column_there (suc place) name kind (x ∷ xs) h = let rest = column_there place name kind xs h in (let l = rest.0 in omega (arith, l), rest.1)
+
+pub chosen_columns : (xs ys : List Component) → AreAmong ys xs → map (column_at (map column_for xs)) (places_in xs ys) ≡ map column_for ys
+chosen_columns xs [] all = refl
+chosen_columns xs (y ∷ ys) all =
+    ap (λ (c : Column). c ∷ map (column_at (map column_for xs)) (places_in xs ys)) (column_there (place_of y.name xs) y.name y.kind xs all.0).1
+    ∙ ap (λ (l : List Column). column_for y ∷ l) (chosen_columns xs ys all.1)
+
+all_below : (n : ℕ) (is : List ℕ) → AllByRecursion (λ i. i < n) is → All (λ i. i < n) is
+all_below n [] all k d h = absurd (omega arith)
+all_below n (i ∷ is) all zero d h = all.0
+all_below n (i ∷ is) all (suc k) d h = all_below n is all.1 k d (omega arith)
+
+places_within : (xs ys : List Component) → AreAmong ys xs → AllByRecursion (λ i. i < length xs) (places_in xs ys)
+places_within xs [] all = tt
+places_within xs (y ∷ ys) all = ((column_there (place_of y.name xs) y.name y.kind xs all.0).0, places_within xs ys all.1)
+
+pub all_within : (xs ys : List Component) (places : List ℕ) (n : ℕ) → AreAmong ys xs → places ≡ places_in xs ys → n ≡ length xs → All (λ i. i < n) places
+all_within xs ys places n all e l = rw (e, l) (all_below (length xs) (places_in xs ys) (places_within xs ys all))

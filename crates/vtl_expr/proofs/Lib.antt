@@ -1,0 +1,5 @@
+pub mod ColumnLemmas
+pub mod FindingLemmas
+pub mod MeasureLemmas
+pub mod PointLemmas
+pub mod TableLemmas

@@ -1,0 +1,80 @@
+-- Points that are made one after the other, and the faults of their values.
+use Rattle.std.proofs.Common.{◌≡◌, ℕ, zero, suc, ◌+◌, ◌<◌, List, [], ◌∷◌, ◌++◌, Bool, true, length, map, take, get_or, Option, Some, None, Result, Ok, Err, refl, sym, ap, ◌∙◌, subst, arith}
+use Rattle.std.specs.List.{AllByRecursion, flat_map}
+use Rattle.std.specs.Prelude.{IfOk}
+use Rattle.std.proofs.lemmas.Grind.{flat_map-append}
+use Rattle.std.proofs.lemmas.List.{append-nil, map_more, map-append, take_more}
+use Rattle.vtl_decimal.specs.Settings.{Settings}
+use Rattle.vtl_cell.specs.declared.cell.Cell.{Cell}
+use Rattle.vtl_cell.specs.Outcome.{Fault, DivZero, Range, Outcome, fault_in, faults_by, join, unless}
+use Rattle.vtl_cell.specs.Row.{Row}
+use Rattle.vtl_rows.specs.Tables.{Listed, fits, fits_kinds}
+use Rattle.vtl_scalar.specs.Answers.{Answers, AnswersBy}
+use Rattle.vtl_scalar.specs.declared.error.ScalarErr.{ScalarErr}
+use Rattle.vtl_scalar.specs.declared.error.ScalarErr.TheVariants as err
+use Rattle.vtl_tree.specs.CompExp.{CompExp}
+use Rattle.vtl_tree.specs.DataSet.{IsDataSet, is_point}
+use Rattle.vtl_tree.specs.Value.{value}
+use Rattle.vtl_tree.specs.View.{comp_exp_of}
+use Rattle.vtl_tree.specs.declared.expression.CompExpr.{CompExpr}
+use Rattle.vtl_tree.specs.declared.structure.Component.{Component}
+use Rattle.vtl_tree.specs.declared.structure.Structure.{Structure}
+use Rattle.vtl_tree.proofs.Faults.{faults_by-append, join_none}
+use Rattle.vtl_csv.specs.TableText.{IsTableOf, column_for, table_columns}
+use Rattle.vtl_meaning.specs.Made.{AreFor}
+use Rattle.vtl_meaning.specs.Points.{cell_or_null, point_fault, point_of}
+use Rattle.vtl_meaning.proofs.Kept.{values_fit}
+use Rattle.vtl_expr.proofs.ColumnLemmas.{kinds_of_columns}
+
+-- ---- one more value
+pub values_more : (p : Settings) (es : List CompExpr) (i : ℕ) (e : CompExpr) (r : Row) → i < length es → e ≡ get_or es i e → point_of p (map comp_exp_of (take (i + 1) es)) r ≡ point_of p (map comp_exp_of (take i es)) r ++ cell_or_null (value p (comp_exp_of e) r) ∷ []
+values_more p es i e r h at =
+    let f : CompExp → Cell = λ x. cell_or_null (value p x r) in
+    ap (map f) (map_more comp_exp_of es i e h) ∙ map-append f (map comp_exp_of (take i es)) (comp_exp_of (get_or es i e) ∷ [])
+    ∙ ap (λ x. map f (map comp_exp_of (take i es)) ++ f (comp_exp_of x) ∷ []) (sym at)
+
+pub fault_more : (p : Settings) (es : List CompExpr) (i : ℕ) (e : CompExpr) (r : Row) → i < length es → e ≡ get_or es i e → point_fault p (map comp_exp_of (take (i + 1) es)) r ≡ join (point_fault p (map comp_exp_of (take i es)) r) (fault_in (value p (comp_exp_of e) r))
+fault_more p es i e r h at =
+    let f : CompExp → Option Fault = λ x. fault_in (value p x r) in
+    let before = faults_by f (map comp_exp_of (take i es)) in
+    ap (faults_by f) (map_more comp_exp_of es i e h) ∙ faults_by-append f (map comp_exp_of (take i es)) (comp_exp_of (get_or es i e) ∷ [])
+    ∙ ap (join before) (join_none (f (comp_exp_of (get_or es i e)))) ∙ ap (λ x. join before (f (comp_exp_of x))) (sym at)
+
+-- ---- one more point
+pub rows_more : (f : Row → Row) (rows : List Row) (i : ℕ) (r : Row) → i < length rows → r ≡ get_or rows i r → map f (take (i + 1) rows) ≡ map f (take i rows) ++ f r ∷ []
+rows_more f rows i r h at = map_more f rows i r h ∙ ap (λ x. map f (take i rows) ++ f x ∷ []) (sym at)
+
+pub holds_at : {X : Type 0} (P : X → Type 0) (xs : List X) (i : ℕ) (x : X) → AllByRecursion P xs → i < length xs → x ≡ get_or xs i x → P x
+holds_at P [] i x all h e = absurd (omega arith)
+holds_at P (y ∷ ys) zero x all h e = subst P (sym e) all.0
+holds_at P (y ∷ ys) (suc i) x all h e = holds_at P ys i x all.1 (omega arith) e
+
+pub fitting : (p : Settings) (xs : List Component) (es : List CompExp) (ys : List Component) (r : Row) → AreFor p xs es ys → is_point xs r ≡ true → fits (map column_for ys) (point_of p es r) ≡ true
+fitting p xs es ys r i h = ap (λ ks. fits_kinds ks (point_of p es r)) (kinds_of_columns ys) ∙ values_fit p xs es ys r i h
+
+-- ---- the end of a walk
+seen_by : {A B : Type 0} (view : A → B) (r : Result A ScalarErr) (s : Option Fault) (x : A) → Answers r (unless s x) → AnswersBy view r (unless s (view x))
+seen_by view (Ok z) None x a = let same : x ≡ z = cc in ap (λ w. Ok (view w)) same
+seen_by view (Ok z) (Some f) x a = cc
+seen_by view (Err err.DivZero) None x a = cc
+seen_by view (Err err.DivZero) (Some f) x a = let same : f ≡ DivZero = cc in ap Err same
+seen_by view (Err err.Range) None x a = cc
+seen_by view (Err err.Range) (Some f) x a = let same : f ≡ Range = cc in ap Err same
+seen_by view (Err err.OutOfMemory) s x a = tt
+
+pub finished : {A B : Type 0} (view : A → B) (r : Result A ScalarErr) (s f : Option Fault) (x : A) (y : B) → Answers r (unless s x) → s ≡ f → view x ≡ y → AnswersBy view r (unless f y)
+finished view r s f x y a e g = subst (λ t. AnswersBy view r (unless t y)) e (subst (λ z. AnswersBy view r (unless s z)) g (seen_by view r s x a))
+
+-- ---- points that are drawn from rows
+pub drawn_more : (g : Row → List Row) (rows : List Row) (i : ℕ) (r : Row) → i < length rows → r ≡ get_or rows i r → flat_map g (take (i + 1) rows) ≡ flat_map g (take i rows) ++ g r
+drawn_more g rows i r h at =
+    ap (flat_map g) (take_more rows i r h) ∙ flat_map-append g (take i rows) (get_or rows i r ∷ []) ∙ ap (λ l. flat_map g (take i rows) ++ l) (append-nil (g (get_or rows i r)))
+    ∙ ap (λ x. flat_map g (take i rows) ++ g x) (sym at)
+
+pub drawn_mapped : (f : Row → Row) (g : Row → List Row) (rows old new : List Row) (i : ℕ) (r : Row) → i < length rows → r ≡ get_or rows i r → old ≡ map f (flat_map g (take i rows)) → new ≡ old ++ map f (g r) → new ≡ map f (flat_map g (take (i + 1) rows))
+drawn_mapped f g rows old new i r h at o n =
+    n ∙ ap (λ l. l ++ map f (g r)) o ∙ sym (map-append f (flat_map g (take i rows)) (g r)) ∙ ap (map f) (sym (drawn_more g rows i r h at))
+
+pub drawn_faults : (f : Row → Option Fault) (g : Row → List Row) (rows : List Row) (old new : Option Fault) (i : ℕ) (r : Row) → i < length rows → r ≡ get_or rows i r → old ≡ faults_by f (flat_map g (take i rows)) → new ≡ join old (faults_by f (g r)) → new ≡ faults_by f (flat_map g (take (i + 1) rows))
+drawn_faults f g rows old new i r h at o n =
+    n ∙ ap (λ s. join s (faults_by f (g r))) o ∙ sym (faults_by-append f (flat_map g (take i rows)) (g r)) ∙ ap (faults_by f) (sym (drawn_more g rows i r h at))

@@ -1,0 +1,4 @@
+pub mod Choices
+pub mod DataSets
+pub mod Partners
+pub mod Sides

@@ -1,0 +1,116 @@
+// Expressions that are made from columns and other expressions.
+ghost use Rattle.std.specs.Prelude.{◌≡◌, ◌++◌, ◌∷◌, [], length, map, IfOk, OnOk};
+ghost use Rattle.vtl_tree.specs.Shown.{shown};
+ghost use Rattle.vtl_tree.specs.Structure.{columns_of};
+ghost use Rattle.vtl_tree.specs.View.{comp_exp_of};
+ghost use Rattle.vtl_meaning.specs.Columns.{column_behind, column_named, columns_named};
+
+use crate::columns::{kind_named, place_of};
+use std::alloc::{AllocError, Global};
+use vtl_cell::clone_cell;
+use vtl_text::Txt;
+use vtl_tree::{AggCall, CompExpr, Component, Structure};
+
+fn copied_name(name: &Option<Txt>) -> Result<Option<Txt>, AllocError>
+    ensures { IfOk result (λ copy. copy ≡ name.now) }
+{
+    match name {
+        Some(name) => Ok(Some(name.share()?)),
+        None => Ok(None),
+    }
+}
+
+fn copied_aggregate(call: &AggCall) -> Result<AggCall, AllocError>
+    ensures { IfOk result (λ copy. copy ≡ call.now) }
+{
+    Ok(AggCall {
+        kind: call.kind,
+        component: copied_name(&call.component)?,
+    })
+}
+
+/// An equal expression, whose texts are shared.
+pub fn copied(alloc: Global, e: &CompExpr) -> Result<CompExpr, AllocError>
+    ensures { IfOk result (λ copy. comp_exp_of copy ≡ comp_exp_of e.now) }
+{
+    match e {
+        CompExpr::Column { place, name, kind } => Ok(CompExpr::Column {
+            place: *place,
+            name: name.share()?,
+            kind: *kind,
+        }),
+        CompExpr::Const(value) => Ok(CompExpr::Const(clone_cell(value)?)),
+        CompExpr::Aggregate { call, kind } => Ok(CompExpr::Aggregate {
+            call: copied_aggregate(call)?,
+            kind: *kind,
+        }),
+        CompExpr::Apply { op, kind, args } => {
+            let mut copies = Vec::with_capacity(alloc, args.len())?;
+            for arg in args {
+                copies.push(copied(alloc, arg)?)?;
+            }
+            Ok(CompExpr::Apply {
+                op: *op,
+                kind: *kind,
+                args: copies,
+            })
+        }
+    }
+}
+
+// Puts equal expressions behind others.
+pub(crate) fn push_copies(
+    alloc: Global,
+    out: &mut Vec<CompExpr>,
+    exps: &[CompExpr],
+) -> Result<(), AllocError>
+    ensures { OnOk result (map comp_exp_of out.new.items ≡ map comp_exp_of out.old.items ++ map comp_exp_of exps.now) }
+{
+    for e in exps {
+        out.push(copied(alloc, e)?)?;
+    }
+    Ok(())
+}
+
+// The column of a name as an expression, where so many others stand before these.
+pub(crate) fn column_behind(
+    before: &[&Component],
+    columns: &[&Component],
+    name: &Txt,
+) -> Result<CompExpr, AllocError>
+    ensures { IfOk result (λ e. comp_exp_of e ≡ column_behind (length before.now) (shown columns.now) name.now) }
+{
+    Ok(CompExpr::Column {
+        place: before.len() + place_of(columns, name),
+        name: name.share()?,
+        kind: kind_named(columns, name),
+    })
+}
+
+/// Puts the column of a name, as an expression, behind others.
+pub fn push_column(
+    out: &mut Vec<CompExpr>,
+    columns: &[&Component],
+    name: &Txt,
+) -> Result<(), AllocError>
+    ensures { OnOk result (map comp_exp_of out.new.items ≡ map comp_exp_of out.old.items ++ column_named (shown columns.now) name.now ∷ []) }
+{
+    out.push(column_behind(&[], columns, name)?)?;
+    Ok(())
+}
+
+// The columns of a structure that have the names of others, as expressions.
+pub(crate) fn columns_named(
+    alloc: Global,
+    structure: &Structure,
+    wanted: &[&Component],
+) -> Result<Vec<CompExpr>, AllocError>
+    ensures { IfOk result (λ v. map comp_exp_of v.items ≡ columns_named (columns_of structure.now) (shown wanted.now)) }
+{
+    let columns = structure.columns(alloc)?;
+    let mut exps = Vec::new(alloc);
+    for column in wanted {
+        push_column(&mut exps, &columns, &column.name)?;
+    }
+    Ok(exps)
+}

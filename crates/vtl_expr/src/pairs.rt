@@ -1,0 +1,176 @@
+// An operator on the measures of two data sets.
+ghost use Rattle.std.specs.Prelude.{◌≡◌, ◌<◌, ◌++◌, true, false, map, Some, IfOk, IfErr, OnOk};
+ghost use Rattle.vtl_cell.specs.Outcome.{faults_by, join};
+ghost use Rattle.vtl_cell.specs.Row.{Row};
+ghost use Rattle.vtl_rows.specs.Tables.{fits};
+ghost use Rattle.vtl_scalar.specs.Answers.{Answers, AnswersBy};
+ghost use Rattle.vtl_tree.specs.DataSet.{IsDataSet};
+ghost use Rattle.vtl_tree.specs.Seen.{seen_of};
+ghost use Rattle.vtl_tree.specs.Structure.{IsStructure, columns_of};
+ghost use Rattle.vtl_tree.specs.View.{comp_exp_of};
+ghost use Rattle.vtl_csv.specs.TableText.{table_columns};
+ghost use Rattle.vtl_shapes.specs.Pairs.{contains};
+ghost use Rattle.vtl_meaning.specs.Made.{AreFor, IsPaired};
+ghost use Rattle.vtl_meaning.specs.Operators.{pair_of};
+ghost use Rattle.vtl_meaning.specs.Points.{each_point, paired, point_fault, point_of};
+ghost use Rattle.vtl_expr.specs.DataSets.{with_structure};
+ghost use Rattle.vtl_expr.specs.Partners.{found, with_found};
+
+use crate::DataSet;
+use crate::namesakes::{Side, namesake_exps};
+use crate::partners::Partners;
+use crate::places::push_row;
+use crate::points::Points;
+use std::alloc::{AllocError, Global};
+use std::marker::Brand;
+use std::sync::ledger::{Blank, Ledger};
+use vtl_cell::{Cell, ScalarOp};
+use vtl_decimal::Profile;
+use vtl_index::Steps;
+use vtl_rows::Table;
+use vtl_scalar::ScalarErr;
+use vtl_shapes::contains;
+use vtl_tree::{CompExpr, Structure};
+
+// The cells of a row, and behind them those of its partner.
+fn beside(alloc: Global, row: &[Cell], partner: &[Cell]) -> Result<Vec<Cell>, AllocError>
+    ensures { IfOk result (λ v. v.items ≡ row.now ++ partner.now) }
+{
+    let mut cells = Vec::with_capacity(alloc, row.len().saturating_add(partner.len()))?;
+    push_row(&mut cells, row)?;
+    push_row(&mut cells, partner)?;
+    Ok(cells)
+}
+
+// Adds the point of a row and its partner, where it has one.
+fn push_pair<L: Ledger>(
+    alloc: Global,
+    points: &mut Points,
+    exps: &[CompExpr],
+    partners: &Partners<'_>,
+    row: &[Cell],
+    p: &Profile,
+    steps: &mut Steps<L>,
+) -> Result<(), ScalarErr>
+    requires { (q : Row) → found partners.now row.now ≡ Some q → fits points.old.table.columns (point_of p.now (map comp_exp_of exps.now) (row.now ++ q)) ≡ true }
+    ensures columns { points.new.table.columns ≡ points.old.table.columns }
+    ensures rows { OnOk result (points.new.table.rows ≡ points.old.table.rows ++ map (point_of p.now (map comp_exp_of exps.now)) (with_found (λ r q. r ++ q) partners.now row.now)) }
+    ensures seen { OnOk result (seen_of points.new.seen ≡ join (seen_of points.old.seen) (faults_by (point_fault p.now (map comp_exp_of exps.now)) (with_found (λ r q. r ++ q) partners.now row.now))) }
+    ensures err { IfErr result (λ e. e ≡ ScalarErr.OutOfMemory) }
+{
+    match partners.find(alloc, row, steps)? {
+        Some(partner) => points.push(alloc, exps, &beside(alloc, row, partner)?, p),
+        None => Ok(()),
+    }
+}
+
+// The table of the values of expressions at each pair of points.
+fn each_pair<L: Ledger>(
+    alloc: Global,
+    exps: &[CompExpr],
+    lead: &DataSet,
+    other: &DataSet,
+    made: &Structure,
+    p: &Profile,
+    blank: Blank,
+) -> Result<Table, ScalarErr>
+    requires name { blank.name ≡ L.name }
+    requires parts { blank.parts ≡ L.parts }
+    requires some { 0 < L.parts }
+    requires structure { IsStructure made.now }
+    requires other { IsDataSet other.now.structure other.now.points }
+    requires expressions { AreFor p.now (columns_of lead.now.structure ++ columns_of other.now.structure) (map comp_exp_of exps.now) (columns_of made.now) }
+    ensures columns { IfOk result (λ t. t.columns ≡ table_columns made.now) }
+    ensures rows { AnswersBy (λ t. t.rows) result (each_point p.now (map comp_exp_of exps.now) (paired lead.now.structure other.now.structure lead.now.points other.now.points)) }
+{
+    let mut steps: Steps<L> = Steps::new(blank);
+    let partners = Partners::of(alloc, lead.structure(), other, &mut steps)?;
+    let mut points = Points::new(alloc, made)?;
+    let table = lead.table();
+    for i in 0..table.len() {
+        let row = table.row(i);
+        push_pair(alloc, &mut points, exps, &partners, row, p, &mut steps)?;
+    }
+    points.finish()
+}
+
+// The left operand has all identifiers of the right one.
+fn left_leads(
+    alloc: Global,
+    op: ScalarOp,
+    a: &DataSet,
+    b: &DataSet,
+    made: &Structure,
+    p: &Profile,
+) -> Result<Table, ScalarErr>
+    requires leads { contains a.now.structure b.now.structure ≡ true }
+    requires made { IsPaired p.now op a.now.structure b.now.structure made.now }
+    ensures columns { IfOk result (λ t. t.columns ≡ table_columns made.now) }
+    ensures rows { AnswersBy (λ t. t.rows) result (pair_of p.now op a.now.structure b.now.structure made.now a.now.points b.now.points) }
+{
+    let ours = a.structure();
+    let theirs = b.structure();
+    let left = Side::leading(alloc, ours)?;
+    let right = Side::behind(alloc, ours, theirs)?;
+    let exps = namesake_exps(alloc, op, ours, &left, &right, ours, made)?;
+    each_pair::<Brand>(alloc, &exps, a, b, made, p, Blank::new(1))
+}
+
+// The right operand has all identifiers of the left one, and more.
+fn right_leads(
+    alloc: Global,
+    op: ScalarOp,
+    a: &DataSet,
+    b: &DataSet,
+    made: &Structure,
+    p: &Profile,
+) -> Result<Table, ScalarErr>
+    requires leads { contains a.now.structure b.now.structure ≡ false }
+    requires made { IsPaired p.now op a.now.structure b.now.structure made.now }
+    ensures columns { IfOk result (λ t. t.columns ≡ table_columns made.now) }
+    ensures rows { AnswersBy (λ t. t.rows) result (pair_of p.now op a.now.structure b.now.structure made.now a.now.points b.now.points) }
+{
+    let ours = a.structure();
+    let theirs = b.structure();
+    let left = Side::behind(alloc, theirs, ours)?;
+    let right = Side::leading(alloc, theirs)?;
+    let exps = namesake_exps(alloc, op, theirs, &left, &right, ours, made)?;
+    each_pair::<Brand>(alloc, &exps, b, a, made, p, Blank::new(1))
+}
+
+fn pair_table(
+    alloc: Global,
+    op: ScalarOp,
+    a: &DataSet,
+    b: &DataSet,
+    made: &Structure,
+    p: &Profile,
+) -> Result<Table, ScalarErr>
+    requires { IsPaired p.now op a.now.structure b.now.structure made.now }
+    ensures columns { IfOk result (λ t. t.columns ≡ table_columns made.now) }
+    ensures rows { AnswersBy (λ t. t.rows) result (pair_of p.now op a.now.structure b.now.structure made.now a.now.points b.now.points) }
+{
+    if contains(a.structure(), b.structure()) {
+        left_leads(alloc, op, a, b, made, p)
+    } else {
+        right_leads(alloc, op, a, b, made, p)
+    }
+}
+
+/// The operator's value at each measure and its namesake, for each two points that agree on the common identifiers, as a
+/// data set of the structure that typing gives. One operand has all identifiers of the other. The answer is DivZero where
+/// any value divides by zero, else Range where any is out of range, else it fails only for want of memory.
+pub fn pair_measures(
+    alloc: Global,
+    op: ScalarOp,
+    a: &DataSet,
+    b: &DataSet,
+    made: Structure,
+    p: &Profile,
+) -> Result<DataSet, ScalarErr>
+    requires { IsPaired p.now op a.now.structure b.now.structure made }
+    ensures { Answers result (with_structure made (pair_of p.now op a.now.structure b.now.structure made a.now.points b.now.points)) }
+{
+    let table = pair_table(alloc, op, a, b, &made, p);
+    DataSet::answered(made, table)
+}
