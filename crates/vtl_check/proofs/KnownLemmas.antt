@@ -37,6 +37,14 @@ pub one_more : (xs : Named) (i : ℕ) (name : List ℕ) (s : Structure) → slic
 one_more xs i name s e =
     sym (take_more xs i (name, s) (slice_get_within xs i (name, s) e) ∙ ap (λ x. take i xs ++ x ∷ []) (get_or_from_slice_get xs i (name, s) (name, s) e))
 
+-- one more name
+pub name_more : (xs : Named) (i : ℕ) (name : List ℕ) (s : Structure) → slice_get xs i ≡ Some (name, s) → keys_of (take i xs) ++ name ∷ [] ≡ keys_of (take (i + 1) xs)
+name_more xs i name s e =
+    let at : slice_get (keys_of xs) i ≡ Some name = slice_get-map (λ e. e.0) xs i ∙ ap (option_map (λ e. e.0)) e in
+    ap (λ ns. ns ++ name ∷ []) (sym (take-map (λ e. e.0) i xs))
+    ∙ sym (take_more (keys_of xs) i name (slice_get_within (keys_of xs) i name at) ∙ ap (λ x. take i (keys_of xs) ++ x ∷ []) (get_or_from_slice_get (keys_of xs) i name name at))
+    ∙ take-map (λ e. e.0) (i + 1) xs
+
 -- what holds of an answer that is no error implies more
 pub on_ok : {T E P Q : Type 0} (r : Result T E) → OnOk r P → (P → Q) → OnOk r Q
 on_ok (Ok x) p f = f p

@@ -1,7 +1,7 @@
 // The data sets that a typed script reads, and those that it gives.
 ghost use Rattle.std.specs.Map.{keys_of};
 ghost use Rattle.std.specs.Option.{option_copied};
-ghost use Rattle.std.specs.Prelude.{◌≡◌, ◌++◌, IfOk, OnOk, length, map};
+ghost use Rattle.std.specs.Prelude.{◌≡◌, ◌<◌, ◌++◌, IfOk, OnOk, Some, length, map, slice_get};
 ghost use Rattle.vtl_nodes.specs.View.{node_tree};
 ghost use Rattle.vtl_syntax.specs.View.{statement_tree};
 ghost use Rattle.vtl_check.specs.Uses.{output_in, outputs_in, reads, results_behind, with_declared, with_new};
@@ -73,12 +73,21 @@ fn reads(
     Ok(known)
 }
 
+fn entry(known: &IndexMap<Txt, Structure>, i: usize) -> (&Txt, &Structure)
+    requires { i < length known.now.entries }
+    ensures { slice_get known.now.entries i ≡ Some (result.0.now, result.1.now) }
+{
+    known.get_index(i).unwrap()
+}
+
 // The names of data sets, in order.
+#[tactic(auto, using(crate::proofs::KnownLemmas::name_more))]
 fn names_by_place(alloc: Global, known: &IndexMap<Txt, Structure>) -> Result<Vec<Txt>, AllocError>
     ensures { IfOk result (λ v. v.items ≡ keys_of known.now.entries) }
 {
     let mut names = Vec::new(alloc);
-    for name in known.keys() {
+    for i in 0..known.len() {
+        let (name, _) = entry(known, i);
         names.push(name.share()?)?;
     }
     Ok(names)

@@ -130,14 +130,15 @@ given_by given k.Period b = given.period
 abbrev pub of_two : ScalarOp → Gives
 of_two o a b = kinds_of o (a ∷ b ∷ [])
 
--- What an operator gives of measures between values: they meet its row but for literals (7), and with the literals (8).
+-- The structure of measures that meet an operator's row but for literals (7), and with the literals (8).
+abbrev pub structure_by : Outcome → (counted given : Gives) → (literals : Bool) → List Component → Result Structure ℕ
+structure_by o counted given literals xs =
+    ruled ((7, any_unmet counted None xs) ∷ (8, any_unmet given None xs) ∷ []) (tt {0})
+    >>= λ u. measured_form o given literals choice.Except [] xs
+
+-- what an operator gives of measures between values
 abbrev pub given_structure : ScalarOp → (literals : Bool) → List CompExp → List CompExp → List Component → Result Structure ℕ
-given_structure o literals before after xs =
-    ruled
-    ((7, any_unmet (by_operands o before after) None xs)
-    ∷ (8, any_unmet (between_values o before after) None xs) ∷ [])
-    (tt {0})
-    >>= λ u. measured_form (outcome_of o) (between_values o before after) literals choice.Except [] xs
+given_structure o literals before after xs = structure_by (outcome_of o) (by_operands o before after) (between_values o before after) literals xs
 
 unfoldable pub on_measures : ScalarOp → (literals : Bool) → List CompExp → NodeTree → List CompExp → Result TypedTree ℕ
 on_measures o literals before a after =

@@ -3,11 +3,11 @@ ghost use Rattle.std.specs.Prelude.{◌≡◌, ◌≢◌, ◌++◌, ◌∷◌, [
 ghost use Rattle.vtl_rule_tests.specs.Answers.{Answers};
 ghost use Rattle.vtl_tree.specs.CompExp.{const};
 ghost use Rattle.vtl_tree.specs.View.{comp_exp_of};
-ghost use Rattle.vtl_forms.specs.Operators.{given_structure, membership, on_choice, on_datasets, on_measures, on_operands, on_pair, on_values, operator_form, parted_view, set_form};
+ghost use Rattle.vtl_forms.specs.Operators.{given_by, given_structure, membership, on_choice, on_datasets, on_measures, on_operands, on_pair, on_values, operator_form, parted_view, set_form, structure_by};
 ghost use Rattle.vtl_forms.specs.Typed.{boxed_tree, typed_tree, typed_trees, value};
 
 use crate::operands::{Parted, part};
-use crate::operator_kinds::{OfTwo, between_kinds};
+use crate::operator_kinds::{GivenKinds, OfTwo, between_kinds};
 use crate::placing::{is_binary, is_choice, misplaced_rule, outcome_of, takes_dataset};
 use crate::typed::made_of;
 use crate::{Place, Typed};
@@ -16,13 +16,38 @@ use vtl_cell::{Cell, ScalarOp};
 use vtl_decimal::Profile;
 use vtl_nodes::{MeasureOp, Node, NodeForm};
 use vtl_rule_tests::{TypeErr, broken};
-use vtl_shapes::{Choice, any_unmet, choose_by, measured, pair};
+use vtl_shapes::{Choice, Outcome, any_unmet, choose_by, measured, pair};
 use vtl_syntax::Literal;
 use vtl_text::List;
 use vtl_tree::{CompExpr, Structure};
 use vtl_typing::{call, counted_kinds, kinds_in, set as set_members};
 
-// What an operator gives of the measures of a structure between values.
+// What an operator gives of the measures of a structure, by the kinds that it gives of them.
+fn structure_by(
+    alloc: Global,
+    outcome: Outcome,
+    by_operands: &GivenKinds,
+    given: &GivenKinds,
+    literals: bool,
+    structure: &Structure,
+) -> Result<Structure, TypeErr>
+    ensures { Answers (λ s. s) result (structure_by outcome (given_by by_operands.now) (given_by given.now) literals structure.now.components) }
+{
+    let components = structure.components.as_slice();
+    broken(7, any_unmet(by_operands, None, components))?;
+    broken(8, any_unmet(given, None, components))?;
+    measured(
+        alloc,
+        outcome,
+        given,
+        literals,
+        Choice::Except,
+        &[],
+        structure,
+    )
+}
+
+// The same between values.
 fn measures_structure(
     alloc: Global,
     op: ScalarOp,
@@ -38,16 +63,12 @@ fn measures_structure(
     let counted = counted_kinds(alloc, op, &after)?;
     let by_operands = between_kinds(alloc, op, &before, &counted)?;
     let given = between_kinds(alloc, op, &before, &after)?;
-    let components = structure.components.as_slice();
-    broken(7, any_unmet(&by_operands, None, components))?;
-    broken(8, any_unmet(&given, None, components))?;
-    measured(
+    structure_by(
         alloc,
         outcome_of(op),
+        &by_operands,
         &given,
         literals,
-        Choice::Except,
-        &[],
         structure,
     )
 }

@@ -1,5 +1,5 @@
 -- The operators keep what makes a data set: widths, kinds and keys.
-use Rattle.std.proofs.Common.{◌≡◌, ℕ, zero, suc, ◌≤◌, Bool, true, false, not, cond, ◌&&◌, ◌||◌, List, [], ◌∷◌, ◌++◌, length, map, take, Option, Some, None, Ok, Err, ◌⊎◌, inl, inr, refl, sym, ap, ◌∙◌, subst, arith, true≢false, length-append}
+use Rattle.std.proofs.Common.{◌≡◌, ℕ, zero, suc, ◌<◌, ◌≤◌, Bool, true, false, not, cond, ◌&&◌, ◌||◌, List, [], ◌∷◌, ◌++◌, length, map, take, Option, Some, None, Ok, Err, ◌⊎◌, inl, inr, refl, sym, ap, ◌∙◌, subst, arith, true≢false, length-append}
 use Rattle.std.specs.List.{AllByRecursion, filter, list_all, list_any}
 use Rattle.std.specs.Map.{lookup}
 use Rattle.std.specs.Option.{option_map_or}
@@ -33,13 +33,13 @@ use Rattle.vtl_nodes.specs.Trees.{FormTree, ItemTree, MeasureTree, NodeTree, str
 use Rattle.vtl_nodes.specs.declared.clauses.SubItem.{SubItem}
 use Rattle.vtl_shapes.specs.Pairs.{contains}
 use Rattle.vtl_typing.specs.Kinds.{exp_kind}
-use Rattle.vtl_meaning.specs.Columns.{column_behind, column_named, columns_named, identifiers_of, measures_of, place_of, places_in}
+use Rattle.vtl_meaning.specs.Columns.{column_behind, column_named, columns_named, identifiers_of, measures_of, others_of, place_of, places_in}
 use Rattle.vtl_meaning.specs.Made.{AreAmong, AreFor, HasIdentifiers, IsAlternative, IsCalculated, IsChoice, IsColumnAt, IsFiltered, IsLeft, IsMade, IsMadeForm, IsMeasured, IsPaired, IsRenamed, IsSub}
 use Rattle.vtl_meaning.specs.Meaning.{AreDataSets, form_value, is_built, is_built_form, known_in, node_value, points_named}
-use Rattle.vtl_meaning.specs.Operators.{calculated_exp, calculated_exps, calculated_of, choice_of, for_measures, has_values, is_first_chosen, joined_point, left_of, measured_exps, measured_of, pair_columns, pair_exps, pair_of, pairs_of, sub_of, taken_at, taken_from, target_named, with_measure, with_namesake}
+use Rattle.vtl_meaning.specs.Operators.{calculated_exp, calculated_exps, calculated_of, choice_of, for_measures, has_values, is_first_chosen, joined_point, left_of, measured_of, pair_of, sub_of, taken_at, taken_from, target_named, value_exp, with_measure, with_namesake}
 use Rattle.vtl_meaning.specs.Points.{beside, cell_or_null, each_point, paired, partner, point_fault, point_of}
 use Rattle.vtl_meaning.proofs.Drawn.{AreDrawn, AtMostOne, Keeps, drawn_all, drawn_apart, drawn_kept, map_drawn, mapped_kept, one_of_option, same_keys_back}
-use Rattle.vtl_meaning.proofs.Places.{IsIdentifier, IsOther, all_back, all_filtered, all_map, all_more, are_identifiers, are_measures, are_others, cells_fit, columns_split, joined_point_is, key_cells, key_for, key_of_joined, key_of_point, key_within, others_of, place_here, place_later, point_append, point_of_same, same_name-is, same_name-sym}
+use Rattle.vtl_meaning.proofs.Places.{IsIdentifier, IsOther, all_back, all_filtered, all_map, all_more, are_identifiers, are_measures, are_others, cells_fit, columns_split, joined_point_is, key_cells, key_for, key_of_joined, key_of_point, key_within, place_here, place_later, point_append, point_of_same, same_name-is, same_name-sym}
 use Rattle.vtl_meaning.proofs.ValueKinds.{GivesOf, IsOf, cell_is_of, null_is_of, point_from, point_parts, value_is_of}
 
 -- ---- outcomes
@@ -67,7 +67,7 @@ values_fit p xs (e ∷ es) (y ∷ ys) r i h =
     let one : IsOf y.kind (cell_or_null (value p e r)) = subst (λ z. IsOf z (cell_or_null (value p e r))) i.1 (given_or_null (exp_kind e) (value p e r) (value_is_of p xs e r i.0 h)) in
     rw one (values_fit p xs es ys r i.2 h)
 
-for_back : (p : Settings) (xs : List Component) (es fs : List CompExp) (ys zs : List Component) → length es ≡ length ys → AreFor p xs (es ++ fs) (ys ++ zs) → AreFor p xs fs zs
+pub for_back : (p : Settings) (xs : List Component) (es fs : List CompExp) (ys zs : List Component) → length es ≡ length ys → AreFor p xs (es ++ fs) (ys ++ zs) → AreFor p xs fs zs
 for_back p xs [] fs [] zs e i = i
 for_back p xs [] fs (y ∷ ys) zs e i = absurd (omega (arith, e))
 for_back p xs (x ∷ es) fs [] zs e i = absurd (omega (arith, e))
@@ -83,7 +83,7 @@ exps_split p a s rest r w h l =
     map-append (λ e. cell_or_null (value p e r)) (columns_named (columns_of a) (identifiers_of s)) rest
     ∙ ap (λ k. k ++ point_of p rest r) (columns_point p (columns_of a) (identifiers_of s) r ∙ key_cells a s r w h l)
 
-exps_keep : (p : Settings) (xs : List Component) (a s : Structure) (rest : List CompExp) (r : Row) → IsStructure a → HasIdentifiers s (identifiers_of a) → AreFor p xs (columns_named (columns_of a) (identifiers_of s) ++ rest) (columns_of s) → is_point xs r ≡ true → key_width a ≤ length r → is_point (identifiers_of a) (take (key_width a) r) ≡ true → Keeps s (key_width a) r (point_of p (columns_named (columns_of a) (identifiers_of s) ++ rest) r)
+pub exps_keep : (p : Settings) (xs : List Component) (a s : Structure) (rest : List CompExp) (r : Row) → IsStructure a → HasIdentifiers s (identifiers_of a) → AreFor p xs (columns_named (columns_of a) (identifiers_of s) ++ rest) (columns_of s) → is_point xs r ≡ true → key_width a ≤ length r → is_point (identifiers_of a) (take (key_width a) r) ≡ true → Keeps s (key_width a) r (point_of p (columns_named (columns_of a) (identifiers_of s) ++ rest) r)
 exps_keep p xs a s rest r w h i j l k =
     let own = key_for s a (take (key_width a) r) h k in
     let as_many : length (columns_named (columns_of a) (identifiers_of s)) ≡ length (identifiers_of s) = length-map (identifiers_of s) (λ y. column_named (columns_of a) y.name) in
@@ -106,7 +106,7 @@ measured_kept p m a s d out i h e = each_kept p a s (for_measures (with_measure 
 -- ---- `calc`
 calc_front : (items : List ItemTree) (xs ys : List Component) → AllByRecursion (λ n. target_named items n ≡ None) (names_of ys) → map (calculated_exp items xs) ys ≡ columns_named xs ys
 calc_front items xs [] all = refl
-calc_front items xs (y ∷ ys) all = ap (λ o. option_map_or (λ i. Rattle.vtl_meaning.specs.Operators.value_exp i.value) o (column_named xs y.name) ∷ map (calculated_exp items xs) ys) all.0 ∙ ap (λ l. column_named xs y.name ∷ l) (calc_front items xs ys all.1)
+calc_front items xs (y ∷ ys) all = ap (λ o. option_map_or (λ i. value_exp i.value) o (column_named xs y.name) ∷ map (calculated_exp items xs) ys) all.0 ∙ ap (λ l. column_named xs y.name ∷ l) (calc_front items xs ys all.1)
 
 -- the identifiers stay as they are
 pub calculated_split : (p : Settings) (items : List ItemTree) (a s : Structure) → IsCalculated p items a s → calculated_exps items a s ≡ columns_named (columns_of a) (identifiers_of s) ++ map (calculated_exp items (columns_of a)) (others_of s)
@@ -133,17 +133,17 @@ look_is P n (r ∷ d) k q all e = go (same_row (take n r) k) e (look_is P n d k 
     go false h ih = ih h
 
 -- a pair of points of these structures, which begins with the first one
-abbrev Pairs : Structure → Structure → Row → Row → Type 0
+abbrev pub Pairs : Structure → Structure → Row → Row → Type 0
 Pairs a b r x = (is_point (columns_of a ++ columns_of b) x ≡ true) × (key_width a ≤ length x) × (is_point (identifiers_of a) (take (key_width a) x) ≡ true) × (take (key_width a) x ≡ take (key_width a) r)
 
-pairs_with : (a b : Structure) (r q : Row) → is_point (columns_of a) r ≡ true → is_point (columns_of b) q ≡ true → Pairs a b r (r ++ q)
+pub pairs_with : (a b : Structure) (r q : Row) → is_point (columns_of a) r ≡ true → is_point (columns_of b) q ≡ true → Pairs a b r (r ++ q)
 pairs_with a b r q h i =
     let l = key_within a r h in
     let longer : key_width a ≤ length (r ++ q) = let both = length-append r q in omega (arith, l, both) in
     let front : take (key_width a) (r ++ q) ≡ take (key_width a) r = take-append-le (key_width a) r q l in
     (point_append (columns_of a) (columns_of b) r q h i, longer, subst (λ k. is_point (identifiers_of a) k ≡ true) (sym front) (key_of_point a r h), front)
 
-all_paired : (a b : Structure) (d e : List Row) → AllByRecursion (λ r. is_point (columns_of a) r ≡ true) d → AllByRecursion (λ q. is_point (columns_of b) q ≡ true) e → AreDrawn (Pairs a b) (beside a b e) d
+pub all_paired : (a b : Structure) (d e : List Row) → AllByRecursion (λ r. is_point (columns_of a) r ≡ true) d → AllByRecursion (λ q. is_point (columns_of b) q ≡ true) e → AreDrawn (Pairs a b) (beside a b e) d
 all_paired a b d e h i =
     all_more (λ r. is_point (columns_of a) r ≡ true) (λ r. AtMostOne (Pairs a b r) (beside a b e r))
     (λ r j. one_of_option (Pairs a b r) (λ q. r ++ q) (partner a b e r)
@@ -178,7 +178,7 @@ pair_kept p o a b s d e out i h k q = go (contains a b) i.identifiers i.columns 
     go false f g u = pair_side p b a s right e d out i.well_formed k h f g u
 
 -- ---- `if`
-joined_keeps : (t other s : Structure) (r q : Row) → IsStructure t → HasIdentifiers s (identifiers_of t) → columns_of s ≡ identifiers_of s ++ measures_of s → AreAmong (measures_of s) (columns_of other) → is_point (columns_of t) r ≡ true → is_point (columns_of other) q ≡ true → Keeps s (key_width t) r (joined_point t other s r q)
+pub joined_keeps : (t other s : Structure) (r q : Row) → IsStructure t → HasIdentifiers s (identifiers_of t) → columns_of s ≡ identifiers_of s ++ measures_of s → AreAmong (measures_of s) (columns_of other) → is_point (columns_of t) r ≡ true → is_point (columns_of other) q ≡ true → Keeps s (key_width t) r (joined_point t other s r q)
 joined_keeps t other s r q w h n m i j =
     let k = take (key_width t) r in
     let vs = cells_at (places_in (columns_of other) (measures_of s)) q in
@@ -226,7 +226,7 @@ others_fit s xs r i h =
     let P : Component → Type 0 = λ y. IsColumnAt (place_of y.name xs) y.name y.kind xs in
     cells_fit (others_of s) xs r (all_back P (identifiers_of s) (others_of s) (subst (λ ys. AllByRecursion P ys) (columns_split s) i)) h
 
-shown_keeps : (a s : Structure) (r : Row) → IsStructure a → IsLeft a s → is_point (columns_of a) r ≡ true → Keeps s (key_width a) r (cells_at (places_in (columns_of a) (columns_of s)) r)
+pub shown_keeps : (a s : Structure) (r : Row) → IsStructure a → IsLeft a s → is_point (columns_of a) r ≡ true → Keeps s (key_width a) r (cells_at (places_in (columns_of a) (columns_of s)) r)
 shown_keeps a s r w i h =
     let k = take (key_width a) r in
     let vs = cells_at (places_in (columns_of a) (others_of s)) r in
@@ -252,24 +252,32 @@ count_split (x ∷ xs) ys h i = rw h.0 (ap suc (count_split xs ys h.1 i))
 width_by_roles : (s : Structure) → identifier_count (map (λ x. x.role) (columns_of s)) ≡ key_width s
 width_by_roles s = ap (λ xs. identifier_count (map (λ x. x.role) xs)) (columns_split s) ∙ count_split (identifiers_of s) (others_of s) (are_identifiers s) (are_others s)
 
+pub key_widths : (a s : Structure) → IsRenamed a s → key_width s ≡ key_width a
+key_widths a s i = sym (width_by_roles s) ∙ ap identifier_count i.roles ∙ width_by_roles a
+
 pub renamed_kept : (a s : Structure) (d : List Row) → IsRenamed a s → IsDataSet a d → IsDataSet s d
-renamed_kept a s d i h =
-    let width : key_width s ≡ key_width a = sym (width_by_roles s) ∙ ap identifier_count i.roles ∙ width_by_roles a in
-    record {
-      well_formed = i.well_formed;
-      typed = all_more (λ r. is_point (columns_of a) r ≡ true) (λ r. is_point (columns_of s) r ≡ true) (λ r k. point_of_same (columns_of a) (columns_of s) r (sym i.kinds) (sym i.roles) k) d h.typed;
-      distinct = subst (λ n. Distinct n d) (sym width) h.distinct;
-    }
+renamed_kept a s d i h = record {
+  well_formed = i.well_formed;
+  typed = all_more (λ r. is_point (columns_of a) r ≡ true) (λ r. is_point (columns_of s) r ≡ true) (λ r k. point_of_same (columns_of a) (columns_of s) r (sym i.kinds) (sym i.roles) k) d h.typed;
+  distinct = subst (λ n. Distinct n d) (sym (key_widths a s i)) h.distinct;
+}
 
 -- ---- `sub`
 -- a column among the first ones
-pub place_front : (name : List ℕ) (kind : Kind) (xs ys : List Component) → IsColumnAt (place_of name xs) name kind xs → place_of name (xs ++ ys) ≡ place_of name xs
-place_front name kind [] ys i = absurd i
-place_front name kind (x ∷ xs) ys i = go (same_name x.name name) refl (place_front name kind xs ys)
+pub column_within : (place : ℕ) (name : List ℕ) (kind : Kind) (xs : List Component) → IsColumnAt place name kind xs → place < length xs
+column_within place name kind [] i = absurd i
+column_within zero name kind (x ∷ xs) i = omega arith
+column_within (suc place) name kind (x ∷ xs) i = let h = column_within place name kind xs i in omega (arith, h)
+
+pub place_front : (name : List ℕ) (xs ys : List Component) → place_of name xs < length xs → place_of name (xs ++ ys) ≡ place_of name xs
+place_front name [] ys h = absurd (omega (arith, h))
+place_front name (x ∷ xs) ys h = go (same_name x.name name) refl (place_front name xs ys)
   where
-    go : (b : Bool) → same_name x.name name ≡ b → (IsColumnAt (place_of name xs) name kind xs → place_of name (xs ++ ys) ≡ place_of name xs) → place_of name (x ∷ xs ++ ys) ≡ place_of name (x ∷ xs)
+    go : (b : Bool) → same_name x.name name ≡ b → (place_of name xs < length xs → place_of name (xs ++ ys) ≡ place_of name xs) → place_of name (x ∷ xs ++ ys) ≡ place_of name (x ∷ xs)
     go true e ih = place_here name x (xs ++ ys) e ∙ sym (place_here name x xs e)
-    go false e ih = place_later name x (xs ++ ys) e ∙ ap suc (ih (subst (λ n. IsColumnAt n name kind (x ∷ xs)) (place_later name x xs e) i)) ∙ sym (place_later name x xs e)
+    go false e ih =
+        let later = place_later name x xs e in
+        place_later name x (xs ++ ys) e ∙ ap suc (ih (omega (arith, h, later))) ∙ sym later
 
 column_front : (place : ℕ) (name : List ℕ) (kind : Kind) (xs ys : List Component) → IsColumnAt place name kind xs → IsColumnAt place name kind (xs ++ ys)
 column_front place name kind [] ys i = absurd i
@@ -296,19 +304,19 @@ some_identifiers (y ∷ ys) xs others r a b i h =
     let typed : IsOf y.kind v = cell_is_of at y.name y.kind (xs ++ others) r (column_front at y.name y.kind xs others i.0) h in
     let filled : not (same_role y.role role.Identifier && is_null v) ≡ true = ap (λ b. not (b && is_null v)) a.0 ∙ ap not (identifier_filled at y.name y.kind xs others r b i.0 h) in
     let rest = cells_at (places_in (xs ++ others) ys) r in
-    subst (λ n. is_point (y ∷ ys) (column_of n r ∷ rest) ≡ true) (sym (place_front y.name y.kind xs others i.0))
+    subst (λ n. is_point (y ∷ ys) (column_of n r ∷ rest) ≡ true) (sym (place_front y.name xs others (column_within at y.name y.kind xs i.0)))
     (point_from y ys v rest typed filled (some_identifiers ys xs others r a.1 b i.1 h))
 
 -- the value of a column that two rows have alike
 module _ (xs : List Component) (r t : Row) where
-  abbrev Alike : List ℕ → Type 0
+  abbrev pub Alike : List ℕ → Type 0
   Alike name = column_of (place_of name xs) r ≡ column_of (place_of name xs) t
 
-  alike_cells : (ys : List Component) → AllByRecursion (λ y. Alike y.name) ys → cells_at (places_in xs ys) r ≡ cells_at (places_in xs ys) t
+  pub alike_cells : (ys : List Component) → AllByRecursion (λ y. Alike y.name) ys → cells_at (places_in xs ys) r ≡ cells_at (places_in xs ys) t
   alike_cells [] all = refl
   alike_cells (y ∷ ys) all = ap (λ v. v ∷ cells_at (places_in xs ys) r) all.0 ∙ ap (λ l. column_of (place_of y.name xs) t ∷ l) (alike_cells ys all.1)
 
-  alike_by_columns : (ys : List Component) (name : List ℕ) → cells_at (places_in xs ys) r ≡ cells_at (places_in xs ys) t → list_any (λ y. same_name y.name name) ys ≡ true → Alike name
+  pub alike_by_columns : (ys : List Component) (name : List ℕ) → cells_at (places_in xs ys) r ≡ cells_at (places_in xs ys) t → list_any (λ y. same_name y.name name) ys ≡ true → Alike name
   alike_by_columns [] name e h = cc
   alike_by_columns (y ∷ ys) name e h = go (same_name y.name name) refl h (alike_by_columns ys name rest)
     where
@@ -322,7 +330,7 @@ module _ (xs : List Component) (r t : Row) where
       go true f g ih = subst Alike (same_name-is y.name name f) first
       go false f g ih = ih g
 
-  alike_by_values : (items : List SubItem) (name : List ℕ) → list_all (λ i. same_cell (column_of (place_of i.id xs) r) i.value) items ≡ true → list_all (λ i. same_cell (column_of (place_of i.id xs) t) i.value) items ≡ true → list_any (λ i. same_name i.id name) items ≡ true → Alike name
+  pub alike_by_values : (items : List SubItem) (name : List ℕ) → list_all (λ i. same_cell (column_of (place_of i.id xs) r) i.value) items ≡ true → list_all (λ i. same_cell (column_of (place_of i.id xs) t) i.value) items ≡ true → list_any (λ i. same_name i.id name) items ≡ true → Alike name
   alike_by_values [] name e f h = cc
   alike_by_values (i ∷ items) name e f h = go (same_name i.id name) refl h (alike_by_values items name left.1 right.1)
     where
@@ -336,7 +344,7 @@ module _ (xs : List Component) (r t : Row) where
       go true g k ih = subst Alike (same_name-is i.id name g) (same_cell-is (column_of (place_of i.id xs) r) i.value left.0 ∙ sym (same_cell-is (column_of (place_of i.id xs) t) i.value right.0))
       go false g k ih = ih k
 
-one_of : (a b : Bool) → (a || b) ≡ true → (a ≡ true) ⊎ (b ≡ true)
+pub one_of : (a b : Bool) → (a || b) ≡ true → (a ≡ true) ⊎ (b ≡ true)
 one_of true b e = inl refl
 one_of false b e = inr e
 
@@ -375,7 +383,7 @@ module _ (items : List SubItem) (a s : Structure) (w : IsStructure a) (i : IsSub
       let keys = sym (taken_key r q h) ∙ same_row-is (take (key_width s) q) (take (key_width s) z) e ∙ taken_key t z k in
       ap (λ l. same_row (take (key_width a) r) l) (sym (same_point r t h.0 k.0 h.1 k.1 keys)) ∙ same_row-refl (take (key_width a) r)
 
-both_all : {X : Type 0} (P Q R : X → Type 0) → ((x : X) → P x → Q x → R x) → (xs : List X) → AllByRecursion P xs → AllByRecursion Q xs → AllByRecursion R xs
+pub both_all : {X : Type 0} (P Q R : X → Type 0) → ((x : X) → P x → Q x → R x) → (xs : List X) → AllByRecursion P xs → AllByRecursion Q xs → AllByRecursion R xs
 both_all P Q R f [] p q = tt
 both_all P Q R f (x ∷ xs) p q = (f x p.0 q.0, both_all P Q R f xs p.1 q.1)
 

@@ -1,5 +1,9 @@
 pub mod Drawn
+pub mod Examples
+pub mod Faults
 pub mod Kept
+pub mod LookUps
+pub mod Looks
 pub mod Orders
 pub mod Places
 pub mod ValueKinds

@@ -18,7 +18,7 @@ use Rattle.vtl_tree.specs.declared.structure.Component.{Component}
 use Rattle.vtl_tree.specs.declared.structure.Role.{Role}
 use Rattle.vtl_tree.specs.declared.structure.Role.TheVariants as role
 use Rattle.vtl_tree.specs.declared.structure.Structure.{Structure}
-use Rattle.vtl_meaning.specs.Columns.{identifiers_of, measures_of, place_of, places_in}
+use Rattle.vtl_meaning.specs.Columns.{identifiers_of, measures_of, others_of, place_of, places_in}
 use Rattle.vtl_meaning.specs.Made.{AreAmong, HasIdentifiers}
 use Rattle.vtl_meaning.proofs.ValueKinds.{IsOf, cell_is_of, point_from, point_parts}
 
@@ -168,10 +168,6 @@ are_identifiers s = all_filtered (λ x. same_role x.role role.Identifier) s.comp
 
 pub are_measures : (s : Structure) → AllByRecursion IsOther (measures_of s)
 are_measures s = all_more (λ x. same_role x.role role.Measure ≡ true) IsOther (λ x. measure_role x.role) (measures_of s) (all_filtered (λ x. same_role x.role role.Measure) s.components)
-
--- measures and attributes
-abbrev pub others_of : Structure → List Component
-others_of s = of_role role.Measure s ++ of_role role.Attribute s
 
 pub columns_split : (s : Structure) → columns_of s ≡ identifiers_of s ++ others_of s
 columns_split s = append_assoc (of_role role.Identifier s) (of_role role.Measure s) (of_role role.Attribute s)

@@ -1,5 +1,5 @@
 -- Columns by their names, and the expressions that they are.
-use Rattle.std.specs.Prelude.{ℕ, ◌+◌, List, map}
+use Rattle.std.specs.Prelude.{ℕ, ◌+◌, ◌++◌, List, map}
 use Rattle.std.specs.List.{position_or_len}
 use Rattle.std.specs.Option.{option_map_or}
 use Rattle.vtl_cell.specs.declared.kind.Kind.{Kind}
@@ -16,6 +16,10 @@ identifiers_of s = of_role role.Identifier s
 
 abbrev pub measures_of : Structure → List Component
 measures_of s = of_role role.Measure s
+
+-- the columns behind the identifiers: measures, then attributes
+abbrev pub others_of : Structure → List Component
+others_of s = of_role role.Measure s ++ of_role role.Attribute s
 
 -- the place of the column of this name
 abbrev pub place_of : List ℕ → List Component → ℕ

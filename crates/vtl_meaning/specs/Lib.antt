@@ -1,4 +1,6 @@
 pub mod Columns
+pub mod Faults
+pub mod LookUps
 pub mod Made
 pub mod Meaning
 pub mod Operators

@@ -1,0 +1,9 @@
+use Rattle.vtl_meaning.proofs.Kept.{node_kept}
+use Rattle.vtl_meaning.proofs.Orders.{meaning_kept}
+use Rattle.vtl_meaning.proofs.laws.scripts_keep_data_sets.Goals as goal
+
+pub returns-clause-expression : goal.returns-clause-expression
+returns-clause-expression c = node_kept
+
+pub returns-clause-outputs : goal.returns-clause-outputs
+returns-clause-outputs c = meaning_kept

@@ -1,0 +1,104 @@
+// Laws of the definitions.
+ghost use Rattle.std.specs.Prelude.{◌≡◌, [], ◌∷◌, ◌++◌, IfOk, List, Ok, Some, cond, false, length, map, option_map, true};
+ghost use Rattle.std.specs.List.{list_all};
+ghost use Rattle.std.specs.Option.{option_and_then};
+ghost use Rattle.vtl_decimal.specs.Settings.{Settings};
+ghost use Rattle.vtl_lists.specs.Perm.{Perm};
+ghost use Rattle.vtl_cell.specs.Kinds.{is_of};
+ghost use Rattle.vtl_cell.specs.Row.{Row};
+ghost use Rattle.vtl_cell.specs.declared.operator.ScalarOp.{ScalarOp};
+ghost use Rattle.vtl_tree.specs.Clauses.{filter_of, is_true, kept};
+ghost use Rattle.vtl_tree.specs.CompExp.{CompExp};
+ghost use Rattle.vtl_tree.specs.DataSet.{IsDataSet, is_point, look};
+ghost use Rattle.vtl_tree.specs.Kept.{kept_row};
+ghost use Rattle.vtl_tree.specs.Environment.{Environment};
+ghost use Rattle.vtl_tree.specs.SameResult.{Same};
+ghost use Rattle.vtl_tree.specs.Structure.{columns_of, key_width};
+ghost use Rattle.vtl_tree.specs.Value.{value};
+ghost use Rattle.vtl_tree.specs.declared.structure.Component.{Component};
+ghost use Rattle.vtl_tree.specs.declared.structure.Structure.{Structure};
+ghost use Rattle.vtl_nodes.specs.Trees.{ItemTree, MeasureTree, NodeTree, structure_of};
+ghost use Rattle.vtl_nodes.specs.declared.clauses.SubItem.{SubItem};
+ghost use Rattle.vtl_shapes.specs.Pairs.{contains};
+ghost use Rattle.vtl_typing.specs.Kinds.{exp_kind};
+ghost use Rattle.vtl_meaning.specs.Columns.{measures_of, others_of};
+ghost use Rattle.vtl_meaning.specs.Faults.{unless_any};
+ghost use Rattle.vtl_meaning.specs.LookUps.{calculated_at, chosen_at, has_key_values, measured_at, of_both, paired_at, part_for, values_named};
+ghost use Rattle.vtl_meaning.specs.Made.{AreMadeStatements, IsCalculated, IsChoice, IsFiltered, IsLeft, IsMade, IsMeasured, IsPaired, IsRenamed, IsSub, IsTyped};
+ghost use Rattle.vtl_meaning.specs.Meaning.{AreDataSets, Outputs, Statement, is_built, known_in, meaning, node_value};
+ghost use Rattle.vtl_meaning.specs.Operators.{calculated_of, choice_of, is_first_chosen, left_of, measured_of, pair_of, sub_of};
+ghost use Rattle.vtl_meaning.specs.Orders.{SameData, SameMeaning};
+ghost use Rattle.vtl_meaning.specs.Points.{each_point, point_of};
+
+/// The value of a typed expression at a point of its columns is null or of exactly the kind of the expression.
+pub fn values_are_of_their_kind()
+    ensures { (p : Settings) (xs : List Component) (e : CompExp) (r : Row) → IsTyped p xs e → is_point xs r ≡ true → IfOk (value p e r) (λ v. is_of (exp_kind e) v ≡ true) }
+{}
+
+/// Each operator gives a data set of the structure that typing gives: as many cells as columns, each null or of its
+/// column's kind, no identifier null, and each tuple of identifiers once.
+pub fn operators_keep_data_sets()
+    ensures measures { (p : Settings) (m : MeasureTree) (a s : Structure) (d out : List Row) → IsMeasured p m a s → IsDataSet a d → measured_of p m a s d ≡ Ok out → IsDataSet s out }
+    ensures pair { (p : Settings) (o : ScalarOp) (a b s : Structure) (d e out : List Row) → IsPaired p o a b s → IsDataSet a d → IsDataSet b e → pair_of p o a b s d e ≡ Ok out → IsDataSet s out }
+    ensures choice { (t a b s : Structure) (tests d e : List Row) → IsChoice t a b s → IsDataSet t tests → IsDataSet a d → IsDataSet b e → IsDataSet s (choice_of t a b s tests d e) }
+    ensures filter { (p : Settings) (e : CompExp) (a s : Structure) (d out : List Row) → IsFiltered p e a s → IsDataSet a d → filter_of p e d ≡ Ok out → IsDataSet s out }
+    ensures calc { (p : Settings) (items : List ItemTree) (a s : Structure) (d out : List Row) → IsCalculated p items a s → IsDataSet a d → calculated_of p items a s d ≡ Ok out → IsDataSet s out }
+    ensures left { (a s : Structure) (d : List Row) → IsLeft a s → IsDataSet a d → IsDataSet s (left_of a s d) }
+    ensures rename { (a s : Structure) (d : List Row) → IsRenamed a s → IsDataSet a d → IsDataSet s d }
+    ensures sub { (items : List SubItem) (a s : Structure) (d : List Row) → IsSub items a s → IsDataSet a d → IsDataSet s (sub_of items a s d) }
+{}
+
+/// Over data sets, a typed expression that is evaluated gives a data set of its structure, and so is each output of a script.
+pub fn scripts_keep_data_sets()
+    ensures expression { (p : Settings) (env : Environment) (n : NodeTree) (out : List Row) → is_built n ≡ true → IsMade p (known_in env) n → AreDataSets env → node_value p env n ≡ Ok out → IsDataSet (structure_of n) out }
+    ensures outputs { (p : Settings) (ss : List Statement) (env : Environment) (out : Outputs) → list_all (λ s. is_built s.node) ss ≡ true → AreMadeStatements p (known_in env) ss → AreDataSets env → meaning p ss env ≡ Ok out → AreDataSets out }
+{}
+
+/// What each operator gives at a tuple `k` of the result's identifiers, without a fault. `++` puts the identifiers before the
+/// values of the other columns.
+///
+/// - An operator on the measures of one data set, and `calc`: a point where the operand has one, with the values of the
+///   operator, or of the targets, at that point; all targets of `calc` see the operand's values.
+/// - An operator on two data sets: a point where both have one, the operand with fewer identifiers at its part of the
+///   tuple, with the operator's value on each pair of measures of one name.
+/// - `if`: where the condition has a point, the measures of the first operand's point if the condition is true there, else
+///   of the second one's, and no point where that operand has none.
+/// - `filter`: the operand's point where the condition is true.
+/// - `keep`, `drop`, `a#m`: the operand's point with the columns that are left. `rename`: the point as it is.
+/// - `sub`: at what is left of a tuple `j` that has the given values, the operand's point at `j`, and no other point.
+pub fn operators_by_look_up()
+    ensures measures { (p : Settings) (m : MeasureTree) (a s : Structure) (d out : List Row) (k : Row) → IsMeasured p m a s → IsDataSet a d → measured_of p m a s d ≡ Ok out → look (key_width s) out k ≡ option_map (λ r. k ++ measured_at p m a s r) (look (key_width a) d k) }
+    ensures pair_left { (p : Settings) (o : ScalarOp) (a b s : Structure) (d e out : List Row) (k : Row) → contains a b ≡ true → IsPaired p o a b s → IsDataSet a d → IsDataSet b e → pair_of p o a b s d e ≡ Ok out → look (key_width s) out k ≡ of_both (λ r q. k ++ paired_at p o a b s r q) (look (key_width a) d k) (look (key_width b) e (part_for a b k)) }
+    ensures pair_right { (p : Settings) (o : ScalarOp) (a b s : Structure) (d e out : List Row) (k : Row) → contains a b ≡ false → IsPaired p o a b s → IsDataSet a d → IsDataSet b e → pair_of p o a b s d e ≡ Ok out → look (key_width s) out k ≡ of_both (λ r q. k ++ paired_at p o a b s r q) (look (key_width a) d (part_for b a k)) (look (key_width b) e k) }
+    ensures choice { (t a b s : Structure) (tests d e : List Row) (k : Row) → IsChoice t a b s → IsDataSet t tests → IsDataSet a d → IsDataSet b e → look (key_width s) (choice_of t a b s tests d e) k ≡ option_and_then (λ r. cond (is_first_chosen t r) (chosen_at t a s d k) (chosen_at t b s e k)) (look (key_width t) tests k) }
+    ensures filter { (p : Settings) (e : CompExp) (a s : Structure) (d out : List Row) (k : Row) → IsFiltered p e a s → IsDataSet a d → filter_of p e d ≡ Ok out → look (key_width s) out k ≡ kept_row (λ r. is_true (value p e r)) (look (key_width a) d k) }
+    ensures calc { (p : Settings) (items : List ItemTree) (a s : Structure) (d out : List Row) (k : Row) → IsCalculated p items a s → IsDataSet a d → calculated_of p items a s d ≡ Ok out → look (key_width s) out k ≡ option_map (λ r. k ++ map (calculated_at p items a r) (others_of s)) (look (key_width a) d k) }
+    ensures left { (a s : Structure) (d : List Row) (k : Row) → IsLeft a s → IsDataSet a d → look (key_width s) (left_of a s d) k ≡ option_map (λ r. k ++ values_named (columns_of a) (others_of s) r) (look (key_width a) d k) }
+    ensures rename { (a s : Structure) (d : List Row) (k : Row) → IsRenamed a s → look (key_width s) d k ≡ look (key_width a) d k }
+    ensures sub { (items : List SubItem) (a s : Structure) (d : List Row) (j : Row) → IsSub items a s → IsDataSet a d → length j ≡ key_width a → has_key_values a items j ≡ true → look (key_width s) (sub_of items a s d) (part_for a s j) ≡ option_map (λ r. part_for a s j ++ values_named (columns_of a) (others_of s) r) (look (key_width a) d j) }
+    ensures sub_only { (items : List SubItem) (a s : Structure) (d : List Row) (k q : Row) → IsSub items a s → IsDataSet a d → look (key_width s) (sub_of items a s d) k ≡ Some q → (j : Row) × (length j ≡ key_width a) × (has_key_values a items j ≡ true) × (part_for a s j ≡ k) }
+{}
+
+/// The fault of an operator that evaluates expressions at each point is division by zero where any value has it, else out of
+/// range where any has it, in whatever order they stand; else there are points.
+pub fn faults_are_joined()
+    ensures each { (p : Settings) (es : List CompExp) (d : List Row) → each_point p es d ≡ unless_any p es d (map (point_of p es) d) }
+    ensures filter { (p : Settings) (e : CompExp) (d : List Row) → filter_of p e d ≡ unless_any p (e ∷ []) d (kept p e d) }
+{}
+
+/// Operands whose points stand in another order give the same points up to order, or the same fault.
+pub fn operators_do_not_see_order()
+    ensures measures { (p : Settings) (m : MeasureTree) (a s : Structure) (d e : List Row) → Perm d e → Same (measured_of p m a s d) (measured_of p m a s e) }
+    ensures pair { (p : Settings) (o : ScalarOp) (a b s : Structure) (d t e f : List Row) → IsDataSet a d → IsDataSet b e → Perm d t → Perm e f → Same (pair_of p o a b s d e) (pair_of p o a b s t f) }
+    ensures choice { (t a b s : Structure) (tests other d e f g : List Row) → IsDataSet a d → IsDataSet b f → Perm tests other → Perm d e → Perm f g → Perm (choice_of t a b s tests d f) (choice_of t a b s other e g) }
+    ensures calc { (p : Settings) (items : List ItemTree) (a s : Structure) (d e : List Row) → Perm d e → Same (calculated_of p items a s d) (calculated_of p items a s e) }
+    ensures left { (a s : Structure) (d e : List Row) → Perm d e → Perm (left_of a s d) (left_of a s e) }
+    ensures sub { (items : List SubItem) (a s : Structure) (d e : List Row) → Perm d e → Perm (sub_of items a s d) (sub_of items a s e) }
+{}
+
+/// What a script means does not depend on the order of points: over data sets with the same points, an expression has the
+/// same points or the same fault, and a script the same outputs up to order or the same fault at the same statement.
+pub fn meaning_does_not_see_order()
+    ensures expression { (p : Settings) (env other : Environment) (n : NodeTree) → AreDataSets env → SameData env other → is_built n ≡ true → IsMade p (known_in env) n → Same (node_value p env n) (node_value p other n) }
+    ensures script { (p : Settings) (ss : List Statement) (env other : Environment) → AreDataSets env → SameData env other → list_all (λ s. is_built s.node) ss ≡ true → AreMadeStatements p (known_in env) ss → SameMeaning (meaning p ss env) (meaning p ss other) }
+{}
