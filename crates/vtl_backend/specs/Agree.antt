@@ -1,5 +1,5 @@
 -- Answers of back ends that tell the same.
-use Rattle.std.specs.Prelude.{◌≡◌, List, [], ◌∷◌, Result, Ok, Err}
+use Rattle.std.specs.Prelude.{◌≡◌, [], ◌∷◌, Result, Ok, Err}
 use Rattle.vtl_lists.specs.Perm.{Perm}
 use Rattle.vtl_rows.specs.Named.{NamedTables}
 use Rattle.vtl_backend.specs.declared.error.RunErr.{RunErr}

@@ -1,5 +1,5 @@
 -- The inputs of a script, one after the other.
-use Rattle.std.proofs.Common.{◌≡◌, ℕ, zero, suc, ◌+◌, ◌<◌, Bool, true, false, cond, not, ◌&&◌, ◌||◌, List, [], ◌∷◌, ◌++◌, map, length, take, get_or, slice_get, Option, Some, None, option_map, refl, sym, ap, subst, ◌∙◌, arith}
+use Rattle.std.proofs.Common.{◌≡◌, ℕ, zero, suc, ◌+◌, ◌<◌, Bool, true, false, cond, not, ◌||◌, List, [], ◌∷◌, ◌++◌, map, length, take, get_or, slice_get, Some, refl, sym, ap, subst, ◌∙◌, arith}
 use Rattle.std.specs.List.{AllByRecursion, list_any}
 use Rattle.std.specs.Map.{keys_of, lookup}
 use Rattle.std.specs.Cmp.Lexicographic.{bytes_decides, nat_list_eq_equiv}
@@ -18,7 +18,7 @@ use Rattle.vtl_tree.specs.declared.structure.Structure.{Structure}
 use Rattle.vtl_tree.proofs.StructuresLemmas.{repeated}
 use Rattle.vtl_nodes.specs.Trees.{NodeTree, structure_of}
 use Rattle.vtl_check.specs.Checked.{TypedScript, known_of, nodes_of, tree_of}
-use Rattle.vtl_check.specs.Uses.{reads, results_behind, with_new}
+use Rattle.vtl_check.specs.Uses.{results_behind, with_new}
 use Rattle.vtl_meaning.specs.Meaning.{Outputs, known_in}
 use Rattle.vtl_backend.specs.Inputs.{AreInputs, Holds, input_of, inputs_of, rows_named}
 use Rattle.vtl_interp.specs.Held.{Holdings, environment, outputs_in}
@@ -33,7 +33,21 @@ fresh_at xs i x h e apart = go (list_any (same_name x) (take i xs)) refl
   where
     go : (b : Bool) → list_any (same_name x) (take i xs) ≡ b → b ≡ false
     go false q = refl
-    go true q = sym (repeated xs i x h e q) ∙ apart
+    go true q = sym (repeated xs i x h e q ∙ apart)
+
+-- a name among others that are all apart from one
+name_apart : (key : List ℕ) (ks : List (List ℕ)) (i : ℕ) (name : List ℕ) → list_any (same_name key) ks ≡ false → i < length ks → name ≡ get_or ks i name → same_name key name ≡ false
+name_apart key [] i name q h e = absurd (omega arith)
+name_apart key (k ∷ ks) zero name q h e = at (same_name key k) q (ap (same_name key) e)
+  where
+    at : (b : Bool) → (b || list_any (same_name key) ks) ≡ false → same_name key name ≡ b → same_name key name ≡ false
+    at true q s = cc
+    at false q s = s
+name_apart key (k ∷ ks) (suc i) name q h e = at (same_name key k) (λ r. name_apart key ks i name r (omega (arith, h)) e) q
+  where
+    at : (b : Bool) → (list_any (same_name key) ks ≡ false → same_name key name ≡ false) → (b || list_any (same_name key) ks) ≡ false → same_name key name ≡ false
+    at true ih q = cc
+    at false ih q = ih q
 
 -- an entry among others
 pub record IsEntryAt (es : Named) (i : ℕ) (name : List ℕ) : Type 0 where
@@ -51,25 +65,12 @@ entry_at (x ∷ es) (suc i) name apart h e =
     record {
       structure = it.structure;
       entry = it.entry;
-      found = ap (λ b. cond b (Some x.1) (lookup (same_name name) es)) (nat_list_eq_equiv.symm name x.0 ∙ other (keys_of es) i name (none parts.0) (omega (arith, h)) e) ∙ it.found;
+      found = ap (λ b. cond b (Some x.1) (lookup (same_name name) es)) (nat_list_eq_equiv.symm name x.0 ∙ name_apart x.0 (keys_of es) i name (none (list_any (same_name x.0) (keys_of es)) parts.0) (omega (arith, h)) e) ∙ it.found;
     }
   where
-    none : {b : Bool} → not b ≡ true → b ≡ false
-    none {true} q = cc
-    none {false} q = refl
-
-    other : (ks : List (List ℕ)) (i : ℕ) (name : List ℕ) → list_any (same_name x.0) ks ≡ false → i < length ks → name ≡ get_or ks i name → same_name x.0 name ≡ false
-    other [] i name q h e = absurd (omega arith)
-    other (k ∷ ks) zero name q h e = at (same_name x.0 k) q (ap (same_name x.0) e)
-      where
-        at : (b : Bool) → (b || list_any (same_name x.0) ks) ≡ false → same_name x.0 name ≡ b → same_name x.0 name ≡ false
-        at true q s = cc
-        at false q s = s
-    other (k ∷ ks) (suc i) name q h e = at (same_name x.0 k) q
-      where
-        at : (b : Bool) → (b || list_any (same_name x.0) ks) ≡ false → same_name x.0 name ≡ false
-        at true q = cc
-        at false q = other ks i name q (omega (arith, h)) e
+    none : (b : Bool) → not b ≡ true → b ≡ false
+    none true q = cc
+    none false q = refl
 
 -- results stand behind what is known
 pub still_found : (name : List ℕ) (s : Structure) (known : Named) (ss : ScriptTree) (ns : List NodeTree) → lookup (same_name name) known ≡ Some s → lookup (same_name name) (results_behind known ss ns) ≡ Some s
@@ -107,7 +108,7 @@ read_at t items i name e h is = entry_at (inputs_of t) i name (reads_apart t.dec
 pub fresh_input : (t : TypedScript) (tables : NamedTables) (known : Holdings) (items : List (List ℕ)) (i : ℕ) (name : List ℕ) → environment known ≡ map (input_of tables) (take i (inputs_of t)) → items ≡ keys_of (inputs_of t) → i < length items → name ≡ get_or items i name → list_any (same_name name) (keys_of known) ≡ false
 fresh_input t tables known items i name held e h is =
     let keys : keys_of known ≡ take i (keys_of (inputs_of t)) =
-        sym (keys_environment known) ∙ ap (λ (l : Environment). keys_of (known_in l)) held ∙ ap keys_of (known_inputs tables (take i (inputs_of t))) ∙ sym (take-map (λ (x : List ℕ × Structure). x.0) i (inputs_of t)) in
+    sym (keys_environment known) ∙ ap (λ (l : Environment). keys_of (known_in l)) held ∙ ap keys_of (known_inputs tables (take i (inputs_of t))) ∙ sym (take-map (λ (x : List ℕ × Structure). x.0) i (inputs_of t)) in
     ap (list_any (same_name name)) keys ∙ fresh_at (keys_of (inputs_of t)) i name (subst (λ (l : List (List ℕ)). i < length l) e h) (is ∙ ap (λ l. get_or l i name) e) (reads_apart t.declared (nodes_of t))
 
 one_more : (xs : Named) (i : ℕ) (x : List ℕ × Structure) → slice_get xs i ≡ Some x → take (i + 1) xs ≡ take i xs ++ x ∷ []

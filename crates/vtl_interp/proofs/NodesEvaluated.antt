@@ -1,5 +1,5 @@
 -- What nodes of the program evaluate to.
-use Rattle.std.proofs.Common.{◌≡◌, ℕ, Bool, true, false, cond, List, [], ◌∷◌, map, Option, Some, None, Result, Ok, Err, refl, rules, sym, ap, subst, ◌∙◌}
+use Rattle.std.proofs.Common.{◌≡◌, ℕ, Bool, true, false, cond, List, [], ◌∷◌, map, Option, Some, None, Result, Ok, refl, rules, sym, ap, subst, ◌∙◌}
 use Rattle.std.specs.Prelude.{Box, option_map}
 use Rattle.std.specs.declared.alloc.Global.{Global}
 use Rattle.std.specs.Option.{option_map_or}
@@ -7,12 +7,12 @@ use Rattle.std.specs.Map.{lookup}
 use Rattle.vtl_decimal.specs.Settings.{Settings}
 use Rattle.vtl_text.specs.declared.shared_text.Txt.{Txt}
 use Rattle.vtl_cell.specs.declared.operator.ScalarOp.{ScalarOp}
-use Rattle.vtl_cell.specs.Outcome.{Fault, Outcome, after}
+use Rattle.vtl_cell.specs.Outcome.{Outcome, after}
 use Rattle.vtl_cell.specs.Row.{Row}
 use Rattle.vtl_scalar.specs.Answers.{AnswersBy}
 use Rattle.vtl_scalar.specs.declared.error.ScalarErr.{ScalarErr}
 use Rattle.vtl_tree.specs.Environment.{DataSet, Environment, data_of}
-use Rattle.vtl_tree.specs.Structure.{IsStructure, same_name}
+use Rattle.vtl_tree.specs.Structure.{same_name}
 use Rattle.vtl_tree.specs.declared.structure.Structure.{Structure}
 use Rattle.vtl_nodes.specs.Trees as nodes
 use Rattle.vtl_nodes.specs.Trees.{FormTree, NodeTree, structure_of}
@@ -81,7 +81,7 @@ pub two_operands : {A : Type 0} (view : A → DataSet) (p : Settings) (env : Env
 two_operands view p env n f t a b d e op r is tree value g k h =
     subst (λ (u : NodeTree). Evaluates view p env u r) (sym (tree_with n f t is tree))
     (applied view p env (nodes.node n.structure t) (op d.structure e.structure d.points e.points) r
-      (value ∙ then p env a d (λ s x. after (node_value p env b) (op s (structure_of b) x)) g ∙ then p env b e (λ s y. op d.structure s d.points y) k) h)
+    (value ∙ then p env a d (λ s x. after (node_value p env b) (op s (structure_of b) x)) g ∙ then p env b e (λ s y. op d.structure s d.points y) k) h)
 
 -- ---- a name
 held_looked : (name : List ℕ) (es : Holdings) → lookup (same_name name) (environment es) ≡ option_map (λ h. h.set) (lookup (same_name name) es)

@@ -1,13 +1,13 @@
 -- What typing says of the statements that are run.
-use Rattle.std.proofs.Common.{◌≡◌, ℕ, suc, ◌+◌, Bool, true, false, ◌||◌, ◌&&◌, List, [], ◌∷◌, ◌++◌, map, Result, Ok, Err, refl, sym, ap, subst, ◌∙◌}
-use Rattle.std.specs.List.{AllByRecursion, flat_map, list_all, list_any}
-use Rattle.std.specs.Map.{keys_of, lookup}
+use Rattle.std.proofs.Common.{◌≡◌, ℕ, suc, ◌+◌, Bool, true, false, ◌||◌, ◌&&◌, List, [], ◌∷◌, ◌++◌, Result, Ok, Err, refl, subst}
+use Rattle.std.specs.List.{AllByRecursion, list_all, list_any}
+use Rattle.std.specs.Map.{keys_of}
 use Rattle.std.proofs.lemmas.Bool.{and_parts}
 use Rattle.std.proofs.lemmas.List.{map-append}
 use Rattle.vtl_syntax.specs.Trees as tree
 use Rattle.vtl_syntax.specs.Trees.{Exp, ScriptTree}
 use Rattle.vtl_tree.specs.Structure.{same_name}
-use Rattle.vtl_tree.specs.Structures.{Named, has_name}
+use Rattle.vtl_tree.specs.Structures.{has_name}
 use Rattle.vtl_tree.specs.declared.structure.Structure.{Structure}
 use Rattle.vtl_nodes.specs.Trees.{NodeTree, structure_of}
 use Rattle.vtl_rule_tests.specs.Rules.{◌>>=◌, ruled}
@@ -17,7 +17,7 @@ use Rattle.vtl_check.specs.Count.{count}
 use Rattle.vtl_check.specs.Names.{names_in, names_of}
 use Rattle.vtl_check.specs.Script.{assigned, at, has_definitions, is_too_much, statements_typed, value_typed, with_result}
 use Rattle.vtl_meaning.specs.Meaning.{Statement, is_built}
-use Rattle.vtl_backend.specs.Statements.{is_script_built, statements_of, with_nodes}
+use Rattle.vtl_backend.specs.Statements.{statements_of, with_nodes}
 use Rattle.vtl_interp.specs.Results.{AreNew}
 use Rattle.vtl_interp.proofs.NamesRead.{all_front, all_back, are_built, names_read}
 

@@ -1,6 +1,5 @@
 -- A typed script can be evaluated from its inputs on.
-use Rattle.std.proofs.Common.{◌≡◌, ℕ, Bool, true, false, List, [], ◌∷◌, map, Result, Ok, Err, refl, sym, ap, subst, ◌∙◌}
-use Rattle.std.specs.List.{AllByRecursion, list_any}
+use Rattle.std.proofs.Common.{◌≡◌, ℕ, true, List, [], map, Result, Ok, Err, refl, sym, ap, subst, ◌∙◌}
 use Rattle.std.specs.Map.{keys_of, lookup}
 use Rattle.vtl_decimal.specs.Settings.{Settings}
 use Rattle.vtl_cell.specs.Outcome.{Fault}
@@ -12,18 +11,16 @@ use Rattle.vtl_nodes.specs.declared.nodes.Node.{Node}
 use Rattle.vtl_tree.specs.Environment.{Environment}
 use Rattle.vtl_tree.specs.Structure.{same_name}
 use Rattle.vtl_tree.specs.Structures.{Named}
-use Rattle.vtl_tree.specs.declared.structure.Structure.{Structure}
 use Rattle.vtl_check.specs.Checked.{IsTyped, TypedScript, nodes_of, tree_of}
 use Rattle.vtl_check.specs.Names.{names_of}
 use Rattle.vtl_meaning.specs.Made.{AreMadeStatements}
 use Rattle.vtl_meaning.specs.Meaning.{Outputs, known_in, meaning}
-use Rattle.vtl_backend.specs.Inputs.{environment_of, inputs_of}
+use Rattle.vtl_backend.specs.Inputs.{inputs_of}
 use Rattle.vtl_backend.specs.Runs.{script_meaning}
 use Rattle.vtl_backend.specs.Statements.{is_script_built, statements_of, with_nodes}
 use Rattle.vtl_interp.specs.Held.{Holdings, environment, outputs_in}
 use Rattle.vtl_interp.specs.Loaded.{IsLoaded}
 use Rattle.vtl_interp.specs.Results.{AreNew, AreReady, behind}
-use Rattle.vtl_interp.specs.declared.held.Held.{Held}
 use Rattle.vtl_interp.proofs.InputsRead.{known_inputs, reads_fewer, reads_same}
 use Rattle.vtl_interp.proofs.Loads.{keys_environment}
 use Rattle.vtl_interp.proofs.NamesRead.{SameKnown, all_so, statements_made_same}
@@ -40,7 +37,7 @@ ready_at_start t tables known typed built made loaded =
     let ss = statements_of t in
     let all_built = built_statements (tree_of t) (nodes_of t) built in
     let same : SameKnown t.declared (inputs_of t) (names_of (nodes_of t)) =
-        all_so (λ name. lookup (same_name name) (inputs_of t) ≡ lookup (same_name name) t.declared) (λ name. lookup (same_name name) t.declared ≡ lookup (same_name name) (inputs_of t)) (λ name e. sym e) (names_of (nodes_of t)) (reads_same t.declared (nodes_of t)) in
+    all_so (λ name. lookup (same_name name) (inputs_of t) ≡ lookup (same_name name) t.declared) (λ name. lookup (same_name name) t.declared ≡ lookup (same_name name) (inputs_of t)) (λ name e. sym e) (names_of (nodes_of t)) (reads_same t.declared (nodes_of t)) in
     let read = names_statements (λ name. lookup (same_name name) t.declared ≡ lookup (same_name name) (inputs_of t)) (tree_of t) (nodes_of t) same in
     record {
       made = subst (λ (k : Named). AreMadeStatements t.settings k ss) (sym (known_loaded t tables known loaded)) (statements_made_same t.settings ss t.declared (inputs_of t) all_built read made);
@@ -62,7 +59,7 @@ module _ (t : TypedScript) (tables : NamedTables) (known : Holdings) (p : Settin
   ready_to_run typed built made loaded =
       subst (λ (q : Settings). AreReady q known (with_nodes (map statement_tree ss) (map node_tree ns))) (sym settings)
       (subst (λ (l : List Statement). AreReady t.settings known (with_nodes (map statement_tree l) (map node_tree ns))) (sym script)
-        (subst (λ (l : List Node). AreReady t.settings known (with_nodes (tree_of t) (map node_tree l))) (sym nodes) (ready_at_start t tables known typed built made loaded)))
+      (subst (λ (l : List Node). AreReady t.settings known (with_nodes (tree_of t) (map node_tree l))) (sym nodes) (ready_at_start t tables known typed built made loaded)))
 
   pub meant_by_run : IsLoaded t tables known → behind (outputs_in known) (meaning p (with_nodes (map statement_tree ss) (map node_tree ns)) (environment known)) ≡ script_meaning t tables
   meant_by_run loaded =

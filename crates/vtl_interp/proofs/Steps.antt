@@ -1,20 +1,20 @@
 -- One statement more: its data set stands behind those that are held.
-use Rattle.std.proofs.Common.{◌≡◌, ℕ, ◌+◌, ◌<◌, Bool, true, false, cond, ◌||◌, List, [], ◌∷◌, ◌++◌, map, filter, drop, get_or, length, Option, Some, None, Result, Ok, Err, refl, sym, ap, subst, ◌∙◌, append_assoc}
-use Rattle.std.specs.List.{list_all, list_any}
+use Rattle.std.proofs.Common.{◌≡◌, ℕ, ◌+◌, Bool, true, false, cond, ◌||◌, List, [], ◌∷◌, ◌++◌, map, filter, Option, Some, None, Result, Ok, Err, refl, sym, ap, subst, ◌∙◌, append_assoc}
+use Rattle.std.specs.List.{list_any}
 use Rattle.std.specs.Map.{keys_of, lookup}
 use Rattle.std.specs.Option.{option_map}
 use Rattle.std.specs.Cmp.Lexicographic.{nat_list_eq_equiv}
 use Rattle.std.proofs.lemmas.Bool.{and_parts}
 use Rattle.std.proofs.lemmas.List.{append-nil, map-append}
 use Rattle.vtl_decimal.specs.Settings.{Settings}
-use Rattle.vtl_cell.specs.Outcome.{DivZero, Fault, Range, after}
+use Rattle.vtl_cell.specs.Outcome.{Fault, after}
 use Rattle.vtl_cell.specs.Row.{Row}
 use Rattle.vtl_tree.specs.Environment.{DataSet, Environment, data_of}
 use Rattle.vtl_tree.specs.Structure.{same_name}
 use Rattle.vtl_tree.specs.Structures.{Named}
 use Rattle.vtl_tree.specs.declared.structure.Structure.{Structure}
 use Rattle.vtl_nodes.specs.Trees.{structure_of}
-use Rattle.vtl_meaning.specs.Made.{AreMadeStatements, IsMade}
+use Rattle.vtl_meaning.specs.Made.{AreMadeStatements}
 use Rattle.vtl_meaning.specs.Meaning.{Outputs, Statement, data_set_of, is_built, kept_output, known_in, meaning, node_value, stated, with_output}
 use Rattle.vtl_interp.specs.Evaluated.{Gives}
 use Rattle.vtl_interp.specs.Held.{Holdings, environment, named_data, outputs_in}
@@ -99,9 +99,9 @@ ready_step p es s rest d ready g =
     let none = known_absent s.result es ready.new_names.0 in
     let same : SameKnown ((s.result, t) ∷ k) (k ++ (s.result, t) ∷ []) (names_read rest) = all_each (λ name. lookup (same_name name) ((s.result, t) ∷ k) ≡ lookup (same_name name) (k ++ (s.result, t) ∷ [])) (front_or_behind k s.result t none) (names_read rest) in
     let known : k ++ (s.result, t) ∷ [] ≡ known_in (environment (es ++ held_as s d ∷ [])) =
-        ap (λ (u : Structure). k ++ (s.result, u) ∷ []) (sym g.structure)
-        ∙ sym (map-append (λ (x : List ℕ × DataSet). (x.0, x.1.structure)) env ((s.result, d) ∷ []))
-        ∙ ap known_in (sym (environment_more es (held_as s d))) in
+    ap (λ (u : Structure). k ++ (s.result, u) ∷ []) (sym g.structure)
+    ∙ sym (map-append (λ (x : List ℕ × DataSet). (x.0, x.1.structure)) env ((s.result, d) ∷ []))
+    ∙ ap known_in (sym (environment_more es (held_as s d))) in
     record {
       made = subst (λ (l : Named). AreMadeStatements p l rest) known (statements_made_same p rest ((s.result, t) ∷ k) (k ++ (s.result, t) ∷ []) built.1 same ready.made.1);
       built = built.1;

@@ -1,5 +1,5 @@
 -- A turn of the loop over the statements.
-use Rattle.std.proofs.Common.{◌≡◌, ℕ, ◌+◌, ◌<◌, false, List, ◌∷◌, ◌++◌, drop, get_or, length, map, arith, sym, ap, subst, ◌∙◌}
+use Rattle.std.proofs.Common.{◌≡◌, ℕ, ◌+◌, ◌<◌, false, List, ◌∷◌, drop, get_or, length, map, sym, ap, subst, ◌∙◌}
 use Rattle.std.proofs.lemmas.List.{drop_more}
 use Rattle.vtl_decimal.specs.Settings.{Settings}
 use Rattle.vtl_syntax.specs.View.{statement_tree}
@@ -14,7 +14,7 @@ use Rattle.vtl_meaning.specs.Meaning.{meaning}
 use Rattle.vtl_check.specs.Script.{has_definitions}
 use Rattle.vtl_backend.specs.Statements.{with_nodes}
 use Rattle.vtl_interp.specs.Held.{Holdings, environment, outputs_in}
-use Rattle.vtl_interp.specs.Results.{AreReady, IsAdded, behind, held_as, result_named}
+use Rattle.vtl_interp.specs.Results.{AreReady, IsAdded, behind, result_named}
 use Rattle.vtl_interp.proofs.Steps.{meaning_step, ready_step}
 
 -- the statements from a place on
@@ -22,7 +22,7 @@ abbrev pub left_from : List Statement → List Node → ℕ → List meant.State
 left_from ss ns i = with_nodes (map statement_tree (drop i ss)) (map node_tree (drop i ns))
 
 module _ (p : Settings) (ss : List Statement) (ns : List Node) (i : ℕ) (s : Statement) (name : List ℕ) (kind : AssignKind) (value : Expr) (n : Node)
-  (within : i < length ss) (s_is : s ≡ get_or ss i s) (assigns : s ≡ statement.Assignment name kind value) (many : length ns ≡ length ss) (n_is : n ≡ get_or ns i n) where
+    (within : i < length ss) (s_is : s ≡ get_or ss i s) (assigns : s ≡ statement.Assignment name kind value) (many : length ns ≡ length ss) (n_is : n ≡ get_or ns i n) where
   statements : drop i ss ≡ statement.Assignment name kind value ∷ drop (i + 1) ss
   statements = drop_more ss i s within ∙ ap (λ (x : Statement). x ∷ drop (i + 1) ss) (sym s_is ∙ assigns)
 

@@ -1,20 +1,24 @@
 -- The tables that are written, one after the other.
-use Rattle.std.proofs.Common.{◌≡◌, ℕ, Bool, true, false, cond, not, ◌&&◌, List, [], ◌∷◌, ◌++◌, map, filter, nat_eq, Option, Some, None, refl, sym, ap, subst, ◌∙◌, append_assoc}
+use Rattle.std.proofs.Common.{◌≡◌, ℕ, Bool, true, false, cond, List, [], ◌∷◌, ◌++◌, map, filter, Some, None, Result, Err, refl, sym, ap, subst, ◌∙◌, append_assoc}
 use Rattle.std.specs.Prelude.{MatchBool}
-use Rattle.std.specs.List.{AllByRecursion, list_any}
+use Rattle.std.specs.List.{AllByRecursion}
 use Rattle.std.specs.Map.{keys_of}
 use Rattle.std.specs.Cmp.Lexicographic.{nat_list_eq_equiv}
+use Rattle.std.proofs.lemmas.Map.Keys.{IsDistinct-head, IsDistinct-tail}
 use Rattle.vtl_csv.specs.TableText.{IsTableOf}
-use Rattle.vtl_lists.proofs.Aparts.{apart_parts}
 use Rattle.vtl_lists.proofs.Perms.{Perm-same}
 use Rattle.vtl_rows.specs.Named.{NamedTables, table_of}
 use Rattle.vtl_rows.specs.Tables.{Listed}
 use Rattle.vtl_tree.specs.Environment.{DataSet}
 use Rattle.vtl_tree.specs.Structure.{same_name}
 use Rattle.vtl_meaning.specs.Meaning.{Outputs}
-use Rattle.vtl_backend.specs.Runs.{ShowAll}
+use Rattle.vtl_cell.specs.Outcome.{Fault}
+use Rattle.vtl_backend.specs.Runs.{ShowAll, Tells}
+use Rattle.vtl_backend.specs.declared.error.RunErr.{RunErr}
+use Rattle.vtl_backend.specs.declared.error.RunErr.TheVariants as run
 use Rattle.vtl_backend.specs.Tables.{Shows}
 use Rattle.vtl_interp.specs.Held.{Holdings, named_data, outputs_in}
+use Rattle.vtl_interp.specs.Results.{FaultIs}
 use Rattle.vtl_interp.specs.Written.{AreApart, IsBehind, IsWritten, Remain}
 use Rattle.vtl_interp.specs.declared.held.Held.{Held}
 
@@ -50,7 +54,7 @@ absent_more name (x ∷ xs) new t e s = go (same_name name x.0) (absent_more nam
     go false ih e = ih e s
 
 pub still_free : (e : List ℕ × Held) (rest : Holdings) (before now : NamedTables) → AreApart (e ∷ rest) → AllByRecursion (λ x. table_of x.0 before ≡ None) rest → IsWritten e.0 e.1 before now → AllByRecursion (λ x. table_of x.0 now ≡ None) rest
-still_free e rest before now apart free w = go rest (apart_parts same_name e.0 (keys_of rest) apart).0 free
+still_free e rest before now apart free w = go rest (IsDistinct-head same_name e.0 (keys_of rest) apart) free
   where
     one : (b : Bool) → MatchBool b (IsBehind e.0 e.1.set before now) (now ≡ before) → (name : List ℕ) → same_name e.0 name ≡ false → table_of name before ≡ None → table_of name now ≡ None
     one true w name s f = ap (table_of name) w.behind ∙ absent_more name before e.0 w.table f (nat_list_eq_equiv.symm name e.0 ∙ s)
@@ -61,13 +65,22 @@ still_free e rest before now apart free w = go rest (apart_parts same_name e.0 (
     go (x ∷ xs) s f = (one e.1.written w x.0 s.0 f.0, go xs s.1 f.1)
 
 pub rest_apart : (e : List ℕ × Held) (rest : Holdings) → AreApart (e ∷ rest) → AreApart rest
-rest_apart e rest apart = (apart_parts same_name e.0 (keys_of rest) apart).1
+rest_apart e rest apart = IsDistinct-tail same_name e.0 (keys_of rest) apart
 
-pub all_free : (rest : Holdings) → AllByRecursion (λ x. table_of x.0 [] ≡ None) rest
-all_free [] = tt
-all_free (x ∷ xs) = (refl, all_free xs)
+pub at_start : (entries rest : Holdings) (tables : NamedTables) → rest ≡ entries → tables ≡ [] → Remain (outputs_in entries) (outputs_in rest) tables
+at_start entries rest tables e none = record { front = []; whole = ap outputs_in e; shows = subst (ShowAll []) (sym none) tt }
+
+pub all_free : (rest : Holdings) (tables : NamedTables) → tables ≡ [] → AllByRecursion (λ x. table_of x.0 tables ≡ None) rest
+all_free [] tables none = tt
+all_free (x ∷ xs) tables none = (ap (table_of x.0) none, all_free xs tables none)
 
 pub is_written : (name : List ℕ) (h : Held) (t : Listed) (before now : NamedTables) → h.written ≡ true → IsTableOf h.set.structure t → t.rows ≡ h.set.points → now ≡ before ++ (name, t) ∷ [] → IsWritten name h before now
 is_written name h t before now w is rows e =
     subst (λ b. MatchBool b (IsBehind name h.set before now) (now ≡ before)) (sym w)
     (record { table = t; shows = record { table = is; same = Perm-same t.rows h.set.points rows }; behind = e })
+
+-- a fault is told where the tables are as before
+pub faulted : (meant : Result Outputs (Fault × List ℕ)) (before now : NamedTables) (e : RunErr) → FaultIs meant e → now ≡ before → Tells meant before now (Err e)
+faulted meant before now (run.DivZero name) h same = (h, same)
+faulted meant before now (run.Range name) h same = (h, same)
+faulted meant before now run.OutOfMemory h same = same

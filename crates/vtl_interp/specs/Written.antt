@@ -1,7 +1,7 @@
 -- The tables of data sets that are written.
-use Rattle.std.specs.Prelude.{◌≡◌, ℕ, true, false, List, [], ◌∷◌, ◌++◌, MatchBool}
+use Rattle.std.specs.Prelude.{◌≡◌, ℕ, List, [], ◌∷◌, ◌++◌, MatchBool}
+use Rattle.std.specs.List.{IsDistinct}
 use Rattle.std.specs.Map.{keys_of}
-use Rattle.vtl_lists.specs.Apart.{all_apart}
 use Rattle.vtl_rows.specs.Named.{NamedTables}
 use Rattle.vtl_rows.specs.Tables.{Listed}
 use Rattle.vtl_tree.specs.Environment.{DataSet}
@@ -14,7 +14,7 @@ use Rattle.vtl_interp.specs.declared.held.Held.{Held}
 
 -- no two have the same name
 abbrev pub AreApart : Holdings → Type 0
-AreApart known = all_apart same_name (keys_of known) ≡ true
+AreApart known = IsDistinct same_name (keys_of known)
 
 -- a table of the data set stands behind those before it
 pub record IsBehind (name : List ℕ) (d : DataSet) (before now : NamedTables) : Type 0 where

@@ -1,6 +1,5 @@
 // The evaluation of expressions on data sets.
 ghost use Rattle.std.specs.Prelude.{◌≡◌, true};
-ghost use Rattle.std.specs.Prelude.{IfSome, Some};
 ghost use Rattle.vtl_nodes.specs.View.{node_tree};
 ghost use Rattle.vtl_meaning.specs.Made.{IsMade};
 ghost use Rattle.vtl_meaning.specs.Meaning.{is_built, known_in};
@@ -51,11 +50,22 @@ pub fn evaluate<'a>(
         NodeForm::DropNamed { a, .. } => columns(alloc, evaluate(alloc, known, a, p)?, made),
         NodeForm::Filter { a, c } => filter(alloc, evaluate(alloc, known, a, p)?, c, made, p),
         NodeForm::Calc { a, items } => {
-            calc(alloc, evaluate(alloc, known, a, p)?, items.as_slice(), made, p)
+            calc(
+                alloc,
+                evaluate(alloc, known, a, p)?,
+                items.as_slice(),
+                made,
+                p,
+            )
         }
         NodeForm::Rename { a, .. } => rename(alloc, evaluate(alloc, known, a, p)?, made),
         NodeForm::Sub { a, values } => {
-            sub(alloc, evaluate(alloc, known, a, p)?, values.as_slice(), made)
+            sub(
+                alloc,
+                evaluate(alloc, known, a, p)?,
+                values.as_slice(),
+                made,
+            )
         }
         _ => unreachable!(),
     }

@@ -1,13 +1,11 @@
 // The inputs of a script as data sets.
-ghost use Rattle.std.specs.Prelude.{◌≡◌, [], Some, None, IfOk, true, false};
+ghost use Rattle.std.specs.Prelude.{◌≡◌, Some, IfOk, false};
 ghost use Rattle.std.specs.Map.{lookup};
 ghost use Rattle.vtl_csv.specs.TableText.{IsTableOf};
-ghost use Rattle.vtl_rows.specs.Named.{table_of};
 ghost use Rattle.vtl_tree.specs.Structure.{same_name};
 ghost use Rattle.vtl_check.specs.Checked.{known_of};
 ghost use Rattle.vtl_expr.specs.DataSets.{data_set};
-ghost use Rattle.vtl_backend.specs.Inputs.{AreInputs, environment_of, rows_named};
-ghost use Rattle.vtl_interp.specs.Held.{environment, outputs_in};
+ghost use Rattle.vtl_backend.specs.Inputs.{AreInputs, rows_named};
 ghost use Rattle.vtl_interp.specs.Loaded.{IsInput, IsLoaded};
 
 use crate::held::Known;

@@ -1,7 +1,7 @@
 // The interpreter.
 ghost use Rattle.std.specs.Prelude.{◌≡◌, true};
 ghost use Rattle.vtl_backend.specs.Inputs.{AreInputs};
-ghost use Rattle.vtl_backend.specs.Runs.{ShowMeaning, script_meaning};
+ghost use Rattle.vtl_backend.specs.Runs.{script_meaning};
 ghost use Rattle.vtl_backend.specs.Statements.{is_script_built};
 ghost use Rattle.vtl_interp.specs.Results.{RunsTo, ShownBy};
 
@@ -25,7 +25,13 @@ fn all_results(alloc: Global, script: &Checked, inputs: &Inputs) -> Result<Known
     ensures { RunsTo (λ k. k.entries) (script_meaning script.now inputs.now) result }
 {
     let known = load(alloc, script, inputs)?;
-    run_statements(alloc, known, script.statements(), script.nodes(), script.profile())
+    run_statements(
+        alloc,
+        known,
+        script.statements(),
+        script.nodes(),
+        script.profile(),
+    )
 }
 
 // The outputs of a script.
@@ -41,6 +47,7 @@ fn script_outputs(alloc: Global, script: &Checked, inputs: &Inputs) -> Result<Ou
 impl Backend for Interp {
     ghost work = { λ _. 0 };
 
+    #[tactic(auto, using(crate::proofs::Writes::faulted))]
     fn run(
         &mut self,
         alloc: Global,

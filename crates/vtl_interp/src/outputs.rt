@@ -3,7 +3,7 @@ ghost use Rattle.std.specs.Prelude.{◌≡◌, None, IfOk, OnOk};
 ghost use Rattle.vtl_rows.specs.Named.{table_of};
 ghost use Rattle.vtl_backend.specs.Runs.{ShowAll};
 ghost use Rattle.vtl_interp.specs.Held.{outputs_in};
-ghost use Rattle.vtl_interp.specs.Written.{AreApart, IsWritten};
+ghost use Rattle.vtl_interp.specs.Written.{IsWritten};
 
 use crate::held::{Held, Known};
 use std::alloc::{AllocError, Global};
@@ -23,7 +23,6 @@ fn write(outputs: &mut Outputs, name: Txt, held: Held) -> Result<(), AllocError>
 
 /// The tables of the data sets that are written, in order. It fails only for want of memory.
 pub fn outputs_of(alloc: Global, known: Known) -> Result<Outputs, AllocError>
-    requires { AreApart known.entries }
     ensures { IfOk result (λ tables. ShowAll (outputs_in known.entries) tables) }
 {
     let mut outputs = Outputs::new(alloc);

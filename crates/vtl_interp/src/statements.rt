@@ -25,12 +25,7 @@ use vtl_syntax::{AssignKind, Statement};
 use vtl_text::Txt;
 
 // The data set of an expression for oneself.
-fn result_of(
-    alloc: Global,
-    known: &Known,
-    node: &Node,
-    p: &Profile,
-) -> Result<DataSet, ScalarErr>
+fn result_of(alloc: Global, known: &Known, node: &Node, p: &Profile) -> Result<DataSet, ScalarErr>
     requires made { IsMade p.now (known_in (environment known.now.entries)) (node_tree node.now) }
     requires built { is_built (node_tree node.now) ≡ true }
     ensures { Evaluates (λ d. d) p.now (environment known.now.entries) (node_tree node.now) result }
@@ -49,22 +44,11 @@ fn is_written(kind: AssignKind) -> bool
 }
 
 /// Puts a data set behind the others, under a name that none has yet. It fails only for want of memory.
-pub fn put(
-    known: &mut Known,
-    name: &Txt,
-    made: DataSet,
-    written: bool,
-) -> Result<(), AllocError>
+pub fn put(known: &mut Known, name: &Txt, made: DataSet, written: bool) -> Result<(), AllocError>
     requires { list_any (same_name name.now) (keys_of known.old.entries) ≡ false }
     ensures { OnOk result (known.new.entries ≡ known.old.entries ++ (name.now, record { set = made; written = written }) ∷ []) }
 {
-    known.insert(
-        name.share()?,
-        Held {
-            set: made,
-            written,
-        },
-    )?;
+    known.insert(name.share()?, Held { set: made, written })?;
     Ok(())
 }
 

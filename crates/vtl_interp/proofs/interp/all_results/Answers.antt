@@ -1,4 +1,4 @@
-use Rattle.std.proofs.Common.{◌≡◌, length, map, sym, ap, subst, ◌∙◌}
+use Rattle.std.proofs.Common.{length, map, sym, ap, subst, ◌∙◌}
 use Rattle.vtl_syntax.specs.View.{statement_tree}
 use Rattle.vtl_check.specs.Script.{has_definitions}
 use Rattle.vtl_check.proofs.ScriptLemmas.{as_many_nodes}

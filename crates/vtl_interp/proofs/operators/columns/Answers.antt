@@ -1,4 +1,4 @@
-use Rattle.std.proofs.Common.{◌≡◌, Ok, sym, ap, ◌∙◌}
+use Rattle.std.proofs.Common.{Ok, sym, ap, ◌∙◌}
 use Rattle.vtl_meaning.specs.Operators.{left_of}
 use Rattle.vtl_expr.specs.DataSets.{data_set}
 use Rattle.vtl_interp.specs.Values.{value_view}

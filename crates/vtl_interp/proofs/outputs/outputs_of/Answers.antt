@@ -1,14 +1,24 @@
-use Rattle.std.proofs.Common.{rules, ◌≡◌, ◌∷◌, List, None, subst}
+use Rattle.std.proofs.Common.{rules, ◌≡◌, ℕ, ◌∷◌, List, None, subst, sym}
 use Rattle.std.specs.List.{AllByRecursion}
 use Rattle.vtl_rows.specs.Named.{table_of}
 use Rattle.vtl_interp.specs.Held.{Holdings, outputs_in}
+use Rattle.vtl_interp.specs.declared.held.Held.{Held}
 use Rattle.vtl_interp.specs.Written.{AreApart, Remain}
-use Rattle.vtl_interp.proofs.Writes.{one_written, rest_apart, still_free}
+use Rattle.vtl_interp.proofs.Writes.{all_free, at_start, one_written, rest_apart, still_free}
 use Rattle.vtl_interp.proofs.outputs.outputs_of.Goals as goal
+
+pub loop-name-init : goal.loop-name-init
+loop-name-init c =
+    let given = c.into_iter-name-iterator.ensures.into_iter_gives in
+    record {
+      shown = at_start c.args.known.entries c.into_iter-name-iterator.result c.new-outputs.result given.0 c.new-outputs.ensures;
+      apart = subst AreApart (sym given.0) given.4;
+      free = all_free c.into_iter-name-iterator.result c.new-outputs.result c.new-outputs.ensures;
+    }
 
 pub loop-name-preserved : goal.loop-name-preserved
 loop-name-preserved c =
-    let e = (c.in-Some.name, c.in-Some.held) in
+    let e : List ℕ × Held = (c.in-Some.name, c.in-Some.held) in
     let rest = c.next.new.self in
     let before = c.loop-name.outputs in
     let now = c.write.new.outputs in
