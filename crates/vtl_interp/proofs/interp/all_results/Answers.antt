@@ -1,7 +1,6 @@
 use Rattle.std.proofs.Common.{length, map, sym, ap, subst, ◌∙◌}
 use Rattle.vtl_syntax.specs.View.{statement_tree}
 use Rattle.vtl_check.specs.Script.{has_definitions}
-use Rattle.vtl_check.proofs.ScriptLemmas.{as_many_nodes}
 use Rattle.vtl_interp.specs.Results.{RunsTo}
 use Rattle.vtl_interp.proofs.MadeStatements.{statements_made}
 use Rattle.vtl_interp.proofs.Scripts.{all_assignments}
@@ -9,7 +8,7 @@ use Rattle.vtl_interp.proofs.Starts.{meant_by_run, ready_to_run}
 use Rattle.vtl_interp.proofs.interp.all_results.Goals as goal
 
 pub run_statements-requires-clause-many : goal.run_statements-requires-clause-many
-run_statements-requires-clause-many c = ap length c.nodes.ensures.nodes ∙ as_many_nodes c.args.script.now c.nodes.ensures.typed ∙ sym (ap length c.statements.ensures)
+run_statements-requires-clause-many c = c.nodes.ensures.as_many ∙ sym (ap length c.statements.ensures)
 
 pub run_statements-requires-clause-plain : goal.run_statements-requires-clause-plain
 run_statements-requires-clause-plain c = ap (λ l. has_definitions (map statement_tree l)) c.statements.ensures ∙ all_assignments c.args.script.now c.nodes.ensures.typed
