@@ -1,3 +1,4 @@
+pub mod Agree
 pub mod Inputs
 pub mod Runs
 pub mod Statements

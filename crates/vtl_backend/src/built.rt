@@ -11,7 +11,12 @@ use vtl_nodes::{Node, NodeForm};
 pub fn is_built(script: &Checked) -> bool
     ensures { result ≡ is_script_built script.now }
 {
-    script.nodes().iter().all(|node| is_node_built(node))
+    for node in script.nodes() {
+        if !is_node_built(node) {
+            return false;
+        }
+    }
+    true
 }
 
 fn is_node_built(node: &Node) -> bool

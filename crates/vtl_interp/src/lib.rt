@@ -1,24 +1,13 @@
-//! stub
+//! The interpreter: the back end that evaluates the operators of a script one after the other, over tables in memory.
 #![tactic(auto)]
-ghost use Rattle.std.specs.Prelude.{◌≡◌, true};
-use std::alloc::Global;
-use vtl_backend::{Backend, RunErr};
-use vtl_check::Checked;
-use vtl_rows::{Inputs, Outputs};
 
-/// The interpreter.
-pub struct Interp;
+mod evaluation;
+mod held;
+mod inputs;
+mod interp;
+mod operators;
+mod outputs;
+mod statements;
+mod value;
 
-impl Backend for Interp {
-    ghost work = { λ _. 0 };
-
-    fn run(
-        &mut self,
-        _alloc: Global,
-        _script: &Checked,
-        _inputs: &Inputs,
-        _out: &mut Outputs,
-    ) -> Result<(), RunErr> {
-        Err(RunErr::OutOfMemory)
-    }
-}
+pub use interp::Interp;

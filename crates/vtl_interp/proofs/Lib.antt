@@ -1,0 +1,13 @@
+pub mod Environments
+pub mod Evaluates
+pub mod InputsRead
+pub mod Known
+pub mod Loads
+pub mod MadeStatements
+pub mod NamesRead
+pub mod NodesEvaluated
+pub mod Scripts
+pub mod Starts
+pub mod Steps
+pub mod Turns
+pub mod Writes

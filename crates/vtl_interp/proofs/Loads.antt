@@ -1,0 +1,133 @@
+-- The inputs of a script, one after the other.
+use Rattle.std.proofs.Common.{◌≡◌, ℕ, zero, suc, ◌+◌, ◌<◌, Bool, true, false, cond, not, ◌||◌, List, [], ◌∷◌, ◌++◌, map, length, take, get_or, slice_get, Some, refl, sym, ap, subst, ◌∙◌, arith}
+use Rattle.std.specs.List.{AllByRecursion, list_any}
+use Rattle.std.specs.Map.{keys_of, lookup}
+use Rattle.std.specs.Cmp.Lexicographic.{bytes_decides, nat_list_eq_equiv}
+use Rattle.std.proofs.lemmas.Bool.{and_parts}
+use Rattle.std.proofs.lemmas.List.{map-append, take-map, take_more}
+use Rattle.std.proofs.lemmas.Option.{get_or_from_slice_get, slice_get_within}
+use Rattle.vtl_lists.specs.Apart.{all_apart}
+use Rattle.vtl_cell.specs.Row.{Row}
+use Rattle.vtl_rows.specs.Named.{NamedTables, table_of}
+use Rattle.vtl_syntax.specs.Trees as tree
+use Rattle.vtl_syntax.specs.Trees.{ScriptTree}
+use Rattle.vtl_tree.specs.Environment.{DataSet, Environment}
+use Rattle.vtl_tree.specs.Structure.{same_name}
+use Rattle.vtl_tree.specs.Structures.{Named, has_name}
+use Rattle.vtl_tree.specs.declared.structure.Structure.{Structure}
+use Rattle.vtl_tree.proofs.StructuresLemmas.{repeated}
+use Rattle.vtl_nodes.specs.Trees.{NodeTree, structure_of}
+use Rattle.vtl_check.specs.Checked.{TypedScript, known_of, nodes_of, tree_of}
+use Rattle.vtl_check.specs.Uses.{results_behind, with_new}
+use Rattle.vtl_meaning.specs.Meaning.{Outputs, known_in}
+use Rattle.vtl_backend.specs.Inputs.{AreInputs, Holds, input_of, inputs_of, rows_named}
+use Rattle.vtl_interp.specs.Held.{Holdings, environment, outputs_in}
+use Rattle.vtl_interp.specs.Loaded.{IsInput}
+use Rattle.vtl_interp.proofs.Environments.{found_in_front}
+use Rattle.vtl_interp.proofs.InputsRead.{known_inputs, reads_apart}
+use Rattle.vtl_interp.proofs.Steps.{environment_more, outputs_more}
+
+-- a name is none of those before it
+pub fresh_at : (xs : List (List ℕ)) (i : ℕ) (x : List ℕ) → i < length xs → x ≡ get_or xs i x → all_apart same_name xs ≡ true → list_any (same_name x) (take i xs) ≡ false
+fresh_at xs i x h e apart = go (list_any (same_name x) (take i xs)) refl
+  where
+    go : (b : Bool) → list_any (same_name x) (take i xs) ≡ b → b ≡ false
+    go false q = refl
+    go true q = sym (repeated xs i x h e q ∙ apart)
+
+-- a name among others that are all apart from one
+name_apart : (key : List ℕ) (ks : List (List ℕ)) (i : ℕ) (name : List ℕ) → list_any (same_name key) ks ≡ false → i < length ks → name ≡ get_or ks i name → same_name key name ≡ false
+name_apart key [] i name q h e = absurd (omega arith)
+name_apart key (k ∷ ks) zero name q h e = at (same_name key k) q (ap (same_name key) e)
+  where
+    at : (b : Bool) → (b || list_any (same_name key) ks) ≡ false → same_name key name ≡ b → same_name key name ≡ false
+    at true q s = cc
+    at false q s = s
+name_apart key (k ∷ ks) (suc i) name q h e = at (same_name key k) (λ r. name_apart key ks i name r (omega (arith, h)) e) q
+  where
+    at : (b : Bool) → (list_any (same_name key) ks ≡ false → same_name key name ≡ false) → (b || list_any (same_name key) ks) ≡ false → same_name key name ≡ false
+    at true ih q = cc
+    at false ih q = ih q
+
+-- an entry among others
+pub record IsEntryAt (es : Named) (i : ℕ) (name : List ℕ) : Type 0 where
+  pub structure : Structure
+  pub entry : slice_get es i ≡ Some (name, structure)
+  pub found : lookup (same_name name) es ≡ Some structure
+
+pub entry_at : (es : Named) (i : ℕ) (name : List ℕ) → all_apart same_name (keys_of es) ≡ true → i < length (keys_of es) → name ≡ get_or (keys_of es) i name → IsEntryAt es i name
+entry_at [] i name apart h e = absurd (omega arith)
+entry_at (x ∷ es) zero name apart h e =
+    record { structure = x.1; entry = ap (λ n. Some (n, x.1)) (sym e); found = ap (λ b. cond b (Some x.1) (lookup (same_name name) es)) ((bytes_decides name x.0).1 e) }
+entry_at (x ∷ es) (suc i) name apart h e =
+    let parts = and_parts (not (list_any (same_name x.0) (keys_of es))) (all_apart same_name (keys_of es)) apart in
+    let it = entry_at es i name parts.1 (omega (arith, h)) e in
+    record {
+      structure = it.structure;
+      entry = it.entry;
+      found = ap (λ b. cond b (Some x.1) (lookup (same_name name) es)) (nat_list_eq_equiv.symm name x.0 ∙ name_apart x.0 (keys_of es) i name (none (list_any (same_name x.0) (keys_of es)) parts.0) (omega (arith, h)) e) ∙ it.found;
+    }
+  where
+    none : (b : Bool) → not b ≡ true → b ≡ false
+    none true q = cc
+    none false q = refl
+
+-- results stand behind what is known
+pub still_found : (name : List ℕ) (s : Structure) (known : Named) (ss : ScriptTree) (ns : List NodeTree) → lookup (same_name name) known ≡ Some s → lookup (same_name name) (results_behind known ss ns) ≡ Some s
+still_found name s known [] ns e = e
+still_found name s known (tree.assignment n k x ∷ ss) [] e = e
+still_found name s known (tree.assignment n k x ∷ ss) (m ∷ ns) e = still_found name s (with_new known n (structure_of m)) ss ns (go (has_name n known))
+  where
+    go : (b : Bool) → lookup (same_name name) (cond b known (known ++ (n, structure_of m) ∷ [])) ≡ Some s
+    go true = e
+    go false = found_in_front name known ((n, structure_of m) ∷ []) s e
+still_found name s known (tree.datapoint n vs rs b ∷ ss) ns e = e
+still_found name s known (tree.hierarchical n v rs b ∷ ss) ns e = e
+
+all_at : {X : Type 0} (P : X → Type 0) (xs : List X) (i : ℕ) (x : X) → AllByRecursion P xs → slice_get xs i ≡ Some x → P x
+all_at P [] i x h e = cc
+all_at P (y ∷ ys) zero x h e = let same : y ≡ x = cc in subst P same h.0
+all_at P (y ∷ ys) (suc i) x h e = all_at P ys i x h.1 e
+
+pub is_input : (t : TypedScript) (tables : NamedTables) (i : ℕ) (name : List ℕ) → AreInputs t tables → IsEntryAt (inputs_of t) i name → IsInput t tables name
+is_input t tables i name are it =
+    record {
+      structure = it.structure;
+      found = still_found name it.structure (inputs_of t) (tree_of t) (nodes_of t) it.found;
+      holds = all_at (λ e. Holds e.1 (table_of e.0 tables)) (inputs_of t) i (name, it.structure) are it.entry;
+    }
+
+-- ---- turns of the loop over the inputs
+pub keys_environment : (es : Holdings) → keys_of (known_in (environment es)) ≡ keys_of es
+keys_environment [] = refl
+keys_environment (e ∷ es) = ap (λ l. e.0 ∷ l) (keys_environment es)
+
+pub read_at : (t : TypedScript) (items : List (List ℕ)) (i : ℕ) (name : List ℕ) → items ≡ keys_of (inputs_of t) → i < length items → name ≡ get_or items i name → IsEntryAt (inputs_of t) i name
+read_at t items i name e h is = entry_at (inputs_of t) i name (reads_apart t.declared (nodes_of t)) (subst (λ (l : List (List ℕ)). i < length l) e h) (is ∙ ap (λ l. get_or l i name) e)
+
+pub fresh_input : (t : TypedScript) (tables : NamedTables) (known : Holdings) (items : List (List ℕ)) (i : ℕ) (name : List ℕ) → environment known ≡ map (input_of tables) (take i (inputs_of t)) → items ≡ keys_of (inputs_of t) → i < length items → name ≡ get_or items i name → list_any (same_name name) (keys_of known) ≡ false
+fresh_input t tables known items i name held e h is =
+    let keys : keys_of known ≡ take i (keys_of (inputs_of t)) =
+    sym (keys_environment known) ∙ ap (λ (l : Environment). keys_of (known_in l)) held ∙ ap keys_of (known_inputs tables (take i (inputs_of t))) ∙ sym (take-map (λ (x : List ℕ × Structure). x.0) i (inputs_of t)) in
+    ap (list_any (same_name name)) keys ∙ fresh_at (keys_of (inputs_of t)) i name (subst (λ (l : List (List ℕ)). i < length l) e h) (is ∙ ap (λ l. get_or l i name) e) (reads_apart t.declared (nodes_of t))
+
+one_more : (xs : Named) (i : ℕ) (x : List ℕ × Structure) → slice_get xs i ≡ Some x → take (i + 1) xs ≡ take i xs ++ x ∷ []
+one_more xs i x e = take_more xs i x (slice_get_within xs i x e) ∙ ap (λ (y : List ℕ × Structure). take i xs ++ y ∷ []) (get_or_from_slice_get xs i x x e)
+
+pub held_more : (t : TypedScript) (tables : NamedTables) (known now : Holdings) (i : ℕ) (name : List ℕ) (d : DataSet) → IsEntryAt (inputs_of t) i name → environment known ≡ map (input_of tables) (take i (inputs_of t))
+    → lookup (same_name name) (known_of t) ≡ Some d.structure → d.points ≡ rows_named name tables → now ≡ known ++ (name, record { set = d; written = false }) ∷ []
+    → environment now ≡ map (input_of tables) (take (i + 1) (inputs_of t))
+held_more t tables known now i name d it held found points e =
+    let s = it.structure in
+    let there : lookup (same_name name) (known_of t) ≡ Some s = still_found name s (inputs_of t) (tree_of t) (nodes_of t) it.found in
+    let both : Some d.structure ≡ Some s = sym found ∙ there in
+    let same : d.structure ≡ s = cc in
+    let made : (name, d) ≡ input_of tables (name, s) = ap (λ (u : Structure). (name, record { structure = u; points = d.points })) same ∙ ap (λ (rows : List Row). (name, record { structure = s; points = rows })) points in
+    ap environment e ∙ environment_more known (name, record { set = d; written = false })
+    ∙ ap (λ (l : Environment). l ++ (name, d) ∷ []) held
+    ∙ ap (λ (x : List ℕ × DataSet). map (input_of tables) (take i (inputs_of t)) ++ x ∷ []) made
+    ∙ sym (map-append (input_of tables) (take i (inputs_of t)) ((name, s) ∷ []))
+    ∙ ap (map (input_of tables)) (sym (one_more (inputs_of t) i (name, s) it.entry))
+
+pub unwritten_more : (known now : Holdings) (name : List ℕ) (d : DataSet) → outputs_in known ≡ [] → now ≡ known ++ (name, record { set = d; written = false }) ∷ [] → outputs_in now ≡ []
+unwritten_more known now name d none e = ap outputs_in e ∙ outputs_more known (name, record { set = d; written = false }) ∙ ap (λ (l : Outputs). l ++ []) none

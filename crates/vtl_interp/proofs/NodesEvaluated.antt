@@ -1,0 +1,114 @@
+-- What nodes of the program evaluate to.
+use Rattle.std.proofs.Common.{◌≡◌, ℕ, Bool, true, false, cond, List, [], ◌∷◌, map, Option, Some, None, Result, Ok, refl, rules, sym, ap, subst, ◌∙◌}
+use Rattle.std.specs.Prelude.{Box, option_map}
+use Rattle.std.specs.declared.alloc.Global.{Global}
+use Rattle.std.specs.Option.{option_map_or}
+use Rattle.std.specs.Map.{lookup}
+use Rattle.vtl_decimal.specs.Settings.{Settings}
+use Rattle.vtl_text.specs.declared.shared_text.Txt.{Txt}
+use Rattle.vtl_cell.specs.declared.operator.ScalarOp.{ScalarOp}
+use Rattle.vtl_cell.specs.Outcome.{Outcome, after}
+use Rattle.vtl_cell.specs.Row.{Row}
+use Rattle.vtl_scalar.specs.Answers.{AnswersBy}
+use Rattle.vtl_scalar.specs.declared.error.ScalarErr.{ScalarErr}
+use Rattle.vtl_tree.specs.Environment.{DataSet, Environment, data_of}
+use Rattle.vtl_tree.specs.Structure.{same_name}
+use Rattle.vtl_tree.specs.declared.structure.Structure.{Structure}
+use Rattle.vtl_nodes.specs.Trees as nodes
+use Rattle.vtl_nodes.specs.Trees.{FormTree, NodeTree, structure_of}
+use Rattle.vtl_nodes.specs.View.{form_tree, item_tree, measure_tree, node_tree}
+use Rattle.vtl_nodes.specs.declared.clauses.CalcItem.{CalcItem}
+use Rattle.vtl_nodes.specs.declared.clauses.SubItem.{SubItem}
+use Rattle.vtl_nodes.specs.declared.nodes.MeasureOp.{MeasureOp}
+use Rattle.vtl_nodes.specs.declared.nodes.Node as node
+use Rattle.vtl_nodes.specs.declared.nodes.Node.{Node}
+use Rattle.vtl_nodes.specs.declared.nodes.NodeForm.{NodeForm}
+use Rattle.vtl_nodes.specs.declared.nodes.NodeForm.TheVariants as form
+use Rattle.vtl_nodes.specs.declared.nodes.NodeForm as forms
+use Rattle.vtl_meaning.specs.Made.{IsMade}
+use Rattle.vtl_meaning.specs.Meaning.{form_value, known_in, node_value}
+use Rattle.vtl_expr.specs.DataSets.{with_structure}
+use Rattle.vtl_interp.specs.Evaluated.{Evaluates, Gives}
+use Rattle.vtl_interp.specs.Held.{Holdings, environment}
+use Rattle.vtl_interp.specs.declared.held.Held.{Held}
+use Rattle.vtl_interp.proofs.Environments.{data_looked, known_looked}
+use Rattle.vtl_interp.proofs.Evaluates.{applied, then}
+
+-- the tree of a node, and of each form that is evaluated
+node_tree-is : (n : Node) → node_tree n ≡ nodes.node n.structure (form_tree n.form)
+node_tree-is n = search (rules, node.the_lemmas)
+
+pub form_tree-Named : (name : Txt) → form_tree (form.Named name) ≡ nodes.named name
+form_tree-Named name = search (rules, forms.the_lemmas)
+
+pub form_tree-Measures : (op : MeasureOp) (a : Box Node Global) → form_tree (form.Measures op a) ≡ nodes.measures (measure_tree op) (node_tree a.value)
+form_tree-Measures op a = search (rules, forms.the_lemmas)
+
+pub form_tree-Pair : (op : ScalarOp) (a b : Box Node Global) → form_tree (form.Pair op a b) ≡ nodes.pair op (node_tree a.value) (node_tree b.value)
+form_tree-Pair op a b = search (rules, forms.the_lemmas)
+
+pub form_tree-Member : (a : Box Node Global) (m : Txt) → form_tree (form.Member a m) ≡ nodes.member (node_tree a.value) m
+form_tree-Member a m = search (rules, forms.the_lemmas)
+
+pub form_tree-Calc : (a : Box Node Global) (items : List CalcItem) → form_tree (form.Calc a items) ≡ nodes.calc (node_tree a.value) (map item_tree items)
+form_tree-Calc a items = search (rules, forms.the_lemmas)
+
+pub form_tree-Keep : (a : Box Node Global) (names : List Txt) → form_tree (form.Keep a names) ≡ nodes.keep (node_tree a.value) names
+form_tree-Keep a names = search (rules, forms.the_lemmas)
+
+pub form_tree-DropNamed : (a : Box Node Global) (names : List Txt) → form_tree (form.DropNamed a names) ≡ nodes.drop_named (node_tree a.value) names
+form_tree-DropNamed a names = search (rules, forms.the_lemmas)
+
+pub form_tree-Sub : (a : Box Node Global) (values : List SubItem) → form_tree (form.Sub a values) ≡ nodes.sub (node_tree a.value) values
+form_tree-Sub a values = search (rules, forms.the_lemmas)
+
+-- the tree of a node of this form
+tree_with : (n : Node) (f : NodeForm) (t : FormTree) → n.form ≡ f → form_tree f ≡ t → node_tree n ≡ nodes.node n.structure t
+tree_with n f t e d = node_tree-is n ∙ ap (λ (g : NodeForm). nodes.node n.structure (form_tree g)) e ∙ ap (nodes.node n.structure) d
+
+-- an operator on one operand
+pub one_operand : {A : Type 0} (view : A → DataSet) (p : Settings) (env : Environment) (n : Node) (f : NodeForm) (t : FormTree) (a : NodeTree) (d : DataSet) (op : Structure → List Row → Outcome (List Row)) (r : Result A ScalarErr)
+    → n.form ≡ f → form_tree f ≡ t → form_value p env n.structure t ≡ after (node_value p env a) (op (structure_of a)) → Gives p env a d → AnswersBy view r (with_structure n.structure (op d.structure d.points))
+    → Evaluates view p env (node_tree n) r
+one_operand view p env n f t a d op r e tree value g h =
+    subst (λ (u : NodeTree). Evaluates view p env u r) (sym (tree_with n f t e tree))
+    (applied view p env (nodes.node n.structure t) (op d.structure d.points) r (value ∙ then p env a d op g) h)
+
+-- an operator on two
+pub two_operands : {A : Type 0} (view : A → DataSet) (p : Settings) (env : Environment) (n : Node) (f : NodeForm) (t : FormTree) (a b : NodeTree) (d e : DataSet) (op : Structure → Structure → List Row → List Row → Outcome (List Row)) (r : Result A ScalarErr)
+    → n.form ≡ f → form_tree f ≡ t → form_value p env n.structure t ≡ after (node_value p env a) (λ x. after (node_value p env b) (op (structure_of a) (structure_of b) x)) → Gives p env a d → Gives p env b e
+    → AnswersBy view r (with_structure n.structure (op d.structure e.structure d.points e.points)) → Evaluates view p env (node_tree n) r
+two_operands view p env n f t a b d e op r is tree value g k h =
+    subst (λ (u : NodeTree). Evaluates view p env u r) (sym (tree_with n f t is tree))
+    (applied view p env (nodes.node n.structure t) (op d.structure e.structure d.points e.points) r
+    (value ∙ then p env a d (λ s x. after (node_value p env b) (op s (structure_of b) x)) g ∙ then p env b e (λ s y. op d.structure s d.points y) k) h)
+
+-- ---- a name
+held_looked : (name : List ℕ) (es : Holdings) → lookup (same_name name) (environment es) ≡ option_map (λ h. h.set) (lookup (same_name name) es)
+held_looked name [] = refl
+held_looked name (e ∷ es) = go (same_name name e.0) (held_looked name es)
+  where
+    go : (b : Bool) → lookup (same_name name) (environment es) ≡ option_map (λ h. h.set) (lookup (same_name name) es)
+        → cond b (Some e.1.set) (lookup (same_name name) (environment es)) ≡ option_map (λ h. h.set) (cond b (Some e.1) (lookup (same_name name) es))
+    go true ih = refl
+    go false ih = ih
+
+known_held : (name : List ℕ) (es : Holdings) → lookup (same_name name) (known_in (environment es)) ≡ option_map (λ d. d.structure) (option_map (λ h. h.set) (lookup (same_name name) es))
+known_held name es = known_looked name (environment es) ∙ ap (λ (o : Option DataSet). option_map (λ d. d.structure) o) (held_looked name es)
+
+-- a name's node is made over what is held: its structure is that of the data set
+made_named : (p : Settings) (es : Holdings) (n : Node) (name : List ℕ) → n.form ≡ form.Named name → IsMade p (known_in (environment es)) (node_tree n) → lookup (same_name name) (known_in (environment es)) ≡ Some n.structure
+made_named p es n name e made = (subst (IsMade p (known_in (environment es))) (tree_with n (form.Named name) (nodes.named name) e (form_tree-Named name)) made).1
+
+pub name_is_held : (p : Settings) (es : Holdings) (n : Node) (name : List ℕ) → n.form ≡ form.Named name → IsMade p (known_in (environment es)) (node_tree n) → lookup (same_name name) es ≡ None → ⊥
+name_is_held p es n name e made none =
+    let h : None ≡ Some n.structure = sym (known_held name es ∙ ap (λ (o : Option Held). option_map (λ d. d.structure) (option_map (λ h. h.set) o)) none) ∙ made_named p es n name e made in
+    cc
+
+pub name_gives : (p : Settings) (es : Holdings) (n : Node) (name : List ℕ) (h : Held) → n.form ≡ form.Named name → IsMade p (known_in (environment es)) (node_tree n) → lookup (same_name name) es ≡ Some h → Gives p (environment es) (node_tree n) h.set
+name_gives p es n name h e made found =
+    let looked : Some h.set.structure ≡ Some n.structure = sym (known_held name es ∙ ap (λ (o : Option Held). option_map (λ d. d.structure) (option_map (λ h. h.set) o)) found) ∙ made_named p es n name e made in
+    let same : h.set.structure ≡ n.structure = cc in
+    let there : data_of name (environment es) ≡ Some h.set = data_looked name (environment es) ∙ held_looked name es ∙ ap (λ (o : Option Held). option_map (λ h. h.set) o) found in
+    subst (λ (t : NodeTree). Gives p (environment es) t h.set) (sym (tree_with n (form.Named name) (nodes.named name) e (form_tree-Named name)))
+    (record { structure = same; points = ap (λ (o : Option DataSet). Ok (option_map_or (λ d. d.points) o [])) there })

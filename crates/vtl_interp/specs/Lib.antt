@@ -1,0 +1,6 @@
+pub mod Evaluated
+pub mod Held
+pub mod Loaded
+pub mod Results
+pub mod Values
+pub mod Written

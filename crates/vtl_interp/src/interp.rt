@@ -1,0 +1,61 @@
+// The interpreter.
+ghost use Rattle.std.specs.Prelude.{◌≡◌, true};
+ghost use Rattle.vtl_backend.specs.Inputs.{AreInputs};
+ghost use Rattle.vtl_backend.specs.Runs.{script_meaning};
+ghost use Rattle.vtl_backend.specs.Statements.{is_script_built};
+ghost use Rattle.vtl_interp.specs.Results.{RunsTo, ShownBy};
+
+use crate::held::Known;
+use crate::inputs::load;
+use crate::outputs::outputs_of;
+use crate::statements::run_statements;
+use std::alloc::Global;
+use vtl_backend::{Backend, RunErr};
+use vtl_check::Checked;
+use vtl_rows::{Inputs, Outputs};
+
+/// The back end that evaluates the operators of a script one after the other, over tables in memory.
+#[derive(Drop)]
+pub struct Interp;
+
+// The inputs and the results of a script.
+fn all_results(alloc: Global, script: &Checked, inputs: &Inputs) -> Result<Known, RunErr>
+    requires inputs { AreInputs script.now inputs.now }
+    requires built { is_script_built script.now ≡ true }
+    ensures { RunsTo (λ k. k.entries) (script_meaning script.now inputs.now) result }
+{
+    let known = load(alloc, script, inputs)?;
+    run_statements(
+        alloc,
+        known,
+        script.statements(),
+        script.nodes(),
+        script.profile(),
+    )
+}
+
+// The outputs of a script.
+fn script_outputs(alloc: Global, script: &Checked, inputs: &Inputs) -> Result<Outputs, RunErr>
+    requires inputs { AreInputs script.now inputs.now }
+    requires built { is_script_built script.now ≡ true }
+    ensures { ShownBy (script_meaning script.now inputs.now) result }
+{
+    let known = all_results(alloc, script, inputs)?;
+    Ok(outputs_of(alloc, known)?)
+}
+
+impl Backend for Interp {
+    ghost work = { λ _. 0 };
+
+    #[tactic(auto, using(crate::proofs::Writes::faulted))]
+    fn run(
+        &mut self,
+        alloc: Global,
+        script: &Checked,
+        inputs: &Inputs,
+        out: &mut Outputs,
+    ) -> Result<(), RunErr> {
+        *out = script_outputs(alloc, script, inputs)?;
+        Ok(())
+    }
+}
