@@ -5,6 +5,7 @@ ghost use Rattle.std.specs.Prelude.{◌≡◌, IfOk, Ok, false, length, map};
 ghost use Rattle.vtl_syntax.specs.View.{script_tree, statement_tree};
 ghost use Rattle.vtl_nodes.specs.View.{node_tree};
 ghost use Rattle.vtl_tree.specs.Structure.{same_name};
+ghost use Rattle.vtl_tree.specs.Structures.{AreStructures};
 ghost use Rattle.vtl_check.specs.Checked.{AreUses, IsTyped, TypedScript, env_over, inputs_of, known_of, nodes_of, outputs_of, typed_script};
 ghost use Rattle.vtl_check.specs.Uses.{outputs_in, reads, results_behind};
 ghost use Rattle.vtl_check.specs.Script.{Checks, has_definitions, is_definition, script_typed};
@@ -36,6 +37,7 @@ pub struct Checked {
 impl Model for Checked {
     ghost use Rattle.std.specs.Coded.{codes};
     ghost use Rattle.std.specs.Prelude.{◌≡◌};
+    ghost use Rattle.vtl_tree.specs.Structures.{AreStructures};
     ghost use Rattle.vtl_check.specs.Checked.{AreUses, IsTyped, TypedScript};
     ghost use Rattle.vtl_syntax.specs.contracts.statements.Statement as s;
     ghost use Rattle.vtl_nodes.specs.contracts.nodes.Node as n;
@@ -48,7 +50,8 @@ impl Model for Checked {
 
     ghost invariant = { λ c.
         IsTyped (record { script = c.script.statements; declared = c.declared.entries; settings = c.profile; nodes = c.nodes.items })
-        × AreUses (record { script = c.script.statements; declared = c.declared.entries; settings = c.profile; nodes = c.nodes.items }) c.uses };
+        × AreUses (record { script = c.script.statements; declared = c.declared.entries; settings = c.profile; nodes = c.nodes.items }) c.uses
+        × AreStructures c.declared.entries };
 }
 
 impl Checked {
@@ -102,6 +105,7 @@ impl Checked {
     pub fn nodes(&self) -> &[Node]
         ensures nodes { result.now ≡ self.now.nodes }
         ensures typed { IsTyped self.now }
+        ensures declared { AreStructures self.now.declared }
         ensures as_many { length result.now ≡ length self.now.script }
     {
         self.nodes.as_slice()
@@ -175,6 +179,7 @@ fn parts_of(
     requires { length nodes.now ≡ length script.now.statements }
     ensures script { IfOk result (λ p. p.script.statements ≡ script.now.statements) }
     ensures declared { IfOk result (λ p. p.declared.entries ≡ structures.now) }
+    ensures structures { IfOk result (λ p. AreStructures p.declared.entries) }
     ensures known { IfOk result (λ p. p.uses.known.entries ≡ results_behind (reads structures.now (map node_tree nodes.now)) (map statement_tree script.now.statements) (map node_tree nodes.now)) }
     ensures inputs { IfOk result (λ p. p.uses.inputs.items ≡ keys_of (reads structures.now (map node_tree nodes.now))) }
     ensures outputs { IfOk result (λ p. p.uses.outputs.items ≡ outputs_in (map statement_tree script.now.statements)) }

@@ -50,7 +50,8 @@ pub fn share_structures(
     alloc: Global,
     structures: &Structures,
 ) -> Result<IndexMap<Txt, Structure>, AllocError>
-    ensures { IfOk result (λ known. known.entries ≡ structures.now) }
+    ensures entries { IfOk result (λ known. known.entries ≡ structures.now) }
+    ensures structures { IfOk result (λ known. AreStructures known.entries) }
 {
     let mut known = IndexMap::with_capacity(alloc, structures.len())?;
     for i in 0..structures.len() {

@@ -1,9 +1,9 @@
 // The data sets that a typed script reads, and those that it gives.
-ghost use Rattle.std.specs.Map.{keys_of};
-ghost use Rattle.std.specs.Option.{option_copied};
+ghost use Rattle.std.specs.Map.{keys_of, lookup};
 ghost use Rattle.std.specs.Prelude.{◌≡◌, ◌<◌, ◌++◌, IfOk, OnOk, Some, length, map, slice_get};
 ghost use Rattle.vtl_nodes.specs.View.{node_tree};
 ghost use Rattle.vtl_syntax.specs.View.{statement_tree};
+ghost use Rattle.vtl_tree.specs.Structure.{same_name};
 ghost use Rattle.vtl_check.specs.Uses.{output_in, outputs_in, read_behind, reads, results_behind, with_declared, with_new};
 
 use crate::known::{is_known, put};
@@ -43,15 +43,16 @@ fn put_new(
     put(known, name, shared)
 }
 
-fn put_declared(
+// Puts a data set that is read behind others, where it is declared and new.
+fn put_read(
     alloc: Global,
+    declared: &IndexMap<Txt, Structure>,
     known: &mut IndexMap<Txt, Structure>,
     name: &Txt,
-    structure: Option<&Structure>,
 ) -> Result<(), AllocError>
-    ensures { OnOk result (known.new.entries ≡ with_declared known.old.entries name.now (option_copied structure.entry)) }
+    ensures { OnOk result (known.new.entries ≡ with_declared known.old.entries name.now (lookup (same_name name.now) declared.now.entries)) }
 {
-    match structure {
+    match declared.get(name) {
         Some(structure) => put_new(alloc, known, name, structure),
         None => Ok(()),
     }
@@ -67,7 +68,7 @@ fn put_reads(
     ensures { OnOk result (known.new.entries ≡ read_behind declared.now.entries known.old.entries names.now) }
 {
     for name in names {
-        put_declared(alloc, known, name, declared.get(name))?;
+        put_read(alloc, declared, known, name)?;
     }
     Ok(())
 }
