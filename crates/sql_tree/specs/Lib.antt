@@ -2,3 +2,4 @@ pub mod Classes
 pub mod Trees
 pub mod View
 pub mod Grammar
+pub mod Printing
