@@ -1,14 +1,13 @@
 -- The levels of expressions: what spells an expression at one level spells it at each looser one.
-use Rattle.std.proofs.Common.{◌≡◌, inl, inr, ◌∙◌, ◌≤◌, ◌+◌, ◌-◌, ℕ, zero, suc, max, Bool, true, false, List, [], ◌∷◌, ◌++◌, None, Some, refl, sym, subst, arith, append-nil, nat_le, nat_eq}
+use Rattle.std.proofs.Common.{◌≡◌, inl, inr, ◌≤◌, ◌+◌, ℕ, zero, suc, true, [], ◌∷◌, ◌++◌, None, Some, refl, sym, subst, arith, append-nil, nat_eq}
 use borrow.Author.Tests.{eq-eqb, le-leb}
-use Rattle.forms.specs.Forms.{deep, limited, token, words}
+use Rattle.forms.specs.Forms.{deep, limited}
 use Rattle.forms.proofs.Chains.{chain-alone}
 use Rattle.forms.proofs.Written.{both-of, as-of, after-of, before-of}
-use Rattle.sql_lexer.specs.declared.token.TokenKind.{TokenKind}
 use Rattle.sql_lexer.specs.declared.token.TokenKind.TheVariants as t
 use Rattle.sql_lexer.specs.declared.token.Word.{Word}
 use Rattle.sql_lexer.specs.declared.token.Word.TheVariants as w
-use Rattle.sql_tree.specs.Classes.{class, place}
+use Rattle.sql_tree.specs.Classes.{place}
 use Rattle.sql_tree.specs.Trees.{Text, Exp}
 use Rattle.sql_tree.specs.Trees as tree
 use Rattle.sql_tree.specs.Grammar as g

@@ -1,2 +1,4 @@
 pub mod Lawful
 pub mod Levels
+pub mod ColumnCalls
+pub mod ScriptLaws

@@ -1,8 +1,7 @@
 -- The tokens that a tree is written with: brackets stand only where the tree needs them.
-use Rattle.std.specs.Prelude.{ℕ, suc, Bool, true, false, List, [], ◌∷◌, ◌++◌, nat_le, Option, None, Some}
+use Rattle.std.specs.Prelude.{ℕ, Bool, true, false, List, [], ◌∷◌, ◌++◌, nat_le, Option, None, Some}
 use Rattle.forms.specs.Forms.{given}
 use Rattle.forms.specs.Written.{between, run}
-use Rattle.sql_lexer.specs.declared.token.TokenKind.{TokenKind}
 use Rattle.sql_lexer.specs.declared.token.TokenKind.TheVariants as t
 use Rattle.sql_lexer.specs.declared.token.Word.{Word}
 use Rattle.sql_lexer.specs.declared.token.Word.TheVariants as w
@@ -44,8 +43,6 @@ use Rattle.sql_tree.specs.declared.word_groups.ValueFunction.TheVariants as valu
 use Rattle.sql_tree.specs.declared.word_groups.ShiftFunction.{ShiftFunction}
 use Rattle.sql_tree.specs.declared.word_groups.ShiftFunction.TheVariants as shift
 use Rattle.sql_tree.specs.declared.statements.InputColumn.{InputColumn}
-use Rattle.sql_tree.specs.declared.statements.SqlInput.{SqlInput}
-use Rattle.sql_tree.specs.declared.statements.SqlExport.{SqlExport}
 
 -- ---- words
 
