@@ -3,3 +3,4 @@ pub mod Trees
 pub mod View
 pub mod Grammar
 pub mod Printing
+pub mod Texts
