@@ -1,7 +1,7 @@
 -- What is written of parts spells what they make.
 use Rattle.std.proofs.Common.{◌∙◌, List, [], ◌∷◌, ◌++◌, Some, refl, sym, ap, subst, append_assoc, append-nil}
 use Rattle.forms.specs.Forms.{Form, Spelling, Both, IsMade, EachSpells, listed}
-use Rattle.forms.specs.Written.{behind, between, run}
+use Rattle.forms.specs.Written.{Each, behind, between, run}
 use Rattle.forms.proofs.Chains.{chain-alone, chain-more}
 
 pub both-of : {T A B : Type 0} {f : Spelling T A} {g : Spelling T B} {a : A} {b : B} (l r : List T) → f l a → g r b → Both f g (l ++ r) (a, b)
@@ -17,10 +17,6 @@ pub before-of : {T O A : Type 0} {f : Spelling T A} {w : Spelling T O} {a : A} (
 before-of {a = a} l r o h k = record { part = (a, o); spelled = record { left = l; right = r; is = refl; first = h; second = k }; is = refl }
 
 -- ---- lists, of items for which the property holds
-
-abbrev pub Each : {A : Type 0} → (A → Type 0) → List A → Type 0
-Each P [] = Unit {0}
-Each P (x ∷ xs) = P x × Each P xs
 
 module _ {T O A : Type 0} (mark : Form T O) (item : Form T A) (marks : List T) (o : O) (marked : mark.spells marks o) (f : A → List T) (P : A → Type 0) (good : (x : A) → P x → item.spells (f x) x) where
   more-items : (xs before : List A) (us : List T) → Each P xs → (listed mark item).spells us before → (listed mark item).spells (us ++ behind marks f xs) (before ++ xs)

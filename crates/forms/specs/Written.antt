@@ -15,3 +15,8 @@ between mark f (x ∷ xs) = f x ++ behind mark f xs
 abbrev pub run : {T A : Type 0} → (A → List T) → List A → List T
 run f [] = []
 run f (x ∷ xs) = f x ++ run f xs
+
+-- each has the property
+abbrev pub Each : {A : Type 0} → (A → Type 0) → List A → Type 0
+Each P [] = Unit {0}
+Each P (x ∷ xs) = P x × Each P xs

@@ -2,3 +2,4 @@ pub mod Lawful
 pub mod Levels
 pub mod ColumnCalls
 pub mod ScriptLaws
+pub mod Prints

@@ -4,3 +4,4 @@ pub mod View
 pub mod Grammar
 pub mod Printing
 pub mod Texts
+pub mod Formed
