@@ -1,9 +1,10 @@
 -- The levels of expressions: what spells an expression at one level spells it at each looser one.
 use Rattle.std.proofs.Common.{◌≡◌, inl, inr, ◌≤◌, ◌+◌, ℕ, zero, suc, true, [], ◌∷◌, ◌++◌, None, Some, refl, sym, subst, arith, append-nil, nat_eq}
 use borrow.Author.Tests.{eq-eqb, le-leb}
-use Rattle.forms.specs.Forms.{deep, limited}
+use Rattle.forms.specs.Forms.{Both, IsMade, Spelling, deep, limited}
 use Rattle.forms.proofs.Chains.{chain-alone}
 use Rattle.forms.proofs.Written.{both-of, as-of, after-of, before-of}
+use Rattle.sql_lexer.specs.declared.token.TokenKind.{TokenKind}
 use Rattle.sql_lexer.specs.declared.token.TokenKind.TheVariants as t
 use Rattle.sql_lexer.specs.declared.token.Word.{Word}
 use Rattle.sql_lexer.specs.declared.token.Word.TheVariants as w
@@ -38,8 +39,8 @@ int-of a = record { token = t.Int a; is = refl; stands_for = refl }
 pub dec-of : (a : Text) → dec.spells (t.Dec a ∷ []) a
 dec-of a = record { token = t.Dec a; is = refl; stands_for = refl }
 
-pub in-brackets-of : {A : Type 0} (f : SqlForm A) (ts : Tokens) (a : A) → f.spells ts a → (in_brackets f).spells (bracketed ts) a
-in-brackets-of f ts a h = after-of (just w.Open) (ts ++ just w.Close) tt (one w.Open) (before-of ts (just w.Close) tt h (one w.Close))
+pub in-brackets-of : {A : Type 0} {f : Spelling TokenKind A} (ts : Tokens) (a : A) → f ts a → IsMade (λ p. Some p.1) (Both (key w.Open).spells (IsMade (λ p. Some p.0) (Both f (key w.Close).spells))) (bracketed ts) a
+in-brackets-of ts a h = after-of (just w.Open) (ts ++ just w.Close) tt (one w.Open) (before-of ts (just w.Close) tt h (one w.Close))
 
 pub column-of : (c : Column) → g.column.spells (written_column c) c
 unfolding g.column
