@@ -3,3 +3,4 @@ pub mod Levels
 pub mod ColumnCalls
 pub mod ScriptLaws
 pub mod Prints
+pub mod ScriptPrints

@@ -322,15 +322,18 @@ abbrev pub written_join : JoinTree → Tokens
 written_join (on k s e) = t.Word (join_word k) ∷ (t.Word w.Join ∷ (written_source s ++ (t.Word w.On ∷ written e)))
 written_join (cross s) = t.Word w.Cross ∷ (t.Word w.Join ∷ written_source s)
 
+abbrev pub written_sources : Source → List JoinTree → Tokens
+written_sources s js = written_source s ++ run written_join js
+
 abbrev pub behind_word : {A : Type 0} → Word → (A → Tokens) → A → Tokens
 behind_word x f a = t.Word x ∷ f a
 
 abbrev pub written_select : SelectTree → Tokens
 written_select x =
-    t.Word w.Select ∷ (commas written_item x.items ++ (t.Word w.From ∷ (written_source x.source ++ (run written_join x.joins
+    t.Word w.Select ∷ (commas written_item x.items ++ (t.Word w.From ∷ (written_sources x.source x.joins
     ++ (maybe_written (behind_word w.Where written) x.condition
     ++ (items_after (two_words w.Group w.By) (commas written_column) x.group
-    ++ maybe_written (behind_word w.Having written) x.having))))))
+    ++ maybe_written (behind_word w.Having written) x.having)))))
 
 abbrev pub written_query : QueryTree → Tokens
 written_query q = between (two_words w.Union w.All) written_select q
