@@ -1,2 +1,5 @@
+pub mod Leads
+pub mod NameParts
+pub mod Quoting
 pub mod Table
 pub mod Texts

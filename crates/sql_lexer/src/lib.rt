@@ -2,7 +2,10 @@
 
 #![tactic(auto)]
 
+mod names;
+mod quotes;
 mod token;
 mod words;
 
+pub use names::is_name;
 pub use token::{Token, TokenKind, Word};
