@@ -5,8 +5,8 @@ use Rattle.std.specs.Str.{IsAscii}
 use Rattle.std.proofs.lemmas.Bool.{and_parts, false≢true}
 use Rattle.std.proofs.lemmas.Bool.Decides.{nat_tests}
 use borrow.Author.Tests.{ltb-true, eq-eqb}
-use Rattle.std.proofs.lemmas.Str.Ascii.{IsAscii-cons, IsAscii-nil}
 use Rattle.sql_lexer.specs.Spelling.{spelling}
+use Rattle.sql_lexer.proofs.Texts.{all-ascii}
 use Rattle.sql_lexer.specs.declared.words.TheConstants.{WORDS}
 use Rattle.sql_lexer.specs.declared.token.Word.{Word}
 use Rattle.sql_lexer.specs.declared.token.Word.TheVariants as w
@@ -131,18 +131,12 @@ place-below _ = refl
 abbrev is_ascii : List ℕ → Bool
 is_ascii cs = list_all (λ c. nat_lt c 128) cs
 
-all-ascii : (cs : List ℕ) → is_ascii cs ≡ true → IsAscii cs
-all-ascii [] e = IsAscii-nil
-all-ascii (c ∷ cs) e =
-    let (head, tail) = and_parts (nat_lt c 128) (is_ascii cs) e in
-    IsAscii-cons c cs (ltb-true c 128 head) (all-ascii cs tail)
-
 word-ascii : (word : Word) → is_ascii (spelling word) ≡ true
 word-ascii w.NotEqual = refl
 word-ascii _ = refl
 
 pub spelling-ascii : (word : Word) → IsAscii (spelling word)
-spelling-ascii word = all-ascii (spelling word) (word-ascii word)
+spelling-ascii word = all-ascii (λ c. nat_lt c 128) (spelling word) (λ c e. ltb-true c 128 e) (word-ascii word)
 
 -- ---- which begins with which
 abbrev is_front : List ℕ → List ℕ → Bool

@@ -1,11 +1,20 @@
 -- A text by its bytes and by its characters.
-use Rattle.std.proofs.Common.{◌≡◌, ◌≢◌, ◌≤◌, ◌<◌, ◌+◌, ◌∷◌, ◌++◌, ◌∙◌, ◌==◌, ◌&&◌, [], ℕ, List, Bool, Option, Some, None, true, false, not, chars, length, take, drop, get_or, sym, ap, subst, refl, arith, append_assoc, length-append, length-drop, IsUtf8, IsCharBoundary, encode_utf8, encode_utf8_all, take-append-drop}
+use Rattle.std.proofs.Common.{◌≡◌, ◌≢◌, ◌≤◌, ◌<◌, ◌+◌, ◌-◌, ◌∷◌, ◌++◌, ◌∙◌, ◌==◌, ◌&&◌, [], ℕ, List, Bool, Option, Some, None, true, false, not, chars, length, take, drop, get_or, sym, ap, subst, refl, arith, append_assoc, length-append, length-drop, IsUtf8, IsCharBoundary, encode_utf8, encode_utf8_all, take-append-drop, take_at, drop_at}
+use Rattle.std.specs.List.{list_all}
 use Rattle.std.specs.Str.{IsAscii, NoCharPasses, NonePass}
 use Rattle.std.specs.Str.Pattern.{FindsChar, FindsCharPrefix, SplitsAroundMatch, StripsPrefix}
-use Rattle.std.proofs.lemmas.Bool.{and_from}
-use Rattle.std.proofs.lemmas.Str.{IsCharBoundary-before_ascii, IsUtf8-drop, IsUtf8-from_ascii, IsUtf8-past_char, IsUtf8-take, chars-IsAscii, chars-append, chars_from_encodes, chars_past_char, encode_ascii, encodes-IsAscii, encodes-append, encodes-chars}
+use Rattle.std.proofs.lemmas.Bool.{and_from, and_parts}
+use Rattle.std.proofs.lemmas.List.{append_cancel_right}
+use Rattle.std.proofs.lemmas.Str.{IsCharBoundary-at_seam, IsCharBoundary-before_ascii, IsUtf8-drop, IsUtf8-from_ascii, IsUtf8-past_char, IsUtf8-take, chars-IsAscii, chars-append, chars_from_encodes, chars_past_char, encode_ascii, encodes-IsAscii, encodes-append, encodes-chars}
 use Rattle.std.proofs.lemmas.Str.Ascii.{IsAscii-cons, IsAscii-nil}
 use Rattle.sql_lexer.specs.Front.{Lacks}
+use Rattle.sql_lexer.specs.Spelling.{size}
+
+pub all-ascii : (test : ℕ → Bool) (cs : List ℕ) → ((c : ℕ) → test c ≡ true → c < 128) → list_all test cs ≡ true → IsAscii cs
+all-ascii test [] ascii e = IsAscii-nil
+all-ascii test (c ∷ cs) ascii e =
+    let (head, tail) = and_parts (test c) (list_all test cs) e in
+    IsAscii-cons c cs (ascii c head) (all-ascii test cs ascii tail)
 
 -- ASCII at the front
 pub front-chars : (text front rest : List ℕ) → IsAscii front → text ≡ front ++ rest → chars text ≡ front ++ chars rest
@@ -69,3 +78,23 @@ pushed c text part all ascii u v e =
     let front : IsAscii (c ∷ []) = IsAscii-cons c [] ascii IsAscii-nil in
     let tail : chars (encode_utf8 c ++ part) ≡ c ∷ chars part = front-chars (encode_utf8 c ++ part) (c ∷ []) part front (ap (λ l. l ++ part) one) in
     ap chars (e ∙ append_assoc text (encode_utf8 c) part) ∙ chars-append text (encode_utf8 c ++ part) u ∙ ap (λ l. chars text ++ l) tail
+
+-- a text, cut before the rest with which it ends
+pub record Cut (text rest front : List ℕ) : Type 0 where
+  pub fits : length rest ≤ length text
+  pub sizes : length text ≡ size front + length rest
+  pub seam : IsCharBoundary text (length text - length rest)
+  pub front_is : chars (take (length text - length rest) text) ≡ front
+
+pub cut : (text rest front : List ℕ) → IsUtf8 text → IsUtf8 rest → chars text ≡ front ++ chars rest → Cut text rest front
+cut text rest front u v e =
+    let bytes = encode_utf8_all front in
+    let place = length text - length rest in
+    let whole : text ≡ bytes ++ rest = sym (encodes-chars text u) ∙ ap encode_utf8_all e ∙ encodes-append front (chars rest) ∙ ap (λ l. bytes ++ l) (encodes-chars rest v) in
+    let all : length text ≡ size front + length rest = ap length whole ∙ length-append bytes rest in
+    let here : length bytes ≡ place = omega (arith, all) in
+    let seam : IsCharBoundary text place = subst (IsCharBoundary text) here (IsCharBoundary-at_seam text bytes rest whole v) in
+    let back : drop place text ≡ rest = ap (drop place) whole ∙ drop_at bytes rest place here in
+    let parts : chars (take place text) ++ chars rest ≡ chars text =
+    ap (λ l. chars (take place text) ++ chars l) (sym back) ∙ sym (chars-append (take place text) (drop place text) (IsUtf8-take text place u seam)) ∙ ap chars (take-append-drop place text) in
+    record { fits = omega (arith, all); sizes = all; seam = seam; front_is = append_cancel_right (chars (take place text)) front (chars rest) (parts ∙ e) }

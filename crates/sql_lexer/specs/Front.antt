@@ -1,9 +1,10 @@
 -- What stands at the front of a text, as the functions that look there tell it.
-use Rattle.std.specs.Prelude.{◌≡◌, ◌≤◌, ◌==◌, ℕ, Bool, true, not, List, ◌∷◌, ◌++◌, Option, None, Some, length, chars, IsUtf8}
+use Rattle.std.specs.Prelude.{◌≡◌, ◌≤◌, ◌==◌, ℕ, Bool, true, false, not, List, ◌∷◌, ◌++◌, Option, None, Some, length, chars, IsUtf8}
 use Rattle.std.specs.List.{list_all}
 use denote.Ref.{Bor}
 use Rattle.sql_lexer.specs.Lexed.{IsToken, NoToken}
 use Rattle.sql_lexer.specs.Spelling.{doubled, is_name, spelling}
+use Rattle.sql_lexer.specs.Writing.{begins_with}
 use Rattle.sql_lexer.specs.declared.quotes.Quotes.{Quotes}
 use Rattle.sql_lexer.specs.declared.quotes.Quotes.TheVariants as q
 use Rattle.sql_lexer.specs.declared.token.TokenKind.{TokenKind}
@@ -20,6 +21,15 @@ IsWordOf text (Some found) = (text ≡ spelling found.0 ++ chars found.1.now)
 abbrev pub IsFoundIn : List ℕ → Option (TokenKind × Bor (List ℕ)) → Type 0
 IsFoundIn text None = NoToken text
 IsFoundIn text (Some found) = IsToken text found.0 (chars found.1.now)
+
+-- the characters at the front that pass a test, all in ASCII, and what follows them, by bytes
+pub record Run (test : ℕ → Bool) (text front rest : List ℕ) : Type 0 where
+  pub split : text ≡ front ++ rest
+  pub passes : list_all test front ≡ true
+  pub stops : begins_with test (chars rest) ≡ false
+
+abbrev pub EndsIn : List ℕ → List ℕ → Type 0
+EndsIn text rest = (front : List ℕ) × (text ≡ front ++ rest)
 
 -- ---- between quotes
 

@@ -2,10 +2,15 @@
 
 #![tactic(auto)]
 
+mod finding;
+mod lexing;
 mod names;
+mod numbers;
 mod quotes;
+mod runs;
 mod token;
 mod words;
 
+pub use lexing::{Lexed, lex, tokens_are_determined};
 pub use names::is_name;
 pub use token::{Token, TokenKind, Word};
