@@ -49,7 +49,7 @@ digits-lead : (cs rest : List ℕ) → IsDigits cs → lead_of (cs ++ rest) ≡ 
 digits-lead [] rest d = absurd (omega (arith, d.0))
 digits-lead (c ∷ cs) rest d = digit-lead c (and_parts (is_ascii_digit c) (list_all is_ascii_digit cs) d.1).0
 
-spelled-lead : (kind : TokenKind) (rest : List ℕ) → IsFormed kind → lead_of (spelled kind ++ rest) ≡ lead_kind kind
+pub spelled-lead : (kind : TokenKind) (rest : List ℕ) → IsFormed kind → lead_of (spelled kind ++ rest) ≡ lead_kind kind
 spelled-lead (k.Word word) rest formed = word-lead word rest
 spelled-lead (k.Name name) rest formed = refl
 spelled-lead (k.Text text) rest formed = refl

@@ -1,4 +1,6 @@
+pub mod FrontParts
 pub mod Leads
+pub mod LexedParts
 pub mod NameParts
 pub mod NumberParts
 pub mod Quoting

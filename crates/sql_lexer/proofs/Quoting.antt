@@ -13,10 +13,10 @@ use Rattle.sql_lexer.proofs.NameParts.{name-front}
 
 -- ---- doubling
 
-doubled-same : (quote c : ℕ) (cs : List ℕ) → (c == quote) ≡ true → doubled quote (c ∷ cs) ≡ c ∷ c ∷ doubled quote cs
+pub doubled-same : (quote c : ℕ) (cs : List ℕ) → (c == quote) ≡ true → doubled quote (c ∷ cs) ≡ c ∷ c ∷ doubled quote cs
 doubled-same quote c cs e = rw e refl
 
-doubled-other : (quote c : ℕ) (cs : List ℕ) → (c == quote) ≡ false → doubled quote (c ∷ cs) ≡ c ∷ doubled quote cs
+pub doubled-other : (quote c : ℕ) (cs : List ℕ) → (c == quote) ≡ false → doubled quote (c ∷ cs) ≡ c ∷ doubled quote cs
 doubled-other quote c cs e = rw e refl
 
 pub doubled-append : (quote : ℕ) (xs ys : List ℕ) → doubled quote (xs ++ ys) ≡ doubled quote xs ++ doubled quote ys

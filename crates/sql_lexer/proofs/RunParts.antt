@@ -10,7 +10,7 @@ use Rattle.std.proofs.lemmas.Str.{IsCharBoundary-from_take, IsUtf8-drop, IsUtf8-
 use Rattle.sql_lexer.specs.Front.{Run}
 use Rattle.sql_lexer.specs.Lexed.{is_white_space}
 use Rattle.sql_lexer.specs.Writing.{begins_with}
-use Rattle.sql_lexer.proofs.Texts.{all-ascii, front-chars}
+use Rattle.sql_lexer.proofs.Texts.{all-ascii, front-chars, tail-utf8}
 
 pub digit-ascii : (c : ℕ) → is_ascii_digit c ≡ true → c < 128
 digit-ascii c e = grind (arith, nat_tests, e)
@@ -96,3 +96,6 @@ module _ (test : ℕ → Bool) (ascii : (c : ℕ) → test c ≡ true → c < 12
 
   pub run-chars : (text front rest : List ℕ) → Run test text front rest → chars text ≡ front ++ chars rest
   run-chars text front rest run = front-chars text front rest (all-ascii test front ascii run.passes) run.split
+
+  pub run-utf8 : (text front rest : List ℕ) → IsUtf8 text → Run test text front rest → IsUtf8 rest
+  run-utf8 text front rest u run = tail-utf8 text front rest u (all-ascii test front ascii run.passes) run.split

@@ -5,7 +5,7 @@ use Rattle.std.specs.Str.{IsAscii, NoCharPasses, NonePass}
 use Rattle.std.specs.Str.Pattern.{FindsChar, FindsCharPrefix, SplitsAroundMatch, StripsPrefix}
 use Rattle.std.proofs.lemmas.Bool.{and_from, and_parts}
 use Rattle.std.proofs.lemmas.List.{append_cancel_right}
-use Rattle.std.proofs.lemmas.Str.{IsCharBoundary-at_seam, IsCharBoundary-before_ascii, IsUtf8-drop, IsUtf8-from_ascii, IsUtf8-past_char, IsUtf8-take, chars-IsAscii, chars-append, chars_from_encodes, chars_past_char, encode_ascii, encodes-IsAscii, encodes-append, encodes-chars}
+use Rattle.std.proofs.lemmas.Str.{IsCharBoundary-at_seam, IsCharBoundary-from_take, IsCharBoundary-before_ascii, IsUtf8-drop, IsUtf8-from_ascii, IsUtf8-past_char, IsUtf8-take, chars-IsAscii, chars-append, chars_from_encodes, chars_past_char, encode_ascii, encodes-IsAscii, encodes-append, encodes-chars}
 use Rattle.std.proofs.lemmas.Str.Ascii.{IsAscii-cons, IsAscii-nil}
 use Rattle.sql_lexer.specs.Front.{Lacks}
 use Rattle.sql_lexer.specs.Spelling.{size}
@@ -22,6 +22,14 @@ front-chars text front rest ascii e = ap chars e ∙ chars-append front rest (Is
 
 pub front-bytes : (text front rest : List ℕ) → IsUtf8 text → IsAscii front → chars text ≡ front ++ rest → text ≡ front ++ encode_utf8_all rest
 front-bytes text front rest u ascii e = sym (encodes-chars text u) ∙ ap encode_utf8_all e ∙ encodes-append front rest ∙ ap (λ l. l ++ encode_utf8_all rest) (encodes-IsAscii front ascii)
+
+pub tail-utf8 : (text front rest : List ℕ) → IsUtf8 text → IsAscii front → text ≡ front ++ rest → IsUtf8 rest
+tail-utf8 text front rest u ascii e =
+    let n = length front in
+    let within : n ≤ length text = omega (arith, ap length e, length-append front rest) in
+    let taken : take n text ≡ front = ap (take n) e ∙ take_at front rest n refl in
+    let left : drop n text ≡ rest = ap (drop n) e ∙ drop_at front rest n refl in
+    subst IsUtf8 left (IsUtf8-drop text n u (IsCharBoundary-from_take text n u within (subst IsUtf8 (sym taken) (IsUtf8-from_ascii front ascii))))
 
 -- a character at the front
 pub record Stripped (c : ℕ) (text rest : List ℕ) : Type 0 where

@@ -1,5 +1,6 @@
 -- What stands at the front of a text, as the functions that look there tell it.
 use Rattle.std.specs.Prelude.{◌≡◌, ◌≤◌, ◌==◌, ℕ, Bool, true, false, not, List, ◌∷◌, ◌++◌, Option, None, Some, length, chars, IsUtf8}
+use Rattle.std.specs.Char.{is_ascii_digit}
 use Rattle.std.specs.List.{list_all}
 use denote.Ref.{Bor}
 use Rattle.sql_lexer.specs.Lexed.{IsToken, NoToken}
@@ -15,12 +16,20 @@ use Rattle.sql_lexer.specs.declared.token.Word.{Word}
 abbrev pub IsWordOf : List ℕ → Option (Word × Bor (List ℕ)) → Type 0
 IsWordOf text None = (word : Word) (rest : List ℕ) → text ≡ spelling word ++ rest → ⊥
 IsWordOf text (Some found) = (text ≡ spelling found.0 ++ chars found.1.now)
-    × ((word : Word) (rest : List ℕ) → text ≡ spelling word ++ rest → length (chars found.1.now) ≤ length rest)
+    × ((word : Word) (rest : List ℕ) → text ≡ spelling word ++ rest → length (chars found.1.now) ≤ length rest) × IsUtf8 found.1.now
 
 -- the token at the front, with what follows it
+pub record IsTokenOf (text : List ℕ) (kind : TokenKind) (rest : List ℕ) : Type 0 where
+  pub token : IsToken text kind (chars rest)
+  pub utf8 : IsUtf8 rest
+
 abbrev pub IsFoundIn : List ℕ → Option (TokenKind × Bor (List ℕ)) → Type 0
 IsFoundIn text None = NoToken text
-IsFoundIn text (Some found) = IsToken text found.0 (chars found.1.now)
+IsFoundIn text (Some found) = IsTokenOf text found.0 found.1.now
+
+abbrev pub IsNumberIn : List ℕ → Option (TokenKind × Bor (List ℕ)) → Type 0
+IsNumberIn text None = begins_with is_ascii_digit text ≡ false
+IsNumberIn text (Some found) = IsTokenOf text found.0 found.1.now
 
 -- the characters at the front that pass a test, all in ASCII, and what follows them, by bytes
 pub record Run (test : ℕ → Bool) (text front rest : List ℕ) : Type 0 where

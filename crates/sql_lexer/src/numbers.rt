@@ -1,9 +1,6 @@
 // Numbers.
-ghost use Rattle.std.specs.Prelude.{◌≡◌, ◌++◌, ℕ, List, IfOk, MatchOption, chars, false};
-ghost use Rattle.std.specs.Char.{is_ascii_digit};
-ghost use Rattle.sql_lexer.specs.Front.{EndsIn};
-ghost use Rattle.sql_lexer.specs.Lexed.{IsToken};
-ghost use Rattle.sql_lexer.specs.Writing.{begins_with};
+ghost use Rattle.std.specs.Prelude.{◌≡◌, ◌++◌, ℕ, List, IfOk, chars};
+ghost use Rattle.sql_lexer.specs.Front.{EndsIn, IsNumberIn};
 
 use crate::TokenKind;
 use crate::runs::split_digits;
@@ -21,7 +18,7 @@ fn before<'a>(text: &'a str, rest: &str) -> &'a str
 
 // The number at the front, and what follows it.
 pub(crate) fn number(alloc: Global, text: &str) -> Result<Option<(TokenKind, &str)>, AllocError>
-    ensures { IfOk result (λ found. MatchOption found (begins_with is_ascii_digit (chars text.now) ≡ false) (λ token. IsToken (chars text.now) token.0 (chars token.1.now))) }
+    ensures { IfOk result (λ found. IsNumberIn (chars text.now) found) }
 {
     let (whole, behind) = split_digits(text);
     if whole.is_empty() {

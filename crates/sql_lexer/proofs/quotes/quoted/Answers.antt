@@ -51,4 +51,7 @@ returns c =
     let token = reached-token c.args.quotes (chars c.args.body.now) (chars content) (chars c.loop-part.behind.now) c.loop-part.invariant.reached none
     (ap (λ l. allows c.args.quotes (chars l)) (sym c.as_str-2.ensures.value) ∙ sym c.allows.ensures ∙ c.if-not-allows.false) in
     let held : c.in_ok-new.field-0 ≡ chars content = c.in_ok-new.ensures ∙ ap chars c.as_str-3.ensures.value in
-    subst (λ kind. IsToken (mark_of c.args.quotes ∷ chars c.args.body.now) kind (chars c.loop-part.behind.now)) (ap (kind_of c.args.quotes) (sym held) ∙ sym c.kind.ensures) token
+    record {
+      token = subst (λ kind. IsToken (mark_of c.args.quotes ∷ chars c.args.body.now) kind (chars c.loop-part.behind.now)) (ap (kind_of c.args.quotes) (sym held) ∙ sym c.kind.ensures) token;
+      utf8 = c.loop-part.invariant.utf8;
+    }
