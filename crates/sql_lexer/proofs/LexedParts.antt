@@ -72,7 +72,7 @@ fault-inverts at text c rest tokens fault e dark none (behind_token _ _ left tok
     absurd (none token.kind left (record { formed = starts.starts.formed; split = sym e ∙ starts.starts.split }))
 fault-inverts at text c rest tokens fault e dark none (at_fault _ d left dark' none') = (refl, refl)
 
-abbrev token_of : TokenKind → ℕ → ℕ → Token
+abbrev pub token_of : TokenKind → ℕ → ℕ → Token
 token_of kind from to = record { kind = kind; start = from; end = to }
 
 same-token : (a b : Token) → a.kind ≡ b.kind → a.start ≡ b.start → a.end ≡ b.end → a ≡ b

@@ -7,3 +7,4 @@ pub mod Quoting
 pub mod RunParts
 pub mod Table
 pub mod Texts
+pub mod WritingLaws

@@ -14,7 +14,7 @@ pub(crate) enum Quotes {
 }
 
 impl Quotes {
-    fn mark(self) -> char
+    pub(crate) fn mark(self) -> char
         ensures { result ≡ mark_of self }
     {
         match self {
