@@ -1,5 +1,5 @@
 -- The tokens of a text, from its front, and that they are determined.
-use Rattle.std.proofs.Common.{◌≡◌, ◌≢◌, ◌≤◌, ◌<◌, ◌+◌, ◌-◌, ◌∷◌, ◌++◌, ◌∙◌, [], ℕ, List, Option, Some, None, true, false, chars, length, append_assoc, append-nil, sym, ap, subst, refl, arith, length-append, IsUtf8, encode_utf8_all}
+use Rattle.std.proofs.Common.{◌≡◌, ◌≤◌, ◌<◌, ◌+◌, ◌-◌, ◌∷◌, ◌++◌, ◌∙◌, [], ℕ, List, Option, Some, None, true, false, chars, length, append_assoc, append-nil, sym, ap, subst, refl, arith, length-append, IsUtf8, encode_utf8_all}
 use Rattle.std.specs.List.{list_all}
 use Rattle.std.proofs.lemmas.Bool.{and_parts, false≢true}
 use Rattle.std.proofs.lemmas.Str.{chars-nil, encodes-chars, length-le-encodes}
@@ -11,7 +11,7 @@ use Rattle.sql_lexer.specs.declared.token.Token.{Token}
 use Rattle.sql_lexer.specs.declared.token.TokenKind.{TokenKind}
 use Rattle.sql_lexer.proofs.FrontParts.{one-token, spelled-dark, spelled-some}
 use Rattle.sql_lexer.proofs.RunParts.{run-chars, white-ascii}
-use Rattle.sql_lexer.proofs.Texts.{Cut, cut}
+use Rattle.sql_lexer.proofs.Texts.{cut}
 
 -- ---- what follows from how a text begins
 

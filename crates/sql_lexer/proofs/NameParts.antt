@@ -1,5 +1,5 @@
 -- The names, by parts.
-use Rattle.std.proofs.Common.{◌≡◌, ◌≤◌, ◌<◌, ◌+◌, ◌-◌, ◌∷◌, ◌++◌, ◌∙◌, ◌&&◌, [], ℕ, List, Bool, true, false, not, nat_lt, length, chars, sym, ap, refl, arith, length-append, IsUtf8}
+use Rattle.std.proofs.Common.{◌≡◌, ◌<◌, ◌+◌, ◌-◌, ◌∷◌, ◌++◌, ◌∙◌, ◌&&◌, ℕ, List, Bool, true, false, not, nat_lt, length, chars, sym, ap, arith, length-append, IsUtf8}
 use Rattle.std.specs.Char.{is_control}
 use Rattle.std.proofs.lemmas.Bool.{and_from, and_parts}
 use Rattle.std.proofs.lemmas.Bool.Decides.{nat_tests}

@@ -1,10 +1,10 @@
 -- The number at the front of a text.
-use Rattle.std.proofs.Common.{◌≡◌, ◌≤◌, ◌<◌, ◌+◌, ◌∷◌, ◌++◌, ◌∙◌, [], ℕ, List, true, false, length, sym, ap, subst, refl, arith, append_assoc, length-append}
+use Rattle.std.proofs.Common.{◌≡◌, ◌≤◌, ◌<◌, ◌∷◌, ◌++◌, ◌∙◌, [], ℕ, List, true, false, length, sym, ap, refl, arith, append_assoc, length-append}
 use Rattle.std.specs.Char.{is_ascii_digit}
 use Rattle.std.specs.List.{list_all}
 use Rattle.std.proofs.lemmas.Bool.{and_parts}
 use Rattle.sql_lexer.specs.Lexed.{IsToken, Starts}
-use Rattle.sql_lexer.specs.Spelling.{IsDecimal, IsDigits, IsFormed, spelled}
+use Rattle.sql_lexer.specs.Spelling.{IsDigits, IsFormed, spelled}
 use Rattle.sql_lexer.specs.Writing.{begins_with}
 use Rattle.sql_lexer.specs.declared.token.TokenKind.{TokenKind}
 use Rattle.sql_lexer.specs.declared.token.TokenKind.TheVariants as k

@@ -1,11 +1,11 @@
 -- Where a content between quotes ends.
-use Rattle.std.proofs.Common.{◌≡◌, ◌≤◌, ◌<◌, ◌+◌, ◌∷◌, ◌++◌, ◌∙◌, ◌==◌, ◌&&◌, ◌⊎◌, [], ℕ, List, Bool, Option, Some, None, true, false, not, length, sym, ap, subst, refl, arith, inl, inr, append_assoc, length-append, eqb-true, eq-eqb}
+use Rattle.std.proofs.Common.{◌≡◌, ◌≤◌, ◌<◌, ◌∷◌, ◌++◌, ◌∙◌, ◌==◌, ◌⊎◌, [], ℕ, List, true, false, not, length, sym, ap, refl, arith, inl, inr, append_assoc, length-append, eqb-true, eq-eqb}
 use Rattle.std.specs.List.{list_all}
 use Rattle.std.proofs.lemmas.Bool.{and_parts, cases_Bool, false≢true}
 use Rattle.std.proofs.lemmas.List.Folds.{list_all-append}
 use Rattle.sql_lexer.specs.Front.{Closes, IsPartOf, Lacks, allows, kind_of, mark_of}
 use Rattle.sql_lexer.specs.Lexed.{IsToken, NoToken, Starts}
-use Rattle.sql_lexer.specs.Spelling.{IsFormed, doubled, spelled}
+use Rattle.sql_lexer.specs.Spelling.{doubled}
 use Rattle.sql_lexer.specs.declared.quotes.Quotes.{Quotes}
 use Rattle.sql_lexer.specs.declared.quotes.Quotes.TheVariants as q
 use Rattle.sql_lexer.proofs.Leads.{quoted-there}
@@ -25,6 +25,9 @@ doubled-append quote (x ∷ xs) ys = elim (cases_Bool (x == quote)) [
   | inl e ↦ doubled-same quote x (xs ++ ys) e ∙ ap (λ l. x ∷ x ∷ l) (doubled-append quote xs ys) ∙ ap (λ l. l ++ doubled quote ys) (sym (doubled-same quote x xs e))
   | inr e ↦ doubled-other quote x (xs ++ ys) e ∙ ap (λ l. x ∷ l) (doubled-append quote xs ys) ∙ ap (λ l. l ++ doubled quote ys) (sym (doubled-other quote x xs e))
 ]
+
+pub doubled-quote : (quote : ℕ) (cs : List ℕ) → doubled quote (quote ∷ cs) ≡ quote ∷ quote ∷ doubled quote cs
+doubled-quote quote cs = doubled-same quote quote cs (eq-eqb quote quote refl)
 
 not-quote : (quote c : ℕ) → not (c == quote) ≡ true → (c == quote) ≡ false
 not-quote quote c e = elim (cases_Bool (c == quote)) [ inl same ↦ absurd (false≢true (ap not (sym same) ∙ e)) | inr apart ↦ apart ]
@@ -144,7 +147,7 @@ reached-step quotes body content behind part rest reached next = record {
     whole : doubled (mark_of quotes) content ++ mark_of quotes ∷ behind ≡ doubled (mark_of quotes) (content ++ mark_of quotes ∷ part) ++ mark_of quotes ∷ rest
     whole =
         let q = mark_of quotes in
-        let second : doubled q (q ∷ part) ≡ q ∷ q ∷ part = doubled-same q q part (eq-eqb q q refl) ∙ ap (λ l. q ∷ q ∷ l) (doubled-plain q part next.plain) in
+        let second : doubled q (q ∷ part) ≡ q ∷ q ∷ part = doubled-quote q part ∙ ap (λ l. q ∷ q ∷ l) (doubled-plain q part next.plain) in
         let all : doubled q (content ++ q ∷ part) ≡ doubled q content ++ q ∷ q ∷ part = doubled-append q content (q ∷ part) ∙ ap (λ l. doubled q content ++ l) second in
         ap (λ l. doubled q content ++ q ∷ l) next.split ∙ sym (append_assoc (doubled q content) (q ∷ q ∷ part) (q ∷ rest)) ∙ ap (λ l. l ++ q ∷ rest) (sym all)
 

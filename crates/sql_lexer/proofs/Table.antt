@@ -1,9 +1,8 @@
 -- The table of words: where each word stands, and that none begins with a word that stands before it.
-use Rattle.std.proofs.Common.{◌≡◌, ◌≤◌, ◌<◌, ◌+◌, ◌∷◌, ◌++◌, ◌∙◌, ◌&&◌, ◌==◌, ◌⊎◌, [], ℕ, zero, suc, List, Bool, Option, Some, None, if◌then◌else◌, true, false, not, nat_lt, length, get_or, sym, ap, subst, refl, arith, inl, inr, append-nil, length-append}
+use Rattle.std.proofs.Common.{◌≡◌, ◌≤◌, ◌<◌, ◌+◌, ◌∷◌, ◌++◌, ◌∙◌, ◌&&◌, ◌==◌, ◌⊎◌, [], ℕ, zero, suc, List, Bool, Option, Some, None, if◌then◌else◌, true, false, not, nat_lt, length, get_or, sym, ap, subst, refl, arith, inl, inr, length-append}
 use Rattle.std.specs.List.{list_all}
 use Rattle.std.specs.Str.{IsAscii}
 use Rattle.std.proofs.lemmas.Bool.{and_parts, false≢true}
-use Rattle.std.proofs.lemmas.Bool.Decides.{nat_tests}
 use borrow.Author.Tests.{ltb-true, eq-eqb}
 use Rattle.std.specs.Option.{option_map_or}
 use Rattle.sql_lexer.specs.Spelling.{spelling}

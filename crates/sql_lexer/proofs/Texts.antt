@@ -1,5 +1,5 @@
 -- A text by its bytes and by its characters.
-use Rattle.std.proofs.Common.{◌≡◌, ◌≢◌, ◌≤◌, ◌<◌, ◌+◌, ◌-◌, ◌∷◌, ◌++◌, ◌∙◌, ◌==◌, ◌&&◌, [], ℕ, List, Bool, Option, Some, None, true, false, not, chars, length, take, drop, get_or, sym, ap, subst, refl, arith, append_assoc, length-append, length-drop, IsUtf8, IsCharBoundary, encode_utf8, encode_utf8_all, take-append-drop, take_at, drop_at}
+use Rattle.std.proofs.Common.{◌≡◌, ◌≤◌, ◌<◌, ◌+◌, ◌-◌, ◌∷◌, ◌++◌, ◌∙◌, ◌==◌, [], ℕ, List, Bool, None, Result, Ok, Err, IfOk, is_ok, if◌then◌else◌, true, not, chars, length, take, drop, get_or, sym, ap, subst, refl, arith, append_assoc, length-append, length-drop, IsUtf8, IsCharBoundary, encode_utf8, encode_utf8_all, take-append-drop, take_at, drop_at}
 use Rattle.std.specs.List.{list_all}
 use Rattle.std.specs.Str.{IsAscii, NoCharPasses, NonePass}
 use Rattle.std.specs.Str.Pattern.{FindsChar, FindsCharPrefix, SplitsAroundMatch, StripsPrefix}
@@ -106,3 +106,14 @@ cut text rest front u v e =
     let parts : chars (take place text) ++ chars rest ≡ chars text =
     ap (λ l. chars (take place text) ++ chars l) (sym back) ∙ sym (chars-append (take place text) (drop place text) (IsUtf8-take text place u seam)) ∙ ap chars (take-append-drop place text) in
     record { fits = omega (arith, all); sizes = all; seam = seam; front_is = append_cancel_right (chars (take place text)) front (chars rest) (parts ∙ e) }
+
+pub quote-chars : (c : ℕ) → c < 128 → chars (encode_utf8 c) ≡ c ∷ []
+quote-chars c ascii = ap chars (encode_ascii c ascii) ∙ chars-IsAscii (c ∷ []) (IsAscii-cons c [] ascii IsAscii-nil)
+
+pub pushed-one : (c : ℕ) (text all : List ℕ) → c < 128 → IsUtf8 text → all ≡ text ++ encode_utf8 c → chars all ≡ chars text ++ c ∷ []
+pushed-one c text all ascii u e = ap chars e ∙ chars-append text (encode_utf8 c) u ∙ ap (λ l. chars text ++ l) (quote-chars c ascii)
+
+-- what a last call appends
+pub appended : {X Y : Type 0} (r : Result X Y) (text part all : List ℕ) → IsUtf8 text → all ≡ (if is_ok r then text ++ part else text) → IfOk r (λ done. chars all ≡ chars text ++ chars part)
+appended (Ok x) text part all u e = ap chars e ∙ chars-append text part u
+appended (Err x) text part all u e = tt

@@ -1,11 +1,11 @@
 -- Written tokens are read back.
-use Rattle.std.proofs.Common.{◌≡◌, ◌≤◌, ◌<◌, ◌+◌, ◌∷◌, ◌++◌, ◌∙◌, ◌==◌, ◌&&◌, ◌||◌, ◌⊎◌, [], ℕ, List, Bool, Option, None, true, false, not, chars, length, append_assoc, append-nil, length-append, sym, ap, subst, refl, arith, inl, inr, eq-eqb, eqb-true}
+use Rattle.std.proofs.Common.{◌≡◌, ◌≤◌, ◌<◌, ◌+◌, ◌∷◌, ◌++◌, ◌∙◌, ◌==◌, ◌&&◌, ◌||◌, ◌⊎◌, [], ℕ, List, Bool, None, true, false, not, chars, length, append_assoc, append-nil, length-append, sym, ap, subst, refl, arith, inl, inr, eq-eqb}
 use Rattle.std.specs.Char.{is_ascii_digit}
 use Rattle.std.specs.List.{list_all}
 use Rattle.std.proofs.lemmas.Bool.{and_parts, cases_Bool, false≢true}
 use Rattle.std.proofs.lemmas.Bool.Decides.{nat_tests}
 use Rattle.std.proofs.lemmas.Str.{encodes-IsAscii}
-use Rattle.sql_lexer.specs.Lexed.{IsLexed, IsToken, Lexes, Starts, at_end, behind_token, is_white_space, kinds_of}
+use Rattle.sql_lexer.specs.Lexed.{IsLexed, IsToken, Lexes, at_end, behind_token, is_white_space, kinds_of}
 use Rattle.sql_lexer.specs.Spelling.{IsFormed, doubled, quoted, size, spelled, spelling}
 use Rattle.sql_lexer.specs.Writing.{IsApart, IsGap, Written, begins_with, goes_on, is_keyword_character, last_goes_on, more, nothing}
 use Rattle.sql_lexer.specs.declared.token.Token.{Token}

@@ -1,5 +1,5 @@
 -- How each kind of token is spelled. A text is the list of its characters, and a character is its code: 34 is `"`, 39 is `'`, 46 is `.`.
-use Rattle.std.specs.Prelude.{◌≡◌, ◌<◌, ◌==◌, ◌&&◌, ℕ, Bool, true, false, not, nat_le, List, [], ◌∷◌, ◌++◌, length, codes, encode_utf8_all, if◌then◌else◌}
+use Rattle.std.specs.Prelude.{◌≡◌, ◌<◌, ◌==◌, ◌&&◌, ℕ, Bool, true, not, nat_le, List, [], ◌∷◌, ◌++◌, length, codes, encode_utf8_all, if◌then◌else◌}
 use Rattle.std.specs.Char.{is_ascii_digit, is_control}
 use Rattle.std.specs.List.{list_all}
 use Rattle.sql_lexer.specs.declared.token.TokenKind.{TokenKind}

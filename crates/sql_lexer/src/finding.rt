@@ -9,7 +9,10 @@ use crate::words::word_at_front;
 use std::alloc::{AllocError, Global};
 
 // The longest token at the front, if one starts there, and what follows it.
-pub(crate) fn token_at_front(alloc: Global, text: &str) -> Result<Option<(TokenKind, &str)>, AllocError>
+pub(crate) fn token_at_front(
+    alloc: Global,
+    text: &str,
+) -> Result<Option<(TokenKind, &str)>, AllocError>
     ensures { IfOk result (λ found. IsFoundIn (chars text.now) found) }
 {
     if let Some(body) = text.strip_prefix('"') {

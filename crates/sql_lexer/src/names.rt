@@ -28,5 +28,7 @@ pub fn is_name(text: &str) -> bool
 pub(crate) fn is_quoted_name(front: &str, back: &str) -> bool
     ensures { result ≡ is_name (chars front.now ++ 34 ∷ chars back.now) }
 {
-    back.len() < MAX_NAME_BYTES.saturating_sub(front.len()) && has_no_control(front) && has_no_control(back)
+    back.len() < MAX_NAME_BYTES.saturating_sub(front.len())
+        && has_no_control(front)
+        && has_no_control(back)
 }

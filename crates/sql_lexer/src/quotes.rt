@@ -64,7 +64,11 @@ fn next_part<'a>(quotes: Quotes, content: &str, behind: &'a str) -> Option<(&'a 
 }
 
 // The longest token whose opening quote stands before `body`, and what follows it.
-pub(crate) fn quoted(alloc: Global, quotes: Quotes, body: &str) -> Result<Option<(TokenKind, &str)>, AllocError>
+pub(crate) fn quoted(
+    alloc: Global,
+    quotes: Quotes,
+    body: &str,
+) -> Result<Option<(TokenKind, &str)>, AllocError>
     ensures { IfOk result (λ found. IsFoundIn (mark_of quotes ∷ chars body.now) found) }
 {
     let Some((plain, mut behind)) = body.split_once(quotes.mark()) else {

@@ -20,7 +20,9 @@ fn digits_len(text: &[u8]) -> usize
 fn white_space_len(text: &[u8]) -> usize
     ensures { result ≡ prefix_len is_white_space text.now }
 {
-    text.iter().take_while(|byte| is_white_space(**byte)).count()
+    text.iter()
+        .take_while(|byte| is_white_space(**byte))
+        .count()
 }
 
 // The digits at the front, and what follows them.

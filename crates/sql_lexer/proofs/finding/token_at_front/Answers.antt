@@ -1,7 +1,7 @@
-use Rattle.std.proofs.Common.{◌≡◌, ◌∷◌, ◌∙◌, IfOk, chars, sym, subst}
+use Rattle.std.proofs.Common.{IfOk, chars, sym, subst}
 use Rattle.sql_lexer.specs.Front.{IsFoundIn, IsNumberIn}
 use Rattle.sql_lexer.proofs.FrontParts.{no-token, word-token}
-use Rattle.sql_lexer.proofs.Texts.{Stripped, not-stripped, stripped}
+use Rattle.sql_lexer.proofs.Texts.{not-stripped, stripped}
 use Rattle.sql_lexer.proofs.finding.token_at_front.Goals as goal
 
 pub returns-in-Some : goal.returns-in-Some

@@ -1,8 +1,8 @@
-use Rattle.std.proofs.Common.{◌≡◌, ◌≤◌, ◌<◌, ◌+◌, ◌-◌, ◌∷◌, ◌++◌, ◌∙◌, [], ℕ, List, Bool, None, Some, true, false, chars, length, length-append, nat_eq, sym, ap, subst, arith, refl}
+use Rattle.std.proofs.Common.{◌≡◌, ◌≤◌, ◌<◌, ℕ, List, chars, length, length-append, ap, subst, arith, refl}
 use Rattle.std.proofs.lemmas.Bool.Decides.{nat_tests}
 use Rattle.sql_lexer.specs.Front.{IsFoundIn, Run}
 use Rattle.sql_lexer.specs.Lexed.{is_white_space}
-use Rattle.sql_lexer.proofs.LexedParts.{Read, ends-there, faults-there, starts-there, token-goes_on, token-read}
+use Rattle.sql_lexer.proofs.LexedParts.{ends-there, faults-there, starts-there, token-goes_on, token-read}
 use Rattle.sql_lexer.proofs.RunParts.{run-utf8, white-ascii}
 use Rattle.sql_lexer.proofs.lexing.lex.Goals as goal
 

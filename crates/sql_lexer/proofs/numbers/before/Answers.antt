@@ -1,5 +1,5 @@
 use Rattle.std.proofs.Common.{◌∙◌, ap, chars}
-use Rattle.sql_lexer.proofs.Texts.{Cut, cut}
+use Rattle.sql_lexer.proofs.Texts.{cut}
 use Rattle.sql_lexer.proofs.numbers.before.Goals as goal
 
 pub overflow_sub-text : goal.overflow_sub-text

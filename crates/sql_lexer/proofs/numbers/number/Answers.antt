@@ -1,14 +1,13 @@
-use Rattle.std.proofs.Common.{◌≡◌, ◌<◌, ◌∷◌, ◌++◌, ◌∙◌, ℕ, List, Bool, None, [], true, false, refl, chars, length, nat_eq, arith, sym, ap, subst, append_assoc}
+use Rattle.std.proofs.Common.{◌≡◌, ◌<◌, ◌∷◌, ◌++◌, ◌∙◌, ℕ, List, Bool, [], true, false, refl, chars, length, nat_eq, arith, sym, ap, subst, append_assoc}
 use Rattle.std.specs.Char.{is_ascii_digit}
 use Rattle.std.specs.Str.{IsAscii}
 use Rattle.std.proofs.lemmas.Bool.Decides.{nat_tests}
 use Rattle.std.proofs.lemmas.Str.{chars-IsAscii}
-use Rattle.sql_lexer.specs.Front.{Run}
 use Rattle.sql_lexer.specs.Lexed.{IsToken}
 use Rattle.sql_lexer.specs.declared.token.TokenKind.TheVariants as k
 use Rattle.sql_lexer.proofs.NumberParts.{dec-token, int-token, no-fraction}
 use Rattle.sql_lexer.proofs.RunParts.{digit-ascii, run-chars, run-utf8}
-use Rattle.sql_lexer.proofs.Texts.{Stripped, all-ascii, not-stripped, stripped}
+use Rattle.sql_lexer.proofs.Texts.{all-ascii, not-stripped, stripped}
 use Rattle.sql_lexer.proofs.numbers.number.Goals as goal
 use Rattle.sql_lexer.proofs.numbers.number.Goals.{in-Some+else-not-is_empty, in_default}
 
@@ -26,11 +25,10 @@ pub before-requires : goal.before-requires
 before-requires c =
     let whole = c.split_digits.result.0.now in
     let behind = c.split_digits.result.1.now in
-    let first = stripped 46 behind c.in-Some.fraction.now (run-utf8 is_ascii_digit digit-ascii c.args.text.now whole behind c.utf8.text c.split_digits.ensures) c.in-Some.ensures.cases in
-    (
+    let first = stripped 46 behind c.in-Some.fraction.now (run-utf8 is_ascii_digit digit-ascii c.args.text.now whole behind c.utf8.text c.split_digits.ensures) c.in-Some.ensures.cases in (
       whole ++ 46 ∷ c.split_digits-in-Some.result.0.now,
       both (chars c.args.text.now) whole (chars behind) (chars c.in-Some.fraction.now) c.split_digits-in-Some.result.0.now (chars c.split_digits-in-Some.result.1.now) (run-chars is_ascii_digit digit-ascii c.args.text.now whole behind c.split_digits.ensures) first.is
-      (run-chars is_ascii_digit digit-ascii c.in-Some.fraction.now c.split_digits-in-Some.result.0.now c.split_digits-in-Some.result.1.now c.split_digits-in-Some.ensures),
+          (run-chars is_ascii_digit digit-ascii c.in-Some.fraction.now c.split_digits-in-Some.result.0.now c.split_digits-in-Some.result.1.now c.split_digits-in-Some.ensures),
     )
 
 pub returns-then-not-is_empty : goal.returns-then-not-is_empty

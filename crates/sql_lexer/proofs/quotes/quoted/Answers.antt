@@ -4,7 +4,7 @@ use Rattle.std.proofs.lemmas.Str.{IsUtf8-string_bytes}
 use Rattle.sql_lexer.specs.Front.{IsNextPart, allows, kind_of, mark_of}
 use Rattle.sql_lexer.specs.Lexed.{IsToken}
 use Rattle.sql_lexer.proofs.Quoting.{Reached, mark-ascii, reached-none, reached-start, reached-step, reached-token, unclosed}
-use Rattle.sql_lexer.proofs.Texts.{Split, not-split, pushed, split-at}
+use Rattle.sql_lexer.proofs.Texts.{not-split, pushed, split-at}
 use Rattle.sql_lexer.proofs.quotes.quoted.Goals as goal
 
 pub returns-in_default : goal.returns-in_default

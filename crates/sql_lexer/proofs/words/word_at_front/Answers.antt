@@ -1,4 +1,4 @@
-use Rattle.std.proofs.Common.{◌≡◌, ◌<◌, ◌≤◌, ◌+◌, ◌++◌, ◌∙◌, ◌⊎◌, ℕ, List, chars, length, nat_lt, inl, inr, ap, sym, subst, arith, encode_utf8_all}
+use Rattle.std.proofs.Common.{◌≡◌, ◌<◌, ◌+◌, ◌++◌, ◌∙◌, ◌⊎◌, ℕ, List, chars, inl, inr, ap, sym, subst, arith, encode_utf8_all}
 use borrow.Author.Tests.{ltb-true}
 use Rattle.sql_lexer.specs.Spelling.{spelling}
 use Rattle.sql_lexer.proofs.Table.{first-longest, place, place-below, placed, spelling-ascii, word_at}
