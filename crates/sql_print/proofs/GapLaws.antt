@@ -1,9 +1,9 @@
 -- Which tokens stand apart, and a token more.
-use Rattle.std.proofs.Common.{◌≡◌, ◌∙◌, ◌≤◌, ◌<◌, ◌+◌, ℕ, zero, suc, Bool, true, false, List, [], ◌∷◌, ◌++◌, length, get_or, take, refl, sym, ap, subst, arith, append_assoc}
+use Rattle.std.proofs.Common.{◌≡◌, ◌∙◌, ◌<◌, ℕ, zero, suc, List, [], ◌∷◌, ◌++◌, length, get_or, take, refl, sym, ap, subst, arith, append_assoc}
 use Rattle.std.proofs.Math.Seq.{take-suc}
 use Rattle.forms.specs.Written.{Each}
 use Rattle.sql_lexer.specs.Spelling.{IsFormed, spelled}
-use Rattle.sql_lexer.specs.Writing.{IsApart, IsGap, Written, more}
+use Rattle.sql_lexer.specs.Writing.{IsApart, IsGap, more}
 use Rattle.sql_lexer.specs.declared.token.TokenKind.{TokenKind}
 use Rattle.sql_lexer.specs.declared.token.TokenKind.TheVariants as t
 use Rattle.sql_lexer.specs.declared.token.Word.TheVariants as w
@@ -62,9 +62,14 @@ clause-fits kinds kind = apart-gap kinds (gap_text gap.Clause) (spelled kind) re
 pub item-fits : (kinds : List TokenKind) (kind : TokenKind) → Fits kinds gap.Item kind
 item-fits kinds kind = apart-gap kinds (gap_text gap.Item) (spelled kind) refl (omega arith)
 
-pub first-fits : (kind : TokenKind) (text : List ℕ) → IsApart [] text
-first-fits kind [] = refl
-first-fits kind (c ∷ text) = refl
+first-apart : (text : List ℕ) → IsApart [] text
+first-apart [] = refl
+first-apart (c ∷ text) = refl
+
+pub first-fits : (kind : TokenKind) → Fits [] gap.Nothing kind
+first-fits kind = first-apart (spelled kind)
+
+pub ruleset fits = (first-fits, space-fits, statement-fits, clause-fits, item-fits)
 
 formed-at : (ts : List TokenKind) (i : ℕ) (kind : TokenKind) → i < length ts → kind ≡ get_or ts i kind → Each IsFormed ts → IsFormed kind
 formed-at [] i kind low is each = absurd (omega (arith, low))

@@ -1,5 +1,5 @@
 -- What is written behind tokens that stand already.
-use Rattle.std.specs.Prelude.{Bool, true, false, List, ◌++◌, ◌∷◌, nat_le}
+use Rattle.std.specs.Prelude.{Bool, true, false, ◌++◌, nat_le}
 use Rattle.sql_lexer.specs.declared.token.Word.{Word}
 use Rattle.sql_lexer.specs.declared.token.Word.TheVariants as w
 use Rattle.sql_tree.specs.Grammar.{Tokens}

@@ -8,7 +8,6 @@ ghost use Rattle.sql_print.specs.Onto.{branches_onto, exps_onto, onto, part_onto
 ghost use Rattle.sql_tree.specs.Trees.{branches_of, count_all, exists, exps_of};
 ghost use Rattle.sql_tree.specs.View.{branch_tree, expr_tree};
 
-
 use crate::parts::{constant, equalities, int, maybe_not, source};
 use crate::word_groups::{aggregate_word, left_level, op_level, op_word, right_level, unary_level};
 use crate::writing::{Printed, Written, parted, word};
@@ -199,7 +198,7 @@ fn one(out: &mut Vec<TokenKind>) -> Printed
     Ok(())
 }
 
-/// The tokens of the expression behind `out`, with brackets only where they must stand. It fails only for want of memory.
+// The tokens of the expression, with brackets only where they must stand.
 #[tactic(auto, using(crate::proofs::Views::views, crate::proofs::Views::whole))]
 pub(crate) fn expression(out: &mut Vec<TokenKind>, e: &SqlExpr) -> Printed
     ensures { OnOk result (out.new.items ≡ out.old.items ++ written (expr_tree e.now)) }

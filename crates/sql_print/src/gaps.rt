@@ -132,7 +132,9 @@ fn is_quiet_behind(before: &TokenKind, kind: &TokenKind) -> bool
     ensures { result ≡ true → (kinds : List TokenKind) → IsApart kinds (spelled kind.now) }
 {
     match kind {
-        TokenKind::Word(Word::Close | Word::Comma | Word::Semicolon) => true,
+        TokenKind::Word(Word::Close) => true,
+        TokenKind::Word(Word::Comma) => true,
+        TokenKind::Word(Word::Semicolon) => true,
         TokenKind::Word(Word::Open) => is_function(before),
         _ => false,
     }

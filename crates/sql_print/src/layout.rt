@@ -93,11 +93,7 @@ fn ends_item(kind: &TokenKind) -> bool {
     )
 }
 
-fn space_behind(
-    front: Option<&TokenKind>,
-    before: Option<&TokenKind>,
-    kind: &TokenKind,
-) -> usize {
+fn space_behind(front: Option<&TokenKind>, before: Option<&TokenKind>, kind: &TokenKind) -> usize {
     match before {
         Some(before) if !is_tight(before, kind, is_prefix(front, before)) => 1,
         _ => 0,
@@ -106,10 +102,15 @@ fn space_behind(
 
 // Whether the next item of a list has room on the line, with the comma behind it.
 fn has_room(place: Place, ahead: &[TokenKind]) -> bool {
-    place.width.saturating_add(item_width(ahead)).saturating_add(2) <= WIDTH
+    place
+        .width
+        .saturating_add(item_width(ahead))
+        .saturating_add(2)
+        <= WIDTH
 }
 
 // What stands before the token, behind those that are done.
+#[tactic(auto, using(crate::proofs::GapLaws::fits))]
 fn gap_behind(done: &[TokenKind], kind: &TokenKind, ahead: &[TokenKind], place: Place) -> Gap
     ensures { Fits done.now result kind.now }
 {
@@ -139,12 +140,7 @@ fn is_word(kind: &TokenKind, word: Word) -> bool {
 }
 
 // Appends the token at a place of the list, and gives the place behind it.
-fn turn(
-    tokens: &[TokenKind],
-    i: usize,
-    place: Place,
-    out: &mut String,
-) -> Result<Place, AllocError>
+fn turn(tokens: &[TokenKind], i: usize, place: Place, out: &mut String) -> Result<Place, AllocError>
     requires { i < length tokens.now }
     ensures { IfOk result (λ next. WrittenAs tokens.now (take i tokens.now) (chars (string_bytes out.old)) → WrittenAs tokens.now (take (i + 1) tokens.now) (chars (string_bytes out.new))) }
 {
@@ -157,7 +153,7 @@ fn turn(
 }
 
 // The text of the tokens, with the end of a line behind them.
-pub fn lay_out(alloc: Global, tokens: &[TokenKind]) -> Result<String, AllocError>
+pub(crate) fn lay_out(alloc: Global, tokens: &[TokenKind]) -> Result<String, AllocError>
     ensures { IfOk result (λ text. (front : List ℕ) × (chars (string_bytes text) ≡ front ++ gap_text gap.Statement) × WrittenAs tokens.now tokens.now front) }
 {
     let mut out = String::new(alloc);

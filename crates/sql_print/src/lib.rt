@@ -5,11 +5,11 @@ mod expressions;
 mod gaps;
 mod layout;
 mod parts;
+mod printing;
 mod queries;
 mod statements;
 mod windows;
 mod word_groups;
 mod writing;
 
-pub use layout::lay_out;
-pub use statements::tokens_of;
+pub use printing::print;

@@ -152,8 +152,8 @@ fn statements(out: &mut Vec<TokenKind>, items: &[Statement]) -> Printed
     all(out, items)
 }
 
-/// The tokens of the script. It fails only for want of memory.
-pub fn tokens_of(alloc: Global, s: &SqlScript) -> Result<Vec<TokenKind>, AllocError>
+// The tokens of the script.
+pub(crate) fn tokens_of(alloc: Global, s: &SqlScript) -> Result<Vec<TokenKind>, AllocError>
     ensures { IfOk result (λ tokens. tokens.items ≡ written_script (script_tree s.now)) }
 {
     let mut out = Vec::new(alloc);
