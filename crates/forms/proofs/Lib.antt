@@ -3,3 +3,4 @@ pub mod Laws
 pub mod Chains
 pub mod Scripts
 pub mod Written
+pub mod Narrow

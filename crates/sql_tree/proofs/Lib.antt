@@ -4,3 +4,4 @@ pub mod ColumnCalls
 pub mod ScriptLaws
 pub mod Prints
 pub mod ScriptPrints
+pub mod Depths

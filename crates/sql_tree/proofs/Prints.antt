@@ -1,5 +1,5 @@
 -- What is written for an expression spells it.
-use Rattle.std.proofs.Common.{◌≡◌, inl, inr, ◌∙◌, ◌≤◌, ◌+◌, ◌*◌, ◌-◌, ℕ, zero, suc, max, Bool, true, false, List, [], ◌∷◌, ◌++◌, length, Option, None, Some, refl, sym, ap, subst, arith, append_assoc, append-nil, nat_le}
+use Rattle.std.proofs.Common.{◌≡◌, inl, inr, ◌∙◌, ◌≤◌, ◌+◌, ◌*◌, ◌-◌, ℕ, zero, suc, max, Bool, true, false, List, [], ◌∷◌, ◌++◌, length, None, Some, refl, sym, ap, subst, arith, append_assoc, append-nil, nat_le}
 use borrow.Author.Tests.{leb-true}
 use Rattle.forms.specs.Forms.{Form, chain, seq, deep, Deep, limited, lookup, IsToken}
 use Rattle.forms.specs.Written.{Each}
@@ -12,11 +12,11 @@ use Rattle.vtl_cell.specs.declared.operator.ScalarOp.{ScalarOp}
 use Rattle.vtl_cell.specs.declared.operator.ScalarOp.TheVariants as op
 use Rattle.vtl_cell.specs.declared.operator.AggKind.{AggKind}
 use Rattle.vtl_cell.specs.declared.operator.AggKind.TheVariants as agg
-use Rattle.sql_tree.specs.Classes.{class, place}
-use Rattle.sql_tree.specs.Trees.{Text, Exp, Exps, Branches, exps_of, branches_of, binary, unary, is_null, in_list, constant, column, call, count_all, aggregate, case_when, exists, no_exps, exp, no_branches, branch}
+use Rattle.sql_tree.specs.Classes.{place}
+use Rattle.sql_tree.specs.Trees.{Exp, Exps, Branches, exps_of, branches_of, binary, unary, is_null, in_list, constant, column, call, count_all, aggregate, case_when, exists, no_exps, exp, no_branches, branch}
 use Rattle.sql_tree.specs.Grammar as g
 use Rattle.sql_tree.specs.Grammar.{SqlForm, Tokens, Expr, DeepExp, Place, Whole, Negated, Signed, key, of_table, in_brackets, expr_at, joined_by, operator_before, or_ops_table, and_ops_table, add_ops_table, multiply_ops_table, compare_ops_table, signs_table, functions_table, aggregates_table}
-use Rattle.sql_tree.specs.Printing.{op_word, aggregate_word, op_level, left_level, right_level, unary_level, level_of, just, bracketed, wrapped, not_word, minus_word, commas, written_source, written_equality, written_equalities, written_number, written_constant, written_literal, written, written_exps, more_exps, written_branches}
+use Rattle.sql_tree.specs.Printing.{op_word, aggregate_word, op_level, unary_level, level_of, just, bracketed, wrapped, not_word, minus_word, commas, written_source, written_equality, written_equalities, written_number, written_constant, written_literal, written, written_exps, more_exps, written_branches}
 use Rattle.sql_tree.specs.Formed.{is_binary, is_unary, is_function, IsEquality, IsLiteral, Formed, SomeExps, SomeBranches, EachFormed, BranchesFormed, exp_depth, exps_depth, branches_depth}
 use Rattle.sql_tree.specs.declared.parts.Numeral.{Numeral}
 use Rattle.sql_tree.specs.declared.parts.Numeral.TheVariants as numeral
@@ -358,7 +358,8 @@ more-items k no_exps all h before us b is = record { depth = is.depth; low = ome
 more-items k (exp e es) all h before us b is =
     let a = item k e all.0 (omega (arith, h)) in
     let new : Tokens = t.Word w.Comma ∷ written e in
-    let longer = chain-more _ _ _ us new (deep before is.depth) (deep (before ++ e ∷ []) (max is.depth a.depth)) (deep e a.depth) is.spelled (after-of (just w.Comma) (written e) tt (one w.Comma) (whole k (written e) (deep e a.depth) a.spelled)) refl in
+    let next : Deep (List Exp) = deep (before ++ e ∷ []) (max is.depth a.depth) in
+    let longer = chain-more _ _ _ us new (deep before is.depth) next (deep e a.depth) is.spelled (after-of (just w.Comma) (written e) tt (one w.Comma) (whole k (written e) (deep e a.depth) a.spelled)) (refl {a = Some next}) in
     let rest = more-items k es all.1 (omega (arith, h)) (before ++ e ∷ []) (us ++ new) (max b (2 * exp_depth e)) (record { depth = max is.depth a.depth; low = omega (arith, is.low, a.low); spelled = longer }) in
     record {
       depth = rest.depth;
@@ -372,7 +373,8 @@ unfolding list_of
 all-items k no_exps some all h = absurd some
 all-items k (exp e es) some all h =
     let a = item k e all.0 (omega (arith, h)) in
-    let first = chain-alone _ _ _ (written e) (deep (e ∷ []) a.depth) (record { part = deep e a.depth; spelled = whole k (written e) (deep e a.depth) a.spelled; is = refl }) in
+    let alone : Deep (List Exp) = deep (e ∷ []) a.depth in
+    let first : (exps_form (suc k)).spells (written e) alone = chain-alone _ _ _ (written e) alone (record { part = deep e a.depth; spelled = whole k (written e) (deep e a.depth) a.spelled; is = refl {a = Some alone} }) in
     let rest = more-items k es all.1 (omega (arith, h)) (e ∷ []) (written e) (2 * exp_depth e) (record { depth = a.depth; low = a.low; spelled = first }) in
     record { depth = rest.depth; low = omega (arith, rest.low); spelled = rest.spelled }
 
@@ -483,7 +485,8 @@ more-branches k no_branches all h before us b is = record { depth = is.depth; lo
 more-branches k (branch e v bs) all h before us b is =
     let a = one-branch k e v all.0 all.1 (omega (arith, h)) (omega (arith, h)) in
     let new : Tokens = branch_tokens e v in
-    let longer = chain-more _ _ _ us new (deep before is.depth) (deep (before ++ (e, v) ∷ []) (max is.depth a.depth)) (deep (e, v) a.depth) is.spelled a.spelled refl in
+    let next : Deep (List (Exp × Exp)) = deep (before ++ (e, v) ∷ []) (max is.depth a.depth) in
+    let longer = chain-more _ _ _ us new (deep before is.depth) next (deep (e, v) a.depth) is.spelled a.spelled (refl {a = Some next}) in
     let rest = more-branches k bs all.2 (omega (arith, h)) (before ++ (e, v) ∷ []) (us ++ new) (max b (max (2 * exp_depth e) (2 * exp_depth v))) (record { depth = max is.depth a.depth; low = omega (arith, is.low, a.low); spelled = longer }) in
     record {
       depth = rest.depth;
@@ -497,7 +500,8 @@ unfolding pairs_of g.branches branch_tokens
 all-branches k no_branches some all h = absurd some
 all-branches k (branch e v bs) some all h =
     let a = one-branch k e v all.0 all.1 (omega (arith, h)) (omega (arith, h)) in
-    let first = chain-alone _ _ _ (branch_tokens e v) (deep ((e, v) ∷ []) a.depth) (record { part = deep (e, v) a.depth; spelled = a.spelled; is = refl }) in
+    let alone : Deep (List (Exp × Exp)) = deep ((e, v) ∷ []) a.depth in
+    let first : (g.branches (expr_at (suc k) Whole)).spells (branch_tokens e v) alone = chain-alone _ _ _ (branch_tokens e v) alone (record { part = deep (e, v) a.depth; spelled = a.spelled; is = refl {a = Some alone} }) in
     let rest = more-branches k bs all.2 (omega (arith, h)) ((e, v) ∷ []) (branch_tokens e v) (max (2 * exp_depth e) (2 * exp_depth v)) (record { depth = a.depth; low = a.low; spelled = first }) in
     record { depth = rest.depth; low = omega (arith, rest.low); spelled = rest.spelled }
 

@@ -1,8 +1,8 @@
 -- What is written for a script spells it.
-use Rattle.std.proofs.Common.{◌≡◌, inl, inr, ◌∙◌, ◌≤◌, ℕ, zero, suc, Bool, true, false, List, [], ◌∷◌, ◌++◌, length, Option, None, Some, refl, sym, ap, arith, append_assoc, append-nil}
-use Rattle.forms.specs.Forms.{Form, EachSpells, joined, «as», maybe, maybe_after}
+use Rattle.std.proofs.Common.{◌≡◌, inl, inr, ◌∙◌, ℕ, suc, true, List, [], ◌∷◌, ◌++◌, Option, None, Some, refl, sym, ap, arith, append_assoc, append-nil}
+use Rattle.forms.specs.Forms.{joined, «as», maybe, maybe_after}
 use Rattle.forms.specs.Scripts.{ScriptSpells}
-use Rattle.forms.specs.Written.{Each, between, run}
+use Rattle.forms.specs.Written.{Each, run}
 use Rattle.forms.proofs.Written.{both-of, as-of, after-of, before-of, listed-of, each-of}
 use Rattle.sql_lexer.specs.declared.token.TokenKind.TheVariants as t
 use Rattle.sql_lexer.specs.declared.token.Word.{Word}
@@ -18,11 +18,10 @@ use Rattle.sql_tree.specs.Grammar as g
 use Rattle.sql_tree.specs.Grammar.{SqlForm, Tokens, key, of_table, in_brackets, items_after, two_keys}
 use Rattle.sql_tree.specs.Printing as p
 use Rattle.sql_tree.specs.Printing.{just, two_words, bracketed, aggregate_word, kind_word, rounding_word, join_word, direction_word, side_word, value_word, shift_word, written, written_name, written_text, written_column, written_source, written_default, written_call, written_key, written_bound, written_frame, written_over, written_window, written_value, written_item, written_join, written_select, written_query, written_input_column, written_statement, written_script, maybe_written, behind_word}
-use Rattle.sql_tree.specs.Formed.{IsName, IsColumn, IsLiteral, is_window_aggregate, is_column_kind, IsExp, IsMaybeExp, IsCall, IsWindowKey, IsMaybeFrame, IsOver, IsWindow, IsValue, IsItem, IsJoin, IsSelect, IsQuery, IsInputColumn, IsInput, IsExport, IsStatement, PrintableScript}
+use Rattle.sql_tree.specs.Formed.{IsName, IsColumn, is_window_aggregate, is_column_kind, IsMaybeExp, IsCall, IsWindowKey, IsOver, IsValue, IsItem, IsJoin, IsSelect, IsQuery, IsInputColumn, IsInput, IsExport, IsStatement, PrintableScript}
 use Rattle.sql_tree.specs.declared.parts.Column.{Column}
 use Rattle.sql_tree.specs.declared.parts.Source.{Source}
 use Rattle.sql_tree.specs.declared.parts.Literal.{Literal}
-use Rattle.sql_tree.specs.declared.windows.Window.{Window}
 use Rattle.sql_tree.specs.declared.windows.WindowCall.{WindowCall}
 use Rattle.sql_tree.specs.declared.windows.WindowCall.TheVariants as call
 use Rattle.sql_tree.specs.declared.windows.WindowKey.{WindowKey}

@@ -5,3 +5,4 @@ pub mod Grammar
 pub mod Printing
 pub mod Texts
 pub mod Formed
+pub mod Depth
