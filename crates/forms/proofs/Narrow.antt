@@ -1,8 +1,8 @@
 -- Spellings that agree up to a bound: what the first spells and is not deeper than the bound, the second spells.
-use Rattle.std.proofs.Common.{◌≡◌, ◌⊎◌, inl, inr, ◌∙◌, ◌≤◌, ℕ, suc, max, Bool, true, false, List, [], ◌∷◌, ◌++◌, Option, None, Some, refl, sym, ap, subst, arith}
-use Rattle.forms.specs.Forms.{Spelling, Both, IsMade, IsChain, EachSpells, MaybeSpells, Deep, deep, limited, joined, ◌>>=◌}
+use Rattle.std.proofs.Common.{◌≡◌, ◌⊎◌, inl, inr, ◌∙◌, ◌≤◌, ℕ, max, Bool, true, false, List, [], ◌∷◌, Option, None, Some, refl, ap, arith}
+use Rattle.forms.specs.Forms.{Spelling, Both, IsMade, IsChain, EachSpells, Deep, deep, limited, joined, ◌>>=◌}
 use Rattle.forms.proofs.Laws.{some_of}
-use borrow.Author.Tests.{le-leb, leb-true}
+use borrow.Author.Tests.{le-leb}
 use Rattle.std.specs.Prelude.{nat_le, if◌then◌else◌}
 
 abbrev pub Narrow : {T A : Type 0} → (A → ℕ) → ℕ → Spelling T A → Spelling T A → Type 0

@@ -1,4 +1,4 @@
-//! The SQL dialect: the trees of its scripts, its grammar, and the text of a script.
+//! The SQL dialect: the trees of its scripts, its grammar, and with which tokens a script is written.
 #![tactic(auto)]
 
 mod expressions;
