@@ -1,5 +1,6 @@
 // What stands before the next token.
-ghost use Rattle.std.specs.Prelude.{◌≡◌, true};
+ghost use Rattle.std.specs.Prelude.{◌≡◌, ℕ, true, false};
+ghost use Rattle.sql_lexer.specs.Writing.{goes_on};
 ghost use Rattle.sql_layout.specs.Apart.{IsEdgeOf, NeedsNoGap};
 
 use sql_lexer::{TokenKind, Word};
@@ -46,7 +47,9 @@ fn edge_behind_word(before: Edge, word: Word) -> Edge
 }
 
 // A sign behind an operand stands between two; else it is that of the next.
-fn edge_behind_sign(before: Edge) -> Edge {
+fn edge_behind_sign(before: Edge) -> Edge
+    ensures { (kind : TokenKind) → ((c : ℕ) → goes_on kind c ≡ false) → IsEdgeOf result kind }
+{
     match before {
         Edge::Name | Edge::Operand => Edge::Other,
         _ => Edge::Open,
@@ -71,9 +74,37 @@ pub(crate) fn is_joined(edge: Edge, next: &TokenKind) -> bool
     ensures { result ≡ true → NeedsNoGap edge next.now }
 {
     match next {
-        TokenKind::Word(Word::Close | Word::Comma | Word::Semicolon) => true,
-        TokenKind::Word(Word::Open) if edge == Edge::Function => true,
-        TokenKind::Word(Word::Dot) if edge == Edge::Name => true,
-        _ => edge == Edge::Start || edge == Edge::Open,
+        TokenKind::Word(word) => is_joined_word(edge, *word),
+        _ => is_joining(edge),
+    }
+}
+
+fn is_joined_word(edge: Edge, word: Word) -> bool
+    ensures { result ≡ true → NeedsNoGap edge (TokenKind.Word word) }
+{
+    match word {
+        Word::Close | Word::Comma | Word::Semicolon => true,
+        Word::Open => edge == Edge::Function || is_joining(edge),
+        Word::Dot => takes_dot(edge),
+        _ => is_joining(edge),
+    }
+}
+
+fn takes_dot(edge: Edge) -> bool
+    ensures { result ≡ true → NeedsNoGap edge (TokenKind.Word Word.Dot) }
+{
+    match edge {
+        Edge::Name => true,
+        _ => is_joining(edge),
+    }
+}
+
+// Whether any token stands right behind.
+fn is_joining(edge: Edge) -> bool
+    ensures { result ≡ true → (next : TokenKind) → NeedsNoGap edge next }
+{
+    match edge {
+        Edge::Start | Edge::Open => true,
+        _ => false,
     }
 }

@@ -18,9 +18,10 @@ pub fn lay_out(alloc: Global, kinds: &[TokenKind]) -> Result<String, AllocError>
     let mut out = String::new(alloc);
     let mut place = Place::start();
     for i in 0..kinds.len() {
-        let gap = place.gap(&kinds[i], &kinds[i + 1..]);
-        write_behind(&mut out, gap, &kinds[i])?;
-        place = place.behind(gap, &kinds[i]);
+        let kind = &kinds[i];
+        let gap = place.gap(kind, &kinds[i + 1..]);
+        write_behind(&mut out, gap, kind)?;
+        place = place.behind(gap, kind);
     }
     out.push_str(Gap::Statement.text())?;
     Ok(out)

@@ -40,7 +40,11 @@ impl Place {
             Gap::Statement
         } else if self.depth == 0 && begins_clause(next) {
             Gap::Clause
-        } else if self.column.saturating_add(joined_width(self.edge, next, rest)) >= MAX_LINE {
+        } else if self
+            .column
+            .saturating_add(joined_width(self.edge, next, rest))
+            >= MAX_LINE
+        {
             Gap::More
         } else {
             Gap::Space
