@@ -1,0 +1,4 @@
+pub mod Tests
+pub mod Laws
+pub mod Chains
+pub mod Scripts
