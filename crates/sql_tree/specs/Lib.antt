@@ -1,0 +1,4 @@
+pub mod Classes
+pub mod Trees
+pub mod View
+pub mod Grammar

@@ -1,0 +1,80 @@
+// Columns, sources and constants.
+
+use vtl_text::Txt;
+
+/// `"source"."name"`
+#[derive(Drop)]
+pub struct Column {
+    /// The alias of the source.
+    pub source: Txt,
+    /// The column's name.
+    pub name: Txt,
+}
+
+/// `"table" AS "alias"`
+#[derive(Drop)]
+pub struct Source {
+    /// The table.
+    pub table: Txt,
+    /// The name by which columns name it.
+    pub alias: Txt,
+}
+
+/// `left = right`
+#[derive(Drop)]
+pub struct Equality {
+    /// The column before the sign.
+    pub left: Column,
+    /// The column behind it.
+    pub right: Column,
+}
+
+/// A number as it is written, of any length.
+#[derive(Drop)]
+pub enum Numeral {
+    /// Digits.
+    Int(Txt),
+    /// Digits, a point and digits.
+    Dec(Txt),
+}
+
+/// A constant in an expression.
+#[derive(Drop)]
+pub enum Constant {
+    /// A number.
+    Number(Numeral),
+    /// `'text'`
+    Text(Txt),
+    /// `TRUE`
+    True,
+    /// `FALSE`
+    False,
+    /// `NULL`
+    Null,
+    /// `DATE 'text'`
+    Date(Txt),
+    /// `PERIOD 'text'`
+    Period(Txt),
+}
+
+/// A literal in a list of `IN` or as the default of a window.
+#[derive(Drop)]
+pub enum Literal {
+    /// A number, with a `-` before it where it is negative.
+    Number {
+        /// There is a `-`.
+        negative: bool,
+        /// The number without it.
+        number: Numeral,
+    },
+    /// `'text'`
+    Text(Txt),
+    /// `TRUE`
+    True,
+    /// `FALSE`
+    False,
+    /// `DATE 'text'`
+    Date(Txt),
+    /// `PERIOD 'text'`
+    Period(Txt),
+}

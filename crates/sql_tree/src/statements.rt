@@ -1,0 +1,123 @@
+// Scripts, statements and queries.
+
+use crate::{Column, JoinKind, Source, SqlExpr, Window};
+use vtl_cell::Kind;
+use vtl_decimal::Rounding;
+use vtl_text::{List, Txt};
+
+/// `SET SCALE scale ROUNDING rounding; statements`
+#[derive(Drop)]
+pub struct SqlScript {
+    /// The digits of the scale, as they are written.
+    pub scale: Txt,
+    /// The rounding.
+    pub rounding: Rounding,
+    /// The statements behind SET.
+    pub statements: List<Statement>,
+}
+
+/// A statement.
+#[derive(Drop)]
+pub enum Statement {
+    /// `INPUT ..`
+    Input(SqlInput),
+    /// `CREATE TABLE ..`
+    Create(SqlCreate),
+    /// `EXPORT ..`
+    Export(SqlExport),
+}
+
+/// `INPUT name (columns) KEY (key);`
+#[derive(Drop)]
+pub struct SqlInput {
+    /// The table.
+    pub name: Txt,
+    /// Its columns.
+    pub columns: List<InputColumn>,
+    /// The names of the key's columns; there may be none.
+    pub key: List<Txt>,
+}
+
+/// `name kind CODES (codes)`
+#[derive(Drop)]
+pub struct InputColumn {
+    /// Its name.
+    pub name: Txt,
+    /// Its kind, any but null.
+    pub kind: Kind,
+    /// The codes; none where no CODES is written.
+    pub codes: List<Txt>,
+}
+
+/// `CREATE TABLE name AS query;`
+#[derive(Drop)]
+pub struct SqlCreate {
+    /// The table.
+    pub name: Txt,
+    /// Its rows.
+    pub query: Query,
+}
+
+/// `EXPORT name ORDER BY order;`
+#[derive(Drop)]
+pub struct SqlExport {
+    /// The table.
+    pub name: Txt,
+    /// The columns that sort it; none where no ORDER BY is written.
+    pub order: List<Txt>,
+}
+
+/// `select UNION ALL select ..`
+#[derive(Drop)]
+pub struct Query {
+    /// The selects.
+    pub selects: List<Select>,
+}
+
+/// `SELECT items FROM source joins WHERE condition GROUP BY group HAVING having`
+#[derive(Drop)]
+pub struct Select {
+    /// What a row of the result holds.
+    pub items: List<Item>,
+    /// The first source.
+    pub from: Source,
+    /// The others.
+    pub joins: List<Join>,
+    /// The condition of WHERE, where one is written.
+    pub condition: Option<SqlExpr>,
+    /// The columns of GROUP BY; none where it is not written.
+    pub group: List<Column>,
+    /// The condition of HAVING, where one is written.
+    pub having: Option<SqlExpr>,
+}
+
+/// `value AS name`
+#[derive(Drop)]
+pub struct Item {
+    /// The value.
+    pub value: ItemValue,
+    /// The name of the result's column.
+    pub name: Txt,
+}
+
+/// The value of an item.
+#[derive(Drop)]
+pub enum ItemValue {
+    /// An expression.
+    Expr(SqlExpr),
+    /// A window.
+    Window(Window),
+}
+
+/// A further source.
+#[derive(Drop)]
+pub enum Join {
+    /// `kind JOIN source ON condition`
+    On {
+        kind: JoinKind,
+        source: Source,
+        condition: SqlExpr,
+    },
+    /// `CROSS JOIN source`
+    Cross(Source),
+}

@@ -1,0 +1,50 @@
+// Words of which one stands at a place.
+
+/// Which rows a join with a condition keeps.
+#[derive(Clone, Copy, Debug, PartialEq, Eq)]
+pub enum JoinKind {
+    /// `INNER`: the pairs
+    Inner,
+    /// `LEFT`: the pairs, and the left rows without one
+    Left,
+    /// `FULL`: the pairs, and the rows of either side without one
+    Full,
+}
+
+/// How the rows of a partition are sorted by a column.
+#[derive(Clone, Copy, Debug, PartialEq, Eq)]
+pub enum Direction {
+    /// `ASC`
+    Ascending,
+    /// `DESC`
+    Descending,
+}
+
+/// On which side of a row.
+#[derive(Clone, Copy, Debug, PartialEq, Eq)]
+pub enum Side {
+    /// `PRECEDING`
+    Preceding,
+    /// `FOLLOWING`
+    Following,
+}
+
+/// A function of a column over a window that is no aggregate.
+#[derive(Clone, Copy, Debug, PartialEq, Eq)]
+pub enum ValueFunction {
+    /// `FIRST_VALUE`
+    FirstValue,
+    /// `LAST_VALUE`
+    LastValue,
+    /// `RATIO_TO_REPORT`
+    RatioToReport,
+}
+
+/// A function that gives the value of a row that stands apart.
+#[derive(Clone, Copy, Debug, PartialEq, Eq)]
+pub enum ShiftFunction {
+    /// `LAG`: of a row before
+    Lag,
+    /// `LEAD`: of a row behind
+    Lead,
+}
