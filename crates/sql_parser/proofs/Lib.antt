@@ -1,1 +1,4 @@
+pub mod ReadingAt
+pub mod Tables
 pub mod Turns
+pub mod Views

@@ -1,1 +1,5 @@
 pub mod Answers
+pub mod Depths
+pub mod Parts
+pub mod Steps
+pub mod Tails

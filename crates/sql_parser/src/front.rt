@@ -1,8 +1,11 @@
 // What stands at the front of some tokens.
-ghost use Rattle.std.specs.Prelude.{◌≡◌, ◌∷◌, [], MatchOption};
-ghost use Rattle.sql_parser.specs.Answers.{kinds, optional_of};
+ghost use Rattle.std.specs.Prelude.{◌≡◌, ◌∷◌, [], None, Some, MatchOption, MatchResult};
+ghost use Rattle.sql_parser.specs.Answers.{both_of, kinds, marked, optional_of};
+ghost use Rattle.sql_parser.specs.declared.front.Unread.TheVariants as unread;
+ghost use Rattle.sql_tree.specs.Grammar.{key};
 
-use sql_lexer::{Token, TokenKind};
+use crate::words::key;
+use sql_lexer::{Token, TokenKind, Word};
 use std::alloc::{AllocError, AllocFailed};
 
 pub(crate) type Tokens<'t> = &'t [Token];
@@ -64,5 +67,32 @@ pub(crate) fn optional<T>(
         Ok(front) => Ok(Some(front)),
         Err(Unread::Absent) => Ok(None),
         Err(Unread::OutOfMemory) => Err(Unread::OutOfMemory),
+    }
+}
+
+// What was read, where the word stands behind it.
+pub(crate) fn before<T: Drop>(read: Front<'_, T>, word: Word) -> Result<Front<'_, T>, Unread>
+    ensures { MatchResult result (λ front. (front.part ≡ read.entry.part) × ((key word).reads (kinds read.entry.rest.now) ≡ Some (marked (kinds front.rest.now)))) (λ e. ((key word).reads (kinds read.entry.rest.now) ≡ None) × (e ≡ unread.Absent)) }
+{
+    let rest = key(read.rest, word)?;
+    Ok(Front {
+        part: read.part,
+        rest,
+    })
+}
+
+// A part that was read, and the one behind it.
+pub(crate) fn both<A: Drop, B>(
+    first: A,
+    second: Result<Front<'_, B>, Unread>,
+) -> Result<Front<'_, (A, B)>, Unread>
+    ensures { result ≡ both_of first second.entry }
+{
+    match second {
+        Ok(second) => Ok(Front {
+            part: (first, second.part),
+            rest: second.rest,
+        }),
+        Err(unread) => Err(unread),
     }
 }

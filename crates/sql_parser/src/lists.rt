@@ -4,28 +4,29 @@ ghost use Rattle.forms.specs.Forms.{added, chain_reads, turns};
 ghost use Rattle.sql_parser.specs.Answers.{AnswersBy, first_item, item_views, kinds};
 
 use crate::front::{Front, Tokens, Unread, optional};
+use crate::words::key;
+use sql_lexer::Word;
 use std::alloc::Global;
 
-// A kind of list: its items, and what each but the first stands behind.
+// A kind of list: how its first item is read, and how each item behind it is, with the mark before it.
 pub(crate) trait ListKind {
-    ghost use Rattle.std.specs.Prelude.{Option};
     ghost use Rattle.forms.specs.Forms.{Reads};
     ghost use Rattle.sql_lexer.specs.declared.token.TokenKind.{TokenKind};
     ghost use Rattle.sql_parser.specs.Answers.{AnswersBy, kinds};
 
     type Item: Drop;
 
-    // What the items are, how one is read, and how one is read with the mark before it.
+    // What an item stands for.
     ghost Tree: { Type 0 };
 
     ghost view: { Self.Item → Tree };
 
-    ghost item: { Reads TokenKind Tree };
+    ghost first: { Reads TokenKind Tree };
 
     ghost step: { Reads TokenKind Tree };
 
-    fn item(alloc: Global, tokens: Tokens<'_>) -> Result<Front<'_, Self::Item>, Unread>
-        ensures { AnswersBy view (item (kinds tokens.now)) result };
+    fn first(alloc: Global, tokens: Tokens<'_>) -> Result<Front<'_, Self::Item>, Unread>
+        ensures { AnswersBy view (first (kinds tokens.now)) result };
 
     fn step(alloc: Global, tokens: Tokens<'_>) -> Result<Front<'_, Self::Item>, Unread>
         ensures { AnswersBy view (step (kinds tokens.now)) result };
@@ -36,9 +37,9 @@ pub(crate) fn listed<L: ListKind>(
     alloc: Global,
     tokens: Tokens<'_>,
 ) -> Result<Front<'_, Vec<L::Item>>, Unread>
-    ensures { AnswersBy (item_views L.view) (chain_reads (first_item L.item) L.step added (kinds tokens.now)) result }
+    ensures { AnswersBy (item_views L.view) (chain_reads (first_item L.first) L.step added (kinds tokens.now)) result }
 {
-    let first = L::item(alloc, tokens)?;
+    let first = L::first(alloc, tokens)?;
     let mut items = Vec::new(alloc);
     items.push(first.part)?;
     more::<L>(alloc, items, first.rest)
@@ -61,4 +62,49 @@ pub(crate) fn more<L: ListKind>(
         rest = next.rest;
     }
     Ok(Front { part: items, rest })
+}
+
+// A part that stands in lists with a comma between two.
+pub(crate) trait Part {
+    ghost use Rattle.forms.specs.Forms.{Reads};
+    ghost use Rattle.sql_lexer.specs.declared.token.TokenKind.{TokenKind};
+    ghost use Rattle.sql_parser.specs.Answers.{AnswersBy, kinds};
+
+    type Item: Drop;
+
+    // What it stands for.
+    ghost Tree: { Type 0 };
+
+    ghost view: { Self.Item → Tree };
+
+    ghost reads: { Reads TokenKind Tree };
+
+    fn read(alloc: Global, tokens: Tokens<'_>) -> Result<Front<'_, Self::Item>, Unread>
+        ensures { AnswersBy view (reads (kinds tokens.now)) result };
+}
+
+// A list of parts with commas.
+pub(crate) struct Commas<P>(P);
+
+impl<P: Part> ListKind for Commas<P> {
+    ghost use Rattle.sql_lexer.specs.declared.token.Word.TheVariants.{Comma};
+    ghost use Rattle.sql_parser.specs.Answers.{after_word};
+
+    type Item = P::Item;
+
+    ghost Tree = { P.Tree };
+
+    ghost view = { P.view };
+
+    ghost first = { P.reads };
+
+    ghost step = { after_word Comma P.reads };
+
+    fn first(alloc: Global, tokens: Tokens<'_>) -> Result<Front<'_, P::Item>, Unread> {
+        P::read(alloc, tokens)
+    }
+
+    fn step(alloc: Global, tokens: Tokens<'_>) -> Result<Front<'_, P::Item>, Unread> {
+        P::read(alloc, key(tokens, Word::Comma)?)
+    }
 }
