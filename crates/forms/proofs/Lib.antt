@@ -2,3 +2,4 @@ pub mod Tests
 pub mod Laws
 pub mod Chains
 pub mod Scripts
+pub mod Written

@@ -3,5 +3,6 @@
 #![tactic(auto)]
 
 mod token;
+mod words;
 
 pub use token::{Token, TokenKind, Word};

@@ -49,52 +49,52 @@ known-one (t.Name x) a h = cc
 known-one (t.Text x) a h = cc
 known-one (t.Dec x) a h = cc
 
-name-law : Lawful class name
+pub name-law : Lawful class name
 name-law = token-law class (name_class ∷ []) name_at known-name
 
-text-law : Lawful class text
+pub text-law : Lawful class text
 text-law = token-law class (text_class ∷ []) text_at known-text
 
-int-law : Lawful class int
+pub int-law : Lawful class int
 int-law = token-law class (int_class ∷ []) int_at known-int
 
-dec-law : Lawful class dec
+pub dec-law : Lawful class dec
 dec-law = token-law class (dec_class ∷ []) dec_at known-dec
 
 one-law : Lawful class one
 one-law = token-law class (int_class ∷ []) one_at known-one
 
-key-law : (x : Word) → Lawful class (key x)
+pub key-law : (x : Word) → Lawful class (key x)
 key-law x = words-law class ((place x, tt) ∷ [])
 
-table-law : {A : Type 0} (table : List (ℕ × A)) → Lawful class (of_table table)
+pub table-law : {A : Type 0} (table : List (ℕ × A)) → Lawful class (of_table table)
 table-law table = words-law class table
 
-keys-law : (x y : Word) → Lawful class (two_keys x y)
+pub keys-law : (x y : Word) → Lawful class (two_keys x y)
 keys-law x y = after-law (key-law x) (key-law y) refl
 
 -- ---- lists and brackets
 
-brackets-law : {A : Type 0} {f : SqlForm A} → Lawful class f → apart f.more (place w.Close ∷ []) ≡ true → Lawful class (in_brackets f)
+pub brackets-law : {A : Type 0} {f : SqlForm A} → Lawful class f → apart f.more (place w.Close ∷ []) ≡ true → Lawful class (in_brackets f)
 brackets-law lf a = after-law (key-law w.Open) (before-law lf (key-law w.Close) a) refl
 
-names-law : Lawful class g.names
+pub names-law : Lawful class g.names
 unfolding g.names
 names-law = listed-law (key-law w.Comma) name-law refl refl refl refl
 
-texts-law : Lawful class g.texts
+pub texts-law : Lawful class g.texts
 unfolding g.texts
 texts-law = listed-law (key-law w.Comma) text-law refl refl refl refl
 
-column-law : Lawful class g.column
+pub column-law : Lawful class g.column
 unfolding g.column
 column-law = as-law _ (seq-law name-law (after-law (key-law w.Dot) name-law refl) refl)
 
-columns-law : Lawful class g.columns
+pub columns-law : Lawful class g.columns
 unfolding g.columns g.column
 columns-law = listed-law (key-law w.Comma) column-law refl refl refl refl
 
-source-law : Lawful class g.source
+pub source-law : Lawful class g.source
 unfolding g.source
 source-law = as-law _ (seq-law name-law (after-law (key-law w.As) name-law refl) refl)
 
@@ -117,7 +117,7 @@ signed_number-law : Lawful class g.signed_number
 unfolding g.signed_number g.number
 signed_number-law = as-law _ (seq-law (as-law _ (maybe-law (key-law w.Minus) refl)) number-law refl)
 
-lit-law : Lawful class g.lit
+pub lit-law : Lawful class g.lit
 unfolding g.lit g.signed_number g.number
 lit-law =
     or-law signed_number-law

@@ -2,12 +2,14 @@
 #![tactic(auto)]
 
 mod expressions;
+mod laws;
 mod parts;
 mod statements;
 mod windows;
 mod word_groups;
 
 pub use expressions::{Branch, SqlExpr};
+pub use laws::{scripts_are_unique, statements_are_unique};
 pub use parts::{Column, Constant, Equality, Literal, Numeral, Source};
 pub use statements::{
     InputColumn, Item, ItemValue, Join, Query, Select, SqlCreate, SqlExport, SqlInput, SqlScript,

@@ -1,0 +1,231 @@
+-- The table of words: where each word stands, and that none begins with a word that stands before it.
+use Rattle.std.proofs.Common.{◌≡◌, ◌≤◌, ◌<◌, ◌+◌, ◌∷◌, ◌++◌, ◌∙◌, ◌&&◌, ◌==◌, ◌⊎◌, [], ℕ, zero, suc, List, Bool, true, false, not, nat_lt, length, get_or, sym, ap, subst, refl, arith, inl, inr, append-nil, length-append}
+use Rattle.std.specs.List.{list_all}
+use Rattle.std.specs.Str.{IsAscii}
+use Rattle.std.proofs.lemmas.Bool.{and_parts, false≢true}
+use Rattle.std.proofs.lemmas.Bool.Decides.{nat_tests}
+use borrow.Author.Tests.{ltb-true, eq-eqb}
+use Rattle.std.proofs.lemmas.Str.Ascii.{IsAscii-cons, IsAscii-nil}
+use Rattle.sql_lexer.specs.Spelling.{spelling}
+use Rattle.sql_lexer.specs.declared.words.TheConstants.{WORDS}
+use Rattle.sql_lexer.specs.declared.token.Word.{Word}
+use Rattle.sql_lexer.specs.declared.token.Word.TheVariants as w
+
+abbrev pub place : Word → ℕ
+place w.NotEqual = 0
+place w.LessOrEqual = 1
+place w.GreaterOrEqual = 2
+place w.Concat = 3
+place w.Less = 4
+place w.Greater = 5
+place w.Equal = 6
+place w.Plus = 7
+place w.Minus = 8
+place w.Star = 9
+place w.Slash = 10
+place w.Open = 11
+place w.Close = 12
+place w.Comma = 13
+place w.Semicolon = 14
+place w.Dot = 15
+place w.Abs = 16
+place w.All = 17
+place w.And = 18
+place w.Asc = 19
+place w.As = 20
+place w.Avg = 21
+place w.Between = 22
+place w.Boolean = 23
+place w.By = 24
+place w.Case = 25
+place w.Ceil = 26
+place w.Coalesce = 27
+place w.Codes = 28
+place w.Count = 29
+place w.Create = 30
+place w.Cross = 31
+place w.Current = 32
+place w.Date = 33
+place w.Desc = 34
+place w.Down = 35
+place w.Else = 36
+place w.End = 37
+place w.Exists = 38
+place w.Export = 39
+place w.False = 40
+place w.FirstValue = 41
+place w.Floor = 42
+place w.Following = 43
+place w.From = 44
+place w.Full = 45
+place w.Group = 46
+place w.HalfEven = 47
+place w.HalfUp = 48
+place w.Having = 49
+place w.Inner = 50
+place w.Input = 51
+place w.Instr = 52
+place w.Integer = 53
+place w.In = 54
+place w.Is = 55
+place w.Join = 56
+place w.Key = 57
+place w.Lag = 58
+place w.LastValue = 59
+place w.Lead = 60
+place w.Left = 61
+place w.Length = 62
+place w.Ltrim = 63
+place w.Max = 64
+place w.Median = 65
+place w.Min = 66
+place w.Mod = 67
+place w.Not = 68
+place w.Null = 69
+place w.Number = 70
+place w.On = 71
+place w.Order = 72
+place w.Or = 73
+place w.Over = 74
+place w.Partition = 75
+place w.Period = 76
+place w.Preceding = 77
+place w.Rank = 78
+place w.RatioToReport = 79
+place w.Replace = 80
+place w.Rounding = 81
+place w.Round = 82
+place w.Rows = 83
+place w.Row = 84
+place w.Rtrim = 85
+place w.Scale = 86
+place w.Select = 87
+place w.Set = 88
+place w.Substr = 89
+place w.Sum = 90
+place w.Table = 91
+place w.Text = 92
+place w.Then = 93
+place w.Trim = 94
+place w.True = 95
+place w.Trunc = 96
+place w.Unbounded = 97
+place w.Union = 98
+place w.When = 99
+place w.Where = 100
+place w.Xor = 101
+
+-- the word at a place
+abbrev pub word_at : ℕ → Word
+word_at i = get_or WORDS i w.NotEqual
+
+pub placed : (word : Word) → word_at (place word) ≡ word
+placed w.NotEqual = refl
+placed _ = refl
+
+pub place-below : (word : Word) → nat_lt (place word) 102 ≡ true
+place-below w.NotEqual = refl
+place-below _ = refl
+
+-- each is written in ASCII
+abbrev is_ascii : List ℕ → Bool
+is_ascii cs = list_all (λ c. nat_lt c 128) cs
+
+all-ascii : (cs : List ℕ) → is_ascii cs ≡ true → IsAscii cs
+all-ascii [] e = IsAscii-nil
+all-ascii (c ∷ cs) e =
+    let (head, tail) = and_parts (nat_lt c 128) (is_ascii cs) e in
+    IsAscii-cons c cs (ltb-true c 128 head) (all-ascii cs tail)
+
+word-ascii : (word : Word) → is_ascii (spelling word) ≡ true
+word-ascii w.NotEqual = refl
+word-ascii _ = refl
+
+pub spelling-ascii : (word : Word) → IsAscii (spelling word)
+spelling-ascii word = all-ascii (spelling word) (word-ascii word)
+
+-- ---- which begins with which
+abbrev is_front : List ℕ → List ℕ → Bool
+is_front [] text = true
+is_front (c ∷ cs) [] = false
+is_front (c ∷ cs) (d ∷ text) = c == d && is_front cs text
+
+front-is : (xs r ys s : List ℕ) → xs ++ r ≡ ys ++ s → length xs ≤ length ys → is_front xs ys ≡ true
+front-is [] r ys s e le = refl
+front-is (x ∷ xs) r [] s e le = absurd (omega arith)
+front-is (x ∷ xs) r (y ∷ ys) s e le =
+    let heads : x ≡ y = cc e in
+    let tails : xs ++ r ≡ ys ++ s = cc e in
+    let more = front-is xs r ys s tails (omega arith) in
+    rw (eq-eqb x y heads) more
+
+abbrev is_ordered : List Word → Bool
+is_ordered [] = true
+is_ordered (word ∷ words) = list_all (λ other. not (is_front (spelling word) (spelling other))) words && is_ordered words
+
+ordered : is_ordered WORDS ≡ true
+ordered = refl
+
+none-at : (p : Word → Bool) (words : List Word) (i : ℕ) → list_all p words ≡ true → i < length words → p (get_or words i w.NotEqual) ≡ true
+none-at p [] i all lt = absurd (omega arith)
+none-at p (word ∷ words) zero all lt = (and_parts (p word) (list_all p words) all).0
+none-at p (word ∷ words) (suc i) all lt = none-at p words i (and_parts (p word) (list_all p words) all).1 (omega arith)
+
+ordered-at : (words : List Word) (i j : ℕ) → is_ordered words ≡ true → i < j → j < length words
+    → not (is_front (spelling (get_or words i w.NotEqual)) (spelling (get_or words j w.NotEqual))) ≡ true
+ordered-at [] i j e lt within = absurd (omega arith)
+ordered-at (word ∷ words) i zero e lt within = absurd (omega arith)
+ordered-at (word ∷ words) zero (suc j) e lt within =
+    none-at (λ other. not (is_front (spelling word) (spelling other))) words j (and_parts (list_all (λ other. not (is_front (spelling word) (spelling other))) words) (is_ordered words) e).0 (omega arith)
+ordered-at (word ∷ words) (suc i) (suc j) e lt within =
+    ordered-at words i j (and_parts (list_all (λ other. not (is_front (spelling word) (spelling other))) words) (is_ordered words) e).1 (omega arith) (omega arith)
+
+-- a word that stands behind another is no longer, where both begin a text
+shorter : (i : ℕ) (other : Word) (r s : List ℕ) → i < place other → spelling (word_at i) ++ r ≡ spelling other ++ s → length (spelling other) < length (spelling (word_at i))
+shorter i other r s lt e = by (split (length (spelling (word_at i))) (length (spelling other)))
+  where
+    split : (m n : ℕ) → (m ≤ n) ⊎ (n < m)
+    split m n = grind arith
+
+    behind : not (is_front (spelling (word_at i)) (spelling other)) ≡ true
+    behind = subst (λ v. not (is_front (spelling (word_at i)) (spelling v)) ≡ true) (placed other) (ordered-at WORDS i (place other) ordered lt (ltb-true (place other) 102 (place-below other)))
+
+    by : (length (spelling (word_at i)) ≤ length (spelling other)) ⊎ (length (spelling other) < length (spelling (word_at i))) → length (spelling other) < length (spelling (word_at i))
+    by (inl le) = absurd (false≢true (ap not (sym (front-is (spelling (word_at i)) r (spelling other) s e le)) ∙ behind))
+    by (inr more) = more
+
+-- the first word of the table that begins a text is the longest
+pub first-longest : (text rest : List ℕ) (i : ℕ) → text ≡ spelling (word_at i) ++ rest → ((j : ℕ) → j < i → (left : List ℕ) → text ≡ spelling (word_at j) ++ left → ⊥)
+    → (other : Word) (behind : List ℕ) → text ≡ spelling other ++ behind → length rest ≤ length behind
+first-longest text rest i e none other behind f = by (cases (place other) i)
+  where
+    cases : (m n : ℕ) → (m < n) ⊎ ((m ≡ n) ⊎ (n < m))
+    cases m n = grind arith
+
+    sizes : length (spelling (word_at i)) + length rest ≡ length (spelling other) + length behind
+    sizes = sym (length-append (spelling (word_at i)) rest) ∙ ap length (sym e ∙ f) ∙ length-append (spelling other) behind
+
+    by : (place other < i) ⊎ ((place other ≡ i) ⊎ (i < place other)) → length rest ≤ length behind
+    by (inl lt) = absurd (none (place other) lt behind (f ∙ ap (λ v. spelling v ++ behind) (sym (placed other))))
+    by (inr (inl same)) =
+        let one : length (spelling (word_at i)) ≡ length (spelling other) = ap (λ n. length (spelling (word_at n))) (sym same) ∙ ap (λ v. length (spelling v)) (placed other) in
+        omega (arith, sizes, one)
+    by (inr (inr lt)) = let less = shorter i other rest behind lt (sym e ∙ f) in omega (arith, sizes, less)
+
+-- no other word has its spelling
+pub one-word : (a b : Word) → spelling a ≡ spelling b → a ≡ b
+one-word a b e = by (cases (place a) (place b))
+  where
+    cases : (m n : ℕ) → (m < n) ⊎ ((m ≡ n) ⊎ (n < m))
+    cases m n = grind arith
+
+    apart : (c d : Word) → place c < place d → spelling c ≡ spelling d → ⊥
+    apart c d lt f =
+        let is : spelling (word_at (place c)) ≡ spelling d = ap spelling (placed c) ∙ f in
+        let less = shorter (place c) d [] [] lt (ap (λ l. l ++ []) is) in
+        omega (arith, less, ap length is)
+
+    by : (place a < place b) ⊎ ((place a ≡ place b) ⊎ (place b < place a)) → a ≡ b
+    by (inl lt) = absurd (apart a b lt e)
+    by (inr (inl same)) = sym (placed a) ∙ ap word_at same ∙ placed b
+    by (inr (inr lt)) = absurd (apart b a lt (sym e))

@@ -1,0 +1,4 @@
+pub mod Front
+pub mod Lexed
+pub mod Spelling
+pub mod Writing
