@@ -1,2 +1,10 @@
+pub mod FrontParts
+pub mod Leads
+pub mod LexedParts
+pub mod NameParts
+pub mod NumberParts
+pub mod Quoting
+pub mod RunParts
 pub mod Table
 pub mod Texts
+pub mod WritingLaws

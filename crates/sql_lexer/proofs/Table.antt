@@ -1,12 +1,14 @@
 -- The table of words: where each word stands, and that none begins with a word that stands before it.
-use Rattle.std.proofs.Common.{◌≡◌, ◌≤◌, ◌<◌, ◌+◌, ◌∷◌, ◌++◌, ◌∙◌, ◌&&◌, ◌==◌, ◌⊎◌, [], ℕ, zero, suc, List, Bool, true, false, not, nat_lt, length, get_or, sym, ap, subst, refl, arith, inl, inr, append-nil, length-append}
+use Rattle.std.proofs.Common.{◌≡◌, ◌≤◌, ◌<◌, ◌+◌, ◌∷◌, ◌++◌, ◌∙◌, ◌&&◌, ◌==◌, ◌⊎◌, [], ℕ, zero, suc, List, Bool, Option, Some, None, if◌then◌else◌, true, false, not, nat_lt, length, get_or, sym, ap, subst, refl, arith, inl, inr, length-append}
 use Rattle.std.specs.List.{list_all}
 use Rattle.std.specs.Str.{IsAscii}
 use Rattle.std.proofs.lemmas.Bool.{and_parts, false≢true}
-use Rattle.std.proofs.lemmas.Bool.Decides.{nat_tests}
 use borrow.Author.Tests.{ltb-true, eq-eqb}
-use Rattle.std.proofs.lemmas.Str.Ascii.{IsAscii-cons, IsAscii-nil}
+use Rattle.std.specs.Option.{option_map_or}
 use Rattle.sql_lexer.specs.Spelling.{spelling}
+use Rattle.sql_lexer.specs.Writing.{goes_on}
+use Rattle.sql_lexer.specs.declared.token.TokenKind.TheVariants as k
+use Rattle.sql_lexer.proofs.Texts.{all-ascii}
 use Rattle.sql_lexer.specs.declared.words.TheConstants.{WORDS}
 use Rattle.sql_lexer.specs.declared.token.Word.{Word}
 use Rattle.sql_lexer.specs.declared.token.Word.TheVariants as w
@@ -131,18 +133,12 @@ place-below _ = refl
 abbrev is_ascii : List ℕ → Bool
 is_ascii cs = list_all (λ c. nat_lt c 128) cs
 
-all-ascii : (cs : List ℕ) → is_ascii cs ≡ true → IsAscii cs
-all-ascii [] e = IsAscii-nil
-all-ascii (c ∷ cs) e =
-    let (head, tail) = and_parts (nat_lt c 128) (is_ascii cs) e in
-    IsAscii-cons c cs (ltb-true c 128 head) (all-ascii cs tail)
-
 word-ascii : (word : Word) → is_ascii (spelling word) ≡ true
 word-ascii w.NotEqual = refl
 word-ascii _ = refl
 
 pub spelling-ascii : (word : Word) → IsAscii (spelling word)
-spelling-ascii word = all-ascii (spelling word) (word-ascii word)
+spelling-ascii word = all-ascii (λ c. nat_lt c 128) (spelling word) (λ c e. ltb-true c 128 e) (word-ascii word)
 
 -- ---- which begins with which
 abbrev is_front : List ℕ → List ℕ → Bool
@@ -229,3 +225,35 @@ one-word a b e = by (cases (place a) (place b))
     by (inl lt) = absurd (apart a b lt e)
     by (inr (inl same)) = sym (placed a) ∙ ap word_at same ∙ placed b
     by (inr (inr lt)) = absurd (apart b a lt (sym e))
+
+-- ---- what a word goes on with to be another
+
+abbrev next_of : List ℕ → List ℕ → Option ℕ
+next_of [] [] = None
+next_of [] (c ∷ cs) = Some c
+next_of (c ∷ cs) [] = None
+next_of (c ∷ cs) (d ∷ ds) = if c == d then next_of cs ds else None
+
+abbrev is_told : Word → Word → Bool
+is_told word longer = option_map_or (goes_on (k.Word word)) (next_of (spelling word) (spelling longer)) true
+
+all-told : list_all (λ word. list_all (λ longer. is_told word longer) WORDS) WORDS ≡ true
+all-told = refl
+
+at-place : (p : Word → Bool) → list_all p WORDS ≡ true → (word : Word) → p word ≡ true
+at-place p all word = subst (λ v. p v ≡ true) (placed word) (none-at p WORDS (place word) all (ltb-true (place word) 102 (place-below word)))
+
+next-is : (xs ys : List ℕ) (c : ℕ) (rest behind : List ℕ) → length xs < length ys → xs ++ c ∷ rest ≡ ys ++ behind → next_of xs ys ≡ Some c
+next-is [] [] c rest behind lt e = absurd (omega arith)
+next-is [] (y ∷ ys) c rest behind lt e = let heads : c ≡ y = cc e in ap Some (sym heads)
+next-is (x ∷ xs) [] c rest behind lt e = absurd (omega arith)
+next-is (x ∷ xs) (y ∷ ys) c rest behind lt e =
+    let heads : x ≡ y = cc e in
+    let tails : xs ++ c ∷ rest ≡ ys ++ behind = cc e in
+    rw (eq-eqb x y heads) (next-is xs ys c rest behind (omega arith) tails)
+
+pub told : (word longer : Word) (c : ℕ) (rest behind : List ℕ) → length (spelling word) < length (spelling longer) → spelling word ++ c ∷ rest ≡ spelling longer ++ behind → goes_on (k.Word word) c ≡ true
+told word longer c rest behind lt e =
+    let next = next-is (spelling word) (spelling longer) c rest behind lt e in
+    let here = at-place (λ v. is_told word v) (at-place (λ u. list_all (λ v. is_told u v) WORDS) all-told word) longer in
+    ap (λ (o : Option ℕ). option_map_or (goes_on (k.Word word)) o true) (sym next) ∙ here

@@ -1,6 +1,6 @@
 -- The tokens of a text: each is the longest that starts where it starts, and white space stands between them, or nothing.
-use Rattle.std.specs.Prelude.{◌≡◌, ◌≤◌, ◌+◌, ◌==◌, ◌||◌, ℕ, Bool, true, false, List, [], ◌∷◌, ◌++◌, Option, None, Some, length, chars, encode_utf8_all}
-use Rattle.sql_lexer.specs.Spelling.{IsFormed, spelled}
+use Rattle.std.specs.Prelude.{◌≡◌, ◌≤◌, ◌+◌, ◌==◌, ◌||◌, ℕ, Bool, true, false, List, [], ◌∷◌, ◌++◌, Option, None, Some, length, chars}
+use Rattle.sql_lexer.specs.Spelling.{IsFormed, size, spelled}
 use Rattle.sql_lexer.specs.declared.token.Token.{Token}
 use Rattle.sql_lexer.specs.declared.token.TokenKind.{TokenKind}
 
@@ -20,10 +20,6 @@ pub record IsToken (text : List ℕ) (kind : TokenKind) (rest : List ℕ) : Type
 
 abbrev pub NoToken : List ℕ → Type 0
 NoToken text = (kind : TokenKind) (rest : List ℕ) → Starts text kind rest → ⊥
-
--- the bytes of a text in UTF-8
-abbrev pub size : List ℕ → ℕ
-size text = length (encode_utf8_all text)
 
 -- The text that goes on from this byte has these tokens: all of them, or those before the first byte from which none starts, whose place then stands behind them.
 pub data Lexes : ℕ → List ℕ → List Token → Option ℕ → Type 0 where

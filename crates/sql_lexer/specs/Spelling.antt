@@ -1,5 +1,5 @@
 -- How each kind of token is spelled. A text is the list of its characters, and a character is its code: 34 is `"`, 39 is `'`, 46 is `.`.
-use Rattle.std.specs.Prelude.{◌≡◌, ◌<◌, ◌==◌, ◌&&◌, ℕ, Bool, true, false, not, nat_le, List, [], ◌∷◌, ◌++◌, length, codes, encode_utf8_all, if◌then◌else◌}
+use Rattle.std.specs.Prelude.{◌≡◌, ◌<◌, ◌==◌, ◌&&◌, ℕ, Bool, true, not, nat_le, List, [], ◌∷◌, ◌++◌, length, codes, encode_utf8_all, if◌then◌else◌}
 use Rattle.std.specs.Char.{is_ascii_digit, is_control}
 use Rattle.std.specs.List.{list_all}
 use Rattle.sql_lexer.specs.declared.token.TokenKind.{TokenKind}
@@ -139,9 +139,19 @@ pub record IsDecimal (cs : List ℕ) : Type 0 where
   pub before : IsDigits whole
   pub behind : IsDigits part
 
--- 1 to 256 bytes in UTF-8, without control characters
+-- the bytes of a text in UTF-8
+abbrev pub size : List ℕ → ℕ
+size cs = length (encode_utf8_all cs)
+
+abbrev pub fits_name : ℕ → Bool
+fits_name bytes = nat_le 1 bytes && nat_le bytes 256
+
+abbrev pub has_no_control : List ℕ → Bool
+has_no_control cs = list_all (λ c. not (is_control c)) cs
+
+-- 1 to 256 bytes without control characters
 unfoldable pub is_name : List ℕ → Bool
-is_name cs = not (length cs == 0) && (nat_le (length (encode_utf8_all cs)) 256 && list_all (λ c. not (is_control c)) cs)
+is_name cs = fits_name (size cs) && has_no_control cs
 
 -- what a token of this kind may hold
 abbrev pub IsFormed : TokenKind → Type 0

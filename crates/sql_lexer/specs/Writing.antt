@@ -1,5 +1,5 @@
--- Tokens written one behind the other, parted by white space where they need it: such a text has these tokens and no others (`written-lexed` in proofs/Writing_laws.antt, and the function `written_tokens_are_read`).
--- A printer keeps `Written kinds text` for what it has written so far, by one `more` a token. No gap is needed where the next character does not go on the token before: `apart` in proofs/Writing_laws.antt has the usual ones.
+-- Tokens written one behind the other, parted by white space where they need it: such a text has these tokens and no others (`written-lexed` of proofs/WritingLaws.antt, and the function `written_tokens_are_read`).
+-- A printer keeps `Written kinds text` for what it has written so far, by one `more` a token. No gap is needed where the next character does not go on the token before; for `IsApart` see `apart-gap`, `apart-quiet`, `apart-here` and `apart-last` of proofs/WritingLaws.antt.
 use Rattle.std.specs.Prelude.{◌≡◌, ◌==◌, ◌&&◌, ◌||◌, nat_le, ℕ, Bool, true, false, List, [], ◌∷◌, ◌++◌}
 use Rattle.std.specs.Char.{is_ascii_digit}
 use Rattle.std.specs.List.{list_all}

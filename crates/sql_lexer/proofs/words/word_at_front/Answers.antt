@@ -1,8 +1,8 @@
-use Rattle.std.proofs.Common.{◌≡◌, ◌<◌, ◌≤◌, ◌+◌, ◌++◌, ◌∙◌, ◌⊎◌, ℕ, List, chars, length, nat_lt, inl, inr, ap, sym, subst, arith, encode_utf8_all}
+use Rattle.std.proofs.Common.{◌≡◌, ◌<◌, ◌+◌, ◌++◌, ◌∙◌, ◌⊎◌, ℕ, List, chars, inl, inr, ap, sym, subst, arith, encode_utf8_all}
 use borrow.Author.Tests.{ltb-true}
 use Rattle.sql_lexer.specs.Spelling.{spelling}
 use Rattle.sql_lexer.proofs.Table.{first-longest, place, place-below, placed, spelling-ascii, word_at}
-use Rattle.sql_lexer.proofs.Texts.{front-bytes, front-chars}
+use Rattle.sql_lexer.proofs.Texts.{front-bytes, front-chars, tail-utf8}
 use Rattle.sql_lexer.proofs.words.word_at_front.Goals as goal
 
 pub returns-in-Some : goal.returns-in-Some
@@ -13,7 +13,7 @@ returns-in-Some c =
     let found = c.in-Some.ensures.cases in
     let split : text ≡ spelling (word_at i) ++ rest = found.1.1 ∙ ap (λ l. c.spelling.result.now ++ l) (sym found.2) ∙ ap (λ l. l ++ rest) c.spelling.ensures in
     let front = front-chars text (spelling (word_at i)) rest (spelling-ascii (word_at i)) split in
-    (front, first-longest (chars text) (chars rest) i front c.loop-word.invariant)
+    (front, first-longest (chars text) (chars rest) i front c.loop-word.invariant, tail-utf8 text (spelling (word_at i)) rest c.utf8.text (spelling-ascii (word_at i)) split)
 
 pub loop-word-preserved : goal.loop-word-preserved
 loop-word-preserved c = λ j lt left e. by j left e (below j c.loop-word.word-index lt)
