@@ -8,7 +8,7 @@ use Rattle.sql_tree.specs.declared.parts.Source.{Source}
 use Rattle.sql_lexer.specs.declared.token.Token.{Token}
 use Rattle.sql_lexer.specs.declared.token.TokenKind.{TokenKind}
 use Rattle.sql_parser.specs.Answers.{AnswersBy, front_view, kinds, optional_of}
-use Rattle.sql_parser.specs.Steps.{turn_reads}
+use Rattle.sql_parser.specs.Steps.{turn_reads, turned}
 use Rattle.sql_parser.specs.declared.front.Front.{Front}
 use Rattle.sql_parser.specs.declared.front.Unread.{Unread}
 use Rattle.sql_parser.specs.declared.front.Unread.TheVariants as u
@@ -52,16 +52,20 @@ optional-none view reading (Err u.OutOfMemory) h e = cc
 -- ---- turns, one by one
 
 module _ {T A S : Type 0} (step : Reads T S) (join : A → S → Option A) (k : ℕ) (a : A) (ts : List T) where
-  by_join : (us : List T) (r : Option A) → (r >>= (λ b. turns step join k b us)) ≡ ((r >>= (λ b. Some (Some (b, us)))) >>= (λ x. given x (λ q. turns step join k q.0 q.1) (gives a ts)))
+  -- the steps behind a turn
+  abbrev behind : Option (A × List T) → Option (A × List T)
+  behind x = given x (λ q. turns step join k q.0 q.1) (gives a ts)
+
+  by_join : (us : List T) (r : Option A) → (r >>= (λ b. turns step join k b us)) ≡ ((r >>= turned us) >>= behind)
   by_join us None = refl
   by_join us (Some b) = refl
 
   by_step : (r : Option (S × List T)) → given r (λ s. join a s.0 >>= (λ b. turns step join k b s.1)) (gives a ts)
-      ≡ (given r (λ s. join a s.0 >>= (λ b. Some (Some (b, s.1)))) (Some None) >>= (λ x. given x (λ q. turns step join k q.0 q.1) (gives a ts)))
+      ≡ (given r (λ s. join a s.0 >>= (λ b. turned s.1 b)) (Some None) >>= behind)
   by_step None = refl
   by_step (Some s) = by_join s.1 (join a s.0)
 
-  turns-step : turns step join (suc k) a ts ≡ (turn_reads step join a ts >>= (λ x. given x (λ q. turns step join k q.0 q.1) (gives a ts)))
+  turns-step : turns step join (suc k) a ts ≡ (turn_reads step join a ts >>= behind)
   turns-step = by_step (step ts)
 
 pub turn-end : {T A S : Type 0} (step : Reads T S) (join : A → S → Option A) (n : ℕ) (a : A) (ts : List T) → turn_reads step join a ts ≡ Some None → turns step join n a ts ≡ gives a ts

@@ -1,7 +1,8 @@
 -- The trees that parts of a select stand for.
 use Rattle.std.specs.Prelude.{List, Option, map, option_map, Vec}
 use Rattle.std.specs.declared.alloc.Global.{Global}
-use Rattle.sql_tree.specs.Trees.{Exp, JoinTree}
+use Rattle.vtl_decimal.specs.declared.settings.Rounding.{Rounding}
+use Rattle.sql_tree.specs.Trees.{Exp, JoinTree, StatementTree, Text, setting}
 use Rattle.sql_tree.specs.View.{expr_tree, join_tree}
 use Rattle.sql_tree.specs.declared.expressions.SqlExpr.{SqlExpr}
 use Rattle.sql_tree.specs.declared.parts.Column.{Column}
@@ -22,3 +23,6 @@ limits_view p = (option_view p.0, group_view p.1)
 
 abbrev pub body_view : (Source × Vec Join Global) × (Option SqlExpr × (Vec Column Global × Option SqlExpr)) → (Source × List JoinTree) × (Option Exp × (List Column × Option Exp))
 body_view p = (joins_view p.0, limits_view p.1)
+
+abbrev pub setting_view : Text × Rounding → StatementTree
+setting_view p = setting p.0 p.1

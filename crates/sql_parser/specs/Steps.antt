@@ -10,9 +10,12 @@ use Rattle.sql_parser.specs.declared.front.Unread.TheVariants as u
 use Rattle.sql_parser.specs.declared.levels.Turn.{Turn}
 use Rattle.sql_parser.specs.declared.levels.Turn.TheVariants as t
 
+abbrev pub turned : {T A : Type 0} → List T → A → Option (Option (A × List T))
+turned ts a = Some (Some (a, ts))
+
 -- one step more, or none since none stands there; and no answer where the step does not join
 abbrev pub turn_reads : {T A S : Type 0} → Reads T S → (A → S → Option A) → A → List T → Option (Option (A × List T))
-turn_reads step join a ts = given (step ts) (λ s. join a s.0 >>= (λ b. Some (Some (b, s.1)))) (Some None)
+turn_reads step join a ts = given (step ts) (λ s. join a s.0 >>= (λ b. turned s.1 b)) (Some None)
 
 -- the answer of one turn at what was read so far
 abbrev pub AnswersTurn : Option (Option (Deep Exp × List TokenKind)) → Deep Exp × List TokenKind → Result Turn Unread → Type 0

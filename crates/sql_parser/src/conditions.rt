@@ -2,11 +2,11 @@
 ghost use Rattle.forms.specs.Forms.{after};
 ghost use Rattle.sql_lexer.specs.declared.token.Word.TheVariants as word;
 ghost use Rattle.sql_parser.specs.Answers.{Answers, AnswersBy, kinds, with_items};
-ghost use Rattle.sql_tree.specs.Grammar.{key, matched, membership, negated, null_test, one};
+ghost use Rattle.sql_tree.specs.Grammar.{in_brackets, key, matched, membership, negated, null_test, one};
 
-use crate::front::{Front, Tokens, Unread};
+use crate::front::{Front, Tokens, Unread, before};
 use crate::parts::{bracketed_literals, equalities, one, source};
-use crate::words::{flag, key};
+use crate::words::{flag, key, two_keys};
 use sql_lexer::Word;
 use sql_tree::{Equality, Literal, Source};
 use std::alloc::Global;
@@ -61,8 +61,8 @@ fn matched(alloc: Global, tokens: Tokens<'_>) -> Result<Front<'_, (Source, Vec<E
     })
 }
 
-// What an EXISTS looks for
-pub(crate) fn selected_one(
+// What is selected in an EXISTS
+fn selected_one(
     alloc: Global,
     tokens: Tokens<'_>,
 ) -> Result<Front<'_, (Source, Vec<Equality>)>, Unread>
@@ -70,4 +70,15 @@ pub(crate) fn selected_one(
 {
     let behind = one(key(tokens, Word::Select)?)?;
     matched(alloc, key(behind, Word::From)?)
+}
+
+// What an EXISTS looks for
+pub(crate) fn sought(
+    alloc: Global,
+    tokens: Tokens<'_>,
+) -> Result<Front<'_, (Source, Vec<Equality>)>, Unread>
+    ensures { AnswersBy with_items ((after (key word.Exists) (in_brackets (after (key word.Select) (after one (after (key word.From) matched))))).reads (kinds tokens.now)) result }
+{
+    let inner = two_keys(tokens, Word::Exists, Word::Open)?;
+    before(selected_one(alloc, inner)?, Word::Close)
 }

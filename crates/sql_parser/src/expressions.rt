@@ -9,7 +9,7 @@ ghost use Rattle.sql_tree.specs.Grammar.{Negated, Signed, Whole, add, aggr, aggr
 ghost use Rattle.sql_tree.specs.View.{branch_tree};
 ghost use Rattle.vtl_cell.specs.declared.operator.ScalarOp.TheVariants as op;
 
-use crate::conditions::{membership, null_test, selected_one};
+use crate::conditions::{membership, null_test, sought};
 use crate::deep::{BranchList, OperandList};
 use crate::front::{Front, Tokens, Unread, before, both, optional};
 use crate::grammar::{Deep, Grammar, Node, Place, deeper, leaf, node};
@@ -36,8 +36,8 @@ impl<F: Fn(Place, Tokens<'_>) -> Result<Node<'_>, Unread>> Grammar<F> {
         requires { Nests self.now.budget (F.pre self.now.read) (F.post self.now.read) }
         ensures { AnswersBy (deep_view box_tree) ((bracketed (suc self.now.budget) (expr_at self.now.budget Whole)).reads (kinds tokens.now)) result }
     {
-        let part = self.in_brackets(tokens)?;
-        deeper(self.budget, part)
+        let inner = self.in_brackets(tokens)?;
+        deeper(self.budget, inner.part, inner.rest)
     }
 
     // What stands between brackets
@@ -233,8 +233,7 @@ impl<F: Fn(Place, Tokens<'_>) -> Result<Node<'_>, Unread>> Grammar<F> {
         requires { Nests self.now.budget (F.pre self.now.read) (F.post self.now.read) }
         ensures { AnswersBy (deep_view box_tree) ((exists (suc self.now.budget)).reads (kinds tokens.now)) result }
     {
-        let inner = key(key(tokens, Word::Exists)?, Word::Open)?;
-        let found = before(selected_one(self.alloc, inner)?, Word::Close)?;
+        let found = sought(self.alloc, tokens)?;
         let (source, equalities) = found.part;
         let tree = SqlExpr::Exists {
             source,

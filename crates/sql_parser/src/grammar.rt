@@ -87,19 +87,22 @@ pub(crate) fn leaf<'t>(alloc: Global, tree: SqlExpr, rest: Tokens<'t>) -> Result
 }
 
 // The same tree, written one deeper.
-pub(crate) fn deeper(budget: usize, read: Node<'_>) -> Result<Node<'_>, Unread>
+pub(crate) fn deeper<'t>(
+    budget: usize,
+    part: Deep<Box<SqlExpr>>,
+    rest: Tokens<'t>,
+) -> Result<Node<'t>, Unread>
     requires { budget ≤ 512 }
-    ensures { AnswersBy (deep_view box_tree) (node_reads (suc budget) (box_tree read.entry.part.tree) read.entry.part.depth (kinds read.entry.rest.now)) result }
+    ensures { AnswersBy (deep_view box_tree) (node_reads (suc budget) (box_tree part.tree) part.depth (kinds rest.now)) result }
 {
-    let Deep { tree, depth } = read.part;
-    if depth > budget {
+    if part.depth > budget {
         return Err(Unread::Absent);
     }
     Ok(Front {
         part: Deep {
-            tree,
-            depth: depth + 1,
+            tree: part.tree,
+            depth: part.depth + 1,
         },
-        rest: read.rest,
+        rest,
     })
 }
