@@ -43,9 +43,9 @@ script-read (suc n) m ts us s more rest is size e f =
     some-is p q h = cc
 
 -- no SET
-pub script-none : (n : ℕ) (ts : Tokens) → setting.reads ts ≡ None → script_reads statement_at n 0 ts ≡ ([], ts)
-script-none zero ts e = refl
-script-none (suc n) ts e = rw (setting-first ts ∙ e) refl
+pub no_script : (n : ℕ) (ts : Tokens) → setting.reads ts ≡ None → script_reads statement_at n 0 ts ≡ ([], ts)
+no_script zero ts e = refl
+no_script (suc n) ts e = rw (setting-first ts ∙ e) refl
 
 -- ---- what follows the statements
 
@@ -101,6 +101,7 @@ told-script-of ts rest left bad script e slice enough at =
 pub told-no-set : (ts : List Token) (bad : Option ℕ) (end byte : ℕ) → script_reads statement_at (length (kinds ts)) 0 (kinds ts) ≡ ([], kinds ts) → unwrap_or (next_byte_of ts bad) end ≡ byte → SyntaxFault kind start statement_at 1 ts bad end 0 byte
 unfolding kinds
 told-no-set ts bad end byte e at =
-    let all : drop (length ts - length ts) ts ≡ ts = ap (λ n. drop n ts) (omega arith) in
+    let zero_left : length ts - length ts ≡ 0 = omega arith in
+    let all : drop (length ts - length ts) ts ≡ ts = ap (λ n. drop n ts) zero_left in
     let f = told-fault kind start class statement_at statement-closed 1 ts ts bad end [] e (λ none whole. omega arith) in
     subst (λ b. SyntaxFault kind start statement_at 1 ts bad end 0 b) (ap (λ us. byte_of start us bad end) all ∙ byte-or-end ts bad end ∙ at) f

@@ -33,6 +33,7 @@ fn statements<'t>(
 }
 
 // SET and as many statements as there are behind it.
+#[tactic(auto, using(crate::proofs::Told::no_script))]
 pub(crate) fn script<'t>(alloc: Global, tokens: Tokens<'t>) -> Result<Front<'t, SqlScript>, Unread>
     ensures { AnswersScript (script_reads statement_at (length (kinds tokens.now)) 0 (kinds tokens.now)) (kinds tokens.now) result }
 {

@@ -7,4 +7,4 @@ use Rattle.sql_parser.proofs.scripts.statements.Given as goal
 
 abbrev pub invariant-loop : goal.invariant-loop
 invariant-loop l =
-    ahead (map statement_tree l.found.items) (script_reads statement_at (l.fn.most - l.index) (suc l.index) (kinds l.rest)) ≡ script_reads statement_at l.fn.most 1 (kinds l.fn.tokens)
+    ahead (map statement_tree l.found.items) (script_reads statement_at (l.fn.most - l.counter) (suc l.counter) (kinds l.rest)) ≡ script_reads statement_at l.fn.most 1 (kinds l.fn.tokens)
