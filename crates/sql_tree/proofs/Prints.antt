@@ -322,7 +322,7 @@ unfolding g.tail g.membership g.lits
 list-good e n ls some each ge m h =
     tailed e ge m h (not_word n ++ (t.Word w.In ∷ bracketed (commas written_literal ls))) (g.Among n ls) (in_list e n ls)
     (inr (inr (as-of _ _ (n, ls) (both-of (not_word n) (t.Word w.In ∷ bracketed (commas written_literal ls)) (negated-of n)
-        (after-of (just w.In) (bracketed (commas written_literal ls)) tt (one w.In) (in-brackets-of (commas written_literal ls) ls (listed-by w.Comma g.lit written_literal IsLiteral (λ x p. lit-of x) ls some each)))))))
+    (after-of (just w.In) (bracketed (commas written_literal ls)) tt (one w.In) (in-brackets-of (commas written_literal ls) ls (listed-by w.Comma g.lit written_literal IsLiteral (λ x p. lit-of x) ls some each)))))))
     (λ d low. limited-ok (suc m) (suc d) (in_list e n ls) low)
 
 -- ---- calls

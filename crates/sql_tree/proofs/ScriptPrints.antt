@@ -127,8 +127,8 @@ call-of (call.Value f c) h = inr (inl (as-of _ _ (f, c) (both-of (just (value_wo
 call-of (call.Shift f c rows default) h =
     let inside : Tokens = written_column c ++ (t.Word w.Comma ∷ (t.Int rows ∷ (t.Word w.Comma ∷ written_default default))) in
     inr (inr (inl (as-of _ _ (f, (c, (rows, default))) (both-of (just (shift_word f)) (bracketed inside) (shift-token f)
-        (in-brackets-of inside (c, (rows, default)) (both-of (written_column c) (t.Word w.Comma ∷ (t.Int rows ∷ (t.Word w.Comma ∷ written_default default))) (column-of c)
-            (both-of (t.Word w.Comma ∷ (t.Int rows ∷ [])) (t.Word w.Comma ∷ written_default default) (after-of (just w.Comma) (t.Int rows ∷ []) tt (one w.Comma) (int-of rows)) (after-of (just w.Comma) (written_default default) tt (one w.Comma) (default-of default)))))))))
+    (in-brackets-of inside (c, (rows, default)) (both-of (written_column c) (t.Word w.Comma ∷ (t.Int rows ∷ (t.Word w.Comma ∷ written_default default))) (column-of c)
+    (both-of (t.Word w.Comma ∷ (t.Int rows ∷ [])) (t.Word w.Comma ∷ written_default default) (after-of (just w.Comma) (t.Int rows ∷ []) tt (one w.Comma) (int-of rows)) (after-of (just w.Comma) (written_default default) tt (one w.Comma) (default-of default)))))))))
 call-of call.Rank h = inr (inr (inr (as-of _ _ tt (after-of (just w.Rank) (two_words w.Open w.Close) tt (one w.Rank) (two w.Open w.Close)))))
 
 direction-of : (o : Option Direction) → (maybe (of_table g.directions_table)).spells (maybe_written (λ d. just (direction_word d)) o) o

@@ -1,0 +1,5 @@
+pub mod Views
+pub mod OntoLaws
+pub mod GapLaws
+pub mod FormedTokens
+pub mod PrintLaws

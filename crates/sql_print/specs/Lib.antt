@@ -1,0 +1,4 @@
+pub mod Tails
+pub mod Onto
+pub mod Gaps
+pub mod Printed
