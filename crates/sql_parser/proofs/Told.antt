@@ -1,11 +1,10 @@
 -- The statements of a script, one by one, and what the tokens of a text are told to be.
-use Rattle.std.proofs.Common.{◌≡◌, ◌∙◌, ℕ, zero, suc, ◌≤◌, ◌<◌, ◌-◌, List, [], ◌∷◌, Option, None, Some, length, length-drop, take, drop, ap, arith, subst, sym, refl}
-use Rattle.std.specs.Prelude.{map, unwrap_or}
+use Rattle.std.proofs.Common.{◌≡◌, ◌∙◌, ℕ, zero, suc, ◌≤◌, ◌-◌, List, [], ◌∷◌, Option, None, Some, length, length-drop, take, drop, ap, arith, subst, sym, refl}
+use Rattle.std.specs.Prelude.{unwrap_or}
 use Rattle.std.proofs.lemmas.List.{take_rest}
 use Rattle.forms.specs.Scripts.{SyntaxFault, WholeScript, byte_of, script_reads}
 use Rattle.forms.proofs.Scripts.{left-fits, told-fault, told-script}
 use Rattle.sql_lexer.specs.declared.token.Token.{Token}
-use Rattle.sql_lexer.specs.declared.token.TokenKind.{TokenKind}
 use Rattle.sql_tree.specs.Classes.{class}
 use Rattle.sql_tree.specs.Grammar.{Tokens, setting, statement, statement_at}
 use Rattle.sql_tree.specs.Texts.{kind, start}

@@ -1,8 +1,8 @@
 -- Trees with their depths, and readers at a budget of depth.
-use Rattle.std.specs.Prelude.{◌≡◌, ◌≤◌, ℕ, suc, List, map, length, Option, None, Some, Result, Ok, Err, Box, Vec}
+use Rattle.std.specs.Prelude.{◌≤◌, ℕ, suc, List, Option, Some, Result, Box}
 use Rattle.std.specs.Borrow.{Bor}
 use Rattle.std.specs.declared.alloc.Global.{Global}
-use Rattle.forms.specs.Forms.{Deep, deep, deep_one, Reads, gives, given, limited, ◌>>=◌}
+use Rattle.forms.specs.Forms.{Deep, deep, deep_one, Reads, gives, limited, ◌>>=◌}
 use Rattle.sql_lexer.specs.declared.token.Token.{Token}
 use Rattle.sql_lexer.specs.declared.token.TokenKind.{TokenKind}
 use Rattle.sql_tree.specs.Grammar.{Place, Whole, Negated, Signed, expr_at}
@@ -10,7 +10,7 @@ use Rattle.sql_tree.specs.Trees.{Exp}
 use Rattle.sql_tree.specs.View.{expr_tree}
 use Rattle.sql_tree.specs.declared.expressions.SqlExpr.{SqlExpr}
 use Rattle.vtl_cell.specs.declared.operator.ScalarOp.{ScalarOp}
-use Rattle.sql_parser.specs.Answers.{AnswersBy, front_view, kinds}
+use Rattle.sql_parser.specs.Answers.{AnswersBy, kinds}
 use Rattle.sql_parser.specs.declared.front.Front.{Front}
 use Rattle.sql_parser.specs.declared.front.Unread.{Unread}
 use Rattle.sql_parser.specs.declared.grammar.Deep as program

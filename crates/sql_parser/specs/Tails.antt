@@ -1,5 +1,5 @@
 -- What follows an operand.
-use Rattle.std.specs.Prelude.{ℕ, List, Option, Some, Box, Vec}
+use Rattle.std.specs.Prelude.{ℕ, List, Option, Some}
 use Rattle.forms.specs.Forms.{Deep, Reads, gives, then_reads, ◌>>=◌}
 use Rattle.sql_lexer.specs.declared.token.TokenKind.{TokenKind}
 use Rattle.sql_tree.specs.Grammar as grammar

@@ -1,4 +1,4 @@
-use Rattle.std.proofs.Common.{rules, length, ◌∙◌, ◌+◌, ◌-◌, sym, ap, arith, map, refl, ◌++◌, ◌∷◌, [], Ok}
+use Rattle.std.proofs.Common.{length, ◌∙◌, ◌+◌, ◌-◌, sym, ap, arith, map, refl, ◌++◌, ◌∷◌, [], Ok}
 use Rattle.forms.specs.Forms.{added, turns}
 use Rattle.sql_parser.specs.Answers.{kinds}
 use Rattle.sql_parser.proofs.Turns.{kinds-length, map-push, optional-none, optional-some, turns-ends, turns-full, turns-turn}

@@ -1,4 +1,4 @@
-use Rattle.std.proofs.Common.{◌∙◌, suc, length, map, ap, sym, arith, ◌∷◌, refl}
+use Rattle.std.proofs.Common.{◌∙◌, length, ap, sym, arith, refl}
 use Rattle.std.specs.Prelude.{unwrap_or}
 use Rattle.std.proofs.lemmas.List.{length-map}
 use Rattle.sql_tree.specs.View.{script_tree, statement_tree}

@@ -1,4 +1,4 @@
-use Rattle.std.proofs.Common.{◌≡◌, ◌-◌, length, map, refl, sym, arith}
+use Rattle.std.proofs.Common.{length, map, refl, arith}
 use Rattle.sql_parser.specs.Answers.{kinds}
 use Rattle.sql_parser.specs.Parts.{setting_view}
 use Rattle.sql_tree.specs.View.{statement_tree}
