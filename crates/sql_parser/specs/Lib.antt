@@ -1,0 +1,6 @@
+pub mod Answers
+pub mod Depths
+pub mod Parsed
+pub mod Parts
+pub mod Steps
+pub mod Tails

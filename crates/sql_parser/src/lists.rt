@@ -1,0 +1,110 @@
+// Lists of parts.
+ghost use Rattle.std.specs.Prelude.{length, map};
+ghost use Rattle.forms.specs.Forms.{added, chain_reads, turns};
+ghost use Rattle.sql_parser.specs.Answers.{AnswersBy, first_item, item_views, kinds};
+
+use crate::front::{Front, Tokens, Unread, optional};
+use crate::words::key;
+use sql_lexer::Word;
+use std::alloc::Global;
+
+// A kind of list: how its first item is read, and how each item behind it is, with the mark before it.
+pub(crate) trait ListKind {
+    ghost use Rattle.forms.specs.Forms.{Reads};
+    ghost use Rattle.sql_lexer.specs.declared.token.TokenKind.{TokenKind};
+    ghost use Rattle.sql_parser.specs.Answers.{AnswersBy, kinds};
+
+    type Item: Drop;
+
+    // What an item stands for.
+    ghost Tree: { Type 0 };
+
+    ghost view: { Self.Item → Tree };
+
+    ghost first: { Reads TokenKind Tree };
+
+    ghost step: { Reads TokenKind Tree };
+
+    fn first(alloc: Global, tokens: Tokens<'_>) -> Result<Front<'_, Self::Item>, Unread>
+        ensures { AnswersBy view (first (kinds tokens.now)) result };
+
+    fn step(alloc: Global, tokens: Tokens<'_>) -> Result<Front<'_, Self::Item>, Unread>
+        ensures { AnswersBy view (step (kinds tokens.now)) result };
+}
+
+// An item, and those that follow it.
+pub(crate) fn listed<L: ListKind>(
+    alloc: Global,
+    tokens: Tokens<'_>,
+) -> Result<Front<'_, Vec<L::Item>>, Unread>
+    ensures { AnswersBy (item_views L.view) (chain_reads (first_item L.first) L.step added (kinds tokens.now)) result }
+{
+    let first = L::first(alloc, tokens)?;
+    let mut items = Vec::new(alloc);
+    items.push(first.part)?;
+    more::<L>(alloc, items, first.rest)
+}
+
+// The items after these.
+pub(crate) fn more<L: ListKind>(
+    alloc: Global,
+    mut items: Vec<L::Item>,
+    tokens: Tokens<'_>,
+) -> Result<Front<'_, Vec<L::Item>>, Unread>
+    ensures { AnswersBy (item_views L.view) (turns L.step added (length (kinds tokens.now)) (map L.view items.items) (kinds tokens.now)) result }
+{
+    let mut rest = tokens;
+    for _ in tokens {
+        let Some(next) = optional(L::step(alloc, rest))? else {
+            break;
+        };
+        items.push(next.part)?;
+        rest = next.rest;
+    }
+    Ok(Front { part: items, rest })
+}
+
+// A part that stands in lists with a comma between two.
+pub(crate) trait Part {
+    ghost use Rattle.forms.specs.Forms.{Reads};
+    ghost use Rattle.sql_lexer.specs.declared.token.TokenKind.{TokenKind};
+    ghost use Rattle.sql_parser.specs.Answers.{AnswersBy, kinds};
+
+    type Item: Drop;
+
+    // What it stands for.
+    ghost Tree: { Type 0 };
+
+    ghost view: { Self.Item → Tree };
+
+    ghost reads: { Reads TokenKind Tree };
+
+    fn read(alloc: Global, tokens: Tokens<'_>) -> Result<Front<'_, Self::Item>, Unread>
+        ensures { AnswersBy view (reads (kinds tokens.now)) result };
+}
+
+// A list of parts with commas.
+pub(crate) struct Commas<P>(P);
+
+impl<P: Part> ListKind for Commas<P> {
+    ghost use Rattle.sql_lexer.specs.declared.token.Word.TheVariants.{Comma};
+    ghost use Rattle.sql_parser.specs.Answers.{after_word};
+
+    type Item = P::Item;
+
+    ghost Tree = { P.Tree };
+
+    ghost view = { P.view };
+
+    ghost first = { P.reads };
+
+    ghost step = { after_word Comma P.reads };
+
+    fn first(alloc: Global, tokens: Tokens<'_>) -> Result<Front<'_, P::Item>, Unread> {
+        P::read(alloc, tokens)
+    }
+
+    fn step(alloc: Global, tokens: Tokens<'_>) -> Result<Front<'_, P::Item>, Unread> {
+        P::read(alloc, key(tokens, Word::Comma)?)
+    }
+}
