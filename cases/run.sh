@@ -110,6 +110,8 @@ for folder in cases/*/; do
     wanted "$word" || continue
     case $word in
         run) for case in cases/run/*/; do run "$top/${case%/}"; done ;;
+        # The probe has no word for the tables of the SQL dialect yet.
+        sql) ;;
         tokens | tree)
             for file in "cases/$word"/*."$word"; do
                 for given in "${file%.*}".txt "${file%.*}".vtl; do
