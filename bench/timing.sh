@@ -1,0 +1,57 @@
+# Read by the scripts beside it that race the program against its peers, after program.sh: makes a folder `made` for what
+# they write, which is removed at the end, and says how a command is timed.
+made=$(mktemp -d) || exit 1
+trap 'rm -rf "$made"' EXIT
+mkdir "$made/in" "$made/out" || exit 1
+
+# The first Python that has pandas, if there is one.
+python=
+for found in python3 /usr/bin/python3; do
+    [ "$python" ] || ! "$found" -c 'import pandas' 2>/dev/null || python=$found
+done
+
+# Processor seconds of a command, whose name in the table comes first; and its peak memory, where `time` is installed.
+timed() {
+    label=$1
+    shift
+    if [ -x /usr/bin/time ]; then
+        /usr/bin/time -o "$made/time" -f '%U %S %M' "$@" >"$made/said" 2>&1 || return
+        awk -v label="$label" '{ printf "    %-8s %6.2f s  %4d MB\n", label, $1 + $2, $3 / 1024 }' "$made/time"
+        awk '{ print $1 + $2 }' "$made/time" >"$made/seconds.$label"
+    else
+        # In a subshell of its own, whose children are the command alone.
+        ("$@" >"$made/said" 2>&1 && times >"$made/times") || return
+        sed -n 2p "$made/times" | sed 's/[ms]/ /g' | awk -v label="$label" '{ printf "    %-8s %6.2f s\n", label, $1 * 60 + $2 + $3 * 60 + $4 }'
+        sed -n 2p "$made/times" | sed 's/[ms]/ /g' | awk '{ print $1 * 60 + $2 + $3 * 60 + $4 }' >"$made/seconds.$label"
+    fi
+}
+
+ratio() {
+    [ -s "$made/seconds.$1" ] && paste -d' ' "$made/seconds.vtl" "$made/seconds.$1" |
+        awk -v peer="$1" '{ printf "    vtl takes %.2f times the time of %s\n", $1 / $2, peer }'
+}
+
+# Tells where what a peer has written is not what the program has written as the result of this name.
+compared() {
+    for other in "$made"/out/sqlite.csv "$made"/out/pandas.csv; do
+        if [ -e "$other" ] && ! tr -d '\r"' <"$other" | cmp -s - "$made/out/$1.csv"; then
+            echo "    $(basename "$other") has other rows"
+        fi
+    done
+}
+
+# A job of this script, by the program, and by the peers where $made/job.sql and $made/job.py stand.
+raced() {
+    rm -f "$made"/seconds.* "$made"/out/*
+    timed vtl "$program" run "$made/script.vtl" "$made/structures.csv" "$made/in" "$made/out" || cat "$made/said"
+    if [ -e "$made/job.sql" ] && command -v sqlite3 >/dev/null; then
+        timed sqlite3 sqlite3 "$made/work.db" ".read $made/job.sql"
+        rm -f "$made/work.db"
+        ratio sqlite3
+    fi
+    if [ -e "$made/job.py" ] && [ "$python" ]; then
+        timed pandas "$python" "$made/job.py"
+        ratio pandas
+    fi
+    compared "$1"
+}
