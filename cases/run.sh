@@ -110,8 +110,18 @@ for folder in cases/*/; do
     wanted "$word" || continue
     case $word in
         run) for case in cases/run/*/; do run "$top/${case%/}"; done ;;
-        # The probe has no word for the tables of the SQL dialect yet.
-        sql) ;;
+        sql)
+            for file in cases/sql/syntax/*.csv; do
+                table sql_syntax "$file"
+                # Printed and read again it is the same.
+                table sql_again "$file"
+            done
+            for file in cases/sql/limits/*.csv; do table sql_syntax "$file"; done
+            for file in cases/sql/depth/*.csv; do table sql_depth "$file"; done
+            for file in cases/sql/groups/*.csv; do table sql_groups "$file"; done
+            for file in cases/sql/prefix/*.csv; do table sql_prefixes "${file%.*}.sql" "$file"; done
+            for file in cases/sql/print/*.printed; do printed print "${file%.*}.sql" "$file"; done
+            ;;
         tokens | tree)
             for file in "cases/$word"/*."$word"; do
                 for given in "${file%.*}".txt "${file%.*}".vtl; do

@@ -15,6 +15,7 @@ mod parts;
 mod report;
 mod rows;
 mod runs;
+mod sql;
 mod structures;
 mod sums;
 mod syntax;
@@ -66,10 +67,14 @@ fn carried_out<'a, F: Files>(
             let text = files::text(alloc, files, path)?;
             tables::verdict(alloc, table, "", &text)
         }
-        Command::Prefixes { script, path } => {
+        Command::Prefixes {
+            language,
+            script,
+            path,
+        } => {
             let script = files::text(alloc, files, script)?;
             let text = files::text(alloc, files, path)?;
-            tables::verdict(alloc, tables::Table::Prefixes, &script, &text)
+            tables::verdict(alloc, tables::Table::Prefixes(language), &script, &text)
         }
         Command::Types { structures, path } => {
             let structures = files::text(alloc, files, structures)?;
@@ -87,6 +92,8 @@ fn carried_out<'a, F: Files>(
         }
         Command::Tokens(path) => Ok(tokens::printed(alloc, &files::text(alloc, files, path)?)?),
         Command::Tree(path) => Ok(syntax::printed(alloc, &files::text(alloc, files, path)?)?),
+        Command::Sql(path) => Ok(sql::told(alloc, &files::text(alloc, files, path)?)?),
+        Command::Print(path) => Ok(sql::printed(alloc, &files::text(alloc, files, path)?)?),
     }
 }
 

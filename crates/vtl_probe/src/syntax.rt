@@ -1,12 +1,38 @@
-// What is read of texts of scripts.
+// What is read of texts of scripts, in either language.
 use crate::lines::Lines;
 use crate::report::Report;
 use crate::rows::Row;
+use crate::sql;
 use crate::tree::script;
 use crate::trouble::CaseErr;
 use std::alloc::{AllocError, Global};
 use vtl_parser::{ParseErr, parse};
 use vtl_syntax::Script;
+
+// The language of a text.
+#[derive(Clone, Copy)]
+pub(crate) enum Language {
+    Vtl,
+    Sql,
+}
+
+impl Language {
+    // The number of statements, a comma, and the byte of the fault where there is one.
+    pub(crate) fn outcome(self, alloc: Global, text: &str) -> Result<String, AllocError> {
+        match self {
+            Language::Vtl => outcome(alloc, text),
+            Language::Sql => sql::outcome(alloc, text),
+        }
+    }
+
+    // What a nest comes out as, and one with more levels. Those of SQL stand behind a SET of 30 bytes.
+    fn of_nests(self) -> (&'static str, &'static str) {
+        match self {
+            Language::Vtl => ("1,", "0,0"),
+            Language::Sql => ("2,", "1,30"),
+        }
+    }
+}
 
 // What is read of a text: what is told of the script, or its fault.
 enum Answer {
@@ -45,20 +71,22 @@ pub(crate) fn printed(alloc: Global, text: &str) -> Result<Report, AllocError> {
 }
 
 // The number of statements, a comma, and the byte of the fault where there is one.
-pub(crate) fn outcome(alloc: Global, text: &str) -> Result<String, AllocError> {
+fn outcome(alloc: Global, text: &str) -> Result<String, AllocError> {
     Ok(match read(alloc, text, false)? {
         Answer::Script(count) => format!(in alloc; "{},", count.trim_end())?,
         Answer::Fault { done, byte } => format!(in alloc; "{done},{byte}")?,
     })
 }
 
-// Nothing where the nest is a statement at the most levels, and a fault of the first byte beyond.
-pub(crate) fn nested(alloc: Global, row: &Row) -> Result<String, CaseErr> {
+// Nothing where the nest is a statement at the most levels, and a fault of its first byte beyond.
+pub(crate) fn nested(alloc: Global, language: Language, row: &Row) -> Result<String, CaseErr> {
     let most = row.size(5)?;
+    let (whole, broken) = language.of_nests();
     let mut out = String::new(alloc);
     for more in [0, 1, 2, 1000] {
-        let wanted = if more == 0 { "1," } else { "0,0" };
-        let found = outcome(alloc, &nest(alloc, row, most.saturating_add(more))?)?;
+        let wanted = if more == 0 { whole } else { broken };
+        let text = nest(alloc, row, most.saturating_add(more))?;
+        let found = language.outcome(alloc, &text)?;
         if found.as_str() != wanted {
             write!(out, "{found} at {more} more levels ")?;
         }
@@ -82,13 +110,18 @@ fn nest(alloc: Global, row: &Row, levels: usize) -> Result<String, AllocError> {
 
 // What the fronts of the script have in common whose sizes are in the row's range, ends included. No front ends within
 // a character.
-pub(crate) fn fronts(alloc: Global, script: &str, row: &Row) -> Result<String, CaseErr> {
+pub(crate) fn fronts(
+    alloc: Global,
+    language: Language,
+    script: &str,
+    row: &Row,
+) -> Result<String, CaseErr> {
     let mut common: Option<String> = None;
     for size in row.size(0)?..=row.size(1)? {
         let Some(front) = script.get(..size) else {
             continue;
         };
-        let found = outcome(alloc, front)?;
+        let found = language.outcome(alloc, front)?;
         match common {
             Some(before) if before != found => {
                 return Ok(format!(in alloc; "{before} and then {found} at {size}")?);

@@ -1,8 +1,9 @@
 // Tables of cases.
 use crate::report::{Report, Tally};
 use crate::rows::Row;
+use crate::syntax::Language;
 use crate::trouble::{CaseErr, Trouble};
-use crate::{datasets, order, structures, sums, syntax, tokens, types, values};
+use crate::{datasets, order, sql, structures, sums, syntax, tokens, types, values};
 use csv::{Reader, ReaderBuilder, StringRecord};
 use std::alloc::{AllocError, Global};
 
@@ -24,11 +25,15 @@ pub(crate) enum Table {
     // The tokens of texts.
     Tokens,
     // How many statements a text has, or where its fault is.
-    Syntax,
+    Syntax(Language),
     // How many levels a nest may have.
-    Depth,
+    Depth(Language),
     // The same as for `Syntax`, of the texts at the front of a script.
-    Prefixes,
+    Prefixes(Language),
+    // The same as for `Syntax`, of the text that an SQL script is printed as.
+    Again,
+    // How expressions of SQL are printed.
+    Groups,
     // What scripts are typed as over structures, or their faults.
     Types,
     // What structures files declare, or their faults.
@@ -48,8 +53,12 @@ impl Table {
             "names" => Table::Names,
             "sums" => Table::Sums,
             "lexed" => Table::Tokens,
-            "syntax" => Table::Syntax,
-            "depth" => Table::Depth,
+            "syntax" => Table::Syntax(Language::Vtl),
+            "depth" => Table::Depth(Language::Vtl),
+            "sql_syntax" => Table::Syntax(Language::Sql),
+            "sql_depth" => Table::Depth(Language::Sql),
+            "sql_again" => Table::Again,
+            "sql_groups" => Table::Groups,
             "structures" => Table::Structures,
             "datasets" => Table::Datasets,
             _ => return None,
@@ -66,9 +75,10 @@ impl Table {
             Table::Names => ("text,word,reserved,name,component", 1),
             Table::Sums => ("scale,rounding,numbers,total,mean", 3),
             Table::Tokens => ("text,tokens", 1),
-            Table::Syntax => ("text,done,byte", 1),
-            Table::Depth => ("head,open,middle,close,tail,most", 6),
-            Table::Prefixes => ("from,to,done,byte", 2),
+            Table::Syntax(_) | Table::Again => ("text,done,byte", 1),
+            Table::Groups => ("given,printed", 1),
+            Table::Depth(_) => ("head,open,middle,close,tail,most", 6),
+            Table::Prefixes(_) => ("from,to,done,byte", 2),
             Table::Types => ("scale,script,answer", 2),
             Table::Structures => ("text,answer", 1),
             Table::Datasets => ("scale,rounding,structures,text,answer", 4),
@@ -86,9 +96,11 @@ impl Table {
             Table::Names => Ok(order::named(alloc, row)?),
             Table::Sums => sums::summed(alloc, row),
             Table::Tokens => Ok(tokens::shown(alloc, row.field(0))?),
-            Table::Syntax => Ok(syntax::outcome(alloc, row.field(0))?),
-            Table::Depth => syntax::nested(alloc, row),
-            Table::Prefixes => syntax::fronts(alloc, script, row),
+            Table::Syntax(language) => Ok(language.outcome(alloc, row.field(0))?),
+            Table::Depth(language) => syntax::nested(alloc, language, row),
+            Table::Prefixes(language) => syntax::fronts(alloc, language, script, row),
+            Table::Again => Ok(sql::outcome_again(alloc, row.field(0))?),
+            Table::Groups => Ok(sql::grouped(alloc, row.field(0))?),
             Table::Types => types::outcome(alloc, script, row),
             Table::Structures => Ok(structures::declared(alloc, row.field(0))?),
             Table::Datasets => datasets::rewritten(alloc, row),

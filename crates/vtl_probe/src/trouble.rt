@@ -3,11 +3,14 @@ use std::alloc::{AllocError, AllocFailed, Global};
 
 const USAGE: &str = "the words are one of
   scalars|values|order|periods|names|sums|lexed|syntax|depth|structures|datasets TABLE
-  prefixes SCRIPT TABLE
+  sql_syntax|sql_depth|sql_again|sql_groups TABLE
+  prefixes|sql_prefixes SCRIPT TABLE
   types STRUCTURES TABLE
   check SCRIPT STRUCTURES [--scale D]
   tokens FILE
   tree FILE
+  sql FILE
+  print FILE
   time add|mul|div|read|write|records|data_sets|codes COUNT";
 
 #[derive(Clone, Copy)]

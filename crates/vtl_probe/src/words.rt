@@ -1,4 +1,5 @@
 // The words of the command line.
+use crate::syntax::Language;
 use crate::tables::Table;
 use crate::times::{Order, order_of};
 
@@ -9,6 +10,7 @@ pub(crate) enum Command<'a> {
         path: &'a str,
     },
     Prefixes {
+        language: Language,
         script: &'a str,
         path: &'a str,
     },
@@ -23,6 +25,8 @@ pub(crate) enum Command<'a> {
     },
     Tokens(&'a str),
     Tree(&'a str),
+    Sql(&'a str),
+    Print(&'a str),
     Time(Order),
 }
 
@@ -42,6 +46,8 @@ fn with_one<'a>(name: &str, path: &'a str) -> Option<Command<'a>> {
     match name {
         "tokens" => Some(Command::Tokens(path)),
         "tree" => Some(Command::Tree(path)),
+        "sql" => Some(Command::Sql(path)),
+        "print" => Some(Command::Print(path)),
         _ => Some(Command::Table {
             table: Table::named(name)?,
             path,
@@ -52,6 +58,12 @@ fn with_one<'a>(name: &str, path: &'a str) -> Option<Command<'a>> {
 fn with_two<'a>(name: &str, first: &'a str, second: &'a str) -> Option<Command<'a>> {
     match name {
         "prefixes" => Some(Command::Prefixes {
+            language: Language::Vtl,
+            script: first,
+            path: second,
+        }),
+        "sql_prefixes" => Some(Command::Prefixes {
+            language: Language::Sql,
             script: first,
             path: second,
         }),
