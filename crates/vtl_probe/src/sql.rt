@@ -8,6 +8,7 @@ const BEFORE: &str = "SET SCALE 2 ROUNDING HALF_UP;\nCREATE TABLE \"U\" AS\n  SE
 const BEHIND: &str = " AS \"c\"\n  FROM \"T\" AS \"t\";\n";
 
 // What is read of a text: how many statements it has and how they are printed, or its fault.
+#[derive(Drop)]
 enum Answer {
     Read { count: usize, printed: String },
     Fault { done: usize, byte: usize },
