@@ -5,6 +5,7 @@ use sql_print::print;
 use std::alloc::{AllocError, Global};
 
 const BEFORE: &str = "SET SCALE 2 ROUNDING HALF_UP;\nCREATE TABLE \"U\" AS\n  SELECT ";
+
 const BEHIND: &str = " AS \"c\"\n  FROM \"T\" AS \"t\";\n";
 
 // What is read of a text: how many statements it has and how they are printed, or its fault.
