@@ -11,7 +11,8 @@ use Rattle.vtl_shapes.specs.Measures.{Gives}
 use Rattle.vtl_shapes.specs.declared.measures.Outcome.{Outcome}
 use Rattle.vtl_tree.specs.declared.structure.Component.{Component}
 use Rattle.vtl_tree.specs.declared.structure.Structure.{Structure}
-use Rattle.vtl_typing.specs.Kinds.{counted_kinds, exp_kind}
+use Rattle.vtl_typing.specs.Kinds.{exp_kind}
+use Rattle.vtl_kinds.specs.Operators.{counted_kinds}
 use Rattle.vtl_forms.specs.Operators.{between_kinds, given_structure, misplaced_rule, on_datasets, outcome_of, structure_by}
 
 -- several data sets among values

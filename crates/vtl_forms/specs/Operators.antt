@@ -19,7 +19,8 @@ use Rattle.vtl_shapes.specs.declared.choices.Choice.TheVariants as choice
 use Rattle.vtl_shapes.specs.declared.measures.Outcome.{Outcome}
 use Rattle.vtl_shapes.specs.declared.measures.Outcome.TheVariants as outcome
 use Rattle.vtl_typing.specs.Calls.{call_form}
-use Rattle.vtl_typing.specs.Kinds.{counted_kinds, exp_kind}
+use Rattle.vtl_typing.specs.Kinds.{exp_kind}
+use Rattle.vtl_kinds.specs.Operators.{counted_kinds}
 use Rattle.vtl_typing.specs.Literals.{set_typed}
 use Rattle.vtl_forms.specs.Typed.{TypedTree, value, dataset, beside_kind, boxed_tree, components_in, made_of, of_value}
 use Rattle.vtl_forms.specs.declared.operands.Parted.{Parted}

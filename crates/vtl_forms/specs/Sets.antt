@@ -21,7 +21,7 @@ use Rattle.vtl_shapes.specs.Pairs as pairs
 use Rattle.vtl_shapes.specs.declared.choices.Choice.TheVariants as choice
 use Rattle.vtl_shapes.specs.declared.names.Wanted.TheVariants as wanted
 use Rattle.vtl_typing.specs.Columns.{name_of}
-use Rattle.vtl_typing.specs.Literals.{integer_written}
+use Rattle.vtl_kinds.specs.Literals.{integer_written}
 use Rattle.vtl_forms.specs.Typed.{TypedTree, components_in, dataset_in, made_of}
 
 -- operands that all have to be data sets, behind those that are done

@@ -5,8 +5,8 @@ ghost use Rattle.vtl_forms.specs.Operators.{between_kinds, given_by};
 
 use std::alloc::{AllocError, Global};
 use vtl_cell::{Kind, ScalarOp};
+use vtl_kinds::operator_kind;
 use vtl_shapes::Operator;
-use vtl_typing::operator_kind;
 
 /// The kinds that an operator between values gives of a measure, for each kind that the measure may have.
 #[derive(Clone, Copy)]

@@ -14,13 +14,14 @@ use crate::{Place, Typed};
 use std::alloc::{AllocError, Global};
 use vtl_cell::{Cell, ScalarOp};
 use vtl_decimal::Profile;
+use vtl_kinds::counted_kinds;
 use vtl_nodes::{MeasureOp, Node, NodeForm};
 use vtl_rule_tests::{TypeErr, broken};
 use vtl_shapes::{Choice, Outcome, any_unmet, choose_by, measured, pair};
 use vtl_syntax::Literal;
 use vtl_text::List;
 use vtl_tree::{CompExpr, Structure};
-use vtl_typing::{call, counted_kinds, kinds_in, set as set_members};
+use vtl_typing::{call, kinds_in, set as set_members};
 
 // What an operator gives of the measures of a structure, by the kinds that it gives of them.
 fn structure_by(

@@ -15,13 +15,14 @@ use crate::Typed;
 use crate::typed::made_of;
 use std::alloc::{AllocError, Global};
 use vtl_decimal::Profile;
+use vtl_kinds::integer_written;
 use vtl_nodes::{CheckSpec, Node, NodeForm};
 use vtl_rule_tests::TypeErr;
 use vtl_shapes::{Choice, Wanted, choose_known, exists_in, set_operator};
 use vtl_syntax::{BasicOut, Comp, DifferenceName, ErrorPart, Retain, SetOpName};
 use vtl_text::Txt;
 use vtl_tree::Structure;
-use vtl_typing::{integer_written, name};
+use vtl_typing::name;
 
 fn member_structure(alloc: Global, name: &Txt, structure: &Structure) -> Result<Structure, TypeErr>
     ensures { Answers (λ s. s) result (choice_form Wanted.Measure Choice.Keep (name.now ∷ []) structure.now.components) }

@@ -13,10 +13,11 @@ ghost use Rattle.vtl_forms.specs.Typed.{beside_kind, boxed_tree, condition_in, d
 
 use std::alloc::Global;
 use vtl_cell::Kind;
+use vtl_kinds::meets;
 use vtl_nodes::{Node, NodeForm};
 use vtl_rule_tests::TypeErr;
 use vtl_tree::{CompExpr, Component, Role, Structure};
-use vtl_typing::{kind, meets};
+use vtl_typing::kind;
 
 /// A typed expression.
 #[derive(Drop)]

@@ -1,7 +1,7 @@
 -- Aggregates: of the measures of a data set, and of one component over groups.
 use Rattle.std.specs.Prelude.{ℕ, Bool, true, false, not, List, [], ◌∷◌, Option, Some, None, Result, Ok, Err, map, cond}
 use Rattle.std.specs.Option.{is_some, option_map}
-use Rattle.vtl_cell.specs.ScalarKinds.{meets}
+use Rattle.vtl_kinds.specs.Aggregates as kinds
 use Rattle.vtl_cell.specs.declared.operator.AggKind.{AggKind}
 use Rattle.vtl_cell.specs.declared.operator.AggKind.TheVariants as agg
 use Rattle.vtl_cell.specs.declared.kind.Kind.{Kind}
@@ -46,20 +46,9 @@ agg_kind aggregate.Min = agg.Min
 agg_kind aggregate.Max = agg.Max
 agg_kind aggregate.Median = agg.Median
 
-abbrev pub is_number : Kind → Bool
-is_number kind = meets k.Num kind
-
--- the kind that an aggregate gives of values of a kind: a sum of integers is an integer, and so is one of nulls
-abbrev pub sum_kind : Kind → Option Kind
-sum_kind kind = cond (meets k.Int kind) (Some k.Int) (cond (is_number kind) (Some k.Num) None)
-
+-- the kind that an aggregate gives of values of a kind
 abbrev pub aggregate_kind : AggregateName → Kind → Option Kind
-aggregate_kind aggregate.Sum kind = sum_kind kind
-aggregate_kind aggregate.Avg kind = cond (is_number kind) (Some k.Num) None
-aggregate_kind aggregate.Median kind = cond (is_number kind) (Some k.Num) None
-aggregate_kind aggregate.Count kind = Some k.Int
-aggregate_kind aggregate.Min kind = Some kind
-aggregate_kind aggregate.Max kind = Some kind
+aggregate_kind f kind = kinds.aggregate_kind (agg_kind f) kind
 
 -- of an operand that has this kind or is missing: without one there is the number of points alone
 abbrev pub call_kind : AggregateName → Option Kind → Option Kind

@@ -31,13 +31,15 @@ use Rattle.vtl_shapes.specs.Measures.{Gives, measured_form}
 use Rattle.vtl_shapes.specs.declared.choices.Choice.TheVariants as choice
 use Rattle.vtl_shapes.specs.declared.measures.Outcome.TheVariants as outcome
 use Rattle.vtl_typing.specs.Kinds.{exp_kind}
-use Rattle.vtl_typing.specs.Literals.{is_null_kind, literal_cell, literal_kind, still_wanted, valued, wanted_or}
+use Rattle.vtl_typing.specs.Literals.{literal_cell, literal_kind, still_wanted, valued, wanted_or}
+use Rattle.vtl_kinds.specs.Literals.{is_null_kind}
 use Rattle.vtl_typing.specs.Windows.{points_typed, window_typed}
 use Rattle.vtl_forms.specs.Places.{columns_at, columns_in, written_in}
 use Rattle.vtl_forms.specs.Typed.{TypedTree, value, dataset, beside_kind, components_in, made_of}
 use Rattle.vtl_forms.specs.declared.places.Place.{Place}
 use Rattle.vtl_forms.specs.declared.places.Place.TheVariants as place
-use Rattle.vtl_groups.specs.Aggregates.{aggregate_kind, is_number}
+use Rattle.vtl_groups.specs.Aggregates.{aggregate_kind}
+use Rattle.vtl_kinds.specs.Aggregates.{number_of}
 use Rattle.vtl_groups.specs.declared.calls.Call.{Call}
 use Rattle.vtl_groups.specs.declared.calls.Needed.{Needed}
 use Rattle.vtl_groups.specs.declared.calls.Needed.TheVariants as needed
@@ -70,7 +72,7 @@ window_needed window.RatioToReport = needed.Whole
 abbrev pub window_kind : ValueWindowName → Kind → Option Kind
 window_kind window.FirstValue kind = Some kind
 window_kind window.LastValue kind = Some kind
-window_kind window.RatioToReport kind = cond (is_number kind) (Some k.Num) None
+window_kind window.RatioToReport kind = number_of kind
 
 abbrev pub meets_default : Option Literal → Kind → Bool
 meets_default None kind = true

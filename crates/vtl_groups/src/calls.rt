@@ -7,11 +7,12 @@ ghost use Rattle.vtl_groups.specs.Windowed.{call_typed, default_typed, is_ordere
 use std::alloc::Global;
 use vtl_cell::{Cell, Kind};
 use vtl_decimal::Profile;
+use vtl_kinds::is_null_kind;
 use vtl_nodes::{AnalyticOp, Window};
 use vtl_rule_tests::TypeErr;
 use vtl_syntax::{AggregateName, Expr, Literal, ShiftName, ValueWindowName};
 use vtl_text::Txt;
-use vtl_typing::{is_null_kind, literal, literal_kind, points, still_wanted, wanted_or};
+use vtl_typing::{literal, literal_kind, points, still_wanted, wanted_or};
 
 /// What an analytic call asks of its window.
 #[derive(Clone, Copy, Debug, PartialEq, Eq)]

@@ -3,11 +3,12 @@ ghost use Rattle.std.specs.Prelude.{◌≡◌};
 ghost use Rattle.vtl_syntax.specs.View.{expr_tree};
 ghost use Rattle.vtl_groups.specs.Windowed.{given_kind, is_rank, is_unfit_over, meets_default, over_kind, shift_kind, window_kind};
 
-use crate::kinds::{aggregate_kind, number_of};
+use crate::kinds::aggregate_kind;
 use vtl_cell::Kind;
+use vtl_kinds::{meets, number_of};
 use vtl_nodes::AnalyticOp;
 use vtl_syntax::{Expr, Literal, ValueWindowName};
-use vtl_typing::{literal_kind, meets};
+use vtl_typing::literal_kind;
 
 fn window_kind(function: ValueWindowName, kind: Kind) -> Option<Kind>
     ensures { result ≡ window_kind function kind }

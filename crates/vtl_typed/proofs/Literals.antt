@@ -30,7 +30,8 @@ use Rattle.vtl_syntax.specs.declared.parts.Numeral.{Numeral as Written}
 use Rattle.vtl_syntax.specs.declared.word_groups.CastKind.{CastKind}
 use Rattle.vtl_syntax.specs.declared.word_groups.CastKind.TheVariants as cast
 use Rattle.vtl_tree.specs.CompExp.{const}
-use Rattle.vtl_typing.specs.Literals.{cast_kind, constant_cell, constant_typed, integer_written, is_null_kind, literal_cell, literal_kind, members_typed, numeral_cell, numeral_kind, set_typed, still_wanted, valued, wanted_or, written}
+use Rattle.vtl_typing.specs.Literals.{cast_kind, constant_cell, constant_typed, literal_cell, literal_kind, members_typed, numeral_cell, numeral_kind, set_typed, still_wanted, valued, wanted_or}
+use Rattle.vtl_kinds.specs.Literals.{integer_written, is_null_kind, written}
 use Rattle.vtl_tree.specs.declared.structure.Component.{Component}
 use Rattle.vtl_time.specs.Days.{read_day_of}
 use Rattle.vtl_time.specs.Periods.{read_period_of}

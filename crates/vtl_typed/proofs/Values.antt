@@ -18,7 +18,8 @@ use Rattle.vtl_tree.specs.declared.structure.Structure.{Structure}
 use Rattle.vtl_shapes.specs.Names.{is_among}
 use Rattle.vtl_typing.specs.Calls.{call_form, call_kind, or_null}
 use Rattle.vtl_typing.specs.Columns.{column_from, column_typed, name_of}
-use Rattle.vtl_typing.specs.Kinds.{exp_kind, kind_by_operands}
+use Rattle.vtl_typing.specs.Kinds.{exp_kind}
+use Rattle.vtl_kinds.specs.Operators.{kind_by_operands}
 use Rattle.vtl_typing.specs.Literals.{constant_typed}
 use Rattle.vtl_forms.specs.Places.{Env, Written, alone, component_typed, constant_form, known_by, name_typed, name_written, written_typed}
 use Rattle.vtl_forms.specs.Typed.{TypedTree, value, dataset, of_value}

@@ -7,7 +7,8 @@ use Rattle.vtl_cell.specs.declared.kind.Kind.TheVariants as k
 use Rattle.vtl_cell.specs.declared.operator.ScalarOp.{ScalarOp}
 use Rattle.vtl_tree.specs.CompExp.{CompExp, call}
 use Rattle.vtl_tree.specs.View.{comp_exps_of}
-use Rattle.vtl_typing.specs.Kinds.{exp_kind, kind_by_operands}
+use Rattle.vtl_typing.specs.Kinds.{exp_kind}
+use Rattle.vtl_kinds.specs.Operators.{kind_by_operands}
 use Rattle.vtl_rule_tests.specs.Rules.{ruled}
 
 -- the kind of an operator's value, where the operands meet its row

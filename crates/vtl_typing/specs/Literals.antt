@@ -1,13 +1,8 @@
 -- The values of literals, and their kinds.
-use Rattle.std.specs.Prelude.{ℕ, ℤ, pos, Bool, true, false, ◌&&◌, List, [], ◌∷◌, ◌++◌, Option, Some, None, option_and_then, if◌then◌else◌, Result, Ok, Err, encode_utf8_all}
-use Rattle.std.specs.Int.RustNames.{int_le}
-use Rattle.std.specs.Option.{option_map, option_map_or}
-use Rattle.std.specs.Result.{result_ok}
-use Rattle.vtl_decimal.specs.Numeral.{integer_spelled, number_spelled}
+use Rattle.std.specs.Prelude.{ℕ, ℤ, pos, Bool, true, false, ◌&&◌, List, [], ◌∷◌, ◌++◌, Option, Some, None, if◌then◌else◌, Result, Ok, Err}
 use Rattle.vtl_decimal.specs.Settings.{Settings}
-use Rattle.vtl_cell.specs.Reading.{reads}
-use Rattle.vtl_cell.specs.ScalarArithmetic.{negation_of}
 use Rattle.vtl_cell.specs.ScalarKinds.{meets, shared_kind}
+use Rattle.vtl_kinds.specs.Literals.{integer_cell, integer_written, is_null_kind, largest_place, lies_between, number_cell, with_sign, written}
 use Rattle.vtl_cell.specs.declared.cell.Cell.{Cell}
 use Rattle.vtl_cell.specs.declared.cell.Cell.TheVariants as c
 use Rattle.vtl_cell.specs.declared.kind.Kind.{Kind}
@@ -37,18 +32,10 @@ abbrev pub cast_kind : CastKind → Kind
 cast_kind cast.Date = k.Day
 cast_kind cast.TimePeriod = k.Period
 
--- the integer that digits write, where it is in range
-abbrev pub integer_written : Settings → List ℕ → Option ℤ
-integer_written p digits = integer_spelled p.scale (encode_utf8_all digits)
-
 -- the value of a number, of however many digits: rounded once, where it is in range
 abbrev pub numeral_cell : Settings → Numeral → Option Cell
-numeral_cell p (numeral.Integer digits) = option_map c.Int (integer_written p digits)
-numeral_cell p (numeral.Decimal digits) = option_map c.Num (number_spelled p (encode_utf8_all digits))
-
--- the value of a kind that a text of characters stands for
-abbrev pub written : Settings → Kind → List ℕ → Option Cell
-written p kind text = reads p kind (encode_utf8_all text)
+numeral_cell p (numeral.Integer digits) = integer_cell p digits
+numeral_cell p (numeral.Decimal digits) = number_cell p digits
 
 -- the value of a constant, where it has one: a number in range, a day or a period that is one
 abbrev pub constant_cell : Settings → Constant → Option Cell
@@ -57,11 +44,6 @@ constant_cell p (constant.String text) = Some (c.Text text)
 constant_cell p (constant.Boolean b) = Some (c.Bool b)
 constant_cell p constant.Null = Some c.Null
 constant_cell p (constant.Cast text kind) = written p (cast_kind kind) text
-
--- a number with its sign
-abbrev pub with_sign : Settings → Bool → Option Cell → Option Cell
-with_sign p false cell = cell
-with_sign p true cell = option_and_then (λ x. result_ok (negation_of p x)) cell
 
 -- the value of a literal, where it has one
 abbrev pub literal_cell : Settings → Literal → Option Cell
@@ -101,10 +83,6 @@ members_typed p is_free wanted done [] = Ok done
 members_typed p is_free wanted done (l ∷ ls) =
     wanted_or (still_wanted is_free wanted (literal_kind l)) >>= λ kind. valued (literal_cell p l) >>= λ cell. members_typed p is_free kind (done ++ cell ∷ []) ls
 
-abbrev pub is_null_kind : Kind → Bool
-is_null_kind k.Null = true
-is_null_kind kind = false
-
 -- the members of a set behind an operand of this kind
 abbrev pub set_typed : Settings → Kind → List Literal → Result (List Cell) ℕ
 set_typed p kind ls = members_typed p (is_null_kind kind) kind [] ls
@@ -118,15 +96,12 @@ integer_in p e = None
 
 -- whether an expression is an integer without a sign, in this interval
 abbrev pub lies_in : Settings → ℤ → ℤ → Exp → Bool
-lies_in p low high e = option_map_or (λ n. int_le low n && int_le n high) (integer_in p e) false
+lies_in p low high e = lies_between low high (integer_in p e)
 
 -- the digits of `round` and `trunc`: one `-` may stand before them
 abbrev pub are_digits : Settings → Exp → Bool
 are_digits p (tree.unary sign.Minus e) = lies_in p (pos 0) (pos 9) e
 are_digits p e = lies_in p (pos 0) (pos 9) e
-
-abbrev pub largest_place : ℤ
-largest_place = pos 1_000_000_000
 
 -- whether the second operand, if there is one, passes a test
 abbrev pub second_passes : (Exp → Bool) → Exps → Bool

@@ -21,7 +21,7 @@ use Rattle.vtl_nodes.specs.declared.calls.Frame.{Frame}
 use Rattle.vtl_nodes.specs.declared.calls.OrderKey.{OrderKey}
 use Rattle.vtl_nodes.specs.declared.calls.Window.{Window}
 use Rattle.vtl_typing.specs.Columns.{name_of}
-use Rattle.vtl_typing.specs.Literals.{integer_written}
+use Rattle.vtl_kinds.specs.Literals.{integer_written}
 use Rattle.vtl_rule_tests.specs.Rules.{◌>>=◌, ruled}
 
 abbrev pub is_known : List ℕ → List Component → Bool

@@ -3,11 +3,13 @@ ghost use Rattle.std.specs.Prelude.{◌≡◌, IfOk, is_some, map};
 ghost use Rattle.vtl_tree.specs.View.{comp_exp_of};
 ghost use Rattle.vtl_rule_tests.specs.Answers.{Answers};
 ghost use Rattle.vtl_typing.specs.Calls.{call_form, call_kind};
-ghost use Rattle.vtl_typing.specs.Kinds.{exp_kind, kind_by_operands};
+ghost use Rattle.vtl_typing.specs.Kinds.{exp_kind};
+ghost use Rattle.vtl_kinds.specs.Operators.{kind_by_operands};
 
-use crate::{kind, kind_by_operands, operator_kind};
+use crate::kind;
 use std::alloc::{AllocError, Global};
 use vtl_cell::{Kind, ScalarOp};
+use vtl_kinds::{kind_by_operands, operator_kind};
 use vtl_rule_tests::TypeErr;
 use vtl_tree::CompExpr;
 

@@ -1,4 +1,4 @@
-//! The parts of component expressions: literals, names, operators with the kinds that they take and give, and windows.
+//! The parts of component expressions: literals, names, operators and windows.
 #![tactic(auto)]
 
 mod calls;
@@ -10,10 +10,7 @@ mod windows;
 
 pub use calls::{call, kinds_in};
 pub use columns::{column, name};
-pub use kinds::{counted_kinds, kind, kind_by_operands, meets, operator_kind, shared_kind};
-pub use literals::{
-    constant, integer_written, is_null_kind, literal, literal_kind, literals_fit, set,
-    still_wanted, wanted_or,
-};
+pub use kinds::kind;
+pub use literals::{constant, literal, literal_kind, literals_fit, set, still_wanted, wanted_or};
 pub use operators::{binary_operator, function_operator, takes, unary_operator};
 pub use windows::{points, window};

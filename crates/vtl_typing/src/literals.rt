@@ -1,21 +1,22 @@
 // The values of literals.
-ghost use Rattle.std.specs.Prelude.{◌≡◌, ◌++◌, ℤ, IfOk, option_map, map};
-ghost use Rattle.std.specs.Option.{option_and_then};
-ghost use Rattle.std.specs.Result.{result_ok};
-ghost use Rattle.vtl_cell.specs.ScalarArithmetic.{negation_of};
+ghost use Rattle.std.specs.Prelude.{◌≡◌, ◌++◌, ℤ, IfOk, map};
 ghost use Rattle.vtl_syntax.specs.Trees.{exps_of};
 ghost use Rattle.vtl_syntax.specs.View.{expr_tree};
 ghost use Rattle.vtl_tree.specs.View.{comp_exp_of};
 ghost use Rattle.vtl_rule_tests.specs.Answers.{Answers};
-ghost use Rattle.vtl_typing.specs.Literals.{are_digits, cast_kind, constant_cell, constant_typed, integer_in, integer_written, is_null_kind, lies_in, literal_cell, literal_kind, literals_fit, members_typed, numeral_cell, numeral_kind, second_passes, set_typed, still_wanted, third_passes, valued, wanted_or, with_sign, written};
+ghost use Rattle.vtl_typing.specs.Literals.{are_digits, cast_kind, constant_cell, constant_typed, integer_in, lies_in, literal_cell, literal_kind, literals_fit, members_typed, numeral_cell, numeral_kind, second_passes, set_typed, still_wanted, third_passes, valued, wanted_or};
+ghost use Rattle.vtl_kinds.specs.Literals.{integer_written, is_null_kind};
 
-use crate::{meets, shared_kind};
 use std::alloc::{AllocError, Global};
-use vtl_cell::{Cell, Kind, read_cell};
-use vtl_decimal::{Profile, neg, read_literal, read_whole_literal, whole};
+use vtl_cell::{Cell, Kind};
+use vtl_decimal::Profile;
+use vtl_kinds::{
+    LARGEST_PLACE, integer_cell, integer_written, is_null_kind, lies_between, meets, number_cell,
+    shared_kind, with_sign, written,
+};
 use vtl_rule_tests::TypeErr;
 use vtl_syntax::{CastKind, Constant, Expr, FunctionName, Literal, Numeral, UnaryOp};
-use vtl_text::{List, Txt};
+use vtl_text::List;
 use vtl_tree::CompExpr;
 
 fn numeral_kind(numeral: &Numeral) -> Kind
@@ -36,31 +37,12 @@ fn cast_kind(kind: CastKind) -> Kind
     }
 }
 
-// The value of a kind that a text stands for.
-fn written(
-    alloc: Global,
-    profile: &Profile,
-    kind: Kind,
-    text: &Txt,
-) -> Result<Option<Cell>, AllocError>
-    ensures { IfOk result (λ o. o ≡ written profile.now kind text.now) }
-{
-    read_cell(alloc, kind, text.as_str(), profile)
-}
-
-/// The integer that digits write, where it is in range.
-pub fn integer_written(profile: &Profile, digits: &Txt) -> Option<i64>
-    ensures { result ≡ integer_written profile.now digits.now }
-{
-    read_whole_literal(digits.as_str(), profile).ok()
-}
-
 fn numeral_cell(profile: &Profile, numeral: &Numeral) -> Option<Cell>
     ensures { result ≡ numeral_cell profile.now numeral.now }
 {
     match numeral {
-        Numeral::Integer(digits) => integer_written(profile, digits).map(Cell::Int),
-        Numeral::Decimal(digits) => read_literal(digits.as_str(), profile).ok().map(Cell::Num),
+        Numeral::Integer(digits) => integer_cell(profile, digits),
+        Numeral::Decimal(digits) => number_cell(profile, digits),
     }
 }
 
@@ -77,30 +59,6 @@ fn constant_cell(
         Constant::Boolean(b) => Ok(Some(Cell::Bool(*b))),
         Constant::Null => Ok(Some(Cell::Null)),
         Constant::Cast { text, kind } => written(alloc, profile, cast_kind(*kind), text),
-    }
-}
-
-// The negation of a number, where it is in range.
-fn negated(profile: &Profile, cell: Cell) -> Option<Cell>
-    ensures { result ≡ result_ok (negation_of profile.now cell) }
-{
-    match cell {
-        Cell::Int(n) => match whole(-i128::from(n), profile) {
-            Ok(n) => Some(Cell::Int(n)),
-            Err(_) => None,
-        },
-        Cell::Num(k) => Some(Cell::Num(neg(k))),
-        _ => Some(Cell::Null),
-    }
-}
-
-fn with_sign(profile: &Profile, negative: bool, cell: Option<Cell>) -> Option<Cell>
-    ensures { result ≡ with_sign profile.now negative cell }
-{
-    if negative {
-        negated(profile, cell?)
-    } else {
-        cell
     }
 }
 
@@ -181,15 +139,6 @@ pub fn wanted_or(kind: Option<Kind>) -> Result<Kind, TypeErr>
     }
 }
 
-pub fn is_null_kind(kind: Kind) -> bool
-    ensures { result ≡ is_null_kind kind }
-{
-    match kind {
-        Kind::Null => true,
-        _ => false,
-    }
-}
-
 /// The members of a set behind an operand of this kind.
 pub fn set(
     alloc: Global,
@@ -224,10 +173,7 @@ fn integer_in(profile: &Profile, e: &Expr) -> Option<i64>
 fn lies_in(profile: &Profile, low: i64, high: i64, e: &Expr) -> bool
     ensures { result ≡ lies_in profile.now low high (expr_tree e.now) }
 {
-    match integer_in(profile, e) {
-        Some(n) => low <= n && n <= high,
-        None => false,
-    }
+    lies_between(low, high, integer_in(profile, e))
 }
 
 fn are_digits(profile: &Profile, e: &Expr) -> bool
@@ -241,8 +187,6 @@ fn are_digits(profile: &Profile, e: &Expr) -> bool
         _ => lies_in(profile, 0, 9, e),
     }
 }
-
-const LARGEST_PLACE: i64 = 1_000_000_000;
 
 #[tactic(auto, using(crate::proofs::LiteralLemmas::second_short))]
 fn second_are_digits(profile: &Profile, operands: &[Expr]) -> bool

@@ -6,9 +6,10 @@ ghost use Rattle.vtl_rule_tests.specs.Answers.{Answers};
 ghost use Rattle.vtl_typing.specs.Columns.{name_of};
 ghost use Rattle.vtl_typing.specs.Windows.{bound_typed, frame_typed, is_falling, is_known, key_of, key_typed, name_form, or_none, order_typed, partition_typed, points_at, points_typed, unbounded_at, window_typed};
 
-use crate::{integer_written, name};
+use crate::name;
 use std::alloc::{AllocError, Global};
 use vtl_decimal::Profile;
+use vtl_kinds::{MOST_POINTS, integer_written};
 use vtl_nodes::{Bound, Frame, OrderKey, Window};
 use vtl_rule_tests::TypeErr;
 use vtl_syntax::{Comp, DataPoints, Direction, Limit, OrderPart, OverPart, Side};
@@ -118,8 +119,6 @@ fn order(
     }
     Ok(List::of(keys))
 }
-
-const MOST_POINTS: i64 = 1_000_000;
 
 /// The number of points that digits write.
 pub fn points(profile: &Profile, digits: &Txt) -> Result<u32, TypeErr>

@@ -1,6 +1,6 @@
 use Rattle.std.proofs.Common.{ap, map, ◌∙◌}
 use Rattle.vtl_tree.specs.View.{comp_exp_of}
-use Rattle.vtl_typing.specs.Kinds.{counted_kinds}
+use Rattle.vtl_kinds.specs.Operators.{counted_kinds}
 use Rattle.vtl_forms.specs.Operators.{between_kinds, given_by}
 use Rattle.vtl_forms.proofs.OperatorLemmas.{given_by_kinds}
 use Rattle.vtl_forms.proofs.operators.measures_structure.Goals as goal
