@@ -1,0 +1,10 @@
+pub mod Rules
+pub mod Scopes
+pub mod Literals
+pub mod Kinds
+pub mod Windows
+pub mod Exists
+pub mod Expressions
+pub mod Queries
+pub mod Statements
+pub mod Typed
