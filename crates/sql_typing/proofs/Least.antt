@@ -22,11 +22,24 @@ unfolding least
 least_none None = refl
 least_none (Some a) = refl
 
--- one more test
-pub one_more : (a : Option ℕ) (rule : ℕ) (b : Bool) (tests : Tests) → lesser (lesser a (if b then Some rule else None)) (least (broken tests)) ≡ lesser a (least (broken ((rule, b) ∷ tests)))
+pub least_nil : None ≡ least []
 unfolding least
-one_more a rule true tests = lesser_apart a (Some rule) (least (broken tests))
-one_more a rule false tests = lesser_apart a None (least (broken tests))
+least_nil = refl
+
+broken_append : (xs ys : Tests) → broken (xs ++ ys) ≡ broken xs ++ broken ys
+broken_append [] ys = refl
+broken_append (x ∷ xs) ys = go x.1 (broken_append xs ys)
+  where
+    go : (b : Bool) → broken (xs ++ ys) ≡ broken xs ++ broken ys → (if b then x.0 ∷ broken (xs ++ ys) else broken (xs ++ ys)) ≡ (if b then x.0 ∷ broken xs else broken xs) ++ broken ys
+    go true ih = ap (λ rest. x.0 ∷ rest) ih
+    go false ih = ih
+
+-- one more test
+pub tests_taken : (tests : Tests) (i : ℕ) (d : ℕ × Bool) (a : Option ℕ) → i < length tests → a ≡ least (broken (take i tests)) → lesser a (least (broken (get_or tests i d ∷ []))) ≡ least (broken (take (i + 1) tests))
+tests_taken tests i d a h s =
+    let x = get_or tests i d in
+    ap (λ b. lesser b (least (broken (x ∷ [])))) s
+    ∙ sym (ap (λ ys. least (broken ys)) (take_more tests i d h) ∙ ap least (broken_append (take i tests) (x ∷ [])) ∙ least_append (broken (take i tests)) (broken (x ∷ [])))
 
 -- the rules of the parts of two lists
 pub least_parts : {X : Type 0} (f : X → List ℕ) (xs ys : List X) → least (flat_map f (xs ++ ys)) ≡ lesser (least (flat_map f xs)) (least (flat_map f ys))

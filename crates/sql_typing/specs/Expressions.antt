@@ -1,6 +1,6 @@
 -- The rules that expressions break: at rows, where no aggregate stands and any column may be named, and at groups, where the columns outside of aggregates are those of GROUP BY.
-use Rattle.std.specs.Prelude.{ℕ, Bool, true, false, not, ◌&&◌, ◌||◌, List, [], ◌∷◌, ◌++◌, map, Option, Some, None, is_some, if◌then◌else◌}
-use Rattle.std.specs.List.{flat_map, list_any}
+use Rattle.std.specs.Prelude.{ℕ, Bool, true, false, not, ◌||◌, List, [], ◌∷◌, ◌++◌, map, Option, None}
+use Rattle.std.specs.List.{list_any}
 use Rattle.std.specs.Option.{is_none}
 use Rattle.vtl_decimal.specs.Settings.{Settings}
 use Rattle.vtl_cell.specs.ScalarKinds.{common_kind, meets}
@@ -11,16 +11,13 @@ use Rattle.vtl_cell.specs.declared.operator.ScalarOp.TheVariants as op
 use Rattle.vtl_kinds.specs.Aggregates.{aggregate_kind}
 use Rattle.sql_tree.specs.Trees as tree
 use Rattle.sql_tree.specs.Trees.{Text, Exp, Exps, Branches}
-use Rattle.sql_tree.specs.declared.parts.Column.{Column}
 use Rattle.sql_tree.specs.declared.parts.Constant.{Constant}
-use Rattle.sql_tree.specs.declared.parts.Equality.{Equality}
 use Rattle.sql_tree.specs.declared.parts.Literal.{Literal}
-use Rattle.sql_tree.specs.declared.parts.Source.{Source}
 use Rattle.sql_typing.specs.Exists.{exists_breaks}
 use Rattle.sql_typing.specs.Kinds.{kind_in, kinds_in, operator_kind, value_kinds}
 use Rattle.sql_typing.specs.Literals.{constant_value, has_no_value, literal_kind, literals_fit}
 use Rattle.sql_typing.specs.Rules.{broken}
-use Rattle.sql_typing.specs.Scopes.{Grouping, Scope, Tables, or_null}
+use Rattle.sql_typing.specs.Scopes.{Grouping, Scope, Tables}
 use Rattle.sql_typing.specs.Windows.{column_breaks}
 
 -- where expressions stand: the settings, the tables before the statement, and the sources that may be named

@@ -1,7 +1,6 @@
 -- The kinds of expressions. Where operands do not meet their operator (5), its value counts as null.
-use Rattle.std.specs.Prelude.{Bool, List, [], ◌∷◌, map, Option, Some, None}
-use Rattle.std.specs.Option.{is_none}
-use Rattle.vtl_cell.specs.ScalarKinds.{common_kind, is_set_of, meets}
+use Rattle.std.specs.Prelude.{List, [], ◌∷◌, Option, None}
+use Rattle.vtl_cell.specs.ScalarKinds.{common_kind}
 use Rattle.vtl_cell.specs.declared.kind.Kind.{Kind}
 use Rattle.vtl_cell.specs.declared.kind.Kind.TheVariants as k
 use Rattle.vtl_cell.specs.declared.operator.ScalarOp.{ScalarOp}

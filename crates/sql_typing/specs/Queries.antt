@@ -1,5 +1,5 @@
 -- The rules that selects and queries break, and the columns that a query gives.
-use Rattle.std.specs.Prelude.{ℕ, Bool, true, false, not, ◌&&◌, ◌||◌, List, [], ◌∷◌, ◌++◌, map, fold, zip, length, nat_lt, Option, Some, None, is_some, option_and_then, if◌then◌else◌}
+use Rattle.std.specs.Prelude.{ℕ, Bool, false, not, ◌||◌, List, [], ◌∷◌, ◌++◌, map, fold, zip, length, nat_lt, Option, Some, None, is_some, option_and_then, if◌then◌else◌}
 use Rattle.std.specs.Cmp.Lexicographic.{pointwise}
 use Rattle.std.specs.List.{flat_map, list_all, list_any}
 use Rattle.std.specs.Map.{keys_of}
@@ -10,7 +10,6 @@ use Rattle.vtl_cell.specs.declared.kind.Kind.{Kind}
 use Rattle.vtl_kinds.specs.Literals.{is_null_kind}
 use Rattle.sql_tree.specs.Trees as tree
 use Rattle.sql_tree.specs.Trees.{Text, Exp, ItemTree, JoinTree, QueryTree, SelectTree, ValueTree}
-use Rattle.sql_tree.specs.declared.parts.Column.{Column}
 use Rattle.sql_tree.specs.declared.parts.Source.{Source}
 use Rattle.sql_typing.specs.Expressions.{Site, breaks, condition_breaks, has_aggregate, site}
 use Rattle.sql_typing.specs.Kinds.{kind_in}

@@ -14,7 +14,6 @@ use Rattle.sql_tree.specs.declared.parts.Literal.{Literal}
 use Rattle.sql_tree.specs.declared.windows.Bound.{Bound}
 use Rattle.sql_tree.specs.declared.windows.Bound.TheVariants as bound
 use Rattle.sql_tree.specs.declared.windows.Frame.{Frame}
-use Rattle.sql_tree.specs.declared.windows.Over.{Over}
 use Rattle.sql_tree.specs.declared.windows.Window.{Window}
 use Rattle.sql_tree.specs.declared.windows.WindowCall.{WindowCall}
 use Rattle.sql_tree.specs.declared.windows.WindowCall.TheVariants as call

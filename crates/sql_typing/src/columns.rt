@@ -47,11 +47,7 @@ impl Columns {
 
     /// The columns of these names and kinds, of which there are as many; none where a name stands twice. It fails only for
     /// want of memory.
-    pub fn of(
-        alloc: Global,
-        names: &[Txt],
-        kinds: &[Kind],
-    ) -> Result<Option<Columns>, AllocError>
+    pub fn of(alloc: Global, names: &[Txt], kinds: &[Kind]) -> Result<Option<Columns>, AllocError>
         requires { length kinds.now ≡ length names.now }
         ensures { IfOk result (λ columns. columns ≡ distinct_columns (zip names.now kinds.now)) }
     {

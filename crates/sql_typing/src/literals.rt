@@ -15,8 +15,7 @@ use std::alloc::{AllocError, Global};
 use vtl_cell::{Cell, Kind, ScalarOp};
 use vtl_decimal::Profile;
 use vtl_kinds::{
-    LARGEST_PLACE, integer_cell, integer_written, lies_between, number_cell, with_sign,
-    written,
+    LARGEST_PLACE, integer_cell, integer_written, lies_between, number_cell, with_sign, written,
 };
 
 fn numeral_kind(numeral: &Numeral) -> Kind
@@ -70,11 +69,7 @@ pub fn constant_value(
 }
 
 /// A constant. It fails only for want of memory.
-pub fn constant(
-    alloc: Global,
-    profile: &Profile,
-    constant: &Constant,
-) -> Result<Typed, AllocError>
+pub fn constant(alloc: Global, profile: &Profile, constant: &Constant) -> Result<Typed, AllocError>
     ensures { IfOk result (IsTyped (constant_kind constant.now) (constant_breaks profile.now constant.now)) }
 {
     let value = constant_value(alloc, profile, constant)?;

@@ -18,7 +18,11 @@ use vtl_decimal::Profile;
 use vtl_kinds::{aggregate_kind, common_kind, kind_by_operands, meets};
 
 /// The kind that an operator gives of operands of these kinds, where they meet it.
-pub(crate) fn operator_kind(alloc: Global, op: ScalarOp, kinds: &[Kind]) -> Result<Option<Kind>, AllocError>
+pub(crate) fn operator_kind(
+    alloc: Global,
+    op: ScalarOp,
+    kinds: &[Kind],
+) -> Result<Option<Kind>, AllocError>
     ensures { IfOk result (λ kind. kind ≡ operator_kind op kinds.now) }
 {
     match (op, kinds) {

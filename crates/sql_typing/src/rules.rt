@@ -1,5 +1,5 @@
 // The least of rules that are broken.
-ghost use Rattle.std.specs.Prelude.{◌≡◌, Some, None, if◌then◌else◌};
+ghost use Rattle.std.specs.Prelude.{◌≡◌, [], ◌∷◌};
 ghost use Rattle.sql_typing.specs.Rules.{broken, least, lesser};
 
 /// The lesser of two rules that are broken, where any is.
@@ -13,21 +13,21 @@ pub fn lesser(a: Option<u8>, b: Option<u8>) -> Option<u8>
     }
 }
 
-// A rule, where it is broken.
-fn if_broken(rule: u8, is_broken: bool) -> Option<u8>
-    ensures { result ≡ (if is_broken then Some rule else None) }
+// The rule of a test, where it is broken.
+#[tactic(auto, unfolding(crate::specs::Rules::least))]
+fn if_broken(test: &(u8, bool)) -> Option<u8>
+    ensures { result ≡ least (broken (test.now ∷ [])) }
 {
-    if is_broken { Some(rule) } else { None }
+    if test.1 { Some(test.0) } else { None }
 }
 
 /// The least of the rules that are broken, each given with whether it is.
-#[tactic(auto, using(crate::proofs::Least::one_more))]
 pub fn least_broken(tests: &[(u8, bool)]) -> Option<u8>
     ensures { result ≡ least (broken tests.now) }
 {
     let mut least = None;
-    for (rule, is_broken) in tests {
-        least = lesser(least, if_broken(*rule, *is_broken));
+    for test in tests {
+        least = lesser(least, if_broken(test));
     }
     least
 }

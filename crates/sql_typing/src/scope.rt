@@ -1,8 +1,8 @@
 // The sources of a select.
-ghost use Rattle.std.specs.Map.{keys_of};
+ghost use Rattle.std.specs.Map.{keys_of, lookup};
 ghost use Rattle.std.specs.Option.{option_copied};
 ghost use Rattle.std.specs.Prelude.{◌≡◌, [], IfOk, OnOk};
-ghost use Rattle.sql_typing.specs.Scopes.{add_source, column_in, column_kind, is_among};
+ghost use Rattle.sql_typing.specs.Scopes.{add_source, column_in, column_kind, is_among, same_text};
 ghost use Rattle.sql_typing.specs.Typed.{IsTyped};
 ghost use Rattle.sql_typing.specs.Windows.{column_breaks, is_ungrouped};
 
@@ -59,11 +59,18 @@ impl<'a> Scope<'a> {
         }
     }
 
+    // The columns of the source of an alias.
+    fn columns(&self, alias: &Txt) -> Option<&Columns>
+        ensures { option_copied result ≡ lookup (same_text alias.now) self.now }
+    {
+        self.sources.get(alias).copied()
+    }
+
     /// The kind of a column.
     pub fn kind(&self, column: &Column) -> Option<Kind>
         ensures { result ≡ column_in self.now column.now }
     {
-        match self.sources.get(&column.source) {
+        match self.columns(&column.source) {
             Some(columns) => columns.kind(&column.name),
             None => None,
         }
@@ -81,11 +88,7 @@ pub(crate) fn is_ungrouped(group: &Option<Grouping>, column: &Column) -> Result<
 }
 
 /// A column. It fails only for want of memory.
-pub fn column(
-    scope: &Scope,
-    group: &Option<Grouping>,
-    column: &Column,
-) -> Result<Typed, AllocError>
+pub fn column(scope: &Scope, group: &Option<Grouping>, column: &Column) -> Result<Typed, AllocError>
     ensures { IfOk result (IsTyped (column_kind scope.now column.now) (column_breaks scope.now group.now column.now)) }
 {
     let kind = scope.kind(column);

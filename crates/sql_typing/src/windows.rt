@@ -119,7 +119,9 @@ fn call_kind(scope: &Scope, call: &WindowCall) -> Option<Kind>
             value_kind(*function, or_null(scope.kind(column)))
         }
         WindowCall::Shift {
-            column, default, ..
+            column,
+            default,
+            ..
         } => shift_kind(default, or_null(scope.kind(column))),
         WindowCall::Rank => Some(Kind::Int),
     }

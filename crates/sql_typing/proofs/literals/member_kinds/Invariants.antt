@@ -3,4 +3,4 @@ use Rattle.sql_typing.specs.Literals.{literal_kind}
 use Rattle.sql_typing.proofs.literals.member_kinds.Given as goal
 
 abbrev pub invariant-loop-literal : goal.invariant-loop-literal
-invariant-loop-literal l = l.kinds.items ≡ l.operand ∷ map literal_kind (take l.literal-index l.literals)
+invariant-loop-literal l = l.kinds.items ≡ l.fn.operand ∷ map literal_kind (take l.literal-index l.literals)

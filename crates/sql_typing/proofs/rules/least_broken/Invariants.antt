@@ -1,6 +1,6 @@
-use Rattle.std.proofs.Common.{◌≡◌, drop}
-use Rattle.sql_typing.specs.Rules.{broken, least, lesser}
+use Rattle.std.proofs.Common.{◌≡◌, take}
+use Rattle.sql_typing.specs.Rules.{broken, least}
 use Rattle.sql_typing.proofs.rules.least_broken.Given as goal
 
-abbrev pub invariant-loop-rule : goal.invariant-loop-rule
-invariant-loop-rule l = lesser l.least (least (broken (drop l.rule-index l.tests))) ≡ least (broken l.tests)
+abbrev pub invariant-loop-test : goal.invariant-loop-test
+invariant-loop-test l = l.least ≡ least (broken (take l.test-index l.tests))

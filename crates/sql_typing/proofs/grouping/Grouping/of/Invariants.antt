@@ -1,4 +1,4 @@
-use Rattle.std.proofs.Common.{◌≡◌, take, map, [], ◌∷◌}
+use Rattle.std.proofs.Common.{◌≡◌, take, map, []}
 use Rattle.std.specs.List.{fold}
 use Rattle.indexmap.specs.IndexSet.{insert_key}
 use Rattle.sql_typing.specs.Scopes.{column_name, same_column}
