@@ -1,9 +1,10 @@
 -- The rules that statements break, and the fault of a script: the least rule that its first faulty statement breaks.
-use Rattle.std.specs.Prelude.{◌≡◌, ℕ, suc, Bool, true, false, not, ◌&&◌, ◌||◌, List, [], ◌∷◌, ◌++◌, map, length, nat_lt, Option, Some, None, encode_utf8_all}
+use Rattle.std.specs.Prelude.{◌≡◌, ℕ, suc, ℤ, pos, unsigned_abs, Bool, true, false, not, ◌&&◌, ◌||◌, List, [], ◌∷◌, ◌++◌, map, length, nat_lt, Option, Some, None, encode_utf8_all}
 use Rattle.std.specs.List.{list_any}
 use Rattle.std.specs.Map.{keys_of}
 use Rattle.std.specs.Option.{is_none}
-use Rattle.std.specs.Str.Parse.{digits_value}
+use Rattle.indexmap.specs.IndexSet.{insert_key}
+use Rattle.vtl_kinds.specs.Literals.{integer_written, lies_between}
 use Rattle.vtl_decimal.specs.Settings.{Settings}
 use Rattle.vtl_decimal.specs.declared.settings.Rounding.{Rounding}
 use Rattle.vtl_decimal.specs.declared.settings.Rounding.TheVariants as rounding
@@ -17,19 +18,24 @@ use Rattle.sql_tree.specs.declared.statements.SqlExport.{SqlExport}
 use Rattle.sql_tree.specs.declared.statements.SqlInput.{SqlInput}
 use Rattle.sql_typing.specs.Queries.{query_breaks, query_columns}
 use Rattle.sql_typing.specs.Rules.{broken, least}
-use Rattle.sql_typing.specs.Scopes.{Columns, Tables, columns_of, is_among, is_empty, kind_among, repeats}
+use Rattle.sql_typing.specs.Scopes.{Columns, Tables, columns_of, is_among, is_empty, kind_among, repeats, same_text}
 
 -- ---- SET
 
-abbrev pub scale_of : Text → ℕ
-scale_of digits = digits_value 10 (encode_utf8_all digits)
+-- the integer that the digits of the scale write; they may be of any length
+abbrev pub scale_written : Text → Option ℤ
+scale_written digits = integer_written (record { scale = 0; rounding = rounding.Down }) digits
 
 -- the scale is at most 9 (6)
 abbrev pub setting_breaks : Text → List ℕ
-setting_breaks digits = broken ((6, nat_lt 9 (scale_of digits)) ∷ [])
+setting_breaks digits = broken ((6, not (lies_between (pos 0) (pos 9) (scale_written digits))) ∷ [])
+
+abbrev pub scale_of : Option ℤ → ℕ
+scale_of (Some n) = unsigned_abs n
+scale_of None = 0
 
 abbrev pub settings_of : Text → Rounding → Settings
-settings_of digits rounding = record { scale = scale_of digits; rounding = rounding }
+settings_of digits rounding = record { scale = scale_of (scale_written digits); rounding = rounding }
 
 -- ---- INPUT
 
@@ -98,7 +104,7 @@ abbrev pub with_table : Given → Text → Columns → Given
 with_table given name columns = record { tables = given.tables ++ (name, columns) ∷ []; exported = given.exported }
 
 abbrev pub with_export : Given → Text → Given
-with_export given name = record { tables = given.tables; exported = given.exported ++ name ∷ [] }
+with_export given name = record { tables = given.tables; exported = insert_key same_text given.exported name }
 
 -- SET stands first alone
 abbrev pub statement_breaks : Settings → Given → StatementTree → List ℕ

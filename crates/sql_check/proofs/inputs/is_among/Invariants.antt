@@ -1,0 +1,7 @@
+use Rattle.std.proofs.Common.{◌≡◌, drop, not}
+use Rattle.std.specs.List.{list_any}
+use Rattle.sql_typing.specs.Scopes.{same_text}
+use Rattle.sql_check.proofs.inputs.is_among.Given as goal
+
+abbrev pub invariant-loop-other : goal.invariant-loop-other
+invariant-loop-other l = list_any (same_text l.name) (drop l.other-index l.names) ≡ list_any (same_text l.name) l.names

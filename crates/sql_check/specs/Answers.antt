@@ -1,0 +1,56 @@
+-- What the program tells of statements and scripts.
+use Rattle.std.specs.Prelude.{◌≡◌, ℕ, false, IsSome, List, [], Option, Some, None, Result, Ok, Err}
+use Rattle.std.specs.Map.{keys_of}
+use Rattle.vtl_decimal.specs.Settings.{Settings}
+use Rattle.vtl_decimal.specs.declared.settings.Rounding.{Rounding}
+use Rattle.sql_tree.specs.Trees.{ScriptTree, StatementTree, Text}
+use Rattle.sql_tree.specs.View.{script_tree}
+use Rattle.sql_tree.specs.declared.statements.SqlScript.{SqlScript}
+use Rattle.sql_typing.specs.Rules.{least}
+use Rattle.sql_typing.specs.Scopes.{Columns, Tables, is_among}
+use Rattle.sql_typing.specs.Statements.{Given, IsTypedScript, after, script_fault, setting_breaks, settings_of, statement_breaks, with_table}
+use Rattle.sql_check.specs.declared.error.SqlTypeErr.{SqlTypeErr}
+use Rattle.sql_check.specs.declared.error.SqlTypeErr.TheVariants as err
+use Rattle.sql_check.specs.declared.given.SoFar.{SoFar}
+
+-- the settings of SET, or none where it breaks a rule, which is 6
+abbrev pub Sets : Text → Rounding → Option Settings → Type 0
+Sets digits rounding (Some p) = (p ≡ settings_of digits rounding) × (least (setting_breaks digits) ≡ None)
+Sets digits rounding None = least (setting_breaks digits) ≡ Some 6
+
+abbrev pub given_view : SoFar → Given
+given_view g = record { tables = g.tables; exported = g.exported.keys }
+
+abbrev pub some_columns : Option Columns → Columns
+some_columns (Some columns) = columns
+some_columns None = []
+
+-- the least rule that a statement breaks, or none, and then what it gives is there
+abbrev pub GivesIfTyped : Option ℕ → Given → Given → Type 0
+GivesIfTyped None now wanted = now ≡ wanted
+GivesIfTyped (Some rule) now wanted = Unit {0}
+
+-- a table of these columns may be put behind others
+pub record MayPut (tables : Tables) (name : Text) (columns : Option Columns) : Type 0 where
+  pub free : is_among name (keys_of tables) ≡ false
+  pub some : IsSome columns
+
+-- the fault that is told, or none, and then the table is there
+pub record IsSettled (before now : Given) (name : Text) (columns : Option Columns) (fault told : Option ℕ) : Type 0 where
+  pub told_is : told ≡ fault
+  pub given_is : GivesIfTyped fault now (with_table before name (some_columns columns))
+
+pub record IsStep (p : Settings) (before now : Given) (s : StatementTree) (fault : Option ℕ) : Type 0 where
+  pub fault_is : fault ≡ least (statement_breaks p before s)
+  pub given_is : GivesIfTyped fault now (after before s)
+
+-- a script that is typed, with its settings
+pub record Typed : Type 0 where
+  pub script : SqlScript
+  pub settings : Settings
+
+-- the script is handed back where it is typed; else its fault is told
+abbrev pub Checks : SqlScript → Result Typed SqlTypeErr → Type 0
+Checks script (Ok t) = (t.script ≡ script) × IsTypedScript (script_tree script)
+Checks script (Err (err.Mistyped statement rule)) = script_fault (script_tree script) ≡ Some (statement, rule)
+Checks script (Err err.OutOfMemory) = Unit {0}

@@ -1,0 +1,52 @@
+// EXPORT.
+ghost use Rattle.std.specs.Prelude.{◌≡◌, ◌||◌, not, IfOk};
+ghost use Rattle.std.specs.Option.{option_copied};
+ghost use Rattle.vtl_text.specs.Words.{is_word};
+ghost use Rattle.sql_typing.specs.Rules.{least};
+ghost use Rattle.sql_typing.specs.Scopes.{is_among};
+ghost use Rattle.sql_typing.specs.Statements.{export_breaks, order_fits};
+
+use crate::given::SoFar;
+use crate::inputs::names_fit;
+use indexmap::IndexSet;
+use sql_tree::SqlExport;
+use sql_typing::{Columns, least_broken};
+use std::alloc::{AllocError, Global};
+use vtl_text::{Txt, is_word};
+
+fn order_fits(
+    alloc: Global,
+    columns: Option<&Columns>,
+    order: &[Txt],
+) -> Result<bool, AllocError>
+    ensures { IfOk result (λ b. b ≡ order_fits (option_copied columns.entry) order.now) }
+{
+    match columns {
+        Some(columns) => names_fit(alloc, columns, order),
+        None => Ok(true),
+    }
+}
+
+fn is_misnamed(exported: &IndexSet<Txt>, name: &Txt) -> bool
+    ensures { result ≡ (is_among name.now exported.now.keys || not (is_word name.now)) }
+{
+    exported.contains(name) || !is_word(name.as_str())
+}
+
+/// The least of the rules that an export breaks. It fails only for want of memory.
+pub fn export_fault(
+    alloc: Global,
+    given: &SoFar,
+    export: &SqlExport,
+) -> Result<Option<u8>, AllocError>
+    ensures { IfOk result (λ fault. fault ≡ least (export_breaks given.now.tables given.now.exported.keys export.now)) }
+{
+    let columns = given.tables.columns(&export.name);
+    let is_unknown = columns.is_none();
+    let fits = order_fits(alloc, columns, export.order.as_slice())?;
+    Ok(least_broken(&[
+        (1, is_unknown),
+        (2, is_misnamed(&given.exported, &export.name)),
+        (4, !fits),
+    ]))
+}

@@ -1,0 +1,28 @@
+// What statements have given so far.
+ghost use Rattle.std.specs.Prelude.{◌≡◌};
+ghost use Rattle.sql_typing.specs.Statements.{nothing};
+ghost use Rattle.sql_check.specs.Answers.{given_view};
+
+use indexmap::IndexSet;
+use sql_typing::Tables;
+use std::alloc::Global;
+use vtl_text::Txt;
+
+/// The tables that statements have given, and the names of those that they have exported.
+#[derive(Drop)]
+pub struct SoFar {
+    pub tables: Tables,
+    pub exported: IndexSet<Txt>,
+}
+
+impl SoFar {
+    /// What no statement gives.
+    pub fn new(alloc: Global) -> SoFar
+        ensures { given_view result ≡ nothing }
+    {
+        SoFar {
+            tables: Tables::new(alloc),
+            exported: IndexSet::new(alloc),
+        }
+    }
+}

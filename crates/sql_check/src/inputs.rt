@@ -1,0 +1,184 @@
+// INPUT.
+ghost use Rattle.std.specs.List.{list_any};
+ghost use Rattle.std.specs.Map.{keys_of};
+ghost use Rattle.std.specs.Option.{is_none};
+ghost use Rattle.std.specs.Prelude.{◌≡◌, ◌||◌, ℕ, List, length, nat_lt, not, IfOk, map};
+ghost use Rattle.vtl_cell.specs.declared.kind.Kind.{Kind};
+ghost use Rattle.vtl_text.specs.Words.{is_word};
+ghost use Rattle.sql_typing.specs.Rules.{least};
+ghost use Rattle.sql_typing.specs.Scopes.{is_among, is_empty, kind_among, repeats};
+ghost use Rattle.sql_typing.specs.Statements.{codes_fit, column_entry, input_breaks, input_columns, is_taken, is_text, names_fit};
+ghost use Rattle.sql_typing.specs.Typed.{distinct_columns};
+
+use sql_tree::{InputColumn, SqlInput};
+use sql_typing::{Columns, Tables, least_broken, repeats};
+use std::alloc::{AllocError, Global};
+use vtl_cell::Kind;
+use vtl_text::{Txt, is_word};
+
+fn names_of(alloc: Global, columns: &[InputColumn]) -> Result<Vec<Txt>, AllocError>
+    ensures { IfOk result (λ names. names.items ≡ map (λ c. c.name) columns.now) }
+{
+    let mut names = Vec::with_capacity(alloc, columns.len())?;
+    for column in columns {
+        names.push(column.name.share()?)?;
+    }
+    Ok(names)
+}
+
+fn kinds_of(alloc: Global, columns: &[InputColumn]) -> Result<Vec<Kind>, AllocError>
+    ensures { IfOk result (λ kinds. kinds.items ≡ map (λ c. c.kind) columns.now) }
+{
+    let mut kinds = Vec::with_capacity(alloc, columns.len())?;
+    for column in columns {
+        kinds.push(column.kind)?;
+    }
+    Ok(kinds)
+}
+
+/// The columns of an input; none where a name stands twice. It fails only for want of memory.
+pub fn input_columns(alloc: Global, input: &SqlInput) -> Result<Option<Columns>, AllocError>
+    ensures { IfOk result (λ columns. columns ≡ distinct_columns (input_columns input.now)) }
+{
+    let columns = input.columns.as_slice();
+    let names = names_of(alloc, columns)?;
+    let kinds = kinds_of(alloc, columns)?;
+    Columns::of(alloc, &names, &kinds)
+}
+
+fn any_unknown(columns: &Columns, names: &[Txt]) -> bool
+    ensures { result ≡ list_any (λ name. is_none (kind_among columns.now name)) names.now }
+{
+    for name in names {
+        if columns.kind(name).is_none() {
+            return true;
+        }
+    }
+    false
+}
+
+/// Whether names are columns, and none stands twice. It fails only for want of memory.
+pub fn names_fit(alloc: Global, columns: &Columns, names: &[Txt]) -> Result<bool, AllocError>
+    ensures { IfOk result (λ b. b ≡ names_fit columns.now names.now) }
+{
+    let twice = repeats(alloc, names)?;
+    Ok(!twice && !any_unknown(columns, names))
+}
+
+// Whether a column's name stands twice, or the key is not of the columns.
+fn key_misplaced(
+    alloc: Global,
+    columns: &Option<Columns>,
+    key: &[Txt],
+) -> Result<bool, AllocError>
+    ensures { (all : List (List ℕ × Kind)) → columns.now ≡ distinct_columns all → IfOk result (λ b. b ≡ (repeats (keys_of all) || not (names_fit all key.now))) }
+{
+    match columns {
+        Some(columns) => Ok(!names_fit(alloc, columns, key)?),
+        None => Ok(true),
+    }
+}
+
+fn is_among(name: &Txt, names: &[Txt]) -> bool
+    ensures { result ≡ is_among name.now names.now }
+{
+    for other in names {
+        if name == other {
+            return true;
+        }
+    }
+    false
+}
+
+fn is_empty(text: &Txt) -> bool
+    ensures { result ≡ is_empty text.now }
+{
+    text.as_str().is_empty()
+}
+
+fn any_empty(codes: &[Txt]) -> bool
+    ensures { result ≡ list_any is_empty codes.now }
+{
+    for code in codes {
+        if is_empty(code) {
+            return true;
+        }
+    }
+    false
+}
+
+fn is_text(kind: Kind) -> bool
+    ensures { result ≡ is_text kind }
+{
+    match kind {
+        Kind::Text => true,
+        _ => false,
+    }
+}
+
+// Whether the codes of a column are of a text in the key, none of them empty or twice.
+fn codes_fit(alloc: Global, key: &[Txt], column: &InputColumn) -> Result<bool, AllocError>
+    ensures { IfOk result (λ b. b ≡ codes_fit key.now column.now) }
+{
+    let codes = column.codes.as_slice();
+    match codes {
+        [] => Ok(true),
+        _ => {
+            let twice = repeats(alloc, codes)?;
+            let placed = is_text(column.kind) && is_among(&column.name, key);
+            Ok(placed && !any_empty(codes) && !twice)
+        }
+    }
+}
+
+fn any_misplaced(
+    alloc: Global,
+    key: &[Txt],
+    columns: &[InputColumn],
+) -> Result<bool, AllocError>
+    ensures { IfOk result (λ b. b ≡ list_any (λ c. not (codes_fit key.now c)) columns.now) }
+{
+    for column in columns {
+        if !codes_fit(alloc, key, column)? {
+            return Ok(true);
+        }
+    }
+    Ok(false)
+}
+
+// Whether codes stand where they may not, or there are too many columns; the codes of too many are not looked at.
+fn codes_misplaced(alloc: Global, input: &SqlInput) -> Result<bool, AllocError>
+    ensures { IfOk result (λ b. b ≡ (list_any (λ c. not (codes_fit input.now.key c)) input.now.columns || nat_lt 64 (length input.now.columns))) }
+{
+    if input.columns.as_slice().len() > 64 {
+        Ok(true)
+    } else {
+        any_misplaced(alloc, input.key.as_slice(), input.columns.as_slice())
+    }
+}
+
+/// Whether a table may not have a name that has to be a word.
+fn is_misnamed(tables: &Tables, name: &Txt) -> bool
+    ensures { result ≡ (is_taken tables.now name.now || not (is_word name.now)) }
+{
+    tables.has(name) || !is_word(name.as_str())
+}
+
+/// The least of the rules that an input with these columns breaks. It fails only for want of memory.
+pub fn input_fault(
+    alloc: Global,
+    tables: &Tables,
+    input: &SqlInput,
+    columns: &Option<Columns>,
+) -> Result<Option<u8>, AllocError>
+    requires { columns.now ≡ distinct_columns (input_columns input.now) }
+    ensures { IfOk result (λ fault. fault ≡ least (input_breaks tables.now input.now)) }
+{
+    let misplaced = key_misplaced(alloc, columns, input.key.as_slice())?;
+    let codes = codes_misplaced(alloc, input)?;
+    Ok(least_broken(&[
+        (2, is_misnamed(tables, &input.name)),
+        (4, misplaced),
+        (12, codes),
+    ]))
+}

@@ -1,0 +1,14 @@
+//! Typing of scripts of the SQL dialect: statements, scripts, and scripts that are typed.
+#![tactic(auto)]
+
+mod checked;
+mod error;
+mod exports;
+mod given;
+mod inputs;
+mod scripts;
+mod settings;
+mod statements;
+
+pub use checked::{SqlChecked, check};
+pub use error::SqlTypeErr;
