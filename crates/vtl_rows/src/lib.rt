@@ -10,9 +10,11 @@ mod project;
 mod ranking;
 mod repeats;
 mod seen;
+mod shared;
 mod table;
 mod tables;
 
 pub use column::{Column, SortKey};
+pub use shared::SharedTable;
 pub use table::Table;
 pub use tables::{Inputs, Outputs, Tables};

@@ -33,6 +33,17 @@ fn copy_column(column: &Column) -> Result<Column, AllocError>
     })
 }
 
+// Equal columns.
+pub(crate) fn copied_columns(alloc: Global, columns: &[Column]) -> Result<Vec<Column>, AllocError>
+    ensures { IfOk result (λ copy. copy.items ≡ columns.now) }
+{
+    let mut copy = Vec::with_capacity(alloc, columns.len())?;
+    for column in columns {
+        copy.push(copy_column(column)?)?;
+    }
+    Ok(copy)
+}
+
 // The cells at places of every row, one row after the other.
 pub(crate) fn chosen_cells(
     alloc: Global,

@@ -3,7 +3,7 @@ ghost use Rattle.std.specs.Prelude.{◌≡◌, ◌<◌, ◌++◌, [], ◌∷◌,
 ghost use Rattle.std.specs.Option.{option_copied};
 ghost use Rattle.vtl_rows.specs.Named.{table_of};
 
-use crate::Table;
+use crate::{SharedTable, Table};
 use indexmap::IndexMap;
 use std::alloc::{AllocError, Global};
 use std::marker::Model;
@@ -12,7 +12,7 @@ use vtl_text::Txt;
 /// Named tables. A contract sees the list of the names with their tables, in the order in which they were put.
 #[derive(Drop)]
 pub struct Tables {
-    named: IndexMap<Txt, Table>,
+    named: IndexMap<Txt, SharedTable>,
 }
 
 /// The tables that a script reads.
@@ -40,7 +40,17 @@ impl Tables {
     }
 
     /// Puts a table behind the others. It fails only for want of memory, and leaves the others as they were.
-    pub fn put(&mut self, name: Txt, table: Table) -> Result<(), AllocError>
+    pub fn put(&mut self, alloc: Global, name: Txt, table: Table) -> Result<(), AllocError>
+        requires { table_of name self.old ≡ None }
+        ensures put { OnOk result (self.new ≡ self.old ++ (name, table) ∷ []) }
+        ensures err { OnErr result (self.new ≡ self.old) }
+    {
+        self.put_shared(name, SharedTable::of(alloc, table)?)
+    }
+
+    /// Puts a table that may have other owners behind the others. It fails only for want of memory, and leaves the others
+    /// as they were.
+    pub fn put_shared(&mut self, name: Txt, table: SharedTable) -> Result<(), AllocError>
         requires { table_of name self.old ≡ None }
         ensures put { OnOk result (self.new ≡ self.old ++ (name, table) ∷ []) }
         ensures err { OnErr result (self.new ≡ self.old) }
@@ -53,6 +63,13 @@ impl Tables {
     pub fn get(&self, name: &Txt) -> Option<&Table>
         ensures { option_copied result ≡ table_of name.now self.now }
     {
+        Some(self.shared(name)?.table())
+    }
+
+    /// The table of a name, to be shared.
+    pub fn shared(&self, name: &Txt) -> Option<&SharedTable>
+        ensures { option_copied result ≡ table_of name.now self.now }
+    {
         self.named.get(name)
     }
 
@@ -61,7 +78,8 @@ impl Tables {
         requires { i < length self.now }
         ensures { (result.0.now, result.1.now) ≡ slice_index_or self.now i (result.0.now, result.1.now) }
     {
-        self.named.get_index(i).unwrap()
+        let (name, shared) = self.named.get_index(i).unwrap();
+        (name, shared.table())
     }
 
     /// The number of tables.

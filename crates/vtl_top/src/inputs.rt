@@ -78,7 +78,7 @@ fn add_input<F: Files>(
     ensures put { OnOk result (Adds name.now structure.now tables.old tables.new) }
 {
     match read_input(alloc, files, run, name, structure) {
-        Ok(table) => Ok(tables.put(name.share()?, table)?),
+        Ok(table) => Ok(tables.put(alloc, name.share()?, table)?),
         Err(status) => Err(status),
     }
 }

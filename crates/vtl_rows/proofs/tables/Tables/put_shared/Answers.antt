@@ -1,7 +1,7 @@
 use Rattle.std.proofs.Common.{◌∙◌, ◌++◌, ◌∷◌, [], ap}
 use Rattle.vtl_rows.specs.Named.{table_of}
 use Rattle.vtl_rows.proofs.NamedLemmas.{put_last}
-use Rattle.vtl_rows.proofs.tables.Tables.put.Goals as goal
+use Rattle.vtl_rows.proofs.tables.Tables.put_shared.Goals as goal
 
 pub returns-clause-put : goal.returns-clause-put
 returns-clause-put c =

@@ -1,0 +1,56 @@
+// Tables with several owners.
+ghost use Rattle.std.specs.Prelude.{◌≡◌, IfOk};
+
+use crate::Table;
+use std::alloc::{AllocError, Global};
+use std::marker::Model;
+use std::rc::Rc;
+
+/// A table that may have several owners. A contract sees the table.
+#[derive(Drop)]
+pub struct SharedTable {
+    shared: Rc<Table, Global>,
+}
+
+impl Model for SharedTable {
+    ghost use Rattle.vtl_rows.specs.Tables.{Listed};
+
+    ghost Value = { Listed };
+
+    ghost view = { λ t. t.shared.value };
+}
+
+impl SharedTable {
+    /// A table with one owner. It fails only for want of memory.
+    pub fn of(alloc: Global, table: Table) -> Result<SharedTable, AllocError>
+        ensures { IfOk result (λ t. t ≡ table) }
+    {
+        let shared = Rc::new(alloc, table)?;
+        Ok(SharedTable { shared })
+    }
+
+    /// One more owner of the table. It fails only for want of memory.
+    pub fn share(&self) -> Result<SharedTable, AllocError>
+        ensures { IfOk result (λ t. t ≡ self.now) }
+    {
+        let shared = self.shared.clone()?;
+        Ok(SharedTable { shared })
+    }
+
+    /// The table.
+    pub fn table(&self) -> &Table
+        ensures { result.now ≡ self.now }
+    {
+        Rc::as_ref(&self.shared)
+    }
+
+    /// The table for oneself: it is copied where it has other owners. It fails only for want of memory.
+    pub fn into_table(self, alloc: Global) -> Result<Table, AllocError>
+        ensures { IfOk result (λ t. t ≡ self) }
+    {
+        match Rc::try_unwrap(self.shared) {
+            Ok(table) => Ok(table),
+            Err(shared) => shared.copy(alloc),
+        }
+    }
+}
