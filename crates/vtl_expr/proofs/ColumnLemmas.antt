@@ -16,7 +16,7 @@ use Rattle.vtl_tree.specs.declared.structure.Component.{Component}
 use Rattle.vtl_tree.specs.declared.structure.Role.{Role}
 use Rattle.vtl_tree.specs.declared.structure.Role.TheVariants as role
 use Rattle.vtl_tree.specs.declared.structure.Structure.{Structure}
-use Rattle.vtl_csv.specs.TableText.{column_for}
+use Rattle.vtl_csv.specs.TableText.{column_for, table_columns}
 use Rattle.vtl_meaning.specs.Columns.{kind_named, place_of, places_in}
 use Rattle.vtl_meaning.specs.Made.{AreAmong, IsColumnAt}
 
@@ -53,10 +53,10 @@ some_columns : (xs : List Component) → 1 ≤ length xs → 1 ≤ length (filte
 some_columns [] h = absurd (omega arith)
 some_columns (x ∷ xs) h = some_of_roles x (filter (λ y. same_role y.role role.Identifier) xs) (filter (λ y. same_role y.role role.Measure) xs) (filter (λ y. same_role y.role role.Attribute) xs) x.role
 
-pub some_table_columns : (s : Structure) (columns : List Column) (xs : List Component) → 1 ≤ length s.components → xs ≡ columns_of s → columns ≡ map column_for xs → 0 < length columns
-some_table_columns s columns xs h e f =
+pub some_table_columns : (s : Structure) (columns : List Column) → 1 ≤ length s.components → columns ≡ table_columns s → 0 < length columns
+some_table_columns s columns h e =
     let some = some_columns s.components h in
-    let l = ap length f ∙ length-map xs column_for ∙ ap length e in
+    let l = ap length e ∙ length-map (columns_of s) column_for in
     omega (arith, some, l)
 
 pub few_keys : (s : Structure) → key_width s ≤ length (columns_of s)

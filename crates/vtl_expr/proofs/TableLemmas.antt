@@ -1,14 +1,11 @@
 -- Tables that are data sets.
-use Rattle.std.proofs.Common.{◌≡◌, ℕ, suc, ◌<◌, true, not, ◌&&◌, List, [], ◌∷◌, length, get_or, map, All, Result, Ok, Err, refl, sym, ap, ◌∙◌, subst, arith}
-use Rattle.std.specs.List.{range_with_len}
+use Rattle.std.proofs.Common.{◌≡◌, true, not, ◌&&◌, List, [], ◌∷◌, map, Result, Ok, Err, refl, sym, ap, ◌∙◌, subst}
 use Rattle.std.specs.Prelude.{IfOk}
 use Rattle.std.proofs.lemmas.Bool.{and_parts}
-use Rattle.std.proofs.lemmas.List.FromFn.{fill_by_all, get_or-range_with_len, length-range_with_len}
 use Rattle.vtl_cell.specs.Kinds.{is_null, is_of}
-use Rattle.vtl_cell.specs.declared.cell.Cell.TheVariants as c
 use Rattle.vtl_cell.specs.Outcome.{Outcome}
-use Rattle.vtl_cell.specs.Row.{Row, column_of}
-use Rattle.vtl_rows.specs.Tables.{Listed, cells_at, fits}
+use Rattle.vtl_cell.specs.Row.{Row}
+use Rattle.vtl_rows.specs.Tables.{Listed, fits}
 use Rattle.vtl_scalar.specs.Answers.{Answers, AnswersBy}
 use Rattle.vtl_scalar.specs.declared.error.ScalarErr.{ScalarErr}
 use Rattle.vtl_scalar.specs.declared.error.ScalarErr.TheVariants as err
@@ -44,25 +41,8 @@ point_fits (x ∷ xs) (v ∷ vs) e =
     ap (λ b. b && fits (map column_for xs) vs) front.0 ∙ point_fits xs vs parts.1
 
 -- an equal table below an equal structure
-pub table_copied : (s other : Structure) (t copy : Listed) → IsTableOf s t → other ≡ s → copy.columns ≡ t.columns → copy.rows ≡ t.rows → IsTableOf other copy
-table_copied s other t copy is e c r = subst (λ x. IsTableOf x copy) (sym e) (record { columns = c ∙ is.columns; points = subst (IsDataSet s) (sym r) is.points })
-
--- ---- all places of a row
-cells_whole : (n : ℕ) (row : Row) → length row ≡ n → cells_at (range_with_len 0 n) row ≡ row
-cells_whole n row e = sym (fill_by_all (λ i. column_of i row) row n c.Null e (λ i h. refl))
-
-pub rows_whole : (n : ℕ) (rows : List Row) → All (λ r. length r ≡ n) rows → map (cells_at (range_with_len 0 n)) rows ≡ rows
-rows_whole n [] all = refl
-rows_whole n (row ∷ rows) all =
-    ap (λ r. r ∷ map (cells_at (range_with_len 0 n)) rows) (cells_whole n row (all 0 row (omega arith)))
-    ∙ ap (λ rs. row ∷ rs) (rows_whole n rows (λ i d h. all (suc i) d (omega (arith, h))))
-
-pub below_all : (n : ℕ) (places : List ℕ) → places ≡ range_with_len 0 n → All (λ i. i < n) places
-below_all n places e k d h =
-    let l = ap length e ∙ length-range_with_len 0 n in
-    let few : k < n = omega (arith, l) in
-    let at = ap (λ ps. get_or ps k d) e ∙ get_or-range_with_len 0 n k d few in
-    omega (arith, at)
+pub table_shared : (s other : Structure) (t shared : Listed) → IsTableOf s t → other ≡ s → shared ≡ t → IsTableOf other shared
+table_shared s other t shared is e same = subst (λ x. IsTableOf x shared) (sym e) (subst (IsTableOf s) (sym same) is)
 
 -- a table that is made for want of no memory
 pub made_is_table : {E : Type 0} (s : Structure) (r : Result Listed E) (points : List Row) → IfOk r (λ t. t.columns ≡ table_columns s) → IfOk r (λ t. t.rows ≡ points) → IsDataSet s points → IfOk r (IsTableOf s)

@@ -176,5 +176,5 @@ pub fn choose(
     ensures { IfOk result (λ d. d ≡ data_set made (choice_of condition.now.structure then.now.structure other.now.structure made condition.now.points then.now.points other.now.points)) }
 {
     let table = choice_table::<Brand>(alloc, condition, then, other, &made, Blank::new(1))?;
-    Ok(DataSet::of(made, table))
+    DataSet::of(alloc, made, table)
 }

@@ -7,10 +7,9 @@ ghost use Rattle.vtl_tree.specs.DataSet.{IsDataSet};
 ghost use Rattle.vtl_csv.specs.TableText.{IsTableOf};
 ghost use Rattle.vtl_expr.specs.DataSets.{data_set, with_structure};
 
-use crate::copies::copied_table;
 use std::alloc::{AllocError, Global};
 use std::marker::Model;
-use vtl_rows::Table;
+use vtl_rows::{SharedTable, Table};
 use vtl_scalar::ScalarErr;
 use vtl_shapes::share_structure;
 use vtl_tree::Structure;
@@ -20,7 +19,7 @@ use vtl_tree::Structure;
 #[derive(Drop)]
 pub struct DataSet {
     structure: Structure,
-    table: Table,
+    table: SharedTable,
 }
 
 impl Model for DataSet {
@@ -36,16 +35,26 @@ impl Model for DataSet {
 }
 
 impl DataSet {
-    /// The data set of a table that is one of this structure.
-    pub fn of(structure: Structure, table: Table) -> DataSet
+    /// The data set of a table that is one of this structure, and that may have other owners.
+    pub fn shared(structure: Structure, table: SharedTable) -> DataSet
         requires { IsTableOf structure table }
         ensures { result ≡ data_set structure table.rows }
     {
         DataSet { structure, table }
     }
 
-    /// The data set of a table that was answered, which is one of this structure.
+    /// The data set of a table that is one of this structure. It fails only for want of memory.
+    pub fn of(alloc: Global, structure: Structure, table: Table) -> Result<DataSet, AllocError>
+        requires { IsTableOf structure table }
+        ensures { IfOk result (λ d. d ≡ data_set structure table.rows) }
+    {
+        let table = SharedTable::of(alloc, table)?;
+        Ok(DataSet::shared(structure, table))
+    }
+
+    /// The data set of a table that was answered, which is one of this structure; or want of memory.
     pub fn answered(
+        alloc: Global,
         structure: Structure,
         table: Result<Table, ScalarErr>,
     ) -> Result<DataSet, ScalarErr>
@@ -53,7 +62,7 @@ impl DataSet {
         ensures { (m : Outcome (List Row)) → AnswersBy (λ t. t.rows) table m → Answers result (with_structure structure m) }
     {
         match table {
-            Ok(table) => Ok(DataSet::of(structure, table)),
+            Ok(table) => Ok(DataSet::of(alloc, structure, table)?),
             Err(error) => Err(error),
         }
     }
@@ -71,22 +80,30 @@ impl DataSet {
         ensures points { result.now.rows ≡ self.now.points }
         ensures table { IsTableOf self.now.structure result.now }
     {
-        &self.table
+        self.table.table()
     }
 
-    /// The table of the points, handed on.
-    pub fn into_table(self) -> Table
-        ensures points { result.rows ≡ self.points }
-        ensures table { IsTableOf self.structure result }
+    /// One more owner of the table of the points. It fails only for want of memory.
+    pub fn share_table(&self) -> Result<SharedTable, AllocError>
+        ensures points { IfOk result (λ t. t.rows ≡ self.now.points) }
+        ensures table { IfOk result (IsTableOf self.now.structure) }
     {
-        self.table
+        self.table.share()
     }
 
-    /// One more of the data set, whose texts are shared. It fails only for want of memory.
+    /// The table of the points for oneself: it is copied where it has other owners. It fails only for want of memory.
+    pub fn into_table(self, alloc: Global) -> Result<Table, AllocError>
+        ensures points { IfOk result (λ t. t.rows ≡ self.points) }
+        ensures table { IfOk result (IsTableOf self.structure) }
+    {
+        self.table.into_table(alloc)
+    }
+
+    /// One more of the data set, whose table and texts are shared. It fails only for want of memory.
     pub fn copy(&self, alloc: Global) -> Result<DataSet, AllocError>
         ensures { IfOk result (λ d. d ≡ self.now) }
     {
-        let table = copied_table(alloc, &self.table)?;
-        Ok(DataSet::of(share_structure(alloc, &self.structure)?, table))
+        let structure = share_structure(alloc, &self.structure)?;
+        Ok(DataSet::shared(structure, self.table.share()?))
     }
 }

@@ -28,5 +28,5 @@ pub fn keep_columns(alloc: Global, a: &DataSet, made: Structure) -> Result<DataS
     ensures { IfOk result (λ d. d ≡ data_set made (left_of a.now.structure made a.now.points)) }
 {
     let table = kept_table(alloc, a, &made)?;
-    Ok(DataSet::of(made, table))
+    DataSet::of(alloc, made, table)
 }

@@ -3,7 +3,6 @@
 
 mod choice;
 mod columns;
-mod copies;
 mod data_set;
 mod expressions;
 mod kept_columns;
@@ -15,8 +14,7 @@ mod places;
 mod points;
 
 pub use choice::choose;
-pub use columns::place_of;
-pub use copies::copied_table;
+pub use columns::{place_of, table_columns};
 pub use data_set::DataSet;
 pub use expressions::{copied, push_column};
 pub use kept_columns::keep_columns;

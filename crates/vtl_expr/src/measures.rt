@@ -105,5 +105,5 @@ pub fn map_measures(
     ensures { Answers result (with_structure made (measured_of p.now (measure_tree op.now) a.now.structure made a.now.points)) }
 {
     let table = measured_table(alloc, op, a, &made, p);
-    DataSet::answered(made, table)
+    DataSet::answered(alloc, made, table)
 }

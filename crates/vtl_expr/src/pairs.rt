@@ -208,5 +208,5 @@ pub fn pair_measures(
     ensures { Answers result (with_structure made (pair_of p.now op a.now.structure b.now.structure made a.now.points b.now.points)) }
 {
     let table = pair_table(alloc, op, a, b, &made, p);
-    DataSet::answered(made, table)
+    DataSet::answered(alloc, made, table)
 }

@@ -33,8 +33,7 @@ pub fn new_table(alloc: Global, made: &Structure) -> Result<Table, AllocError>
     ensures columns { IfOk result (λ t. t.columns ≡ table_columns made.now) }
     ensures rows { IfOk result (λ t. t.rows ≡ []) }
 {
-    let columns = made.columns(alloc)?;
-    Ok(Table::new(alloc, table_columns(alloc, &columns)?))
+    Ok(Table::new(alloc, table_columns(alloc, made)?))
 }
 
 // Puts the value of an expression at a row behind others, or null where it has a fault.
