@@ -107,5 +107,5 @@ pub fn calc(
     ensures { Answers result (with_structure made (calculated_of p.now (map item_tree items.now) a.now.structure made a.now.points)) }
 {
     let table = calculated_table(alloc, a, items, &made, p);
-    DataSet::answered(made, table)
+    DataSet::answered(alloc, made, table)
 }

@@ -79,5 +79,5 @@ pub fn filter(
     ensures { Answers result (with_structure made (filter_of p.now (comp_exp_of condition.now) a.now.points)) }
 {
     let table = kept_table(alloc, a, condition, &made, p);
-    DataSet::answered(made, table)
+    DataSet::answered(alloc, made, table)
 }

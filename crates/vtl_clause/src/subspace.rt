@@ -119,5 +119,5 @@ pub fn sub(
     ensures { IfOk result (λ d. d ≡ data_set made (sub_of items.now a.now.structure made a.now.points)) }
 {
     let table = sub_table(alloc, a, items, &made)?;
-    Ok(DataSet::of(made, table))
+    DataSet::of(alloc, made, table)
 }
