@@ -1,11 +1,11 @@
 -- Look-ups in environments.
-use Rattle.std.proofs.Common.{◌≡◌, ℕ, List, [], ◌∷◌, ◌++◌, Bool, true, false, cond, ◌||◌, Option, Some, None, refl, sym, ap, subst, ◌∙◌}
+use Rattle.std.proofs.Common.{◌≡◌, ℕ, List, [], ◌∷◌, ◌++◌, Bool, true, false, cond, ◌||◌, Some, None, refl, ap, ◌∙◌}
 use Rattle.std.specs.List.{list_any}
 use Rattle.std.specs.Map.{keys_of, lookup}
 use Rattle.std.specs.Option.{option_map}
-use Rattle.std.specs.Cmp.Lexicographic.{bytes_decides, nat_list_eq_equiv}
+use Rattle.std.specs.Cmp.Lexicographic.{nat_list_eq_equiv}
 use Rattle.indexmap.specs.IndexMap.{insert_entry}
-use Rattle.vtl_tree.specs.Environment.{DataSet, Environment, data_of}
+use Rattle.vtl_tree.specs.Environment.{Environment, data_of}
 use Rattle.vtl_tree.specs.Structure.{same_name}
 use Rattle.vtl_meaning.specs.Meaning.{known_in}
 
@@ -27,17 +27,6 @@ module _ {X : Type 0} where
       go true ih q = cc
       go false ih q = ih q
 
-  -- a new name is found as well in front of the others as behind them
-  pub front_or_behind : (es : List (List ℕ × X)) (new : List ℕ) (x : X) → lookup (same_name new) es ≡ None → (name : List ℕ) → lookup (same_name name) ((new, x) ∷ es) ≡ lookup (same_name name) (es ++ (new, x) ∷ [])
-  front_or_behind es new x none name = go (same_name name new) refl (lookup (same_name name) es) refl
-    where
-      go : (b : Bool) → same_name name new ≡ b → (o : Option X) → lookup (same_name name) es ≡ o → cond (same_name name new) (Some x) (lookup (same_name name) es) ≡ lookup (same_name name) (es ++ (new, x) ∷ [])
-      go true s o e =
-          let gone : lookup (same_name name) es ≡ None = subst (λ n. lookup (same_name n) es ≡ None) (sym ((bytes_decides name new).0 s)) none in
-          rw s (sym (found_behind name es ((new, x) ∷ []) gone ∙ rw s refl))
-      go false s None e = rw s (e ∙ sym (found_behind name es ((new, x) ∷ []) e ∙ rw s refl))
-      go false s (Some y) e = rw s (e ∙ sym (found_in_front name es ((new, x) ∷ []) y e))
-
 -- ---- in environments
 pub data_looked : (name : List ℕ) (env : Environment) → data_of name env ≡ lookup (same_name name) env
 data_looked name [] = refl
@@ -51,10 +40,6 @@ known_looked name (e ∷ es) = go (same_name name e.0) (known_looked name es)
         → cond b (Some e.1.structure) (lookup (same_name name) (known_in es)) ≡ option_map (λ d. d.structure) (cond b (Some e.1) (lookup (same_name name) es))
     go true ih = refl
     go false ih = ih
-
-pub data_front_or_behind : (env : Environment) (new : List ℕ) (d : DataSet) → data_of new env ≡ None → (name : List ℕ) → data_of name ((new, d) ∷ env) ≡ data_of name (env ++ (new, d) ∷ [])
-data_front_or_behind env new d none name =
-    data_looked name ((new, d) ∷ env) ∙ front_or_behind env new d (sym (data_looked new env) ∙ none) name ∙ sym (data_looked name (env ++ (new, d) ∷ []))
 
 pub insert_new : {X : Type 0} (es : List (List ℕ × X)) (name : List ℕ) (x : X) → list_any (same_name name) (keys_of es) ≡ false → insert_entry same_name es name x ≡ es ++ (name, x) ∷ []
 insert_new [] name x e = refl

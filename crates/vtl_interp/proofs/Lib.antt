@@ -6,6 +6,7 @@ pub mod Loads
 pub mod MadeStatements
 pub mod NamesRead
 pub mod NodesEvaluated
+pub mod PlacesRead
 pub mod Scripts
 pub mod Starts
 pub mod Steps

@@ -28,13 +28,13 @@ pub all_back : {X : Type 0} (P : X → Type 0) (xs ys : List X) → AllByRecursi
 all_back P [] ys h = h
 all_back P (x ∷ xs) ys h = all_back P xs ys h.1
 
+pub all_both : {X : Type 0} (P : X → Type 0) (xs ys : List X) → AllByRecursion P xs → AllByRecursion P ys → AllByRecursion P (xs ++ ys)
+all_both P [] ys h k = k
+all_both P (x ∷ xs) ys h k = (h.0, all_both P xs ys h.1 k)
+
 pub all_so : {X : Type 0} (P Q : X → Type 0) → ((x : X) → P x → Q x) → (xs : List X) → AllByRecursion P xs → AllByRecursion Q xs
 all_so P Q f [] h = tt
 all_so P Q f (x ∷ xs) h = (f x h.0, all_so P Q f xs h.1)
-
-pub all_each : {X : Type 0} (P : X → Type 0) → ((x : X) → P x) → (xs : List X) → AllByRecursion P xs
-all_each P f [] = tt
-all_each P f (x ∷ xs) = (f x, all_each P f xs)
 
 -- ---- names have the same data sets, or the same structures
 abbrev pub SameData : Environment → Environment → List (List ℕ) → Type 0

@@ -1,5 +1,5 @@
 -- What nodes of the program evaluate to.
-use Rattle.std.proofs.Common.{◌≡◌, ℕ, Bool, true, false, cond, List, [], ◌∷◌, map, Option, Some, None, Result, Ok, refl, rules, sym, ap, subst, ◌∙◌}
+use Rattle.std.proofs.Common.{◌≡◌, ℕ, List, [], map, Option, Some, None, Result, Ok, rules, sym, ap, subst, ◌∙◌}
 use Rattle.std.specs.Prelude.{Box, option_map}
 use Rattle.std.specs.declared.alloc.Global.{Global}
 use Rattle.std.specs.Option.{option_map_or}
@@ -29,8 +29,6 @@ use Rattle.vtl_meaning.specs.Made.{IsMade}
 use Rattle.vtl_meaning.specs.Meaning.{form_value, known_in, node_value}
 use Rattle.vtl_expr.specs.DataSets.{with_structure}
 use Rattle.vtl_interp.specs.Evaluated.{Evaluates, Gives}
-use Rattle.vtl_interp.specs.Held.{Holdings, environment}
-use Rattle.vtl_interp.specs.declared.held.Held.{Held}
 use Rattle.vtl_interp.proofs.Environments.{data_looked, known_looked}
 use Rattle.vtl_interp.proofs.Evaluates.{applied, then}
 
@@ -84,31 +82,19 @@ two_operands view p env n f t a b d e op r is tree value g k h =
     (value ∙ then p env a d (λ s x. after (node_value p env b) (op s (structure_of b) x)) g ∙ then p env b e (λ s y. op d.structure s d.points y) k) h)
 
 -- ---- a name
-held_looked : (name : List ℕ) (es : Holdings) → lookup (same_name name) (environment es) ≡ option_map (λ h. h.set) (lookup (same_name name) es)
-held_looked name [] = refl
-held_looked name (e ∷ es) = go (same_name name e.0) (held_looked name es)
-  where
-    go : (b : Bool) → lookup (same_name name) (environment es) ≡ option_map (λ h. h.set) (lookup (same_name name) es)
-        → cond b (Some e.1.set) (lookup (same_name name) (environment es)) ≡ option_map (λ h. h.set) (cond b (Some e.1) (lookup (same_name name) es))
-    go true ih = refl
-    go false ih = ih
-
-known_held : (name : List ℕ) (es : Holdings) → lookup (same_name name) (known_in (environment es)) ≡ option_map (λ d. d.structure) (option_map (λ h. h.set) (lookup (same_name name) es))
-known_held name es = known_looked name (environment es) ∙ ap (λ (o : Option DataSet). option_map (λ d. d.structure) o) (held_looked name es)
-
 -- a name's node is made over what is held: its structure is that of the data set
-made_named : (p : Settings) (es : Holdings) (n : Node) (name : List ℕ) → n.form ≡ form.Named name → IsMade p (known_in (environment es)) (node_tree n) → lookup (same_name name) (known_in (environment es)) ≡ Some n.structure
-made_named p es n name e made = (subst (IsMade p (known_in (environment es))) (tree_with n (form.Named name) (nodes.named name) e (form_tree-Named name)) made).1
+made_named : (p : Settings) (env : Environment) (n : Node) (name : List ℕ) → n.form ≡ form.Named name → IsMade p (known_in env) (node_tree n) → option_map (λ d. d.structure) (lookup (same_name name) env) ≡ Some n.structure
+made_named p env n name e made = sym (known_looked name env) ∙ (subst (IsMade p (known_in env)) (tree_with n (form.Named name) (nodes.named name) e (form_tree-Named name)) made).1
 
-pub name_is_held : (p : Settings) (es : Holdings) (n : Node) (name : List ℕ) → n.form ≡ form.Named name → IsMade p (known_in (environment es)) (node_tree n) → lookup (same_name name) es ≡ None → ⊥
-name_is_held p es n name e made none =
-    let h : None ≡ Some n.structure = sym (known_held name es ∙ ap (λ (o : Option Held). option_map (λ d. d.structure) (option_map (λ h. h.set) o)) none) ∙ made_named p es n name e made in
+pub name_is_held : (p : Settings) (env : Environment) (n : Node) (name : List ℕ) → n.form ≡ form.Named name → IsMade p (known_in env) (node_tree n) → lookup (same_name name) env ≡ None → ⊥
+name_is_held p env n name e made none =
+    let h : None ≡ Some n.structure = sym (ap (λ (o : Option DataSet). option_map (λ d. d.structure) o) none) ∙ made_named p env n name e made in
     cc
 
-pub name_gives : (p : Settings) (es : Holdings) (n : Node) (name : List ℕ) (h : Held) → n.form ≡ form.Named name → IsMade p (known_in (environment es)) (node_tree n) → lookup (same_name name) es ≡ Some h → Gives p (environment es) (node_tree n) h.set
-name_gives p es n name h e made found =
-    let looked : Some h.set.structure ≡ Some n.structure = sym (known_held name es ∙ ap (λ (o : Option Held). option_map (λ d. d.structure) (option_map (λ h. h.set) o)) found) ∙ made_named p es n name e made in
-    let same : h.set.structure ≡ n.structure = cc in
-    let there : data_of name (environment es) ≡ Some h.set = data_looked name (environment es) ∙ held_looked name es ∙ ap (λ (o : Option Held). option_map (λ h. h.set) o) found in
-    subst (λ (t : NodeTree). Gives p (environment es) t h.set) (sym (tree_with n (form.Named name) (nodes.named name) e (form_tree-Named name)))
+pub name_gives : (p : Settings) (env : Environment) (n : Node) (name : List ℕ) (d : DataSet) → n.form ≡ form.Named name → IsMade p (known_in env) (node_tree n) → lookup (same_name name) env ≡ Some d → Gives p env (node_tree n) d
+name_gives p env n name d e made found =
+    let looked : Some d.structure ≡ Some n.structure = sym (ap (λ (o : Option DataSet). option_map (λ d. d.structure) o) found) ∙ made_named p env n name e made in
+    let same : d.structure ≡ n.structure = cc in
+    let there : data_of name env ≡ Some d = data_looked name env ∙ found in
+    subst (λ (t : NodeTree). Gives p env t d) (sym (tree_with n (form.Named name) (nodes.named name) e (form_tree-Named name)))
     (record { structure = same; points = ap (λ (o : Option DataSet). Ok (option_map_or (λ d. d.points) o [])) there })

@@ -19,7 +19,7 @@ use Rattle.vtl_check.specs.Script.{assigned, at, has_definitions, is_too_much, s
 use Rattle.vtl_meaning.specs.Meaning.{Statement, is_built}
 use Rattle.vtl_backend.specs.Statements.{statements_of, with_nodes}
 use Rattle.vtl_interp.specs.Results.{AreNew}
-use Rattle.vtl_interp.proofs.NamesRead.{all_front, all_back, are_built, names_read}
+use Rattle.vtl_interp.proofs.NamesRead.{all_back, all_both, all_front, are_built, names_read}
 
 -- ---- the nodes of statements are nodes of the script
 pub built_statements : (ss : ScriptTree) (ns : List NodeTree) → list_all is_built ns ≡ true → are_built (with_nodes ss ns) ≡ true
@@ -39,11 +39,7 @@ pub names_statements : (P : List ℕ → Type 0) (ss : ScriptTree) (ns : List No
 names_statements P [] ns h = tt
 names_statements P (tree.assignment name k e ∷ ss) [] h = tt
 names_statements P (tree.assignment name k e ∷ ss) (n ∷ ns) h =
-    join (names_in n) (names_read (with_nodes ss ns)) (all_front P (names_in n) (names_of ns) h) (names_statements P ss ns (all_back P (names_in n) (names_of ns) h))
-  where
-    join : (xs ys : List (List ℕ)) → AllByRecursion P xs → AllByRecursion P ys → AllByRecursion P (xs ++ ys)
-    join [] ys a b = b
-    join (x ∷ xs) ys a b = (a.0, join xs ys a.1 b)
+    all_both P (names_in n) (names_read (with_nodes ss ns)) (all_front P (names_in n) (names_of ns) h) (names_statements P ss ns (all_back P (names_in n) (names_of ns) h))
 names_statements P (tree.datapoint n vs rs b ∷ ss) ns h = tt
 names_statements P (tree.hierarchical n v rs b ∷ ss) ns h = tt
 
@@ -80,20 +76,21 @@ results_new t typed = names_new (env_over t.settings t.declared) 1 0 [] (tree_of
 abbrev IsFewer : (fewer more : List (List ℕ)) → Type 0
 IsFewer fewer more = (name : List ℕ) → list_any (same_name name) more ≡ false → list_any (same_name name) fewer ≡ false
 
+-- a name that is none of two lists is none of either
+pub none_of_each : (xs ys : List (List ℕ)) (name : List ℕ) → list_any (same_name name) (xs ++ ys) ≡ false → (list_any (same_name name) xs ≡ false) × (list_any (same_name name) ys ≡ false)
+none_of_each [] ys name h = (refl, h)
+none_of_each (y ∷ xs) ys name h = at (same_name name y) (none_of_each xs ys name) h
+  where
+    at : (b : Bool) → (list_any (same_name name) (xs ++ ys) ≡ false → (list_any (same_name name) xs ≡ false) × (list_any (same_name name) ys ≡ false))
+        → (b || list_any (same_name name) (xs ++ ys)) ≡ false → ((b || list_any (same_name name) xs) ≡ false) × (list_any (same_name name) ys ≡ false)
+    at true ih h = cc
+    at false ih h = ih h
+
 fewer_push : (fewer more : List (List ℕ)) (x : List ℕ) → IsFewer fewer more → IsFewer (fewer ++ x ∷ []) (more ++ x ∷ [])
 fewer_push fewer more x f name h =
-    let parts = or_none more (x ∷ []) name h in
+    let parts = none_of_each more (x ∷ []) name h in
     none_or fewer (x ∷ []) name (f name parts.0) parts.1
   where
-    or_none : (xs ys : List (List ℕ)) (name : List ℕ) → list_any (same_name name) (xs ++ ys) ≡ false → (list_any (same_name name) xs ≡ false) × (list_any (same_name name) ys ≡ false)
-    or_none [] ys name h = (refl, h)
-    or_none (y ∷ xs) ys name h = at (same_name name y) (or_none xs ys name) h
-      where
-        at : (b : Bool) → (list_any (same_name name) (xs ++ ys) ≡ false → (list_any (same_name name) xs ≡ false) × (list_any (same_name name) ys ≡ false))
-            → (b || list_any (same_name name) (xs ++ ys)) ≡ false → ((b || list_any (same_name name) xs) ≡ false) × (list_any (same_name name) ys ≡ false)
-        at true ih h = cc
-        at false ih h = ih h
-
     none_or : (xs ys : List (List ℕ)) (name : List ℕ) → list_any (same_name name) xs ≡ false → list_any (same_name name) ys ≡ false → list_any (same_name name) (xs ++ ys) ≡ false
     none_or [] ys name h k = k
     none_or (y ∷ xs) ys name h k = at (same_name name y) (none_or xs ys name) h

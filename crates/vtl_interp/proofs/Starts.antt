@@ -1,8 +1,7 @@
 -- A typed script can be evaluated from its inputs on.
-use Rattle.std.proofs.Common.{◌≡◌, ℕ, true, List, [], map, Result, Ok, Err, refl, sym, ap, subst, ◌∙◌}
+use Rattle.std.proofs.Common.{◌≡◌, true, List, [], map, refl, sym, ap, subst, ◌∙◌}
 use Rattle.std.specs.Map.{keys_of, lookup}
 use Rattle.vtl_decimal.specs.Settings.{Settings}
-use Rattle.vtl_cell.specs.Outcome.{Fault}
 use Rattle.vtl_rows.specs.Named.{NamedTables}
 use Rattle.vtl_syntax.specs.View.{statement_tree}
 use Rattle.vtl_syntax.specs.declared.statements.Statement.{Statement}
@@ -14,56 +13,42 @@ use Rattle.vtl_tree.specs.Structures.{Named}
 use Rattle.vtl_check.specs.Checked.{IsTyped, TypedScript, nodes_of, tree_of}
 use Rattle.vtl_check.specs.Names.{names_of}
 use Rattle.vtl_meaning.specs.Made.{AreMadeStatements}
-use Rattle.vtl_meaning.specs.Meaning.{Outputs, known_in, meaning}
-use Rattle.vtl_backend.specs.Inputs.{inputs_of}
+use Rattle.vtl_meaning.specs.Meaning.{known_in, meaning}
+use Rattle.vtl_backend.specs.Inputs.{environment_of, inputs_of}
 use Rattle.vtl_backend.specs.Runs.{script_meaning}
 use Rattle.vtl_backend.specs.Statements.{is_script_built, statements_of, with_nodes}
-use Rattle.vtl_interp.specs.Held.{Holdings, environment, outputs_in}
-use Rattle.vtl_interp.specs.Loaded.{IsLoaded}
-use Rattle.vtl_interp.specs.Results.{AreNew, AreReady, behind}
-use Rattle.vtl_interp.proofs.InputsRead.{known_inputs, reads_fewer, reads_same}
-use Rattle.vtl_interp.proofs.Loads.{keys_environment}
+use Rattle.vtl_interp.specs.Results.{AreReady}
+use Rattle.vtl_interp.proofs.InputsRead.{known_inputs, reads_same}
 use Rattle.vtl_interp.proofs.NamesRead.{SameKnown, all_so, statements_made_same}
 use Rattle.vtl_interp.proofs.Scripts.{built_statements, names_statements, new_among_fewer, results_new}
 
-known_loaded : (t : TypedScript) (tables : NamedTables) (known : Holdings) → IsLoaded t tables known → known_in (environment known) ≡ inputs_of t
-known_loaded t tables known l = ap known_in l.held ∙ known_inputs tables (inputs_of t)
+known_loaded : (t : TypedScript) (tables : NamedTables) (env : Environment) → env ≡ environment_of t tables → known_in env ≡ inputs_of t
+known_loaded t tables env loaded = ap known_in loaded ∙ known_inputs tables (inputs_of t)
 
-keys_loaded : (t : TypedScript) (tables : NamedTables) (known : Holdings) → IsLoaded t tables known → keys_of known ≡ keys_of (inputs_of t)
-keys_loaded t tables known l = sym (keys_environment known) ∙ ap keys_of (known_loaded t tables known l)
-
-pub ready_at_start : (t : TypedScript) (tables : NamedTables) (known : Holdings) → IsTyped t → is_script_built t ≡ true → AreMadeStatements t.settings t.declared (statements_of t) → IsLoaded t tables known → AreReady t.settings known (statements_of t)
-ready_at_start t tables known typed built made loaded =
+pub ready_at_start : (t : TypedScript) (tables : NamedTables) (env : Environment) → IsTyped t → is_script_built t ≡ true → AreMadeStatements t.settings t.declared (statements_of t) → env ≡ environment_of t tables → AreReady t.settings env [] (statements_of t)
+ready_at_start t tables env typed built made loaded =
     let ss = statements_of t in
     let all_built = built_statements (tree_of t) (nodes_of t) built in
     let same : SameKnown t.declared (inputs_of t) (names_of (nodes_of t)) =
     all_so (λ name. lookup (same_name name) (inputs_of t) ≡ lookup (same_name name) t.declared) (λ name. lookup (same_name name) t.declared ≡ lookup (same_name name) (inputs_of t)) (λ name e. sym e) (names_of (nodes_of t)) (reads_same t.declared (nodes_of t)) in
     let read = names_statements (λ name. lookup (same_name name) t.declared ≡ lookup (same_name name) (inputs_of t)) (tree_of t) (nodes_of t) same in
     record {
-      made = subst (λ (k : Named). AreMadeStatements t.settings k ss) (sym (known_loaded t tables known loaded)) (statements_made_same t.settings ss t.declared (inputs_of t) all_built read made);
+      made = subst (λ (k : Named). AreMadeStatements t.settings k ss) (sym (known_loaded t tables env loaded)) (statements_made_same t.settings ss t.declared (inputs_of t) all_built read made);
       built = all_built;
-      new_names = subst (λ (l : List (List ℕ)). AreNew l ss) (sym (keys_loaded t tables known loaded)) (new_among_fewer (keys_of (inputs_of t)) (keys_of t.declared) ss (reads_fewer t.declared (nodes_of t)) (results_new t typed));
+      new_names = new_among_fewer [] (keys_of t.declared) ss (λ name h. refl) (results_new t typed);
     }
 
-pub meant_at_start : (t : TypedScript) (tables : NamedTables) (known : Holdings) → IsLoaded t tables known → behind (outputs_in known) (meaning t.settings (statements_of t) (environment known)) ≡ behind [] (script_meaning t tables)
-meant_at_start t tables known loaded =
-    ap (λ l. behind l (meaning t.settings (statements_of t) (environment known))) loaded.unwritten ∙ ap (λ (e : Environment). behind [] (meaning t.settings (statements_of t) e)) loaded.held
-
 -- ---- with the parts as they are handed over
-behind_nothing : (m : Result Outputs (Fault × List ℕ)) → behind [] m ≡ m
-behind_nothing (Ok outputs) = refl
-behind_nothing (Err f) = refl
-
-module _ (t : TypedScript) (tables : NamedTables) (known : Holdings) (p : Settings) (ss : List Statement) (ns : List Node) (settings : p ≡ t.settings) (script : ss ≡ t.script) (nodes : ns ≡ t.nodes) where
-  pub ready_to_run : IsTyped t → is_script_built t ≡ true → AreMadeStatements t.settings t.declared (statements_of t) → IsLoaded t tables known → AreReady p known (with_nodes (map statement_tree ss) (map node_tree ns))
+module _ (t : TypedScript) (tables : NamedTables) (env : Environment) (p : Settings) (ss : List Statement) (ns : List Node) (settings : p ≡ t.settings) (script : ss ≡ t.script) (nodes : ns ≡ t.nodes) where
+  pub ready_to_run : IsTyped t → is_script_built t ≡ true → AreMadeStatements t.settings t.declared (statements_of t) → env ≡ environment_of t tables → AreReady p env [] (with_nodes (map statement_tree ss) (map node_tree ns))
   ready_to_run typed built made loaded =
-      subst (λ (q : Settings). AreReady q known (with_nodes (map statement_tree ss) (map node_tree ns))) (sym settings)
-      (subst (λ (l : List Statement). AreReady t.settings known (with_nodes (map statement_tree l) (map node_tree ns))) (sym script)
-      (subst (λ (l : List Node). AreReady t.settings known (with_nodes (tree_of t) (map node_tree l))) (sym nodes) (ready_at_start t tables known typed built made loaded)))
+      subst (λ (q : Settings). AreReady q env [] (with_nodes (map statement_tree ss) (map node_tree ns))) (sym settings)
+      (subst (λ (l : List Statement). AreReady t.settings env [] (with_nodes (map statement_tree l) (map node_tree ns))) (sym script)
+      (subst (λ (l : List Node). AreReady t.settings env [] (with_nodes (tree_of t) (map node_tree l))) (sym nodes) (ready_at_start t tables env typed built made loaded)))
 
-  pub meant_by_run : IsLoaded t tables known → behind (outputs_in known) (meaning p (with_nodes (map statement_tree ss) (map node_tree ns)) (environment known)) ≡ script_meaning t tables
+  pub meant_by_run : env ≡ environment_of t tables → meaning p (with_nodes (map statement_tree ss) (map node_tree ns)) env ≡ script_meaning t tables
   meant_by_run loaded =
-      ap (λ (q : Settings). behind (outputs_in known) (meaning q (with_nodes (map statement_tree ss) (map node_tree ns)) (environment known))) settings
-      ∙ ap (λ (l : List Statement). behind (outputs_in known) (meaning t.settings (with_nodes (map statement_tree l) (map node_tree ns)) (environment known))) script
-      ∙ ap (λ (l : List Node). behind (outputs_in known) (meaning t.settings (with_nodes (tree_of t) (map node_tree l)) (environment known))) nodes
-      ∙ meant_at_start t tables known loaded ∙ behind_nothing (script_meaning t tables)
+      ap (λ (q : Settings). meaning q (with_nodes (map statement_tree ss) (map node_tree ns)) env) settings
+      ∙ ap (λ (l : List Statement). meaning t.settings (with_nodes (map statement_tree l) (map node_tree ns)) env) script
+      ∙ ap (λ (l : List Node). meaning t.settings (with_nodes (tree_of t) (map node_tree l)) env) nodes
+      ∙ ap (meaning t.settings (statements_of t)) loaded

@@ -1,109 +1,120 @@
--- One statement more: its data set stands behind those that are held.
-use Rattle.std.proofs.Common.{◌≡◌, ℕ, ◌+◌, Bool, true, false, cond, ◌||◌, List, [], ◌∷◌, ◌++◌, map, filter, Option, Some, None, Result, Ok, Err, refl, sym, ap, subst, ◌∙◌, append_assoc}
+-- One statement more: its data set is held, and its table is written.
+use Rattle.std.proofs.Common.{◌≡◌, ℕ, Bool, true, false, cond, List, [], ◌∷◌, ◌++◌, Option, Result, Ok, Err, refl, sym, ap, subst, ◌∙◌, append_assoc}
+use Rattle.std.specs.Prelude.{MatchBool}
 use Rattle.std.specs.List.{list_any}
 use Rattle.std.specs.Map.{keys_of, lookup}
 use Rattle.std.specs.Option.{option_map}
-use Rattle.std.specs.Cmp.Lexicographic.{nat_list_eq_equiv}
 use Rattle.std.proofs.lemmas.Bool.{and_parts}
 use Rattle.std.proofs.lemmas.List.{append-nil, map-append}
 use Rattle.vtl_decimal.specs.Settings.{Settings}
 use Rattle.vtl_cell.specs.Outcome.{Fault, after}
 use Rattle.vtl_cell.specs.Row.{Row}
+use Rattle.vtl_rows.specs.Named.{NamedTables}
+use Rattle.vtl_rows.specs.Tables.{Listed}
 use Rattle.vtl_tree.specs.Environment.{DataSet, Environment, data_of}
 use Rattle.vtl_tree.specs.Structure.{same_name}
-use Rattle.vtl_tree.specs.Structures.{Named}
 use Rattle.vtl_tree.specs.declared.structure.Structure.{Structure}
 use Rattle.vtl_nodes.specs.Trees.{structure_of}
-use Rattle.vtl_meaning.specs.Made.{AreMadeStatements}
 use Rattle.vtl_meaning.specs.Meaning.{Outputs, Statement, data_set_of, is_built, kept_output, known_in, meaning, node_value, stated, with_output}
+use Rattle.vtl_backend.specs.Runs.{ShowAll, ShowMeaning}
+use Rattle.vtl_backend.specs.Tables.{Shows}
 use Rattle.vtl_interp.specs.Evaluated.{Gives}
-use Rattle.vtl_interp.specs.Held.{Holdings, environment, named_data, outputs_in}
-use Rattle.vtl_interp.specs.Results.{AreNew, AreReady, behind, held_as}
-use Rattle.vtl_interp.specs.declared.held.Held.{Held}
-use Rattle.vtl_interp.proofs.Environments.{data_front_or_behind, data_looked, front_or_behind, known_looked}
-use Rattle.vtl_interp.proofs.NamesRead.{SameData, SameKnown, all_each, are_built, meaning_same, names_read, statements_made_same}
+use Rattle.vtl_interp.specs.Results.{AreNew, AreReady, Remain, behind}
+use Rattle.vtl_interp.specs.Written.{IsBehind, IsWritten}
+use Rattle.vtl_interp.proofs.Environments.{data_looked, known_looked}
+use Rattle.vtl_interp.proofs.NamesRead.{SameData, SameKnown, all_so, are_built, meaning_same, names_read, statements_made_same}
+use Rattle.vtl_interp.proofs.Scripts.{new_among_fewer, none_of_each}
 
--- ---- lists of what is held
-pub environment_more : (es : Holdings) (e : List ℕ × Held) → environment (es ++ e ∷ []) ≡ environment es ++ named_data e ∷ []
-environment_more es e = map-append named_data es (e ∷ [])
+-- what a statement leaves of the data sets: those that the statements behind it read
+pub record IsStep (p : Settings) (before now : Environment) (tables more : NamedTables) (s : Statement) (rest : List Statement) : Type 0 where
+  pub made : DataSet
+  pub gives : Gives p before s.node made
+  pub kept : SameData ((s.result, made) ∷ before) now (names_read rest)
+  pub written : IsWritten s.persistent s.result made tables more
 
-pub keys_more : (es : Holdings) (e : List ℕ × Held) → keys_of (es ++ e ∷ []) ≡ keys_of es ++ e.0 ∷ []
-keys_more es e = map-append (λ (x : List ℕ × Held). x.0) es (e ∷ [])
+-- the same data sets have the same structures
+known_same : (e f : Environment) (names : List (List ℕ)) → SameData e f names → SameKnown (known_in e) (known_in f) names
+known_same e f names h =
+    all_so (λ name. data_of name e ≡ data_of name f) (λ name. lookup (same_name name) (known_in e) ≡ lookup (same_name name) (known_in f))
+    (λ name same. known_looked name e ∙ ap (λ (o : Option DataSet). option_map (λ d. d.structure) o) (sym (data_looked name e) ∙ same ∙ data_looked name f) ∙ sym (known_looked name f)) names h
 
-pub outputs_more : (es : Holdings) (e : List ℕ × Held) → outputs_in (es ++ e ∷ []) ≡ outputs_in es ++ outputs_in (e ∷ [])
-outputs_more [] e = refl
-outputs_more (x ∷ xs) e = go x.1.written (outputs_more xs e)
+-- ---- the tables
+-- one more table shows one more output
+shown_more : (ds : Outputs) (tables : NamedTables) (name : List ℕ) (d : DataSet) (t : Listed) → ShowAll ds tables → Shows d t → ShowAll (ds ++ (name, d) ∷ []) (tables ++ (name, t) ∷ [])
+shown_more [] [] name d t h s = (refl, s, tt)
+shown_more [] (y ∷ ys) name d t h s = absurd h
+shown_more (x ∷ xs) [] name d t h s = absurd h
+shown_more (x ∷ xs) (y ∷ ys) name d t h s = (h.0, h.1, shown_more xs ys name d t h.2 s)
+
+-- names that no table has, nor the one that is written
+still_new : (s : Statement) (d : DataSet) (tables more : NamedTables) (rest : List Statement) → IsWritten s.persistent s.result d tables more → AreNew (keys_of tables ++ s.result ∷ []) rest → AreNew (keys_of more) rest
+still_new s d tables more rest w new = go s.persistent w
   where
-    rest : Holdings → Holdings
-    rest l = filter (λ e. e.1.written) l
-
-    go : (b : Bool) → outputs_in (xs ++ e ∷ []) ≡ outputs_in xs ++ outputs_in (e ∷ [])
-        → map named_data (cond b (x ∷ rest (xs ++ e ∷ [])) (rest (xs ++ e ∷ []))) ≡ map named_data (cond b (x ∷ rest xs) (rest xs)) ++ outputs_in (e ∷ [])
-    go true ih = ap (λ l. named_data x ∷ l) ih
-    go false ih = ih
-
-pub data_absent : (name : List ℕ) (es : Holdings) → list_any (same_name name) (keys_of es) ≡ false → data_of name (environment es) ≡ None
-data_absent name [] h = refl
-data_absent name (e ∷ es) h = ap (λ b. cond b (Some e.1.set) (data_of name (environment es))) (nat_list_eq_equiv.symm e.0 name) ∙ go (same_name name e.0) (data_absent name es) h
-  where
-    go : (b : Bool) → (list_any (same_name name) (keys_of es) ≡ false → data_of name (environment es) ≡ None) → (b || list_any (same_name name) (keys_of es)) ≡ false → cond b (Some e.1.set) (data_of name (environment es)) ≡ None
-    go true ih q = cc
-    go false ih q = ih q
-
-known_absent : (name : List ℕ) (es : Holdings) → list_any (same_name name) (keys_of es) ≡ false → lookup (same_name name) (known_in (environment es)) ≡ None
-known_absent name es h =
-    known_looked name (environment es) ∙ ap (λ (o : Option DataSet). option_map (λ d. d.structure) o) (sym (data_looked name (environment es)) ∙ data_absent name es h)
+    go : (b : Bool) → MatchBool b (IsBehind s.result d tables more) (more ≡ tables) → AreNew (keys_of more) rest
+    go true w = subst (λ (l : List (List ℕ)). AreNew l rest) (sym (ap keys_of w.behind ∙ map-append (λ (x : List ℕ × Listed). x.0) tables ((s.result, w.table) ∷ []))) new
+    go false w =
+        new_among_fewer (keys_of more) (keys_of tables ++ s.result ∷ []) rest
+        (λ name h. ap (λ (l : NamedTables). list_any (same_name name) (keys_of l)) w ∙ (none_of_each (keys_of tables) (s.result ∷ []) name h).0) new
 
 -- ---- the meaning
-behind_kept : (front : Outputs) (s : Statement) (d : DataSet) (m : Result Outputs (Fault × List ℕ)) → behind front (kept_output s d m) ≡ behind (front ++ outputs_in (held_as s d ∷ [])) m
-behind_kept front s d m = go s.persistent m
-  where
-    go : (b : Bool) (m : Result Outputs (Fault × List ℕ)) → behind front (cond b (with_output s.result d m) m) ≡ behind (front ++ map named_data (cond b (held_as s d ∷ []) [])) m
-    go true (Ok out) = ap Ok (sym (append_assoc front ((s.result, d) ∷ []) out))
-    go true (Err f) = refl
-    go false (Ok out) = ap (λ l. Ok (l ++ out)) (sym (append-nil front))
-    go false (Err f) = refl
+behind_more : (front : Outputs) (name : List ℕ) (d : DataSet) (m : Result Outputs (Fault × List ℕ)) → behind (front ++ (name, d) ∷ []) m ≡ behind front (with_output name d m)
+behind_more front name d (Ok out) = ap Ok (append_assoc front ((name, d) ∷ []) out)
+behind_more front name d (Err f) = refl
 
 -- the data set that a statement gives is its value
-pub given : (p : Settings) (env : Environment) (s : Statement) (d : DataSet) → Gives p env s.node d → data_set_of p env s.node ≡ Ok d
+given : (p : Settings) (env : Environment) (s : Statement) (d : DataSet) → Gives p env s.node d → data_set_of p env s.node ≡ Ok d
 given p env s d g =
     ap (λ (r : Result (List Row) Fault). after r (λ points. Ok (record { structure = structure_of s.node; points = points }))) g.points
     ∙ ap (λ (t : Structure). Ok (record { structure = t; points = d.points })) (sym g.structure)
 
-pub meaning_step : (p : Settings) (es : Holdings) (s : Statement) (rest : List Statement) (d : DataSet) → list_any (same_name s.result) (keys_of es) ≡ false → Gives p (environment es) s.node d
-    → behind (outputs_in es) (meaning p (s ∷ rest) (environment es)) ≡ behind (outputs_in (es ++ held_as s d ∷ [])) (meaning p rest (environment (es ++ held_as s d ∷ [])))
-meaning_step p es s rest d new g =
-    let env = environment es in
-    let same : SameData ((s.result, d) ∷ env) (env ++ (s.result, d) ∷ []) (names_read rest) = all_each (λ name. data_of name ((s.result, d) ∷ env) ≡ data_of name (env ++ (s.result, d) ∷ [])) (data_front_or_behind env s.result d (data_absent s.result es new)) (names_read rest) in
-    ap (λ (o : Result DataSet Fault). behind (outputs_in es) (stated s o (λ x. meaning p rest ((s.result, x) ∷ env)))) (given p env s d g)
-    ∙ ap (λ m. behind (outputs_in es) (kept_output s d m)) (meaning_same p rest ((s.result, d) ∷ env) (env ++ (s.result, d) ∷ []) same)
-    ∙ behind_kept (outputs_in es) s d (meaning p rest (env ++ (s.result, d) ∷ []))
-    ∙ ap (λ l. behind l (meaning p rest (env ++ (s.result, d) ∷ []))) (sym (outputs_more es (held_as s d)))
-    ∙ ap (λ (f : Environment). behind (outputs_in (es ++ held_as s d ∷ [])) (meaning p rest f)) (sym (environment_more es (held_as s d)))
+pub meaning_step : (p : Settings) (before now : Environment) (tables more : NamedTables) (s : Statement) (rest : List Statement) (whole : Result Outputs (Fault × List ℕ)) → IsStep p before now tables more s rest
+    → Remain whole (meaning p (s ∷ rest) before) tables → Remain whole (meaning p rest now) more
+meaning_step p before now tables more s rest whole step r = go s.persistent step.written (ap (behind r.front) (sym value) ∙ r.whole)
+  where
+    d : DataSet
+    d = step.made
 
-pub meaning_stops : (p : Settings) (es : Holdings) (s : Statement) (rest : List Statement) (f : Fault) → node_value p (environment es) s.node ≡ Err f
-    → behind (outputs_in es) (meaning p (s ∷ rest) (environment es)) ≡ Err (f, s.result)
-meaning_stops p es s rest f e =
-    ap (λ (r : Result (List Row) Fault). behind (outputs_in es) (stated s (after r (λ points. Ok (record { structure = structure_of s.node; points = points }))) (λ x. meaning p rest ((s.result, x) ∷ environment es)))) e
+    value : meaning p (s ∷ rest) before ≡ kept_output s d (meaning p rest now)
+    value =
+        ap (λ (o : Result DataSet Fault). stated s o (λ x. meaning p rest ((s.result, x) ∷ before))) (given p before s d step.gives)
+        ∙ ap (kept_output s d) (meaning_same p rest ((s.result, d) ∷ before) now step.kept)
 
-pub meaning_ends : (p : Settings) (es : Holdings) → behind (outputs_in es) (meaning p [] (environment es)) ≡ Ok (outputs_in es)
-meaning_ends p es = ap Ok (append-nil (outputs_in es))
+    go : (b : Bool) → MatchBool b (IsBehind s.result d tables more) (more ≡ tables) → behind r.front (cond b (with_output s.result d (meaning p rest now)) (meaning p rest now)) ≡ whole → Remain whole (meaning p rest now) more
+    go true w h =
+        record {
+          front = r.front ++ (s.result, d) ∷ [];
+          shows = subst (ShowAll (r.front ++ (s.result, d) ∷ [])) (sym w.behind) (shown_more r.front tables s.result d w.table r.shows w.shows);
+          whole = behind_more r.front s.result d (meaning p rest now) ∙ h;
+        }
+    go false w h = record { front = r.front; shows = subst (ShowAll r.front) (sym w) r.shows; whole = h }
+
+pub meaning_stops : (p : Settings) (env : Environment) (tables : NamedTables) (s : Statement) (rest : List Statement) (whole : Result Outputs (Fault × List ℕ)) (f : Fault) → node_value p env s.node ≡ Err f
+    → Remain whole (meaning p (s ∷ rest) env) tables → whole ≡ Err (f, s.result)
+meaning_stops p env tables s rest whole f e r =
+    sym r.whole
+    ∙ ap (λ (v : Result (List Row) Fault). behind r.front (stated s (after v (λ points. Ok (record { structure = structure_of s.node; points = points }))) (λ x. meaning p rest ((s.result, x) ∷ env)))) e
+
+behind_nothing : (m : Result Outputs (Fault × List ℕ)) → behind [] m ≡ m
+behind_nothing (Ok outputs) = refl
+behind_nothing (Err f) = refl
+
+pub meaning_begins : (m : Result Outputs (Fault × List ℕ)) (tables : NamedTables) → tables ≡ [] → Remain m m tables
+meaning_begins m tables none = record { front = []; shows = subst (ShowAll []) (sym none) tt; whole = behind_nothing m }
+
+pub meaning_ends : (whole rest : Result Outputs (Fault × List ℕ)) (tables : NamedTables) → rest ≡ Ok [] → Remain whole rest tables → ShowMeaning whole tables
+meaning_ends whole rest tables none r =
+    let all : behind r.front (Ok []) ≡ whole = sym (ap (behind r.front) none) ∙ r.whole in
+    subst (λ m. ShowMeaning m tables) all (subst (λ (l : Outputs). ShowAll l tables) (sym (append-nil r.front)) r.shows)
 
 -- ---- what is needed
-pub ready_step : (p : Settings) (es : Holdings) (s : Statement) (rest : List Statement) (d : DataSet) → AreReady p es (s ∷ rest) → Gives p (environment es) s.node d → AreReady p (es ++ held_as s d ∷ []) rest
-ready_step p es s rest d ready g =
-    let env = environment es in
-    let t = structure_of s.node in
-    let k : Named = known_in env in
+pub ready_step : (p : Settings) (before now : Environment) (tables more : NamedTables) (s : Statement) (rest : List Statement) → IsStep p before now tables more s rest → AreReady p before (keys_of tables) (s ∷ rest) → AreReady p now (keys_of more) rest
+ready_step p before now tables more s rest step ready =
     let built = and_parts (is_built s.node) (are_built rest) ready.built in
-    let none = known_absent s.result es ready.new_names.0 in
-    let same : SameKnown ((s.result, t) ∷ k) (k ++ (s.result, t) ∷ []) (names_read rest) = all_each (λ name. lookup (same_name name) ((s.result, t) ∷ k) ≡ lookup (same_name name) (k ++ (s.result, t) ∷ [])) (front_or_behind k s.result t none) (names_read rest) in
-    let known : k ++ (s.result, t) ∷ [] ≡ known_in (environment (es ++ held_as s d ∷ [])) =
-    ap (λ (u : Structure). k ++ (s.result, u) ∷ []) (sym g.structure)
-    ∙ sym (map-append (λ (x : List ℕ × DataSet). (x.0, x.1.structure)) env ((s.result, d) ∷ []))
-    ∙ ap known_in (sym (environment_more es (held_as s d))) in
+    let same : SameKnown ((s.result, structure_of s.node) ∷ known_in before) (known_in now) (names_read rest) =
+    subst (λ (u : Structure). SameKnown ((s.result, u) ∷ known_in before) (known_in now) (names_read rest)) step.gives.structure
+    (known_same ((s.result, step.made) ∷ before) now (names_read rest) step.kept) in
     record {
-      made = subst (λ (l : Named). AreMadeStatements p l rest) known (statements_made_same p rest ((s.result, t) ∷ k) (k ++ (s.result, t) ∷ []) built.1 same ready.made.1);
+      made = statements_made_same p rest ((s.result, structure_of s.node) ∷ known_in before) (known_in now) built.1 same ready.made.1;
       built = built.1;
-      new_names = subst (λ (l : List (List ℕ)). AreNew l rest) (sym (keys_more es (held_as s d))) ready.new_names.1;
+      new_names = still_new s step.made tables more rest step.written ready.new_names.1;
     }

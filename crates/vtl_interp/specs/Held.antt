@@ -1,18 +1,7 @@
 -- The data sets that a run holds.
-use Rattle.std.specs.Prelude.{ℕ, List, map, filter}
-use Rattle.vtl_tree.specs.Environment.{DataSet, Environment}
-use Rattle.vtl_meaning.specs.Meaning.{Outputs}
-use Rattle.vtl_interp.specs.declared.held.Held.{Held}
+use Rattle.std.specs.Prelude.{◌≡◌, ℕ, List}
+use Rattle.vtl_tree.specs.Environment.{Environment, data_of}
 
-abbrev pub Holdings : Type 0
-Holdings = List (List ℕ × Held)
-
-abbrev pub named_data : List ℕ × Held → List ℕ × DataSet
-named_data e = (e.0, e.1.set)
-
-abbrev pub environment : Holdings → Environment
-environment known = map named_data known
-
--- those that are written, in order
-abbrev pub outputs_in : Holdings → Outputs
-outputs_in known = map named_data (filter (λ e. e.1.written) known)
+-- the same data set, or none, under each name
+abbrev pub HoldSame : Environment → Environment → Type 0
+HoldSame e f = (name : List ℕ) → data_of name e ≡ data_of name f

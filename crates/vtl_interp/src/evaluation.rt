@@ -4,7 +4,6 @@ ghost use Rattle.vtl_nodes.specs.View.{node_tree};
 ghost use Rattle.vtl_meaning.specs.Made.{IsMade};
 ghost use Rattle.vtl_meaning.specs.Meaning.{is_built, known_in};
 ghost use Rattle.vtl_interp.specs.Evaluated.{Evaluates};
-ghost use Rattle.vtl_interp.specs.Held.{environment};
 ghost use Rattle.vtl_interp.specs.Values.{value_view};
 
 use crate::held::Known;
@@ -23,14 +22,14 @@ pub fn evaluate<'a>(
     node: &Node,
     p: &Profile,
 ) -> Result<Value<'a>, ScalarErr>
-    requires made { IsMade p.now (known_in (environment known.now.entries)) (node_tree node.now) }
+    requires made { IsMade p.now (known_in known.now.entries) (node_tree node.now) }
     requires built { is_built (node_tree node.now) ≡ true }
-    ensures { Evaluates value_view p.now (environment known.now.entries) (node_tree node.now) result }
+    ensures { Evaluates value_view p.now known.now.entries (node_tree node.now) result }
 {
     let made = &node.structure;
     match &node.form {
         NodeForm::Named(name) => match known.get(name) {
-            Some(held) => Ok(Value::Lent(&held.set)),
+            Some(set) => Ok(Value::Lent(set)),
             None => unreachable!(),
         },
         NodeForm::Measures { op, a } => measures(alloc, op, evaluate(alloc, known, a, p)?, made, p),

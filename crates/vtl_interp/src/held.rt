@@ -1,14 +1,15 @@
-// The data sets that a run holds.
+// What a run holds.
 use indexmap::IndexMap;
 use vtl_expr::DataSet;
+use vtl_rows::Outputs;
 use vtl_text::Txt;
 
-/// A data set, and whether it is written.
+/// The data sets that statements to come read, inputs and results so far, by name.
+pub type Known = IndexMap<Txt, DataSet>;
+
+/// The data sets that a run holds, and the tables of the results so far that are written.
 #[derive(Drop)]
 pub struct Held {
-    pub set: DataSet,
-    pub written: bool,
+    pub known: Known,
+    pub outputs: Outputs,
 }
-
-/// The inputs and the results so far, by name.
-pub type Known = IndexMap<Txt, Held>;

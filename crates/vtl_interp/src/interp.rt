@@ -3,11 +3,9 @@ ghost use Rattle.std.specs.Prelude.{◌≡◌, true};
 ghost use Rattle.vtl_backend.specs.Inputs.{AreInputs};
 ghost use Rattle.vtl_backend.specs.Runs.{script_meaning};
 ghost use Rattle.vtl_backend.specs.Statements.{is_script_built};
-ghost use Rattle.vtl_interp.specs.Results.{RunsTo, ShownBy};
+ghost use Rattle.vtl_interp.specs.Results.{ShownBy};
 
-use crate::held::Known;
 use crate::inputs::load;
-use crate::outputs::outputs_of;
 use crate::statements::run_statements;
 use std::alloc::Global;
 use vtl_backend::{Backend, RunErr};
@@ -18,11 +16,11 @@ use vtl_rows::{Inputs, Outputs};
 #[derive(Drop)]
 pub struct Interp;
 
-// The inputs and the results of a script.
-fn all_results(alloc: Global, script: &Checked, inputs: &Inputs) -> Result<Known, RunErr>
+// The outputs of a script.
+fn script_outputs(alloc: Global, script: &Checked, inputs: &Inputs) -> Result<Outputs, RunErr>
     requires inputs { AreInputs script.now inputs.now }
     requires built { is_script_built script.now ≡ true }
-    ensures { RunsTo (λ k. k.entries) (script_meaning script.now inputs.now) result }
+    ensures { ShownBy (script_meaning script.now inputs.now) result }
 {
     let known = load(alloc, script, inputs)?;
     run_statements(
@@ -32,16 +30,6 @@ fn all_results(alloc: Global, script: &Checked, inputs: &Inputs) -> Result<Known
         script.nodes(),
         script.profile(),
     )
-}
-
-// The outputs of a script.
-fn script_outputs(alloc: Global, script: &Checked, inputs: &Inputs) -> Result<Outputs, RunErr>
-    requires inputs { AreInputs script.now inputs.now }
-    requires built { is_script_built script.now ≡ true }
-    ensures { ShownBy (script_meaning script.now inputs.now) result }
-{
-    let known = all_results(alloc, script, inputs)?;
-    Ok(outputs_of(alloc, known)?)
 }
 
 impl Backend for Interp {

@@ -5,8 +5,8 @@ mod evaluation;
 mod held;
 mod inputs;
 mod interp;
+mod last_reads;
 mod operators;
-mod outputs;
 mod statements;
 mod value;
 

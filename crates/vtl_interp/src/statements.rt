@@ -1,54 +1,65 @@
 // The statements, one after the other.
-ghost use Rattle.std.specs.Prelude.{◌≡◌, ◌++◌, ◌∷◌, [], false, true, length, map, OnOk};
-ghost use Rattle.std.specs.List.{list_any};
-ghost use Rattle.std.specs.Map.{keys_of};
+ghost use Rattle.std.specs.Prelude.{◌≡◌, ◌+◌, ◌∷◌, [], ℕ, List, None, false, true, length, map, OnOk};
 ghost use Rattle.vtl_syntax.specs.View.{statement_tree};
-ghost use Rattle.vtl_tree.specs.Structure.{same_name};
+ghost use Rattle.vtl_tree.specs.Environment.{data_of};
 ghost use Rattle.vtl_nodes.specs.View.{node_tree};
 ghost use Rattle.vtl_meaning.specs.Made.{IsMade};
 ghost use Rattle.vtl_meaning.specs.Meaning.{is_built, known_in, meaning};
 ghost use Rattle.vtl_check.specs.Script.{has_definitions};
+ghost use Rattle.vtl_rows.specs.Named.{table_of};
 ghost use Rattle.vtl_backend.specs.Statements.{is_written, with_nodes};
 ghost use Rattle.vtl_interp.specs.Evaluated.{Evaluates};
-ghost use Rattle.vtl_interp.specs.Held.{environment, outputs_in};
-ghost use Rattle.vtl_interp.specs.Results.{Adds, AreReady, Faults, RunsTo, behind, result_named};
+ghost use Rattle.vtl_interp.specs.Held.{HoldSame};
+ghost use Rattle.vtl_interp.specs.Reads.{AreRead, IsReadFrom};
+ghost use Rattle.vtl_interp.specs.Results.{Adds, AreReady, Faults, ShownBy, result_named};
+ghost use Rattle.vtl_interp.specs.Written.{IsWritten};
 
 use crate::evaluation::evaluate;
 use crate::held::{Held, Known};
+use crate::last_reads::{LastReads, last_reads, let_go};
 use std::alloc::{AllocError, Global};
+use std::slice;
 use vtl_backend::RunErr;
+use vtl_check::read_names;
 use vtl_decimal::Profile;
 use vtl_expr::DataSet;
 use vtl_nodes::Node;
+use vtl_rows::Outputs;
 use vtl_scalar::ScalarErr;
 use vtl_syntax::{AssignKind, Statement};
 use vtl_text::Txt;
 
 // The data set of an expression for oneself.
 fn result_of(alloc: Global, known: &Known, node: &Node, p: &Profile) -> Result<DataSet, ScalarErr>
-    requires made { IsMade p.now (known_in (environment known.now.entries)) (node_tree node.now) }
+    requires made { IsMade p.now (known_in known.now.entries) (node_tree node.now) }
     requires built { is_built (node_tree node.now) ≡ true }
-    ensures { Evaluates (λ d. d) p.now (environment known.now.entries) (node_tree node.now) result }
+    ensures { Evaluates (λ d. d) p.now known.now.entries (node_tree node.now) result }
 {
     let value = evaluate(alloc, known, node, p)?;
     Ok(value.into_data(alloc)?)
 }
 
-fn is_written(kind: AssignKind) -> bool
-    ensures { result ≡ is_written kind }
+// Puts the table of a result behind the others, where it is written.
+fn write(
+    outputs: &mut Outputs,
+    name: &Txt,
+    kind: AssignKind,
+    made: &DataSet,
+) -> Result<(), AllocError>
+    requires { table_of name.now outputs.old ≡ None }
+    ensures { OnOk result (IsWritten (is_written kind) name.now made.now outputs.old outputs.new) }
 {
     match kind {
-        AssignKind::Persistent => true,
-        AssignKind::Temporary => false,
+        AssignKind::Persistent => outputs.put_shared(name.share()?, made.share_table()?),
+        AssignKind::Temporary => Ok(()),
     }
 }
 
-/// Puts a data set behind the others, under a name that none has yet. It fails only for want of memory.
-pub fn put(known: &mut Known, name: &Txt, made: DataSet, written: bool) -> Result<(), AllocError>
-    requires { list_any (same_name name.now) (keys_of known.old.entries) ≡ false }
-    ensures { OnOk result (known.new.entries ≡ known.old.entries ++ (name.now, record { set = made; written = written }) ∷ []) }
+// Holds a data set under a name.
+fn hold(known: &mut Known, name: &Txt, made: DataSet) -> Result<(), AllocError>
+    ensures { OnOk result (HoldSame known.new.entries ((name.now, made) ∷ known.old.entries)) }
 {
-    known.insert(name.share()?, Held { set: made, written })?;
+    known.insert(name.share()?, made)?;
     Ok(())
 }
 
@@ -63,46 +74,97 @@ fn fault(name: &Txt, error: ScalarErr) -> RunErr
     }
 }
 
-// Puts the data set of a statement behind the others.
+// Holds the data set of a statement with the others, and puts its table behind the others where it is written.
 fn add_result(
     alloc: Global,
-    known: &mut Known,
+    held: &mut Held,
     name: &Txt,
     kind: AssignKind,
     node: &Node,
     p: &Profile,
 ) -> Result<(), RunErr>
-    requires made { IsMade p.now (known_in (environment known.old.entries)) (node_tree node.now) }
+    requires made { IsMade p.now (known_in held.old.known.entries) (node_tree node.now) }
     requires built { is_built (node_tree node.now) ≡ true }
-    requires new_name { list_any (same_name name.now) (keys_of known.old.entries) ≡ false }
-    ensures { Adds p.now known.old.entries known.new.entries (result_named name.now kind (node_tree node.now)) result }
+    requires new_name { table_of name.now held.old.outputs ≡ None }
+    ensures { Adds p.now held.old held.new (result_named name.now kind (node_tree node.now)) result }
 {
-    match result_of(alloc, known, node, p) {
-        Ok(data) => Ok(put(known, name, data, is_written(kind))?),
+    match result_of(alloc, &held.known, node, p) {
+        Ok(made) => {
+            write(&mut held.outputs, name, kind, &made)?;
+            hold(&mut held.known, name, made)?;
+            Ok(())
+        }
         Err(error) => Err(fault(name, error)),
     }
 }
 
-/// The data sets with the results of statements behind them, or the first fault. Each expression is made over what is held then.
-pub fn run_statements(
+// Lets go of what a statement made and read, where no statement behind it reads it.
+fn let_go_behind(
     alloc: Global,
-    mut known: Known,
+    known: &mut Known,
+    last: &LastReads,
+    i: usize,
+    name: &Txt,
+    node: &Node,
+) -> Result<(), AllocError>
+    ensures { OnOk result ((other : List ℕ) → IsReadFrom (i + 1) last.now.entries other → data_of other known.new.entries ≡ data_of other known.old.entries) }
+{
+    let_go(known, last, i, slice::from_ref(name));
+    let_go(
+        known,
+        last,
+        i,
+        read_names(alloc, slice::from_ref(node))?.as_slice(),
+    );
+    Ok(())
+}
+
+// The tables of the results that are written, or the first fault. Of the data sets that are held, those are let go that no
+// statement to come reads.
+fn run_each(
+    alloc: Global,
+    known: Known,
+    last: &LastReads,
     statements: &[Statement],
     nodes: &[Node],
     p: &Profile,
-) -> Result<Known, RunErr>
+) -> Result<Outputs, RunErr>
     requires many { length nodes.now ≡ length statements.now }
     requires plain { has_definitions (map statement_tree statements.now) ≡ false }
-    requires ready { AreReady p.now known.entries (with_nodes (map statement_tree statements.now) (map node_tree nodes.now)) }
-    ensures { RunsTo (λ k. k.entries) (behind (outputs_in known.entries) (meaning p.now (with_nodes (map statement_tree statements.now) (map node_tree nodes.now)) (environment known.entries))) result }
+    requires reads { AreRead last.now.entries 0 (map node_tree nodes.now) }
+    requires ready { AreReady p.now known.entries [] (with_nodes (map statement_tree statements.now) (map node_tree nodes.now)) }
+    ensures { ShownBy (meaning p.now (with_nodes (map statement_tree statements.now) (map node_tree nodes.now)) known.entries) result }
 {
+    let mut held = Held {
+        known,
+        outputs: Outputs::new(alloc),
+    };
     for i in 0..statements.len() {
         match &statements[i] {
             Statement::Assignment { name, kind, .. } => {
-                add_result(alloc, &mut known, name, *kind, &nodes[i], p)?;
+                add_result(alloc, &mut held, name, *kind, &nodes[i], p)?;
+                let_go_behind(alloc, &mut held.known, last, i, name, &nodes[i])?;
             }
             _ => unreachable!(),
         }
     }
-    Ok(known)
+    Ok(held.outputs)
+}
+
+/// The tables of the results that are written, or the first fault. Each expression is made over what is held then: the
+/// data sets that are given and the results so far, as long as a statement to come reads them.
+pub fn run_statements(
+    alloc: Global,
+    known: Known,
+    statements: &[Statement],
+    nodes: &[Node],
+    p: &Profile,
+) -> Result<Outputs, RunErr>
+    requires many { length nodes.now ≡ length statements.now }
+    requires plain { has_definitions (map statement_tree statements.now) ≡ false }
+    requires ready { AreReady p.now known.entries [] (with_nodes (map statement_tree statements.now) (map node_tree nodes.now)) }
+    ensures { ShownBy (meaning p.now (with_nodes (map statement_tree statements.now) (map node_tree nodes.now)) known.entries) result }
+{
+    let last = last_reads(alloc, nodes)?;
+    run_each(alloc, known, &last, statements, nodes, p)
 }

@@ -6,7 +6,6 @@ use Rattle.vtl_nodes.specs.declared.nodes.NodeForm.TheVariants as form
 use Rattle.vtl_meaning.specs.Operators.{calculated_of, left_of, measured_of, pair_of, sub_of}
 use Rattle.vtl_expr.specs.DataSets.{data_set, with_structure}
 use Rattle.vtl_interp.specs.Evaluated.{Gives}
-use Rattle.vtl_interp.specs.Held.{environment}
 use Rattle.vtl_interp.specs.Values.{value_view}
 use Rattle.vtl_interp.proofs.NodesEvaluated.{form_tree-Calc, form_tree-DropNamed, form_tree-Keep, form_tree-Measures, form_tree-Member, form_tree-Pair, form_tree-Sub, name_gives, name_is_held, one_operand, two_operands}
 use Rattle.vtl_interp.proofs.evaluation.+evaluate.Goals as goal
@@ -15,11 +14,11 @@ pub unreachable-requires : goal.unreachable-requires
 unreachable-requires t c = name_is_held c.args.p.now c.args.known.now.entries c.args.node.now c.in-Named.name c.in-Named.is c.requires.made (sym c.in-None.ensures.value)
 
 pub returns-in-Some : goal.returns-in-Some
-returns-in-Some t c = name_gives c.args.p.now c.args.known.now.entries c.args.node.now c.in-Named.name c.in-Some.held.now c.in-Named.is c.requires.made (sym c.in-Some.ensures.value)
+returns-in-Some t c = name_gives c.args.p.now c.args.known.now.entries c.args.node.now c.in-Named.name c.in-Some.set.now c.in-Named.is c.requires.made (sym c.in-Some.ensures.value)
 
 pub returns-in_ok-evaluate-in-Measures : goal.returns-in_ok-evaluate-in-Measures
 returns-in_ok-evaluate-in-Measures t c =
-    let env = environment c.args.known.now.entries in
+    let env = c.args.known.now.entries in
     let s = c.args.node.now.structure in
     let a = node_tree c.in-Measures.a.value in
     let v = value_view c.in_ok-evaluate-in-Measures.field-0 in
@@ -29,7 +28,7 @@ returns-in_ok-evaluate-in-Measures t c =
 
 pub returns-in_ok-right-in-Pair : goal.returns-in_ok-right-in-Pair
 returns-in_ok-right-in-Pair t c =
-    let env = environment c.args.known.now.entries in
+    let env = c.args.known.now.entries in
     let a = node_tree c.in-Pair.a.value in
     let b = node_tree c.in-Pair.b.value in
     let v = value_view c.in_ok-left-in-Pair.left in
@@ -41,7 +40,7 @@ returns-in_ok-right-in-Pair t c =
 
 pub returns-in_ok-evaluate-in-Calc : goal.returns-in_ok-evaluate-in-Calc
 returns-in_ok-evaluate-in-Calc t c =
-    let env = environment c.args.known.now.entries in
+    let env = c.args.known.now.entries in
     let s = c.args.node.now.structure in
     let a = node_tree c.in-Calc.a.value in
     let v = value_view c.in_ok-evaluate-in-Calc.field-0 in
@@ -51,7 +50,7 @@ returns-in_ok-evaluate-in-Calc t c =
 
 pub returns-in_ok-evaluate-in-Sub : goal.returns-in_ok-evaluate-in-Sub
 returns-in_ok-evaluate-in-Sub t c =
-    let env = environment c.args.known.now.entries in
+    let env = c.args.known.now.entries in
     let s = c.args.node.now.structure in
     let a = node_tree c.in-Sub.a.value in
     let v = value_view c.in_ok-evaluate-in-Sub.field-0 in
@@ -61,7 +60,7 @@ returns-in_ok-evaluate-in-Sub t c =
 
 pub returns-in_ok-evaluate-in-Member : goal.returns-in_ok-evaluate-in-Member
 returns-in_ok-evaluate-in-Member t c =
-    let env = environment c.args.known.now.entries in
+    let env = c.args.known.now.entries in
     let s = c.args.node.now.structure in
     let a = node_tree c.in-Member.a.value in
     let v = value_view c.in_ok-evaluate-in-Member.field-0 in
@@ -71,7 +70,7 @@ returns-in_ok-evaluate-in-Member t c =
 
 pub returns-in_ok-evaluate-in-Keep : goal.returns-in_ok-evaluate-in-Keep
 returns-in_ok-evaluate-in-Keep t c =
-    let env = environment c.args.known.now.entries in
+    let env = c.args.known.now.entries in
     let s = c.args.node.now.structure in
     let a = node_tree c.in-Keep.a.value in
     let v = value_view c.in_ok-evaluate-in-Keep.field-0 in
@@ -81,7 +80,7 @@ returns-in_ok-evaluate-in-Keep t c =
 
 pub returns-in_ok-evaluate-in-DropNamed : goal.returns-in_ok-evaluate-in-DropNamed
 returns-in_ok-evaluate-in-DropNamed t c =
-    let env = environment c.args.known.now.entries in
+    let env = c.args.known.now.entries in
     let s = c.args.node.now.structure in
     let a = node_tree c.in-DropNamed.a.value in
     let v = value_view c.in_ok-evaluate-in-DropNamed.field-0 in

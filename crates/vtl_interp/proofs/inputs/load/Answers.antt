@@ -1,4 +1,4 @@
-use Rattle.vtl_interp.proofs.Loads.{fresh_input, held_more, is_input, read_at, unwritten_more}
+use Rattle.vtl_interp.proofs.Loads.{fresh_input, held_more, is_input, read_at}
 use Rattle.vtl_interp.proofs.inputs.load.Goals as goal
 
 pub input-requires : goal.input-requires
@@ -8,13 +8,10 @@ input-requires c =
 
 pub put-requires : goal.put-requires
 put-requires c =
-    fresh_input c.args.script.now c.args.inputs.now c.loop-name.known.entries c.inputs-name-items.result.now c.loop-name.name-index c.name-item.result c.loop-name.invariant.held c.inputs-name-items.ensures c.loop-name-test.true c.name-item.is
+    fresh_input c.args.script.now c.args.inputs.now c.loop-name.known.entries c.inputs-name-items.result.now c.loop-name.name-index c.name-item.result c.loop-name.invariant c.inputs-name-items.ensures c.loop-name-test.true c.name-item.is
 
 pub loop-name-preserved : goal.loop-name-preserved
 loop-name-preserved c =
-    record {
-      held = held_more c.args.script.now c.args.inputs.now c.loop-name.known.entries c.put.new.known.entries c.loop-name.name-index c.name-item.result c.in_ok-set.set
-          (read_at c.args.script.now c.inputs-name-items.result.now c.loop-name.name-index c.name-item.result c.inputs-name-items.ensures c.loop-name-test.true c.name-item.is)
-          c.loop-name.invariant.held c.in_ok-set.ensures.structure c.in_ok-set.ensures.points c.in_ok-put.ensures;
-      unwritten = unwritten_more c.loop-name.known.entries c.put.new.known.entries c.name-item.result c.in_ok-set.set c.loop-name.invariant.unwritten c.in_ok-put.ensures;
-    }
+    held_more c.args.script.now c.args.inputs.now c.loop-name.known.entries c.put.new.known.entries c.loop-name.name-index c.name-item.result c.in_ok-set.set
+    (read_at c.args.script.now c.inputs-name-items.result.now c.loop-name.name-index c.name-item.result c.inputs-name-items.ensures c.loop-name-test.true c.name-item.is)
+    c.loop-name.invariant c.in_ok-set.ensures.structure c.in_ok-set.ensures.points c.in_ok-put.ensures

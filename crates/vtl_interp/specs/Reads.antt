@@ -1,0 +1,25 @@
+-- The last statement that reads each name.
+use Rattle.std.specs.Prelude.{ℕ, ◌+◌, ◌≤◌, List, [], ◌∷◌, Option, None, Some}
+use Rattle.std.specs.List.{AllByRecursion}
+use Rattle.std.specs.Map.{lookup}
+use Rattle.vtl_tree.specs.Structure.{same_name}
+use Rattle.vtl_nodes.specs.Trees.{NodeTree}
+use Rattle.vtl_check.specs.Names.{names_in}
+
+-- names, each with the place of the last statement that reads it
+abbrev pub LastPlaces : Type 0
+LastPlaces = List (List ℕ × ℕ)
+
+-- there is a place, and it is this one or a later one
+abbrev pub IsFrom : ℕ → Option ℕ → Type 0
+IsFrom i None = ⊥
+IsFrom i (Some place) = i ≤ place
+
+-- a statement at this place or a later one reads the name
+abbrev pub IsReadFrom : ℕ → LastPlaces → List ℕ → Type 0
+IsReadFrom i last name = IsFrom i (lookup (same_name name) last)
+
+-- each name of the expressions of statements from a place on is read where it stands, or later
+abbrev pub AreRead : LastPlaces → ℕ → List NodeTree → Type 0
+AreRead last i [] = Unit {0}
+AreRead last i (n ∷ ns) = AllByRecursion (IsReadFrom i last) (names_in n) × AreRead last (i + 1) ns

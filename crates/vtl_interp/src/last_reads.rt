@@ -1,0 +1,73 @@
+// Data sets are let go behind the last statement that reads them.
+ghost use Rattle.std.specs.Prelude.{◌≡◌, ◌≤◌, ◌+◌, ℕ, List, map, None, IfOk, OnOk};
+ghost use Rattle.std.specs.Bool.{OnTrue, OnFalse};
+ghost use Rattle.std.specs.List.{AllByRecursion};
+ghost use Rattle.vtl_tree.specs.Environment.{data_of};
+ghost use Rattle.vtl_nodes.specs.View.{node_tree};
+ghost use Rattle.vtl_check.specs.Names.{names_in};
+ghost use Rattle.vtl_interp.specs.Reads.{AreRead, IsReadFrom};
+
+use crate::held::Known;
+use indexmap::IndexMap;
+use std::alloc::{AllocError, Global};
+use std::slice;
+use vtl_check::read_names;
+use vtl_nodes::Node;
+use vtl_text::Txt;
+
+/// For each name that statements read, the place of the last one that reads it.
+pub type LastReads = IndexMap<Txt, usize>;
+
+// Notes the names that the expression of a statement reads. Those that are noted so far are read at no later place.
+fn note_reads(alloc: Global, last: &mut LastReads, node: &Node, i: usize) -> Result<(), AllocError>
+    ensures new { OnOk result (AllByRecursion (IsReadFrom i last.new.entries) (names_in (node_tree node.now))) }
+    ensures old { OnOk result ((j : ℕ) (name : List ℕ) → j ≤ i → IsReadFrom j last.old.entries name → IsReadFrom j last.new.entries name) }
+{
+    let names = read_names(alloc, slice::from_ref(node))?;
+    for name in names.as_slice() {
+        last.insert(name.share()?, i)?;
+    }
+    Ok(())
+}
+
+/// The last statement that reads each name, from the expressions of all statements. It fails only for want of memory.
+pub fn last_reads(alloc: Global, nodes: &[Node]) -> Result<LastReads, AllocError>
+    ensures { IfOk result (λ last. AreRead last.entries 0 (map node_tree nodes.now)) }
+{
+    let mut last = LastReads::new(alloc);
+    for i in 0..nodes.len() {
+        note_reads(alloc, &mut last, &nodes[i], i)?;
+    }
+    Ok(last)
+}
+
+fn is_read_behind(last: &LastReads, i: usize, name: &Txt) -> bool
+    ensures read { OnTrue result (IsReadFrom (i + 1) last.now.entries name.now) }
+    ensures unread { OnFalse result (IsReadFrom (i + 1) last.now.entries name.now → ⊥) }
+{
+    match last.get(name) {
+        Some(place) => *place > i,
+        None => false,
+    }
+}
+
+// Lets go of the data set of a name, unless a statement behind a place reads it.
+fn let_go_of(known: &mut Known, last: &LastReads, i: usize, name: &Txt)
+    ensures kept { (other : List ℕ) → IsReadFrom (i + 1) last.now.entries other → data_of other known.new.entries ≡ data_of other known.old.entries }
+    ensures gone { (IsReadFrom (i + 1) last.now.entries name.now → ⊥) → data_of name.now known.new.entries ≡ None }
+    ensures no_more { (other : List ℕ) → data_of other known.old.entries ≡ None → data_of other known.new.entries ≡ None }
+{
+    if !is_read_behind(last, i, name) {
+        known.swap_remove(name);
+    }
+}
+
+/// Lets go of the data sets of names that no statement behind a place reads.
+pub fn let_go(known: &mut Known, last: &LastReads, i: usize, names: &[Txt])
+    ensures kept { (other : List ℕ) → IsReadFrom (i + 1) last.now.entries other → data_of other known.new.entries ≡ data_of other known.old.entries }
+    ensures gone { AllByRecursion (λ name. (IsReadFrom (i + 1) last.now.entries name → ⊥) → data_of name known.new.entries ≡ None) names.now }
+{
+    for name in names {
+        let_go_of(known, last, i, name);
+    }
+}
