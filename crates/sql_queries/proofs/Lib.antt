@@ -1,0 +1,4 @@
+pub mod Parts
+pub mod Shares
+pub mod Columns
+pub mod WholeQueries
