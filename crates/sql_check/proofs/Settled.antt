@@ -1,5 +1,5 @@
 -- What follows where no rule is broken.
-use Rattle.std.proofs.Common.{◌≡◌, ◌≤◌, ◌⊎◌, ⊎_elim, ℕ, Bool, true, false, not, ◌||◌, ◌==◌, List, [], ◌∷◌, ◌++◌, Some, None, Option, IsSome, IfSome, IfOk, Result, Ok, Err, if◌then◌else◌, encode_utf8_all, map, pos, length, refl, sym, ap, ◌∙◌, arith}
+use Rattle.std.proofs.Common.{◌≡◌, ◌≤◌, ⊎_elim, ℕ, Bool, true, false, not, ◌||◌, ◌==◌, List, [], ◌∷◌, Some, None, Option, IsSome, IfSome, IfOk, Result, Ok, Err, if◌then◌else◌, encode_utf8_all, map, pos, length, refl, sym, ap, ◌∙◌, arith}
 use Rattle.std.specs.Map.{keys_of}
 use Rattle.std.specs.Prelude.{nat_lt, zip}
 use Rattle.std.specs.List.{list_any}
@@ -14,11 +14,10 @@ use Rattle.sql_tree.specs.Trees as tree
 use Rattle.sql_tree.specs.Trees.{QueryTree, StatementTree, Text}
 use Rattle.sql_tree.specs.declared.statements.InputColumn.{InputColumn}
 use Rattle.sql_tree.specs.declared.statements.SqlInput.{SqlInput}
-use Rattle.sql_tree.specs.declared.statements.SqlExport.{SqlExport}
 use Rattle.sql_typing.specs.Queries.{query_breaks, query_columns, query_names, shared_kinds}
 use Rattle.sql_typing.specs.Rules.{Tests, broken, least, lesser}
 use Rattle.sql_typing.specs.Scopes.{Columns, Tables, is_among, is_empty, or_null, repeats}
-use Rattle.sql_typing.specs.Statements.{Given, after, codes_fit, column_entry, input_breaks, input_columns, is_taken, names_fit, scale_of, scale_written, settings_of, statement_breaks, with_table}
+use Rattle.sql_typing.specs.Statements.{Given, after, codes_fit, column_entry, input_breaks, input_columns, is_taken, names_fit, scale_of, scale_written, statement_breaks, with_table}
 use Rattle.sql_typing.specs.Typed.{distinct_columns}
 use Rattle.sql_typing.proofs.Least.{least_append}
 use Rattle.sql_typing.proofs.Maps.{keys_all}
@@ -133,11 +132,10 @@ input_step p before now s columns fault r c f h =
 create_settled : (p : Settings) (tables : Tables) (name : Text) (q : QueryTree) (names : List Text) (kinds : List Kind) (taken query : Option ℕ) → taken ≡ least (broken ((2, is_taken tables name) ∷ [])) → query ≡ least (query_breaks p tables q)
     → names ≡ query_names q → kinds ≡ map or_null (shared_kinds tables q) → length kinds ≡ length names → lesser taken query ≡ None → (is_among name (keys_of tables) ≡ false) × (distinct_columns (zip names kinds) ≡ Some (query_columns tables q))
 create_settled p tables name q names kinds taken query t f n k l h =
-    let none = none_lesser taken query h in
-    (
-        (holds_first 2 (is_taken tables name) [] (sym t ∙ none.0)).0,
-        ap distinct_columns (ap (λ ns. zip ns kinds) n ∙ ap (zip (query_names q)) k)
-        ∙ distinct (query_columns tables q) (ap repeats (keys_all (query_names q) (map or_null (shared_kinds tables q)) (sym (ap length k) ∙ l ∙ ap length n)) ∙ names_differ p tables q (sym f ∙ none.1))
+    let none = none_lesser taken query h in (
+      (holds_first 2 (is_taken tables name) [] (sym t ∙ none.0)).0,
+      ap distinct_columns (ap (λ ns. zip ns kinds) n ∙ ap (zip (query_names q)) k)
+          ∙ distinct (query_columns tables q) (ap repeats (keys_all (query_names q) (map or_null (shared_kinds tables q)) (sym (ap length k) ∙ l ∙ ap length n)) ∙ names_differ p tables q (sym f ∙ none.1)),
     )
 
 pub create_may : (p : Settings) (tables : Tables) (name : Text) (q : QueryTree) (t : QueryTyped) (taken : Option ℕ) (columns : Option Columns) → IsTypedQuery p tables q t → taken ≡ least (broken ((2, is_taken tables name) ∷ [])) → columns ≡ distinct_columns (zip t.names t.kinds)

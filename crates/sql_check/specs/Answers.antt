@@ -1,9 +1,9 @@
 -- What the program tells of statements and scripts.
-use Rattle.std.specs.Prelude.{◌≡◌, ℕ, false, IsSome, List, [], Option, Some, None, Result, Ok, Err}
+use Rattle.std.specs.Prelude.{◌≡◌, ℕ, false, IsSome, [], Option, Some, None, Result, Ok, Err}
 use Rattle.std.specs.Map.{keys_of}
 use Rattle.vtl_decimal.specs.Settings.{Settings}
 use Rattle.vtl_decimal.specs.declared.settings.Rounding.{Rounding}
-use Rattle.sql_tree.specs.Trees.{ScriptTree, StatementTree, Text}
+use Rattle.sql_tree.specs.Trees.{StatementTree, Text}
 use Rattle.sql_tree.specs.View.{script_tree}
 use Rattle.sql_tree.specs.declared.statements.SqlScript.{SqlScript}
 use Rattle.sql_typing.specs.Rules.{least}

@@ -14,11 +14,7 @@ use sql_typing::{Columns, least_broken};
 use std::alloc::{AllocError, Global};
 use vtl_text::{Txt, is_word};
 
-fn order_fits(
-    alloc: Global,
-    columns: Option<&Columns>,
-    order: &[Txt],
-) -> Result<bool, AllocError>
+fn order_fits(alloc: Global, columns: Option<&Columns>, order: &[Txt]) -> Result<bool, AllocError>
     ensures { IfOk result (λ b. b ≡ order_fits (option_copied columns.entry) order.now) }
 {
     match columns {

@@ -66,11 +66,7 @@ pub fn names_fit(alloc: Global, columns: &Columns, names: &[Txt]) -> Result<bool
 }
 
 // Whether a column's name stands twice, or the key is not of the columns.
-fn key_misplaced(
-    alloc: Global,
-    columns: &Option<Columns>,
-    key: &[Txt],
-) -> Result<bool, AllocError>
+fn key_misplaced(alloc: Global, columns: &Option<Columns>, key: &[Txt]) -> Result<bool, AllocError>
     ensures { (all : List (List ℕ × Kind)) → columns.now ≡ distinct_columns all → IfOk result (λ b. b ≡ (repeats (keys_of all) || not (names_fit all key.now))) }
 {
     match columns {
@@ -131,11 +127,7 @@ fn codes_fit(alloc: Global, key: &[Txt], column: &InputColumn) -> Result<bool, A
     }
 }
 
-fn any_misplaced(
-    alloc: Global,
-    key: &[Txt],
-    columns: &[InputColumn],
-) -> Result<bool, AllocError>
+fn any_misplaced(alloc: Global, key: &[Txt], columns: &[InputColumn]) -> Result<bool, AllocError>
     ensures { IfOk result (λ b. b ≡ list_any (λ c. not (codes_fit key.now c)) columns.now) }
 {
     for column in columns {

@@ -6,9 +6,13 @@ mod error;
 mod exports;
 mod given;
 mod inputs;
+mod laws;
+mod plan;
 mod scripts;
 mod settings;
 mod statements;
 
 pub use checked::{SqlChecked, check};
 pub use error::SqlTypeErr;
+pub use laws::{typed_exports_name_tables, typed_queries_give_columns};
+pub use plan::{Early, Indexed, Plan};

@@ -33,4 +33,25 @@ impl<'a> Site<'a> {
             scope,
         }
     }
+
+    /// The profile.
+    pub fn profile(&self) -> &Profile
+        ensures { result.now ≡ self.now.settings }
+    {
+        self.profile
+    }
+
+    /// The tables before the statement.
+    pub fn tables(&self) -> &Tables
+        ensures { result.now ≡ self.now.tables }
+    {
+        self.tables
+    }
+
+    /// The sources that may be named.
+    pub fn scope(&self) -> &Scope<'a>
+        ensures { result.now ≡ self.now.scope }
+    {
+        self.scope
+    }
 }

@@ -1,4 +1,4 @@
-use Rattle.std.proofs.Common.{◌≡◌, drop, not}
+use Rattle.std.proofs.Common.{◌≡◌, drop}
 use Rattle.std.specs.List.{list_any}
 use Rattle.sql_typing.specs.Scopes.{is_empty}
 use Rattle.sql_check.proofs.inputs.any_empty.Given as goal

@@ -17,5 +17,5 @@ returns c =
     let xs = c.as_slice-columns.result.now in
     let ks = c.deref-2.result.now in
     let whole = ap (λ ns. zip ns ks) (c.deref.ensures.value ∙ c.in_ok-names.ensures) ∙ ap (zip (map (λ c. c.name) xs)) (c.deref-2.ensures.value ∙ c.in_ok-kinds.ensures)
-        ∙ columns_beside xs ∙ ap (map column_entry) c.as_slice-columns.ensures in
+    ∙ columns_beside xs ∙ ap (map column_entry) c.as_slice-columns.ensures in
     subst (λ all. IfOk c.of.result (λ columns. columns ≡ distinct_columns all)) whole c.of.ensures
