@@ -119,6 +119,7 @@ for folder in cases/*/; do
             for file in cases/sql/limits/*.csv; do table sql_syntax "$file"; done
             for file in cases/sql/depth/*.csv; do table sql_depth "$file"; done
             for file in cases/sql/groups/*.csv; do table sql_groups "$file"; done
+            for file in cases/sql/types/*.csv; do table sql_types "$file"; done
             for file in cases/sql/prefix/*.csv; do table sql_prefixes "${file%.*}.sql" "$file"; done
             for file in cases/sql/print/*.printed; do printed print "${file%.*}.sql" "$file"; done
             ;;

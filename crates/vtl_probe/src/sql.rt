@@ -1,18 +1,44 @@
-// What is read and printed of texts of the SQL dialect.
+// What is read, typed and printed of texts of the SQL dialect.
+ghost use Rattle.sql_tree.specs.Formed.{FormedScript};
+ghost use Rattle.sql_tree.specs.View.{script_tree};
+
 use crate::report::Report;
+use sql_check::{SqlTypeErr, check};
 use sql_parser::{SqlErr, parse};
 use sql_print::print;
+use sql_tree::SqlScript;
 use std::alloc::{AllocError, Global};
 
 const BEFORE: &str = "SET SCALE 2 ROUNDING HALF_UP;\nCREATE TABLE \"U\" AS\n  SELECT ";
 
 const BEHIND: &str = " AS \"c\"\n  FROM \"T\" AS \"t\";\n";
 
-// What is read of a text: how many statements it has and how they are printed, or its fault.
+// What is read of a text: how many statements it has, how they are printed, and what typing says of them; or its fault.
 #[derive(Drop)]
 enum Answer {
-    Read { count: usize, printed: String },
+    Read {
+        count: usize,
+        printed: String,
+        verdict: Verdict,
+    },
     Fault { done: usize, byte: usize },
+}
+
+// What typing says of a script.
+#[derive(Clone, Copy)]
+enum Verdict {
+    Typed,
+    Mistyped { statement: usize, rule: u8 },
+}
+
+fn verdict(alloc: Global, script: SqlScript) -> Result<Verdict, AllocError>
+    requires { FormedScript (script_tree script) }
+{
+    match check(alloc, script) {
+        Ok(_) => Ok(Verdict::Typed),
+        Err(SqlTypeErr::Mistyped { statement, rule }) => Ok(Verdict::Mistyped { statement, rule }),
+        Err(SqlTypeErr::OutOfMemory) => Err(AllocError),
+    }
 }
 
 // The one owner of trees.
@@ -22,6 +48,7 @@ fn read(alloc: Global, text: &str) -> Result<Answer, AllocError> {
         Ok(script) => Ok(Answer::Read {
             count: script.statements.as_slice().len().saturating_add(1),
             printed: print(alloc, &script)?,
+            verdict: verdict(alloc, script)?,
         }),
         Err(SqlErr::Syntax { done, byte }) => Ok(Answer::Fault { done, byte }),
         Err(SqlErr::OutOfMemory) => Err(AllocError),
@@ -33,14 +60,39 @@ fn fault(alloc: Global, done: usize, byte: usize) -> Result<Report, AllocError> 
     Ok(Report { text, code: 3 })
 }
 
-// That the text is a script, or the line of its fault.
+// That the text is a script that is typed, or the line of its fault.
 pub(crate) fn told(alloc: Global, text: &str) -> Result<Report, AllocError> {
     match read(alloc, text)? {
-        Answer::Read { .. } => Ok(Report {
-            text: String::from_str(alloc, "read\n")?,
+        Answer::Read {
+            verdict: Verdict::Typed,
+            ..
+        } => Ok(Report {
+            text: String::from_str(alloc, "typed\n")?,
             code: 0,
         }),
+        Answer::Read {
+            verdict: Verdict::Mistyped { statement, rule },
+            ..
+        } => {
+            let text = format!(in alloc; "error: sql type in statement {statement} rule {rule}\n")?;
+            Ok(Report { text, code: 3 })
+        }
         Answer::Fault { done, byte } => fault(alloc, done, byte),
+    }
+}
+
+// That the text is typed, or the statement and the rule of its fault.
+pub(crate) fn typed(alloc: Global, text: &str) -> Result<String, AllocError> {
+    match read(alloc, text)? {
+        Answer::Read {
+            verdict: Verdict::Typed,
+            ..
+        } => String::from_str(alloc, "typed"),
+        Answer::Read {
+            verdict: Verdict::Mistyped { statement, rule },
+            ..
+        } => format!(in alloc; "{statement} {rule}"),
+        Answer::Fault { done, byte } => format!(in alloc; "no script: {done},{byte}"),
     }
 }
 
@@ -73,7 +125,7 @@ pub(crate) fn outcome_again(alloc: Global, text: &str) -> Result<String, AllocEr
 
 fn reread(alloc: Global, text: &str) -> Result<String, AllocError> {
     match read(alloc, text)? {
-        Answer::Read { count, printed } if printed.as_str() == text => {
+        Answer::Read { count, printed, .. } if printed.as_str() == text => {
             format!(in alloc; "{count},")
         }
         Answer::Read { printed, .. } => format!(in alloc; "{text} and then {printed}"),

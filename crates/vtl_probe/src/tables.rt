@@ -34,6 +34,8 @@ pub(crate) enum Table {
     Again,
     // How expressions of SQL are printed.
     Groups,
+    // What scripts of SQL are typed as, or their faults.
+    SqlTypes,
     // What scripts are typed as over structures, or their faults.
     Types,
     // What structures files declare, or their faults.
@@ -59,6 +61,7 @@ impl Table {
             "sql_depth" => Table::Depth(Language::Sql),
             "sql_again" => Table::Again,
             "sql_groups" => Table::Groups,
+            "sql_types" => Table::SqlTypes,
             "structures" => Table::Structures,
             "datasets" => Table::Datasets,
             _ => return None,
@@ -80,7 +83,7 @@ impl Table {
             Table::Depth(_) => ("head,open,middle,close,tail,most", 6),
             Table::Prefixes(_) => ("from,to,done,byte", 2),
             Table::Types => ("scale,script,answer", 2),
-            Table::Structures => ("text,answer", 1),
+            Table::SqlTypes | Table::Structures => ("text,answer", 1),
             Table::Datasets => ("scale,rounding,structures,text,answer", 4),
         }
     }
@@ -101,6 +104,7 @@ impl Table {
             Table::Prefixes(language) => syntax::fronts(alloc, language, script, row),
             Table::Again => Ok(sql::outcome_again(alloc, row.field(0))?),
             Table::Groups => Ok(sql::grouped(alloc, row.field(0))?),
+            Table::SqlTypes => Ok(sql::typed(alloc, row.field(0))?),
             Table::Types => types::outcome(alloc, script, row),
             Table::Structures => Ok(structures::declared(alloc, row.field(0))?),
             Table::Datasets => datasets::rewritten(alloc, row),

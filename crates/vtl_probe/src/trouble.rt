@@ -3,7 +3,7 @@ use std::alloc::{AllocError, AllocFailed, Global};
 
 const USAGE: &str = "the words are one of
   scalars|values|order|periods|names|sums|lexed|syntax|depth|structures|datasets TABLE
-  sql_syntax|sql_depth|sql_again|sql_groups TABLE
+  sql_syntax|sql_depth|sql_again|sql_groups|sql_types TABLE
   prefixes|sql_prefixes SCRIPT TABLE
   types STRUCTURES TABLE
   check SCRIPT STRUCTURES [--scale D]
