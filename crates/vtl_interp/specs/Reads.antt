@@ -1,7 +1,8 @@
 -- The last statement that reads each name.
-use Rattle.std.specs.Prelude.{ℕ, ◌+◌, ◌≤◌, List, [], ◌∷◌, Option, None, Some}
+use Rattle.std.specs.Prelude.{◌≡◌, ℕ, ◌+◌, ◌≤◌, List, [], ◌∷◌, Option, None, Some}
 use Rattle.std.specs.List.{AllByRecursion}
 use Rattle.std.specs.Map.{lookup}
+use Rattle.vtl_tree.specs.Environment.{Environment, data_of}
 use Rattle.vtl_tree.specs.Structure.{same_name}
 use Rattle.vtl_nodes.specs.Trees.{NodeTree}
 use Rattle.vtl_check.specs.Names.{names_in}
@@ -23,3 +24,7 @@ IsReadFrom i last name = IsFrom i (lookup (same_name name) last)
 abbrev pub AreRead : LastPlaces → ℕ → List NodeTree → Type 0
 AreRead last i [] = Unit {0}
 AreRead last i (n ∷ ns) = AllByRecursion (IsReadFrom i last) (names_in n) × AreRead last (i + 1) ns
+
+-- no data set is held under the name, unless a statement at this place or a later one reads it
+abbrev pub IsGone : ℕ → LastPlaces → Environment → List ℕ → Type 0
+IsGone i last env name = (IsReadFrom i last name → ⊥) → data_of name env ≡ None

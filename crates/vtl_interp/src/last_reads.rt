@@ -1,11 +1,11 @@
 // Data sets are let go behind the last statement that reads them.
-ghost use Rattle.std.specs.Prelude.{◌≡◌, ◌≤◌, ◌+◌, ℕ, List, map, None, IfOk, OnOk};
+ghost use Rattle.std.specs.Prelude.{◌≡◌, ◌≤◌, ◌+◌, ◌∷◌, ℕ, List, map, None, IfOk, OnOk};
 ghost use Rattle.std.specs.Bool.{OnTrue, OnFalse};
 ghost use Rattle.std.specs.List.{AllByRecursion};
 ghost use Rattle.vtl_tree.specs.Environment.{data_of};
 ghost use Rattle.vtl_nodes.specs.View.{node_tree};
 ghost use Rattle.vtl_check.specs.Names.{names_in};
-ghost use Rattle.vtl_interp.specs.Reads.{AreRead, IsReadFrom};
+ghost use Rattle.vtl_interp.specs.Reads.{AreRead, IsGone, IsReadFrom};
 
 use crate::held::Known;
 use indexmap::IndexMap;
@@ -54,7 +54,7 @@ fn is_read_behind(last: &LastReads, i: usize, name: &Txt) -> bool
 // Lets go of the data set of a name, unless a statement behind a place reads it.
 fn let_go_of(known: &mut Known, last: &LastReads, i: usize, name: &Txt)
     ensures kept { (other : List ℕ) → IsReadFrom (i + 1) last.now.entries other → data_of other known.new.entries ≡ data_of other known.old.entries }
-    ensures gone { (IsReadFrom (i + 1) last.now.entries name.now → ⊥) → data_of name.now known.new.entries ≡ None }
+    ensures gone { IsGone (i + 1) last.now.entries known.new.entries name.now }
     ensures no_more { (other : List ℕ) → data_of other known.old.entries ≡ None → data_of other known.new.entries ≡ None }
 {
     if !is_read_behind(last, i, name) {
@@ -62,12 +62,31 @@ fn let_go_of(known: &mut Known, last: &LastReads, i: usize, name: &Txt)
     }
 }
 
-/// Lets go of the data sets of names that no statement behind a place reads.
-pub fn let_go(known: &mut Known, last: &LastReads, i: usize, names: &[Txt])
+// Lets go of the data sets of names that no statement behind a place reads.
+fn let_go_each(known: &mut Known, last: &LastReads, i: usize, names: &[Txt])
     ensures kept { (other : List ℕ) → IsReadFrom (i + 1) last.now.entries other → data_of other known.new.entries ≡ data_of other known.old.entries }
-    ensures gone { AllByRecursion (λ name. (IsReadFrom (i + 1) last.now.entries name → ⊥) → data_of name known.new.entries ≡ None) names.now }
+    ensures gone { AllByRecursion (IsGone (i + 1) last.now.entries known.new.entries) names.now }
+    ensures no_more { (other : List ℕ) → data_of other known.old.entries ≡ None → data_of other known.new.entries ≡ None }
 {
     for name in names {
         let_go_of(known, last, i, name);
     }
+}
+
+/// Lets go of what a statement made and read, where no statement behind it reads it. It fails only for want of memory.
+pub fn let_go(
+    alloc: Global,
+    known: &mut Known,
+    last: &LastReads,
+    i: usize,
+    name: &Txt,
+    node: &Node,
+) -> Result<(), AllocError>
+    ensures kept { OnOk result ((other : List ℕ) → IsReadFrom (i + 1) last.now.entries other → data_of other known.new.entries ≡ data_of other known.old.entries) }
+    ensures gone { OnOk result (AllByRecursion (IsGone (i + 1) last.now.entries known.new.entries) (name.now ∷ names_in (node_tree node.now))) }
+{
+    let names = read_names(alloc, slice::from_ref(node))?;
+    let_go_of(known, last, i, name);
+    let_go_each(known, last, i, names.as_slice());
+    Ok(())
 }

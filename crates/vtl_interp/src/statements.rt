@@ -1,7 +1,6 @@
 // The statements, one after the other.
-ghost use Rattle.std.specs.Prelude.{◌≡◌, ◌+◌, ◌∷◌, [], ℕ, List, None, false, true, length, map, OnOk};
+ghost use Rattle.std.specs.Prelude.{◌≡◌, ◌∷◌, [], None, false, true, length, map, OnOk};
 ghost use Rattle.vtl_syntax.specs.View.{statement_tree};
-ghost use Rattle.vtl_tree.specs.Environment.{data_of};
 ghost use Rattle.vtl_nodes.specs.View.{node_tree};
 ghost use Rattle.vtl_meaning.specs.Made.{IsMade};
 ghost use Rattle.vtl_meaning.specs.Meaning.{is_built, known_in, meaning};
@@ -10,7 +9,7 @@ ghost use Rattle.vtl_rows.specs.Named.{table_of};
 ghost use Rattle.vtl_backend.specs.Statements.{is_written, with_nodes};
 ghost use Rattle.vtl_interp.specs.Evaluated.{Evaluates};
 ghost use Rattle.vtl_interp.specs.Held.{HoldSame};
-ghost use Rattle.vtl_interp.specs.Reads.{AreRead, IsReadFrom};
+ghost use Rattle.vtl_interp.specs.Reads.{AreRead};
 ghost use Rattle.vtl_interp.specs.Results.{Adds, AreReady, Faults, ShownBy, result_named};
 ghost use Rattle.vtl_interp.specs.Written.{IsWritten};
 
@@ -18,9 +17,7 @@ use crate::evaluation::evaluate;
 use crate::held::{Held, Known};
 use crate::last_reads::{LastReads, last_reads, let_go};
 use std::alloc::{AllocError, Global};
-use std::slice;
 use vtl_backend::RunErr;
-use vtl_check::read_names;
 use vtl_decimal::Profile;
 use vtl_expr::DataSet;
 use vtl_nodes::Node;
@@ -98,27 +95,6 @@ fn add_result(
     }
 }
 
-// Lets go of what a statement made and read, where no statement behind it reads it.
-fn let_go_behind(
-    alloc: Global,
-    known: &mut Known,
-    last: &LastReads,
-    i: usize,
-    name: &Txt,
-    node: &Node,
-) -> Result<(), AllocError>
-    ensures { OnOk result ((other : List ℕ) → IsReadFrom (i + 1) last.now.entries other → data_of other known.new.entries ≡ data_of other known.old.entries) }
-{
-    let_go(known, last, i, slice::from_ref(name));
-    let_go(
-        known,
-        last,
-        i,
-        read_names(alloc, slice::from_ref(node))?.as_slice(),
-    );
-    Ok(())
-}
-
 // The tables of the results that are written, or the first fault. Of the data sets that are held, those are let go that no
 // statement to come reads.
 fn run_each(
@@ -143,7 +119,7 @@ fn run_each(
         match &statements[i] {
             Statement::Assignment { name, kind, .. } => {
                 add_result(alloc, &mut held, name, *kind, &nodes[i], p)?;
-                let_go_behind(alloc, &mut held.known, last, i, name, &nodes[i])?;
+                let_go(alloc, &mut held.known, last, i, name, &nodes[i])?;
             }
             _ => unreachable!(),
         }

@@ -1,22 +1,15 @@
-use Rattle.std.proofs.Common.{◌≡◌, ◌∙◌, ◌+◌, ◌++◌, ◌∷◌, ℕ, List, [], None, take, ap, subst, sym}
+use Rattle.std.proofs.Common.{◌∙◌, ◌+◌, map, ap, subst}
 use Rattle.std.specs.List.{AllByRecursion}
-use Rattle.std.proofs.lemmas.List.{take_more}
-use Rattle.vtl_text.specs.declared.shared_text.Txt.{Txt}
-use Rattle.vtl_tree.specs.Environment.{Environment, data_of}
-use Rattle.vtl_interp.specs.Reads.{IsReadFrom}
-use Rattle.vtl_interp.proofs.NamesRead.{all_both, all_so}
+use Rattle.std.proofs.lemmas.List.{append-nil}
+use Rattle.vtl_nodes.specs.View.{node_tree}
+use Rattle.vtl_check.specs.Names.{names_in, names_of}
+use Rattle.vtl_interp.specs.Reads.{IsGone}
 use Rattle.vtl_interp.proofs.last_reads.let_go.Goals as goal
 
-pub loop-name-preserved : goal.loop-name-preserved
-loop-name-preserved c =
-    let is_gone = λ (known : Environment) (name : List ℕ). (IsReadFrom (c.args.i + 1) c.args.last.now.entries name → ⊥) → data_of name known ≡ None in
-    let before = c.loop-name.known.entries in
-    let now = c.let_go_of.new.known.entries in
-    let k = c.loop-name.name-index in
-    let names = c.args.names.now in
-    let name = c.name-item.result in
-    record {
-      kept = λ other r. c.let_go_of.ensures.kept other r ∙ c.loop-name.invariant.kept other r;
-      gone = subst (AllByRecursion (is_gone now)) (sym (take_more names k name c.loop-name-test.true ∙ ap (λ (x : Txt). take k names ++ x ∷ []) (sym c.name-item.is)))
-          (all_both (is_gone now) (take k names) (name ∷ []) (all_so (is_gone before) (is_gone now) (λ other h unread. c.let_go_of.ensures.no_more other (h unread)) (take k names) c.loop-name.invariant.gone) (c.let_go_of.ensures.gone, tt));
-    }
+pub returns-clause-gone : goal.returns-clause-gone
+returns-clause-gone c =
+    let n = node_tree c.args.node.now in
+    let read = c.as_slice.ensures.value ∙ c.in_ok-names.ensures ∙ ap (λ l. names_of (map node_tree l)) c.from_ref.ensures.value ∙ append-nil (names_in n) in (
+      λ unread. c.let_go_each.ensures.no_more c.args.name.now (c.let_go_of.ensures.gone unread),
+      subst (AllByRecursion (IsGone (c.args.i + 1) c.args.last.now.entries c.let_go_each.new.known.entries)) read c.let_go_each.ensures.gone,
+    )

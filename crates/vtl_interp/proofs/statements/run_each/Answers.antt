@@ -56,9 +56,9 @@ loop-i-preserved c =
     let last = c.args.last.now.entries in
     let before = c.loop-i.held in
     let held = c.add_result.new.held in
-    let now = c.let_go_behind.new.known.entries in
+    let now = c.let_go.new.known.entries in
     let added = c.in_ok-add_result-in-Assignment.ensures in
-    let kept = c.in_ok-let_go_behind-in-Assignment.ensures in
+    let kept = c.in_ok-let_go-in-Assignment.ensures.kept in
     let whole = meaning p (with_nodes (map statement_tree ss) (map node_tree ns)) c.args.known.entries in
     record {
       plain = still_plain p ss ns c.loop-i.i s name kind value n c.loop-i-test.true c.index-statements-i.is c.in-Assignment.is c.requires.many c.index-nodes-i.is c.loop-i.invariant.plain;
