@@ -1,13 +1,13 @@
 -- The last statement that reads each name, and what is let go behind it.
-use Rattle.std.proofs.Common.{◌≡◌, ℕ, ◌+◌, ◌≤◌, Bool, true, false, cond, List, [], ◌∷◌, ◌++◌, length, Option, Some, None, refl, sym, ap, subst, ◌∙◌, arith}
-use Rattle.std.specs.List.{AllByRecursion}
+use Rattle.std.proofs.Common.{◌≡◌, ◌⊎◌, inl, inr, ◌||◌, ℕ, zero, suc, ◌+◌, ◌≤◌, Bool, true, false, cond, List, [], ◌∷◌, ◌++◌, length, Option, Some, None, refl, sym, ap, subst, ◌∙◌, arith}
+use Rattle.std.specs.List.{AllByRecursion, list_any}
 use Rattle.std.specs.Map.{lookup}
-use Rattle.std.specs.Cmp.Lexicographic.{bytes_decides}
+use Rattle.std.specs.Cmp.Lexicographic.{bytes_decides, nat_list_eq_equiv}
 use Rattle.vtl_tree.specs.Environment.{DataSet, Environment, data_of}
 use Rattle.vtl_tree.specs.Structure.{same_name}
 use Rattle.vtl_nodes.specs.Trees.{NodeTree}
 use Rattle.vtl_check.specs.Names.{names_in, names_of}
-use Rattle.vtl_interp.specs.Reads.{AreRead, IsFrom, IsReadFrom, LastPlaces}
+use Rattle.vtl_interp.specs.Reads.{AreRead, AreReadThere, IsFrom, IsReadFrom, LastPlaces, NotedAs, reads_at}
 use Rattle.vtl_interp.proofs.Environments.{data_looked}
 use Rattle.vtl_interp.proofs.NamesRead.{all_both, all_so}
 
@@ -23,6 +23,22 @@ all_read last i (n ∷ ns) h =
     (all_so (IsReadFrom (i + 1) last) (IsReadFrom i last) (λ name k. from_earlier i (i + 1) (lookup (same_name name) last) (omega arith) k) (names_of ns) (all_read last (i + 1) ns h.1))
 
 -- ---- one name more is noted
+any_front : (f : List ℕ → Bool) (xs ys : List (List ℕ)) → list_any f xs ≡ true → list_any f (xs ++ ys) ≡ true
+any_front f [] ys h = cc
+any_front f (x ∷ xs) ys h = go (f x) (any_front f xs ys) h
+  where
+    go : (b : Bool) → (list_any f xs ≡ true → list_any f (xs ++ ys) ≡ true) → (b || list_any f xs) ≡ true → (b || list_any f (xs ++ ys)) ≡ true
+    go true ih h = refl
+    go false ih h = ih h
+
+any_last : (f : List ℕ → Bool) (xs : List (List ℕ)) (x : List ℕ) → f x ≡ true → list_any f (xs ++ x ∷ []) ≡ true
+any_last f [] x h = ap (λ b. b || false) h
+any_last f (y ∷ xs) x h = go (f y) (any_last f xs x h)
+  where
+    go : (b : Bool) → list_any f (xs ++ x ∷ []) ≡ true → (b || list_any f (xs ++ x ∷ [])) ≡ true
+    go true q = refl
+    go false q = q
+
 module _ (last now : LastPlaces) (new : List ℕ) (i : ℕ) (noted : (name : List ℕ) → lookup (same_name name) now ≡ cond (same_name new name) (Some i) (lookup (same_name name) last)) where
   pub still_read : (j : ℕ) (name : List ℕ) → j ≤ i → IsReadFrom j last name → IsReadFrom j now name
   still_read j name h k = subst (IsFrom j) (sym (noted name)) (go (same_name new name))
@@ -36,6 +52,17 @@ module _ (last now : LastPlaces) (new : List ℕ) (i : ℕ) (noted : (name : Lis
       let own : lookup (same_name new) now ≡ Some i = noted new ∙ ap (λ b. cond b (Some i) (lookup (same_name new) last)) ((bytes_decides new new).1 refl) in
       subst (IsFrom i) (sym own) (omega arith)
 
+  pub noted_more : (before : LastPlaces) (read : List (List ℕ)) → NotedAs before i read last → NotedAs before i (read ++ new ∷ []) now
+  noted_more before read h name place e = go (same_name new name) refl (sym (noted name) ∙ e)
+    where
+      front : (lookup (same_name name) before ≡ Some place) ⊎ ((place ≡ i) × (list_any (same_name name) read ≡ true)) → (lookup (same_name name) before ≡ Some place) ⊎ ((place ≡ i) × (list_any (same_name name) (read ++ new ∷ []) ≡ true))
+      front (inl l) = inl l
+      front (inr r) = inr (r.0, any_front (same_name name) read (new ∷ []) r.1)
+
+      go : (b : Bool) → same_name new name ≡ b → cond b (Some i) (lookup (same_name name) last) ≡ Some place → (lookup (same_name name) before ≡ Some place) ⊎ ((place ≡ i) × (list_any (same_name name) (read ++ new ∷ []) ≡ true))
+      go true s q = let same : i ≡ place = cc in inr (sym same, any_last (same_name name) read new (nat_list_eq_equiv.symm name new ∙ s))
+      go false s q = front (h name place q)
+
 -- the names of an expression more are noted
 pub reads_more : (last now : LastPlaces) (j i : ℕ) (ns : List NodeTree) (n : NodeTree) → j + length ns ≡ i → ((k : ℕ) (name : List ℕ) → k ≤ i → IsReadFrom k last name → IsReadFrom k now name)
     → AllByRecursion (IsReadFrom i now) (names_in n) → AreRead last j ns → AreRead now j (ns ++ n ∷ [])
@@ -46,6 +73,22 @@ reads_more last now j i (x ∷ ns) n e old new h = (
   all_so (IsReadFrom j last) (IsReadFrom j now) (λ name k. old j name (omega (arith, e)) k) (names_in x) h.0,
   reads_more last now (j + 1) i ns n (omega (arith, e)) old new h.1,
 )
+
+read_before : (ns : List NodeTree) (n : NodeTree) (place : ℕ) (name : List ℕ) → reads_at ns place name ≡ true → reads_at (ns ++ n ∷ []) place name ≡ true
+read_before [] n place name h = cc
+read_before (m ∷ ns) n zero name h = h
+read_before (m ∷ ns) n (suc place) name h = read_before ns n place name h
+
+read_last : (ns : List NodeTree) (n : NodeTree) (name : List ℕ) → list_any (same_name name) (names_in n) ≡ true → reads_at (ns ++ n ∷ []) (length ns) name ≡ true
+read_last [] n name h = h
+read_last (m ∷ ns) n name h = read_last ns n name h
+
+pub read_there_more : (last now : LastPlaces) (i : ℕ) (ns : List NodeTree) (n : NodeTree) → length ns ≡ i → NotedAs last i (names_in n) now → AreReadThere last ns → AreReadThere now (ns ++ n ∷ [])
+read_there_more last now i ns n many noted h name place e = go (noted name place e)
+  where
+    go : (lookup (same_name name) last ≡ Some place) ⊎ ((place ≡ i) × (list_any (same_name name) (names_in n) ≡ true)) → reads_at (ns ++ n ∷ []) place name ≡ true
+    go (inl l) = read_before ns n place name (h name place l)
+    go (inr r) = subst (λ k. reads_at (ns ++ n ∷ []) k name ≡ true) (many ∙ sym r.0) (read_last ns n name r.1)
 
 -- ---- a name is let go
 module _ (known now : Environment) (name : List ℕ) (removed : (other : List ℕ) → lookup (same_name other) now ≡ cond (same_name name other) None (lookup (same_name other) known)) where

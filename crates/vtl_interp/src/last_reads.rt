@@ -5,7 +5,7 @@ ghost use Rattle.std.specs.List.{AllByRecursion};
 ghost use Rattle.vtl_tree.specs.Environment.{data_of};
 ghost use Rattle.vtl_nodes.specs.View.{node_tree};
 ghost use Rattle.vtl_check.specs.Names.{names_in};
-ghost use Rattle.vtl_interp.specs.Reads.{AreRead, IsGone, IsReadFrom};
+ghost use Rattle.vtl_interp.specs.Reads.{AreRead, AreReadThere, IsGone, IsReadFrom, NotedAs};
 
 use crate::held::Known;
 use indexmap::IndexMap;
@@ -22,6 +22,7 @@ pub type LastReads = IndexMap<Txt, usize>;
 fn note_reads(alloc: Global, last: &mut LastReads, node: &Node, i: usize) -> Result<(), AllocError>
     ensures new { OnOk result (AllByRecursion (IsReadFrom i last.new.entries) (names_in (node_tree node.now))) }
     ensures old { OnOk result ((j : ℕ) (name : List ℕ) → j ≤ i → IsReadFrom j last.old.entries name → IsReadFrom j last.new.entries name) }
+    ensures only { OnOk result (NotedAs last.old.entries i (names_in (node_tree node.now)) last.new.entries) }
 {
     let names = read_names(alloc, slice::from_ref(node))?;
     for name in names.as_slice() {
@@ -32,7 +33,8 @@ fn note_reads(alloc: Global, last: &mut LastReads, node: &Node, i: usize) -> Res
 
 /// The last statement that reads each name, from the expressions of all statements. It fails only for want of memory.
 pub fn last_reads(alloc: Global, nodes: &[Node]) -> Result<LastReads, AllocError>
-    ensures { IfOk result (λ last. AreRead last.entries 0 (map node_tree nodes.now)) }
+    ensures read { IfOk result (λ last. AreRead last.entries 0 (map node_tree nodes.now)) }
+    ensures only { IfOk result (λ last. AreReadThere last.entries (map node_tree nodes.now)) }
 {
     let mut last = LastReads::new(alloc);
     for i in 0..nodes.len() {

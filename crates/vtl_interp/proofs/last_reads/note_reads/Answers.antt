@@ -1,12 +1,12 @@
-use Rattle.std.proofs.Common.{◌≡◌, ◌∙◌, ◌++◌, ℕ, List, [], ◌∷◌, Some, cond, take, ap, subst, sym, arith}
+use Rattle.std.proofs.Common.{inl, ◌≡◌, ◌∙◌, ◌++◌, ℕ, List, [], ◌∷◌, Some, cond, take, ap, subst, sym, arith}
 use Rattle.std.specs.List.{AllByRecursion}
 use Rattle.std.specs.Map.{lookup}
 use Rattle.std.proofs.lemmas.List.{take_more}
 use Rattle.vtl_text.specs.declared.shared_text.Txt.{Txt}
 use Rattle.vtl_tree.specs.Structure.{same_name}
-use Rattle.vtl_interp.specs.Reads.{IsReadFrom}
+use Rattle.vtl_interp.specs.Reads.{IsReadFrom, NotedAs}
 use Rattle.vtl_interp.proofs.NamesRead.{all_both, all_so}
-use Rattle.vtl_interp.proofs.PlacesRead.{now_read, still_read}
+use Rattle.vtl_interp.proofs.PlacesRead.{noted_more, now_read, still_read}
 use Rattle.vtl_interp.proofs.last_reads.note_reads.Goals as goal
 
 pub loop-name-preserved : goal.loop-name-preserved
@@ -23,4 +23,9 @@ loop-name-preserved c =
       new = subst (AllByRecursion (IsReadFrom i now)) (sym (take_more names k name c.loop-name-test.true ∙ ap (λ (x : Txt). take k names ++ x ∷ []) (sym c.name-item.is)))
           (all_both (IsReadFrom i now) (take k names) (name ∷ []) (all_so (IsReadFrom i last) (IsReadFrom i now) (λ other h. still_read last now name i noted i other (omega arith) h) (take k names) c.loop-name.invariant.new) (now_read last now name i noted, tt));
       old = λ j other h r. still_read last now name i noted j other h (c.loop-name.invariant.old j other h r);
+      only = subst (λ (read : List (List ℕ)). NotedAs c.args.last.now.entries i read now) (sym (take_more names k name c.loop-name-test.true ∙ ap (λ (x : Txt). take k names ++ x ∷ []) (sym c.name-item.is)))
+          (noted_more last now name i noted c.args.last.now.entries (take k names) c.loop-name.invariant.only);
     }
+
+pub loop-name-init : goal.loop-name-init
+loop-name-init c = record { new = tt; old = λ j other h r. r; only = λ other place h. inl h }
