@@ -31,7 +31,7 @@ enum Verdict {
     Mistyped { statement: usize, rule: u8 },
 }
 
-fn verdict(alloc: Global, script: SqlScript) -> Result<Verdict, AllocError>
+fn judged(alloc: Global, script: SqlScript) -> Result<Verdict, AllocError>
     requires { FormedScript (script_tree script) }
 {
     match check(alloc, script) {
@@ -48,7 +48,7 @@ fn read(alloc: Global, text: &str) -> Result<Answer, AllocError> {
         Ok(script) => Ok(Answer::Read {
             count: script.statements.as_slice().len().saturating_add(1),
             printed: print(alloc, &script)?,
-            verdict: verdict(alloc, script)?,
+            verdict: judged(alloc, script)?,
         }),
         Err(SqlErr::Syntax { done, byte }) => Ok(Answer::Fault { done, byte }),
         Err(SqlErr::OutOfMemory) => Err(AllocError),
