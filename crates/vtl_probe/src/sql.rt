@@ -21,7 +21,10 @@ enum Answer {
         printed: String,
         verdict: Verdict,
     },
-    Fault { done: usize, byte: usize },
+    Fault {
+        done: usize,
+        byte: usize,
+    },
 }
 
 // What typing says of a script.
