@@ -14,16 +14,16 @@ use Rattle.sql_tree.specs.Trees as tree
 use Rattle.sql_tree.specs.Trees.{QueryTree, StatementTree, Text}
 use Rattle.sql_tree.specs.declared.statements.InputColumn.{InputColumn}
 use Rattle.sql_tree.specs.declared.statements.SqlInput.{SqlInput}
-use Rattle.sql_typing.specs.Queries.{query_breaks, query_columns, query_names, shared_kinds}
-use Rattle.sql_typing.specs.Rules.{Tests, broken, least, lesser}
-use Rattle.sql_typing.specs.Scopes.{Columns, Tables, is_among, is_empty, or_null, repeats}
-use Rattle.sql_typing.specs.Statements.{Given, after, codes_fit, column_entry, input_breaks, input_columns, is_taken, names_fit, scale_of, scale_written, statement_breaks, with_table}
-use Rattle.sql_typing.specs.Typed.{distinct_columns}
-use Rattle.sql_typing.proofs.Least.{least_append}
-use Rattle.sql_typing.proofs.Maps.{keys_all}
-use Rattle.sql_queries.proofs.Columns.{names_differ}
-use Rattle.sql_queries.specs.Typed.{IsTypedQuery}
-use Rattle.sql_queries.specs.declared.queries.QueryTyped.{QueryTyped}
+use Rattle.sql_check_parts.specs.Queries.{query_breaks, query_columns, query_names, shared_kinds}
+use Rattle.sql_check_parts.specs.Rules.{Tests, broken, least, lesser}
+use Rattle.sql_check_parts.specs.Scopes.{Columns, Tables, is_among, is_empty, or_null, repeats}
+use Rattle.sql_check_parts.specs.Statements.{Given, after, codes_fit, column_entry, input_breaks, input_columns, is_taken, names_fit, scale_of, scale_written, statement_breaks, with_table}
+use Rattle.sql_check_parts.specs.Typed.{distinct_columns}
+use Rattle.sql_check_parts.proofs.Least.{least_append}
+use Rattle.sql_check_parts.proofs.Maps.{keys_all}
+use Rattle.sql_check_queries.proofs.Columns.{names_differ}
+use Rattle.sql_check_queries.specs.Typed.{IsTypedQuery}
+use Rattle.sql_check_queries.specs.declared.queries.QueryTyped.{QueryTyped}
 use Rattle.sql_check.specs.Answers.{GivesIfTyped, IsSettled, IsStep, MayPut, Sets, some_columns}
 
 -- a test that no rule is broken at

@@ -13,12 +13,12 @@ use Rattle.sql_tree.specs.Formed.{IsQuery}
 use Rattle.sql_tree.specs.Trees as tree
 use Rattle.sql_tree.specs.Trees.{QueryTree, SelectTree, StatementTree, Text}
 use Rattle.sql_tree.specs.declared.statements.SqlExport.{SqlExport}
-use Rattle.sql_typing.specs.Queries.{item_name, lacks_kind, query_breaks, query_columns, query_names, shared_kinds}
-use Rattle.sql_typing.specs.Rules.{least}
-use Rattle.sql_typing.specs.Scopes.{Tables, columns_of, is_among, or_null, repeats}
-use Rattle.sql_typing.specs.Statements.{Given, IsTypedScript, after, fault_from, fault_or, nothing, order_fits, setting_breaks, settings_of, statement_breaks}
-use Rattle.sql_typing.proofs.Maps.{keys_all}
-use Rattle.sql_queries.proofs.Columns.{as_many, few_columns, kinds_told, names_differ}
+use Rattle.sql_check_parts.specs.Queries.{item_name, lacks_kind, query_breaks, query_columns, query_names, shared_kinds}
+use Rattle.sql_check_parts.specs.Rules.{least}
+use Rattle.sql_check_parts.specs.Scopes.{Tables, columns_of, is_among, or_null, repeats}
+use Rattle.sql_check_parts.specs.Statements.{Given, IsTypedScript, after, fault_from, fault_or, nothing, order_fits, setting_breaks, settings_of, statement_breaks}
+use Rattle.sql_check_parts.proofs.Maps.{keys_all}
+use Rattle.sql_check_queries.proofs.Columns.{as_many, few_columns, kinds_told, names_differ}
 use Rattle.sql_check.specs.Laws.{AreColumns, given_by}
 use Rattle.sql_check.proofs.Settled.{holds_first}
 

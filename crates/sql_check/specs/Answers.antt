@@ -6,9 +6,9 @@ use Rattle.vtl_decimal.specs.declared.settings.Rounding.{Rounding}
 use Rattle.sql_tree.specs.Trees.{StatementTree, Text}
 use Rattle.sql_tree.specs.View.{script_tree}
 use Rattle.sql_tree.specs.declared.statements.SqlScript.{SqlScript}
-use Rattle.sql_typing.specs.Rules.{least}
-use Rattle.sql_typing.specs.Scopes.{Columns, Tables, is_among}
-use Rattle.sql_typing.specs.Statements.{Given, IsTypedScript, after, script_fault, setting_breaks, settings_of, statement_breaks, with_table}
+use Rattle.sql_check_parts.specs.Rules.{least}
+use Rattle.sql_check_parts.specs.Scopes.{Columns, Tables, is_among}
+use Rattle.sql_check_parts.specs.Statements.{Given, IsTypedScript, after, script_fault, setting_breaks, settings_of, statement_breaks, with_table}
 use Rattle.sql_check.specs.declared.error.SqlTypeErr.{SqlTypeErr}
 use Rattle.sql_check.specs.declared.error.SqlTypeErr.TheVariants as err
 use Rattle.sql_check.specs.declared.given.SoFar.{SoFar}

@@ -4,8 +4,8 @@ use Rattle.std.specs.List.{list_any}
 use Rattle.std.specs.Map.{keys_of}
 use Rattle.vtl_kinds.specs.Literals.{is_null_kind}
 use Rattle.sql_tree.specs.Trees.{StatementTree}
-use Rattle.sql_typing.specs.Scopes.{Columns, repeats}
-use Rattle.sql_typing.specs.Statements.{Given, after, nothing}
+use Rattle.sql_check_parts.specs.Scopes.{Columns, repeats}
+use Rattle.sql_check_parts.specs.Statements.{Given, after, nothing}
 
 -- from 1 to 1,024 columns of different names, of kinds other than null
 pub record AreColumns (columns : Columns) : Type 0 where

@@ -2,7 +2,7 @@
 ghost use Rattle.std.specs.Prelude.{◌≡◌, IfOk};
 ghost use Rattle.sql_tree.specs.Formed.{FormedScript};
 ghost use Rattle.sql_tree.specs.View.{script_tree};
-ghost use Rattle.sql_typing.specs.Statements.{IsTypedScript, script_settings};
+ghost use Rattle.sql_check_parts.specs.Statements.{IsTypedScript, script_settings};
 ghost use Rattle.sql_check.specs.Answers.{Checks};
 
 use crate::SqlTypeErr;
@@ -26,7 +26,7 @@ impl Model for SqlChecked {
     ghost use Rattle.sql_tree.specs.Formed.{FormedScript};
     ghost use Rattle.sql_tree.specs.View.{script_tree};
     ghost use Rattle.sql_tree.specs.contracts.statements.SqlScript as s;
-    ghost use Rattle.sql_typing.specs.Statements.{IsTypedScript, script_settings};
+    ghost use Rattle.sql_check_parts.specs.Statements.{IsTypedScript, script_settings};
     ghost use Rattle.sql_check.specs.Answers as answers;
 
     ghost Value = { answers.Typed };

@@ -2,15 +2,15 @@
 ghost use Rattle.std.specs.Prelude.{◌≡◌, ◌||◌, not, IfOk};
 ghost use Rattle.std.specs.Option.{option_copied};
 ghost use Rattle.vtl_text.specs.Words.{is_word};
-ghost use Rattle.sql_typing.specs.Rules.{least};
-ghost use Rattle.sql_typing.specs.Scopes.{is_among};
-ghost use Rattle.sql_typing.specs.Statements.{export_breaks, order_fits};
+ghost use Rattle.sql_check_parts.specs.Rules.{least};
+ghost use Rattle.sql_check_parts.specs.Scopes.{is_among};
+ghost use Rattle.sql_check_parts.specs.Statements.{export_breaks, order_fits};
 
 use crate::given::SoFar;
 use crate::inputs::names_fit;
 use indexmap::IndexSet;
+use sql_check_parts::{Columns, least_broken};
 use sql_tree::SqlExport;
-use sql_typing::{Columns, least_broken};
 use std::alloc::{AllocError, Global};
 use vtl_text::{Txt, is_word};
 

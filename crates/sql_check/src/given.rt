@@ -1,10 +1,10 @@
 // What statements have given so far.
 ghost use Rattle.std.specs.Prelude.{◌≡◌};
-ghost use Rattle.sql_typing.specs.Statements.{nothing};
+ghost use Rattle.sql_check_parts.specs.Statements.{nothing};
 ghost use Rattle.sql_check.specs.Answers.{given_view};
 
 use indexmap::IndexSet;
-use sql_typing::Tables;
+use sql_check_parts::Tables;
 use std::alloc::Global;
 use vtl_text::Txt;
 

@@ -5,13 +5,13 @@ ghost use Rattle.std.specs.Option.{is_none};
 ghost use Rattle.std.specs.Prelude.{◌≡◌, ◌||◌, ℕ, List, length, nat_lt, not, IfOk, map};
 ghost use Rattle.vtl_cell.specs.declared.kind.Kind.{Kind};
 ghost use Rattle.vtl_text.specs.Words.{is_word};
-ghost use Rattle.sql_typing.specs.Rules.{least};
-ghost use Rattle.sql_typing.specs.Scopes.{is_among, is_empty, kind_among, repeats};
-ghost use Rattle.sql_typing.specs.Statements.{codes_fit, column_entry, input_breaks, input_columns, is_taken, is_text, names_fit};
-ghost use Rattle.sql_typing.specs.Typed.{distinct_columns};
+ghost use Rattle.sql_check_parts.specs.Rules.{least};
+ghost use Rattle.sql_check_parts.specs.Scopes.{is_among, is_empty, kind_among, repeats};
+ghost use Rattle.sql_check_parts.specs.Statements.{codes_fit, column_entry, input_breaks, input_columns, is_taken, is_text, names_fit};
+ghost use Rattle.sql_check_parts.specs.Typed.{distinct_columns};
 
+use sql_check_parts::{Columns, Tables, least_broken, repeats};
 use sql_tree::{InputColumn, SqlInput};
-use sql_typing::{Columns, Tables, least_broken, repeats};
 use std::alloc::{AllocError, Global};
 use vtl_cell::Kind;
 use vtl_text::{Txt, is_word};

@@ -6,10 +6,10 @@ ghost use Rattle.sql_tree.specs.Formed.{IsQuery};
 ghost use Rattle.sql_tree.specs.Trees as tree;
 ghost use Rattle.sql_tree.specs.Trees.{QueryTree, StatementTree, Text};
 ghost use Rattle.sql_tree.specs.declared.statements.SqlExport.{SqlExport};
-ghost use Rattle.sql_typing.specs.Queries.{query_breaks, query_columns};
-ghost use Rattle.sql_typing.specs.Rules.{least};
-ghost use Rattle.sql_typing.specs.Scopes.{Tables, columns_of};
-ghost use Rattle.sql_typing.specs.Statements.{IsTypedScript};
+ghost use Rattle.sql_check_parts.specs.Queries.{query_breaks, query_columns};
+ghost use Rattle.sql_check_parts.specs.Rules.{least};
+ghost use Rattle.sql_check_parts.specs.Scopes.{Tables, columns_of};
+ghost use Rattle.sql_check_parts.specs.Statements.{IsTypedScript};
 ghost use Rattle.sql_check.specs.Laws.{AreColumns, given_by};
 
 /// A formed query that breaks no rule gives from 1 to 1,024 columns of different names, and of kinds other than null.

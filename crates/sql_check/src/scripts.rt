@@ -1,7 +1,7 @@
 // Scripts.
 ghost use Rattle.std.specs.Prelude.{◌≡◌, IfOk, map};
 ghost use Rattle.sql_tree.specs.View.{script_tree, statement_tree};
-ghost use Rattle.sql_typing.specs.Statements.{fault_from, nothing, script_fault};
+ghost use Rattle.sql_check_parts.specs.Statements.{fault_from, nothing, script_fault};
 
 use crate::given::SoFar;
 use crate::settings::settings;

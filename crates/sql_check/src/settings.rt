@@ -1,7 +1,7 @@
 // SET.
 ghost use Rattle.std.specs.Prelude.{◌≡◌, ◌≤◌, true, pos};
 ghost use Rattle.vtl_kinds.specs.Literals.{lies_between};
-ghost use Rattle.sql_typing.specs.Statements.{scale_of, scale_written};
+ghost use Rattle.sql_check_parts.specs.Statements.{scale_of, scale_written};
 ghost use Rattle.sql_check.specs.Answers.{Sets};
 
 use vtl_decimal::{Profile, Rounding};

@@ -2,15 +2,15 @@
 ghost use Rattle.std.specs.Prelude.{◌≡◌, None, IfOk, OnOk};
 ghost use Rattle.sql_tree.specs.View.{query_tree, statement_tree};
 ghost use Rattle.sql_tree.specs.Trees as tree;
-ghost use Rattle.sql_typing.specs.Statements.{with_table};
+ghost use Rattle.sql_check_parts.specs.Statements.{with_table};
 ghost use Rattle.sql_check.specs.Answers.{IsSettled, IsStep, MayPut, given_view, some_columns};
 
 use crate::exports::export_fault;
 use crate::given::SoFar;
 use crate::inputs::{input_columns, input_fault};
-use sql_queries::query;
+use sql_check_parts::{Columns, least_broken, lesser};
+use sql_check_queries::query;
 use sql_tree::{SqlCreate, SqlExport, SqlInput, Statement};
-use sql_typing::{Columns, least_broken, lesser};
 use std::alloc::{AllocError, Global};
 use vtl_decimal::Profile;
 use vtl_text::Txt;

@@ -1,10 +1,10 @@
 -- What tokens spell is formed: names and literals have their forms, no list lacks an item, and no expression is too deep.
 use Rattle.std.proofs.Common.{◌≡◌, ◌⊎◌, inl, inr, ◌≤◌, ◌+◌, ℕ, zero, suc, true, max, List, [], ◌∷◌, ◌++◌, length, map, Option, None, Some, Result, Ok, Err, refl, subst, arith}
 use Rattle.std.specs.Prelude.{IfOk}
-use Rattle.forms.specs.Forms.{Both, Deep, deep, IsAbsent, IsMade, Spelling, deep_one, limited}
-use Rattle.forms.specs.Written.{Each}
-use Rattle.forms.specs.Scripts.{ScriptSpells}
-use Rattle.forms.proofs.Laws.{some_of}
+use Rattle.grammar_forms.specs.Forms.{Both, Deep, deep, IsAbsent, IsMade, Spelling, deep_one, limited}
+use Rattle.grammar_forms.specs.Written.{Each}
+use Rattle.grammar_forms.specs.Scripts.{ScriptSpells}
+use Rattle.grammar_forms.proofs.Laws.{some_of}
 use Rattle.sql_lexer.specs.Lexed.{Lexes, at_end, behind_space, behind_token, at_fault}
 use Rattle.sql_lexer.specs.Spelling.{IsDigits, IsFormed}
 use Rattle.sql_lexer.specs.declared.token.Token.{Token}

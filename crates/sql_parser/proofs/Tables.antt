@@ -2,8 +2,8 @@
 use Rattle.std.proofs.Common.{◌≡◌, ℕ, Bool, true, false, List, [], ◌∷◌, map, Option, None, Some, Result, Ok, Err, Vec, refl, ap, sym, ◌∙◌}
 use Rattle.std.specs.Prelude.{nat_eq, if◌then◌else◌, option_map}
 use Rattle.std.specs.declared.alloc.Global.{Global}
-use Rattle.forms.specs.Forms.{lookup}
-use Rattle.forms.proofs.Laws.{pair_of}
+use Rattle.grammar_forms.specs.Forms.{lookup}
+use Rattle.grammar_forms.proofs.Laws.{pair_of}
 use Rattle.std.proofs.Math.Utf8.{encodes}
 use Rattle.std.proofs.lemmas.Str.{encodes_same}
 use Rattle.std.specs.Cmp.Lexicographic.{pointwise, same_text}

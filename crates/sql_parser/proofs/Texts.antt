@@ -1,7 +1,7 @@
 -- The clauses of `parse`, from the answer for the tokens: what a text is, is determined.
 use Rattle.std.proofs.Common.{◌≡◌, ℕ, List, length, Option, Result, Ok, Err, MatchResult, subst}
-use Rattle.forms.specs.Scripts.{SyntaxFault, WholeScript}
-use Rattle.forms.proofs.Scripts.{fault-determined, scripts-unique, whole-no-fault}
+use Rattle.grammar_forms.specs.Scripts.{SyntaxFault, WholeScript}
+use Rattle.grammar_forms.proofs.Scripts.{fault-determined, scripts-unique, whole-no-fault}
 use Rattle.sql_lexer.specs.Lexed.{IsLexed}
 use Rattle.sql_lexer.proofs.LexedParts.{lexed-once}
 use Rattle.sql_lexer.specs.declared.token.Token.{Token}

@@ -2,8 +2,8 @@
 use Rattle.std.proofs.Common.{◌≡◌, ◌∙◌, ℕ, zero, suc, ◌≤◌, ◌-◌, List, [], ◌∷◌, Option, None, Some, length, length-drop, take, drop, ap, arith, subst, sym, refl}
 use Rattle.std.specs.Prelude.{unwrap_or}
 use Rattle.std.proofs.lemmas.List.{take_rest}
-use Rattle.forms.specs.Scripts.{SyntaxFault, WholeScript, byte_of, script_reads}
-use Rattle.forms.proofs.Scripts.{left-fits, told-fault, told-script}
+use Rattle.grammar_forms.specs.Scripts.{SyntaxFault, WholeScript, byte_of, script_reads}
+use Rattle.grammar_forms.proofs.Scripts.{left-fits, told-fault, told-script}
 use Rattle.sql_lexer.specs.declared.token.Token.{Token}
 use Rattle.sql_tree.specs.Classes.{class}
 use Rattle.sql_tree.specs.Grammar.{Tokens, setting, statement, statement_at}

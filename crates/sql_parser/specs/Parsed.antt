@@ -1,6 +1,6 @@
 -- What parsing answers.
 use Rattle.std.specs.Prelude.{◌≡◌, ℕ, List, [], ◌∷◌, Option, Some, Result, Ok, Err}
-use Rattle.forms.specs.Scripts.{SyntaxFault}
+use Rattle.grammar_forms.specs.Scripts.{SyntaxFault}
 use Rattle.sql_lexer.specs.declared.token.Token.{Token}
 use Rattle.sql_lexer.specs.declared.token.TokenKind.{TokenKind}
 use Rattle.sql_tree.specs.Grammar.{statement_at}

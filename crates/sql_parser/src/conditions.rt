@@ -1,5 +1,5 @@
 // What tests of operands hold besides expressions.
-ghost use Rattle.forms.specs.Forms.{after};
+ghost use Rattle.grammar_forms.specs.Forms.{after};
 ghost use Rattle.sql_lexer.specs.declared.token.Word.TheVariants as word;
 ghost use Rattle.sql_parser.specs.Answers.{Answers, AnswersBy, kinds, with_items};
 ghost use Rattle.sql_tree.specs.Grammar.{in_brackets, key, matched, membership, negated, null_test, one};

@@ -1,6 +1,6 @@
 // Lists of expressions and of the branches of CASE, with their depths.
 ghost use Rattle.std.specs.Prelude.{length, map};
-ghost use Rattle.forms.specs.Forms.{chain_reads, deep, deep_added, turns};
+ghost use Rattle.grammar_forms.specs.Forms.{chain_reads, deep, deep_added, turns};
 ghost use Rattle.sql_parser.specs.Answers.{AnswersBy, item_views, kinds};
 ghost use Rattle.sql_parser.specs.Depths.{Nests, deep_view, first_deep};
 
@@ -14,7 +14,7 @@ use sql_tree::{Branch, SqlExpr};
 // mark before it.
 pub(crate) trait DeepKind {
     ghost use Rattle.std.specs.Prelude.{ℕ};
-    ghost use Rattle.forms.specs.Forms.{Deep, Reads};
+    ghost use Rattle.grammar_forms.specs.Forms.{Deep, Reads};
     ghost use Rattle.sql_lexer.specs.declared.token.TokenKind.{TokenKind};
     ghost use Rattle.sql_parser.specs.Answers.{AnswersBy, kinds};
     ghost use Rattle.sql_parser.specs.Depths.{Nests, deep_view};
@@ -96,7 +96,7 @@ impl<F: Fn(Place, Tokens<'_>) -> Result<Node<'_>, Unread>> Grammar<F> {
 pub(crate) struct OperandList;
 
 impl DeepKind for OperandList {
-    ghost use Rattle.forms.specs.Forms.{after};
+    ghost use Rattle.grammar_forms.specs.Forms.{after};
     ghost use Rattle.sql_lexer.specs.declared.token.Word.TheVariants.{Comma};
     ghost use Rattle.sql_tree.specs.Grammar.{Whole, expr_at, key};
     ghost use Rattle.sql_tree.specs.Trees.{Exp};

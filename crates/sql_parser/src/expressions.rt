@@ -1,6 +1,6 @@
 // Expressions: signs, brackets, calls, and what follows an operand.
 ghost use Rattle.std.specs.Prelude.{suc};
-ghost use Rattle.forms.specs.Forms.{after, before, deep, made, maybe, seq};
+ghost use Rattle.grammar_forms.specs.Forms.{after, before, deep, made, maybe, seq};
 ghost use Rattle.sql_lexer.specs.declared.token.Word.TheVariants as word;
 ghost use Rattle.sql_parser.specs.Answers.{AnswersBy, kinds};
 ghost use Rattle.sql_parser.specs.Depths.{Nests, box_tree, deep_view, place_of};

@@ -1,6 +1,6 @@
 // The reader of expressions at one budget of depth, over a reader of their parts at the next lower one.
 ghost use Rattle.std.specs.Prelude.{◌≡◌, ◌≤◌, suc};
-ghost use Rattle.forms.specs.Forms.{deep, gives};
+ghost use Rattle.grammar_forms.specs.Forms.{deep, gives};
 ghost use Rattle.sql_parser.specs.Answers.{AnswersBy, kinds};
 ghost use Rattle.sql_parser.specs.Depths.{box_tree, deep_view, node_reads};
 ghost use Rattle.sql_tree.specs.View.{expr_tree};

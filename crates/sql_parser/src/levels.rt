@@ -1,6 +1,6 @@
 // Levels of operators that group to the left.
 ghost use Rattle.std.specs.Prelude.{length, suc};
-ghost use Rattle.forms.specs.Forms.{chain_reads, deep, then_reads, turns};
+ghost use Rattle.grammar_forms.specs.Forms.{chain_reads, deep, then_reads, turns};
 ghost use Rattle.sql_parser.specs.Answers.{AnswersBy, front_view, kinds};
 ghost use Rattle.sql_parser.specs.Depths.{Nests, box_tree, deep_view, step_view};
 ghost use Rattle.sql_parser.specs.Steps.{AnswersTurn, turn_reads};
@@ -16,7 +16,7 @@ use vtl_cell::ScalarOp;
 // A level of operators that group to the left.
 pub(crate) trait Level {
     ghost use Rattle.std.specs.Prelude.{◌≡◌, ℕ, List, option_map};
-    ghost use Rattle.forms.specs.Forms.{Deep, Reads};
+    ghost use Rattle.grammar_forms.specs.Forms.{Deep, Reads};
     ghost use Rattle.sql_lexer.specs.declared.token.TokenKind.{TokenKind};
     ghost use Rattle.sql_parser.specs.Answers.{AnswersBy, front_view, kinds, same};
     ghost use Rattle.sql_parser.specs.Depths.{Nests, box_tree, deep_view};

@@ -1,6 +1,6 @@
 // Lists of parts.
 ghost use Rattle.std.specs.Prelude.{length, map};
-ghost use Rattle.forms.specs.Forms.{added, chain_reads, turns};
+ghost use Rattle.grammar_forms.specs.Forms.{added, chain_reads, turns};
 ghost use Rattle.sql_parser.specs.Answers.{AnswersBy, first_item, item_views, kinds};
 
 use crate::front::{Front, Tokens, Unread, optional};
@@ -10,7 +10,7 @@ use std::alloc::Global;
 
 // A kind of list: how its first item is read, and how each item behind it is, with the mark before it.
 pub(crate) trait ListKind {
-    ghost use Rattle.forms.specs.Forms.{Reads};
+    ghost use Rattle.grammar_forms.specs.Forms.{Reads};
     ghost use Rattle.sql_lexer.specs.declared.token.TokenKind.{TokenKind};
     ghost use Rattle.sql_parser.specs.Answers.{AnswersBy, kinds};
 
@@ -66,7 +66,7 @@ pub(crate) fn more<L: ListKind>(
 
 // A part that stands in lists with a comma between two.
 pub(crate) trait Part {
-    ghost use Rattle.forms.specs.Forms.{Reads};
+    ghost use Rattle.grammar_forms.specs.Forms.{Reads};
     ghost use Rattle.sql_lexer.specs.declared.token.TokenKind.{TokenKind};
     ghost use Rattle.sql_parser.specs.Answers.{AnswersBy, kinds};
 

@@ -1,6 +1,6 @@
 // The script of a text.
 ghost use Rattle.std.specs.Prelude.{◌≡◌, ℕ, IfOk, MatchResult};
-ghost use Rattle.forms.specs.Scripts.{WholeScript};
+ghost use Rattle.grammar_forms.specs.Scripts.{WholeScript};
 ghost use Rattle.sql_parser.specs.Parsed.{IsFault, IsFaultOf, IsMemory, IsSyntaxError, next_byte_of};
 ghost use Rattle.sql_tree.specs.Formed.{FormedScript};
 ghost use Rattle.sql_tree.specs.Grammar.{statement_at};

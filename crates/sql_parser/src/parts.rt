@@ -1,5 +1,5 @@
 // Names, texts, numbers, columns and constants.
-ghost use Rattle.forms.specs.Forms.{after, listed};
+ghost use Rattle.grammar_forms.specs.Forms.{after, listed};
 ghost use Rattle.sql_lexer.specs.declared.token.Word.TheVariants as word;
 ghost use Rattle.sql_parser.specs.Answers.{Answers, AnswersBy, AnswersTokens, kinds, vec_items};
 ghost use Rattle.sql_tree.specs.Grammar.{column, columns, const, constant_words_table, dec, equality, in_brackets, int, items_after, key, lit, literal_words_table, lits, name, names, number, of_table, one, signed_number, source, text, texts, two_keys};
@@ -405,7 +405,7 @@ pub(crate) fn bracketed_literals(
 struct EqualityList;
 
 impl ListKind for EqualityList {
-    ghost use Rattle.forms.specs.Forms.{after};
+    ghost use Rattle.grammar_forms.specs.Forms.{after};
     ghost use Rattle.sql_lexer.specs.declared.token.Word.TheVariants.{And};
     ghost use Rattle.sql_parser.specs.Answers.{same};
     ghost use Rattle.sql_tree.specs.Grammar.{equality, key};

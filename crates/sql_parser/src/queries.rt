@@ -1,5 +1,5 @@
 // Queries.
-ghost use Rattle.forms.specs.Forms.{after, maybe_after, seq, «as»};
+ghost use Rattle.grammar_forms.specs.Forms.{after, maybe_after, seq, «as»};
 ghost use Rattle.sql_lexer.specs.declared.token.Word.TheVariants as word;
 ghost use Rattle.sql_parser.specs.Answers.{Answers, AnswersBy, item_views, kinds};
 ghost use Rattle.sql_parser.specs.Parts.{body_view, group_view, joins_view, limits_view, option_view};
@@ -249,7 +249,7 @@ fn select(alloc: Global, tokens: Tokens<'_>) -> Result<Front<'_, Select>, Unread
 struct SelectList;
 
 impl ListKind for SelectList {
-    ghost use Rattle.forms.specs.Forms.{after};
+    ghost use Rattle.grammar_forms.specs.Forms.{after};
     ghost use Rattle.sql_lexer.specs.declared.token.Word.TheVariants.{All, Union};
     ghost use Rattle.sql_tree.specs.Grammar.{select, two_keys};
     ghost use Rattle.sql_tree.specs.Trees.{SelectTree};

@@ -1,6 +1,6 @@
 // Scripts: SET, and the statements behind it.
 ghost use Rattle.std.specs.Prelude.{Some, length};
-ghost use Rattle.forms.specs.Scripts.{script_reads};
+ghost use Rattle.grammar_forms.specs.Scripts.{script_reads};
 ghost use Rattle.sql_parser.specs.Answers.{AnswersBy, item_views, kinds};
 ghost use Rattle.sql_parser.specs.Parsed.{AnswersScript};
 ghost use Rattle.sql_tree.specs.Grammar.{statement_at};

@@ -1,5 +1,5 @@
 // Statements.
-ghost use Rattle.forms.specs.Forms.{after, before, maybe, «as»};
+ghost use Rattle.grammar_forms.specs.Forms.{after, before, maybe, «as»};
 ghost use Rattle.sql_lexer.specs.declared.token.Word.TheVariants as word;
 ghost use Rattle.sql_parser.specs.Answers.{Answers, AnswersBy, item_views, kinds, vec_items};
 ghost use Rattle.sql_parser.specs.Parts.{setting_view};

@@ -1,6 +1,6 @@
 // Windows.
 ghost use Rattle.std.specs.Prelude.{◌≡◌, Some};
-ghost use Rattle.forms.specs.Forms.{after, before, maybe, seq, «as»};
+ghost use Rattle.grammar_forms.specs.Forms.{after, before, maybe, seq, «as»};
 ghost use Rattle.sql_lexer.specs.declared.token.Word.TheVariants as word;
 ghost use Rattle.sql_parser.specs.Answers.{Answers, AnswersBy, front_view, kinds, same, vec_items};
 ghost use Rattle.sql_tree.specs.Grammar.{bound_of, column, column_aggregate, column_shift, column_value, commas, default, directions_table, frame, in_brackets, int, items_after, key, of_table, over, rank, sides_table, two_keys, wcall, wkey};

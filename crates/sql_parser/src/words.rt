@@ -1,6 +1,6 @@
 // Keywords and marks.
 ghost use Rattle.std.specs.Prelude.{◌≡◌, List, None, Some, MatchResult, map, option_map};
-ghost use Rattle.forms.specs.Forms.{first_as, lookup, maybe, «as»};
+ghost use Rattle.grammar_forms.specs.Forms.{first_as, lookup, maybe, «as»};
 ghost use Rattle.sql_parser.specs.declared.front.Unread.TheVariants as unread;
 ghost use Rattle.sql_parser.specs.Answers.{by_places, front_view, kinds, marked, same};
 ghost use Rattle.sql_tree.specs.Classes.{class, place};

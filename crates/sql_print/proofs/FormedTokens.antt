@@ -1,6 +1,6 @@
 -- Each token of a printable script is formed.
 use Rattle.std.proofs.Common.{Bool, true, false, List, [], ◌∷◌, ◌++◌, Option, None, Some, nat_le, arith, refl}
-use Rattle.forms.specs.Written.{Each, behind, between, run}
+use Rattle.grammar_forms.specs.Written.{Each, behind, between, run}
 use Rattle.sql_lexer.specs.Spelling.{IsFormed}
 use Rattle.sql_lexer.specs.declared.token.TokenKind.TheVariants as t
 use Rattle.sql_lexer.specs.declared.token.Word.{Word}

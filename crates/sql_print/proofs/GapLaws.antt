@@ -1,7 +1,7 @@
 -- Which tokens stand apart, and a token more.
 use Rattle.std.proofs.Common.{◌≡◌, ◌∙◌, ◌<◌, ℕ, zero, suc, List, [], ◌∷◌, ◌++◌, length, get_or, take, refl, sym, ap, subst, arith, append_assoc}
 use Rattle.std.proofs.Math.Seq.{take-suc}
-use Rattle.forms.specs.Written.{Each}
+use Rattle.grammar_forms.specs.Written.{Each}
 use Rattle.sql_lexer.specs.Spelling.{IsFormed, spelled}
 use Rattle.sql_lexer.specs.Writing.{IsApart, IsGap, more}
 use Rattle.sql_lexer.specs.declared.token.TokenKind.{TokenKind}

@@ -1,6 +1,6 @@
 -- What is written behind tokens is what is written, behind them.
 use Rattle.std.proofs.Common.{◌≡◌, ◌∙◌, Bool, true, false, List, [], ◌∷◌, ◌++◌, map, refl, sym, ap, append_assoc, append-nil, nat_le}
-use Rattle.forms.specs.Written.{behind, between, run}
+use Rattle.grammar_forms.specs.Written.{behind, between, run}
 use Rattle.sql_lexer.specs.declared.token.TokenKind.TheVariants as t
 use Rattle.sql_lexer.specs.declared.token.Word.{Word}
 use Rattle.sql_lexer.specs.declared.token.Word.TheVariants as w

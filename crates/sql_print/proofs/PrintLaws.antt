@@ -2,8 +2,8 @@
 use Rattle.std.proofs.Common.{◌≡◌, ◌∙◌, ◌≤◌, ℕ, List, [], ◌∷◌, ◌++◌, None, length, map, chars, refl, sym, ap, subst, arith, Result, Ok, Err, IfOk, String, string_bytes}
 use Rattle.std.specs.declared.alloc.AllocError.{AllocError}
 use Rattle.std.specs.declared.alloc.Global.{Global}
-use Rattle.forms.specs.Scripts.{ScriptSpells}
-use Rattle.forms.proofs.Scripts.{scripts-unique}
+use Rattle.grammar_forms.specs.Scripts.{ScriptSpells}
+use Rattle.grammar_forms.proofs.Scripts.{scripts-unique}
 use Rattle.sql_lexer.specs.Lexed.{kinds_of}
 use Rattle.sql_lexer.specs.declared.token.Token.{Token}
 use Rattle.sql_lexer.specs.declared.token.TokenKind.{TokenKind}

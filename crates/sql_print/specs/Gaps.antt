@@ -1,6 +1,6 @@
 -- What stands between two tokens, and what has been written of some.
 use Rattle.std.specs.Prelude.{◌++◌, [], ℕ, List, codes}
-use Rattle.forms.specs.Written.{Each}
+use Rattle.grammar_forms.specs.Written.{Each}
 use Rattle.sql_lexer.specs.Spelling.{IsFormed, spelled}
 use Rattle.sql_lexer.specs.Writing.{IsApart, Written}
 use Rattle.sql_lexer.specs.declared.token.TokenKind.{TokenKind}

@@ -1,6 +1,6 @@
 // The tokens of queries.
 ghost use Rattle.std.specs.Prelude.{◌≡◌, ◌++◌, map, option_map, OnOk};
-ghost use Rattle.forms.specs.Written.{behind, run};
+ghost use Rattle.grammar_forms.specs.Written.{behind, run};
 ghost use Rattle.sql_lexer.specs.declared.token.Word.TheVariants as w;
 ghost use Rattle.sql_tree.specs.Printing.{behind_word, commas, maybe_written, two_words, written, written_item, written_join, written_query, written_select, written_sources, written_value};
 ghost use Rattle.sql_tree.specs.View.{expr_tree, item_tree, join_tree, query_tree, select_tree, value_tree};

@@ -1,6 +1,6 @@
 // The tokens of statements and scripts.
 ghost use Rattle.std.specs.Prelude.{◌≡◌, ◌++◌, map, IfOk, OnOk};
-ghost use Rattle.forms.specs.Written.{behind, run};
+ghost use Rattle.grammar_forms.specs.Written.{behind, run};
 ghost use Rattle.sql_lexer.specs.declared.token.Word.TheVariants as w;
 ghost use Rattle.sql_tree.specs.Printing.{bracketed, commas, items_after, just, two_words, written_name, written_script, written_statement, written_text};
 ghost use Rattle.sql_print.specs.Tails.{input_key};

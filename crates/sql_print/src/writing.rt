@@ -1,6 +1,6 @@
 // What is written as tokens, and lists of it.
 ghost use Rattle.std.specs.Prelude.{◌≡◌, ◌++◌, ◌∷◌, [], map, OnOk};
-ghost use Rattle.forms.specs.Written.{behind, between, run};
+ghost use Rattle.grammar_forms.specs.Written.{behind, between, run};
 ghost use Rattle.sql_lexer.specs.declared.token.TokenKind.TheVariants as t;
 
 use sql_lexer::{TokenKind, Word};

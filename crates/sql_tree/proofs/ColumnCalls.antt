@@ -1,8 +1,8 @@
 -- A call with a column begins as an expression may, and the OVER behind it tells that it is a window.
 use Rattle.std.proofs.Common.{◌≡◌, ◌⊎◌, ◌≤◌, inl, inr, ◌∙◌, ℕ, suc, Bool, true, false, [], ◌∷◌, ◌++◌, None, Some, refl, subst, arith, nat_eq}
 use Rattle.std.specs.Prelude.{if◌then◌else◌}
-use Rattle.forms.specs.Forms.{deep, lookup}
-use Rattle.forms.proofs.Laws.{some_of}
+use Rattle.grammar_forms.specs.Forms.{deep, lookup}
+use Rattle.grammar_forms.proofs.Laws.{some_of}
 use Rattle.sql_lexer.specs.declared.token.TokenKind.{TokenKind}
 use Rattle.sql_lexer.specs.declared.token.Word.TheVariants as w
 use Rattle.vtl_cell.specs.declared.operator.AggKind.{AggKind}

@@ -2,13 +2,13 @@
 use Rattle.std.proofs.Common.{◌≡◌, inl, inr, ◌≤◌, true, false, ℕ, zero, suc, max, Bool, List, [], ◌∷◌, ◌++◌, Option, None, Some, refl, ap, subst, arith}
 use borrow.Author.Tests.{leb-true}
 use Rattle.std.specs.Prelude.{nat_le, if◌then◌else◌}
-use Rattle.forms.specs.Forms.{Spelling, Both, IsMade, MaybeSpells, Deep, deep, limited, deep_listed, deep_added, joined, ◌>>=◌}
+use Rattle.grammar_forms.specs.Forms.{Spelling, Both, IsMade, MaybeSpells, Deep, deep, limited, deep_listed, deep_added, joined, ◌>>=◌}
 use Rattle.sql_lexer.specs.declared.token.TokenKind.{TokenKind}
 use Rattle.sql_lexer.specs.declared.token.Word.TheVariants as w
 use Rattle.vtl_cell.specs.declared.operator.ScalarOp.TheVariants as op
 use Rattle.vtl_cell.specs.declared.operator.AggKind.TheVariants as agg
-use Rattle.forms.proofs.Laws.{some_of}
-use Rattle.forms.proofs.Narrow.{Narrow, narrow-seq, narrow-made, narrow-as, narrow-after, narrow-before, narrow-or, narrow-chain, relimit, depth}
+use Rattle.grammar_forms.proofs.Laws.{some_of}
+use Rattle.grammar_forms.proofs.Narrow.{Narrow, narrow-seq, narrow-made, narrow-as, narrow-after, narrow-before, narrow-or, narrow-chain, relimit, depth}
 use Rattle.vtl_cell.specs.declared.operator.ScalarOp.{ScalarOp}
 use Rattle.vtl_cell.specs.declared.operator.AggKind.{AggKind}
 use Rattle.sql_tree.specs.Depth.{Spelled, SpelledAt}

@@ -1,8 +1,8 @@
 -- The forms of the grammar are lawful.
 use Rattle.std.proofs.Common.{◌≡◌, ℕ, zero, suc, true, [], ◌∷◌, List, Some, refl}
-use Rattle.forms.specs.Forms.{gate, has, apart}
-use Rattle.forms.proofs.Laws.{Lawful, token-law, words-law, seq-law, made-law, or-law, maybe-law, led-law, absent-law, gate-law, nothing-law, as-law, after-law, before-law}
-use Rattle.forms.proofs.Chains.{chain-law, listed-law, deep_listed-law}
+use Rattle.grammar_forms.specs.Forms.{gate, has, apart}
+use Rattle.grammar_forms.proofs.Laws.{Lawful, token-law, words-law, seq-law, made-law, or-law, maybe-law, led-law, absent-law, gate-law, nothing-law, as-law, after-law, before-law}
+use Rattle.grammar_forms.proofs.Chains.{chain-law, listed-law, deep_listed-law}
 use Rattle.sql_lexer.specs.declared.token.TokenKind.{TokenKind}
 use Rattle.sql_lexer.specs.declared.token.TokenKind.TheVariants as t
 use Rattle.sql_lexer.specs.declared.token.Word.{Word}

@@ -1,9 +1,9 @@
 -- The levels of expressions: what spells an expression at one level spells it at each looser one.
 use Rattle.std.proofs.Common.{◌≡◌, inl, inr, ◌≤◌, ◌+◌, ℕ, zero, suc, true, [], ◌∷◌, ◌++◌, None, Some, refl, sym, subst, arith, append-nil, nat_eq}
 use borrow.Author.Tests.{eq-eqb, le-leb}
-use Rattle.forms.specs.Forms.{Both, IsMade, Spelling, deep, limited}
-use Rattle.forms.proofs.Chains.{chain-alone}
-use Rattle.forms.proofs.Written.{both-of, as-of, after-of, before-of}
+use Rattle.grammar_forms.specs.Forms.{Both, IsMade, Spelling, deep, limited}
+use Rattle.grammar_forms.proofs.Chains.{chain-alone}
+use Rattle.grammar_forms.proofs.Written.{both-of, as-of, after-of, before-of}
 use Rattle.sql_lexer.specs.declared.token.TokenKind.{TokenKind}
 use Rattle.sql_lexer.specs.declared.token.TokenKind.TheVariants as t
 use Rattle.sql_lexer.specs.declared.token.Word.{Word}

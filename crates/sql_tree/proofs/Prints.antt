@@ -1,10 +1,10 @@
 -- What is written for an expression spells it.
 use Rattle.std.proofs.Common.{◌≡◌, inl, inr, ◌∙◌, ◌≤◌, ◌+◌, ◌*◌, ◌-◌, ℕ, zero, suc, max, Bool, true, false, List, [], ◌∷◌, ◌++◌, length, None, Some, refl, sym, ap, subst, arith, append_assoc, append-nil, nat_le}
 use borrow.Author.Tests.{leb-true}
-use Rattle.forms.specs.Forms.{Form, chain, seq, deep, Deep, limited, lookup, IsToken}
-use Rattle.forms.specs.Written.{Each}
-use Rattle.forms.proofs.Chains.{chain-alone, chain-more}
-use Rattle.forms.proofs.Written.{both-of, as-of, after-of, before-of, listed-of}
+use Rattle.grammar_forms.specs.Forms.{Form, chain, seq, deep, Deep, limited, lookup, IsToken}
+use Rattle.grammar_forms.specs.Written.{Each}
+use Rattle.grammar_forms.proofs.Chains.{chain-alone, chain-more}
+use Rattle.grammar_forms.proofs.Written.{both-of, as-of, after-of, before-of, listed-of}
 use Rattle.sql_lexer.specs.declared.token.TokenKind.TheVariants as t
 use Rattle.sql_lexer.specs.declared.token.Word.{Word}
 use Rattle.sql_lexer.specs.declared.token.Word.TheVariants as w
@@ -31,7 +31,7 @@ use Rattle.sql_tree.proofs.Levels.{limited-ok, one, name-of, text-of, int-of, de
 
 -- ---- parts
 
-pub listed-by : {A : Type 0} (mark : Word) (item : SqlForm A) (f : A → Tokens) (P : A → Type 0) → ((x : A) → P x → item.spells (f x) x) → (xs : List A) → 1 ≤ length xs → Each P xs → (Rattle.forms.specs.Forms.listed (key mark) item).spells (Rattle.forms.specs.Written.between (just mark) f xs) xs
+pub listed-by : {A : Type 0} (mark : Word) (item : SqlForm A) (f : A → Tokens) (P : A → Type 0) → ((x : A) → P x → item.spells (f x) x) → (xs : List A) → 1 ≤ length xs → Each P xs → (Rattle.grammar_forms.specs.Forms.listed (key mark) item).spells (Rattle.grammar_forms.specs.Written.between (just mark) f xs) xs
 listed-by mark item f P good [] some each = absurd (omega (arith, some))
 listed-by mark item f P good (x ∷ xs) some each = listed-of (key mark) item (just mark) tt (one mark) f P good x xs each.0 each.1
 
@@ -50,7 +50,7 @@ const-of const.Null = inr (inr (inl (record { token = t.Word w.Null; is = refl; 
 const-of (const.Date x) = inr (inr (inr (inl (as-of _ (t.Word w.Date ∷ (t.Text x ∷ [])) x (after-of (just w.Date) (t.Text x ∷ []) tt (one w.Date) (text-of x))))))
 const-of (const.Period x) = inr (inr (inr (inr (as-of _ (t.Word w.Period ∷ (t.Text x ∷ [])) x (after-of (just w.Period) (t.Text x ∷ []) tt (one w.Period) (text-of x))))))
 
-minus-of : (b : Bool) → (Rattle.forms.specs.Forms.as g.is_some (Rattle.forms.specs.Forms.maybe (key w.Minus))).spells (minus_word b) b
+minus-of : (b : Bool) → (Rattle.grammar_forms.specs.Forms.as g.is_some (Rattle.grammar_forms.specs.Forms.maybe (key w.Minus))).spells (minus_word b) b
 minus-of true = record { part = Some tt; spelled = one w.Minus; is = refl }
 minus-of false = record { part = None; spelled = refl; is = refl }
 
@@ -258,7 +258,7 @@ exists-good s es each m h = record {
   }))))));
 }
   where
-    equalities : (xs : List Equality) → Each IsEquality xs → (g.items_after (key w.Where) (Rattle.forms.specs.Forms.listed (key w.And) g.equality)).spells (written_equalities xs) xs
+    equalities : (xs : List Equality) → Each IsEquality xs → (g.items_after (key w.Where) (Rattle.grammar_forms.specs.Forms.listed (key w.And) g.equality)).spells (written_equalities xs) xs
     equalities [] each = inr (record { none = refl; is = refl })
     equalities (x ∷ xs) each = inl (record {
       part = (tt, x ∷ xs);
@@ -345,7 +345,7 @@ EachGood no_exps = Unit {0}
 EachGood (exp e es) = Good e × EachGood es
 
 abbrev exps_form : ℕ → SqlForm (Deep (List Exp))
-exps_form m = Rattle.forms.specs.Forms.deep_listed (key w.Comma) (expr_at m Whole)
+exps_form m = Rattle.grammar_forms.specs.Forms.deep_listed (key w.Comma) (expr_at m Whole)
 
 record WritesAll (m : ℕ) (ts : Tokens) (es : List Exp) (bound : ℕ) : Type 0 where
   depth : ℕ

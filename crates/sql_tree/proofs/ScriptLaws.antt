@@ -1,10 +1,10 @@
 -- The forms of windows, queries and statements are lawful.
 use Rattle.std.proofs.Common.{◌≡◌, inl, inr, ◌∙◌, ℕ, zero, suc, false, [], ◌∷◌, ◌++◌, Option, None, Some, refl, sym, ap, subst, append_assoc}
-use Rattle.forms.specs.Forms.{or, «as», gate, before, has}
-use Rattle.forms.proofs.Laws.{Lawful, Begins, Stops, pair_of, unread, begins-stops, stops-right, as-law, after-law, before-law, or-law, seq-law, led-law, led-law-by, maybe-law, maybe_after-law, absent-law, gate-law}
-use Rattle.forms.proofs.Chains.{chain-law, listed-law}
-use Rattle.forms.proofs.Scripts.{Closed}
-use Rattle.forms.proofs.Tests.{clash, has-left}
+use Rattle.grammar_forms.specs.Forms.{or, «as», gate, before, has}
+use Rattle.grammar_forms.proofs.Laws.{Lawful, Begins, Stops, pair_of, unread, begins-stops, stops-right, as-law, after-law, before-law, or-law, seq-law, led-law, led-law-by, maybe-law, maybe_after-law, absent-law, gate-law}
+use Rattle.grammar_forms.proofs.Chains.{chain-law, listed-law}
+use Rattle.grammar_forms.proofs.Scripts.{Closed}
+use Rattle.grammar_forms.proofs.Tests.{clash, has-left}
 use Rattle.sql_lexer.specs.declared.token.Word.TheVariants as w
 use Rattle.sql_tree.specs.Classes.{class, place}
 use Rattle.sql_tree.specs.Trees.{Exp, ValueTree, StatementTree}

@@ -1,9 +1,9 @@
 -- What is written for a script spells it.
 use Rattle.std.proofs.Common.{◌≡◌, inl, inr, ◌∙◌, ℕ, suc, true, List, [], ◌∷◌, ◌++◌, Option, None, Some, refl, sym, ap, arith, append_assoc, append-nil}
-use Rattle.forms.specs.Forms.{joined, «as», maybe, maybe_after}
-use Rattle.forms.specs.Scripts.{ScriptSpells}
-use Rattle.forms.specs.Written.{Each, run}
-use Rattle.forms.proofs.Written.{both-of, as-of, after-of, before-of, listed-of, each-of}
+use Rattle.grammar_forms.specs.Forms.{joined, «as», maybe, maybe_after}
+use Rattle.grammar_forms.specs.Scripts.{ScriptSpells}
+use Rattle.grammar_forms.specs.Written.{Each, run}
+use Rattle.grammar_forms.proofs.Written.{both-of, as-of, after-of, before-of, listed-of, each-of}
 use Rattle.sql_lexer.specs.declared.token.TokenKind.TheVariants as t
 use Rattle.sql_lexer.specs.declared.token.Word.{Word}
 use Rattle.sql_lexer.specs.declared.token.Word.TheVariants as w

@@ -1,6 +1,6 @@
 -- Expressions without a bound on their depth: some tokens, the tree that they mean and the depth of how it is written. A leaf has depth 1; each operator, call, CASE and pair of brackets has one more than its deepest part.
 use Rattle.std.specs.Prelude.{ℕ}
-use Rattle.forms.specs.Forms.{deep}
+use Rattle.grammar_forms.specs.Forms.{deep}
 use Rattle.sql_tree.specs.Grammar.{Place, Whole, Tokens, expr_at}
 use Rattle.sql_tree.specs.Trees.{Exp}
 

@@ -1,6 +1,6 @@
 -- Which trees are scripts: the names and literals have their forms, the operators stand at their places, each list has at least the items that it needs, and no expression is too deep. A script is printable up to depth 256, since its text has at most one pair of brackets round each part.
 use Rattle.std.specs.Prelude.{◌≡◌, ◌≤◌, ℕ, suc, max, Bool, true, false, ◌∷◌, length, Option, None, Some}
-use Rattle.forms.specs.Written.{Each}
+use Rattle.grammar_forms.specs.Written.{Each}
 use Rattle.sql_lexer.specs.Spelling.{IsDecimal, IsDigits, is_name}
 use Rattle.vtl_cell.specs.declared.operator.ScalarOp.{ScalarOp}
 use Rattle.vtl_cell.specs.declared.operator.ScalarOp.TheVariants as op

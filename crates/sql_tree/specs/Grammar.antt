@@ -1,6 +1,6 @@
 -- The grammar of the dialect, as forms over the kinds of tokens. Above each form stands its production: words in capitals and marks are tokens, `{ }` is any number of times, `[ ]` is optional, `|` is a choice.
 use Rattle.std.specs.Prelude.{ℕ, zero, suc, max, Bool, true, false, List, [], ◌∷◌, ◌++◌, Option, None, Some, nat_eq, if◌then◌else◌}
-use Rattle.forms.specs.Forms.{Form, Deep, deep, limited, token, words, word, seq, made, «as», after, before, or, led, absent, maybe, maybe_after, chain, listed, deep_listed, deep_one, deep_added, gate, nothing}
+use Rattle.grammar_forms.specs.Forms.{Form, Deep, deep, limited, token, words, word, seq, made, «as», after, before, or, led, absent, maybe, maybe_after, chain, listed, deep_listed, deep_one, deep_added, gate, nothing}
 use Rattle.sql_lexer.specs.declared.token.TokenKind.{TokenKind}
 use Rattle.sql_lexer.specs.declared.token.TokenKind.TheVariants as t
 use Rattle.sql_lexer.specs.declared.token.Word.{Word}

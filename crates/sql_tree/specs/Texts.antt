@@ -1,6 +1,6 @@
 -- What a text is: a script, or a text with a fault. A text is given by its bytes in UTF-8.
 use Rattle.std.specs.Prelude.{ℕ, List, Option, length}
-use Rattle.forms.specs.Scripts.{WholeScript, SyntaxFault}
+use Rattle.grammar_forms.specs.Scripts.{WholeScript, SyntaxFault}
 use Rattle.sql_lexer.specs.Lexed.{IsLexed}
 use Rattle.sql_lexer.specs.declared.token.Token.{Token}
 use Rattle.sql_lexer.specs.declared.token.TokenKind.{TokenKind}

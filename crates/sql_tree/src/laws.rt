@@ -1,6 +1,6 @@
 // Laws of the grammar.
 ghost use Rattle.std.specs.Prelude.{◌≡◌, ◌≤◌, ◌++◌, ℕ, List, Option, Some};
-ghost use Rattle.forms.specs.Scripts.{ScriptSpells, SyntaxFault, WholeScript};
+ghost use Rattle.grammar_forms.specs.Scripts.{ScriptSpells, SyntaxFault, WholeScript};
 ghost use Rattle.sql_lexer.specs.declared.token.Token.{Token};
 ghost use Rattle.sql_tree.specs.Depth.{Spelled};
 ghost use Rattle.sql_tree.specs.Grammar.{Tokens, expr, statement_at};

@@ -5,13 +5,13 @@ use Rattle.vtl_syntax.specs.Trees as tree
 use Rattle.vtl_syntax.specs.Trees.{Exp, ScriptTree, StatementTree}
 use Rattle.vtl_tree.specs.Structures.{has_name}
 use Rattle.vtl_nodes.specs.Trees.{NodeTree, structure_of}
-use Rattle.vtl_rule_tests.specs.Rules.{◌>>=◌, ruled}
-use Rattle.vtl_rule_tests.specs.declared.error.TypeErr.{TypeErr}
-use Rattle.vtl_rule_tests.specs.declared.error.TypeErr.TheVariants as type
-use Rattle.vtl_forms.specs.Places.{Env}
-use Rattle.vtl_forms.specs.Typed.{dataset_in}
-use Rattle.vtl_forms.specs.declared.places.Place.TheVariants as place
-use Rattle.vtl_walk.specs.Typing.{typed}
+use Rattle.check_faults.specs.Rules.{◌>>=◌, ruled}
+use Rattle.check_faults.specs.declared.error.TypeErr.{TypeErr}
+use Rattle.check_faults.specs.declared.error.TypeErr.TheVariants as type
+use Rattle.check_operators.specs.Places.{Env}
+use Rattle.check_operators.specs.Typed.{dataset_in}
+use Rattle.check_operators.specs.declared.places.Place.TheVariants as place
+use Rattle.check_expressions.specs.Typing.{typed}
 use Rattle.vtl_check.specs.Count.{count}
 use Rattle.vtl_check.specs.declared.error.CheckErr.{CheckErr}
 use Rattle.vtl_check.specs.declared.error.CheckErr.TheVariants as err

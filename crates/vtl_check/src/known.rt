@@ -2,9 +2,9 @@
 ghost use Rattle.std.specs.Prelude.{◌≡◌, ◌<◌, ◌+◌, ◌++◌, [], ◌∷◌, false, length, take, IfOk, OnOk};
 ghost use Rattle.vtl_tree.specs.Structures.{AreStructures, has_name};
 
+use check_shapes::share_structure;
 use indexmap::IndexMap;
 use std::alloc::{AllocError, Global};
-use vtl_shapes::share_structure;
 use vtl_text::Txt;
 use vtl_tree::{Structure, Structures};
 

@@ -3,23 +3,23 @@ ghost use Rattle.std.specs.Prelude.{◌≡◌, ◌≤◌, ◌+◌, ◌++◌, [],
 ghost use Rattle.vtl_syntax.specs.View.{expr_tree, statement_tree};
 ghost use Rattle.vtl_tree.specs.Structures.{has_name};
 ghost use Rattle.vtl_nodes.specs.View.{node_tree};
-ghost use Rattle.vtl_rule_tests.specs.Answers.{Answers};
-ghost use Rattle.vtl_forms.specs.Places.{env_of};
-ghost use Rattle.vtl_forms.specs.Typed.{boxed_tree};
+ghost use Rattle.check_faults.specs.Answers.{Answers};
+ghost use Rattle.check_operators.specs.Places.{env_of};
+ghost use Rattle.check_operators.specs.Typed.{boxed_tree};
 ghost use Rattle.vtl_check.specs.Count.{count};
 ghost use Rattle.vtl_check.specs.Script.{Checks, assigned, fault_at, most_nodes, statements_typed, value_typed, with_result};
 
 use crate::CheckErr;
 use crate::count::counted;
 use crate::known::{is_known, put};
+use check_expressions::typing;
+use check_faults::TypeErr;
+use check_operators::{Place, Scope};
+use check_shapes::share_structure;
 use std::alloc::{AllocError, Global};
-use vtl_forms::{Place, Scope};
 use vtl_nodes::Node;
-use vtl_rule_tests::TypeErr;
-use vtl_shapes::share_structure;
 use vtl_syntax::{Expr, Statement};
 use vtl_text::Txt;
-use vtl_walk::typing;
 
 // The value of a statement, where it is a data set.
 fn value(alloc: Global, scope: &Scope, e: &Expr) -> Result<Box<Node>, TypeErr>

@@ -10,7 +10,7 @@ ghost use Rattle.vtl_tree.specs.Seen.{seen_of};
 ghost use Rattle.vtl_tree.specs.Structure.{IsStructure, columns_of};
 ghost use Rattle.vtl_tree.specs.View.{comp_exp_of};
 ghost use Rattle.vtl_csv.specs.TableText.{IsTableOf, table_columns};
-ghost use Rattle.vtl_shapes.specs.Pairs.{contains};
+ghost use Rattle.check_shapes.specs.Pairs.{contains};
 ghost use Rattle.vtl_meaning.specs.Made.{AreFor, IsPaired};
 ghost use Rattle.vtl_meaning.specs.Operators.{pair_of};
 ghost use Rattle.vtl_meaning.specs.Points.{each_point, paired, point_fault, point_of};
@@ -22,6 +22,7 @@ use crate::namesakes::{Side, namesake_exps};
 use crate::partners::Partners;
 use crate::places::push_row;
 use crate::points::Points;
+use check_shapes::contains;
 use std::alloc::{AllocError, Global};
 use std::marker::Brand;
 use std::sync::ledger::{Blank, Ledger};
@@ -30,7 +31,6 @@ use vtl_decimal::Profile;
 use vtl_index::Steps;
 use vtl_rows::Table;
 use vtl_scalar::ScalarErr;
-use vtl_shapes::contains;
 use vtl_tree::{CompExpr, Structure};
 
 // The cells of a row, and behind them those of its partner.

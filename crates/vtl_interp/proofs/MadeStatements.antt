@@ -7,8 +7,8 @@ use Rattle.vtl_tree.specs.Structures.{AreStructures, Named}
 use Rattle.vtl_nodes.specs.Trees.{NodeTree, structure_of}
 use Rattle.vtl_check.specs.Checked.{IsTyped, TypedScript, nodes_of, tree_of}
 use Rattle.vtl_meaning.specs.Made.{AreMadeStatements}
-use Rattle.vtl_typed.specs.Scripts.{AreMadeFrom}
-use Rattle.vtl_typed.proofs.Scripts.{script-made}
+use Rattle.check_laws.specs.Scripts.{AreMadeFrom}
+use Rattle.check_laws.proofs.Scripts.{script-made}
 use Rattle.vtl_backend.specs.Statements.{statements_of, with_nodes}
 
 made_statements : (p : Settings) (known : Named) (ss : ScriptTree) (ns : List NodeTree) → AreMadeFrom p known ss ns → AreMadeStatements p known (with_nodes ss ns)

@@ -10,8 +10,8 @@ use Rattle.vtl_tree.specs.Structure.{same_name}
 use Rattle.vtl_tree.specs.Structures.{has_name}
 use Rattle.vtl_tree.specs.declared.structure.Structure.{Structure}
 use Rattle.vtl_nodes.specs.Trees.{NodeTree, structure_of}
-use Rattle.vtl_rule_tests.specs.Rules.{◌>>=◌, ruled}
-use Rattle.vtl_forms.specs.Places.{Env}
+use Rattle.check_faults.specs.Rules.{◌>>=◌, ruled}
+use Rattle.check_operators.specs.Places.{Env}
 use Rattle.vtl_check.specs.Checked.{IsTyped, TypedScript, env_over, nodes_of, tree_of}
 use Rattle.vtl_check.specs.Count.{count}
 use Rattle.vtl_check.specs.Names.{names_in, names_of}

@@ -10,11 +10,11 @@ ghost use Rattle.vtl_backend.specs.Inputs.{AreInputs, environment_of, rows_named
 ghost use Rattle.vtl_interp.specs.Loaded.{IsInput};
 
 use crate::held::Known;
+use check_shapes::share_structure;
 use std::alloc::{AllocError, Global};
 use vtl_check::Checked;
 use vtl_expr::DataSet;
 use vtl_rows::{Inputs, SharedTable};
-use vtl_shapes::share_structure;
 use vtl_text::Txt;
 use vtl_tree::Structure;
 

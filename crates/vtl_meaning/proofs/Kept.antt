@@ -31,8 +31,8 @@ use Rattle.vtl_tree.specs.declared.structure.Structure.{Structure}
 use Rattle.vtl_nodes.specs.Trees as nodes
 use Rattle.vtl_nodes.specs.Trees.{FormTree, ItemTree, MeasureTree, NodeTree, structure_of}
 use Rattle.vtl_nodes.specs.declared.clauses.SubItem.{SubItem}
-use Rattle.vtl_shapes.specs.Pairs.{contains}
-use Rattle.vtl_typing.specs.Kinds.{exp_kind}
+use Rattle.check_shapes.specs.Pairs.{contains}
+use Rattle.check_values.specs.Kinds.{exp_kind}
 use Rattle.vtl_meaning.specs.Columns.{column_behind, column_named, columns_named, identifiers_of, measures_of, others_of, place_of, places_in}
 use Rattle.vtl_meaning.specs.Made.{AreAmong, AreFor, HasIdentifiers, IsAlternative, IsCalculated, IsChoice, IsColumnAt, IsFiltered, IsLeft, IsMade, IsMadeForm, IsMeasured, IsPaired, IsRenamed, IsSub}
 use Rattle.vtl_meaning.specs.Meaning.{AreDataSets, form_value, is_built, is_built_form, known_in, node_value, points_named}

@@ -26,7 +26,7 @@ use Rattle.vtl_tree.proofs.LookUps.{look_respects}
 use Rattle.vtl_nodes.specs.Trees as nodes
 use Rattle.vtl_nodes.specs.Trees.{FormTree, ItemTree, MeasureTree, NodeTree, structure_of}
 use Rattle.vtl_nodes.specs.declared.clauses.SubItem.{SubItem}
-use Rattle.vtl_shapes.specs.Pairs.{contains}
+use Rattle.check_shapes.specs.Pairs.{contains}
 use Rattle.vtl_meaning.specs.Columns.{identifiers_of, places_in}
 use Rattle.vtl_meaning.specs.Made.{AreMadeStatements, IsMade, IsMadeForm}
 use Rattle.vtl_meaning.specs.Meaning.{AreDataSets, Statement, form_value, is_built, is_built_form, known_in, meaning, node_value, points_named, stated}

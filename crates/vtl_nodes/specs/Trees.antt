@@ -12,7 +12,7 @@ use Rattle.vtl_tree.specs.declared.structure.Structure.{Structure}
 use Rattle.vtl_nodes.specs.declared.calls.AnalyticCall.{AnalyticCall}
 use Rattle.vtl_nodes.specs.declared.calls.AnalyticOp.{AnalyticOp}
 use Rattle.vtl_nodes.specs.declared.calls.Window.{Window}
-use Rattle.vtl_shapes.specs.declared.renaming.Renaming.{Renaming}
+use Rattle.check_shapes.specs.declared.renaming.Renaming.{Renaming}
 use Rattle.vtl_nodes.specs.declared.clauses.SubItem.{SubItem}
 use Rattle.vtl_nodes.specs.declared.rules.HierRules.{HierRules}
 use Rattle.vtl_nodes.specs.declared.specifications.AggItems.{AggItems}

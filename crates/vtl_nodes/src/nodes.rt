@@ -3,8 +3,8 @@
 use crate::{
     AggSpec, AnalyticSpec, CalcItem, CheckSpec, DatapointRules, HierRules, JoinSpec, SubItem,
 };
+use check_shapes::Renaming;
 use vtl_cell::ScalarOp;
-use vtl_shapes::Renaming;
 use vtl_syntax::{CheckOut, HierInput, HierOut, Mode, Retain};
 use vtl_text::{List, Txt};
 use vtl_tree::{CompExpr, Structure};

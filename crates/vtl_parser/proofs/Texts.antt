@@ -8,7 +8,7 @@ use Rattle.vtl_grammar.proofs.UniqueLemmas.{fault_determined, spells_unique, who
 use Rattle.vtl_grammar.specs.Faults.{SyntaxFault, WholeScript, byte_of, kinds}
 use Rattle.vtl_grammar.specs.Grammar.{Tokens, tokens_of}
 use Rattle.vtl_grammar.specs.ReadStatements.{script_read}
-use Rattle.vtl_parts.proofs.Turns.{kinds-length}
+use Rattle.read_parts.proofs.Turns.{kinds-length}
 use Rattle.vtl_lexer.proofs.LexedLemmas.{lexed-once}
 use Rattle.vtl_lexer.specs.declared.token.Token.{Token}
 use Rattle.vtl_parser.specs.Parsed.{IsFaulty, IsScript}

@@ -2,10 +2,10 @@
 ghost use Rattle.std.specs.Prelude.{◌≡◌, Some, option_map};
 ghost use Rattle.vtl_grammar.specs.Faults.{kinds};
 ghost use Rattle.vtl_grammar.specs.ReadStatements.{rule_name, ruleset_end, ruleset_head, ruleset_is};
-ghost use Rattle.vtl_parts.specs.Fronts.{ReadsAs};
+ghost use Rattle.read_parts.specs.Fronts.{ReadsAs};
 
+use read_parts::{Front, Unread, after_keyword, after_sign, name};
 use vtl_lexer::{Keyword, Sign, Token};
-use vtl_parts::{Front, Unread, after_keyword, after_sign, name};
 use vtl_text::Txt;
 
 /// `name :`, if it stands there. It fails only for want of memory.

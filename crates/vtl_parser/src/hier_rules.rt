@@ -2,14 +2,14 @@
 ghost use Rattle.std.specs.Prelude.{◌≡◌, length, nat_le};
 ghost use Rattle.vtl_grammar.specs.Faults.{kinds};
 ghost use Rattle.vtl_grammar.specs.ReadStatements.{hier_rule_read, more_signed, right_side};
-ghost use Rattle.vtl_parts.specs.Fronts.{ReadsAs};
+ghost use Rattle.read_parts.specs.Fronts.{ReadsAs};
 ghost use Rattle.vtl_syntax.specs.Depth.{hier_rule_depth};
 
 use crate::heads::rule_name;
 use crate::rules::Rule;
+use read_parts::{Front, Unread, comp, error_part, maybe_word, word};
 use std::alloc::Global;
 use vtl_lexer::Token;
-use vtl_parts::{Front, Unread, comp, error_part, maybe_word, word};
 use vtl_syntax::{Addition, Comp, HierRule, SignedComp};
 use vtl_text::List;
 
@@ -98,7 +98,7 @@ fn hier_rule(alloc: Global, tokens: &[Token]) -> Result<Front<'_, HierRule>, Unr
 
 impl Rule for HierRule {
     ghost use Rattle.vtl_grammar.specs.ReadStatements.{hier_rule_read};
-    ghost use Rattle.vtl_parts.specs.Fronts.{same};
+    ghost use Rattle.read_parts.specs.Fronts.{same};
     ghost use Rattle.vtl_syntax.specs.declared.statements.HierRule.{HierRule};
 
     ghost Tree = { HierRule };

@@ -2,16 +2,16 @@
 ghost use Rattle.std.specs.Prelude.{◌≡◌, option_map};
 ghost use Rattle.vtl_grammar.specs.Faults.{kinds};
 ghost use Rattle.vtl_grammar.specs.ReadStatements.{holds_read, point_rule_read, rule_behind, when_part};
-ghost use Rattle.vtl_parts.specs.Fronts.{ReadsBy, first_by};
+ghost use Rattle.read_parts.specs.Fronts.{ReadsBy, first_by};
 ghost use Rattle.vtl_syntax.specs.View.{expr_tree, point_rule_tree};
-ghost use Rattle.vtl_expressions.specs.Reads.{box_tree};
+ghost use Rattle.read_expressions.specs.Reads.{box_tree};
 
 use crate::heads::rule_name;
 use crate::rules::Rule;
+use read_expressions::whole_expression;
+use read_parts::{Front, Unread, after_keyword, error_part};
 use std::alloc::Global;
-use vtl_expressions::whole_expression;
 use vtl_lexer::{Keyword, Token};
-use vtl_parts::{Front, Unread, after_keyword, error_part};
 use vtl_syntax::{ErrorPart, Expr, PointRule};
 use vtl_text::Txt;
 

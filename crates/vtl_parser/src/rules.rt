@@ -2,19 +2,19 @@
 ghost use Rattle.std.specs.Prelude.{◌≡◌, length, map};
 ghost use Rattle.vtl_grammar.specs.Faults.{kinds};
 ghost use Rattle.vtl_grammar.specs.ReadStatements.{ends_rules, more_rules, rules_between, rules_read};
-ghost use Rattle.vtl_parts.specs.Fronts.{ReadsBy, first_by};
+ghost use Rattle.read_parts.specs.Fronts.{ReadsBy, first_by};
 
 use crate::heads::{ruleset_end, ruleset_is};
+use read_parts::{Front, Unread, after_keyword, after_sign};
 use std::alloc::Global;
 use vtl_lexer::{Keyword, Sign, Token};
-use vtl_parts::{Front, Unread, after_keyword, after_sign};
 use vtl_text::List;
 
 /// A rule of a ruleset.
 pub trait Rule: Drop {
     ghost use Rattle.vtl_grammar.specs.Faults.{kinds};
     ghost use Rattle.vtl_grammar.specs.Reading.{Reads};
-    ghost use Rattle.vtl_parts.specs.Fronts.{ReadsBy};
+    ghost use Rattle.read_parts.specs.Fronts.{ReadsBy};
 
     // The trees of such rules.
     ghost Tree: { Type 0 };

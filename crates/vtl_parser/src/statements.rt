@@ -2,16 +2,16 @@
 ghost use Rattle.std.specs.Prelude.{Some, map};
 ghost use Rattle.vtl_grammar.specs.Faults.{kinds};
 ghost use Rattle.vtl_grammar.specs.ReadStatements.{assignment_read, datapoint_read, hierarchical_read, script_read, statement_read, value_read};
-ghost use Rattle.vtl_parts.specs.Fronts.{ReadsBy};
-ghost use Rattle.vtl_expressions.specs.Reads.{box_tree};
+ghost use Rattle.read_parts.specs.Fronts.{ReadsBy};
+ghost use Rattle.read_expressions.specs.Reads.{box_tree};
 ghost use Rattle.vtl_syntax.specs.View.{statement_tree};
 
 use crate::heads::ruleset_head;
 use crate::rules::rules_between;
+use read_expressions::whole_expression;
+use read_parts::{Front, Unread, after_keyword, after_sign, comp, comps, name, word};
 use std::alloc::Global;
-use vtl_expressions::whole_expression;
 use vtl_lexer::{Keyword, Sign, Token};
-use vtl_parts::{Front, Unread, after_keyword, after_sign, comp, comps, name, word};
 use vtl_syntax::{Expr, Statement};
 use vtl_text::List;
 

@@ -1,6 +1,6 @@
 use Rattle.std.proofs.Common.{◌≡◌, drop}
 use Rattle.std.specs.List.{list_any}
-use Rattle.sql_typing.specs.Scopes.{is_empty}
+use Rattle.sql_check_parts.specs.Scopes.{is_empty}
 use Rattle.sql_check.proofs.inputs.any_empty.Given as goal
 
 abbrev pub invariant-loop-code : goal.invariant-loop-code

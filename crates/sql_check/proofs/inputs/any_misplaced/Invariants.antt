@@ -1,6 +1,6 @@
 use Rattle.std.proofs.Common.{◌≡◌, drop, not}
 use Rattle.std.specs.List.{list_any}
-use Rattle.sql_typing.specs.Statements.{codes_fit}
+use Rattle.sql_check_parts.specs.Statements.{codes_fit}
 use Rattle.sql_check.proofs.inputs.any_misplaced.Given as goal
 
 abbrev pub invariant-loop-column : goal.invariant-loop-column

@@ -1,7 +1,7 @@
 use Rattle.std.proofs.Common.{◌≡◌, drop}
 use Rattle.std.specs.List.{list_any}
 use Rattle.std.specs.Option.{is_none}
-use Rattle.sql_typing.specs.Scopes.{kind_among}
+use Rattle.sql_check_parts.specs.Scopes.{kind_among}
 use Rattle.sql_check.proofs.inputs.any_unknown.Given as goal
 
 abbrev pub invariant-loop-name : goal.invariant-loop-name

@@ -1,8 +1,8 @@
 use Rattle.std.proofs.Common.{IfOk, ◌≡◌, map, length, ap, sym, subst, ◌∙◌}
 use Rattle.std.specs.Prelude.{zip}
 use Rattle.std.proofs.lemmas.List.{length-map}
-use Rattle.sql_typing.specs.Statements.{column_entry}
-use Rattle.sql_typing.specs.Typed.{distinct_columns}
+use Rattle.sql_check_parts.specs.Statements.{column_entry}
+use Rattle.sql_check_parts.specs.Typed.{distinct_columns}
 use Rattle.sql_check.proofs.Settled.{columns_beside}
 use Rattle.sql_check.proofs.inputs.input_columns.Goals as goal
 

@@ -1,6 +1,6 @@
 use Rattle.std.proofs.Common.{◌≡◌, ◌+◌, drop, map}
 use Rattle.sql_tree.specs.View.{statement_tree}
-use Rattle.sql_typing.specs.Statements.{fault_from, nothing}
+use Rattle.sql_check_parts.specs.Statements.{fault_from, nothing}
 use Rattle.sql_check.specs.Answers.{given_view}
 use Rattle.sql_check.proofs.scripts.statements_fault.Given as goal
 

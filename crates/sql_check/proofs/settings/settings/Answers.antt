@@ -1,5 +1,5 @@
 use Rattle.std.proofs.Common.{pos, sym, ap, ◌∙◌}
-use Rattle.sql_typing.specs.Statements.{scale_of}
+use Rattle.sql_check_parts.specs.Statements.{scale_of}
 use Rattle.vtl_kinds.specs.Literals.{lies_between}
 use Rattle.sql_check.proofs.Settled.{set_broken, sets_given}
 use Rattle.sql_check.proofs.settings.settings.Goals as goal

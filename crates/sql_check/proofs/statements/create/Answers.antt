@@ -1,8 +1,8 @@
 use Rattle.std.proofs.Common.{[], ◌∷◌, IfOk, ap, subst, sym, ◌∙◌}
 use Rattle.std.specs.Prelude.{zip}
 use Rattle.sql_tree.specs.View.{query_tree}
-use Rattle.sql_typing.specs.Rules.{broken, least}
-use Rattle.sql_typing.specs.Typed.{distinct_columns}
+use Rattle.sql_check_parts.specs.Rules.{broken, least}
+use Rattle.sql_check_parts.specs.Typed.{distinct_columns}
 use Rattle.sql_check.specs.Answers.{IsSettled, given_view}
 use Rattle.sql_check.proofs.Settled.{create_may, create_step}
 use Rattle.sql_check.proofs.statements.create.Goals as goal

@@ -1,5 +1,5 @@
 use Rattle.std.proofs.Common.{length, ◌∙◌, ◌+◌, ◌-◌, sym, ap, arith, map, refl, ◌++◌, ◌∷◌, [], Ok}
-use Rattle.forms.specs.Forms.{added, turns}
+use Rattle.grammar_forms.specs.Forms.{added, turns}
 use Rattle.sql_parser.specs.Answers.{kinds}
 use Rattle.sql_parser.proofs.Turns.{kinds-length, map-push, optional-none, optional-some, turns-ends, turns-full, turns-turn}
 use Rattle.sql_parser.proofs.lists.more.Goals.{else-loop-test, then-loop-test+in_ok-next+in_default}

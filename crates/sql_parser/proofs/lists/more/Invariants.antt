@@ -1,5 +1,5 @@
 use Rattle.std.proofs.Common.{length, ◌≡◌, ◌-◌, map}
-use Rattle.forms.specs.Forms.{added, turns}
+use Rattle.grammar_forms.specs.Forms.{added, turns}
 use Rattle.sql_parser.specs.Answers.{kinds}
 use Rattle.sql_parser.proofs.lists.more.Given as goal
 

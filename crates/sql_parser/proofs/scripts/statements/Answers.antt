@@ -1,6 +1,6 @@
 use Rattle.std.proofs.Common.{Some, Ok, map, ◌∙◌, ◌+◌, ◌-◌, [], ◌∷◌, ◌++◌, ◌≡◌, suc, sym, ap, arith}
-use Rattle.forms.specs.Scripts.{ahead, script_reads}
-use Rattle.forms.proofs.Scripts.{ahead-full, ahead-stop, ahead-turn}
+use Rattle.grammar_forms.specs.Scripts.{ahead, script_reads}
+use Rattle.grammar_forms.proofs.Scripts.{ahead-full, ahead-stop, ahead-turn}
 use Rattle.sql_parser.specs.Answers.{kinds}
 use Rattle.sql_tree.specs.Grammar.{statement, statement_at}
 use Rattle.sql_tree.specs.View.{statement_tree}

@@ -1,5 +1,5 @@
 use Rattle.std.proofs.Common.{suc, map, ◌≡◌, ◌-◌}
-use Rattle.forms.specs.Scripts.{ahead, script_reads}
+use Rattle.grammar_forms.specs.Scripts.{ahead, script_reads}
 use Rattle.sql_parser.specs.Answers.{kinds}
 use Rattle.sql_tree.specs.Grammar.{statement_at}
 use Rattle.sql_tree.specs.View.{statement_tree}

@@ -1,5 +1,5 @@
 use Rattle.std.proofs.Common.{◌≡◌, drop}
-use Rattle.forms.specs.Forms.{lookup}
+use Rattle.grammar_forms.specs.Forms.{lookup}
 use Rattle.sql_parser.specs.Answers.{by_places}
 use Rattle.sql_parser.proofs.words.looked_up.Given as goal
 

@@ -1,5 +1,5 @@
 use Rattle.std.proofs.Common.{◌≡◌, ◌++◌, drop, map}
-use Rattle.forms.specs.Written.{behind}
+use Rattle.grammar_forms.specs.Written.{behind}
 use Rattle.sql_lexer.specs.declared.token.Word.TheVariants as w
 use Rattle.sql_tree.specs.Printing.{two_words, written_select}
 use Rattle.sql_tree.specs.View.{select_tree}

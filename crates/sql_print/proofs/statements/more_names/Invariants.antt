@@ -1,5 +1,5 @@
 use Rattle.std.proofs.Common.{◌≡◌, ◌++◌, drop}
-use Rattle.forms.specs.Written.{behind}
+use Rattle.grammar_forms.specs.Written.{behind}
 use Rattle.sql_lexer.specs.declared.token.Word.TheVariants as w
 use Rattle.sql_tree.specs.Printing.{just, written_name}
 use Rattle.sql_print.proofs.statements.more_names.Given as goal

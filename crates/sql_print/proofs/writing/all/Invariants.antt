@@ -1,5 +1,5 @@
 use Rattle.std.proofs.Common.{◌≡◌, ◌++◌, drop}
-use Rattle.forms.specs.Written.{run}
+use Rattle.grammar_forms.specs.Written.{run}
 use Rattle.sql_print.proofs.writing.all.Given as goal
 
 abbrev pub invariant-loop-item : goal.invariant-loop-item

@@ -1,5 +1,5 @@
 use Rattle.std.proofs.Common.{◌≡◌, ◌++◌, ◌∷◌, [], drop}
-use Rattle.forms.specs.Written.{behind}
+use Rattle.grammar_forms.specs.Written.{behind}
 use Rattle.sql_lexer.specs.declared.token.TokenKind.TheVariants as t
 use Rattle.sql_print.proofs.writing.behind_marks.Given as goal
 

@@ -1,4 +1,4 @@
-use Rattle.forms.proofs.Scripts.{fault-determined, scripts-unique, whole-no-fault}
+use Rattle.grammar_forms.proofs.Scripts.{fault-determined, scripts-unique, whole-no-fault}
 use Rattle.sql_tree.specs.Classes.{class}
 use Rattle.sql_tree.specs.Grammar.{statement_at}
 use Rattle.sql_tree.specs.Texts.{kind, start}

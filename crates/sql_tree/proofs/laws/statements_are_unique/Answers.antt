@@ -1,5 +1,5 @@
 use Rattle.std.proofs.Common.{sym, subst}
-use Rattle.forms.proofs.Laws.{Stops, unique, exact, stops-nil}
+use Rattle.grammar_forms.proofs.Laws.{Stops, unique, exact, stops-nil}
 use Rattle.sql_tree.specs.Classes.{class}
 use Rattle.sql_tree.specs.Grammar.{statement_at}
 use Rattle.sql_tree.proofs.ScriptLaws.{statement-closed}

@@ -1,7 +1,7 @@
 use Rattle.std.proofs.Common.{◌≡◌, ◌+◌, ◌≤◌, drop, map, []}
 use Rattle.vtl_syntax.specs.View.{statement_tree}
 use Rattle.vtl_nodes.specs.View.{node_tree}
-use Rattle.vtl_forms.specs.Places.{env_of}
+use Rattle.check_operators.specs.Places.{env_of}
 use Rattle.vtl_check.specs.Script.{most_nodes, statements_typed}
 use Rattle.vtl_check.proofs.script.typed_statements.Given as goal
 

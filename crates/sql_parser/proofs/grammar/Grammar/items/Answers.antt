@@ -1,5 +1,5 @@
 use Rattle.std.proofs.Common.{length, ◌∙◌, ◌+◌, ◌-◌, sym, ap, arith, map, refl, max, ◌++◌, ◌∷◌, [], Ok}
-use Rattle.forms.specs.Forms.{deep, deep_added, turns}
+use Rattle.grammar_forms.specs.Forms.{deep, deep_added, turns}
 use Rattle.sql_parser.specs.Answers.{kinds}
 use Rattle.sql_parser.specs.Depths.{deep_view}
 use Rattle.sql_parser.proofs.Turns.{kinds-length, map-push, optional-none, optional-some, turns-ends, turns-full, turns-turn}

@@ -1,6 +1,6 @@
 use Rattle.std.proofs.Common.{length, ◌≡◌, ◌-◌}
 use Rattle.std.specs.Prelude.{map}
-use Rattle.forms.specs.Forms.{deep, deep_added, turns}
+use Rattle.grammar_forms.specs.Forms.{deep, deep_added, turns}
 use Rattle.sql_parser.specs.Answers.{kinds}
 use Rattle.sql_parser.proofs.grammar.Grammar.items.Given as goal
 

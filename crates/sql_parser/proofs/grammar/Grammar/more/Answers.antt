@@ -1,5 +1,5 @@
 use Rattle.std.proofs.Common.{length, suc, ◌∙◌, ◌+◌, ◌-◌, Some, sym, ap, arith}
-use Rattle.forms.specs.Forms.{deep, then_reads, turns}
+use Rattle.grammar_forms.specs.Forms.{deep, then_reads, turns}
 use Rattle.sql_parser.specs.Answers.{kinds}
 use Rattle.sql_parser.specs.Depths.{box_tree}
 use Rattle.sql_tree.specs.Grammar.{joined_by, of_table}

@@ -1,0 +1,43 @@
+// The clauses `pivot` and `unpivot`.
+ghost use Rattle.check_faults.specs.Answers.{Answers};
+ghost use Rattle.check_operators.specs.Typed.{boxed_tree};
+ghost use Rattle.check_clauses.specs.Clauses.{pivot_of, unpivot_of};
+
+use check_faults::TypeErr;
+use check_operators::made_node;
+use check_values::name;
+use std::alloc::Global;
+use vtl_nodes::{Node, NodeForm};
+use vtl_syntax::Comp;
+
+/// `pivot`. It breaks rules 4, 6, 11, 12 and 13.
+#[tactic(auto, unfolding(crate::specs::Clauses::pivot_of))]
+pub fn pivot(
+    alloc: Global,
+    identifier: &Comp,
+    measure: &Comp,
+    operand: Box<Node>,
+) -> Result<Box<Node>, TypeErr>
+    ensures { Answers boxed_tree result (pivot_of identifier.now measure.now (boxed_tree operand)) }
+{
+    let id = name(identifier).share()?;
+    let m = name(measure).share()?;
+    let structure = check_shapes::pivot(alloc, &operand.structure, &id, &m)?;
+    made_node(alloc, structure, NodeForm::Pivot { a: operand, id, m })
+}
+
+/// `unpivot`. It breaks rules 10, 11 and 12.
+#[tactic(auto, unfolding(crate::specs::Clauses::unpivot_of))]
+pub fn unpivot(
+    alloc: Global,
+    identifier: &Comp,
+    measure: &Comp,
+    operand: Box<Node>,
+) -> Result<Box<Node>, TypeErr>
+    ensures { Answers boxed_tree result (unpivot_of identifier.now measure.now (boxed_tree operand)) }
+{
+    let id = name(identifier).share()?;
+    let m = name(measure).share()?;
+    let structure = check_shapes::unpivot(alloc, &operand.structure, &id, &m)?;
+    made_node(alloc, structure, NodeForm::Unpivot { a: operand, id, m })
+}

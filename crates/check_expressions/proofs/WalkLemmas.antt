@@ -1,0 +1,46 @@
+-- The typing of a join, part by part.
+use Rattle.std.proofs.Common.{rules, ◌≡◌, ◌∙◌, ap, sym, ℕ, List, [], map, Option, None, Some, Result, Ok, Err, Box, Vec, Global}
+use Rattle.std.specs.Option.{option_map}
+use Rattle.vtl_syntax.specs.Trees as tree
+use Rattle.vtl_syntax.specs.Trees.{maybe_targets, parts_of}
+use Rattle.vtl_syntax.specs.View.{expr_tree, part_tree, targets_tree}
+use Rattle.vtl_syntax.specs.declared.expressions.Clause as clause
+use Rattle.vtl_syntax.specs.declared.expressions.Expr as expr
+use Rattle.vtl_syntax.specs.declared.expressions.Expr.{Expr}
+use Rattle.vtl_syntax.specs.declared.expressions.Targets as targets
+use Rattle.vtl_syntax.specs.declared.expressions.Targets.{Targets}
+use Rattle.vtl_syntax.specs.declared.expressions.CalcPart as calc
+use Rattle.vtl_syntax.specs.declared.expressions.JoinPart as join
+use Rattle.vtl_syntax.specs.declared.expressions.JoinPart.{JoinPart}
+use Rattle.vtl_syntax.specs.declared.parts.Comp.{Comp}
+use Rattle.vtl_syntax.specs.declared.parts.Keeping.{Keeping}
+use Rattle.vtl_syntax.specs.declared.parts.RenamePart.{RenamePart}
+use Rattle.vtl_syntax.specs.declared.word_groups.JoinKind.{JoinKind}
+use Rattle.vtl_nodes.specs.Trees.{NodeTree, OperandTree}
+use Rattle.check_faults.specs.Rules.{◌>>=◌}
+use Rattle.check_operators.specs.Places.{Env}
+use Rattle.check_operators.specs.declared.places.Joined.{Joined}
+use Rattle.check_operators.specs.declared.places.Place.{Place}
+use Rattle.check_clauses.specs.JoinOperands.{PartTyped, joined_of, operands_in}
+use Rattle.check_expressions.specs.Typing.{filtered_join, join_end, parts_typed, typed}
+use Rattle.check_expressions.specs.WalkView.{maybe_tree}
+
+pub ruleset views = (expr.the_lemmas, clause.the_lemmas, targets.the_lemmas, calc.the_lemmas, join.the_lemmas)
+
+-- the tree of a join
+join_tree : (kind : JoinKind) (ops : Vec JoinPart Global) (u : Option (List Comp)) (f : Option (Box Expr Global)) (m : Option Targets) (k : Option Keeping) (rs : Option (List RenamePart)) → expr_tree (expr.Join kind ops u f m k rs) ≡ tree.join kind (parts_of (map part_tree ops.items)) u (maybe_tree f) (maybe_targets (option_map targets_tree m)) k rs
+join_tree kind ops u None None k rs = search (rules, views)
+join_tree kind ops u None (Some m) k rs = search (rules, views)
+join_tree kind ops u (Some f) None k rs = search (rules, views)
+join_tree kind ops u (Some f) (Some m) k rs = search (rules, views)
+
+chain : {A B C D : Type 0} (p : Result A ℕ) (f : A → Result B ℕ) (g : B → Result C ℕ) (h : B → C → Result D ℕ) (x : A) (y : B) (z : C) → p ≡ Ok x → f x ≡ Ok y → g y ≡ Ok z → ((p >>= f) >>= λ b. g b >>= h b) ≡ h y z
+chain p f g h x y z hp hf hg =
+    ap (λ r. (r >>= f) >>= λ b. g b >>= h b) hp ∙ ap (λ r. r >>= λ b. g b >>= h b) hf ∙ ap (λ r. r >>= h y) hg
+
+pub join_typed : (env : Env) (at : Place) (e : Expr) (kind : JoinKind) (ops : Vec JoinPart Global) (u : Option (List Comp)) (f : Option (Box Expr Global)) (m : Option Targets) (k : Option Keeping) (rs : Option (List RenamePart)) → e ≡ expr.Join kind ops u f m k rs → (items : List JoinPart) → items ≡ ops.items → (parts : List PartTyped) (os : List OperandTree) (j : Option Joined) (a : NodeTree) → parts_typed env [] (parts_of (map part_tree items)) ≡ Ok parts → operands_in parts ≡ Ok os → j ≡ Some (joined_of kind os) → filtered_join env j (maybe_tree f) kind u os ≡ Ok a → typed env at (expr_tree e) ≡ join_end env j (maybe_targets (option_map targets_tree m)) k rs a
+join_typed env at e kind ops u f m k rs is items same parts os j a h1 h2 hj h3 =
+    ap (λ x. typed env at (expr_tree x)) is
+    ∙ ap (typed env at) (join_tree kind ops u f m k rs)
+    ∙ chain (parts_typed env [] (parts_of (map part_tree ops.items))) operands_in (λ os. filtered_join env (Some (joined_of kind os)) (maybe_tree f) kind u os) (λ os a. join_end env (Some (joined_of kind os)) (maybe_targets (option_map targets_tree m)) k rs a) parts os a (ap (λ l. parts_typed env [] (parts_of (map part_tree l))) (sym same) ∙ h1) h2 (ap (λ i. filtered_join env i (maybe_tree f) kind u os) (sym hj) ∙ h3)
+    ∙ ap (λ i. join_end env i (maybe_targets (option_map targets_tree m)) k rs a) (sym hj)

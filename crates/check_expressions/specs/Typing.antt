@@ -1,0 +1,208 @@
+-- The typing of expressions: parts in written order, operands before operators; the first part that breaks a rule is the fault.
+use Rattle.std.specs.Prelude.{ℕ, Bool, true, false, ◌||◌, List, [], ◌∷◌, ◌++◌, Option, Some, None, Result, Ok, Err}
+use Rattle.std.specs.Option.{is_some}
+use Rattle.vtl_decimal.specs.Settings.{Settings}
+use Rattle.vtl_cell.specs.declared.operator.ScalarOp.TheVariants as op
+use Rattle.vtl_syntax.specs.Trees as tree
+use Rattle.vtl_syntax.specs.Trees.{Calcs, ClauseTree, Exp, Exps, MaybeExp, MaybeTargets, Parts, TargetsTree}
+use Rattle.vtl_syntax.specs.declared.parts.Comp.{Comp}
+use Rattle.vtl_syntax.specs.declared.parts.ErrorPart.{ErrorPart}
+use Rattle.vtl_syntax.specs.declared.parts.GroupPart.{GroupPart}
+use Rattle.vtl_syntax.specs.declared.parts.Keeping.{Keeping}
+use Rattle.vtl_syntax.specs.declared.parts.RenamePart.{RenamePart}
+use Rattle.vtl_syntax.specs.declared.word_groups.AggregateName.{AggregateName}
+use Rattle.vtl_syntax.specs.declared.word_groups.BasicOut.{BasicOut}
+use Rattle.vtl_syntax.specs.declared.word_groups.DifferenceName.{DifferenceName}
+use Rattle.vtl_syntax.specs.declared.word_groups.Retain.{Retain}
+use Rattle.vtl_syntax.specs.declared.word_groups.JoinKind.{JoinKind}
+use Rattle.vtl_tree.specs.CompExp.{CompExp}
+use Rattle.vtl_nodes.specs.Trees.{ItemTree, NodeTree, OperandTree, ValueTree, scalar}
+use Rattle.check_faults.specs.Rules.{◌>>=◌}
+use Rattle.check_values.specs.Kinds.{exp_kind}
+use Rattle.check_values.specs.Literals.{literals_fit}
+use Rattle.check_values.specs.Operators.{exps_length, of_binary, of_function, of_unary, takes}
+use Rattle.check_operators.specs.Operators.{operator_form, set_form}
+use Rattle.check_operators.specs.Places.{Env, Written, at_groups, at_points, constant_form, member_inside, name_typed, written_typed}
+use Rattle.check_operators.specs.Sets.{check_form, check_spec, difference_form, exists_form, member_of, sets_form}
+use Rattle.check_operators.specs.Typed.{TypedTree, value, dataset, components_in, condition_in, dataset_in, value_in}
+use Rattle.check_operators.specs.declared.places.Inside.{Inside}
+use Rattle.check_operators.specs.declared.places.Joined.{Joined}
+use Rattle.check_operators.specs.declared.places.Place.{Place}
+use Rattle.check_operators.specs.declared.places.Place.TheVariants as place
+use Rattle.check_groups.specs.Aggregates.{aggregate_node, group_operand, grouping_typed, no_dataset, written_call}
+use Rattle.check_groups.specs.Windowed.{over_typed, target_typed}
+use Rattle.check_clauses.specs.Clauses.{filter_form, keeping_form, pivot_of, renaming_form, sub_form, unpivot_of}
+use Rattle.check_clauses.specs.JoinOperands.{PartTyped, joined_node, joined_of, last_naming, operands_in, with_part}
+use Rattle.check_clauses.specs.Targets.{aggr_clause, aggr_name, calc_clause, calc_name, with_item, with_made}
+use Rattle.check_clauses.specs.declared.targets.Made.{Made}
+
+-- one more operand behind others
+abbrev pub behind : List TypedTree → TypedTree → Result (List TypedTree) ℕ
+behind done x = Ok (done ++ x ∷ [])
+
+abbrev pub as_dataset : Result NodeTree ℕ → Result TypedTree ℕ
+as_dataset typing = typing >>= λ n. Ok (dataset n)
+
+abbrev pub scalar_value : TypedTree → Result ValueTree ℕ
+scalar_value x = value_in x >>= λ v. Ok (scalar v)
+
+abbrev pub has_exp : MaybeExp → Bool
+has_exp tree.no_exp = false
+has_exp (tree.some_exp e) = true
+
+-- clauses of a join's body that may be left out
+abbrev pub keeping_step : Option Joined → Option Keeping → NodeTree → Result NodeTree ℕ
+keeping_step j None n = Ok n
+keeping_step j (Some k) n = keeping_form j n k
+
+abbrev pub renaming_step : Option Joined → Option (List RenamePart) → NodeTree → Result NodeTree ℕ
+renaming_step j None n = Ok n
+renaming_step j (Some rs) n = renaming_form j n rs
+
+-- `operand#component` where it is a component of the place, or else a measure of a data set
+abbrev pub or_component : Option (Inside × Written) → Result TypedTree ℕ → Result TypedTree ℕ
+or_component (Some w) rest = written_typed w.0 w.1
+or_component None rest = rest
+
+-- an aggregate over groups of a component, or else of a data set
+abbrev pub or_call : Option (Inside × Written) → AggregateName → (grouped : Bool) → Result TypedTree ℕ → Result TypedTree ℕ
+or_call (Some w) f grouped rest = written_call w.0 f grouped w.1
+or_call None f grouped rest = rest
+
+-- How the condition of groups is typed, over a data set and the names by which the groups are formed.
+abbrev pub Having : Type 0
+Having = NodeTree → List (List ℕ) → Result (Option CompExp) ℕ
+
+-- an aggregate behind its operand
+abbrev pub grouped_of : Place → AggregateName → Option GroupPart → (grouped : Bool) → Having → Option TypedTree → Result TypedTree ℕ
+grouped_of at f g grouped having (Some (dataset n)) = grouping_typed (components_in n) g >>= λ names. having n names >>= aggregate_node f g n
+grouped_of at f g grouped having (Some (value v)) = no_dataset at f grouped (Some (exp_kind v))
+grouped_of at f g grouped having None = no_dataset at f grouped None
+
+-- the value of a target of `calc`, by how it is typed, and how the operand of an analytic call is: such a call may be the whole
+abbrev pub calc_value : Settings → Place → Exp → Result TypedTree ℕ → Result (Option TypedTree) ℕ → Result ValueTree ℕ
+calc_value p at (tree.aggregate_over f e o) plain operand = operand >>= target_typed p at (tree.aggregate_over f e o)
+calc_value p at (tree.value_window f e o) plain operand = operand >>= target_typed p at (tree.value_window f e o)
+calc_value p at (tree.shift f e n l o) plain operand = operand >>= target_typed p at (tree.shift f e n l o)
+calc_value p at (tree.rank o) plain operand = operand >>= target_typed p at (tree.rank o)
+calc_value p at e plain operand = plain >>= scalar_value
+
+abbrev pub last_step : Option Joined → NodeTree → Result NodeTree ℕ
+last_step None n = Ok n
+last_step (Some j) n = last_naming j n
+
+-- what follows the parts of a join's body that hold expressions
+abbrev pub body_end : Option Joined → Option Keeping → Option (List RenamePart) → NodeTree → Result TypedTree ℕ
+body_end j k rs n = keeping_step j k n >>= renaming_step j rs >>= λ z. as_dataset (last_step j z)
+
+abbrev mutual
+  pub typed : Env → Place → Exp → Result TypedTree ℕ
+  typed env at (tree.if_then c a b) = typed env at c >>= behind [] >>= λ xs. typed env at a >>= behind xs >>= λ ys. typed env at b >>= behind ys >>= operator_form at op.If true true
+  typed env at (tree.binary l o r) = typed env at l >>= behind [] >>= λ xs. typed env at r >>= behind xs >>= operator_form at (of_binary o) true true
+  typed env at (tree.in_set e negated ls) = typed env at e >>= set_form env.settings at negated ls
+  typed env at (tree.unary o e) = typed env at e >>= behind [] >>= operator_form at (of_unary o) true true
+  typed env at (tree.with_clause e c) = typed env place.Outside e >>= dataset_in >>= λ n. as_dataset (clause_typed env n c)
+  typed env at (tree.member e c) = or_component (member_inside at e c) (typed env place.Outside e >>= dataset_in >>= member_of c)
+  typed env at (tree.component c) = name_typed env at c
+  typed env at (tree.constant c) = constant_form env.settings c
+  typed env at (tree.brackets e) = typed env at e
+  typed env at (tree.function f es) = operands_typed env at [] es >>= operator_form at (of_function f) (takes f (exps_length es)) (literals_fit env.settings f es)
+  typed env at (tree.aggregate f e g h) = or_call (group_operand at e) f (is_some g || has_exp h) (maybe_typed env at e >>= grouped_of at f g (is_some g || has_exp h) (λ n names. having_typed env None n names h))
+  typed env at (tree.aggregate_over f e o) = maybe_typed env at e >>= over_typed env.settings at (tree.aggregate_over f e o)
+  typed env at (tree.value_window f e o) = typed env at e >>= λ x. over_typed env.settings at (tree.value_window f e o) (Some x)
+  typed env at (tree.shift f e n l o) = typed env at e >>= λ x. over_typed env.settings at (tree.shift f e n l o) (Some x)
+  typed env at (tree.rank o) = over_typed env.settings at (tree.rank o) None
+  typed env at (tree.set_op f es) = operands_typed env place.Outside [] es >>= sets_form f
+  typed env at (tree.difference f a b) = typed env place.Outside a >>= λ x. typed env place.Outside b >>= difference_form f x
+  typed env at (tree.exists_in a b r) = typed env place.Outside a >>= λ x. typed env place.Outside b >>= exists_form r x
+  typed env at (tree.check e err i o) = typed env place.Outside e >>= λ x. check_spec env.settings err o >>= λ s. maybe_typed env place.Outside i >>= check_form s x
+  typed env at (tree.check_datapoint e n o) = typed env place.Outside e >>= λ x. Err 3
+  typed env at (tree.check_hierarchy e n r m d o) = typed env place.Outside e >>= λ x. Err 3
+  typed env at (tree.hierarchy e n r m i o) = typed env place.Outside e >>= λ x. Err 3
+  typed env at (tree.join kind ps u f m k rs) =
+      parts_typed env [] ps >>= operands_in
+      >>= λ os. (joined_node kind u os >>= λ n. filter_step env (Some (joined_of kind os)) n f)
+      >>= λ a. targets_step env (Some (joined_of kind os)) a m >>= body_end (Some (joined_of kind os)) k rs
+
+  -- operands behind others
+  pub operands_typed : Env → Place → List TypedTree → Exps → Result (List TypedTree) ℕ
+  operands_typed env at done tree.no_exps = Ok done
+  operands_typed env at done (tree.exp e es) = typed env at e >>= behind done >>= λ xs. operands_typed env at xs es
+
+  -- an operand, if there is one
+  pub maybe_typed : Env → Place → MaybeExp → Result (Option TypedTree) ℕ
+  maybe_typed env at tree.no_exp = Ok None
+  maybe_typed env at (tree.some_exp e) = typed env at e >>= λ x. Ok (Some x)
+
+  -- the condition of groups
+  pub having_typed : Env → Option Joined → NodeTree → List (List ℕ) → MaybeExp → Result (Option CompExp) ℕ
+  having_typed env j n names tree.no_exp = Ok None
+  having_typed env j n names (tree.some_exp e) = typed env (place.Inside (at_groups j n names)) e >>= condition_in >>= λ c. Ok (Some c)
+
+  pub clause_typed : Env → NodeTree → ClauseTree → Result NodeTree ℕ
+  clause_typed env n (tree.filter e) = typed env (place.Inside (at_points None n)) e >>= filter_form n
+  clause_typed env n (tree.targets m) = targets_typed env None n m
+  clause_typed env n (tree.keeping k) = keeping_form None n k
+  clause_typed env n (tree.rename rs) = renaming_form None n rs
+  clause_typed env n (tree.sub ss) = sub_form env.settings n ss
+  clause_typed env n (tree.pivot id m) = pivot_of id m n
+  clause_typed env n (tree.unpivot id m) = unpivot_of id m n
+
+  pub targets_typed : Env → Option Joined → NodeTree → TargetsTree → Result NodeTree ℕ
+  targets_typed env j n (tree.calc cs) = calcs_typed env (place.Inside (at_points j n)) n [] cs >>= calc_clause n
+  targets_typed env j n (tree.aggr cs g h) = aggrs_typed env (place.Inside (at_groups j n [])) [] cs >>= λ made. grouping_typed (components_in n) g >>= λ names. having_typed env j n names h >>= aggr_clause g n made
+
+  -- targets of `calc` behind others: each name, then its value
+  pub calcs_typed : Env → Place → NodeTree → List ItemTree → Calcs → Result (List ItemTree) ℕ
+  calcs_typed env at n done tree.no_calcs = Ok done
+  calcs_typed env at n done (tree.calc_part r c e cs) = calc_name n done c >>= λ u. calc_value env.settings at e (typed env at e) (over_operand env at e) >>= with_item r c done >>= λ items. calcs_typed env at n items cs
+
+  -- the operand of an analytic call, if there is one
+  pub over_operand : Env → Place → Exp → Result (Option TypedTree) ℕ
+  over_operand env at (tree.aggregate_over f e o) = maybe_typed env at e
+  over_operand env at (tree.value_window f e o) = typed env at e >>= λ x. Ok (Some x)
+  over_operand env at (tree.shift f e n l o) = typed env at e >>= λ x. Ok (Some x)
+  over_operand env at e = Ok None
+
+  -- targets of `aggr` behind others
+  pub aggrs_typed : Env → Place → List Made → Calcs → Result (List Made) ℕ
+  aggrs_typed env at done tree.no_calcs = Ok done
+  aggrs_typed env at done (tree.calc_part r c e cs) = aggr_name done c >>= λ u. typed env at e >>= with_made r c e done >>= λ made. aggrs_typed env at made cs
+
+  -- operands of a join behind others
+  pub parts_typed : Env → List PartTyped → Parts → Result (List PartTyped) ℕ
+  parts_typed env done tree.no_parts = Ok done
+  parts_typed env done (tree.join_part e alias ps) = typed env place.Outside e >>= with_part done e alias >>= λ xs. parts_typed env xs ps
+
+  -- the parts of a join's body that hold expressions
+  pub filter_step : Env → Option Joined → NodeTree → MaybeExp → Result NodeTree ℕ
+  filter_step env j n tree.no_exp = Ok n
+  filter_step env j n (tree.some_exp e) = typed env (place.Inside (at_points j n)) e >>= filter_form n
+
+  pub targets_step : Env → Option Joined → NodeTree → MaybeTargets → Result NodeTree ℕ
+  targets_step env j n tree.no_targets = Ok n
+  targets_step env j n (tree.some_targets m) = targets_typed env j n m
+
+-- ---- parts of the walk
+abbrev pub next_typed : Env → Place → List TypedTree → Exp → Result (List TypedTree) ℕ
+next_typed env at done e = typed env at e >>= behind done
+
+abbrev pub filter_typed : Env → Option Joined → NodeTree → Exp → Result NodeTree ℕ
+filter_typed env j n e = typed env (place.Inside (at_points j n)) e >>= filter_form n
+
+abbrev pub check_typed : Env → ErrorPart → Option BasicOut → MaybeExp → TypedTree → Result TypedTree ℕ
+check_typed env err o i x = check_spec env.settings err o >>= λ s. maybe_typed env place.Outside i >>= check_form s x
+
+abbrev pub difference_typed : Env → DifferenceName → TypedTree → Exp → Result TypedTree ℕ
+difference_typed env f x e = typed env place.Outside e >>= difference_form f x
+
+abbrev pub exists_typed : Env → Option Retain → TypedTree → Exp → Result TypedTree ℕ
+exists_typed env r x e = typed env place.Outside e >>= exists_form r x
+
+-- a joined set with the filter of the body
+abbrev pub filtered_join : Env → Option Joined → MaybeExp → JoinKind → Option (List Comp) → List OperandTree → Result NodeTree ℕ
+filtered_join env j f kind u os = joined_node kind u os >>= λ n. filter_step env j n f
+
+-- the rest of the body
+abbrev pub join_end : Env → Option Joined → MaybeTargets → Option Keeping → Option (List RenamePart) → NodeTree → Result TypedTree ℕ
+join_end env j m k rs a = targets_step env j a m >>= body_end j k rs

@@ -1,0 +1,557 @@
+// The typing of expressions.
+ghost use Rattle.std.specs.Option.{is_some, option_map};
+ghost use Rattle.std.specs.Prelude.{◌||◌, ◌∷◌, [], Bool, None, Some, map};
+ghost use Rattle.vtl_nodes.specs.View.{item_tree, node_tree, value_tree};
+ghost use Rattle.check_faults.specs.Answers.{Answers};
+ghost use Rattle.vtl_syntax.specs.Trees.{calcs_of, exps_of, maybe_targets, parts_of};
+ghost use Rattle.vtl_syntax.specs.View.{calc_tree, clause_tree, expr_tree, part_tree, targets_tree};
+ghost use Rattle.vtl_tree.specs.View.{comp_exp_of};
+ghost use Rattle.check_operators.specs.Places.{env_of};
+ghost use Rattle.check_operators.specs.Typed.{boxed_tree, dataset_in, typed_tree, typed_trees};
+ghost use Rattle.check_operators.specs.declared.places.Place.TheVariants as at;
+ghost use Rattle.check_groups.specs.Aggregates.{group_operand};
+ghost use Rattle.check_clauses.specs.JoinView.{operands_view, parts_view};
+ghost use Rattle.check_clauses.specs.TargetsView.{items_view};
+ghost use Rattle.check_expressions.specs.Typing.{aggrs_typed, calc_value, calcs_typed, check_typed, clause_typed, difference_typed, exists_typed, filter_step, filter_typed, filtered_join, grouped_of, has_exp, having_typed, join_end, maybe_typed, next_typed, operands_typed, over_operand, parts_typed, targets_step, targets_typed, typed};
+ghost use Rattle.check_expressions.specs.WalkView.{maybe_tree};
+
+use crate::join::{body_end, seen_by_body};
+use crate::value::{function, opened, scalar_value, with_operand};
+use check_clauses::{
+    Made, Part, aggr, aggr_name, calc, calc_name, filter, joined_node, keeping,
+    operands as joined_operands, pivot, push_item, push_made, push_part, renaming, sub, unpivot,
+};
+use check_faults::TypeErr;
+use check_groups::{aggregate, group_operand, grouping, no_dataset, over, target, written_call};
+use check_operators::{
+    Joined, Place, Scope, Typed, check, check_spec, condition, constant, difference, exists,
+    groups, member, member_inside, name, operator, points, set, sets, written,
+};
+use check_values::{binary_operator, kind, unary_operator};
+use std::alloc::{AllocError, Global};
+use vtl_cell::ScalarOp;
+use vtl_nodes::{CalcItem, CalcValue, JoinOperand, Node};
+use vtl_syntax::{
+    AggregateName, BasicOut, CalcPart, Clause, Comp, DifferenceName, ErrorPart, Expr, GroupPart,
+    JoinKind, JoinPart, Keeping, RenamePart, Retain, Targets,
+};
+use vtl_text::{List, Txt};
+use vtl_tree::CompExpr;
+
+// One more operand behind others.
+#[cycle(typing)]
+fn next(
+    alloc: Global,
+    scope: &Scope,
+    place: &Place,
+    e: &Expr,
+    operands: Vec<Typed>,
+) -> Result<Vec<Typed>, TypeErr>
+    ensures { Answers typed_trees result (next_typed (env_of scope.now) place.now (typed_trees operands) (expr_tree e.now)) }
+{
+    let operand = typing(alloc, scope, place, e)?;
+    Ok(with_operand(operands, operand)?)
+}
+
+// All operands.
+#[cycle(typing)]
+fn all(alloc: Global, scope: &Scope, place: &Place, es: &[Expr]) -> Result<Vec<Typed>, TypeErr>
+    ensures { Answers typed_trees result (operands_typed (env_of scope.now) place.now [] (exps_of (map expr_tree es.now))) }
+{
+    let mut operands = Vec::new(alloc);
+    for e in es {
+        operands = next(alloc, scope, place, e, operands)?;
+    }
+    Ok(operands)
+}
+
+// An operand, if there is one.
+#[cycle(typing)]
+fn maybe(
+    alloc: Global,
+    scope: &Scope,
+    place: &Place,
+    e: &Option<Box<Expr>>,
+) -> Result<Option<Typed>, TypeErr>
+    ensures { Answers (option_map typed_tree) result (maybe_typed (env_of scope.now) place.now (maybe_tree e.now)) }
+{
+    match e {
+        Some(e) => Ok(Some(typing(alloc, scope, place, e)?)),
+        None => Ok(None),
+    }
+}
+
+// Where a data set is needed.
+#[cycle(typing)]
+fn outside(alloc: Global, scope: &Scope, e: &Expr) -> Result<Typed, TypeErr>
+    ensures { Answers typed_tree result (typed (env_of scope.now) at.Outside (expr_tree e.now)) }
+{
+    let place = Place::Outside;
+    typing(alloc, scope, &place, e)
+}
+
+// `setdiff` and `symdiff` behind their first operand.
+#[cycle(typing)]
+fn difference_behind(
+    alloc: Global,
+    scope: &Scope,
+    e: &Expr,
+    operator: DifferenceName,
+    first: Typed,
+) -> Result<Typed, TypeErr>
+    ensures { Answers typed_tree result (difference_typed (env_of scope.now) operator (typed_tree first) (expr_tree e.now)) }
+{
+    let second = outside(alloc, scope, e)?;
+    difference(alloc, operator, first, second)
+}
+
+// `exists_in` behind its first operand.
+#[cycle(typing)]
+fn exists_behind(
+    alloc: Global,
+    scope: &Scope,
+    e: &Expr,
+    retain: Option<Retain>,
+    first: Typed,
+) -> Result<Typed, TypeErr>
+    ensures { Answers typed_tree result (exists_typed (env_of scope.now) retain (typed_tree first) (expr_tree e.now)) }
+{
+    let second = outside(alloc, scope, e)?;
+    exists(alloc, retain, first, second)
+}
+
+// The condition of groups, where one is written.
+#[cycle(typing)]
+fn having(
+    alloc: Global,
+    scope: &Scope,
+    having: &Option<Box<Expr>>,
+    joined: &Option<Joined>,
+    node: &Node,
+    names: List<Txt>,
+) -> Result<Option<CompExpr>, TypeErr>
+    ensures { Answers (option_map comp_exp_of) result (having_typed (env_of scope.now) joined.now (node_tree node.now) names (maybe_tree having.now)) }
+{
+    match having {
+        Some(e) => {
+            let place = groups(alloc, joined, node, names)?;
+            let value = typing(alloc, scope, &place, e)?;
+            Ok(Some(condition(value)?))
+        }
+        None => Ok(None),
+    }
+}
+
+// An aggregate of a data set, or the fault of another operand.
+#[cycle(typing)]
+fn grouped(
+    alloc: Global,
+    scope: &Scope,
+    place: &Place,
+    condition: &Option<Box<Expr>>,
+    function: AggregateName,
+    group: &Option<GroupPart>,
+    operand: Option<Typed>,
+) -> Result<Typed, TypeErr>
+    ensures { Answers typed_tree result (grouped_of place.now function group.now (is_some group.now || has_exp (maybe_tree condition.now)) (λ n names. having_typed (env_of scope.now) None n names (maybe_tree condition.now)) (option_map typed_tree operand)) }
+{
+    let has_groups = group.is_some() || condition.is_some();
+    match operand {
+        Some(Typed::Dataset(node)) => {
+            let names = grouping(alloc, node.structure.components.as_slice(), group)?;
+            let joined = None;
+            let condition = having(alloc, scope, condition, &joined, &node, names)?;
+            aggregate(alloc, function, group, node, condition)
+        }
+        Some(Typed::Value(value)) => no_dataset(place, function, has_groups, Some(kind(&value))),
+        None => no_dataset(place, function, has_groups, None),
+    }
+}
+
+// A clause of a data set.
+#[cycle(typing)]
+fn clause_typing(
+    alloc: Global,
+    scope: &Scope,
+    clause: &Clause,
+    node: Box<Node>,
+) -> Result<Box<Node>, TypeErr>
+    ensures { Answers boxed_tree result (clause_typed (env_of scope.now) (boxed_tree node) (clause_tree clause.now)) }
+{
+    let joined = None;
+    match clause {
+        Clause::Filter(e) => filter_typing(alloc, scope, e, &joined, node),
+        Clause::Targets(targets) => targets_typing(alloc, scope, targets, &joined, node),
+        Clause::Keeping(kept) => keeping(alloc, &joined, node, kept),
+        Clause::Rename(renames) => renaming(alloc, &joined, node, renames.as_slice()),
+        Clause::Sub(parts) => sub(alloc, &scope.profile, node, parts.as_slice()),
+        Clause::Pivot {
+            identifier,
+            measure,
+        } => pivot(alloc, identifier, measure, node),
+        Clause::Unpivot {
+            identifier,
+            measure,
+        } => unpivot(alloc, identifier, measure, node),
+    }
+}
+
+#[cycle(typing)]
+fn filter_typing(
+    alloc: Global,
+    scope: &Scope,
+    e: &Expr,
+    joined: &Option<Joined>,
+    node: Box<Node>,
+) -> Result<Box<Node>, TypeErr>
+    ensures { Answers boxed_tree result (filter_typed (env_of scope.now) joined.now (boxed_tree node) (expr_tree e.now)) }
+{
+    let place = points(alloc, joined, &node)?;
+    let condition = typing(alloc, scope, &place, e)?;
+    filter(alloc, node, condition)
+}
+
+// `calc` and `aggr`.
+#[cycle(typing)]
+fn targets_typing(
+    alloc: Global,
+    scope: &Scope,
+    targets: &Targets,
+    joined: &Option<Joined>,
+    node: Box<Node>,
+) -> Result<Box<Node>, TypeErr>
+    ensures { Answers boxed_tree result (targets_typed (env_of scope.now) joined.now (boxed_tree node) (targets_tree targets.now)) }
+{
+    match targets {
+        Targets::Calc(parts) => {
+            let place = points(alloc, joined, &node)?;
+            let items = items(alloc, scope, &place, parts, &node)?;
+            calc(alloc, node, items)
+        }
+        Targets::Aggr {
+            parts,
+            group,
+            having: condition,
+        } => {
+            let place = groups(alloc, joined, &node, List::of(Vec::new(alloc)))?;
+            let made = made(alloc, scope, &place, parts)?;
+            let names = grouping(alloc, node.structure.components.as_slice(), group)?;
+            let condition = having(alloc, scope, condition, joined, &node, names)?;
+            aggr(alloc, group, node, made, condition)
+        }
+    }
+}
+
+// The targets of `calc`: each name, then its value.
+#[cycle(typing)]
+fn items(
+    alloc: Global,
+    scope: &Scope,
+    place: &Place,
+    parts: &[CalcPart],
+    node: &Node,
+) -> Result<Vec<CalcItem>, TypeErr>
+    ensures { Answers items_view result (calcs_typed (env_of scope.now) place.now (node_tree node.now) [] (calcs_of (map calc_tree parts.now))) }
+{
+    let mut items = Vec::new(alloc);
+    for part in parts {
+        calc_name(node, &items, &part.component)?;
+        let value = item_value(alloc, scope, place, &part.value)?;
+        push_item(&mut items, part.role, &part.component, value)?;
+    }
+    Ok(items)
+}
+
+// The value of a target of `calc`.
+#[cycle(typing)]
+fn item_value(alloc: Global, scope: &Scope, place: &Place, e: &Expr) -> Result<CalcValue, TypeErr>
+    ensures { Answers value_tree result (calc_value (env_of scope.now).settings place.now (expr_tree e.now) (typed (env_of scope.now) place.now (expr_tree e.now)) (over_operand (env_of scope.now) place.now (expr_tree e.now))) }
+{
+    match e {
+        Expr::AggregateOver { operand, .. } => {
+            let operand = maybe(alloc, scope, place, operand)?;
+            target(alloc, &scope.profile, place, e, operand)
+        }
+        Expr::ValueWindow { operand, .. } => {
+            let operand = typing(alloc, scope, place, operand)?;
+            target(alloc, &scope.profile, place, e, Some(operand))
+        }
+        Expr::Shift { operand, .. } => {
+            let operand = typing(alloc, scope, place, operand)?;
+            target(alloc, &scope.profile, place, e, Some(operand))
+        }
+        Expr::Rank(_) => target(alloc, &scope.profile, place, e, None),
+        _ => scalar_value(typing(alloc, scope, place, e)?),
+    }
+}
+
+// The targets of `aggr`.
+#[cycle(typing)]
+fn made(
+    alloc: Global,
+    scope: &Scope,
+    place: &Place,
+    parts: &[CalcPart],
+) -> Result<Vec<Made>, TypeErr>
+    ensures { Answers (λ v. v.items) result (aggrs_typed (env_of scope.now) place.now [] (calcs_of (map calc_tree parts.now))) }
+{
+    let mut made = Vec::new(alloc);
+    for part in parts {
+        aggr_name(&made, &part.component)?;
+        let value = typing(alloc, scope, place, &part.value)?;
+        push_made(&mut made, part.role, &part.component, &part.value, value)?;
+    }
+    Ok(made)
+}
+
+// The operands of a join.
+#[cycle(typing)]
+fn join_parts(alloc: Global, scope: &Scope, written: &[JoinPart]) -> Result<Vec<Part>, TypeErr>
+    ensures { Answers parts_view result (parts_typed (env_of scope.now) [] (parts_of (map part_tree written.now))) }
+{
+    let mut parts = Vec::new(alloc);
+    for part in written {
+        let operand = outside(alloc, scope, &part.operand)?;
+        push_part(&mut parts, &part.operand, &part.alias, operand)?;
+    }
+    Ok(parts)
+}
+
+// The filter of a join's body.
+#[cycle(typing)]
+fn filter_part(
+    alloc: Global,
+    scope: &Scope,
+    condition: &Option<Box<Expr>>,
+    joined: &Option<Joined>,
+    node: Box<Node>,
+) -> Result<Box<Node>, TypeErr>
+    ensures { Answers boxed_tree result (filter_step (env_of scope.now) joined.now (boxed_tree node) (maybe_tree condition.now)) }
+{
+    match condition {
+        Some(e) => filter_typing(alloc, scope, e, joined, node),
+        None => Ok(node),
+    }
+}
+
+// The joined set with the filter of the body.
+#[cycle(typing)]
+fn filtered_join(
+    alloc: Global,
+    scope: &Scope,
+    condition: &Option<Box<Expr>>,
+    kind: JoinKind,
+    using: &Option<List<Comp>>,
+    operands: Vec<JoinOperand>,
+    joined: &Option<Joined>,
+) -> Result<Box<Node>, TypeErr>
+    ensures { Answers boxed_tree result (filtered_join (env_of scope.now) joined.now (maybe_tree condition.now) kind «using».now (operands_view operands)) }
+{
+    let node = joined_node(alloc, kind, using, operands)?;
+    filter_part(alloc, scope, condition, joined, node)
+}
+
+// The body of a join behind its filter.
+#[cycle(typing)]
+fn join_end(
+    alloc: Global,
+    scope: &Scope,
+    targets: &Option<Targets>,
+    kept: &Option<Keeping>,
+    renames: &Option<List<RenamePart>>,
+    joined: Option<Joined>,
+    node: Box<Node>,
+) -> Result<Typed, TypeErr>
+    ensures { Answers typed_tree result (join_end (env_of scope.now) joined (maybe_targets (option_map targets_tree targets.now)) kept.now renames.now (boxed_tree node)) }
+{
+    let node = targets_part(alloc, scope, targets, &joined, node)?;
+    body_end(alloc, &joined, kept, renames, node)
+}
+
+// `calc` or `aggr` of a join's body.
+#[cycle(typing)]
+fn targets_part(
+    alloc: Global,
+    scope: &Scope,
+    targets: &Option<Targets>,
+    joined: &Option<Joined>,
+    node: Box<Node>,
+) -> Result<Box<Node>, TypeErr>
+    ensures { Answers boxed_tree result (targets_step (env_of scope.now) joined.now (boxed_tree node) (maybe_targets (option_map targets_tree targets.now))) }
+{
+    match targets {
+        Some(targets) => targets_typing(alloc, scope, targets, joined, node),
+        None => Ok(node),
+    }
+}
+
+// `check` behind its operand.
+#[cycle(typing)]
+fn check_behind(
+    alloc: Global,
+    scope: &Scope,
+    imbalance: &Option<Box<Expr>>,
+    error: &ErrorPart,
+    output: Option<BasicOut>,
+    operand: Typed,
+) -> Result<Typed, TypeErr>
+    ensures { Answers typed_tree result (check_typed (env_of scope.now) error.now output (maybe_tree imbalance.now) (typed_tree operand)) }
+{
+    let place = Place::Outside;
+    let spec = check_spec(&scope.profile, error, output)?;
+    let imbalance = maybe(alloc, scope, &place, imbalance)?;
+    check(alloc, spec, operand, imbalance)
+}
+
+/// The typing of an expression at a place: its parts in written order, operands before operators. The first part that breaks a
+/// rule is the fault, with the smallest rule that it breaks.
+#[cycle(typing)]
+pub fn typing(alloc: Global, scope: &Scope, place: &Place, e: &Expr) -> Result<Typed, TypeErr>
+    ensures { Answers typed_tree result (typed (env_of scope.now) place.now (expr_tree e.now)) }
+{
+    match e {
+        Expr::If {
+            condition,
+            then,
+            other,
+        } => {
+            let operands = next(alloc, scope, place, condition, Vec::new(alloc))?;
+            let operands = next(alloc, scope, place, then, operands)?;
+            let operands = next(alloc, scope, place, other, operands)?;
+            operator(alloc, place, ScalarOp::If, true, true, operands)
+        }
+        Expr::Binary { left, op, right } => {
+            let operands = next(alloc, scope, place, left, Vec::new(alloc))?;
+            let operands = next(alloc, scope, place, right, operands)?;
+            operator(alloc, place, binary_operator(*op), true, true, operands)
+        }
+        Expr::InSet {
+            operand,
+            negated,
+            literals,
+        } => {
+            let operand = typing(alloc, scope, place, operand)?;
+            set(
+                alloc,
+                &scope.profile,
+                place,
+                *negated,
+                literals.as_slice(),
+                operand,
+            )
+        }
+        Expr::Unary { op, operand } => {
+            let operands = next(alloc, scope, place, operand, Vec::new(alloc))?;
+            operator(alloc, place, unary_operator(*op), true, true, operands)
+        }
+        Expr::WithClause { operand, clause } => {
+            let node = outside(alloc, scope, operand)?.dataset()?;
+            Ok(Typed::Dataset(clause_typing(alloc, scope, clause, node)?))
+        }
+        Expr::Member { operand, component } => match member_inside(place, operand, component) {
+            Some((inside, name)) => written(alloc, inside, name),
+            None => {
+                let node = outside(alloc, scope, operand)?.dataset()?;
+                member(alloc, component, node)
+            }
+        },
+        Expr::Component(component) => name(alloc, scope, place, component),
+        Expr::Constant(literal) => constant(alloc, &scope.profile, literal),
+        Expr::Brackets(inner) => typing(alloc, scope, place, inner),
+        Expr::Function {
+            function: called,
+            operands: es,
+        } => {
+            let operands = all(alloc, scope, place, es)?;
+            function(alloc, &scope.profile, place, *called, es, operands)
+        }
+        Expr::Aggregate {
+            function,
+            operand,
+            group,
+            having,
+        } => match group_operand(place, opened(operand)) {
+            Some((inside, name)) => {
+                let has_groups = group.is_some() || having.is_some();
+                written_call(alloc, inside, *function, has_groups, name)
+            }
+            None => {
+                let operand = maybe(alloc, scope, place, operand)?;
+                grouped(alloc, scope, place, having, *function, group, operand)
+            }
+        },
+        Expr::AggregateOver { operand, .. } => {
+            let operand = maybe(alloc, scope, place, operand)?;
+            over(alloc, &scope.profile, place, e, operand)
+        }
+        Expr::ValueWindow { operand, .. } => {
+            let operand = typing(alloc, scope, place, operand)?;
+            over(alloc, &scope.profile, place, e, Some(operand))
+        }
+        Expr::Shift { operand, .. } => {
+            let operand = typing(alloc, scope, place, operand)?;
+            over(alloc, &scope.profile, place, e, Some(operand))
+        }
+        Expr::Rank(_) => over(alloc, &scope.profile, place, e, None),
+        Expr::SetOp {
+            operator,
+            operands: es,
+        } => {
+            let place = Place::Outside;
+            let operands = all(alloc, scope, &place, es)?;
+            sets(alloc, *operator, operands)
+        }
+        Expr::Difference {
+            operator,
+            left,
+            right,
+        } => {
+            let left = outside(alloc, scope, left)?;
+            difference_behind(alloc, scope, right, *operator, left)
+        }
+        Expr::ExistsIn {
+            left,
+            right,
+            retain,
+        } => {
+            let left = outside(alloc, scope, left)?;
+            exists_behind(alloc, scope, right, *retain, left)
+        }
+        Expr::Check {
+            operand,
+            error,
+            imbalance,
+            output,
+        } => {
+            let operand = outside(alloc, scope, operand)?;
+            check_behind(alloc, scope, imbalance, error, *output, operand)
+        }
+        Expr::CheckDatapoint { operand, .. } => {
+            outside(alloc, scope, operand)?;
+            Err(TypeErr::Broken(3))
+        }
+        Expr::CheckHierarchy { operand, .. } => {
+            outside(alloc, scope, operand)?;
+            Err(TypeErr::Broken(3))
+        }
+        Expr::Hierarchy { operand, .. } => {
+            outside(alloc, scope, operand)?;
+            Err(TypeErr::Broken(3))
+        }
+        Expr::Join {
+            kind,
+            operands,
+            using,
+            filter,
+            targets,
+            keeping,
+            renames,
+        } => {
+            let parts = join_parts(alloc, scope, operands)?;
+            let operands = joined_operands(alloc, parts)?;
+            let joined = seen_by_body(alloc, *kind, &operands)?;
+            let node = filtered_join(alloc, scope, filter, *kind, using, operands, &joined)?;
+            join_end(alloc, scope, targets, keeping, renames, joined, node)
+        }
+    }
+}

@@ -1,0 +1,83 @@
+// The kinds that analytic calls take and give.
+ghost use Rattle.std.specs.Prelude.{◌≡◌};
+ghost use Rattle.vtl_syntax.specs.View.{expr_tree};
+ghost use Rattle.check_groups.specs.Windowed.{given_kind, is_rank, is_unfit_over, meets_default, over_kind, shift_kind, window_kind};
+
+use crate::kinds::aggregate_kind;
+use check_values::literal_kind;
+use vtl_cell::Kind;
+use vtl_kinds::{meets, number_of};
+use vtl_nodes::AnalyticOp;
+use vtl_syntax::{Expr, Literal, ValueWindowName};
+
+fn window_kind(function: ValueWindowName, kind: Kind) -> Option<Kind>
+    ensures { result ≡ window_kind function kind }
+{
+    match function {
+        ValueWindowName::FirstValue | ValueWindowName::LastValue => Some(kind),
+        ValueWindowName::RatioToReport => number_of(kind),
+    }
+}
+
+fn meets_default(default: &Option<Literal>, kind: Kind) -> bool
+    ensures { result ≡ meets_default default.now kind }
+{
+    match default {
+        Some(default) => meets(kind, literal_kind(default)),
+        None => true,
+    }
+}
+
+fn shift_kind(default: &Option<Literal>, kind: Kind) -> Option<Kind>
+    ensures { result ≡ shift_kind default.now kind }
+{
+    if meets_default(default, kind) {
+        Some(kind)
+    } else {
+        None
+    }
+}
+
+/// The kind that an analytic call gives of values of a kind, where it takes them.
+pub(crate) fn over_kind(call: &Expr, kind: Kind) -> Option<Kind>
+    ensures { result ≡ over_kind (expr_tree call.now) kind }
+{
+    match call {
+        Expr::AggregateOver { function, .. } => aggregate_kind(*function, kind),
+        Expr::ValueWindow { function, .. } => window_kind(*function, kind),
+        Expr::Shift { default, .. } => shift_kind(default, kind),
+        _ => Some(Kind::Int),
+    }
+}
+
+/// Whether a call is of `rank`, which alone has no operand.
+pub(crate) fn is_rank(call: &Expr) -> bool
+    ensures { result ≡ is_rank (expr_tree call.now) }
+{
+    match call {
+        Expr::Rank(_) => true,
+        _ => false,
+    }
+}
+
+/// Whether the operand of an analytic call is missing, or its kind does not fit.
+pub(crate) fn is_unfit_over(call: &Expr, kind: Option<Kind>) -> bool
+    ensures { result ≡ is_unfit_over (expr_tree call.now) kind }
+{
+    match kind {
+        Some(kind) => over_kind(call, kind).is_none(),
+        None => !is_rank(call),
+    }
+}
+
+/// The kind that an analytic operator gives of values of a kind that it takes.
+pub fn given_kind(op: &AnalyticOp, kind: Kind) -> Kind
+    ensures { result ≡ given_kind op.now kind }
+{
+    match op {
+        AnalyticOp::Sum if meets(Kind::Int, kind) => Kind::Int,
+        AnalyticOp::Sum | AnalyticOp::Avg | AnalyticOp::RatioToReport => Kind::Num,
+        AnalyticOp::Count | AnalyticOp::Rank => Kind::Int,
+        _ => kind,
+    }
+}

@@ -1,0 +1,72 @@
+// Analytic calls that are no whole targets of `calc`.
+ghost use Rattle.std.specs.Option.{option_map};
+ghost use Rattle.std.specs.Prelude.{◌≡◌};
+ghost use Rattle.check_faults.specs.Answers.{Answers};
+ghost use Rattle.vtl_syntax.specs.View.{expr_tree};
+ghost use Rattle.check_operators.specs.Typed.{typed_tree};
+ghost use Rattle.check_groups.specs.Windowed.{elsewhere_rule, misuse_rule, over_form, over_typed};
+
+use crate::Call;
+use crate::call_windows::over_parts;
+use crate::over_kinds::is_unfit_over;
+use crate::over_nodes::over_node;
+use check_faults::TypeErr;
+use check_operators::{Place, Typed};
+use check_values::kind;
+use std::alloc::Global;
+use vtl_cell::Kind;
+use vtl_decimal::Profile;
+use vtl_nodes::Window;
+use vtl_syntax::Expr;
+
+fn elsewhere_rule(place: &Place, kind: Option<Kind>) -> u8
+    ensures { result ≡ elsewhere_rule place.now kind }
+{
+    match (place, kind) {
+        (Place::Outside, Some(_)) => 14,
+        _ => 16,
+    }
+}
+
+fn misuse_rule(place: &Place, call: &Expr, kind: Option<Kind>) -> u8
+    ensures { result ≡ misuse_rule place.now (expr_tree call.now) kind }
+{
+    if is_unfit_over(call, kind) {
+        7
+    } else {
+        elsewhere_rule(place, kind)
+    }
+}
+
+fn over_form(
+    alloc: Global,
+    place: &Place,
+    e: &Expr,
+    operand: Option<Typed>,
+    call: Call,
+    window: Window,
+) -> Result<Typed, TypeErr>
+    ensures { Answers typed_tree result (over_form place.now (expr_tree e.now) (option_map typed_tree operand) call window) }
+{
+    match operand {
+        Some(Typed::Dataset(node)) => over_node(alloc, e, call, window, node),
+        Some(Typed::Value(v)) => Err(TypeErr::Broken(misuse_rule(place, e, Some(kind(&v))))),
+        None => Err(TypeErr::Broken(misuse_rule(place, e, None))),
+    }
+}
+
+/// An analytic call that is no whole target of `calc`, behind its operand: a data set has its measures, anything else breaks rule
+/// 7, 14 or 16.
+#[tactic(auto, unfolding(crate::specs::Windowed::over_typed))]
+pub fn over(
+    alloc: Global,
+    profile: &Profile,
+    place: &Place,
+    call: &Expr,
+    operand: Option<Typed>,
+) -> Result<Typed, TypeErr>
+    ensures { Answers typed_tree result (over_typed profile.now place.now (expr_tree call.now) (option_map typed_tree operand)) }
+{
+    let (parts, window) = over_parts(alloc, profile, place, call, &operand)?;
+    over_form(alloc, place, call, operand, parts, window)
+}

@@ -1,0 +1,6 @@
+use Rattle.std.proofs.Common.{◌≡◌, ◌++◌, take}
+use Rattle.check_joins.specs.Joins.{own_renamings}
+use Rattle.check_joins.proofs.joined.push_own_renamings.Given as goal
+
+abbrev pub invariant-loop-component : goal.invariant-loop-component
+invariant-loop-component l = l.out.items ≡ l.fn.out.items ++ own_renamings l.kind l.held l.alias (take l.component-index l.components)

@@ -1,0 +1,246 @@
+// Joins: which operands go together.
+ghost use Rattle.std.specs.List.{list_all, list_any};
+ghost use Rattle.std.specs.Option.{option_copied, option_map_or};
+ghost use Rattle.std.specs.Prelude.{◌≡◌, [], ◌++◌, IfOk, OnOk, false, filter, is_some, length};
+ghost use Rattle.vtl_tree.specs.Shown.{shown};
+ghost use Rattle.check_faults.specs.Answers.{Answers};
+ghost use Rattle.check_faults.specs.Rules.{ruled};
+ghost use Rattle.check_shapes.specs.Choices.{is_identifier as is_id, is_identifier_name as is_id_name};
+ghost use Rattle.check_shapes.specs.Names.{component_of as component_named, is_among as among};
+ghost use Rattle.check_joins.specs.Joins.{agrees, all_go_with, clashes, go_together, goes_with, greatest_width, is_cross, is_exactly, place_of_width, reference, reference_place, structures_of, takes_using, using_behind, using_form, using_tests, width};
+
+use check_faults::{TypeErr, broken};
+use check_shapes::{
+    Compared, agree, component_of, contains, count_role, is_among, is_identifier,
+    is_identifier_name,
+};
+use std::alloc::{AllocError, Global};
+use vtl_syntax::JoinKind;
+use vtl_text::Txt;
+use vtl_tree::{Component, Role, Structure};
+
+/// An operand of a join.
+#[derive(Drop)]
+pub struct Operand {
+    /// Its alias, which no other operand has.
+    pub alias: Txt,
+    /// Its structure.
+    pub structure: Structure,
+}
+
+pub(crate) fn is_cross(kind: JoinKind) -> bool
+    ensures { result ≡ is_cross kind }
+{
+    match kind {
+        JoinKind::Cross => true,
+        _ => false,
+    }
+}
+
+fn width(operand: &Operand) -> usize
+    ensures { result ≡ width operand.now }
+{
+    count_role(operand.structure.components.as_slice(), Role::Identifier)
+}
+
+fn greatest_width(operands: &[Operand]) -> usize
+    ensures { result ≡ greatest_width operands.now }
+{
+    let mut greatest = 0;
+    for operand in operands {
+        greatest = greatest.max(width(operand));
+    }
+    greatest
+}
+
+fn place_of_width(wanted: usize, operands: &[Operand]) -> usize
+    ensures { result ≡ place_of_width wanted operands.now }
+{
+    for i in 0..operands.len() {
+        if width(&operands[i]) == wanted {
+            return i;
+        }
+    }
+    operands.len()
+}
+
+pub(crate) fn reference_place(kind: JoinKind, operands: &[Operand]) -> usize
+    ensures { result ≡ reference_place kind operands.now }
+{
+    match kind {
+        JoinKind::Inner => place_of_width(greatest_width(operands), operands),
+        _ => 0,
+    }
+}
+
+pub(crate) fn reference(kind: JoinKind, operands: &[Operand]) -> Option<&Operand>
+    ensures { option_copied result ≡ reference kind operands.now }
+{
+    operands.get(reference_place(kind, operands))
+}
+
+fn are_among(names: &[Txt], components: &[Component]) -> bool
+    ensures { result ≡ list_all (λ x. among x.name names.now) (filter is_id components.now) }
+{
+    for component in components {
+        if is_identifier(component) && !is_among(&component.name, names) {
+            return false;
+        }
+    }
+    true
+}
+
+fn are_identifiers(components: &[Component], names: &[Txt]) -> bool
+    ensures { result ≡ list_all (is_id_name components.now) names.now }
+{
+    for name in names {
+        if !is_identifier_name(components, name) {
+            return false;
+        }
+    }
+    true
+}
+
+fn is_exactly(names: &[Txt], components: &[Component]) -> bool
+    ensures { result ≡ is_exactly names.now components.now }
+{
+    are_among(names, components) && are_identifiers(components, names)
+}
+
+fn any_clashes(reference: &[Component], components: &[Component]) -> bool
+    ensures { result ≡ list_any (clashes reference.now) components.now }
+{
+    for component in components {
+        if !is_identifier(component) && is_identifier_name(reference, &component.name) {
+            return true;
+        }
+    }
+    false
+}
+
+fn agrees(
+    kind: JoinKind,
+    listed: Option<&[Txt]>,
+    reference: &Structure,
+    structure: &Structure,
+) -> bool
+    ensures { result ≡ agrees kind (option_copied listed.entry) reference.now structure.now }
+{
+    let components = structure.components.as_slice();
+    match (kind, listed) {
+        (_, Some(names)) => contains(reference, structure) && is_exactly(names, components),
+        (JoinKind::Inner, None) => contains(reference, structure),
+        (_, None) => agree(
+            Compared::Kinds,
+            Role::Identifier,
+            reference.components.as_slice(),
+            components,
+        ),
+    }
+}
+
+fn goes_with(
+    kind: JoinKind,
+    listed: Option<&[Txt]>,
+    reference: &Structure,
+    operand: &Operand,
+) -> bool
+    ensures { result ≡ goes_with kind (option_copied listed.entry) reference.now operand.now }
+{
+    let components = operand.structure.components.as_slice();
+    agrees(kind, listed, reference, &operand.structure)
+        && !any_clashes(reference.components.as_slice(), components)
+}
+
+fn all_go_with(
+    kind: JoinKind,
+    listed: Option<&[Txt]>,
+    reference: &Structure,
+    operands: &[Operand],
+) -> bool
+    ensures { result ≡ all_go_with kind (option_copied listed.entry) reference.now operands.now }
+{
+    for operand in operands {
+        if !goes_with(kind, listed, reference, operand) {
+            return false;
+        }
+    }
+    true
+}
+
+/// Whether each operand but the reference goes with it; in a cross join all go together.
+pub(crate) fn go_together(kind: JoinKind, listed: Option<&[Txt]>, operands: &[Operand]) -> bool
+    ensures { result ≡ go_together kind (option_copied listed.entry) operands.now }
+{
+    let place = reference_place(kind, operands);
+    let Some(reference) = operands.get(place) else {
+        return true;
+    };
+    is_cross(kind)
+        || (all_go_with(kind, listed, &reference.structure, &operands[..place])
+            && all_go_with(kind, listed, &reference.structure, &operands[place + 1..]))
+}
+
+fn any_has(operands: &[Operand], name: &Txt) -> bool
+    ensures { result ≡ list_any (λ o. is_some (component_named name.now o.structure.components)) operands.now }
+{
+    for operand in operands {
+        if component_of(name, operand.structure.components.as_slice()).is_some() {
+            return true;
+        }
+    }
+    false
+}
+
+fn any_identifies(operands: &[Operand], name: &Txt) -> bool
+    ensures { result ≡ list_any (λ o. is_id_name o.structure.components name.now) operands.now }
+{
+    for operand in operands {
+        if is_identifier_name(operand.structure.components.as_slice(), name) {
+            return true;
+        }
+    }
+    false
+}
+
+fn check_using_name(operands: &[Operand], before: &[Txt], name: &Txt) -> Result<(), TypeErr>
+    ensures { Answers (λ done. done) result (ruled (using_tests operands.now before.now name.now) tt) }
+{
+    broken(4, !any_has(operands, name))?;
+    broken(5, is_among(name, before))?;
+    broken(6, !any_identifies(operands, name))
+}
+
+fn check_using_names(operands: &[Operand], names: &[Txt]) -> Result<(), TypeErr>
+    ensures { Answers (λ done. done) result (using_behind operands.now [] names.now) }
+{
+    for i in 0..names.len() {
+        check_using_name(operands, &names[..i], &names[i])?;
+    }
+    Ok(())
+}
+
+fn takes_using(kind: JoinKind) -> bool
+    ensures { result ≡ takes_using kind }
+{
+    match kind {
+        JoinKind::Inner | JoinKind::Left => true,
+        JoinKind::Full | JoinKind::Cross => false,
+    }
+}
+
+/// The names behind `using`: one breaks rule 4 where no operand has it, 5 where it stands there already, and 6 where it is never
+/// an identifier. Behind them a join that takes no `using` breaks rule 21.
+pub(crate) fn check_using(
+    kind: JoinKind,
+    operands: &[Operand],
+    listed: Option<&[Txt]>,
+) -> Result<(), TypeErr>
+    ensures { Answers (λ done. done) result (using_form kind operands.now (option_copied listed.entry)) }
+{
+    let Some(names) = listed else {
+        return Ok(());
+    };
+    check_using_names(operands, names)?;
+    broken(21, !takes_using(kind))
+}

@@ -1,0 +1,181 @@
+-- `calc`.
+use Rattle.std.proofs.Common.{◌≡◌, ℕ, Bool, true, false, cond, List, [], ◌∷◌, ◌++◌, map, Option, Some, None, option_map, refl, sym, ap, ◌∙◌, subst}
+use Rattle.std.proofs.lemmas.Bool.{false≢true}
+use Rattle.std.proofs.lemmas.List.{append-nil}
+use Rattle.std.proofs.lemmas.List.Elements.{filter-append}
+use Rattle.std.specs.List.{AllByRecursion, filter, find}
+use Rattle.std.specs.Option.{option_map_or}
+use Rattle.std.specs.Prelude.{unwrap_or}
+use Rattle.vtl_decimal.specs.Settings.{Settings}
+use Rattle.vtl_lists.specs.Apart.{all_apart}
+use Rattle.vtl_lists.proofs.Aparts.{apart_parts}
+use Rattle.vtl_tree.specs.Structure.{columns_of, names_of, same_name, same_role}
+use Rattle.vtl_tree.specs.Structures.{structure_of}
+use Rattle.vtl_tree.specs.declared.structure.Component.{Component}
+use Rattle.vtl_tree.specs.declared.structure.Role.{Role}
+use Rattle.vtl_tree.specs.declared.structure.Role.TheVariants as role
+use Rattle.vtl_tree.specs.declared.structure.Structure.{Structure}
+use Rattle.vtl_nodes.specs.Trees.{ItemTree}
+use Rattle.check_shapes.specs.Choices.{is_identifier, is_identifier_name}
+use Rattle.check_shapes.specs.Clauses.{calc_form, calculated, is_new, retargeted, target_component, target_of}
+use Rattle.check_shapes.specs.Measures.{made}
+use Rattle.check_shapes.specs.Names.{component_of}
+use Rattle.check_shapes.specs.declared.targets.Target.{Target}
+use Rattle.check_values.specs.Kinds.{exp_kind}
+use Rattle.vtl_meaning.specs.Columns.{column_named}
+use Rattle.vtl_meaning.specs.Made.{IsCalculated, IsTyped}
+use Rattle.vtl_meaning.specs.Operators.{calculated_exp, target_named, value_exp}
+use Rattle.check_laws.specs.Gives.{Gives, IsShaped}
+use Rattle.check_laws.proofs.Columns.{IsFound, all-found, of-columns, same-refl, same-true}
+use Rattle.check_laws.proofs.Expressions.{IsFor, for-map}
+use Rattle.check_laws.proofs.Lists as lists
+use Rattle.check_laws.proofs.Measured.{found-columns}
+use Rattle.check_laws.proofs.Shapes.{filter-none, role-identifier, shaped-gives}
+
+-- ---- the items of a list by their names
+find-map : {X Y : Type 0} (f : X → Y) (p : Y → Bool) (xs : List X) → find p (map f xs) ≡ option_map f (find (λ x. p (f x)) xs)
+find-map f p [] = refl
+find-map f p (x ∷ xs) = go (p (f x)) (find-map f p xs)
+  where
+    go : (b : Bool) → find p (map f xs) ≡ option_map f (find (λ x. p (f x)) xs) → cond b (Some (f x)) (find p (map f xs)) ≡ option_map f (cond b (Some x) (find (λ x. p (f x)) xs))
+    go true ih = refl
+    go false ih = ih
+
+find-passes : {X : Type 0} (P : X → Type 0) (p : X → Bool) (xs : List X) (x : X) → AllByRecursion P xs → find p xs ≡ Some x → P x × (p x ≡ true)
+find-passes P p [] x h e = cc
+find-passes P p (y ∷ ys) x h e = go (p y) refl e (find-passes P p ys x h.1)
+  where
+    go : (b : Bool) → p y ≡ b → cond b (Some y) (find p ys) ≡ Some x → (find p ys ≡ Some x → P x × (p x ≡ true)) → P x × (p x ≡ true)
+    go true t e ih = let s : y ≡ x = cc in (subst P s h.0, ap p (sym s) ∙ t)
+    go false t e ih = ih e
+
+pub items-found : (items : List ItemTree) → all_apart same_name (map (λ i. i.target) items) ≡ true → AllByRecursion (λ i. target_named items i.target ≡ Some i) items
+items-found [] e = tt
+items-found (i ∷ items) e = (
+  ap (λ b. cond b (Some i) (target_named items i.target)) (same-refl i.target),
+  lists.joined (λ j. same_name i.target j.target ≡ false) (λ j. target_named items j.target ≡ Some j) (λ j. target_named (i ∷ items) j.target ≡ Some j) items
+      (λ j no found. ap (λ b. cond b (Some i) (target_named items j.target)) no ∙ found) (lists.unmapped (λ n. same_name i.target n ≡ false) (λ i. i.target) items parts.0) (items-found items parts.1),
+)
+  where
+    parts : AllByRecursion (λ n. same_name i.target n ≡ false) (map (λ i. i.target) items) × (all_apart same_name (map (λ i. i.target) items) ≡ true)
+    parts = apart_parts same_name i.target (map (λ i. i.target) items) e
+
+-- ---- targets
+-- a value for a target, which is no identifier
+pub record IsItemFor (p : Settings) (a : Structure) (target : ItemTree → Target) (i : ItemTree) : Type 0 where
+  pub name : (target i).name ≡ i.target
+  pub role : (r : Role) → unwrap_or (target i).role r ≡ role.Identifier → r ≡ role.Identifier
+  pub kind : exp_kind (value_exp i.value) ≡ (target i).kind
+  pub typed : IsTyped p (columns_of a) (value_exp i.value)
+  pub free : is_identifier_name a.components i.target ≡ false
+
+find-same : {X : Type 0} (p q : X → Bool) (xs : List X) → ((x : X) → p x ≡ q x) → find p xs ≡ find q xs
+find-same p q [] e = refl
+find-same p q (x ∷ xs) e = ap (λ b. cond b (Some x) (find p xs)) (e x) ∙ ap (cond (q x) (Some x)) (find-same p q xs e)
+
+-- identifiers that stay, beside components that do not become identifiers
+filter-mapped : (f : Component → Component) (xs : List Component) → AllByRecursion (λ x. (is_identifier x ≡ true → f x ≡ x) × (is_identifier x ≡ false → is_identifier (f x) ≡ false)) xs → filter is_identifier (map f xs) ≡ filter is_identifier xs
+filter-mapped f [] h = refl
+filter-mapped f (x ∷ xs) h = go (is_identifier x) refl (filter-mapped f xs h.1)
+  where
+    go : (b : Bool) → is_identifier x ≡ b → filter is_identifier (map f xs) ≡ filter is_identifier xs → cond (is_identifier (f x)) (f x ∷ filter is_identifier (map f xs)) (filter is_identifier (map f xs)) ≡ cond b (x ∷ filter is_identifier xs) (filter is_identifier xs)
+    go true e ih = ap (λ y. cond (is_identifier y) (y ∷ filter is_identifier (map f xs)) (filter is_identifier (map f xs))) (h.0.0 e) ∙ ap (λ b. cond b (x ∷ filter is_identifier (map f xs)) (filter is_identifier (map f xs))) e ∙ ap (λ l. x ∷ l) ih
+    go false e ih = ap (λ b. cond b (f x ∷ filter is_identifier (map f xs)) (filter is_identifier (map f xs))) (h.0.1 e) ∙ ih
+
+not-identifier : (y : Component) → (y.role ≡ role.Identifier → ⊥) → is_identifier y ≡ false
+not-identifier y h = go (is_identifier y) refl
+  where
+    go : (b : Bool) → is_identifier y ≡ b → b ≡ false
+    go true e = absurd (h (role-identifier y e))
+    go false e = refl
+
+pub calculated-fits : (p : Settings) (items : List ItemTree) (target : ItemTree → Target) (a : Structure) → IsShaped a → all_apart same_name (map (λ i. i.target) items) ≡ true → ((i : ItemTree) → (target i).name ≡ i.target) → AllByRecursion (IsItemFor p a target) items
+    → Gives (λ s. IsShaped s × IsCalculated p items a s) (calc_form (map target items) a.components)
+calculated-fits p items target a ia apart names h =
+    shaped-gives (λ s. IsShaped s × IsCalculated p items a s) (old ++ new) (λ s. (
+      s,
+      record {
+        well_formed = s.well_formed;
+        identifiers = (ap names_of same, ap (map (λ x. x.kind)) same);
+        free = lists.joined (IsFound xs) (λ x. is_identifier x ≡ true) (λ x. target_named items x.name ≡ None) (filter is_identifier xs) free (lists.filtered (IsFound xs) is_identifier xs (all-found a ia.well_formed)) (lists.passing is_identifier xs);
+        columns = for-map p (columns_of a) (calculated_exp items (columns_of a)) (columns_of (structure_of (old ++ new))) (of-columns Good (structure_of (old ++ new)) (lists.appended Good old new
+            (lists.mapped Good (calculated ts) xs (lists.weaker (λ x. IsFor p (columns_of a) (column_named (columns_of a) x.name) x) (λ x. Good (calculated ts x)) xs good-old (found-columns p a ia)))
+            (lists.mapped Good target_component (filter (is_new xs) ts) (lists.filtered (λ t. Good (target_component t)) (is_new xs) ts (lists.mapped (λ t. Good (target_component t)) target items (lists.joined (IsItemFor p a target) (λ i. target_named items i.target ≡ Some i) (λ i. Good (target_component (target i))) items good-new h (items-found items apart)))))));
+      },
+    ))
+  where
+    xs : List Component
+    xs = a.components
+
+    ts : List Target
+    ts = map target items
+
+    old : List Component
+    old = map (calculated ts) xs
+
+    new : List Component
+    new = map target_component (filter (is_new xs) ts)
+
+    Good : Component → Type 0
+    Good y = IsFor p (columns_of a) (calculated_exp items (columns_of a) y) y
+
+    targeted : (x : Component) → target_of x.name ts ≡ option_map target (target_named items x.name)
+    targeted x = find-map target (λ t. same_name t.name x.name) items ∙ ap (option_map target) (find-same (λ i. same_name (target i).name x.name) (λ i. same_name i.target x.name) items (λ i. ap (λ n. same_name n x.name) (names i)))
+
+    stays : (x : Component) → target_named items x.name ≡ None → calculated ts x ≡ x
+    stays x e = ap (retargeted x) (targeted x ∙ ap (option_map target) e)
+
+    becomes : (x : Component) (i : ItemTree) → target_named items x.name ≡ Some i → calculated ts x ≡ made x.name (unwrap_or (target i).role x.role) (target i).kind
+    becomes x i e = ap (retargeted x) (targeted x ∙ ap (option_map target) e)
+
+    item-at : (name : List ℕ) (i : ItemTree) → target_named items name ≡ Some i → IsItemFor p a target i × (same_name i.target name ≡ true)
+    item-at name i e = find-passes (IsItemFor p a target) (λ i. same_name i.target name) items i h e
+
+    valued : (y : Component) (i : ItemTree) → target_named items y.name ≡ Some i → IsItemFor p a target i → y.kind ≡ (target i).kind → Good y
+    valued y i e it k =
+        let v : calculated_exp items (columns_of a) y ≡ value_exp i.value = ap (λ o. option_map_or (λ i. value_exp i.value) o (column_named (columns_of a) y.name)) e in
+        (subst (IsTyped p (columns_of a)) (sym v) it.typed, ap exp_kind v ∙ it.kind ∙ sym k)
+
+    good-old : (x : Component) → IsFor p (columns_of a) (column_named (columns_of a) x.name) x → Good (calculated ts x)
+    good-old x f = go (target_named items x.name) refl
+      where
+        go : (o : Option ItemTree) → target_named items x.name ≡ o → Good (calculated ts x)
+        go None e =
+            let v : calculated_exp items (columns_of a) x ≡ column_named (columns_of a) x.name = ap (λ o. option_map_or (λ i. value_exp i.value) o (column_named (columns_of a) x.name)) e in
+            subst Good (sym (stays x e)) (subst (IsTyped p (columns_of a)) (sym v) f.0, ap exp_kind v ∙ f.1)
+        go (Some i) e = subst Good (sym (becomes x i e)) (valued (made x.name (unwrap_or (target i).role x.role) (target i).kind) i e (item-at x.name i e).0 refl)
+
+    good-new : (i : ItemTree) → IsItemFor p a target i → target_named items i.target ≡ Some i → Good (target_component (target i))
+    good-new i it found = valued (target_component (target i)) i (ap (target_named items) (names i) ∙ found) it refl
+
+    free : (x : Component) → IsFound xs x → is_identifier x ≡ true → target_named items x.name ≡ None
+    free x found is = go (target_named items x.name) refl
+      where
+        go : (o : Option ItemTree) → target_named items x.name ≡ o → o ≡ None
+        go None e = refl
+        go (Some i) e =
+            let it = item-at x.name i e in
+            let at : component_of i.target xs ≡ Some x = ap (λ n. component_of n xs) (same-true i.target x.name it.1) ∙ found in
+            absurd (false≢true (sym it.0.free ∙ ap (λ o. option_map_or is_identifier o false) at ∙ is))
+
+    roles : (x : Component) → IsFound xs x → (is_identifier x ≡ true → calculated ts x ≡ x) × (is_identifier x ≡ false → is_identifier (calculated ts x) ≡ false)
+    roles x found = ((λ is. stays x (free x found is)), (λ isnt. go isnt (target_named items x.name) refl))
+      where
+        go : is_identifier x ≡ false → (o : Option ItemTree) → target_named items x.name ≡ o → is_identifier (calculated ts x) ≡ false
+        go isnt None e = ap is_identifier (stays x e) ∙ isnt
+        go isnt (Some i) e =
+            ap is_identifier (becomes x i e)
+            ∙ not-identifier (made x.name (unwrap_or (target i).role x.role) (target i).kind) (λ k. false≢true (sym isnt ∙ ap (λ r. same_role r role.Identifier) ((item-at x.name i e).0.role x.role k)))
+
+    measures-new : AllByRecursion (λ y. is_identifier y ≡ false) new
+    measures-new = lists.mapped (λ y. is_identifier y ≡ false) target_component (filter (is_new xs) ts) (lists.filtered (λ t. is_identifier (target_component t) ≡ false) (is_new xs) ts (lists.mapped (λ t. is_identifier (target_component t) ≡ false) target items (lists.weaker (IsItemFor p a target) (λ i. is_identifier (target_component (target i)) ≡ false) items one h)))
+      where
+        one : (i : ItemTree) → IsItemFor p a target i → is_identifier (target_component (target i)) ≡ false
+        one i it = not-identifier (target_component (target i)) (λ k. let no : role.Measure ≡ role.Identifier = it.role role.Measure k in cc)
+
+    same : filter is_identifier (old ++ new) ≡ filter is_identifier xs
+    same =
+        filter-append is_identifier old new
+        ∙ ap (λ l. l ++ filter is_identifier new) (filter-mapped (calculated ts) xs (lists.weaker (IsFound xs) (λ x. (is_identifier x ≡ true → calculated ts x ≡ x) × (is_identifier x ≡ false → is_identifier (calculated ts x) ≡ false)) xs roles (all-found a ia.well_formed)))
+        ∙ ap (λ l. filter is_identifier xs ++ l) (filter-none is_identifier new measures-new)
+        ∙ append-nil (filter is_identifier xs)

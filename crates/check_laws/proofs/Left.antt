@@ -1,0 +1,151 @@
+-- Clauses that leave some of the components: `keep`, `drop`, `sub`, and `a#m`.
+use Rattle.std.proofs.Common.{◌≡◌, ℕ, Bool, true, false, cond, ◌||◌, not, List, [], ◌∷◌, map, Option, Some, None, refl, sym, ap, ◌∙◌, subst}
+use Rattle.std.proofs.lemmas.Bool.{false≢true}
+use Rattle.std.specs.List.{AllByRecursion, filter, list_any}
+use Rattle.vtl_cell.specs.Kinds.{is_of}
+use Rattle.vtl_tree.specs.Structure.{columns_of, names_of, same_name}
+use Rattle.vtl_tree.specs.Structures.{structure_of}
+use Rattle.vtl_tree.specs.declared.structure.Component.{Component}
+use Rattle.vtl_tree.specs.declared.structure.Structure.{Structure}
+use Rattle.vtl_nodes.specs.declared.clauses.SubItem.{SubItem}
+use Rattle.check_shapes.specs.Choices.{choice_form, chosen, is_chosen, is_identifier}
+use Rattle.check_shapes.specs.Names.{all_known, component_of, is_among, known, known_as, name_tests, serves}
+use Rattle.check_shapes.specs.Shape.{shaped}
+use Rattle.check_shapes.specs.declared.choices.Choice.TheVariants as choice
+use Rattle.check_shapes.specs.declared.names.Wanted.{Wanted}
+use Rattle.check_shapes.specs.declared.names.Wanted.TheVariants as wanted
+use Rattle.vtl_meaning.specs.Columns.{identifiers_of, kind_named, place_of}
+use Rattle.vtl_meaning.specs.Made.{AreAmong, IsColumnAt, IsLeft, IsSub}
+use Rattle.check_laws.specs.Gives.{Gives, IsShaped}
+use Rattle.check_laws.proofs.Chosen.{own-columns}
+use Rattle.check_laws.proofs.Columns.{HasName, IsFound, all-found, at-place, found-filter, has-itself, kind-found, of-columns, same-true}
+use Rattle.check_laws.proofs.Lists as lists
+use Rattle.check_laws.proofs.Shapes.{shaped-gives}
+use Rattle.check_laws.proofs.Steps.{after, tested}
+use Rattle.check_laws.proofs.Tests.{not-false}
+
+-- ---- names of components
+-- this is the component of the name, and its role serves
+abbrev pub IsNamed : Wanted → List Component → List ℕ → Component → Type 0
+IsNamed w xs name x = (component_of name xs ≡ Some x) × (serves w x.role ≡ true)
+
+abbrev pub IsName : Wanted → List Component → List ℕ → Type 0
+IsName w xs name = (x : Component) × IsNamed w xs name x
+
+pub known-gives : (w : Wanted) (xs : List Component) (before : List (List ℕ)) (name : List ℕ) → Gives (IsNamed w xs name) (known w xs before name)
+known-gives w xs before name = go (component_of name xs) refl
+  where
+    go : (o : Option Component) → component_of name xs ≡ o → Gives (IsNamed w xs name) (known_as w before name o)
+    go None e = tt
+    go (Some x) e = tested (IsNamed w xs name) (name_tests w before name x.role) x (λ passed. (e, not-false (serves w x.role) passed.1.0))
+
+-- ---- the components that are left
+-- where all identifiers are left
+left-identifiers : (p : Component → Bool) (xs : List Component) → AllByRecursion (λ x. is_identifier x ≡ true → p x ≡ true) xs → filter is_identifier (filter p xs) ≡ filter is_identifier xs
+left-identifiers p [] h = refl
+left-identifiers p (x ∷ xs) h = go (p x) refl (is_identifier x) refl (left-identifiers p xs h.1)
+  where
+    go : (b : Bool) → p x ≡ b → (c : Bool) → is_identifier x ≡ c → filter is_identifier (filter p xs) ≡ filter is_identifier xs → filter is_identifier (cond b (x ∷ filter p xs) (filter p xs)) ≡ cond c (x ∷ filter is_identifier xs) (filter is_identifier xs)
+    go true e true d ih = ap (λ b. cond b (x ∷ filter is_identifier (filter p xs)) (filter is_identifier (filter p xs))) d ∙ ap (λ l. x ∷ l) ih
+    go true e false d ih = ap (λ b. cond b (x ∷ filter is_identifier (filter p xs)) (filter is_identifier (filter p xs))) d ∙ ih
+    go false e true d ih = absurd (false≢true (sym e ∙ h.0 d))
+    go false e false d ih = ih
+
+left-columns : (p : Component → Bool) (a : Structure) → IsShaped a → AreAmong (columns_of (structure_of (filter p a.components))) (columns_of a)
+left-columns p a ia = of-columns (λ x. IsColumnAt (place_of x.name (columns_of a)) x.name x.kind (columns_of a)) (structure_of (filter p a.components)) (lists.filtered (λ x. IsColumnAt (place_of x.name (columns_of a)) x.name x.kind (columns_of a)) p a.components (own-columns a ia))
+
+left-fits : (p : Component → Bool) (a : Structure) → IsShaped a → AllByRecursion (λ x. is_identifier x ≡ true → p x ≡ true) a.components → Gives (λ s. IsShaped s × IsLeft a s) (shaped (filter p a.components))
+left-fits p a ia all =
+    shaped-gives (λ s. IsShaped s × IsLeft a s) (filter p a.components) (λ s. (
+      s,
+      record {
+        well_formed = s.well_formed;
+        identifiers = (ap names_of same, ap (map (λ x. x.kind)) same);
+        columns = left-columns p a ia;
+      },
+    ))
+  where
+    same : filter is_identifier (filter p a.components) ≡ filter is_identifier a.components
+    same = left-identifiers p a.components all
+
+pub keep-fits : (names : List (List ℕ)) (a : Structure) → IsShaped a → Gives (λ s. IsShaped s × IsLeft a s) (shaped (chosen choice.Keep names a.components))
+keep-fits names a ia = left-fits (is_chosen choice.Keep names) a ia (lists.every (λ x. is_identifier x ≡ true → is_chosen choice.Keep names x ≡ true) a.components (λ x e. ap (λ b. b || is_among x.name names) e))
+
+-- an identifier is none of the names of values
+not-among : (xs : List Component) (x : Component) → IsFound xs x → is_identifier x ≡ true → (names : List (List ℕ)) → AllByRecursion (IsName wanted.Value xs) names → is_among x.name names ≡ false
+not-among xs x found is [] h = refl
+not-among xs x found is (name ∷ names) h = go (same_name name x.name) refl (not-among xs x found is names h.1)
+  where
+    go : (b : Bool) → same_name name x.name ≡ b → is_among x.name names ≡ false → (b || is_among x.name names) ≡ false
+    go true e ih =
+        let one : component_of x.name xs ≡ Some h.0.0 = ap (λ n. component_of n xs) (sym (same-true name x.name e)) ∙ h.0.1.0 in
+        let two : Some x ≡ Some h.0.0 = sym found ∙ one in
+        let same : x ≡ h.0.0 = cc in
+        absurd (false≢true (ap not (sym (ap is_identifier (sym same) ∙ is)) ∙ h.0.1.1))
+    go false e ih = ih
+
+pub drop-fits : (names : List (List ℕ)) (a : Structure) → IsShaped a → AllByRecursion (IsName wanted.Value a.components) names → Gives (λ s. IsShaped s × IsLeft a s) (shaped (chosen choice.Drop names a.components))
+drop-fits names a ia h =
+    left-fits (is_chosen choice.Drop names) a ia
+    (lists.weaker (IsFound a.components) (λ x. is_identifier x ≡ true → is_chosen choice.Drop names x ≡ true) a.components (λ x found is. ap not (not-among a.components x found is names h)) (all-found a ia.well_formed))
+
+pub member-fits : (names : List (List ℕ)) (a : Structure) → IsShaped a → Gives (λ s. IsShaped s × IsLeft a s) (choice_form wanted.Measure choice.Keep names a.components)
+member-fits names a ia = after (λ s. IsShaped s × IsLeft a s) (all_known wanted.Measure a.components names) (λ u. shaped (chosen choice.Keep names a.components)) (λ u. keep-fits names a ia)
+
+-- ---- `sub`
+-- a value of an identifier
+abbrev pub IsItem : List Component → SubItem → Type 0
+IsItem xs i = (x : Component) × IsNamed wanted.Identifier xs i.id x × (is_of x.kind i.value ≡ true)
+
+among-items : (name : List ℕ) (items : List SubItem) → is_among name (map (λ i. i.id) items) ≡ list_any (λ i. same_name i.id name) items
+among-items name [] = refl
+among-items name (i ∷ items) = ap (λ b. same_name i.id name || b) (among-items name items)
+
+pub sub-fits : (items : List SubItem) (a : Structure) → IsShaped a → AllByRecursion (IsItem a.components) items → Gives (λ s. IsShaped s × IsSub items a s) (shaped (chosen choice.Drop (map (λ i. i.id) items) a.components))
+sub-fits items a ia h =
+    shaped-gives (λ s. IsShaped s × IsSub items a s) (filter left a.components) (λ s. (
+      s,
+      record {
+        well_formed = s.well_formed;
+        columns = left-columns left a ia;
+        left = some;
+        identifiers = lists.joined (λ x. left x ≡ true → is_identifier x ≡ true → HasName ids x) (λ x. is_identifier x ≡ true) (λ x. (list_any (λ y. same_name y.name x.name) ids || list_any (λ i. same_name i.id x.name) items) ≡ true) (filter is_identifier a.components)
+            each (lists.filtered (λ x. left x ≡ true → is_identifier x ≡ true → HasName ids x) is_identifier a.components kept) (lists.passing is_identifier a.components);
+        values = lists.weaker (IsItem a.components) (λ i. (is_of (kind_named i.id (identifiers_of a)) i.value ≡ true) × IsColumnAt (place_of i.id (identifiers_of a)) i.id (kind_named i.id (identifiers_of a)) (identifiers_of a)) items value h;
+      },
+    ))
+  where
+    left : Component → Bool
+    left = is_chosen choice.Drop (map (λ i. i.id) items)
+
+    ids : List Component
+    ids = filter is_identifier (filter left a.components)
+
+    at : Component → Type 0
+    at x = IsColumnAt (place_of x.name (identifiers_of a)) x.name x.kind (identifiers_of a)
+
+    some : AreAmong ids (identifiers_of a)
+    some =
+        lists.joined (IsFound a.components) (λ x. is_identifier x ≡ true) at ids (λ x found is. at-place x.name (identifiers_of a) x (found-filter is_identifier x.name a.components x found is))
+        (lists.filtered (IsFound a.components) is_identifier (filter left a.components) (lists.filtered (IsFound a.components) left a.components (all-found a ia.well_formed)))
+        (lists.passing is_identifier (filter left a.components))
+
+    kept : AllByRecursion (λ x. left x ≡ true → is_identifier x ≡ true → HasName ids x) a.components
+    kept = lists.from_kept (λ x. is_identifier x ≡ true → HasName ids x) left a.components (lists.from_kept (HasName ids) is_identifier (filter left a.components) (has-itself ids))
+
+    each : (x : Component) → (left x ≡ true → is_identifier x ≡ true → HasName ids x) → is_identifier x ≡ true → (list_any (λ y. same_name y.name x.name) ids || list_any (λ i. same_name i.id x.name) items) ≡ true
+    each x k is = go (is_among x.name (map (λ i. i.id) items)) refl
+      where
+        go : (b : Bool) → is_among x.name (map (λ i. i.id) items) ≡ b → (list_any (λ y. same_name y.name x.name) ids || list_any (λ i. same_name i.id x.name) items) ≡ true
+        go true e = ap (λ b. list_any (λ y. same_name y.name x.name) ids || b) (sym (among-items x.name items) ∙ e) ∙ or-yes (list_any (λ y. same_name y.name x.name) ids)
+          where
+            or-yes : (b : Bool) → (b || true) ≡ true
+            or-yes true = refl
+            or-yes false = refl
+        go false e = ap (λ b. b || list_any (λ i. same_name i.id x.name) items) (k (ap not e) is)
+
+    value : (i : SubItem) → IsItem a.components i → (is_of (kind_named i.id (identifiers_of a)) i.value ≡ true) × IsColumnAt (place_of i.id (identifiers_of a)) i.id (kind_named i.id (identifiers_of a)) (identifiers_of a)
+    value i v =
+        let found : component_of i.id (identifiers_of a) ≡ Some v.0 = found-filter is_identifier i.id a.components v.0 v.1.0 v.1.1 in
+        let kind : kind_named i.id (identifiers_of a) ≡ v.0.kind = kind-found i.id (identifiers_of a) v.0 found in
+        (ap (λ kind. is_of kind i.value) kind ∙ v.2, subst (λ kind. IsColumnAt (place_of i.id (identifiers_of a)) i.id kind (identifiers_of a)) (sym kind) (at-place i.id (identifiers_of a) v.0 found))

@@ -1,0 +1,123 @@
+-- The structures that forms give.
+use Rattle.std.proofs.Common.{◌≡◌, ℕ, Bool, true, false, cond, ◌&&◌, List, [], ◌∷◌, ◌++◌, length, Result, refl, ap, ◌∙◌}
+use Rattle.std.proofs.lemmas.Bool.{false≢true}
+use Rattle.std.proofs.lemmas.List.{append-nil}
+use Rattle.std.proofs.lemmas.List.Elements.{filter-append}
+use Rattle.std.specs.List.{AllByRecursion, filter}
+use Rattle.std.specs.Prelude.{nat_eq, nat_lt}
+use Rattle.vtl_lists.specs.Apart.{all_apart}
+use Rattle.check_faults.specs.Rules.{◌>>=◌}
+use Rattle.vtl_tree.specs.Structure.{columns_of, names_of, of_role, same_name, same_role}
+use Rattle.vtl_tree.specs.Structures.{is_null_kind, structure_of}
+use Rattle.vtl_tree.specs.declared.structure.Component.{Component}
+use Rattle.vtl_tree.specs.declared.structure.Role.{Role}
+use Rattle.vtl_tree.specs.declared.structure.Role.TheVariants as role
+use Rattle.vtl_tree.specs.declared.structure.Structure.{Structure}
+use Rattle.check_shapes.specs.Choices.{chosen, is_chosen, is_identifier}
+use Rattle.check_shapes.specs.Measures.{is_measure}
+use Rattle.check_shapes.specs.Shape.{result_tests, shaped}
+use Rattle.check_shapes.specs.declared.choices.Choice.TheVariants as choice
+use Rattle.vtl_meaning.specs.Columns.{identifiers_of, measures_of}
+use Rattle.check_laws.specs.Gives.{ArePassed, Gives, IsShaped}
+use Rattle.check_laws.proofs.Lists as lists
+use Rattle.check_laws.proofs.Steps.{after, tested}
+use Rattle.check_laws.proofs.Tests.{below, nonzero, not-false, or-false}
+
+pub shaped-gives : (P : Structure → Type 0) (xs : List Component) → (IsShaped (structure_of xs) → P (structure_of xs)) → Gives P (shaped xs)
+shaped-gives P xs f = tested P (result_tests xs) (structure_of xs) (λ passed. f (is passed))
+  where
+    is : ArePassed (result_tests xs) → IsShaped (structure_of xs)
+    is passed = let counts = or-false (nat_eq (length xs) 0) (nat_lt 64 (length xs)) passed.1.0 in
+        record {
+          well_formed = record {
+            some = nonzero (length xs) counts.0;
+            few = below 64 (length xs) counts.1;
+            distinct = not-false (all_apart same_name (names_of xs)) passed.0;
+          };
+          kinds = lists.any_fails (λ x. is_null_kind x.kind) xs passed.1.1.0;
+        }
+
+-- whatever the components are
+pub any-shaped : {A : Type 0} (r : Result A ℕ) (f : A → List Component) → Gives IsShaped (r >>= λ x. shaped (f x))
+any-shaped r f = after IsShaped r (λ x. shaped (f x)) (λ x. shaped-gives IsShaped (f x) (λ is. is))
+
+-- ---- filters
+pub filter-all : {X : Type 0} (p : X → Bool) (xs : List X) → AllByRecursion (λ x. p x ≡ true) xs → filter p xs ≡ xs
+filter-all p [] h = refl
+filter-all p (x ∷ xs) h = ap (λ b. cond b (x ∷ filter p xs) (filter p xs)) h.0 ∙ ap (λ l. x ∷ l) (filter-all p xs h.1)
+
+pub filter-none : {X : Type 0} (p : X → Bool) (xs : List X) → AllByRecursion (λ x. p x ≡ false) xs → filter p xs ≡ []
+filter-none p [] h = refl
+filter-none p (x ∷ xs) h = ap (λ b. cond b (x ∷ filter p xs) (filter p xs)) h.0 ∙ filter-none p xs h.1
+
+-- two tests that agree on the items of a list
+pub filter-same : {X : Type 0} (p q : X → Bool) (xs : List X) → AllByRecursion (λ x. p x ≡ q x) xs → filter p xs ≡ filter q xs
+filter-same p q [] h = refl
+filter-same p q (x ∷ xs) h = ap (λ b. cond b (x ∷ filter p xs) (filter p xs)) h.0 ∙ ap (λ l. cond (q x) (x ∷ l) l) (filter-same p q xs h.1)
+
+-- ---- identifiers and then measures
+pub record AreParts (ids ms : List Component) : Type 0 where
+  pub identifiers : AllByRecursion (λ x. x.role ≡ role.Identifier) ids
+  pub measures : AllByRecursion (λ x. x.role ≡ role.Measure) ms
+
+pub parts-identifiers : (ids ms : List Component) → AreParts ids ms → identifiers_of (structure_of (ids ++ ms)) ≡ ids
+parts-identifiers ids ms are =
+    filter-append is_identifier ids ms
+    ∙ ap (λ l. l ++ filter is_identifier ms) (filter-all is_identifier ids (lists.weaker (λ x. x.role ≡ role.Identifier) (λ x. is_identifier x ≡ true) ids (λ x e. ap (λ r. same_role r role.Identifier) e) are.identifiers))
+    ∙ ap (λ l. ids ++ l) (filter-none is_identifier ms (lists.weaker (λ x. x.role ≡ role.Measure) (λ x. is_identifier x ≡ false) ms (λ x e. ap (λ r. same_role r role.Identifier) e) are.measures))
+    ∙ append-nil ids
+
+pub parts-measures : (ids ms : List Component) → AreParts ids ms → measures_of (structure_of (ids ++ ms)) ≡ ms
+parts-measures ids ms are =
+    filter-append is_measure ids ms
+    ∙ ap (λ l. l ++ filter is_measure ms) (filter-none is_measure ids (lists.weaker (λ x. x.role ≡ role.Identifier) (λ x. is_measure x ≡ false) ids (λ x e. ap (λ r. same_role r role.Measure) e) are.identifiers))
+    ∙ filter-all is_measure ms (lists.weaker (λ x. x.role ≡ role.Measure) (λ x. is_measure x ≡ true) ms (λ x e. ap (λ r. same_role r role.Measure) e) are.measures)
+
+abbrev pub is_attribute : Component → Bool
+is_attribute x = same_role x.role role.Attribute
+
+pub parts-attributes : (ids ms : List Component) → AreParts ids ms → of_role role.Attribute (structure_of (ids ++ ms)) ≡ []
+parts-attributes ids ms are =
+    filter-append is_attribute ids ms
+    ∙ ap (λ l. l ++ filter is_attribute ms) (filter-none is_attribute ids (lists.weaker (λ x. x.role ≡ role.Identifier) (λ x. is_attribute x ≡ false) ids (λ x e. ap (λ r. same_role r role.Attribute) e) are.identifiers))
+    ∙ filter-none is_attribute ms (lists.weaker (λ x. x.role ≡ role.Measure) (λ x. is_attribute x ≡ false) ms (λ x e. ap (λ r. same_role r role.Attribute) e) are.measures)
+
+pub parts-columns : (ids ms : List Component) → AreParts ids ms → columns_of (structure_of (ids ++ ms)) ≡ ids ++ ms
+parts-columns ids ms are =
+    ap (λ l. l ++ of_role role.Measure s ++ of_role role.Attribute s) (parts-identifiers ids ms are)
+    ∙ ap (λ l. ids ++ l ++ of_role role.Attribute s) (parts-measures ids ms are)
+    ∙ ap (λ l. ids ++ ms ++ l) (parts-attributes ids ms are)
+    ∙ append-nil (ids ++ ms)
+  where
+    s : Structure
+    s = structure_of (ids ++ ms)
+
+-- ---- all identifiers of an operand
+pub all-identifiers : (xs : List Component) → chosen choice.Except [] xs ≡ filter is_identifier xs
+all-identifiers xs = filter-same (is_chosen choice.Except []) is_identifier xs (lists.every (λ x. is_chosen choice.Except [] x ≡ is_identifier x) xs (λ x. and-yes (is_identifier x)))
+  where
+    and-yes : (b : Bool) → (b && true) ≡ b
+    and-yes true = refl
+    and-yes false = refl
+
+pub role-identifier : (x : Component) → is_identifier x ≡ true → x.role ≡ role.Identifier
+role-identifier x e = go x.role e
+  where
+    go : (r : Role) → same_role r role.Identifier ≡ true → r ≡ role.Identifier
+    go role.Identifier e = refl
+    go role.Measure e = absurd (false≢true e)
+    go role.Attribute e = absurd (false≢true e)
+
+pub role-measure : (x : Component) → is_measure x ≡ true → x.role ≡ role.Measure
+role-measure x e = go x.role e
+  where
+    go : (r : Role) → same_role r role.Measure ≡ true → r ≡ role.Measure
+    go role.Identifier e = absurd (false≢true e)
+    go role.Measure e = refl
+    go role.Attribute e = absurd (false≢true e)
+
+pub identifier-roles : (xs : List Component) → AllByRecursion (λ x. x.role ≡ role.Identifier) (filter is_identifier xs)
+identifier-roles xs = lists.weaker (λ x. Unit {0} × (is_identifier x ≡ true)) (λ x. x.role ≡ role.Identifier) (filter is_identifier xs) (λ x k. role-identifier x k.1) (lists.kept (λ x. Unit {0}) is_identifier xs (lists.every (λ x. Unit {0}) xs (λ x. tt)))
+
+pub measure-roles : (xs : List Component) → AllByRecursion (λ x. x.role ≡ role.Measure) (filter is_measure xs)
+measure-roles xs = lists.weaker (λ x. Unit {0} × (is_measure x ≡ true)) (λ x. x.role ≡ role.Measure) (filter is_measure xs) (λ x k. role-measure x k.1) (lists.kept (λ x. Unit {0}) is_measure xs (lists.every (λ x. Unit {0}) xs (λ x. tt)))

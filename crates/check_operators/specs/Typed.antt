@@ -1,0 +1,63 @@
+-- Typed expressions: values and data sets.
+use Rattle.std.specs.Prelude.{ℕ, not, List, [], ◌∷◌, Result, Ok, Err, Box, Vec, map}
+use Rattle.std.specs.declared.alloc.Global.{Global}
+use Rattle.vtl_cell.specs.ScalarKinds.{meets}
+use Rattle.vtl_cell.specs.declared.kind.Kind.{Kind}
+use Rattle.vtl_cell.specs.declared.kind.Kind.TheVariants as k
+use Rattle.vtl_tree.specs.CompExp.{CompExp}
+use Rattle.vtl_tree.specs.View.{comp_exp_of}
+use Rattle.vtl_tree.specs.declared.structure.Component.{Component}
+use Rattle.vtl_tree.specs.declared.structure.Structure.{Structure}
+use Rattle.vtl_nodes.specs.Trees.{FormTree, NodeTree, node, structure_of}
+use Rattle.vtl_nodes.specs.View.{node_tree}
+use Rattle.vtl_nodes.specs.declared.nodes.Node.{Node}
+use Rattle.check_faults.specs.Rules.{◌>>=◌, ruled}
+use Rattle.check_shapes.specs.Clauses.{first_kind}
+use Rattle.check_shapes.specs.Measures.{measures}
+use Rattle.check_values.specs.Kinds.{exp_kind}
+use Rattle.check_operators.specs.declared.typed.Typed.{Typed}
+use Rattle.check_operators.specs.declared.typed.Typed.TheVariants as typed
+
+-- a typed expression: a value, at each point or on its own, or a data set
+pub data TypedTree : Type 0 where
+  value : CompExp → TypedTree
+  dataset : NodeTree → TypedTree
+
+abbrev pub typed_tree : Typed → TypedTree
+typed_tree (typed.Value e) = value (comp_exp_of e)
+typed_tree (typed.Dataset n) = dataset (node_tree n.value)
+
+abbrev pub boxed_tree : Box Node Global → NodeTree
+boxed_tree b = node_tree b.value
+
+abbrev pub typed_trees : Vec Typed Global → List TypedTree
+typed_trees v = map typed_tree v.items
+
+abbrev pub components_in : NodeTree → List Component
+components_in n = (structure_of n).components
+
+-- where a value is needed a data set breaks 14, and where a data set is needed a value does
+abbrev pub value_in : TypedTree → Result CompExp ℕ
+value_in (value e) = Ok e
+value_in (dataset n) = Err 14
+
+abbrev pub dataset_in : TypedTree → Result NodeTree ℕ
+dataset_in (value e) = Err 14
+dataset_in (dataset n) = Ok n
+
+-- a condition is a value (14) and boolean (7)
+abbrev pub condition_in : TypedTree → Result CompExp ℕ
+condition_in x = value_in x >>= λ e. ruled ((7, not (meets k.Bool (exp_kind e))) ∷ []) e
+
+-- The kind that literals beside an operand have to meet: that of the value, or of the first measure. The operator itself asks
+-- it of each measure.
+abbrev pub beside_kind : TypedTree → Kind
+beside_kind (value e) = exp_kind e
+beside_kind (dataset n) = first_kind (measures (components_in n))
+
+-- a data set of this structure, made so
+abbrev pub made_of : FormTree → Structure → Result TypedTree ℕ
+made_of form s = Ok (dataset (node s form))
+
+abbrev pub of_value : CompExp → Result TypedTree ℕ
+of_value e = Ok (value e)

@@ -1,0 +1,125 @@
+// Where an expression stands, and what its names stand for there.
+ghost use Rattle.std.specs.Prelude.{◌≡◌, ◌++◌, IfOk, OnOk};
+ghost use Rattle.vtl_nodes.specs.View.{node_tree};
+ghost use Rattle.vtl_tree.specs.Shown.{shown};
+ghost use Rattle.vtl_tree.specs.Structure.{columns_of};
+ghost use Rattle.check_operators.specs.Places.{at_groups, at_points, columns_at};
+
+use check_joins::Operand;
+use check_shapes::share_component;
+use std::alloc::{AllocError, Global};
+use vtl_nodes::Node;
+use vtl_syntax::JoinKind;
+use vtl_text::{List, Shared, Txt};
+use vtl_tree::{Component, Structure};
+
+/// Where an expression stands.
+#[derive(Drop)]
+pub enum Place {
+    /// Where names stand for data sets.
+    Outside,
+    /// Where names stand for components.
+    Inside(Inside),
+}
+
+/// What names stand for inside the brackets of a data set.
+#[derive(Drop)]
+pub struct Inside {
+    /// The components, in column order.
+    pub components: List<Component>,
+    /// Over groups of points: the names by which the groups are formed.
+    pub grouping: Option<List<Txt>>,
+    /// In the body of a join: its operands.
+    pub joined: Option<Joined>,
+}
+
+/// The operands of a join, as its body sees them.
+#[derive(Drop)]
+pub struct Joined {
+    /// The kind of the join.
+    pub kind: JoinKind,
+    /// Its operands.
+    pub operands: Shared<Operand>,
+    /// The names that operands hold, operand by operand.
+    pub held: Shared<Txt>,
+}
+
+/// The components that names stand for at a place, in column order; outside there are none.
+pub fn columns_at(place: &Place) -> &[Component]
+    ensures { result.now ≡ columns_at place.now }
+{
+    match place {
+        Place::Outside => &[],
+        Place::Inside(inside) => inside.components.as_slice(),
+    }
+}
+
+fn push_columns(out: &mut Vec<Component>, columns: &[&Component]) -> Result<(), AllocError>
+    ensures { OnOk result (out.new.items ≡ out.old.items ++ shown columns.now) }
+{
+    for column in columns {
+        out.push(share_component(column)?)?;
+    }
+    Ok(())
+}
+
+fn columns_of(alloc: Global, structure: &Structure) -> Result<List<Component>, AllocError>
+    ensures { IfOk result (λ columns. columns ≡ columns_of structure.now) }
+{
+    let columns = structure.columns(alloc)?;
+    let mut out = Vec::new(alloc);
+    push_columns(&mut out, &columns)?;
+    Ok(List::of(out))
+}
+
+fn share_joined(joined: &Joined) -> Result<Joined, AllocError>
+    ensures { IfOk result (λ copy. copy ≡ joined.now) }
+{
+    let operands = joined.operands.share()?;
+    let held = joined.held.share()?;
+    Ok(Joined {
+        kind: joined.kind,
+        operands,
+        held,
+    })
+}
+
+fn share_any_joined(joined: &Option<Joined>) -> Result<Option<Joined>, AllocError>
+    ensures { IfOk result (λ copy. copy ≡ joined.now) }
+{
+    match joined {
+        Some(joined) => Ok(Some(share_joined(joined)?)),
+        None => Ok(None),
+    }
+}
+
+/// The place at each point of a data set, in the body of a join or elsewhere.
+pub fn points(alloc: Global, joined: &Option<Joined>, node: &Node) -> Result<Place, AllocError>
+    ensures { IfOk result (λ at. at ≡ Place.Inside (at_points joined.now (node_tree node.now))) }
+{
+    let components = columns_of(alloc, &node.structure)?;
+    let joined = share_any_joined(joined)?;
+    Ok(Place::Inside(Inside {
+        components,
+        grouping: None,
+        joined,
+    }))
+}
+
+/// The place at each group of points of a data set, with the names by which the groups are formed.
+pub fn groups(
+    alloc: Global,
+    joined: &Option<Joined>,
+    node: &Node,
+    names: List<Txt>,
+) -> Result<Place, AllocError>
+    ensures { IfOk result (λ at. at ≡ Place.Inside (at_groups joined.now (node_tree node.now) names)) }
+{
+    let components = columns_of(alloc, &node.structure)?;
+    let joined = share_any_joined(joined)?;
+    Ok(Place::Inside(Inside {
+        components,
+        grouping: Some(names),
+        joined,
+    }))
+}

@@ -1,0 +1,115 @@
+// Typed expressions: values and data sets.
+ghost use Rattle.std.specs.Prelude.{◌≡◌, ◌∷◌, [], not};
+ghost use Rattle.vtl_cell.specs.ScalarKinds.{meets};
+ghost use Rattle.vtl_nodes.specs.Trees.{node};
+ghost use Rattle.vtl_nodes.specs.View.{form_tree};
+ghost use Rattle.check_faults.specs.Answers.{Answers};
+ghost use Rattle.check_faults.specs.Rules.{ruled};
+ghost use Rattle.check_shapes.specs.Clauses.{first_kind};
+ghost use Rattle.check_shapes.specs.Measures.{is_measure, measures};
+ghost use Rattle.vtl_tree.specs.View.{comp_exp_of};
+ghost use Rattle.check_values.specs.Kinds.{exp_kind};
+ghost use Rattle.check_operators.specs.Typed.{beside_kind, boxed_tree, condition_in, dataset_in, made_of, typed_tree, value_in};
+
+use check_faults::TypeErr;
+use check_values::kind;
+use std::alloc::Global;
+use vtl_cell::Kind;
+use vtl_kinds::meets;
+use vtl_nodes::{Node, NodeForm};
+use vtl_tree::{CompExpr, Component, Role, Structure};
+
+/// A typed expression.
+#[derive(Drop)]
+pub enum Typed {
+    /// A value: at each point, or on its own.
+    Value(CompExpr),
+    /// A data set.
+    Dataset(Box<Node>),
+}
+
+impl Typed {
+    /// The value, where one is needed: a data set breaks rule 14.
+    pub fn value(self) -> Result<CompExpr, TypeErr>
+        ensures { Answers comp_exp_of result (value_in (typed_tree self)) }
+    {
+        match self {
+            Typed::Value(e) => Ok(e),
+            Typed::Dataset(_) => Err(TypeErr::Broken(14)),
+        }
+    }
+
+    /// The data set, where one is needed: a value breaks rule 14.
+    pub fn dataset(self) -> Result<Box<Node>, TypeErr>
+        ensures { Answers boxed_tree result (dataset_in (typed_tree self)) }
+    {
+        match self {
+            Typed::Value(_) => Err(TypeErr::Broken(14)),
+            Typed::Dataset(node) => Ok(node),
+        }
+    }
+
+    /// The kind that literals beside an operand have to meet: that of the value, or of the first measure.
+    pub fn beside_kind(&self) -> Kind
+        ensures { result ≡ beside_kind (typed_tree self.now) }
+    {
+        match self {
+            Typed::Value(e) => kind(e),
+            Typed::Dataset(node) => first_measure_kind(node.structure.components.as_slice()),
+        }
+    }
+}
+
+fn is_measure(component: &Component) -> bool
+    ensures { result ≡ is_measure component.now }
+{
+    match component.role {
+        Role::Measure => true,
+        _ => false,
+    }
+}
+
+fn first_measure_kind(components: &[Component]) -> Kind
+    ensures { result ≡ first_kind (measures components.now) }
+{
+    for component in components {
+        if is_measure(component) {
+            return component.kind;
+        }
+    }
+    Kind::Null
+}
+
+/// The node of a data set of this structure, made so.
+pub fn made_node(alloc: Global, structure: Structure, form: NodeForm) -> Result<Box<Node>, TypeErr>
+    ensures { Answers boxed_tree result (Ok (node structure (form_tree form))) }
+{
+    Ok(Box::new(alloc, Node { structure, form })?)
+}
+
+/// A data set of this structure, made so.
+pub fn made_of(alloc: Global, structure: Structure, form: NodeForm) -> Result<Typed, TypeErr>
+    ensures { Answers typed_tree result (made_of (form_tree form) structure) }
+{
+    Ok(Typed::Dataset(made_node(alloc, structure, form)?))
+}
+
+fn boolean(e: CompExpr) -> Result<CompExpr, TypeErr>
+    ensures { Answers comp_exp_of result (ruled ((7, not (meets Kind.Bool (exp_kind (comp_exp_of e)))) ∷ []) (comp_exp_of e)) }
+{
+    if meets(Kind::Bool, kind(&e)) {
+        Ok(e)
+    } else {
+        Err(TypeErr::Broken(7))
+    }
+}
+
+/// A condition: it breaks rule 14 where it is a data set, and 7 where its value is not boolean.
+pub fn condition(condition: Typed) -> Result<CompExpr, TypeErr>
+    ensures { Answers comp_exp_of result (condition_in (typed_tree condition)) }
+{
+    match condition {
+        Typed::Value(e) => boolean(e),
+        Typed::Dataset(_) => Err(TypeErr::Broken(14)),
+    }
+}

@@ -1,0 +1,46 @@
+-- Names of components, as an operator asks for them.
+use Rattle.std.specs.Prelude.{ℕ, Bool, true, false, not, ◌||◌, List, [], ◌∷◌, ◌++◌, Option, Some, None, Result, Ok, Err, find}
+use Rattle.std.specs.List.{list_any}
+use Rattle.vtl_tree.specs.Structure.{same_name, same_role}
+use Rattle.vtl_tree.specs.declared.structure.Role.{Role}
+use Rattle.vtl_tree.specs.declared.structure.Role.TheVariants as role
+use Rattle.vtl_tree.specs.declared.structure.Component.{Component}
+use Rattle.check_faults.specs.Rules.{◌>>=◌, ruled, Tests}
+use Rattle.check_shapes.specs.declared.names.Wanted.{Wanted}
+use Rattle.check_shapes.specs.declared.names.Wanted.TheVariants as wanted
+
+abbrev pub is_among : List ℕ → List (List ℕ) → Bool
+is_among name names = list_any (λ other. same_name other name) names
+
+-- the component of this name
+abbrev pub component_of : List ℕ → List Component → Option Component
+component_of name xs = find (λ x. same_name x.name name) xs
+
+-- whether the role serves at a place
+abbrev pub serves : Wanted → Role → Bool
+serves wanted.Any r = true
+serves wanted.Identifier r = same_role r role.Identifier
+serves wanted.Measure r = same_role r role.Measure
+serves wanted.Value r = not (same_role r role.Identifier)
+
+-- the rules that a component's name can break behind other names: it stands there already, or its role does not serve
+abbrev pub name_tests : Wanted → List (List ℕ) → List ℕ → Role → Tests
+name_tests w before name r = (5, is_among name before) ∷ (6, not (serves w r)) ∷ []
+
+abbrev pub known_as : Wanted → List (List ℕ) → List ℕ → Option Component → Result Component ℕ
+known_as w before name None = Err 4
+known_as w before name (Some x) = ruled (name_tests w before name x.role) x
+
+-- the component that a name stands for behind other names, or the rule that the name breaks: there is none of this name, or
+-- one of the tests
+abbrev pub known : Wanted → List Component → List (List ℕ) → List ℕ → Result Component ℕ
+known w xs before name = known_as w before name (component_of name xs)
+
+-- names in written order, behind other names: the rule that the first wrong one breaks
+abbrev pub names_behind : Wanted → List Component → List (List ℕ) → List (List ℕ) → Result (Unit {0}) ℕ
+names_behind w xs before [] = Ok tt
+names_behind w xs before (name ∷ names) = known w xs before name >>= λ x. names_behind w xs (before ++ name ∷ []) names
+
+-- names in written order
+abbrev pub all_known : Wanted → List Component → List (List ℕ) → Result (Unit {0}) ℕ
+all_known w xs names = names_behind w xs [] names

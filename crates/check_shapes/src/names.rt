@@ -1,0 +1,100 @@
+// Names of components, as an operator asks for them.
+ghost use Rattle.std.specs.Option.{option_copied};
+ghost use Rattle.std.specs.Prelude.{◌≡◌, [], ◌∷◌};
+ghost use Rattle.vtl_tree.specs.Structure.{same_name, same_role};
+ghost use Rattle.check_faults.specs.Answers.{Answers};
+ghost use Rattle.check_faults.specs.Rules.{ruled};
+ghost use Rattle.check_shapes.specs.Names.{all_known, component_of, is_among, known, serves};
+
+use check_faults::{TypeErr, broken};
+use vtl_text::Txt;
+use vtl_tree::{Component, Role};
+
+/// The role that a place asks of a component.
+#[derive(Clone, Copy, Debug, PartialEq, Eq)]
+pub enum Wanted {
+    /// Any role.
+    Any,
+    /// An identifier.
+    Identifier,
+    /// A measure.
+    Measure,
+    /// A measure or an attribute.
+    Value,
+}
+
+pub(crate) fn is_role(role: Role, wanted: Role) -> bool
+    ensures { result ≡ same_role role wanted }
+{
+    match (role, wanted) {
+        (Role::Identifier, Role::Identifier) => true,
+        (Role::Measure, Role::Measure) => true,
+        (Role::Attribute, Role::Attribute) => true,
+        _ => false,
+    }
+}
+
+/// Whether a name is among others.
+pub fn is_among(name: &Txt, names: &[Txt]) -> bool
+    ensures { result ≡ is_among name.now names.now }
+{
+    names.contains(name)
+}
+
+/// The component of this name.
+pub fn component_of<'a>(name: &Txt, components: &'a [Component]) -> Option<&'a Component>
+    ensures { option_copied result ≡ component_of name.now components.now }
+{
+    for component in components {
+        if component.name == *name {
+            return Some(component);
+        }
+    }
+    None
+}
+
+fn serves(wanted: Wanted, role: Role) -> bool
+    ensures { result ≡ serves wanted role }
+{
+    match wanted {
+        Wanted::Any => true,
+        Wanted::Identifier => is_role(role, Role::Identifier),
+        Wanted::Measure => is_role(role, Role::Measure),
+        Wanted::Value => !is_role(role, Role::Identifier),
+    }
+}
+
+/// A new name behind other names, as that of a target of `aggr` or an alias. It breaks rule 5 where it stands there already.
+pub fn check_new_name(before: &[Txt], name: &Txt) -> Result<(), TypeErr>
+    ensures { Answers (λ done. done) result (ruled ((5, is_among name.now before.now) ∷ []) tt) }
+{
+    broken(5, is_among(name, before))
+}
+
+/// The component that a name stands for behind other names. The name breaks rule 4 where there is no such component, 5 where
+/// it stands there already, and 6 where the component's role is not the wanted one.
+pub fn known<'a>(
+    wanted: Wanted,
+    components: &'a [Component],
+    before: &[Txt],
+    name: &Txt,
+) -> Result<&'a Component, TypeErr>
+    ensures { Answers (λ x. x.now) result (known wanted components.now before.now name.now) }
+{
+    let Some(component) = component_of(name, components) else {
+        return Err(TypeErr::Broken(4));
+    };
+    broken(5, is_among(name, before))?;
+    broken(6, !serves(wanted, component.role))?;
+    Ok(component)
+}
+
+/// Names in written order: the rule that the first wrong one breaks, as `known` says.
+pub fn check_names(wanted: Wanted, components: &[Component], names: &[Txt]) -> Result<(), TypeErr>
+    ensures { Answers (λ done. done) result (all_known wanted components.now names.now) }
+{
+    for i in 0..names.len() {
+        known(wanted, components, &names[..i], &names[i])?;
+    }
+    Ok(())
+}

@@ -1,0 +1,285 @@
+// Operators on several data sets.
+ghost use Rattle.std.specs.List.{list_all, list_any};
+ghost use Rattle.std.specs.Option.{option_copied, option_to_list};
+ghost use Rattle.std.specs.Prelude.{◌≡◌, ◌++◌, ◌∷◌, [], IfOk, OnOk, filter};
+ghost use Rattle.vtl_tree.specs.Shown.{shown};
+ghost use Rattle.check_faults.specs.Answers.{Answers};
+ghost use Rattle.check_shapes.specs.Choices.{is_identifier as is_id};
+ghost use Rattle.check_shapes.specs.Measures.{measures};
+ghost use Rattle.check_shapes.specs.Pairs.{are_choices, check_form, check_measures, contains, errorcode as errorcode_measure, errorlevel as errorlevel_measure, exists_form, has_one_number, identified, if_form, imbalance as imbalance_measure, is_at_odds, is_common, pair_form, pair_identifiers, set_form};
+
+use crate::choices::is_identifier;
+use crate::counting::count_measures;
+use crate::measures::{any_unmet, bool_var, is_miscounted, new_measure, push_given, push_measures};
+use crate::operands::{
+    Compared, agree, all_agree, all_meet, has_one_measure, is_there, is_within, push_identifiers,
+};
+use crate::{Operator, Outcome, shaped};
+use check_faults::{TypeErr, broken};
+use std::alloc::{AllocError, Global};
+use vtl_cell::Kind;
+use vtl_tree::{Component, Role, Structure};
+
+/// Whether the identifiers of the first structure contain those of the second.
+pub fn contains(all: &Structure, some: &Structure) -> bool
+    ensures { result ≡ contains all.now some.now }
+{
+    is_within(
+        Compared::Kinds,
+        Role::Identifier,
+        some.components.as_slice(),
+        all.components.as_slice(),
+    )
+}
+
+fn push_pair_identifiers(
+    out: &mut Vec<Component>,
+    left: &Structure,
+    right: &Structure,
+) -> Result<(), AllocError>
+    ensures { OnOk result (out.new.items ≡ out.old.items ++ pair_identifiers left.now right.now) }
+{
+    if contains(left, right) {
+        push_identifiers(out, &[right], left.components.as_slice())
+    } else {
+        push_identifiers(out, &[left], right.components.as_slice())
+    }
+}
+
+/// An operator on the measures of two data sets. It breaks rule 7 where a measure and its namesake do not meet the operator's
+/// row, 9 where neither operand's identifiers contain the other's, and 10 where the names of the measures differ or their number
+/// is not the one that the operator asks for.
+pub fn pair<F: Operator>(
+    alloc: Global,
+    outcome: Outcome,
+    operator: &F,
+    left: &Structure,
+    right: &Structure,
+) -> Result<Structure, TypeErr>
+    ensures { Answers (λ s. s) result (pair_form outcome (F.gives operator.now) left.now right.now) }
+{
+    let ours = left.components.as_slice();
+    let theirs = right.components.as_slice();
+    broken(7, any_unmet(operator, Some(theirs), ours))?;
+    broken(9, !(contains(left, right) || contains(right, left)))?;
+    let is_named_alike = agree(Compared::Names, Role::Measure, ours, theirs);
+    broken(
+        10,
+        !is_named_alike || is_miscounted(outcome, count_measures(ours)),
+    )?;
+    let mut out = Vec::new(alloc);
+    push_pair_identifiers(&mut out, left, right)?;
+    push_given(alloc, &mut out, outcome, operator, Some(theirs), ours)?;
+    shaped(alloc, out)
+}
+
+// The identifiers of the first operand and its measures.
+fn with_measures(
+    alloc: Global,
+    identifiers: &Structure,
+    others: &[&Structure],
+    measured: &Structure,
+) -> Result<Structure, TypeErr>
+    ensures { Answers (λ s. s) result (identified (shown others.now) identifiers.now (measures measured.now.components)) }
+{
+    let mut out = Vec::new(alloc);
+    push_identifiers(&mut out, others, identifiers.components.as_slice())?;
+    push_measures(&mut out, measured.components.as_slice())?;
+    shaped(alloc, out)
+}
+
+fn are_choices(condition: &Structure, then: &Structure, other: &Structure) -> bool
+    ensures { result ≡ are_choices condition.now then.now other.now }
+{
+    let chosen = then.components.as_slice();
+    count_measures(condition.components.as_slice()) == 1
+        && count_measures(chosen) != 0
+        && agree(
+            Compared::Kinds,
+            Role::Measure,
+            chosen,
+            other.components.as_slice(),
+        )
+}
+
+/// `if` on data sets. It breaks rule 7 where the measure of the condition is not boolean, 9 where the identifiers are not those of
+/// the condition, and 10 where the condition has not one measure, or the choices have none or not the same ones.
+pub fn choose_by(
+    alloc: Global,
+    condition: &Structure,
+    then: &Structure,
+    other: &Structure,
+) -> Result<Structure, TypeErr>
+    ensures { Answers (λ s. s) result (if_form condition.now then.now other.now) }
+{
+    let conditions = condition.components.as_slice();
+    broken(7, !all_meet(Kind::Bool, conditions))?;
+    broken(
+        9,
+        !all_agree(
+            Compared::Kinds,
+            Role::Identifier,
+            conditions,
+            &[then, other],
+        ),
+    )?;
+    broken(10, !are_choices(condition, then, other))?;
+    with_measures(alloc, condition, &[then, other], then)
+}
+
+/// `union`, `intersect`, `setdiff` or `symdiff` of an operand and others. It breaks rule 9 where the identifiers are not the same,
+/// and 10 where the measures are not.
+pub fn set_operator(
+    alloc: Global,
+    first: &Structure,
+    others: &[&Structure],
+) -> Result<Structure, TypeErr>
+    ensures { Answers (λ s. s) result (set_form first.now (shown others.now)) }
+{
+    let components = first.components.as_slice();
+    broken(
+        9,
+        !all_agree(Compared::Kinds, Role::Identifier, components, others),
+    )?;
+    broken(
+        10,
+        !all_agree(Compared::Kinds, Role::Measure, components, others),
+    )?;
+    with_measures(alloc, first, others, first)
+}
+
+fn is_common(other: &Structure, component: &Component) -> bool
+    ensures { result ≡ is_common other.now component.now }
+{
+    is_there(Compared::Names, other.components.as_slice(), component)
+}
+
+fn is_at_odds(other: &Structure, component: &Component) -> bool
+    ensures { result ≡ is_at_odds other.now component.now }
+{
+    is_common(other, component)
+        && !is_there(Compared::Kinds, other.components.as_slice(), component)
+}
+
+fn any_common(other: &Structure, components: &[Component]) -> bool
+    ensures { result ≡ list_any (is_common other.now) (filter is_id components.now) }
+{
+    for component in components {
+        if is_identifier(component) && is_common(other, component) {
+            return true;
+        }
+    }
+    false
+}
+
+fn any_at_odds(other: &Structure, components: &[Component]) -> bool
+    ensures { result ≡ list_any (is_at_odds other.now) (filter is_id components.now) }
+{
+    for component in components {
+        if is_identifier(component) && is_at_odds(other, component) {
+            return true;
+        }
+    }
+    false
+}
+
+/// `exists_in`. It breaks rule 9 where the operands have no identifier in common, or one under different kinds.
+pub fn exists_in(alloc: Global, left: &Structure, right: &Structure) -> Result<Structure, TypeErr>
+    ensures { Answers (λ s. s) result (exists_form left.now right.now) }
+{
+    let components = left.components.as_slice();
+    broken(
+        9,
+        !any_common(right, components) || any_at_odds(right, components),
+    )?;
+    let mut out = Vec::new(alloc);
+    push_identifiers(&mut out, &[right], components)?;
+    out.push(bool_var(alloc)?)?;
+    shaped(alloc, out)
+}
+
+fn imbalance(alloc: Global) -> Result<Component, AllocError>
+    ensures { IfOk result (λ x. x ≡ imbalance_measure) }
+{
+    new_measure(alloc, "imbalance", Kind::Num)
+}
+
+fn errorcode(alloc: Global) -> Result<Component, AllocError>
+    ensures { IfOk result (λ x. x ≡ errorcode_measure) }
+{
+    new_measure(alloc, "errorcode", Kind::Text)
+}
+
+fn errorlevel(alloc: Global) -> Result<Component, AllocError>
+    ensures { IfOk result (λ x. x ≡ errorlevel_measure) }
+{
+    new_measure(alloc, "errorlevel", Kind::Int)
+}
+
+fn push_check_measures(alloc: Global, out: &mut Vec<Component>) -> Result<(), AllocError>
+    ensures { OnOk result (out.new.items ≡ out.old.items ++ check_measures) }
+{
+    out.push(bool_var(alloc)?)?;
+    out.push(imbalance(alloc)?)?;
+    out.push(errorcode(alloc)?)?;
+    out.push(errorlevel(alloc)?)?;
+    Ok(())
+}
+
+fn have_one_number(structures: &[&Structure]) -> bool
+    ensures { result ≡ list_all has_one_number (shown structures.now) }
+{
+    for structure in structures {
+        if !has_one_measure(Kind::Num, structure.components.as_slice()) {
+            return false;
+        }
+    }
+    true
+}
+
+fn checked(
+    alloc: Global,
+    structure: &Structure,
+    others: &[&Structure],
+) -> Result<Structure, TypeErr>
+    ensures { Answers (λ s. s) result (identified (shown others.now) structure.now check_measures) }
+{
+    let mut out = Vec::new(alloc);
+    push_identifiers(&mut out, others, structure.components.as_slice())?;
+    push_check_measures(alloc, &mut out)?;
+    shaped(alloc, out)
+}
+
+fn check_beside(
+    alloc: Global,
+    structure: &Structure,
+    imbalance: &[&Structure],
+) -> Result<Structure, TypeErr>
+    ensures { Answers (λ s. s) result (check_form structure.now (shown imbalance.now)) }
+{
+    let components = structure.components.as_slice();
+    broken(
+        9,
+        !all_agree(Compared::Kinds, Role::Identifier, components, imbalance),
+    )?;
+    broken(
+        10,
+        !has_one_measure(Kind::Bool, components) || !have_one_number(imbalance),
+    )?;
+    checked(alloc, structure, imbalance)
+}
+
+/// `check`, with an imbalance or without. It breaks rule 9 where the identifiers are not the same, and 10 where the operand has not
+/// one boolean measure, or the imbalance not one that is a number.
+pub fn check(
+    alloc: Global,
+    structure: &Structure,
+    imbalance: Option<&Structure>,
+) -> Result<Structure, TypeErr>
+    ensures { Answers (λ s. s) result (check_form structure.now (option_to_list (option_copied imbalance.entry))) }
+{
+    match imbalance {
+        Some(imbalance) => check_beside(alloc, structure, &[imbalance]),
+        None => check_beside(alloc, structure, &[]),
+    }
+}

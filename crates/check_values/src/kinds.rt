@@ -1,0 +1,34 @@
+// The kinds of values.
+ghost use Rattle.std.specs.Prelude.{◌≡◌};
+ghost use Rattle.vtl_cell.specs.Kinds.{kind_of};
+ghost use Rattle.vtl_tree.specs.View.{comp_exp_of};
+ghost use Rattle.check_values.specs.Kinds.{exp_kind};
+
+use vtl_cell::{Cell, Kind};
+use vtl_tree::CompExpr;
+
+fn cell_kind(cell: &Cell) -> Kind
+    ensures { result ≡ kind_of cell.now }
+{
+    match cell {
+        Cell::Null => Kind::Null,
+        Cell::Bool(_) => Kind::Bool,
+        Cell::Int(_) => Kind::Int,
+        Cell::Num(_) => Kind::Num,
+        Cell::Text(_) => Kind::Text,
+        Cell::Day(_) => Kind::Day,
+        Cell::Period(_) => Kind::Period,
+    }
+}
+
+/// The kind of an expression's value.
+pub fn kind(e: &CompExpr) -> Kind
+    ensures { result ≡ exp_kind (comp_exp_of e.now) }
+{
+    match e {
+        CompExpr::Column { kind, .. } => *kind,
+        CompExpr::Const(cell) => cell_kind(cell),
+        CompExpr::Apply { kind, .. } => *kind,
+        CompExpr::Aggregate { kind, .. } => *kind,
+    }
+}

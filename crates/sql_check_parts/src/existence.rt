@@ -1,0 +1,166 @@
+// EXISTS.
+ghost use Rattle.std.specs.List.{flat_map};
+ghost use Rattle.std.specs.Prelude.{◌≡◌, ◌&&◌, not, option_and_then, IfOk};
+ghost use Rattle.sql_check_parts.specs.Exists.{equality_breaks, exists_breaks, inner_of, is_inner, is_tie, kind_inside, same_kind, same_side, side_breaks};
+ghost use Rattle.sql_check_parts.specs.Rules.{least};
+ghost use Rattle.sql_check_parts.specs.Scopes.{kind_among};
+ghost use Rattle.sql_check_parts.specs.Windows.{is_ungrouped};
+
+use crate::scope::is_ungrouped;
+use crate::{Columns, Grouping, Scope, Tables, least_broken, lesser, or_null};
+use sql_tree::{Column, Equality, Source};
+use std::alloc::AllocError;
+use std::marker::Model;
+use vtl_cell::Kind;
+use vtl_text::Txt;
+
+// The source of EXISTS: its alias, and the columns of its table, if there is one.
+#[derive(Drop)]
+struct InnerSource<'a> {
+    alias: &'a Txt,
+    columns: Option<&'a Columns>,
+}
+
+impl<'a> Model for InnerSource<'a> {
+    ghost use Rattle.std.specs.Option.{option_copied};
+    ghost use Rattle.sql_check_parts.specs.Exists as exists;
+
+    ghost Value = { exists.Inner };
+
+    ghost view = { λ i. record { alias = i.alias.now; columns = option_copied i.columns } };
+}
+
+fn inner_of<'a>(tables: &'a Tables, source: &'a Source) -> InnerSource<'a>
+    ensures { result ≡ inner_of tables.now source.now }
+{
+    InnerSource {
+        alias: &source.alias,
+        columns: tables.columns(&source.table),
+    }
+}
+
+fn is_inner(inner: &InnerSource, column: &Column) -> bool
+    ensures { result ≡ is_inner inner.now column.now }
+{
+    inner.alias == &column.source
+}
+
+fn inner_kind(inner: &InnerSource, column: &Column) -> Option<Kind>
+    ensures { result ≡ option_and_then (λ columns. kind_among columns column.now.name) inner.now.columns }
+{
+    match inner.columns {
+        Some(columns) => columns.kind(&column.name),
+        None => None,
+    }
+}
+
+fn kind_inside(scope: &Scope, inner: &InnerSource, column: &Column) -> Option<Kind>
+    ensures { result ≡ kind_inside scope.now inner.now column.now }
+{
+    if is_inner(inner, column) {
+        inner_kind(inner, column)
+    } else {
+        scope.kind(column)
+    }
+}
+
+// Whether a column of an outer source stands in a group, but is none of GROUP BY.
+fn is_outer_ungrouped(
+    group: &Option<Grouping>,
+    inner: &InnerSource,
+    column: &Column,
+) -> Result<bool, AllocError>
+    ensures { IfOk result (λ b. b ≡ (not (is_inner inner.now column.now) && is_ungrouped group.now column.now)) }
+{
+    if is_inner(inner, column) {
+        Ok(false)
+    } else {
+        is_ungrouped(group, column)
+    }
+}
+
+fn side_fault(
+    scope: &Scope,
+    group: &Option<Grouping>,
+    inner: &InnerSource,
+    column: &Column,
+) -> Result<Option<u8>, AllocError>
+    ensures { IfOk result (λ fault. fault ≡ least (side_breaks scope.now group.now inner.now column.now)) }
+{
+    let is_unknown = kind_inside(scope, inner, column).is_none();
+    let ungrouped = is_outer_ungrouped(group, inner, column)?;
+    Ok(least_broken(&[(3, is_unknown), (8, ungrouped)]))
+}
+
+fn same_kind(a: Kind, b: Kind) -> bool
+    ensures { result ≡ same_kind a b }
+{
+    match (a, b) {
+        (Kind::Null, Kind::Null) => true,
+        (Kind::Bool, Kind::Bool) => true,
+        (Kind::Int, Kind::Int) => true,
+        (Kind::Num, Kind::Num) => true,
+        (Kind::Text, Kind::Text) => true,
+        (Kind::Day, Kind::Day) => true,
+        (Kind::Period, Kind::Period) => true,
+        _ => false,
+    }
+}
+
+// Whether an equality is of one column of the inner source and one of an outer source, and of one kind.
+fn is_tie(scope: &Scope, inner: &InnerSource, equality: &Equality) -> bool
+    ensures { result ≡ is_tie scope.now inner.now equality.now }
+{
+    let left = or_null(kind_inside(scope, inner, &equality.left));
+    let right = or_null(kind_inside(scope, inner, &equality.right));
+    let apart = is_inner(inner, &equality.left) != is_inner(inner, &equality.right);
+    apart && same_kind(left, right)
+}
+
+#[tactic(auto, using(crate::proofs::Least::least_append))]
+fn equality_fault(
+    scope: &Scope,
+    group: &Option<Grouping>,
+    inner: &InnerSource,
+    equality: &Equality,
+) -> Result<Option<u8>, AllocError>
+    ensures { IfOk result (λ fault. fault ≡ least (equality_breaks scope.now group.now inner.now equality.now)) }
+{
+    let left = side_fault(scope, group, inner, &equality.left)?;
+    let right = side_fault(scope, group, inner, &equality.right)?;
+    let tie = least_broken(&[(11, !is_tie(scope, inner, equality))]);
+    Ok(lesser(lesser(left, right), tie))
+}
+
+#[tactic(auto, using(crate::proofs::Least::part_taken))]
+fn equalities_fault(
+    scope: &Scope,
+    group: &Option<Grouping>,
+    inner: &InnerSource,
+    equalities: &[Equality],
+) -> Result<Option<u8>, AllocError>
+    ensures { IfOk result (λ fault. fault ≡ least (flat_map (equality_breaks scope.now group.now inner.now) equalities.now)) }
+{
+    let mut least = None;
+    for equality in equalities {
+        least = lesser(least, equality_fault(scope, group, inner, equality)?);
+    }
+    Ok(least)
+}
+
+/// EXISTS: the least of the rules that it breaks. It fails only for want of memory.
+#[tactic(auto, using(crate::proofs::Least::least_append))]
+pub fn exists(
+    tables: &Tables,
+    scope: &Scope,
+    group: &Option<Grouping>,
+    source: &Source,
+    equalities: &[Equality],
+) -> Result<Option<u8>, AllocError>
+    ensures { IfOk result (λ fault. fault ≡ least (exists_breaks tables.now scope.now group.now source.now equalities.now)) }
+{
+    let inner = inner_of(tables, source);
+    let unknown = least_broken(&[(1, inner.columns.is_none())]);
+    let rest = equalities_fault(scope, group, &inner, equalities)?;
+    Ok(lesser(unknown, rest))
+}

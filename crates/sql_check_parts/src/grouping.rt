@@ -1,0 +1,51 @@
+// The columns of GROUP BY.
+ghost use Rattle.std.specs.Prelude.{◌≡◌, IfOk};
+ghost use Rattle.sql_check_parts.specs.Scopes.{column_name, grouping_of, is_grouped_by};
+
+use indexmap::IndexSet;
+use sql_tree::Column;
+use std::alloc::{AllocError, Global};
+use std::marker::Model;
+use vtl_text::Txt;
+
+/// The columns of GROUP BY, each once. A contract sees the list of their aliases with their names.
+#[derive(Drop)]
+pub struct Grouping {
+    columns: IndexSet<(Txt, Txt)>,
+}
+
+impl Model for Grouping {
+    ghost use Rattle.sql_check_parts.specs.Scopes as scopes;
+
+    ghost Value = { scopes.Grouping };
+
+    ghost view = { λ g. g.columns.keys };
+}
+
+// The alias and the name of a column.
+fn column_name(column: &Column) -> Result<(Txt, Txt), AllocError>
+    ensures { IfOk result (λ name. name ≡ column_name column.now) }
+{
+    Ok((column.source.share()?, column.name.share()?))
+}
+
+impl Grouping {
+    /// The columns, each once. It fails only for want of memory.
+    #[tactic(auto, using(crate::proofs::Maps::fold_taken))]
+    pub fn of(alloc: Global, columns: &[Column]) -> Result<Grouping, AllocError>
+        ensures { IfOk result (λ group. group ≡ grouping_of columns.now) }
+    {
+        let mut group = IndexSet::new(alloc);
+        for column in columns {
+            group.insert(column_name(column)?)?;
+        }
+        Ok(Grouping { columns: group })
+    }
+
+    /// Whether a column is one of them. It fails only for want of memory.
+    pub fn has(&self, column: &Column) -> Result<bool, AllocError>
+        ensures { IfOk result (λ b. b ≡ is_grouped_by self.now column.now) }
+    {
+        Ok(self.columns.contains(&column_name(column)?))
+    }
+}

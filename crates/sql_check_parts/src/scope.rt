@@ -1,0 +1,100 @@
+// The sources of a select.
+ghost use Rattle.std.specs.Map.{keys_of, lookup};
+ghost use Rattle.std.specs.Option.{option_copied};
+ghost use Rattle.std.specs.Prelude.{◌≡◌, [], IfOk, OnOk};
+ghost use Rattle.sql_check_parts.specs.Scopes.{add_source, column_in, column_kind, is_among, same_text};
+ghost use Rattle.sql_check_parts.specs.Typed.{IsTyped};
+ghost use Rattle.sql_check_parts.specs.Windows.{column_breaks, is_ungrouped};
+
+use crate::{Columns, Grouping, Typed, least_broken, or_null};
+use indexmap::IndexMap;
+use sql_tree::Column;
+use std::alloc::{AllocError, Global};
+use std::marker::Model;
+use vtl_cell::Kind;
+use vtl_text::Txt;
+
+/// The sources of a select from the left, by alias. A contract sees the list of the aliases with the columns of the tables.
+#[derive(Drop)]
+pub struct Scope<'a> {
+    sources: IndexMap<Txt, &'a Columns>,
+}
+
+impl<'a> Model for Scope<'a> {
+    ghost use Rattle.std.specs.Prelude.{map};
+    ghost use Rattle.sql_check_parts.specs.Scopes as scopes;
+
+    ghost Value = { scopes.Scope };
+
+    ghost view = { λ s. map (λ e. (e.0, e.1.now)) s.sources.entries };
+}
+
+impl<'a> Scope<'a> {
+    /// No sources.
+    pub fn new(alloc: Global) -> Scope<'a>
+        ensures { result ≡ [] }
+    {
+        Scope {
+            sources: IndexMap::new(alloc),
+        }
+    }
+
+    /// Whether a source has this alias.
+    pub fn has(&self, alias: &Txt) -> bool
+        ensures { result ≡ is_among alias.now (keys_of self.now) }
+    {
+        self.sources.contains_key(alias)
+    }
+
+    /// Adds a source, unless it has no columns or its alias is there already. It fails only for want of memory.
+    pub fn add(&mut self, alias: &Txt, columns: Option<&'a Columns>) -> Result<(), AllocError>
+        ensures { OnOk result (self.new ≡ add_source self.old alias.now (option_copied columns.entry)) }
+    {
+        match columns {
+            Some(columns) if !self.has(alias) => {
+                self.sources.insert(alias.share()?, columns)?;
+                Ok(())
+            }
+            _ => Ok(()),
+        }
+    }
+
+    // The columns of the source of an alias.
+    fn columns(&self, alias: &Txt) -> Option<&Columns>
+        ensures { option_copied result ≡ lookup (same_text alias.now) self.now }
+    {
+        self.sources.get(alias).copied()
+    }
+
+    /// The kind of a column.
+    pub fn kind(&self, column: &Column) -> Option<Kind>
+        ensures { result ≡ column_in self.now column.now }
+    {
+        match self.columns(&column.source) {
+            Some(columns) => columns.kind(&column.name),
+            None => None,
+        }
+    }
+}
+
+/// Whether a column stands in a group, but is none of GROUP BY. It fails only for want of memory.
+pub(crate) fn is_ungrouped(group: &Option<Grouping>, column: &Column) -> Result<bool, AllocError>
+    ensures { IfOk result (λ b. b ≡ is_ungrouped group.now column.now) }
+{
+    match group {
+        Some(group) => Ok(!group.has(column)?),
+        None => Ok(false),
+    }
+}
+
+/// A column. It fails only for want of memory.
+pub fn column(scope: &Scope, group: &Option<Grouping>, column: &Column) -> Result<Typed, AllocError>
+    ensures { IfOk result (IsTyped (column_kind scope.now column.now) (column_breaks scope.now group.now column.now)) }
+{
+    let kind = scope.kind(column);
+    let ungrouped = is_ungrouped(group, column)?;
+    Ok(Typed {
+        kind: or_null(kind),
+        fault: least_broken(&[(3, kind.is_none()), (8, ungrouped)]),
+    })
+}

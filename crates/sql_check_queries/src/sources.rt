@@ -1,0 +1,125 @@
+// The sources of a select, and the conditions of its joins.
+ghost use Rattle.std.specs.Prelude.{◌≡◌, map, IfOk, OnOk};
+ghost use Rattle.sql_tree.specs.View.{join_tree, select_tree};
+ghost use Rattle.sql_check_parts.specs.Expressions.{site};
+ghost use Rattle.sql_check_parts.specs.Queries.{join_breaks, join_condition, join_source, joined_scope, joins_break, source_breaks};
+ghost use Rattle.sql_check_parts.specs.Rules.{least};
+ghost use Rattle.sql_check_parts.specs.Scopes.{with_source};
+ghost use Rattle.sql_check_queries.specs.Typed.{HasSources};
+
+use sql_check_expressions::{Site, condition};
+use sql_check_parts::{Scope, Tables, least_broken, lesser};
+use sql_tree::{Join, Select, Source};
+use std::alloc::{AllocError, Global};
+use vtl_decimal::Profile;
+
+/// The sources of a select, and the least of the rules that they break.
+#[derive(Drop)]
+pub(crate) struct SourcesTyped<'a> {
+    pub(crate) scope: Scope<'a>,
+    pub(crate) fault: Option<u8>,
+}
+
+// The rules of a source behind others.
+fn source_fault(tables: &Tables, before: &Scope, source: &Source) -> Option<u8>
+    ensures { result ≡ least (source_breaks tables.now before.now source.now) }
+{
+    least_broken(&[
+        (1, tables.columns(&source.table).is_none()),
+        (2, before.has(&source.alias)),
+    ])
+}
+
+fn add_source<'a>(
+    tables: &'a Tables,
+    scope: &mut Scope<'a>,
+    source: &Source,
+) -> Result<(), AllocError>
+    ensures { OnOk result (scope.new ≡ with_source tables.now scope.old source.now) }
+{
+    scope.add(&source.alias, tables.columns(&source.table))
+}
+
+fn join_source(join: &Join) -> &Source
+    ensures { result.now ≡ join_source (join_tree join.now) }
+{
+    match join {
+        Join::On { source, .. } | Join::Cross(source) => source,
+    }
+}
+
+// The condition of a join among the sources up to its own.
+#[tactic(auto, unfolding(sql_check_parts::specs::Rules::least))]
+fn join_condition(
+    alloc: Global,
+    profile: &Profile,
+    tables: &Tables,
+    scope: &Scope,
+    join: &Join,
+) -> Result<Option<u8>, AllocError>
+    ensures { IfOk result (λ fault. fault ≡ least (join_condition (site profile.now tables.now scope.now) (join_tree join.now))) }
+{
+    match join {
+        Join::On { condition: e, .. } => {
+            condition(alloc, &Site::new(profile, tables, scope), &None, e)
+        }
+        Join::Cross(_) => Ok(None),
+    }
+}
+
+// One more source, and its condition.
+#[tactic(auto, using(sql_check_parts::proofs::Least::least_append))]
+fn add_join<'a>(
+    alloc: Global,
+    profile: &Profile,
+    tables: &'a Tables,
+    scope: &mut Scope<'a>,
+    join: &Join,
+) -> Result<Option<u8>, AllocError>
+    ensures grown { OnOk result (scope.new ≡ with_source tables.now scope.old (join_source (join_tree join.now))) }
+    ensures fault { IfOk result (λ fault. fault ≡ least (join_breaks profile.now tables.now scope.old (join_tree join.now))) }
+{
+    let source = join_source(join);
+    let own = source_fault(tables, scope, source);
+    add_source(tables, scope, source)?;
+    let condition = join_condition(alloc, profile, tables, scope, join)?;
+    Ok(lesser(own, condition))
+}
+
+// The joins behind the sources before them.
+fn add_joins<'a>(
+    alloc: Global,
+    profile: &Profile,
+    tables: &'a Tables,
+    scope: &mut Scope<'a>,
+    joins: &[Join],
+) -> Result<Option<u8>, AllocError>
+    ensures grown { OnOk result (scope.new ≡ joined_scope tables.now scope.old (map join_tree joins.now)) }
+    ensures fault { IfOk result (λ fault. fault ≡ least (joins_break profile.now tables.now scope.old (map join_tree joins.now))) }
+{
+    let mut fault = None;
+    for join in joins {
+        fault = lesser(fault, add_join(alloc, profile, tables, scope, join)?);
+    }
+    Ok(fault)
+}
+
+/// The sources of a select. It fails only for want of memory.
+#[tactic(auto, using(sql_check_parts::proofs::Least::least_append))]
+pub(crate) fn sources<'a>(
+    alloc: Global,
+    profile: &Profile,
+    tables: &'a Tables,
+    select: &Select,
+) -> Result<SourcesTyped<'a>, AllocError>
+    ensures { IfOk result (HasSources profile.now tables.now (select_tree select.now)) }
+{
+    let mut scope = Scope::new(alloc);
+    let first = source_fault(tables, &scope, &select.from);
+    add_source(tables, &mut scope, &select.from)?;
+    let joins = add_joins(alloc, profile, tables, &mut scope, select.joins.as_slice())?;
+    Ok(SourcesTyped {
+        scope,
+        fault: lesser(first, joins),
+    })
+}

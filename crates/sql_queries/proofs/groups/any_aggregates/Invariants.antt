@@ -1,8 +1,0 @@
-use Rattle.std.proofs.Common.{◌≡◌, drop, map}
-use Rattle.std.specs.List.{list_any}
-use Rattle.sql_tree.specs.View.{item_tree}
-use Rattle.sql_typing.specs.Queries.{item_aggregates}
-use Rattle.sql_queries.proofs.groups.any_aggregates.Given as goal
-
-abbrev pub invariant-loop-item : goal.invariant-loop-item
-invariant-loop-item l = list_any item_aggregates (map item_tree (drop l.item-index l.items)) ≡ list_any item_aggregates (map item_tree l.items)

@@ -1,6 +1,0 @@
-use Rattle.std.proofs.Common.{◌≡◌, take}
-use Rattle.sql_typing.specs.Rules.{broken, least}
-use Rattle.sql_typing.proofs.rules.least_broken.Given as goal
-
-abbrev pub invariant-loop-test : goal.invariant-loop-test
-invariant-loop-test l = l.least ≡ least (broken (take l.test-index l.tests))

@@ -1,8 +1,0 @@
-use Rattle.std.proofs.Common.{ap, ◌∙◌}
-use Rattle.std.specs.Map.{keys_of}
-use Rattle.sql_typing.specs.Scopes.{is_among}
-use Rattle.sql_typing.proofs.Maps.{among_mapped}
-use Rattle.sql_typing.proofs.scope.Scope.has.Goals as goal
-
-pub returns : goal.returns
-returns c = c.contains_key.ensures ∙ among_mapped (λ b. b.now) c.args.alias.now c.self.inside.sources.entries ∙ ap (λ es. is_among c.args.alias.now (keys_of es)) c.self.view_is

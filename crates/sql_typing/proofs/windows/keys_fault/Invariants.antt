@@ -1,8 +1,0 @@
-use Rattle.std.proofs.Common.{◌≡◌, take}
-use Rattle.std.specs.List.{flat_map}
-use Rattle.sql_typing.specs.Rules.{least}
-use Rattle.sql_typing.specs.Windows.{key_breaks}
-use Rattle.sql_typing.proofs.windows.keys_fault.Given as goal
-
-abbrev pub invariant-loop-key : goal.invariant-loop-key
-invariant-loop-key l = l.least ≡ least (flat_map (key_breaks l.scope l.group) (take l.key-index l.keys))

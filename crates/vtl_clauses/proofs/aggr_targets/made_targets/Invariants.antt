@@ -1,7 +1,0 @@
-use Rattle.std.proofs.Common.{◌≡◌, take}
-use Rattle.std.specs.Prelude.{map}
-use Rattle.vtl_clauses.specs.Targets.{made_target}
-use Rattle.vtl_clauses.proofs.aggr_targets.made_targets.Given as goal
-
-abbrev pub invariant-loop-made : goal.invariant-loop-made
-invariant-loop-made l = l.targets.items ≡ map made_target (take l.made-index l.made)

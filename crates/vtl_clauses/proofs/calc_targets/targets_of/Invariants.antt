@@ -1,8 +1,0 @@
-use Rattle.std.proofs.Common.{◌≡◌, take}
-use Rattle.std.specs.Prelude.{map}
-use Rattle.vtl_nodes.specs.View.{item_tree}
-use Rattle.vtl_clauses.specs.Targets.{target_of}
-use Rattle.vtl_clauses.proofs.calc_targets.targets_of.Given as goal
-
-abbrev pub invariant-loop-item : goal.invariant-loop-item
-invariant-loop-item l = l.targets.items ≡ map (target_of l.components) (map item_tree (take l.item-index l.items))

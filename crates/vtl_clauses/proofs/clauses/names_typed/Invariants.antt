@@ -1,7 +1,0 @@
-use Rattle.std.proofs.Common.{◌≡◌, [], drop}
-use Rattle.vtl_shapes.specs.declared.names.Wanted.TheVariants as wanted
-use Rattle.vtl_clauses.specs.Clauses.{names_typed}
-use Rattle.vtl_clauses.proofs.clauses.names_typed.Given as goal
-
-abbrev pub invariant-loop-reference : goal.invariant-loop-reference
-invariant-loop-reference l = names_typed l.joined wanted.Value l.components l.names.items (drop l.reference-index l.references) ≡ names_typed l.joined wanted.Value l.components [] l.references

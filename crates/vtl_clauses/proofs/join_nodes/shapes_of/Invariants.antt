@@ -1,8 +1,0 @@
-use Rattle.std.proofs.Common.{◌≡◌, take}
-use Rattle.std.specs.Prelude.{map}
-use Rattle.vtl_nodes.specs.View.{operand_tree}
-use Rattle.vtl_clauses.specs.JoinOperands.{shape_of}
-use Rattle.vtl_clauses.proofs.join_nodes.shapes_of.Given as goal
-
-abbrev pub invariant-loop-operand : goal.invariant-loop-operand
-invariant-loop-operand l = l.shapes.items ≡ map shape_of (map operand_tree (take l.operand-index l.operands))

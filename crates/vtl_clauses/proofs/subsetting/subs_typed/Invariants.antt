@@ -1,9 +1,0 @@
-use Rattle.std.proofs.Common.{◌≡◌, [], drop}
-use Rattle.vtl_clauses.specs.Clauses.{sub_names, subs_typed}
-use Rattle.vtl_clauses.proofs.subsetting.subs_typed.Given as goal
-
-abbrev pub invariant-loop-part : goal.invariant-loop-part
-invariant-loop-part l = record {
-  typed : subs_typed l.profile l.components l.items.items (drop l.part-index l.parts) ≡ subs_typed l.profile l.components [] l.parts;
-  named : l.names.items ≡ sub_names l.items.items;
-}

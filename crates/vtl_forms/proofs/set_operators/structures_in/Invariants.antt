@@ -1,9 +1,0 @@
-use Rattle.std.proofs.Common.{◌≡◌, take}
-use Rattle.std.specs.Prelude.{map}
-use Rattle.vtl_nodes.specs.View.{node_tree}
-use Rattle.vtl_tree.specs.Shown.{shown}
-use Rattle.vtl_forms.specs.Sets.{structures_in}
-use Rattle.vtl_forms.proofs.set_operators.structures_in.Given as goal
-
-abbrev pub invariant-loop-node : goal.invariant-loop-node
-invariant-loop-node l = shown l.structures.items ≡ structures_in (map node_tree (take l.node-index l.nodes))

@@ -1,6 +1,0 @@
-use Rattle.std.proofs.Common.{◌≡◌, drop}
-use Rattle.vtl_joins.specs.Joins.{operand_of}
-use Rattle.vtl_joins.proofs.joined.operand_of.Given as goal
-
-abbrev pub invariant-loop-operand : goal.invariant-loop-operand
-invariant-loop-operand l = operand_of l.alias (drop l.operand-index l.operands) ≡ operand_of l.alias l.operands

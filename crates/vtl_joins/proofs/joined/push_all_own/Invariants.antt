@@ -1,6 +1,0 @@
-use Rattle.std.proofs.Common.{◌≡◌, ◌++◌, take}
-use Rattle.vtl_joins.specs.Joins.{all_own}
-use Rattle.vtl_joins.proofs.joined.push_all_own.Given as goal
-
-abbrev pub invariant-loop-operand : goal.invariant-loop-operand
-invariant-loop-operand l = l.out.items ≡ l.fn.out.items ++ all_own l.held l.identifiers (take l.operand-index l.operands)

@@ -1,7 +1,0 @@
-use Rattle.std.proofs.Common.{◌≡◌, drop, take}
-use Rattle.std.specs.Prelude.{[]}
-use Rattle.vtl_joins.specs.Joins.{using_behind}
-use Rattle.vtl_joins.proofs.joins.check_using_names.Given as goal
-
-abbrev pub invariant-loop-i : goal.invariant-loop-i
-invariant-loop-i l = using_behind l.operands (take l.i l.names) (drop l.i l.names) ≡ using_behind l.operands [] l.names

@@ -1,6 +1,0 @@
-use Rattle.std.specs.Str.{chars}
-use Rattle.vtl_shapes.proofs.measures.int_var.Goals as goal
-
-pub returns : goal.returns
-unfolding chars
-returns c = c.new_measure.ensures

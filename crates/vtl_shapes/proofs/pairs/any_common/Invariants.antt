@@ -1,9 +1,0 @@
-use Rattle.std.proofs.Common.{◌≡◌, drop}
-use Rattle.std.specs.Prelude.{filter}
-use Rattle.std.specs.List.{list_any}
-use Rattle.vtl_shapes.specs.Choices.{is_identifier}
-use Rattle.vtl_shapes.specs.Pairs.{is_common}
-use Rattle.vtl_shapes.proofs.pairs.any_common.Given as goal
-
-abbrev pub invariant-loop-component : goal.invariant-loop-component
-invariant-loop-component l = list_any (is_common l.other) (filter is_identifier (drop l.component-index l.components)) ≡ list_any (is_common l.other) (filter is_identifier l.components)

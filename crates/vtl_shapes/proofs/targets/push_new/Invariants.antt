@@ -1,7 +1,0 @@
-use Rattle.std.proofs.Common.{◌≡◌, ◌++◌, take}
-use Rattle.std.specs.Prelude.{filter, map}
-use Rattle.vtl_shapes.specs.Clauses.{is_new, target_component}
-use Rattle.vtl_shapes.proofs.targets.push_new.Given as goal
-
-abbrev pub invariant-loop-target : goal.invariant-loop-target
-invariant-loop-target l = l.out.items ≡ l.fn.out.items ++ map target_component (filter (is_new l.components) (take l.target-index l.targets))
