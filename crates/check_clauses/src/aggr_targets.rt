@@ -61,8 +61,8 @@ fn is_aggregate(e: &Expr) -> bool
 fn call_in(is_call: bool, e: CompExpr) -> Result<(AggCall, Kind), TypeErr>
     ensures { Answers (λ call. call) result (call_in is_call (comp_exp_of e)) }
 {
-    match (is_call, e) {
-        (true, CompExpr::Aggregate { call, kind }) => Ok((call, kind)),
+    match e.aggregate() {
+        Some(call) if is_call => Ok(call),
         _ => Err(TypeErr::Broken(15)),
     }
 }

@@ -6,7 +6,6 @@ use vtl_text::List;
 
 /// An expression.
 #[cycle(expressions)]
-#[derive(Drop)]
 pub enum SqlExpr {
     /// `left op right`, where the operator is one of `OR`, `XOR`, `AND`, the comparisons, `+`, `-`, `||`, `*` and `/`
     Binary {
@@ -56,6 +55,26 @@ pub enum SqlExpr {
         source: Source,
         equalities: List<Equality>,
     },
+}
+
+// Written out, so that a proof above sees one call and not the drop of each part.
+impl Drop for SqlExpr {
+    #[cycle(dropped)]
+    fn drop(self) {
+        match self {
+            SqlExpr::Binary { left: _left, op: _op, right: _right } => {}
+            SqlExpr::Unary { op: _op, operand: _operand } => {}
+            SqlExpr::IsNull { operand: _operand, negated: _negated } => {}
+            SqlExpr::InList { operand: _operand, negated: _negated, literals: _literals } => {}
+            SqlExpr::Constant(_part0) => {}
+            SqlExpr::Column(_part0) => {}
+            SqlExpr::Call { function: _function, operands: _operands } => {}
+            SqlExpr::CountAll => {}
+            SqlExpr::Aggregate { function: _function, operand: _operand } => {}
+            SqlExpr::Case { branches: _branches, other: _other } => {}
+            SqlExpr::Exists { source: _source, equalities: _equalities } => {}
+        }
+    }
 }
 
 /// `WHEN condition THEN value`

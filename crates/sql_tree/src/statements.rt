@@ -6,7 +6,6 @@ use vtl_decimal::Rounding;
 use vtl_text::{List, Txt};
 
 /// `SET SCALE scale ROUNDING rounding; statements`
-#[derive(Drop)]
 pub struct SqlScript {
     /// The digits of the scale, as they are written.
     pub scale: Txt,
@@ -16,8 +15,14 @@ pub struct SqlScript {
     pub statements: List<Statement>,
 }
 
+// Written out, so that a proof above sees one call and not the drop of each part.
+impl Drop for SqlScript {
+    fn drop(self) {
+        let SqlScript { scale: _scale, rounding: _rounding, statements: _statements } = self;
+    }
+}
+
 /// A statement.
-#[derive(Drop)]
 pub enum Statement {
     /// `INPUT ..`
     Input(SqlInput),
@@ -25,6 +30,17 @@ pub enum Statement {
     Create(SqlCreate),
     /// `EXPORT ..`
     Export(SqlExport),
+}
+
+// Written out, so that a proof above sees one call and not the drop of each part.
+impl Drop for Statement {
+    fn drop(self) {
+        match self {
+            Statement::Input(_part0) => {}
+            Statement::Create(_part0) => {}
+            Statement::Export(_part0) => {}
+        }
+    }
 }
 
 /// `INPUT name (columns) KEY (key);`
@@ -50,12 +66,18 @@ pub struct InputColumn {
 }
 
 /// `CREATE TABLE name AS query;`
-#[derive(Drop)]
 pub struct SqlCreate {
     /// The table.
     pub name: Txt,
     /// Its rows.
     pub query: Query,
+}
+
+// Written out, so that a proof above sees one call and not the drop of each part.
+impl Drop for SqlCreate {
+    fn drop(self) {
+        let SqlCreate { name: _name, query: _query } = self;
+    }
 }
 
 /// `EXPORT name ORDER BY order;`
@@ -68,14 +90,19 @@ pub struct SqlExport {
 }
 
 /// `select UNION ALL select ..`
-#[derive(Drop)]
 pub struct Query {
     /// The selects.
     pub selects: List<Select>,
 }
 
+// Written out, so that a proof above sees one call and not the drop of each part.
+impl Drop for Query {
+    fn drop(self) {
+        let Query { selects: _selects } = self;
+    }
+}
+
 /// `SELECT items FROM source joins WHERE condition GROUP BY group HAVING having`
-#[derive(Drop)]
 pub struct Select {
     /// What a row of the result holds.
     pub items: List<Item>,
@@ -89,6 +116,13 @@ pub struct Select {
     pub group: List<Column>,
     /// The condition of HAVING, where one is written.
     pub having: Option<SqlExpr>,
+}
+
+// Written out, so that a proof above sees one call and not the drop of each part.
+impl Drop for Select {
+    fn drop(self) {
+        let Select { items: _items, from: _from, joins: _joins, condition: _condition, group: _group, having: _having } = self;
+    }
 }
 
 /// `value AS name`

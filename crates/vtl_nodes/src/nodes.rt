@@ -11,12 +11,22 @@ use vtl_tree::{CompExpr, Structure};
 
 /// A typed expression whose value is a data set.
 #[cycle(node)]
-#[derive(Drop)]
 pub struct Node {
     /// The structure of its data set.
     pub structure: Structure,
     /// What it is made of.
     pub form: NodeForm,
+}
+
+// Written out, so that a proof above sees one call and not the drop of each part.
+impl Drop for Node {
+    #[cycle(dropped)]
+    fn drop(self) {
+        let Node {
+            structure: _structure,
+            form: _form,
+        } = self;
+    }
 }
 
 /// The form of a typed expression.
@@ -155,12 +165,22 @@ pub enum NodeForm {
 
 /// An operand of a join with its alias.
 #[cycle(node)]
-#[derive(Drop)]
 pub struct JoinOperand {
     /// The operand.
     pub node: Node,
     /// Its alias.
     pub alias: Txt,
+}
+
+// Written out, so that a proof above sees one call and not the drop of each part.
+impl Drop for JoinOperand {
+    #[cycle(dropped)]
+    fn drop(self) {
+        let JoinOperand {
+            node: _node,
+            alias: _alias,
+        } = self;
+    }
 }
 
 /// An operator on each measure, with the values that stand before and behind the measure.

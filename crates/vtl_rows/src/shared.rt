@@ -7,9 +7,15 @@ use std::marker::Model;
 use std::rc::Rc;
 
 /// A table that may have several owners. A contract sees the table.
-#[derive(Drop)]
 pub struct SharedTable {
     shared: Rc<Table, Global>,
+}
+
+// Written out, so that a proof above sees one call and not the drop of each part.
+impl Drop for SharedTable {
+    fn drop(self) {
+        let SharedTable { shared: _shared } = self;
+    }
 }
 
 impl Model for SharedTable {
@@ -48,7 +54,8 @@ impl SharedTable {
     pub fn into_table(self, alloc: Global) -> Result<Table, AllocError>
         ensures { IfOk result (λ t. t ≡ self) }
     {
-        match Rc::try_unwrap(self.shared) {
+        let SharedTable { shared } = self;
+        match Rc::try_unwrap(shared) {
             Ok(table) => Ok(table),
             Err(shared) => shared.copy(alloc),
         }

@@ -9,7 +9,6 @@ use vtl_text::{List, Txt};
 
 /// An expression.
 #[cycle(expr)]
-#[derive(Drop)]
 pub enum Expr {
     /// `if condition then yes else no`
     If {
@@ -142,6 +141,123 @@ pub enum Expr {
         keeping: Option<Keeping>,
         renames: Option<List<RenamePart>>,
     },
+}
+
+// Written out, so that a proof above sees one call and not the drop of each part.
+impl Drop for Expr {
+    #[cycle(dropped)]
+    fn drop(self) {
+        match self {
+            Expr::If {
+                condition: _condition,
+                then: _then,
+                other: _other,
+            } => {}
+            Expr::Binary {
+                left: _left,
+                op: _op,
+                right: _right,
+            } => {}
+            Expr::InSet {
+                operand: _operand,
+                negated: _negated,
+                literals: _literals,
+            } => {}
+            Expr::Unary {
+                op: _op,
+                operand: _operand,
+            } => {}
+            Expr::WithClause {
+                operand: _operand,
+                clause: _clause,
+            } => {}
+            Expr::Member {
+                operand: _operand,
+                component: _component,
+            } => {}
+            Expr::Component(_part0) => {}
+            Expr::Constant(_part0) => {}
+            Expr::Brackets(_part0) => {}
+            Expr::Function {
+                function: _function,
+                operands: _operands,
+            } => {}
+            Expr::Aggregate {
+                function: _function,
+                operand: _operand,
+                group: _group,
+                having: _having,
+            } => {}
+            Expr::AggregateOver {
+                function: _function,
+                operand: _operand,
+                over: _over,
+            } => {}
+            Expr::ValueWindow {
+                function: _function,
+                operand: _operand,
+                over: _over,
+            } => {}
+            Expr::Shift {
+                function: _function,
+                operand: _operand,
+                points: _points,
+                default: _default,
+                over: _over,
+            } => {}
+            Expr::Rank(_part0) => {}
+            Expr::SetOp {
+                operator: _operator,
+                operands: _operands,
+            } => {}
+            Expr::Difference {
+                operator: _operator,
+                left: _left,
+                right: _right,
+            } => {}
+            Expr::ExistsIn {
+                left: _left,
+                right: _right,
+                retain: _retain,
+            } => {}
+            Expr::Check {
+                operand: _operand,
+                error: _error,
+                imbalance: _imbalance,
+                output: _output,
+            } => {}
+            Expr::CheckDatapoint {
+                operand: _operand,
+                ruleset: _ruleset,
+                output: _output,
+            } => {}
+            Expr::CheckHierarchy {
+                operand: _operand,
+                ruleset: _ruleset,
+                rule: _rule,
+                mode: _mode,
+                dataset: _dataset,
+                output: _output,
+            } => {}
+            Expr::Hierarchy {
+                operand: _operand,
+                ruleset: _ruleset,
+                rule: _rule,
+                mode: _mode,
+                input: _input,
+                output: _output,
+            } => {}
+            Expr::Join {
+                kind: _kind,
+                operands: _operands,
+                using: _using,
+                filter: _filter,
+                targets: _targets,
+                keeping: _keeping,
+                renames: _renames,
+            } => {}
+        }
+    }
 }
 
 /// What stands between `[` and `]`.

@@ -4,9 +4,16 @@ ghost use Rattle.std.specs.Prelude.{◌≡◌};
 use std::marker::Model;
 
 /// A `Vec` that contracts see as the list of its items.
-#[derive(Debug, Drop)]
+#[derive(Debug)]
 pub struct List<T> {
     items: Vec<T>,
+}
+
+// Written out, so that a proof above sees one call and not the drop of each part.
+impl<T: Drop> Drop for List<T> {
+    fn drop(self) {
+        let List { items: _items } = self;
+    }
 }
 
 impl<T> Model for List<T> {
@@ -36,7 +43,8 @@ impl<T> List<T> {
     pub fn into_vec(self) -> Vec<T>
         ensures { result.items ≡ self }
     {
-        self.items
+        let List { items } = self;
+        items
     }
 }
 

@@ -13,9 +13,15 @@ use std::marker::Model;
 use std::rc::RcStr;
 
 /// A text with several owners. Contracts see it as the list of its characters, each a Unicode scalar value.
-#[derive(Drop)]
 pub struct Txt {
     text: RcStr,
+}
+
+// Written out, so that a proof above sees one call and not the drop of each part.
+impl Drop for Txt {
+    fn drop(self) {
+        let Txt { text: _text } = self;
+    }
 }
 
 impl Model for Txt {

@@ -4,7 +4,6 @@ use vtl_cell::{AggKind, Cell, Kind, ScalarOp};
 use vtl_text::Txt;
 
 /// An expression over the components of one point.
-#[derive(Drop)]
 pub enum CompExpr {
     /// The value of a component.
     Column {
@@ -35,11 +34,43 @@ pub enum CompExpr {
     },
 }
 
+// Written out, so that a proof above sees one call and not the drop of each part.
+impl Drop for CompExpr {
+    #[cycle(dropped)]
+    fn drop(self) {
+        match self {
+            CompExpr::Column { place: _, name: _name, kind: _ } => {}
+            CompExpr::Const(_cell) => {}
+            CompExpr::Apply { op: _, kind: _, args: _args } => {}
+            CompExpr::Aggregate { call: _call, kind: _ } => {}
+        }
+    }
+}
+
+impl CompExpr {
+    /// The call and the kind of an aggregate, where the expression is one.
+    pub fn aggregate(self) -> Option<(AggCall, Kind)> {
+        match self {
+            CompExpr::Aggregate { call, kind } => Some((call, kind)),
+            _ => None,
+        }
+    }
+}
+
 /// An aggregate of the points of a group.
-#[derive(Drop)]
 pub struct AggCall {
     /// The operator.
     pub kind: AggKind,
     /// The component, or none for the number of points.
     pub component: Option<Txt>,
+}
+
+// Written out, so that a proof above sees one call and not the drop of each part.
+impl Drop for AggCall {
+    fn drop(self) {
+        let AggCall {
+            kind: _kind,
+            component: _component,
+        } = self;
+    }
 }
