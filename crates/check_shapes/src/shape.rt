@@ -11,8 +11,8 @@ ghost use Rattle.check_shapes.specs.Shape.{shaped};
 use check_faults::{TypeErr, broken};
 use std::alloc::{AllocError, Global};
 use vtl_cell::Kind;
-use vtl_text::{List, Txt};
-use vtl_tree::{Component, Structure, are_distinct};
+use vtl_text::{List, Txt, are_distinct};
+use vtl_tree::{Component, Structure};
 
 fn is_null(kind: Kind) -> bool
     ensures { result ≡ is_null_kind kind }

@@ -13,7 +13,8 @@ use Rattle.vtl_syntax.specs.declared.word_groups.Addition.{Addition}
 use Rattle.vtl_grammar.specs.Grammar.{Tokens}
 use Rattle.vtl_grammar.specs.ReadExpressions.{read}
 use Rattle.vtl_grammar.specs.ReadParts.{comps, error_part}
-use Rattle.vtl_grammar.specs.Reading.{Reads, ◌>>=◌, given, is_keyword, after_keyword, after_sign, word, maybe_word}
+use Rattle.vtl_lists.specs.Options.{◌>>=◌, given}
+use Rattle.vtl_grammar.specs.Reading.{Reads, is_keyword, after_keyword, after_sign, word, maybe_word}
 use Rattle.vtl_grammar.specs.Words.{name_at, comp_at, comparison_at, addition_at, assign_kind_at}
 use Rattle.vtl_grammar.specs.declared.levels.Level.TheVariants as level
 
