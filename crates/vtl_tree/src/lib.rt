@@ -15,4 +15,4 @@ pub use expression::{AggCall, CompExpr};
 pub use laws::{filter_is_a_clause, points_are_a_map};
 pub use seen::Seen;
 pub use structure::{Component, Role, Structure};
-pub use structures::{Structures, are_distinct};
+pub use structures::{MAX_COMPONENTS, Structures, are_distinct};
