@@ -31,8 +31,12 @@ names_of cs = map (λ x. x.name) cs
 abbrev pub key_width : Structure → ℕ
 key_width s = length (of_role role.Identifier s)
 
--- 1 to 64 components with distinct names
+-- the most components that a structure may have
+abbrev pub most_components : ℕ
+most_components = 64
+
+-- no more components than a structure may have, one at least, with distinct names
 pub record IsStructure (s : Structure) : Type 0 where
   pub some : 1 ≤ length s.components
-  pub few : length s.components ≤ 64
+  pub few : length s.components ≤ most_components
   pub distinct : all_apart same_name (names_of s.components) ≡ true

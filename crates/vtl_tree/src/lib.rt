@@ -19,4 +19,4 @@ pub use declarable::is_declarable;
 pub use expression::{AggCall, CompExpr};
 pub use laws::{filter_is_a_clause, points_are_a_map};
 pub use structure::{Component, Role, Structure};
-pub use structures::Structures;
+pub use structures::{MAX_COMPONENTS, Structures};
