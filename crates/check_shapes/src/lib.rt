@@ -1,4 +1,9 @@
-//! The structures that operators on data sets give, and the rules that their operands can break.
+//! The structure that each operator on data sets gives, or the first type rule that its operands break.
+//!
+//! Names in lists with a wanted role, choices by names, operators on measures, clauses, operators on several data
+//! sets: each as a function on components. Every result passes one list of tests (`shaped`).
+//! It knows no expressions, no values and no syntax trees: operators come as functions on kinds.
+//! Begin with specs/Shape.antt, then Names.antt and Clauses.antt.
 #![tactic(auto)]
 
 mod choices;

@@ -11,7 +11,7 @@ pub struct SqlScript {
     pub scale: Txt,
     /// The rounding.
     pub rounding: Rounding,
-    /// The statements behind SET.
+    /// The statements after SET.
     pub statements: List<Statement>,
 }
 

@@ -1,4 +1,11 @@
-//! Cells: the values of a data set's points, with their kinds and their order.
+//! Cells: a value of one of six kinds, or null, with their order, their equality and their texts.
+//!
+//! Rows, keys, sorts, joins and groups all compare by the one order and the one equality that are defined here. The
+//! table of scalar operators stands here as definitions (values, kinds, spellings in both languages), and so do
+//! aggregates, orders of rows and frames, so that the two languages cannot drift apart; `vtl_scalar` computes the
+//! operators.
+//! It knows no columns, no structures and no files: what an empty field means is for `vtl_csv` to say.
+//! Begin with specs/Kinds.antt, Order.antt and Scalars.antt.
 #![tactic(auto)]
 
 mod cell;

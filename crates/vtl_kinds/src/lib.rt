@@ -1,4 +1,10 @@
-//! What typing shares between the languages: the kinds that operators and aggregates take and give, and the values that literals write.
+//! What typing shares between VTL and the SQL dialect: the kinds that operators and aggregates take and give, and
+//! the values that literals write.
+//!
+//! It adds to the table of `vtl_cell` which operands have to be literals, and in which intervals, so that no rule
+//! on kinds is said twice.
+//! It knows neither language's syntax and no rule numbers: which rule breaks is for the checkers to say.
+//! Begin with specs/Operators.antt, Aggregates.antt and Literals.antt.
 #![tactic(auto)]
 
 mod aggregates;

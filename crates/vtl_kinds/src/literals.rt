@@ -36,7 +36,7 @@ pub fn number_cell(profile: &Profile, digits: &Txt) -> Option<Cell>
     read_literal(digits.as_str(), profile).ok().map(Cell::Num)
 }
 
-/// The value of a kind that a text stands for. It fails only for want of memory.
+/// The value of a kind that a text stands for. It fails only when out of memory.
 pub fn written(
     alloc: Global,
     profile: &Profile,

@@ -1,9 +1,10 @@
-//! Texts, and lists with several owners.
+//! Texts: a shared text that contracts see as its characters, lists that they see as their items, the operators on
+//! texts, what a word, a reserved word and a name is, and whether texts are apart.
 //!
-//! Cells, names and trees hold texts that many share: `Txt` is one whose contracts see its characters, `List` and
-//! `Shared` are lists whose contracts see their items. Beside them stand the operators on texts, which texts are words
-//! and names, and whether texts are apart. What a name names is decided above; this crate knows no cell, no token and no
-//! structure. Read specs/Texts for the operators and specs/Words for names.
+//! Everything that has a name holds a `Txt`, and everything that has parts a `List`, so contracts speak of
+//! characters and items and not of memory. Searches go by bytes, and are proved to find characters.
+//! It knows no values and no syntax; the reserved words stand here, since structures files are held to them too.
+//! Begin with specs/Texts.antt and specs/Words.antt.
 #![tactic(auto)]
 
 mod distinct;
