@@ -1,4 +1,10 @@
 //! The structures that operators on data sets give, and the rules that their operands can break.
+//!
+//! It decides, from the structures of operands and from names alone, which structure a result has, and which rule is the
+//! first to be broken. How an expression inside a clause is typed is left to check_values, and which operator stands where
+//! in a script to the crates above.
+//! It knows no tree of a script, no point and no value.
+//! Begin with specs/Shape and specs/Measures, then `measures.rt` and `pairs.rt`.
 #![tactic(auto)]
 
 mod choices;
