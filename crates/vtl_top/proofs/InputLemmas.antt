@@ -15,13 +15,13 @@ use Rattle.vtl_tree.specs.Structure.{same_name}
 use Rattle.vtl_tree.specs.Structures.{AreStructures, Named, has_name, is_declarable}
 use Rattle.vtl_tree.proofs.StructuresLemmas.{all_found, put_are, repeated}
 use Rattle.vtl_tree.specs.declared.structure.Structure.{Structure}
-use Rattle.vtl_csv.specs.TableText.{IsTableOf}
 use Rattle.vtl_nodes.specs.Trees.{NodeTree}
 use Rattle.vtl_check.specs.Names.{names_of}
 use Rattle.vtl_check.specs.Uses.{read_behind, reads, with_declared}
 use Rattle.vtl_backend.specs.Inputs.{Holds, input_of, rows_named}
 use Rattle.vtl_top.specs.Expected.{data_set, with_points}
 use Rattle.vtl_files.specs.declared.files.Files.{Ghosts}
+use Rattle.vtl_sets.specs.TableOf.{IsTableOf}
 use Rattle.vtl_top.specs.Answered.{Gives, Takes}
 use Rattle.vtl_top.specs.InputsRead.{Adds, rows_in}
 use Rattle.vtl_top.specs.Steps.{Step}

@@ -4,8 +4,8 @@ ghost use Rattle.vtl_cell.specs.Outcome.{Outcome};
 ghost use Rattle.vtl_cell.specs.Row.{Row};
 ghost use Rattle.vtl_scalar.specs.Answers.{Answers, AnswersBy};
 ghost use Rattle.vtl_tree.specs.DataSet.{IsDataSet};
-ghost use Rattle.vtl_csv.specs.TableText.{IsTableOf};
-ghost use Rattle.vtl_expr.specs.DataSets.{data_set, with_structure};
+ghost use Rattle.vtl_sets.specs.DataSets.{data_set, with_structure};
+ghost use Rattle.vtl_sets.specs.TableOf.{IsTableOf};
 
 use std::alloc::{AllocError, Global};
 use std::marker::Model;
@@ -22,9 +22,9 @@ pub struct DataSet {
 }
 
 impl Model for DataSet {
-    ghost use Rattle.vtl_csv.specs.TableText.{IsTableOf};
     ghost use Rattle.vtl_tree.specs.Environment as meaning;
-    ghost use Rattle.vtl_expr.specs.DataSets.{data_set};
+    ghost use Rattle.vtl_sets.specs.DataSets.{data_set};
+    ghost use Rattle.vtl_sets.specs.TableOf.{IsTableOf};
 
     ghost Value = { meaning.DataSet };
 

@@ -14,8 +14,8 @@ use Rattle.vtl_tree.specs.Structure.{same_role}
 use Rattle.vtl_tree.specs.declared.structure.Component.{Component}
 use Rattle.vtl_tree.specs.declared.structure.Role.TheVariants as role
 use Rattle.vtl_tree.specs.declared.structure.Structure.{Structure}
-use Rattle.vtl_csv.specs.TableText.{IsTableOf, column_for, table_columns}
-use Rattle.vtl_expr.specs.DataSets.{data_set, with_structure}
+use Rattle.vtl_sets.specs.DataSets.{data_set, with_structure}
+use Rattle.vtl_sets.specs.TableOf.{IsTableOf, column_for, table_columns}
 
 -- what is answered is a table of the structure, where the points that are meant are those of a data set
 pub answered_is_table : (s : Structure) (r : Result Listed ScalarErr) (m : Outcome (List Row)) → IfOk r (λ t. t.columns ≡ table_columns s) → AnswersBy (λ t. t.rows) r m → ((out : List Row) → m ≡ Ok out → IsDataSet s out) → IfOk r (IsTableOf s)
