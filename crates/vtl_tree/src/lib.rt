@@ -14,5 +14,5 @@ pub use evaluation::eval;
 pub use expression::{AggCall, CompExpr};
 pub use laws::{filter_is_a_clause, points_are_a_map};
 pub use seen::Seen;
-pub use structure::{Component, Role, Structure};
+pub use structure::{Component, Role, Structure, is_same_role};
 pub use structures::{Structures, are_distinct};

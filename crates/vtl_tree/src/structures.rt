@@ -28,7 +28,10 @@ pub struct Structures {
 // Written out, so that a proof above sees one call and not the drop of each part.
 impl Drop for Structures {
     fn drop(self) {
-        let Structures { by_name: _by_name, alloc: _alloc } = self;
+        let Structures {
+            by_name: _by_name,
+            alloc: _alloc,
+        } = self;
     }
 }
 
