@@ -2,6 +2,7 @@
 use Rattle.std.specs.Prelude.{ℕ, Bool, not, ◌||◌, ◌++◌, List, [], ◌∷◌, Option, Some, None, Result, Ok, Err, map, filter, find, length, nat_eq, is_none, if◌then◌else◌}
 use Rattle.std.specs.List.{list_any, list_all}
 use Rattle.std.specs.Prelude.{unwrap_or}
+use Rattle.vtl_cell.specs.Kinds.{same_kind}
 use Rattle.vtl_cell.specs.declared.kind.Kind.{Kind}
 use Rattle.vtl_cell.specs.declared.kind.Kind.TheVariants as k
 use Rattle.vtl_text.specs.Words.{is_component_name}
@@ -10,7 +11,6 @@ use Rattle.vtl_tree.specs.declared.structure.Role.TheVariants as role
 use Rattle.vtl_tree.specs.declared.structure.Component.{Component}
 use Rattle.vtl_tree.specs.declared.structure.Structure.{Structure}
 use Rattle.check_shapes.specs.Choices.{chosen, is_identifier_name}
-use Rattle.check_shapes.specs.Kinds.{same_kind}
 use Rattle.check_shapes.specs.Measures.{made, measures}
 use Rattle.check_shapes.specs.Names.{component_of, is_among, known}
 use Rattle.check_faults.specs.Rules.{◌>>=◌, ruled, Tests}

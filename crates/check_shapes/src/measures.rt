@@ -7,13 +7,13 @@ ghost use Rattle.check_shapes.specs.Measures.{any_unmet, bool_var as bool_measur
 
 use crate::choices::push_chosen;
 use crate::counting::count_measures;
-use crate::names::{component_of, is_role};
+use crate::names::component_of;
 use crate::{Choice, shaped};
 use check_faults::{TypeErr, broken};
 use std::alloc::{AllocError, Global};
 use vtl_cell::Kind;
 use vtl_text::Txt;
-use vtl_tree::{Component, Role, Structure, share_component};
+use vtl_tree::{Component, Role, Structure, is_same_role, share_component};
 
 /// An operator on measures, by the kinds that it takes and gives.
 pub trait Operator {
@@ -44,7 +44,7 @@ pub enum Outcome {
 pub(crate) fn is_measure(component: &Component) -> bool
     ensures { result ≡ is_measure component.now }
 {
-    is_role(component.role, Role::Measure)
+    is_same_role(component.role, Role::Measure)
 }
 
 /// Adds the measures, in their order.

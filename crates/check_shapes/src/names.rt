@@ -1,14 +1,13 @@
 // Names of components, as an operator asks for them.
 ghost use Rattle.std.specs.Option.{option_copied};
 ghost use Rattle.std.specs.Prelude.{◌≡◌, [], ◌∷◌};
-ghost use Rattle.vtl_tree.specs.Structure.{same_name, same_role};
 ghost use Rattle.check_faults.specs.Answers.{Answers};
 ghost use Rattle.check_faults.specs.Rules.{ruled};
 ghost use Rattle.check_shapes.specs.Names.{all_known, component_of, is_among, known, serves};
 
 use check_faults::{TypeErr, broken};
 use vtl_text::Txt;
-use vtl_tree::{Component, Role};
+use vtl_tree::{Component, Role, is_same_role};
 
 /// The role that a place asks of a component.
 #[derive(Clone, Copy, Debug, PartialEq, Eq)]
@@ -21,17 +20,6 @@ pub enum Wanted {
     Measure,
     /// A measure or an attribute.
     Value,
-}
-
-pub(crate) fn is_role(role: Role, wanted: Role) -> bool
-    ensures { result ≡ same_role role wanted }
-{
-    match (role, wanted) {
-        (Role::Identifier, Role::Identifier) => true,
-        (Role::Measure, Role::Measure) => true,
-        (Role::Attribute, Role::Attribute) => true,
-        _ => false,
-    }
 }
 
 /// Whether a name is among others.
@@ -58,9 +46,9 @@ fn serves(wanted: Wanted, role: Role) -> bool
 {
     match wanted {
         Wanted::Any => true,
-        Wanted::Identifier => is_role(role, Role::Identifier),
-        Wanted::Measure => is_role(role, Role::Measure),
-        Wanted::Value => !is_role(role, Role::Identifier),
+        Wanted::Identifier => is_same_role(role, Role::Identifier),
+        Wanted::Measure => is_same_role(role, Role::Measure),
+        Wanted::Value => !is_same_role(role, Role::Identifier),
     }
 }
 

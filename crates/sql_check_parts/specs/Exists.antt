@@ -2,8 +2,8 @@
 use Rattle.std.specs.Prelude.{ℕ, Bool, true, false, not, ◌&&◌, List, [], ◌∷◌, ◌++◌, Option, option_and_then, if◌then◌else◌}
 use Rattle.std.specs.List.{flat_map}
 use Rattle.std.specs.Option.{is_none}
+use Rattle.vtl_cell.specs.Kinds.{same_kind}
 use Rattle.vtl_cell.specs.declared.kind.Kind.{Kind}
-use Rattle.vtl_cell.specs.declared.kind.Kind.TheVariants as k
 use Rattle.sql_tree.specs.Trees.{Text}
 use Rattle.sql_tree.specs.declared.parts.Column.{Column}
 use Rattle.sql_tree.specs.declared.parts.Equality.{Equality}
@@ -29,16 +29,6 @@ kind_inside s i c = if is_inner i c then option_and_then (λ columns. kind_among
 -- a column of the inner source is known (3); one of an outer source besides is one of GROUP BY in a group (8)
 abbrev pub side_breaks : Scope → Option Grouping → Inner → Column → List ℕ
 side_breaks s g i c = broken ((3, is_none (kind_inside s i c)) ∷ (8, not (is_inner i c) && is_ungrouped g c) ∷ [])
-
-abbrev pub same_kind : Kind → Kind → Bool
-same_kind k.Null k.Null = true
-same_kind k.Bool k.Bool = true
-same_kind k.Int k.Int = true
-same_kind k.Num k.Num = true
-same_kind k.Text k.Text = true
-same_kind k.Day k.Day = true
-same_kind k.Period k.Period = true
-same_kind a b = false
 
 abbrev pub same_side : Bool → Bool → Bool
 same_side true b = b

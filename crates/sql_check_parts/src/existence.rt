@@ -1,7 +1,7 @@
 // EXISTS.
 ghost use Rattle.std.specs.List.{flat_map};
 ghost use Rattle.std.specs.Prelude.{◌≡◌, ◌&&◌, not, option_and_then, IfOk};
-ghost use Rattle.sql_check_parts.specs.Exists.{equality_breaks, exists_breaks, inner_of, is_inner, is_tie, kind_inside, same_kind, same_side, side_breaks};
+ghost use Rattle.sql_check_parts.specs.Exists.{equality_breaks, exists_breaks, inner_of, is_inner, is_tie, kind_inside, same_side, side_breaks};
 ghost use Rattle.sql_check_parts.specs.Rules.{least};
 ghost use Rattle.sql_check_parts.specs.Scopes.{kind_among};
 ghost use Rattle.sql_check_parts.specs.Windows.{is_ungrouped};
@@ -11,7 +11,7 @@ use crate::{Columns, Grouping, Scope, Tables, least_broken, lesser, or_null};
 use sql_tree::{Column, Equality, Source};
 use std::alloc::AllocError;
 use std::marker::Model;
-use vtl_cell::Kind;
+use vtl_cell::{Kind, is_same_kind};
 use vtl_text::Txt;
 
 // The source of EXISTS: its alias, and the columns of its table, if there is one.
@@ -92,21 +92,6 @@ fn side_fault(
     Ok(least_broken(&[(3, is_unknown), (8, ungrouped)]))
 }
 
-fn same_kind(a: Kind, b: Kind) -> bool
-    ensures { result ≡ same_kind a b }
-{
-    match (a, b) {
-        (Kind::Null, Kind::Null) => true,
-        (Kind::Bool, Kind::Bool) => true,
-        (Kind::Int, Kind::Int) => true,
-        (Kind::Num, Kind::Num) => true,
-        (Kind::Text, Kind::Text) => true,
-        (Kind::Day, Kind::Day) => true,
-        (Kind::Period, Kind::Period) => true,
-        _ => false,
-    }
-}
-
 // Whether an equality is of one column of the inner source and one of an outer source, and of one kind.
 fn is_tie(scope: &Scope, inner: &InnerSource, equality: &Equality) -> bool
     ensures { result ≡ is_tie scope.now inner.now equality.now }
@@ -114,7 +99,7 @@ fn is_tie(scope: &Scope, inner: &InnerSource, equality: &Equality) -> bool
     let left = or_null(kind_inside(scope, inner, &equality.left));
     let right = or_null(kind_inside(scope, inner, &equality.right));
     let apart = is_inner(inner, &equality.left) != is_inner(inner, &equality.right);
-    apart && same_kind(left, right)
+    apart && is_same_kind(left, right)
 }
 
 #[tactic(auto, using(crate::proofs::Least::least_append))]

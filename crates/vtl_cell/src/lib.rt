@@ -18,7 +18,7 @@ mod row;
 mod writing;
 
 pub use cell::{Cell, clone_cell, compare, hashes_tell_apart, is_same, order_is_lawful};
-pub use kind::Kind;
+pub use kind::{Kind, is_same_kind};
 pub use laws::{
     frames_lie_between_their_bounds, groups_have_no_order, least_and_greatest_are_bounds,
 };

@@ -18,5 +18,5 @@ pub use copies::{share_codes, share_component, share_structure};
 pub use declarable::is_declarable;
 pub use expression::{AggCall, CompExpr};
 pub use laws::{filter_is_a_clause, points_are_a_map};
-pub use structure::{Component, Role, Structure};
+pub use structure::{Component, Role, Structure, is_same_role};
 pub use structures::{MAX_COMPONENTS, Structures};
