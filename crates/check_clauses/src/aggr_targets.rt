@@ -18,7 +18,7 @@ ghost use Rattle.check_clauses.specs.TargetsView.{AnswersLeft};
 
 use crate::Made;
 use crate::targets::role_of;
-use check_faults::{TypeErr, broken};
+use check_faults::{Rule, TypeErr, broken};
 use check_groups::{grouping_choice, grouping_names};
 use check_operators::{Typed, made_node};
 use check_shapes::{Choice, Target, is_among, is_identifier};
@@ -45,7 +45,7 @@ fn is_target(name: &Txt, done: &[Made]) -> bool
 pub fn aggr_name(done: &[Made], component: &Comp) -> Result<(), TypeErr>
     ensures { Answers (λ done. done) result (aggr_name done.now component.now) }
 {
-    broken(5, is_target(name(component), done))
+    broken(Rule::RepeatedName, is_target(name(component), done))
 }
 
 fn is_aggregate(e: &Expr) -> bool
@@ -63,7 +63,7 @@ fn call_in(is_call: bool, e: CompExpr) -> Result<(AggCall, Kind), TypeErr>
 {
     match e.aggregate() {
         Some(call) if is_call => Ok(call),
-        _ => Err(TypeErr::Broken(15)),
+        _ => Err(TypeErr::Broken(Rule::AggregateMisuse)),
     }
 }
 

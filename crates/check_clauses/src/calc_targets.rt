@@ -11,7 +11,7 @@ ghost use Rattle.check_clauses.specs.Targets.{calc_clause, calc_name, calc_tree,
 ghost use Rattle.check_clauses.specs.TargetsView.{AnswersLeft, items_view};
 
 use crate::targets::role_of;
-use check_faults::{TypeErr, broken};
+use check_faults::{Rule, TypeErr, broken};
 use check_groups::given_kind;
 use check_operators::made_node;
 use check_shapes::{Target, component_of, is_identifier_name};
@@ -39,9 +39,9 @@ pub fn calc_name(operand: &Node, done: &[CalcItem], component: &Comp) -> Result<
     ensures { Answers (λ done. done) result (calc_name (node_tree operand.now) (map item_tree done.now) component.now) }
 {
     let name = name(component);
-    broken(5, is_target(name, done))?;
+    broken(Rule::RepeatedName, is_target(name, done))?;
     broken(
-        6,
+        Rule::WrongRole,
         is_identifier_name(operand.structure.components.as_slice(), name),
     )
 }

@@ -9,7 +9,7 @@ ghost use Rattle.check_clauses.specs.JoinOperands.{alias_of, aliases_in, new_ali
 ghost use Rattle.check_clauses.specs.JoinView.{operands_view, part_view, parts_view};
 ghost use Rattle.check_clauses.specs.TargetsView.{AnswersLeft};
 
-use check_faults::{TypeErr, broken};
+use check_faults::{Rule, TypeErr, broken};
 use check_operators::Typed;
 use std::alloc::Global;
 use vtl_nodes::JoinOperand;
@@ -30,7 +30,7 @@ fn own_alias(e: &Expr) -> Result<&Txt, TypeErr>
 {
     match e {
         Expr::Component(Comp::Name(name)) => Ok(name),
-        _ => Err(TypeErr::Broken(21)),
+        _ => Err(TypeErr::Broken(Rule::JoinMisuse)),
     }
 }
 
@@ -59,7 +59,7 @@ fn new_alias(done: &[Part], written: &Expr, alias: &Option<Txt>) -> Result<Txt, 
     ensures { Answers (λ alias. alias) result (new_alias (map part_view done.now) (expr_tree written.now) alias.now) }
 {
     let alias = alias_of(written, alias)?;
-    broken(5, is_alias(alias, done))?;
+    broken(Rule::RepeatedName, is_alias(alias, done))?;
     Ok(alias.share()?)
 }
 

@@ -2,5 +2,7 @@
 #![tactic(auto)]
 
 mod error;
+mod rules;
 
 pub use error::{TypeErr, broken};
+pub use rules::Rule;

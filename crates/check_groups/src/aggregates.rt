@@ -15,7 +15,7 @@ ghost use Rattle.check_groups.specs.Aggregates.{agg_kind, aggregate_node, compon
 use crate::groups::grouping_of;
 use crate::kinds::{agg_kind, aggregate_kind, call_kind, is_unfit};
 use crate::{grouping_choice, grouping_names};
-use check_faults::{TypeErr, broken};
+use check_faults::{Rule, TypeErr, broken};
 use check_operators::{Inside, Place, Typed, WrittenName, made_of, name_written, written_in};
 use check_shapes::{Operator, Outcome, measured};
 use check_values::{column, kind};
@@ -69,9 +69,9 @@ fn group_call_by(
     ensures { Answers typed_tree result (group_call_by function component grouped kind) }
 {
     let Some(kind) = kind else {
-        return Err(TypeErr::Broken(7));
+        return Err(TypeErr::Broken(Rule::WrongKind));
     };
-    broken(15, grouped)?;
+    broken(Rule::AggregateMisuse, grouped)?;
     Ok(group_call(function, component, kind))
 }
 
@@ -198,13 +198,13 @@ fn count_call(function: AggregateName, grouped: bool) -> Result<Typed, TypeErr>
     group_call_by(function, None, grouped, call_kind(function, None))
 }
 
-fn misuse_rule(place: &Place, unfit: bool, grouped: bool) -> u8
+fn misuse_rule(place: &Place, unfit: bool, grouped: bool) -> Rule
     ensures { result ≡ misuse_rule place.now unfit grouped }
 {
     match place {
-        _ if unfit => 7,
-        Place::Inside(_) if !grouped => 15,
-        _ => 14,
+        _ if unfit => Rule::WrongKind,
+        Place::Inside(_) if !grouped => Rule::AggregateMisuse,
+        _ => Rule::DatasetOrValue,
     }
 }
 
@@ -223,6 +223,6 @@ pub fn no_dataset(
             Err(TypeErr::Broken(misuse_rule(place, unfit, grouped)))
         }
         None if is_group(place) => count_call(function, grouped),
-        None => Err(TypeErr::Broken(7)),
+        None => Err(TypeErr::Broken(Rule::WrongKind)),
     }
 }

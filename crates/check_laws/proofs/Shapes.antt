@@ -1,5 +1,5 @@
 -- The structures that forms give.
-use Rattle.std.proofs.Common.{◌≡◌, ℕ, Bool, true, false, cond, ◌&&◌, List, [], ◌∷◌, ◌++◌, length, Result, refl, ap, ◌∙◌}
+use Rattle.std.proofs.Common.{◌≡◌, Bool, true, false, cond, ◌&&◌, List, [], ◌∷◌, ◌++◌, length, Result, refl, ap, ◌∙◌}
 use Rattle.std.proofs.lemmas.Bool.{false≢true}
 use Rattle.std.proofs.lemmas.List.{append-nil}
 use Rattle.std.proofs.lemmas.List.Elements.{filter-append}
@@ -7,6 +7,7 @@ use Rattle.std.specs.List.{AllByRecursion, filter}
 use Rattle.std.specs.Prelude.{nat_eq, nat_lt}
 use Rattle.vtl_lists.specs.Apart.{all_apart}
 use Rattle.check_faults.specs.Rules.{◌>>=◌}
+use Rattle.check_faults.specs.declared.rules.Rule.{Rule}
 use Rattle.vtl_tree.specs.Structure.{columns_of, names_of, of_role, same_name, same_role}
 use Rattle.vtl_tree.specs.Structures.{is_null_kind, structure_of}
 use Rattle.vtl_tree.specs.declared.structure.Component.{Component}
@@ -38,7 +39,7 @@ shaped-gives P xs f = tested P (result_tests xs) (structure_of xs) (λ passed. f
         }
 
 -- whatever the components are
-pub any-shaped : {A : Type 0} (r : Result A ℕ) (f : A → List Component) → Gives IsShaped (r >>= λ x. shaped (f x))
+pub any-shaped : {A : Type 0} (r : Result A Rule) (f : A → List Component) → Gives IsShaped (r >>= λ x. shaped (f x))
 any-shaped r f = after IsShaped r (λ x. shaped (f x)) (λ x. shaped-gives IsShaped (f x) (λ is. is))
 
 -- ---- filters

@@ -13,7 +13,7 @@ ghost use Rattle.check_operators.specs.Typed.{boxed_tree, typed_tree, typed_tree
 
 use crate::Typed;
 use crate::typed::made_of;
-use check_faults::TypeErr;
+use check_faults::{Rule, TypeErr};
 use check_shapes::{Choice, Wanted, choose_known, exists_in, set_operator};
 use check_values::name;
 use std::alloc::{AllocError, Global};
@@ -70,7 +70,7 @@ fn set_structure(alloc: Global, nodes: &[Node]) -> Result<Structure, TypeErr>
             let others = structures_in(alloc, others)?;
             set_operator(alloc, &first.structure, &others)
         }
-        [] => Err(TypeErr::Broken(14)),
+        [] => Err(TypeErr::Broken(Rule::DatasetOrValue)),
     }
 }
 
@@ -148,7 +148,7 @@ fn level(profile: &Profile, digits: &Option<Txt>) -> Result<Option<i64>, TypeErr
     match digits {
         Some(digits) => match integer_written(profile, digits) {
             Some(level) => Ok(Some(level)),
-            None => Err(TypeErr::Broken(8)),
+            None => Err(TypeErr::Broken(Rule::WrongLiteral)),
         },
         None => Ok(None),
     }

@@ -11,7 +11,7 @@ ghost use Rattle.vtl_tree.specs.View.{comp_exp_of};
 ghost use Rattle.check_values.specs.Kinds.{exp_kind};
 ghost use Rattle.check_operators.specs.Typed.{beside_kind, boxed_tree, condition_in, dataset_in, made_of, typed_tree, value_in};
 
-use check_faults::TypeErr;
+use check_faults::{Rule, TypeErr};
 use check_values::kind;
 use std::alloc::Global;
 use vtl_cell::Kind;
@@ -35,7 +35,7 @@ impl Typed {
     {
         match self {
             Typed::Value(e) => Ok(e),
-            Typed::Dataset(_) => Err(TypeErr::Broken(14)),
+            Typed::Dataset(_) => Err(TypeErr::Broken(Rule::DatasetOrValue)),
         }
     }
 
@@ -44,7 +44,7 @@ impl Typed {
         ensures { Answers boxed_tree result (dataset_in (typed_tree self)) }
     {
         match self {
-            Typed::Value(_) => Err(TypeErr::Broken(14)),
+            Typed::Value(_) => Err(TypeErr::Broken(Rule::DatasetOrValue)),
             Typed::Dataset(node) => Ok(node),
         }
     }
@@ -95,12 +95,12 @@ pub fn made_of(alloc: Global, structure: Structure, form: NodeForm) -> Result<Ty
 }
 
 fn boolean(e: CompExpr) -> Result<CompExpr, TypeErr>
-    ensures { Answers comp_exp_of result (ruled ((7, not (meets Kind.Bool (exp_kind (comp_exp_of e)))) ∷ []) (comp_exp_of e)) }
+    ensures { Answers comp_exp_of result (ruled ((Rule.WrongKind, not (meets Kind.Bool (exp_kind (comp_exp_of e)))) ∷ []) (comp_exp_of e)) }
 {
     if meets(Kind::Bool, kind(&e)) {
         Ok(e)
     } else {
-        Err(TypeErr::Broken(7))
+        Err(TypeErr::Broken(Rule::WrongKind))
     }
 }
 
@@ -110,6 +110,6 @@ pub fn condition(condition: Typed) -> Result<CompExpr, TypeErr>
 {
     match condition {
         Typed::Value(e) => boolean(e),
-        Typed::Dataset(_) => Err(TypeErr::Broken(14)),
+        Typed::Dataset(_) => Err(TypeErr::Broken(Rule::DatasetOrValue)),
     }
 }

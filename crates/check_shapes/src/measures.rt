@@ -10,7 +10,7 @@ use crate::copies::share_component;
 use crate::counting::count_measures;
 use crate::names::{component_of, is_role};
 use crate::{Choice, shaped};
-use check_faults::{TypeErr, broken};
+use check_faults::{Rule, TypeErr, broken};
 use std::alloc::{AllocError, Global};
 use vtl_cell::Kind;
 use vtl_text::Txt;
@@ -211,9 +211,12 @@ pub fn measured<F: Operator>(
     ensures { Answers (λ s. s) result (measured_form outcome (F.gives operator.now) literals choice names.now structure.now.components) }
 {
     let components = structure.components.as_slice();
-    broken(7, any_unmet(operator, None, components))?;
-    broken(8, !literals)?;
-    broken(10, is_miscounted(outcome, count_measures(components)))?;
+    broken(Rule::WrongKind, any_unmet(operator, None, components))?;
+    broken(Rule::WrongLiteral, !literals)?;
+    broken(
+        Rule::MeasuresDisagree,
+        is_miscounted(outcome, count_measures(components)),
+    )?;
     let mut out = Vec::new(alloc);
     push_chosen(&mut out, choice, names, components)?;
     push_given(alloc, &mut out, outcome, operator, None, components)?;

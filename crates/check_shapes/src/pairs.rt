@@ -15,7 +15,7 @@ use crate::operands::{
     Compared, agree, all_agree, all_meet, has_one_measure, is_there, is_within, push_identifiers,
 };
 use crate::{Operator, Outcome, shaped};
-use check_faults::{TypeErr, broken};
+use check_faults::{Rule, TypeErr, broken};
 use std::alloc::{AllocError, Global};
 use vtl_cell::Kind;
 use vtl_tree::{Component, Role, Structure};
@@ -60,11 +60,14 @@ pub fn pair<F: Operator>(
 {
     let ours = left.components.as_slice();
     let theirs = right.components.as_slice();
-    broken(7, any_unmet(operator, Some(theirs), ours))?;
-    broken(9, !(contains(left, right) || contains(right, left)))?;
+    broken(Rule::WrongKind, any_unmet(operator, Some(theirs), ours))?;
+    broken(
+        Rule::IdentifiersDisagree,
+        !(contains(left, right) || contains(right, left)),
+    )?;
     let is_named_alike = agree(Compared::Names, Role::Measure, ours, theirs);
     broken(
-        10,
+        Rule::MeasuresDisagree,
         !is_named_alike || is_miscounted(outcome, count_measures(ours)),
     )?;
     let mut out = Vec::new(alloc);
@@ -113,9 +116,9 @@ pub fn choose_by(
     ensures { Answers (λ s. s) result (if_form condition.now then.now other.now) }
 {
     let conditions = condition.components.as_slice();
-    broken(7, !all_meet(Kind::Bool, conditions))?;
+    broken(Rule::WrongKind, !all_meet(Kind::Bool, conditions))?;
     broken(
-        9,
+        Rule::IdentifiersDisagree,
         !all_agree(
             Compared::Kinds,
             Role::Identifier,
@@ -123,7 +126,7 @@ pub fn choose_by(
             &[then, other],
         ),
     )?;
-    broken(10, !are_choices(condition, then, other))?;
+    broken(Rule::MeasuresDisagree, !are_choices(condition, then, other))?;
     with_measures(alloc, condition, &[then, other], then)
 }
 
@@ -138,11 +141,11 @@ pub fn set_operator(
 {
     let components = first.components.as_slice();
     broken(
-        9,
+        Rule::IdentifiersDisagree,
         !all_agree(Compared::Kinds, Role::Identifier, components, others),
     )?;
     broken(
-        10,
+        Rule::MeasuresDisagree,
         !all_agree(Compared::Kinds, Role::Measure, components, others),
     )?;
     with_measures(alloc, first, others, first)
@@ -189,7 +192,7 @@ pub fn exists_in(alloc: Global, left: &Structure, right: &Structure) -> Result<S
 {
     let components = left.components.as_slice();
     broken(
-        9,
+        Rule::IdentifiersDisagree,
         !any_common(right, components) || any_at_odds(right, components),
     )?;
     let mut out = Vec::new(alloc);
@@ -259,11 +262,11 @@ fn check_beside(
 {
     let components = structure.components.as_slice();
     broken(
-        9,
+        Rule::IdentifiersDisagree,
         !all_agree(Compared::Kinds, Role::Identifier, components, imbalance),
     )?;
     broken(
-        10,
+        Rule::MeasuresDisagree,
         !has_one_measure(Kind::Bool, components) || !have_one_number(imbalance),
     )?;
     checked(alloc, structure, imbalance)

@@ -12,7 +12,7 @@ use crate::measures::{made, push_measures};
 use crate::names::known;
 use crate::shape::names_of;
 use crate::{Choice, Wanted, shaped};
-use check_faults::{TypeErr, broken};
+use check_faults::{Rule, TypeErr, broken};
 use std::alloc::{AllocError, Global};
 use vtl_cell::Kind;
 use vtl_text::{Shared, Txt, is_component_name};
@@ -34,7 +34,7 @@ fn pivot_codes(component: &Component) -> Result<&[Txt], TypeErr>
 {
     match &component.codes {
         Some(texts) => Ok(texts.as_slice()),
-        None => Err(TypeErr::Broken(13)),
+        None => Err(TypeErr::Broken(Rule::NoCodes)),
     }
 }
 
@@ -76,7 +76,7 @@ pub fn pivot(
     let components = structure.components.as_slice();
     let texts = pivot_codes(known(Wanted::Identifier, components, &[], identifier)?)?;
     let kind = known(Wanted::Measure, components, &[], measure)?.kind;
-    broken(11, has_no_name(texts))?;
+    broken(Rule::RepeatedComponent, has_no_name(texts))?;
     let out = pivot_components(alloc, identifier, kind, texts, components)?;
     shaped(alloc, out)
 }
@@ -131,7 +131,7 @@ pub fn unpivot(
     let components = structure.components.as_slice();
     let mut measures = Vec::new(alloc);
     push_measures(&mut measures, components)?;
-    broken(10, are_unlike(&measures))?;
+    broken(Rule::MeasuresDisagree, are_unlike(&measures))?;
     let mut out = Vec::new(alloc);
     push_chosen(&mut out, Choice::Except, &[], components)?;
     out.push(names_column(alloc, identifier, &measures)?)?;

@@ -8,7 +8,7 @@ ghost use Rattle.vtl_tree.specs.declared.structure.Structure.{Structure as Colum
 ghost use Rattle.check_faults.specs.Answers.{Answers};
 ghost use Rattle.check_shapes.specs.Shape.{shaped};
 
-use check_faults::{TypeErr, broken};
+use check_faults::{Rule, TypeErr, broken};
 use std::alloc::{AllocError, Global};
 use vtl_cell::Kind;
 use vtl_text::{List, Txt};
@@ -50,12 +50,12 @@ pub fn shaped(alloc: Global, components: Vec<Component>) -> Result<Structure, Ty
     ensures { Answers (λ s. s) result (shaped components.items) }
 {
     let names = names_of(alloc, &components)?;
-    broken(11, !are_distinct(alloc, &names)?)?;
+    broken(Rule::RepeatedComponent, !are_distinct(alloc, &names)?)?;
     broken(
-        12,
+        Rule::ComponentCount,
         components.is_empty() || MAX_COMPONENTS < components.len(),
     )?;
-    broken(19, has_null(&components))?;
+    broken(Rule::NullKind, has_null(&components))?;
     Ok(Structure {
         components: List::of(components),
     })
