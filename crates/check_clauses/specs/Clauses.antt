@@ -96,7 +96,7 @@ renaming_form j n rs = renamings_typed j (components_in n) [] rs >>= renamed_of 
 abbrev pub cell_as : Settings → Kind → Option Cell → Option Cell
 cell_as p kind cell = option_and_then (λ c. result_ok (as_kind p kind c)) cell
 
--- an identifier's value: a literal of its kind (7) that has a value (8)
+-- an identifier's value: a literal of its kind that has a value
 abbrev pub sub_value : Settings → Kind → Literal → Result Cell Rule
 sub_value p kind l = wanted_or (still_wanted false kind (literal_kind l)) >>= λ wanted. valued (cell_as p kind (literal_cell p l))
 

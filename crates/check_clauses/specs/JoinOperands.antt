@@ -38,7 +38,7 @@ abbrev pub alias_of : Exp → Option (List ℕ) → Result (List ℕ) Rule
 alias_of e (Some alias) = Ok alias
 alias_of e None = own_alias e
 
--- the alias of one more operand behind others: it has one (21), which none before it has (5)
+-- the alias of one more operand behind others: it has one, which none before it has
 abbrev pub new_alias : List PartTyped → Exp → Option (List ℕ) → Result (List ℕ) Rule
 new_alias done e a = alias_of e a >>= λ alias. ruled ((rule.RepeatedName, is_among alias (aliases_in done)) ∷ []) alias
 
@@ -46,7 +46,7 @@ new_alias done e a = alias_of e a >>= λ alias. ruled ((rule.RepeatedName, is_am
 unfoldable pub with_part : List PartTyped → Exp → Option (List ℕ) → TypedTree → Result (List PartTyped) Rule
 with_part done e a x = new_alias done e a >>= λ alias. Ok (done ++ record { operand = x; alias = alias } ∷ [])
 
--- an operand has to be a data set (14)
+-- an operand has to be a data set
 abbrev pub operand_in : PartTyped → Result OperandTree Rule
 operand_in x = dataset_in x.operand >>= λ n. Ok (record { node = n; alias = x.alias })
 

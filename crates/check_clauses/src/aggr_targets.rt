@@ -41,7 +41,7 @@ fn is_target(name: &Txt, done: &[Made]) -> bool
     false
 }
 
-/// The name of a target of `aggr` behind others: it breaks rule 5 where it stands there.
+/// The name of a target of `aggr` behind others: it breaks `RepeatedName` where it stands there.
 pub fn aggr_name(done: &[Made], component: &Comp) -> Result<(), TypeErr>
     ensures { Answers (λ done. done) result (aggr_name done.now component.now) }
 {
@@ -84,7 +84,8 @@ fn made_as(
     Ok(Made { target, kind })
 }
 
-/// One more target of `aggr` behind others: it breaks rule 14 where it is a data set, and 15 where it is no aggregate call.
+/// One more target of `aggr` behind others: it breaks `DatasetOrValue` where it is a data set, and `AggregateMisuse` where it is
+/// no aggregate call.
 #[tactic(auto, unfolding(crate::specs::Targets::with_made))]
 pub fn push_made(
     done: &mut Vec<Made>,
@@ -240,7 +241,7 @@ fn grouped(
     Ok((structure, names))
 }
 
-/// `aggr`, behind its targets, its grouping and the condition of groups. It breaks rules 11, 12 and 19.
+/// `aggr`, behind its targets, its grouping and the condition of groups. It breaks `RepeatedComponent`, `ComponentCount` and `NullKind`.
 #[tactic(auto, unfolding(crate::specs::Targets::aggr_clause))]
 pub fn aggr(
     alloc: Global,

@@ -63,8 +63,8 @@ fn new_alias(done: &[Part], written: &Expr, alias: &Option<Txt>) -> Result<Txt, 
     Ok(alias.share()?)
 }
 
-/// One more operand behind others. It breaks rule 21 where it has no alias and is no plain name, and 5 where an operand before it
-/// has its alias.
+/// One more operand behind others. It breaks `JoinMisuse` where it has no alias and is no plain name, and `RepeatedName` where an
+/// operand before it has its alias.
 #[tactic(auto, unfolding(crate::specs::JoinOperands::with_part))]
 pub fn push_part(
     done: &mut Vec<Part>,
@@ -79,7 +79,7 @@ pub fn push_part(
     Ok(())
 }
 
-// A part as an operand: a value breaks rule 14.
+// A part as an operand: a value breaks `DatasetOrValue`.
 fn operand_of(part: Part) -> Result<JoinOperand, TypeErr>
     ensures { Answers operand_tree result (operand_in (part_view part)) }
 {
@@ -88,7 +88,7 @@ fn operand_of(part: Part) -> Result<JoinOperand, TypeErr>
     Ok(JoinOperand { node, alias })
 }
 
-/// The operands, which all have to be data sets (14).
+/// The operands, which all have to be data sets.
 #[tactic(auto, using(crate::proofs::OperandLemmas::behind_none))]
 pub fn operands(alloc: Global, parts: Vec<Part>) -> Result<Vec<JoinOperand>, TypeErr>
     ensures { Answers operands_view result (operands_in (parts_view parts)) }

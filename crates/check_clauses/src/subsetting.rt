@@ -117,7 +117,8 @@ fn subset(alloc: Global, operand: Box<Node>, items: Vec<SubItem>) -> Result<Box<
     made_node(alloc, structure, NodeForm::Sub { a: operand, values })
 }
 
-/// `sub`. A name breaks rules 4, 5 and 6, a literal 7 and 8, and the clause 12 where nothing is left.
+/// `sub`. A name breaks `UnknownComponent`, `RepeatedName` and `WrongRole`, a literal `WrongKind` and `WrongLiteral`, and the
+/// clause `ComponentCount` where nothing is left.
 #[tactic(auto, unfolding(crate::specs::Clauses::sub_form))]
 pub fn sub(
     alloc: Global,

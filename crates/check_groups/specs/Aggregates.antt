@@ -81,7 +81,7 @@ grouping_names (Some g) = map name_of g.names
 abbrev pub grouping_of : Option GroupPart → List Component → List (List ℕ)
 grouping_of g xs = names_of (chosen (grouping_choice g) (grouping_names g) xs)
 
--- the names of a grouping are those of identifiers (4, 5, 6)
+-- the names of a grouping are those of identifiers
 abbrev pub grouping_typed : List Component → Option GroupPart → Result (List (List ℕ)) Rule
 grouping_typed xs g = all_known wanted.Identifier xs (grouping_names g) >>= λ u. Ok (grouping_of g xs)
 
@@ -109,7 +109,7 @@ abbrev pub group_call_by : AggregateName → Option (List ℕ) → (grouped : Bo
 group_call_by f component grouped None = Err rule.WrongKind
 group_call_by f component grouped (Some kind) = ruled ((rule.AggregateMisuse, grouped) ∷ []) (tt {0}) >>= λ u. group_call f component kind
 
--- an aggregate of a component, in a target of `aggr` or in `having`: there it has no groups of its own (15)
+-- an aggregate of a component, in a target of `aggr` or in `having`: there it has no groups of its own
 abbrev pub component_call : Inside → AggregateName → (grouped : Bool) → List ℕ → Result TypedTree Rule
 component_call i f grouped name = column_typed name i.components >>= λ e. group_call_by f (Some name) grouped (call_kind f (Some (exp_kind e)))
 
@@ -127,8 +127,8 @@ group_operand (place.Inside i) (tree.some_exp e) = cond (is_some i.grouping) (op
 abbrev pub count_call : AggregateName → (grouped : Bool) → Result TypedTree Rule
 count_call f grouped = group_call_by f None grouped (call_kind f None)
 
--- The rule of an aggregate that is no operator on a data set. Its operand does not fit (7). Outside, a value stands where a data
--- set is needed (14); inside, groups need one too (14), and an aggregate of a component stands in `aggr` and `having` (15).
+-- The rule of an aggregate that is no operator on a data set. Its operand does not fit. Outside, a value stands where a data set
+-- is needed; inside, groups need one too, and an aggregate of a component stands in `aggr` and `having`.
 abbrev pub misuse_rule : Place → (unfit grouped : Bool) → Rule
 misuse_rule p true grouped = rule.WrongKind
 misuse_rule place.Outside false grouped = rule.DatasetOrValue

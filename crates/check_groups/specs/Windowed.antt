@@ -90,7 +90,7 @@ over_kind (tree.value_window f e o) kind = window_kind f kind
 over_kind (tree.shift f e n l o) kind = shift_kind l kind
 over_kind e kind = Some k.Int
 
--- the default of `lag` and `lead`: null, or a literal of the operand's kind (7) with a value (8)
+-- the default of `lag` and `lead`: null, or a literal of the operand's kind with a value
 abbrev pub default_typed : Settings → Kind → Option Literal → Result Cell Rule
 default_typed p kind None = Ok c.Null
 default_typed p kind (Some l) = wanted_or (still_wanted (is_null_kind kind) kind (literal_kind l)) >>= λ wanted. valued (literal_cell p l)
@@ -132,7 +132,7 @@ suits needed.Whole w = not (is_ordered w) && is_unframed w
 abbrev pub of_measure : Exp → Gives
 of_measure e a b = over_kind e a
 
--- a median, a count and a rank are no operators on data sets (16)
+-- a median, a count and a rank are no operators on data sets
 abbrev pub is_misplaced : Option AnalyticOp → Bool
 is_misplaced (Some op.Count) = true
 is_misplaced (Some op.Rank) = true
@@ -166,8 +166,8 @@ abbrev pub elsewhere_rule : Place → Option Kind → Rule
 elsewhere_rule place.Outside (Some kind) = rule.DatasetOrValue
 elsewhere_rule p kind = rule.AnalyticMisuse
 
--- the rule of an analytic call that is no whole target of `calc`: its operand does not fit (7); outside, a value stands where a
--- data set is needed (14); it stands elsewhere (16)
+-- the rule of an analytic call that is no whole target of `calc`: its operand does not fit; outside, a value stands where a data
+-- set is needed; or no such call may stand there
 abbrev pub misuse_rule : Place → Exp → Option Kind → Rule
 misuse_rule p e kind = cond (is_unfit_over e kind) rule.WrongKind (elsewhere_rule p kind)
 
@@ -216,12 +216,12 @@ argument e v = cond (is_component (operand_exp e)) (column_name v) None
 abbrev pub call_tree : AnalyticOp → Option (List ℕ) → Window → ValueTree
 call_tree o component w = nodes.analytic (record { op = o; component = component; window = w })
 
--- a call of a component: the window suits it (16); other operands, and a median, break 16
+-- a call of a component: the window suits it; other operands, and a median, break `AnalyticMisuse`
 abbrev pub call_of : Call → Option (List ℕ) → Window → Option AnalyticOp → Result ValueTree Rule
 call_of call (Some name) w (Some o) = ruled ((rule.AnalyticMisuse, not (suits call.needed w)) ∷ []) (call_tree o (Some name) w)
 call_of call named w o = Err rule.AnalyticMisuse
 
--- behind an operand that fits (7)
+-- behind an operand that fits
 abbrev pub value_call : Exp → CompExp → Call → Window → Result ValueTree Rule
 value_call e v call w = ruled ((rule.WrongKind, is_unfit_over e (Some (exp_kind v))) ∷ []) (tt {0}) >>= λ u. call_of call (argument e v) w call.op
 
@@ -237,7 +237,7 @@ given_kind op.Rank kind = k.Int
 given_kind op.RatioToReport kind = k.Num
 given_kind o kind = kind
 
--- where a value is needed an operator on a data set is typed, and then breaks 14
+-- where a value is needed an operator on a data set is typed, and then breaks `DatasetOrValue`
 abbrev pub target_form : Exp → Option TypedTree → Call → Window → Result ValueTree Rule
 target_form e (Some (dataset n)) call w = over_node e call w n >>= λ t. Err rule.DatasetOrValue
 target_form e (Some (value v)) call w = value_call e v call w

@@ -88,8 +88,8 @@ fn component_call(
     group_call_by(function, Some(name), grouped, given)
 }
 
-/// An aggregate of a component over groups, in a target of `aggr` or in `having`. It breaks rule 4, 7 where the component's kind
-/// does not fit, and 15 where it has groups of its own.
+/// An aggregate of a component over groups, in a target of `aggr` or in `having`. It breaks `UnknownComponent`, `WrongKind` where
+/// the component's kind does not fit, and `AggregateMisuse` where it has groups of its own.
 #[tactic(auto, unfolding(crate::specs::Aggregates::written_call))]
 pub fn written_call(
     alloc: Global,
@@ -165,8 +165,8 @@ fn aggregate_form(
     NodeForm::Aggregate { a: operand, spec }
 }
 
-/// An aggregate of each measure of a data set. It breaks rule 7 where the kind of a measure does not fit, and 12 where nothing is
-/// left.
+/// An aggregate of each measure of a data set. It breaks `WrongKind` where the kind of a measure does not fit, and
+/// `ComponentCount` where nothing is left.
 #[tactic(auto, unfolding(crate::specs::Aggregates::aggregate_node))]
 pub fn aggregate(
     alloc: Global,
@@ -208,7 +208,8 @@ fn misuse_rule(place: &Place, unfit: bool, grouped: bool) -> Rule
     }
 }
 
-/// An aggregate of no data set: over groups `count()` is the number of points; all else breaks rule 7, 14 or 15.
+/// An aggregate of no data set: over groups `count()` is the number of points; all else breaks `WrongKind`, `DatasetOrValue` or
+/// `AggregateMisuse`.
 pub fn no_dataset(
     place: &Place,
     function: AggregateName,

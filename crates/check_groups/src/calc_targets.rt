@@ -108,7 +108,7 @@ fn rank_call(call: &Call, window: Window) -> Result<CalcValue, TypeErr>
     }))
 }
 
-// Where a value is needed an operator on a data set is typed, and then breaks rule 14.
+// Where a value is needed an operator on a data set is typed, and then breaks `DatasetOrValue`.
 #[tactic(auto, unfolding(crate::specs::Windowed::over_node))]
 fn target_form(
     alloc: Global,

@@ -55,8 +55,8 @@ fn over_form(
     }
 }
 
-/// An analytic call that is no whole target of `calc`, behind its operand: a data set has its measures, anything else breaks rule
-/// 7, 14 or 16.
+/// An analytic call that is no whole target of `calc`, behind its operand: a data set has its measures, anything else breaks
+/// `WrongKind`, `DatasetOrValue` or `AnalyticMisuse`.
 #[tactic(auto, unfolding(crate::specs::Windowed::over_typed))]
 pub fn over(
     alloc: Global,

@@ -191,7 +191,7 @@ fn joined_components(
 
 /// The joined set of a join: the identifiers of the reference, in a cross join those of all operands, and then the other
 /// components operand by operand. A name that several operands hold is `alias'name` in it. Beside what the names behind `using`
-/// break, the join breaks rule 9 where the identifiers of its operands do not agree as it requires.
+/// break, the join breaks `IdentifiersDisagree` where the identifiers of its operands do not agree as it requires.
 pub fn join(
     alloc: Global,
     kind: JoinKind,
@@ -240,8 +240,8 @@ fn is_reference(kind: JoinKind, operands: &[Operand], alias: &Txt) -> bool
     }
 }
 
-/// The name in the joined set that `alias#name` stands for, by the names that the operands hold (`held_names`). It breaks rule 4
-/// where no operand has the alias or that operand does not hold the name.
+/// The name in the joined set that `alias#name` stands for, by the names that the operands hold (`held_names`). It breaks
+/// `UnknownComponent` where no operand has the alias or that operand does not hold the name.
 pub fn member(
     alloc: Global,
     kind: JoinKind,

@@ -229,8 +229,8 @@ fn takes_using(kind: JoinKind) -> bool
     }
 }
 
-/// The names behind `using`: one breaks rule 4 where no operand has it, 5 where it stands there already, and 6 where it is never
-/// an identifier. Behind them a join that takes no `using` breaks rule 21.
+/// The names behind `using`: one breaks `UnknownComponent` where no operand has it, `RepeatedName` where it stands there already,
+/// and `WrongRole` where it is never an identifier. Behind them a join that takes no `using` breaks `JoinMisuse`.
 pub(crate) fn check_using(
     kind: JoinKind,
     operands: &[Operand],

@@ -133,7 +133,7 @@ given_by given k.Period b = given.period
 abbrev pub of_two : ScalarOp → Gives
 of_two o a b = kinds_of o (a ∷ b ∷ [])
 
--- The structure of measures that meet an operator's row but for literals (7), and with the literals (8).
+-- The structure of measures that meet an operator's row but for literals, and with the literals.
 abbrev pub structure_by : Outcome → (counted given : Gives) → (literals : Bool) → List Component → Result Structure Rule
 structure_by o counted given literals xs =
     ruled ((rule.WrongKind, any_unmet counted None xs) ∷ (rule.WrongLiteral, any_unmet given None xs) ∷ []) (tt {0})
@@ -154,7 +154,7 @@ on_pair o a b = pairs.pair_form (outcome_of o) (of_two o) (structure_of a) (stru
 unfoldable pub on_choice : NodeTree → NodeTree → NodeTree → Result TypedTree Rule
 on_choice c a b = pairs.if_form (structure_of c) (structure_of a) (structure_of b) >>= made_of (choose c a b)
 
--- the rule of an operator that takes no data set where one stands: the number of operands is wrong (7), literals are missing (8)
+-- the rule of an operator that takes no data set where one stands, behind the number of operands and the literals
 abbrev pub misplaced_rule : (number literals : Bool) → Rule
 misplaced_rule false literals = rule.WrongKind
 misplaced_rule true false = rule.WrongLiteral

@@ -40,7 +40,8 @@ pub record Env : Type 0 where
 abbrev pub env_of : Scope → Env
 env_of s = record { settings = s.profile; known = s.known.entries }
 
--- a name where a data set is needed: an unknown one breaks 1, and a quoted one, which names a component, 14
+-- a name where a data set is needed: an unknown one breaks `UnknownDataset`, and a quoted one, which names a component,
+-- `DatasetOrValue`
 abbrev pub known_by : List ℕ → Option Structure → Result TypedTree Rule
 known_by name None = Err rule.UnknownDataset
 known_by name (Some s) = Ok (dataset (node s (named name)))
@@ -49,7 +50,7 @@ abbrev pub dataset_named : Named → Comp → Result TypedTree Rule
 dataset_named known (comp.Name name) = known_by name (lookup (same_name name) known)
 dataset_named known (comp.Quoted name) = Err rule.DatasetOrValue
 
--- in the condition of groups, and in a target of `aggr`, a component stands alone only where it is a grouping identifier (15)
+-- in the condition of groups, and in a target of `aggr`, a component stands alone only where it is a grouping identifier
 abbrev pub alone : Option (List (List ℕ)) → List ℕ → CompExp → Result TypedTree Rule
 alone None name e = of_value e
 alone (Some names) name e = ruled ((rule.AggregateMisuse, not (is_among name names)) ∷ []) (tt {0}) >>= λ u. of_value e
@@ -90,7 +91,8 @@ abbrev pub written_by : Reference → Written
 written_by (reference.Component c) = plainly c
 written_by (reference.Member alias c) = with_alias alias c
 
--- the name of the component; `alias#name` stands for a name of the joined set, and breaks 4 outside of a join's body
+-- the name of the component; `alias#name` stands for a name of the joined set, and breaks `UnknownComponent` outside of a join's
+-- body
 abbrev pub member_name : Option Joined → List ℕ → List ℕ → Result (List ℕ) Rule
 member_name None alias name = Err rule.UnknownComponent
 member_name (Some j) alias name = joins.member_form j.kind j.operands j.held alias name

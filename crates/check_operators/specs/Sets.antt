@@ -70,7 +70,7 @@ unfoldable pub exists_form : Option Retain → TypedTree → TypedTree → Resul
 exists_form r x y = dataset_in x >>= λ a. dataset_in y >>= λ b. pairs.exists_form (structure_of a) (structure_of b) >>= made_of (exists_in a b (unwrap_or r retain.All))
 
 -- ---- `check`
--- the level of an error: an integer in range (8)
+-- the level of an error: an integer in range
 abbrev pub level_read : Option ℤ → Result (Option ℤ) Rule
 level_read None = Err rule.WrongLiteral
 level_read (Some n) = Ok (Some n)

@@ -38,7 +38,7 @@ typed_trees v = map typed_tree v.items
 abbrev pub components_in : NodeTree → List Component
 components_in n = (structure_of n).components
 
--- where a value is needed a data set breaks 14, and where a data set is needed a value does
+-- where a value is needed a data set breaks `DatasetOrValue`, and where a data set is needed a value does
 abbrev pub value_in : TypedTree → Result CompExp Rule
 value_in (value e) = Ok e
 value_in (dataset n) = Err rule.DatasetOrValue
@@ -47,7 +47,7 @@ abbrev pub dataset_in : TypedTree → Result NodeTree Rule
 dataset_in (value e) = Err rule.DatasetOrValue
 dataset_in (dataset n) = Ok n
 
--- a condition is a value (14) and boolean (7)
+-- a condition is a boolean value
 abbrev pub condition_in : TypedTree → Result CompExp Rule
 condition_in x = value_in x >>= λ e. ruled ((rule.WrongKind, not (meets k.Bool (exp_kind e))) ∷ []) e
 

@@ -29,7 +29,7 @@ pub enum Typed {
 }
 
 impl Typed {
-    /// The value, where one is needed: a data set breaks rule 14.
+    /// The value, where one is needed: a data set breaks `DatasetOrValue`.
     pub fn value(self) -> Result<CompExpr, TypeErr>
         ensures { Answers comp_exp_of result (value_in (typed_tree self)) }
     {
@@ -39,7 +39,7 @@ impl Typed {
         }
     }
 
-    /// The data set, where one is needed: a value breaks rule 14.
+    /// The data set, where one is needed: a value breaks `DatasetOrValue`.
     pub fn dataset(self) -> Result<Box<Node>, TypeErr>
         ensures { Answers boxed_tree result (dataset_in (typed_tree self)) }
     {
@@ -104,7 +104,7 @@ fn boolean(e: CompExpr) -> Result<CompExpr, TypeErr>
     }
 }
 
-/// A condition: it breaks rule 14 where it is a data set, and 7 where its value is not boolean.
+/// A condition: it breaks `DatasetOrValue` where it is a data set, and `WrongKind` where its value is not boolean.
 pub fn condition(condition: Typed) -> Result<CompExpr, TypeErr>
     ensures { Answers comp_exp_of result (condition_in (typed_tree condition)) }
 {

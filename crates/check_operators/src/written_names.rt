@@ -94,7 +94,7 @@ fn member_name(
     }
 }
 
-/// The name of a component. `alias#name` stands for a name of the joined set; outside of a join's body it breaks rule 4.
+/// The name of a component. `alias#name` stands for a name of the joined set; outside of a join's body it breaks `UnknownComponent`.
 pub fn name_written(
     alloc: Global,
     joined: &Option<Joined>,

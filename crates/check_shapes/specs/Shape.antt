@@ -10,7 +10,7 @@ use Rattle.check_faults.specs.Rules.{ruled, Tests}
 use Rattle.check_faults.specs.declared.rules.Rule.{Rule}
 use Rattle.check_faults.specs.declared.rules.Rule.TheVariants as rule
 
--- the rules that every result can break: a name stands twice, there is no component or more than 64, a kind is that of null
+-- the rules that every result can break: a name stands twice, there is no component or too many, a kind is that of null
 abbrev pub result_tests : List Component → Tests
 result_tests xs =
     (rule.RepeatedComponent, not (all_apart same_name (names_of xs)))

@@ -46,9 +46,9 @@ fn push_pair_identifiers(
     }
 }
 
-/// An operator on the measures of two data sets. It breaks rule 7 where a measure and its namesake do not meet the operator's
-/// row, 9 where neither operand's identifiers contain the other's, and 10 where the names of the measures differ or their number
-/// is not the one that the operator asks for.
+/// An operator on the measures of two data sets. It breaks `WrongKind` where a measure and its namesake do not meet the
+/// operator's row, `IdentifiersDisagree` where neither operand's identifiers contain the other's, and `MeasuresDisagree` where
+/// the names of the measures differ or their number is not the one that the operator asks for.
 pub fn pair<F: Operator>(
     alloc: Global,
     outcome: Outcome,
@@ -105,8 +105,9 @@ fn are_choices(condition: &Structure, then: &Structure, other: &Structure) -> bo
         )
 }
 
-/// `if` on data sets. It breaks rule 7 where the measure of the condition is not boolean, 9 where the identifiers are not those of
-/// the condition, and 10 where the condition has not one measure, or the choices have none or not the same ones.
+/// `if` on data sets. It breaks `WrongKind` where the measure of the condition is not boolean, `IdentifiersDisagree` where the
+/// identifiers are not those of the condition, and `MeasuresDisagree` where the condition has not one measure, or the choices
+/// have none or not the same ones.
 pub fn choose_by(
     alloc: Global,
     condition: &Structure,
@@ -130,8 +131,8 @@ pub fn choose_by(
     with_measures(alloc, condition, &[then, other], then)
 }
 
-/// `union`, `intersect`, `setdiff` or `symdiff` of an operand and others. It breaks rule 9 where the identifiers are not the same,
-/// and 10 where the measures are not.
+/// `union`, `intersect`, `setdiff` or `symdiff` of an operand and others. It breaks `IdentifiersDisagree` where the identifiers
+/// are not the same, and `MeasuresDisagree` where the measures are not.
 pub fn set_operator(
     alloc: Global,
     first: &Structure,
@@ -186,7 +187,7 @@ fn any_at_odds(other: &Structure, components: &[Component]) -> bool
     false
 }
 
-/// `exists_in`. It breaks rule 9 where the operands have no identifier in common, or one under different kinds.
+/// `exists_in`. It breaks `IdentifiersDisagree` where the operands have no identifier in common, or one under different kinds.
 pub fn exists_in(alloc: Global, left: &Structure, right: &Structure) -> Result<Structure, TypeErr>
     ensures { Answers (λ s. s) result (exists_form left.now right.now) }
 {
@@ -272,8 +273,8 @@ fn check_beside(
     checked(alloc, structure, imbalance)
 }
 
-/// `check`, with an imbalance or without. It breaks rule 9 where the identifiers are not the same, and 10 where the operand has not
-/// one boolean measure, or the imbalance not one that is a number.
+/// `check`, with an imbalance or without. It breaks `IdentifiersDisagree` where the identifiers are not the same, and
+/// `MeasuresDisagree` where the operand has not one boolean measure, or the imbalance not one that is a number.
 pub fn check(
     alloc: Global,
     structure: &Structure,

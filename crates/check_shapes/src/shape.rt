@@ -44,8 +44,8 @@ pub(crate) fn names_of(alloc: Global, components: &[Component]) -> Result<Vec<Tx
     Ok(names)
 }
 
-/// The structure of these components, which are the result of an operator. They break rule 11 where a name stands twice, 12
-/// where there is none or more than 64, and 19 where one has the kind of null.
+/// The structure of these components, which are the result of an operator. They break `RepeatedComponent` where a name stands
+/// twice, `ComponentCount` where there is none or too many, and `NullKind` where one has the kind of null.
 pub fn shaped(alloc: Global, components: Vec<Component>) -> Result<Structure, TypeErr>
     ensures { Answers (λ s. s) result (shaped components.items) }
 {

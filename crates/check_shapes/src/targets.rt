@@ -27,8 +27,8 @@ pub struct Target {
     pub kind: Kind,
 }
 
-/// The name of a target of `calc`, behind the names of other targets. It breaks rule 5 where it stands there already, and 6
-/// where it is that of an identifier.
+/// The name of a target of `calc`, behind the names of other targets. It breaks `RepeatedName` where it stands there already, and
+/// `WrongRole` where it is that of an identifier.
 pub fn check_target(structure: &Structure, before: &[Txt], name: &Txt) -> Result<(), TypeErr>
     ensures { Answers (λ done. done) result (ruled (target_tests structure.now.components before.now name.now) tt) }
 {

@@ -21,8 +21,8 @@ abbrev pub or_null : Option Kind → Kind
 or_null (Some kind) = kind
 or_null None = k.Null
 
--- An operator on values: the operands that need not be literals meet its row (7), and so do the others (8), which are literals
--- in their intervals (8).
+-- An operator on values: the operands that need not be literals meet its row, and so do the others, which are literals in their
+-- intervals.
 abbrev pub call_form : ScalarOp → (literals : Bool) → List CompExp → Result CompExp Rule
 call_form op literals args =
     ruled

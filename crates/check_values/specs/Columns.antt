@@ -13,7 +13,7 @@ abbrev pub name_of : Comp → List ℕ
 name_of (comp.Name name) = name
 name_of (comp.Quoted name) = name
 
--- a component by its place among the columns, of which the first has this place; an unknown one breaks rule 4
+-- a component by its place among the columns, of which the first has this place; an unknown one breaks `UnknownComponent`
 abbrev pub column_from : List ℕ → ℕ → List Component → Result CompExp Rule
 column_from name place [] = Err rule.UnknownComponent
 column_from name place (x ∷ xs) = if same_name x.name name then Ok (column place x.name x.kind) else column_from name (suc place) xs

@@ -60,7 +60,7 @@ literal_kind (literal.String text) = k.Text
 literal_kind (literal.Boolean b) = k.Bool
 literal_kind (literal.Cast text kind) = cast_kind kind
 
--- a literal without a value breaks rule 8
+-- a literal without a value breaks `WrongLiteral`
 abbrev pub valued : Option Cell → Result Cell Rule
 valued (Some cell) = Ok cell
 valued None = Err rule.WrongLiteral
@@ -79,7 +79,7 @@ abbrev pub wanted_or : Option Kind → Result Kind Rule
 wanted_or (Some kind) = Ok kind
 wanted_or None = Err rule.WrongKind
 
--- the members of a set in order, behind those that are done: each of a kind that is wanted (7), and with a value (8)
+-- the members of a set in order, behind those that are done: each of a kind that is wanted, and with a value
 abbrev pub members_typed : Settings → (is_free : Bool) → Kind → List Cell → List Literal → Result (List Cell) Rule
 members_typed p is_free wanted done [] = Ok done
 members_typed p is_free wanted done (l ∷ ls) =

@@ -29,7 +29,7 @@ use Rattle.check_faults.specs.declared.rules.Rule.TheVariants as rule
 abbrev pub is_known : List ℕ → List Component → Bool
 is_known name columns = list_any (λ x. same_name x.name name) columns
 
--- a name behind others: it is that of a component (4), and not one of them (5)
+-- a name behind others: it is that of a component, and not one of them
 abbrev pub name_form : (known repeated : Bool) → Result (Unit {0}) Rule
 name_form known repeated = ruled ((rule.UnknownComponent, not known) ∷ (rule.RepeatedName, repeated) ∷ []) (tt {0})
 

@@ -26,11 +26,11 @@ most_nodes = 4096
 abbrev pub is_too_much : ℕ → NodeTree → Bool
 is_too_much before n = nat_lt most_nodes (before + count n)
 
--- the value of a statement: a data set (14)
+-- the value of a statement: a data set
 abbrev pub value_typed : Env → Exp → Result NodeTree Rule
 value_typed env e = typed env place.Outside e >>= dataset_in
 
--- a statement behind others with so many nodes: its name is new (2), its value a data set (14), and the nodes are few enough (20)
+-- a statement behind others with so many nodes: its name is new, its value a data set, and the nodes are few enough
 unfoldable pub assigned : Env → (before : ℕ) → List ℕ → Exp → Result NodeTree Rule
 assigned env before name e =
     ruled ((rule.NameTaken, has_name name env.known) ∷ []) (tt {0}) >>= λ u. value_typed env e
