@@ -13,7 +13,7 @@ use Rattle.check_faults.specs.declared.rules.Rule.{Rule}
 use Rattle.check_faults.specs.declared.rules.Rule.TheVariants as rule
 use Rattle.vtl_syntax.specs.Trees as tree
 use Rattle.vtl_syntax.specs.Trees.{Exp, ScriptTree}
-use Rattle.vtl_tree.specs.Structure.{IsStructure, names_of, same_name}
+use Rattle.vtl_tree.specs.Structure.{IsStructure, most_components, names_of, same_name}
 use Rattle.vtl_tree.specs.Structures.{AreStructures, Named, codes_fit, has_name, is_declarable, is_declarable_component, is_declarable_entry, is_null_kind}
 use Rattle.vtl_tree.proofs.StructuresLemmas.{not_found}
 use Rattle.vtl_tree.specs.declared.structure.Component.{Component}
@@ -48,11 +48,11 @@ component-kind x e = not-true (is_null_kind x.kind) (and-true (is_component_name
 
 declared-shaped : (s : Structure) → is_declarable s ≡ true → IsShaped s
 declared-shaped s e =
-    let three = and-true (nat_le 1 (length s.components) && nat_le (length s.components) 64 && all_apart same_name (names_of s.components)) (list_all is_declarable_component s.components) e in
-    let two = and-true (nat_le 1 (length s.components) && nat_le (length s.components) 64) (all_apart same_name (names_of s.components)) three.0 in
-    let one = and-true (nat_le 1 (length s.components)) (nat_le (length s.components) 64) two.0 in
+    let three = and-true (nat_le 1 (length s.components) && nat_le (length s.components) most_components && all_apart same_name (names_of s.components)) (list_all is_declarable_component s.components) e in
+    let two = and-true (nat_le 1 (length s.components) && nat_le (length s.components) most_components) (all_apart same_name (names_of s.components)) three.0 in
+    let one = and-true (nat_le 1 (length s.components)) (nat_le (length s.components) most_components) two.0 in
     record {
-      well_formed = record { some = leb-true 1 (length s.components) one.0; few = leb-true (length s.components) 64 one.1; distinct = two.1 };
+      well_formed = record { some = leb-true 1 (length s.components) one.0; few = leb-true (length s.components) most_components one.1; distinct = two.1 };
       kinds = lists.weaker (λ x. is_declarable_component x ≡ true) (λ x. is_null_kind x.kind ≡ false) s.components component-kind (lists.all_pass is_declarable_component s.components three.1);
     }
 

@@ -8,7 +8,7 @@ use Rattle.std.specs.Prelude.{nat_eq, nat_lt}
 use Rattle.vtl_lists.specs.Apart.{all_apart}
 use Rattle.check_faults.specs.Rules.{◌>>=◌}
 use Rattle.check_faults.specs.declared.rules.Rule.{Rule}
-use Rattle.vtl_tree.specs.Structure.{columns_of, names_of, of_role, same_name, same_role}
+use Rattle.vtl_tree.specs.Structure.{columns_of, most_components, names_of, of_role, same_name, same_role}
 use Rattle.vtl_tree.specs.Structures.{is_null_kind, structure_of}
 use Rattle.vtl_tree.specs.declared.structure.Component.{Component}
 use Rattle.vtl_tree.specs.declared.structure.Role.{Role}
@@ -28,11 +28,11 @@ pub shaped-gives : (P : Structure → Type 0) (xs : List Component) → (IsShape
 shaped-gives P xs f = tested P (result_tests xs) (structure_of xs) (λ passed. f (is passed))
   where
     is : ArePassed (result_tests xs) → IsShaped (structure_of xs)
-    is passed = let counts = or-false (nat_eq (length xs) 0) (nat_lt 64 (length xs)) passed.1.0 in
+    is passed = let counts = or-false (nat_eq (length xs) 0) (nat_lt most_components (length xs)) passed.1.0 in
         record {
           well_formed = record {
             some = nonzero (length xs) counts.0;
-            few = below 64 (length xs) counts.1;
+            few = below most_components (length xs) counts.1;
             distinct = not-false (all_apart same_name (names_of xs)) passed.0;
           };
           kinds = lists.any_fails (λ x. is_null_kind x.kind) xs passed.1.1.0;
