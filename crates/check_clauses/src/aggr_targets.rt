@@ -16,7 +16,7 @@ ghost use Rattle.check_clauses.specs.TargetsView.{AnswersLeft};
 
 use crate::Made;
 use crate::targets::role_of;
-use check_faults::{TypeErr, broken};
+use check_faults::{Rule, TypeErr, broken};
 use check_operators::{Typed, made_node};
 use check_shapes::Target;
 use check_values::{grouping_choice, grouping_names, grouping_of, name};
@@ -38,11 +38,11 @@ fn is_target(name: &Txt, done: &[Made]) -> bool
     false
 }
 
-/// The name of a target of `aggr` behind others: it breaks rule 5 where it stands there.
+/// The name of a target of `aggr` behind others: it breaks `RepeatedName` where it stands there.
 pub fn aggr_name(done: &[Made], component: &Comp) -> Result<(), TypeErr>
     ensures { Answers (λ done. done) result (aggr_name done.now component.now) }
 {
-    broken(5, is_target(name(component), done))
+    broken(Rule::RepeatedName, is_target(name(component), done))
 }
 
 fn is_aggregate(e: &Expr) -> bool
@@ -60,7 +60,7 @@ fn call_in(is_call: bool, e: CompExpr) -> Result<(AggCall, Kind), TypeErr>
 {
     match e.aggregate() {
         Some(call) if is_call => Ok(call),
-        _ => Err(TypeErr::Broken(15)),
+        _ => Err(TypeErr::Broken(Rule::AggregateMisuse)),
     }
 }
 
@@ -81,7 +81,8 @@ fn made_as(
     Ok(Made { target, kind })
 }
 
-/// One more target of `aggr` behind others: it breaks rule 14 where it is a data set, and 15 where it is no aggregate call.
+/// One more target of `aggr` behind others: it breaks `DatasetOrValue` where it is a data set, and `AggregateMisuse` where it is
+/// no aggregate call.
 #[tactic(auto, unfolding(crate::specs::Targets::with_made))]
 pub fn push_made(
     done: &mut Vec<Made>,
@@ -196,7 +197,7 @@ fn grouped(
     Ok((structure, names))
 }
 
-/// `aggr`, behind its targets, its grouping and the condition of groups. It breaks rules 11, 12 and 19.
+/// `aggr`, behind its targets, its grouping and the condition of groups. It breaks `RepeatedComponent`, `ComponentCount` and `NullKind`.
 #[tactic(auto, unfolding(crate::specs::Targets::aggr_clause))]
 pub fn aggr(
     alloc: Global,

@@ -7,5 +7,7 @@
 #![tactic(auto)]
 
 mod error;
+mod rules;
 
 pub use error::{TypeErr, broken};
+pub use rules::Rule;

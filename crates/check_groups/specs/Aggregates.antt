@@ -17,6 +17,8 @@ use Rattle.vtl_nodes.specs.Trees as nodes
 use Rattle.vtl_nodes.specs.Trees.{AggTree, NodeTree}
 use Rattle.vtl_nodes.specs.declared.specifications.AggItems.TheVariants as items
 use Rattle.check_faults.specs.Rules.{◌>>=◌, ruled}
+use Rattle.check_faults.specs.declared.rules.Rule.{Rule}
+use Rattle.check_faults.specs.declared.rules.Rule.TheVariants as rule
 use Rattle.check_shapes.specs.Measures.{Gives, measured_form}
 use Rattle.check_shapes.specs.declared.measures.Outcome.{Outcome}
 use Rattle.check_shapes.specs.declared.measures.Outcome.TheVariants as outcome
@@ -64,25 +66,25 @@ of_measure f a b = aggregate_kind f a
 abbrev pub aggregate_tree : AggregateName → Option GroupPart → NodeTree → Option CompExp → AggTree
 aggregate_tree f g a having = record { items = items.Measures (agg_kind f); grouping = grouping_of g (components_in a); having = having }
 
-unfoldable pub aggregate_node : AggregateName → Option GroupPart → NodeTree → Option CompExp → Result TypedTree ℕ
+unfoldable pub aggregate_node : AggregateName → Option GroupPart → NodeTree → Option CompExp → Result TypedTree Rule
 aggregate_node f g a having =
     measured_form (outcome_of f) (of_measure f) true (grouping_choice g) (grouping_names g) (components_in a)
     >>= made_of (nodes.aggregate a (aggregate_tree f g a having))
 
 -- ---- of a component over groups
-abbrev pub group_call : AggregateName → Option (List ℕ) → Kind → Result TypedTree ℕ
+abbrev pub group_call : AggregateName → Option (List ℕ) → Kind → Result TypedTree Rule
 group_call f component kind = of_value (exp.aggregate (record { kind = agg_kind f; component = component }) kind)
 
-abbrev pub group_call_by : AggregateName → Option (List ℕ) → (grouped : Bool) → Option Kind → Result TypedTree ℕ
-group_call_by f component grouped None = Err 7
-group_call_by f component grouped (Some kind) = ruled ((15, grouped) ∷ []) (tt {0}) >>= λ u. group_call f component kind
+abbrev pub group_call_by : AggregateName → Option (List ℕ) → (grouped : Bool) → Option Kind → Result TypedTree Rule
+group_call_by f component grouped None = Err rule.WrongKind
+group_call_by f component grouped (Some kind) = ruled ((rule.AggregateMisuse, grouped) ∷ []) (tt {0}) >>= λ u. group_call f component kind
 
--- an aggregate of a component, in a target of `aggr` or in `having`: there it has no groups of its own (15)
-abbrev pub component_call : Inside → AggregateName → (grouped : Bool) → List ℕ → Result TypedTree ℕ
+-- an aggregate of a component, in a target of `aggr` or in `having`: there it has no groups of its own
+abbrev pub component_call : Inside → AggregateName → (grouped : Bool) → List ℕ → Result TypedTree Rule
 component_call i f grouped name = column_typed name i.components >>= λ e. group_call_by f (Some name) grouped (call_kind f (Some (exp_kind e)))
 
 -- the component is written with an alias or without
-unfoldable pub written_call : Inside → AggregateName → (grouped : Bool) → Written → Result TypedTree ℕ
+unfoldable pub written_call : Inside → AggregateName → (grouped : Bool) → Written → Result TypedTree Rule
 written_call i f grouped w = name_written i.joined w >>= component_call i f grouped
 
 -- the component that an aggregate over groups is of, where it is of one
@@ -92,16 +94,16 @@ group_operand (place.Inside i) tree.no_exp = None
 group_operand (place.Inside i) (tree.some_exp e) = cond (is_some i.grouping) (option_map (λ w. (i, w)) (written_in e)) None
 
 -- the number of points
-abbrev pub count_call : AggregateName → (grouped : Bool) → Result TypedTree ℕ
+abbrev pub count_call : AggregateName → (grouped : Bool) → Result TypedTree Rule
 count_call f grouped = group_call_by f None grouped (call_kind f None)
 
--- The rule of an aggregate that is no operator on a data set. Its operand does not fit (7). Outside, a value stands where a data
--- set is needed (14); inside, groups need one too (14), and an aggregate of a component stands in `aggr` and `having` (15).
-abbrev pub misuse_rule : Place → (unfit grouped : Bool) → ℕ
-misuse_rule p true grouped = 7
-misuse_rule place.Outside false grouped = 14
-misuse_rule (place.Inside i) false true = 14
-misuse_rule (place.Inside i) false false = 15
+-- The rule of an aggregate that is no operator on a data set. Its operand does not fit. Outside, a value stands where a data set
+-- is needed; inside, groups need one too, and an aggregate of a component stands in `aggr` and `having`.
+abbrev pub misuse_rule : Place → (unfit grouped : Bool) → Rule
+misuse_rule p true grouped = rule.WrongKind
+misuse_rule place.Outside false grouped = rule.DatasetOrValue
+misuse_rule (place.Inside i) false true = rule.DatasetOrValue
+misuse_rule (place.Inside i) false false = rule.AggregateMisuse
 
 abbrev pub operand_kind : Option TypedTree → Option Kind
 operand_kind None = None
@@ -114,6 +116,6 @@ is_group place.Outside = false
 is_group (place.Inside i) = is_some i.grouping
 
 -- an aggregate of no data set; over groups `count()` is the number of points
-abbrev pub no_dataset : Place → AggregateName → (grouped : Bool) → Option Kind → Result TypedTree ℕ
+abbrev pub no_dataset : Place → AggregateName → (grouped : Bool) → Option Kind → Result TypedTree Rule
 no_dataset p f grouped (Some kind) = Err (misuse_rule p (is_unfit f (Some kind)) grouped)
-no_dataset p f grouped None = cond (is_group p) (count_call f grouped) (Err 7)
+no_dataset p f grouped None = cond (is_group p) (count_call f grouped) (Err rule.WrongKind)

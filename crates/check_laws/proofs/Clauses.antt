@@ -9,6 +9,8 @@ use Rattle.vtl_cell.specs.ScalarKinds.{meets}
 use Rattle.vtl_cell.specs.declared.kind.Kind.{Kind}
 use Rattle.vtl_cell.specs.declared.kind.Kind.TheVariants as k
 use Rattle.check_faults.specs.Rules.{◌>>=◌}
+use Rattle.check_faults.specs.declared.rules.Rule.{Rule}
+use Rattle.check_faults.specs.declared.rules.Rule.TheVariants as rule
 use Rattle.vtl_syntax.specs.declared.parts.Comp.{Comp}
 use Rattle.vtl_syntax.specs.declared.parts.GroupPart.{GroupPart}
 use Rattle.vtl_syntax.specs.declared.parts.Keeping.{Keeping}
@@ -63,9 +65,9 @@ use Rattle.check_laws.proofs.OtherForms.{aggr-shaped, calc-shaped, pivot-shaped,
 use Rattle.check_laws.proofs.Steps.{after, tested, then, weaker}
 use Rattle.check_laws.proofs.Tests.{not-false}
 
-pub node-gives : (env : Env) (form : FormTree) (r : Result Structure ℕ) → Gives (IsMadeWith env form) r → Gives (IsNode env.settings env.known) (r >>= made_of form)
+pub node-gives : (env : Env) (form : FormTree) (r : Result Structure Rule) → Gives (IsMadeWith env form) r → Gives (IsNode env.settings env.known) (r >>= made_of form)
 node-gives env form (Ok s) h = (h.0, (h.0.well_formed, h.1))
-node-gives env form (Err rule) h = tt
+node-gives env form (Err broken) h = tt
 
 -- ---- `filter`
 pub filter-gives : (env : Env) (j : Option Joined) (n : NodeTree) (x : TypedTree) → IsNode env.settings env.known n → IsWellTyped env (place.Inside (at_points j n)) x → Gives (IsNode env.settings env.known) (filter_form n x)
@@ -73,7 +75,7 @@ unfolding filter_form
 filter-gives env j n (dataset m) is h = tt
 filter-gives env j n (value e) is h =
     then (λ c. IsFiltered env.settings c (structure_of n) (structure_of n)) (IsNode env.settings env.known) (condition_in (value e)) (λ c. made_of (nodes.filter n c) (structure_of n))
-    (tested (λ c. IsFiltered env.settings c (structure_of n) (structure_of n)) ((7, not (meets k.Bool (exp_kind e))) ∷ []) e (λ passed. record { same = refl; condition = h; boolean = not-false (meets k.Bool (exp_kind e)) passed.0 }))
+    (tested (λ c. IsFiltered env.settings c (structure_of n) (structure_of n)) ((rule.WrongKind, not (meets k.Bool (exp_kind e))) ∷ []) e (λ passed. record { same = refl; condition = h; boolean = not-false (meets k.Bool (exp_kind e)) passed.0 }))
     (λ c fits. (is.0, (is.0.well_formed, (is.1, fits))))
 
 -- ---- `keep` and `drop`
@@ -196,7 +198,7 @@ pub calc-gives : (env : Env) (n : NodeTree) (items : List ItemTree) → IsNode e
 unfolding calc_clause
 calc-gives env n items is are = go (list_any is_analytic items) refl
   where
-    r : Result Structure ℕ
+    r : Result Structure Rule
     r = calc_form (map (target_of (components_in n)) items) (components_in n)
 
     go : (b : Bool) → list_any is_analytic items ≡ b → Gives (IsNode env.settings env.known) (r >>= made_of (cond b (nodes.analytic_of n (nodes.of_items items)) (nodes.calc n items)))

@@ -9,7 +9,7 @@ use crate::choices::push_chosen;
 use crate::counting::count_measures;
 use crate::names::component_of;
 use crate::{Choice, shaped};
-use check_faults::{TypeErr, broken};
+use check_faults::{Rule, TypeErr, broken};
 use std::alloc::{AllocError, Global};
 use vtl_cell::Kind;
 use vtl_text::Txt;
@@ -197,7 +197,8 @@ pub(crate) fn push_given<F: Operator>(
 }
 
 /// An operator on the measures of one data set: the identifiers that are chosen, then the measures that it gives. It breaks
-/// rule 7 where a measure does not meet the operator's row, 8 where operands that have to be literals are not, and 10 where the number of measures is not the one it asks for.
+/// `WrongKind` where a measure does not meet the operator's row, `WrongLiteral` where operands that have to be literals are not,
+/// and `MeasuresDisagree` where the number of measures is not the one it asks for.
 pub fn measured<F: Operator>(
     alloc: Global,
     outcome: Outcome,
@@ -210,9 +211,12 @@ pub fn measured<F: Operator>(
     ensures { Answers (λ s. s) result (measured_form outcome (F.gives operator.now) literals choice names.now structure.now.components) }
 {
     let components = structure.components.as_slice();
-    broken(7, any_unmet(operator, None, components))?;
-    broken(8, !literals)?;
-    broken(10, is_miscounted(outcome, count_measures(components)))?;
+    broken(Rule::WrongKind, any_unmet(operator, None, components))?;
+    broken(Rule::WrongLiteral, !literals)?;
+    broken(
+        Rule::MeasuresDisagree,
+        is_miscounted(outcome, count_measures(components)),
+    )?;
     let mut out = Vec::new(alloc);
     push_chosen(&mut out, choice, names, components)?;
     push_given(alloc, &mut out, outcome, operator, None, components)?;

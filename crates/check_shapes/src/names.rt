@@ -5,7 +5,7 @@ ghost use Rattle.check_faults.specs.Answers.{Answers};
 ghost use Rattle.check_faults.specs.Rules.{ruled};
 ghost use Rattle.check_shapes.specs.Names.{all_known, component_of, is_among, known, serves};
 
-use check_faults::{TypeErr, broken};
+use check_faults::{Rule, TypeErr, broken};
 use vtl_text::Txt;
 use vtl_tree::{Component, Role, is_same_role};
 
@@ -52,15 +52,16 @@ fn serves(wanted: Wanted, role: Role) -> bool
     }
 }
 
-/// A new name behind other names, as that of a target of `aggr` or an alias. It breaks rule 5 where it stands there already.
+/// A new name behind other names, as that of a target of `aggr` or an alias. It breaks `RepeatedName` where it stands there
+/// already.
 pub fn check_new_name(before: &[Txt], name: &Txt) -> Result<(), TypeErr>
-    ensures { Answers (λ done. done) result (ruled ((5, is_among name.now before.now) ∷ []) tt) }
+    ensures { Answers (λ done. done) result (ruled ((Rule.RepeatedName, is_among name.now before.now) ∷ []) tt) }
 {
-    broken(5, is_among(name, before))
+    broken(Rule::RepeatedName, is_among(name, before))
 }
 
-/// The component that a name stands for behind other names. The name breaks rule 4 where there is no such component, 5 where
-/// it stands there already, and 6 where the component's role is not the wanted one.
+/// The component that a name stands for behind other names. The name breaks `UnknownComponent` where there is no such component,
+/// `RepeatedName` where it stands there already, and `WrongRole` where the component's role is not the wanted one.
 pub fn known<'a>(
     wanted: Wanted,
     components: &'a [Component],
@@ -70,10 +71,10 @@ pub fn known<'a>(
     ensures { Answers (λ x. x.now) result (known wanted components.now before.now name.now) }
 {
     let Some(component) = component_of(name, components) else {
-        return Err(TypeErr::Broken(4));
+        return Err(TypeErr::Broken(Rule::UnknownComponent));
     };
-    broken(5, is_among(name, before))?;
-    broken(6, !serves(wanted, component.role))?;
+    broken(Rule::RepeatedName, is_among(name, before))?;
+    broken(Rule::WrongRole, !serves(wanted, component.role))?;
     Ok(component)
 }
 

@@ -7,7 +7,7 @@ ghost use Rattle.check_values.specs.Columns.{name_of};
 ghost use Rattle.check_values.specs.Windows.{bound_typed, frame_typed, is_falling, is_known, key_of, key_typed, name_form, or_none, order_typed, partition_typed, points_at, points_typed, unbounded_at, window_typed};
 
 use crate::name;
-use check_faults::TypeErr;
+use check_faults::{Rule, TypeErr};
 use std::alloc::{AllocError, Global};
 use vtl_decimal::Profile;
 use vtl_kinds::{LONGEST_REACH, integer_written};
@@ -53,9 +53,9 @@ fn named(known: bool, repeated: bool) -> Result<(), TypeErr>
     ensures { Answers (λ done. done) result (name_form known repeated) }
 {
     if !known {
-        Err(TypeErr::Broken(4))
+        Err(TypeErr::Broken(Rule::UnknownComponent))
     } else if repeated {
-        Err(TypeErr::Broken(5))
+        Err(TypeErr::Broken(Rule::RepeatedName))
     } else {
         Ok(())
     }
@@ -126,7 +126,7 @@ pub fn points(profile: &Profile, digits: &Txt) -> Result<u32, TypeErr>
 {
     match integer_written(profile, digits) {
         Some(n) if 0 <= n && n <= LONGEST_REACH => Ok(n as u32),
-        _ => Err(TypeErr::Broken(8)),
+        _ => Err(TypeErr::Broken(Rule::WrongLiteral)),
     }
 }
 

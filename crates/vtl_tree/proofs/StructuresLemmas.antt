@@ -16,7 +16,7 @@ use Rattle.vtl_lists.specs.Apart.{all_apart}
 use Rattle.vtl_tree.specs.declared.structure.Component.{Component}
 use Rattle.vtl_tree.specs.declared.structure.Structure.{Structure}
 use Rattle.vtl_text.proofs.Apart.{apart_push}
-use Rattle.vtl_tree.specs.Structure.{names_of, same_name}
+use Rattle.vtl_tree.specs.Structure.{names_of, same_name, most_components}
 use Rattle.vtl_tree.specs.Structures.{AreStructures, Named, are_declarable, components_of, Fits, has_name, is_declarable, is_declarable_component, is_declarable_entry, structure_of, with_component}
 
 -- a test that all pass is passed by each
@@ -112,18 +112,18 @@ one_is_declarable x e = and_from (is_declarable_component x) true e refl
 
 pub more_is_declarable : (xs : List Component) (x : Component) → are_declarable xs ≡ true → Fits x xs → are_declarable (xs ++ x ∷ []) ≡ true
 more_is_declarable xs x h f =
-    let parts = and_parts (nat_le 1 (length xs) && nat_le (length xs) 64 && all_apart same_name (names_of xs)) (list_all is_declarable_component xs) h in
-    let front = and_parts (nat_le 1 (length xs) && nat_le (length xs) 64) (all_apart same_name (names_of xs)) parts.0 in
-    let few : (nat_le 1 (length (xs ++ x ∷ [])) && nat_le (length (xs ++ x ∷ [])) 64) ≡ true = and_from (nat_le 1 (length (xs ++ x ∷ []))) (nat_le (length (xs ++ x ∷ [])) 64) (ap (nat_le 1) (length_push xs x) ∙ some (length xs)) (ap (λ n. nat_le n 64) (length_push xs x) ∙ below (length xs) f.2) in
-    and_from (nat_le 1 (length (xs ++ x ∷ [])) && nat_le (length (xs ++ x ∷ [])) 64 && all_apart same_name (names_of (xs ++ x ∷ []))) (list_all is_declarable_component (xs ++ x ∷ []))
-    (and_from (nat_le 1 (length (xs ++ x ∷ [])) && nat_le (length (xs ++ x ∷ [])) 64) (all_apart same_name (names_of (xs ++ x ∷ []))) few
+    let parts = and_parts (nat_le 1 (length xs) && nat_le (length xs) most_components && all_apart same_name (names_of xs)) (list_all is_declarable_component xs) h in
+    let front = and_parts (nat_le 1 (length xs) && nat_le (length xs) most_components) (all_apart same_name (names_of xs)) parts.0 in
+    let few : (nat_le 1 (length (xs ++ x ∷ [])) && nat_le (length (xs ++ x ∷ [])) most_components) ≡ true = and_from (nat_le 1 (length (xs ++ x ∷ []))) (nat_le (length (xs ++ x ∷ [])) most_components) (ap (nat_le 1) (length_push xs x) ∙ some (length xs)) (ap (λ n. nat_le n most_components) (length_push xs x) ∙ below (length xs) f.2) in
+    and_from (nat_le 1 (length (xs ++ x ∷ [])) && nat_le (length (xs ++ x ∷ [])) most_components && all_apart same_name (names_of (xs ++ x ∷ []))) (list_all is_declarable_component (xs ++ x ∷ []))
+    (and_from (nat_le 1 (length (xs ++ x ∷ [])) && nat_le (length (xs ++ x ∷ [])) most_components) (all_apart same_name (names_of (xs ++ x ∷ []))) few
     (ap (all_apart same_name) (names_push xs x) ∙ apart_push (names_of xs) x.name front.1 f.1))
     (all_push is_declarable_component xs x parts.1 f.0)
   where
     some : (n : ℕ) → nat_le 1 (suc n) ≡ true
     some n = grind (arith, nat_tests)
 
-    below : (n : ℕ) → n < 64 → nat_le (suc n) 64 ≡ true
+    below : (n : ℕ) → n < most_components → nat_le (suc n) most_components ≡ true
     below n l = grind (arith, nat_tests)
 
 keys_kept : (xs : Named) (name : List ℕ) (x : Component) → has_name name xs ≡ true → keys_of (with_component name x xs) ≡ keys_of xs
