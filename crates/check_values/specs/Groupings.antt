@@ -6,6 +6,7 @@ use Rattle.vtl_syntax.specs.declared.word_groups.GroupKind.TheVariants as group
 use Rattle.vtl_tree.specs.Structure.{names_of}
 use Rattle.vtl_tree.specs.declared.structure.Component.{Component}
 use Rattle.check_faults.specs.Rules.{◌>>=◌}
+use Rattle.check_faults.specs.declared.rules.Rule.{Rule}
 use Rattle.check_shapes.specs.Choices.{chosen}
 use Rattle.check_shapes.specs.Names.{all_known}
 use Rattle.check_shapes.specs.declared.choices.Choice.{Choice}
@@ -30,6 +31,6 @@ grouping_names (Some g) = map name_of g.names
 abbrev pub grouping_of : Option GroupPart → List Component → List (List ℕ)
 grouping_of g xs = names_of (chosen (grouping_choice g) (grouping_names g) xs)
 
--- the names of a grouping are those of identifiers (4, 5, 6)
-abbrev pub grouping_typed : List Component → Option GroupPart → Result (List (List ℕ)) ℕ
+-- the names of a grouping are those of identifiers
+abbrev pub grouping_typed : List Component → Option GroupPart → Result (List (List ℕ)) Rule
 grouping_typed xs g = all_known wanted.Identifier xs (grouping_names g) >>= λ u. Ok (grouping_of g xs)
