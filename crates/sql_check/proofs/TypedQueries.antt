@@ -16,7 +16,9 @@ use Rattle.sql_tree.specs.declared.statements.SqlExport.{SqlExport}
 use Rattle.sql_check_parts.specs.Queries.{item_name, lacks_kind, query_breaks, query_columns, query_names, shared_kinds}
 use Rattle.sql_check_parts.specs.Rules.{least}
 use Rattle.sql_check_parts.specs.Scopes.{Tables, columns_of, is_among, or_null, repeats}
-use Rattle.sql_check_parts.specs.Statements.{Given, IsTypedScript, after, fault_from, fault_or, nothing, order_fits, setting_breaks, settings_of, statement_breaks}
+use Rattle.sql_check_parts.specs.Statements.{Fault, Given, IsTypedScript, after, fault_from, fault_or, nothing, order_fits, setting_breaks, settings_of, statement_breaks}
+use Rattle.sql_check_parts.specs.declared.rules.SqlRule.{SqlRule}
+use Rattle.sql_check_parts.specs.declared.rules.SqlRule.TheVariants as rule
 use Rattle.sql_check_parts.proofs.Maps.{keys_all}
 use Rattle.sql_check_queries.proofs.Columns.{as_many, few_columns, kinds_told, names_differ}
 use Rattle.sql_check.specs.Laws.{AreColumns, given_by}
@@ -56,12 +58,12 @@ columns_are p tables q f h =
 breaks_none : (p : Settings) (n : ℕ) (given : Given) (before behind : List StatementTree) (s : StatementTree) → fault_from p n given (before ++ s ∷ behind) ≡ None → least (statement_breaks p (fold after given before) s) ≡ None
 breaks_none p n given [] behind s h = first n (least (statement_breaks p given s)) (fault_from p (suc n) (after given s) behind) h
   where
-    first : (n : ℕ) (o : Option ℕ) (rest : Option (ℕ × ℕ)) → fault_or n o rest ≡ None → o ≡ None
+    first : (n : ℕ) (o : Option SqlRule) (rest : Option Fault) → fault_or n o rest ≡ None → o ≡ None
     first n None rest e = refl
     first n (Some r) rest e = cc
 breaks_none p n given (b ∷ before) behind s h = breaks_none p (suc n) (after given b) before behind s (rest n (least (statement_breaks p given b)) (fault_from p (suc n) (after given b) (before ++ s ∷ behind)) h)
   where
-    rest : (n : ℕ) (o : Option ℕ) (r : Option (ℕ × ℕ)) → fault_or n o r ≡ None → r ≡ None
+    rest : (n : ℕ) (o : Option SqlRule) (r : Option Fault) → fault_or n o r ≡ None → r ≡ None
     rest n None r e = e
     rest n (Some x) r e = cc
 
@@ -73,8 +75,8 @@ pub exports_exist : (digits : Text) (rounding : Rounding) (before behind : List 
 exports_exist digits rounding before behind e h =
     let given = given_by before in
     let none = breaks_none (settings_of digits rounding) 2 nothing before behind (tree.export e) (rest (least (setting_breaks digits)) (fault_from (settings_of digits rounding) 2 nothing (before ++ tree.export e ∷ behind)) h) in
-    known (columns_of given.tables e.name) (holds_first 1 (is_none (columns_of given.tables e.name)) ((2, is_among e.name given.exported || not (is_word e.name)) ∷ (4, not (order_fits (columns_of given.tables e.name) e.order)) ∷ []) none).0
+    known (columns_of given.tables e.name) (holds_first rule.UnknownTable (is_none (columns_of given.tables e.name)) ((rule.MisnamedTable, is_among e.name given.exported || not (is_word e.name)) ∷ (rule.MisnamedColumn, not (order_fits (columns_of given.tables e.name) e.order)) ∷ []) none).0
   where
-    rest : (o : Option ℕ) (r : Option (ℕ × ℕ)) → fault_or 1 o r ≡ None → r ≡ None
+    rest : (o : Option SqlRule) (r : Option Fault) → fault_or 1 o r ≡ None → r ≡ None
     rest None r e = e
     rest (Some x) r e = cc
