@@ -68,11 +68,10 @@ broken_append (x ∷ xs) ys = go x.1 (broken_append xs ys)
     go false ih = ih
 
 -- one more test
-pub tests_taken : (tests : Tests) (i : ℕ) (d : SqlRule × Bool) (a : Option SqlRule) → i < length tests → a ≡ least (broken (take i tests)) → lesser a (least (broken (get_or tests i d ∷ []))) ≡ least (broken (take (i + 1) tests))
-tests_taken tests i d a h s =
-    let x = get_or tests i d in
+pub tests_taken : (tests : Tests) (i : ℕ) (x : SqlRule × Bool) (a : Option SqlRule) → i < length tests → x ≡ get_or tests i x → a ≡ least (broken (take i tests)) → lesser a (least (broken (x ∷ []))) ≡ least (broken (take (i + 1) tests))
+tests_taken tests i x a h e s =
     ap (λ b. lesser b (least (broken (x ∷ [])))) s
-    ∙ sym (ap (λ ys. least (broken ys)) (take_more tests i d h) ∙ ap least (broken_append (take i tests) (x ∷ [])) ∙ least_append (broken (take i tests)) (broken (x ∷ [])))
+    ∙ sym (ap (λ ys. least (broken ys)) (take_more tests i x h ∙ ap (λ y. take i tests ++ y ∷ []) (sym e)) ∙ ap least (broken_append (take i tests) (x ∷ [])) ∙ least_append (broken (take i tests)) (broken (x ∷ [])))
 
 -- the rules of the parts of two lists
 pub least_parts : {X : Type 0} (f : X → List SqlRule) (xs ys : List X) → least (flat_map f (xs ++ ys)) ≡ lesser (least (flat_map f xs)) (least (flat_map f ys))
