@@ -8,27 +8,24 @@ ghost use Rattle.check_faults.specs.Answers.{Answers};
 ghost use Rattle.vtl_syntax.specs.View.{expr_tree};
 ghost use Rattle.vtl_tree.specs.View.{comp_exp_of};
 ghost use Rattle.check_operators.specs.Typed.{boxed_tree, typed_tree};
-ghost use Rattle.check_groups.specs.Aggregates.{grouping_choice as choice_by, grouping_names as names_by, grouping_of};
-ghost use Rattle.check_shapes.specs.Choices.{chosen, is_chosen};
+ghost use Rattle.check_values.specs.Groupings.{grouping_choice as choice_by, grouping_names as names_by};
 ghost use Rattle.check_shapes.specs.Clauses.{aggr_form};
 ghost use Rattle.check_shapes.specs.Names.{is_among as among};
-ghost use Rattle.vtl_tree.specs.Structure.{names_of};
 ghost use Rattle.check_clauses.specs.Targets.{aggr_clause, aggr_name, call_in, grouped, is_aggregate, made_as, made_names, made_target, targets_in, with_made};
 ghost use Rattle.check_clauses.specs.TargetsView.{AnswersLeft};
 
 use crate::Made;
 use crate::targets::role_of;
 use check_faults::{TypeErr, broken};
-use check_groups::{grouping_choice, grouping_names};
 use check_operators::{Typed, made_node};
-use check_shapes::{Choice, Target, is_among, is_identifier};
-use check_values::name;
+use check_shapes::Target;
+use check_values::{grouping_choice, grouping_names, grouping_of, name};
 use std::alloc::{AllocError, Global};
 use vtl_cell::Kind;
 use vtl_nodes::{AggItems, AggSpec, AggTarget, Node, NodeForm};
 use vtl_syntax::{Comp, Expr, GroupPart, WrittenRole};
 use vtl_text::{List, Txt};
-use vtl_tree::{AggCall, CompExpr, Component, Structure};
+use vtl_tree::{AggCall, CompExpr, Structure};
 
 fn is_target(name: &Txt, done: &[Made]) -> bool
     ensures { result ≡ among name.now (made_names done.now) }
@@ -133,47 +130,6 @@ fn aggr_structure(
     check_shapes::aggr(alloc, grouping_choice(group), &names, structure, &targets)
 }
 
-fn is_chosen(choice: Choice, names: &[Txt], component: &Component) -> bool
-    ensures { result ≡ is_chosen choice names.now component.now }
-{
-    let is_listed = is_among(&component.name, names);
-    match choice {
-        Choice::Keep => is_identifier(component) || is_listed,
-        Choice::Drop => !is_listed,
-        Choice::By => is_identifier(component) && is_listed,
-        Choice::Except => is_identifier(component) && !is_listed,
-    }
-}
-
-fn chosen_names(
-    alloc: Global,
-    choice: Choice,
-    names: &[Txt],
-    components: &[Component],
-) -> Result<Vec<Txt>, AllocError>
-    ensures { IfOk result (λ v. v.items ≡ names_of (chosen choice names.now components.now)) }
-{
-    let mut out = Vec::new(alloc);
-    for component in components {
-        if is_chosen(choice, names, component) {
-            out.push(component.name.share()?)?;
-        }
-    }
-    Ok(out)
-}
-
-fn grouping_of(
-    alloc: Global,
-    group: &Option<GroupPart>,
-    components: &[Component],
-) -> Result<List<Txt>, AllocError>
-    ensures { IfOk result (λ names. names ≡ grouping_of group.now components.now) }
-{
-    let names = grouping_names(alloc, group)?;
-    let chosen = chosen_names(alloc, grouping_choice(group), &names, components)?;
-    Ok(List::of(chosen))
-}
-
 fn targets_in(alloc: Global, made: Vec<Made>) -> Result<Vec<AggTarget>, AllocError>
     ensures { IfOk result (λ v. v.items ≡ targets_in made.items) }
 {
@@ -236,7 +192,7 @@ fn grouped(
     ensures { Answers (λ of. of) result (grouped group.now (node_tree operand.now) made.now) }
 {
     let structure = aggr_structure(alloc, group, &operand.structure, made)?;
-    let names = grouping_of(alloc, group, operand.structure.components.as_slice())?;
+    let names = grouping_of(alloc, operand.structure.components.as_slice(), group)?;
     Ok((structure, names))
 }
 

@@ -12,10 +12,9 @@ ghost use Rattle.check_clauses.specs.TargetsView.{AnswersLeft, items_view};
 
 use crate::targets::role_of;
 use check_faults::{TypeErr, broken};
-use check_groups::given_kind;
 use check_operators::made_node;
 use check_shapes::{Target, component_of, is_identifier_name};
-use check_values::{kind, name};
+use check_values::{given_kind, kind, name};
 use std::alloc::{AllocError, Global};
 use vtl_cell::Kind;
 use vtl_nodes::{AnalyticSpec, CalcItem, CalcValue, Node, NodeForm};

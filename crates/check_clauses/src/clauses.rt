@@ -9,12 +9,12 @@ ghost use Rattle.check_clauses.specs.Clauses.{filter_form, keeping_choice, keepi
 
 use check_faults::TypeErr;
 use check_operators::{Joined, Typed, made_node, name_written, written_by};
-use check_shapes::{Choice, Wanted, choose, known, share_structure};
+use check_shapes::{Choice, Wanted, choose, known};
 use std::alloc::Global;
 use vtl_nodes::{Node, NodeForm};
 use vtl_syntax::{Keeping, Reference};
 use vtl_text::{List, Txt};
-use vtl_tree::Component;
+use vtl_tree::{Component, share_structure};
 
 /// `filter`. The condition breaks rules 7 and 14.
 #[tactic(auto, unfolding(crate::specs::Clauses::filter_form))]

@@ -16,13 +16,13 @@ use crate::renames::renamed;
 use check_faults::TypeErr;
 use check_joins::{Operand, held_names, join, last_renamings};
 use check_operators::{Joined, made_node};
-use check_shapes::{Renaming, component_of, share_structure};
+use check_shapes::{Renaming, component_of};
 use check_values::name;
 use std::alloc::{AllocError, Global};
 use vtl_nodes::{JoinOperand, JoinSpec, Node, NodeForm};
 use vtl_syntax::{Comp, JoinKind};
 use vtl_text::{List, Shared, Txt};
-use vtl_tree::{Component, Structure};
+use vtl_tree::{Component, Structure, share_structure};
 
 fn shape_of(alloc: Global, operand: &JoinOperand) -> Result<Operand, AllocError>
     ensures { IfOk result (λ o. o ≡ shape_of (operand_tree operand.now)) }

@@ -22,12 +22,12 @@ use check_clauses::{
     operands as joined_operands, pivot, push_item, push_made, push_part, renaming, sub, unpivot,
 };
 use check_faults::TypeErr;
-use check_groups::{aggregate, group_operand, grouping, no_dataset, over, target, written_call};
+use check_groups::{aggregate, group_operand, no_dataset, over, target, written_call};
 use check_operators::{
     Joined, Place, Scope, Typed, check, check_spec, condition, constant, difference, exists,
     groups, member, member_inside, name, operator, points, set, sets, written,
 };
-use check_values::{binary_operator, kind, unary_operator};
+use check_values::{binary_operator, grouping, kind, unary_operator};
 use std::alloc::{AllocError, Global};
 use vtl_cell::ScalarOp;
 use vtl_nodes::{CalcItem, CalcValue, JoinOperand, Node};

@@ -1,5 +1,5 @@
 -- Aggregates: of the measures of a data set, and of one component over groups.
-use Rattle.std.specs.Prelude.{ℕ, Bool, true, false, not, List, [], ◌∷◌, Option, Some, None, Result, Ok, Err, map, cond}
+use Rattle.std.specs.Prelude.{ℕ, Bool, true, false, not, List, [], ◌∷◌, Option, Some, None, Result, Ok, Err, cond}
 use Rattle.std.specs.Option.{is_some, option_map}
 use Rattle.vtl_kinds.specs.Aggregates as kinds
 use Rattle.vtl_cell.specs.declared.operator.AggKind.{AggKind}
@@ -11,25 +11,17 @@ use Rattle.vtl_syntax.specs.Trees.{MaybeExp}
 use Rattle.vtl_syntax.specs.declared.parts.GroupPart.{GroupPart}
 use Rattle.vtl_syntax.specs.declared.word_groups.AggregateName.{AggregateName}
 use Rattle.vtl_syntax.specs.declared.word_groups.AggregateName.TheVariants as aggregate
-use Rattle.vtl_syntax.specs.declared.word_groups.GroupKind.{GroupKind}
-use Rattle.vtl_syntax.specs.declared.word_groups.GroupKind.TheVariants as group
 use Rattle.vtl_tree.specs.CompExp as exp
 use Rattle.vtl_tree.specs.CompExp.{CompExp}
-use Rattle.vtl_tree.specs.Structure.{names_of}
-use Rattle.vtl_tree.specs.declared.structure.Component.{Component}
 use Rattle.vtl_nodes.specs.Trees as nodes
 use Rattle.vtl_nodes.specs.Trees.{AggTree, NodeTree}
 use Rattle.vtl_nodes.specs.declared.specifications.AggItems.TheVariants as items
 use Rattle.check_faults.specs.Rules.{◌>>=◌, ruled}
-use Rattle.check_shapes.specs.Choices.{chosen}
 use Rattle.check_shapes.specs.Measures.{Gives, measured_form}
-use Rattle.check_shapes.specs.Names.{all_known}
-use Rattle.check_shapes.specs.declared.choices.Choice.{Choice}
-use Rattle.check_shapes.specs.declared.choices.Choice.TheVariants as choice
 use Rattle.check_shapes.specs.declared.measures.Outcome.{Outcome}
 use Rattle.check_shapes.specs.declared.measures.Outcome.TheVariants as outcome
-use Rattle.check_shapes.specs.declared.names.Wanted.TheVariants as wanted
-use Rattle.check_values.specs.Columns.{column_typed, name_of}
+use Rattle.check_values.specs.Columns.{column_typed}
+use Rattle.check_values.specs.Groupings.{grouping_choice, grouping_names, grouping_of}
 use Rattle.check_values.specs.Kinds.{exp_kind}
 use Rattle.check_operators.specs.Typed.{TypedTree, value, dataset, components_in, made_of, of_value}
 use Rattle.check_operators.specs.Places.{Written, name_written, written_in}
@@ -60,28 +52,6 @@ call_kind f None = None
 abbrev pub is_unfit : AggregateName → Option Kind → Bool
 is_unfit f None = true
 is_unfit f (Some kind) = not (is_some (aggregate_kind f kind))
-
--- ---- the groups
-abbrev pub choice_of : GroupKind → Choice
-choice_of group.By = choice.By
-choice_of group.Except = choice.Except
-
--- how groups are formed: without names there is one group
-abbrev pub grouping_choice : Option GroupPart → Choice
-grouping_choice None = choice.By
-grouping_choice (Some g) = choice_of g.kind
-
-abbrev pub grouping_names : Option GroupPart → List (List ℕ)
-grouping_names None = []
-grouping_names (Some g) = map name_of g.names
-
--- the identifiers by which the groups are formed, in the operand's order
-abbrev pub grouping_of : Option GroupPart → List Component → List (List ℕ)
-grouping_of g xs = names_of (chosen (grouping_choice g) (grouping_names g) xs)
-
--- the names of a grouping are those of identifiers (4, 5, 6)
-abbrev pub grouping_typed : List Component → Option GroupPart → Result (List (List ℕ)) ℕ
-grouping_typed xs g = all_known wanted.Identifier xs (grouping_names g) >>= λ u. Ok (grouping_of g xs)
 
 -- ---- of each measure of a data set
 abbrev pub outcome_of : AggregateName → Outcome

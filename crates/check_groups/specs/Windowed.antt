@@ -226,15 +226,6 @@ value_call e v call w = ruled ((7, is_unfit_over e (Some (exp_kind v))) ∷ []) 
 abbrev pub rank_call : Call → Window → Result ValueTree ℕ
 rank_call call w = ruled ((16, not (suits call.needed w)) ∷ []) (call_tree op.Rank None w)
 
--- the kind that an analytic operator gives of values of a kind that it takes
-abbrev pub given_kind : AnalyticOp → Kind → Kind
-given_kind op.Sum kind = cond (meets k.Int kind) k.Int k.Num
-given_kind op.Avg kind = k.Num
-given_kind op.Count kind = k.Int
-given_kind op.Rank kind = k.Int
-given_kind op.RatioToReport kind = k.Num
-given_kind o kind = kind
-
 -- where a value is needed an operator on a data set is typed, and then breaks 14
 abbrev pub target_form : Exp → Option TypedTree → Call → Window → Result ValueTree ℕ
 target_form e (Some (dataset n)) call w = over_node e call w n >>= λ t. Err 14

@@ -10,15 +10,14 @@ ghost use Rattle.check_shapes.specs.Measures.{measured_form};
 ghost use Rattle.vtl_tree.specs.View.{comp_exp_of};
 ghost use Rattle.check_operators.specs.Places.{inside_view, written_in, written_view};
 ghost use Rattle.check_operators.specs.Typed.{boxed_tree, typed_tree};
-ghost use Rattle.check_groups.specs.Aggregates.{agg_kind, aggregate_node, component_call, count_call, group_call, group_call_by, group_operand, grouping_choice, grouping_names, is_group, misuse_rule, no_dataset, of_measure, outcome_of, written_call};
+ghost use Rattle.check_values.specs.Groupings.{grouping_choice, grouping_names};
+ghost use Rattle.check_groups.specs.Aggregates.{agg_kind, aggregate_node, component_call, count_call, group_call, group_call_by, group_operand, is_group, misuse_rule, no_dataset, of_measure, outcome_of, written_call};
 
-use crate::groups::grouping_of;
 use crate::kinds::{agg_kind, aggregate_kind, call_kind, is_unfit};
-use crate::{grouping_choice, grouping_names};
 use check_faults::{TypeErr, broken};
 use check_operators::{Inside, Place, Typed, WrittenName, made_of, name_written, written_in};
 use check_shapes::{Operator, Outcome, measured};
-use check_values::{column, kind};
+use check_values::{column, grouping_choice, grouping_names, grouping_of, kind};
 use std::alloc::Global;
 use vtl_cell::Kind;
 use vtl_nodes::{AggItems, AggSpec, Node, NodeForm};

@@ -4,7 +4,7 @@ use Rattle.std.specs.List.{list_any, list_all}
 use Rattle.std.specs.Option.{option_map_or}
 use Rattle.vtl_syntax.specs.declared.word_groups.JoinKind.{JoinKind}
 use Rattle.vtl_syntax.specs.declared.word_groups.JoinKind.TheVariants as join
-use Rattle.vtl_tree.specs.Structure.{names_of, same_name}
+use Rattle.vtl_tree.specs.Structure.{most_components, names_of, same_name}
 use Rattle.vtl_tree.specs.declared.structure.Role.TheVariants as role
 use Rattle.vtl_tree.specs.declared.structure.Component.{Component}
 use Rattle.vtl_tree.specs.declared.structure.Structure.{Structure}
@@ -157,7 +157,7 @@ using_form kind os (Some names) = using_behind os [] names >>= λ u. ruled ((21,
 abbrev pub join_tests : JoinKind → Option (List (List ℕ)) → List Operand → Tests
 join_tests kind listed os =
     (9, not (go_together kind listed os))
-    ∷ (12, nat_lt 64 (length (held_names kind os))) ∷ []
+    ∷ (12, nat_lt most_components (length (held_names kind os))) ∷ []
 
 -- a join: the structure of the joined set
 abbrev pub join_form : JoinKind → Option (List (List ℕ)) → List Operand → Result Structure ℕ

@@ -9,11 +9,11 @@ ghost use Rattle.check_joins.specs.Joins.{all_own, held_by, held_names, holds, i
 use crate::Operand;
 use crate::joins::{check_using, go_together, is_cross, reference};
 use check_faults::{TypeErr, broken};
-use check_shapes::{Renaming, component_of, is_identifier, push_identifiers, shaped, share_codes};
+use check_shapes::{Renaming, component_of, is_identifier, push_identifiers, shaped};
 use std::alloc::{AllocError, Global};
 use vtl_syntax::JoinKind;
 use vtl_text::{Txt, concat};
-use vtl_tree::{Component, Structure};
+use vtl_tree::{Component, MAX_COMPONENTS, Structure, share_codes};
 
 fn is_held(kind: JoinKind, component: &Component) -> bool
     ensures { result ≡ is_held kind component.now }
@@ -203,7 +203,7 @@ pub fn join(
     check_using(kind, operands, listed)?;
     broken(9, !go_together(kind, listed, operands))?;
     let held = held_names(alloc, kind, operands)?;
-    broken(12, 64 < held.len())?;
+    broken(12, MAX_COMPONENTS < held.len())?;
     let out = joined_components(alloc, kind, &held, operands)?;
     shaped(alloc, out)
 }

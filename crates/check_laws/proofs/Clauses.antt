@@ -38,13 +38,13 @@ use Rattle.check_shapes.specs.declared.names.Wanted.{Wanted}
 use Rattle.check_shapes.specs.declared.names.Wanted.TheVariants as wanted
 use Rattle.check_shapes.specs.declared.renaming.Renaming.{Renaming}
 use Rattle.check_values.specs.Columns.{name_of}
+use Rattle.check_values.specs.Groupings.{grouping_choice, grouping_names}
 use Rattle.check_values.specs.Kinds.{exp_kind}
 use Rattle.check_values.specs.Literals.{literal_cell, literal_kind, still_wanted, valued, wanted_or}
 use Rattle.check_operators.specs.Places.{Env, at_points, columns_in, name_written, written_by}
 use Rattle.check_operators.specs.Typed.{TypedTree, value, dataset, components_in, condition_in}
 use Rattle.check_operators.specs.declared.places.Joined.{Joined}
 use Rattle.check_operators.specs.declared.places.Place.TheVariants as place
-use Rattle.check_groups.specs.Aggregates.{grouping_choice, grouping_names}
 use Rattle.check_clauses.specs.Clauses.{cell_as, filter_form, kept_of, keeping_form, made_of, name_known, names_typed, pivot_of, references_in, renamed_of, renaming_form, renamings_typed, sub_form, sub_item, sub_known, sub_names, sub_of, sub_value, subs_typed, unpivot_of}
 use Rattle.check_clauses.specs.Targets.{aggr_clause, aggr_tree, calc_clause, calc_name, is_analytic, is_analytic_value, item_names, item_of, made_target, role_of, target_of, value_kind}
 use Rattle.check_clauses.specs.declared.targets.Made.{Made}

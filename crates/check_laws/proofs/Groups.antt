@@ -19,13 +19,14 @@ use Rattle.check_shapes.specs.Measures.{measured_form}
 use Rattle.check_shapes.specs.declared.choices.Choice.TheVariants as choice
 use Rattle.check_shapes.specs.declared.measures.Outcome.TheVariants as outcome
 use Rattle.check_values.specs.Columns.{column_typed}
+use Rattle.check_values.specs.Groupings.{grouping_choice, grouping_names}
 use Rattle.check_values.specs.Kinds.{exp_kind}
 use Rattle.check_operators.specs.Places.{Env, Written, name_written, written_in}
 use Rattle.check_operators.specs.Typed.{TypedTree, value, dataset, components_in}
 use Rattle.check_operators.specs.declared.places.Inside.{Inside}
 use Rattle.check_operators.specs.declared.places.Place.{Place}
 use Rattle.check_operators.specs.declared.places.Place.TheVariants as place
-use Rattle.check_groups.specs.Aggregates.{aggregate_node, aggregate_tree, call_kind, component_call, count_call, group_call, group_call_by, group_operand, grouping_choice, grouping_names, no_dataset, of_measure, outcome_of, written_call}
+use Rattle.check_groups.specs.Aggregates.{aggregate_node, aggregate_tree, call_kind, component_call, count_call, group_call, group_call_by, group_operand, no_dataset, of_measure, outcome_of, written_call}
 use Rattle.check_groups.specs.Windowed as windowed
 use Rattle.check_groups.specs.Windowed.{argument, call_of, call_tree, is_misplaced, is_unfit_over, or_count, over_form, over_node, over_parts, over_structure, over_typed, rank_call, suits, target_form, target_typed, value_call}
 use Rattle.check_groups.specs.declared.calls.Call.{Call}

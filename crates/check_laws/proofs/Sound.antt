@@ -14,6 +14,7 @@ use Rattle.vtl_syntax.specs.declared.parts.RenamePart.{RenamePart}
 use Rattle.vtl_syntax.specs.declared.word_groups.AggregateName.{AggregateName}
 use Rattle.vtl_nodes.specs.Trees as nodes
 use Rattle.vtl_nodes.specs.Trees.{ItemTree, NodeTree, OperandTree, ValueTree}
+use Rattle.check_values.specs.Groupings.{grouping_typed}
 use Rattle.check_values.specs.Kinds.{exp_kind}
 use Rattle.check_values.specs.Operators.{exps_length, of_binary, of_function, of_unary, takes}
 use Rattle.check_values.specs.Literals.{literals_fit}
@@ -26,7 +27,7 @@ use Rattle.check_operators.specs.Typed.{TypedTree, value, dataset, components_in
 use Rattle.check_operators.specs.declared.places.Joined.{Joined}
 use Rattle.check_operators.specs.declared.places.Place.{Place}
 use Rattle.check_operators.specs.declared.places.Place.TheVariants as place
-use Rattle.check_groups.specs.Aggregates.{aggregate_node, grouping_typed}
+use Rattle.check_groups.specs.Aggregates.{aggregate_node}
 use Rattle.check_groups.specs.Windowed.{over_typed, target_typed}
 use Rattle.check_clauses.specs.Clauses.{filter_form}
 use Rattle.check_clauses.specs.JoinOperands.{PartTyped, joined_node, joined_of, operands_in, with_part}

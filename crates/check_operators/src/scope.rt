@@ -9,7 +9,7 @@ ghost use Rattle.check_operators.specs.Typed.{typed_tree};
 use crate::typed::made_of;
 use crate::{Inside, Place, Typed};
 use check_faults::TypeErr;
-use check_shapes::{is_among, share_structure};
+use check_shapes::is_among;
 use check_values::{column, name as name_of};
 use indexmap::IndexMap;
 use std::alloc::Global;
@@ -17,7 +17,7 @@ use vtl_decimal::Profile;
 use vtl_nodes::NodeForm;
 use vtl_syntax::Comp;
 use vtl_text::{List, Txt};
-use vtl_tree::{CompExpr, Structure};
+use vtl_tree::{CompExpr, Structure, share_structure};
 
 /// How numbers are read, and the data sets that are known: the declared ones, and then the results so far.
 #[derive(Drop)]

@@ -2,7 +2,6 @@
 #![tactic(auto)]
 
 mod choices;
-mod copies;
 mod counting;
 mod kinds;
 mod measures;
@@ -15,7 +14,6 @@ mod shape;
 mod targets;
 
 pub use choices::{Choice, choose, choose_known, is_chosen, is_identifier, is_identifier_name};
-pub use copies::{share_codes, share_component, share_structure};
 pub use counting::count_role;
 pub use measures::{Operator, Outcome, any_unmet, measured};
 pub use names::{Wanted, check_names, check_new_name, component_of, is_among, known};

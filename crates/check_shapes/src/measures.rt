@@ -6,7 +6,6 @@ ghost use Rattle.check_faults.specs.Answers.{Answers};
 ghost use Rattle.check_shapes.specs.Measures.{any_unmet, bool_var as bool_measure, int_var as int_measure, given_measure, given_measures, is_measure, is_miscounted, is_unmet, made, measured_form, measures, namesake, paired};
 
 use crate::choices::push_chosen;
-use crate::copies::share_component;
 use crate::counting::count_measures;
 use crate::names::{component_of, is_role};
 use crate::{Choice, shaped};
@@ -14,7 +13,7 @@ use check_faults::{TypeErr, broken};
 use std::alloc::{AllocError, Global};
 use vtl_cell::Kind;
 use vtl_text::Txt;
-use vtl_tree::{Component, Role, Structure};
+use vtl_tree::{Component, Role, Structure, share_component};
 
 /// An operator on measures, by the kinds that it takes and gives.
 pub trait Operator {

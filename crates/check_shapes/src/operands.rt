@@ -5,7 +5,6 @@ ghost use Rattle.vtl_tree.specs.Shown.{shown};
 ghost use Rattle.check_shapes.specs.Operands.{agree, all_meet, agreed, agreed_identifiers, all_agree, has_one_measure, is_alike, is_coded_alike, is_there, is_within, same_codes};
 
 use crate::choices::is_identifier;
-use crate::copies::share_component;
 use crate::counting::count_measures;
 use crate::kinds::{is_same_kind, meets};
 use crate::measures::is_measure;
@@ -13,7 +12,7 @@ use crate::names::{component_of, is_role};
 use std::alloc::{AllocError, Global};
 use vtl_cell::Kind;
 use vtl_text::{Shared, Txt};
-use vtl_tree::{Component, Role, Structure};
+use vtl_tree::{Component, Role, Structure, share_component};
 
 /// How components of two operands are compared.
 #[derive(Clone, Copy, Debug, PartialEq, Eq)]

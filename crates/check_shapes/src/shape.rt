@@ -11,8 +11,8 @@ ghost use Rattle.check_shapes.specs.Shape.{shaped};
 use check_faults::{TypeErr, broken};
 use std::alloc::{AllocError, Global};
 use vtl_cell::Kind;
-use vtl_text::{List, Txt};
-use vtl_tree::{Component, Structure, are_distinct};
+use vtl_text::{List, Txt, are_distinct};
+use vtl_tree::{Component, MAX_COMPONENTS, Structure};
 
 fn is_null(kind: Kind) -> bool
     ensures { result ≡ is_null_kind kind }
@@ -51,7 +51,10 @@ pub fn shaped(alloc: Global, components: Vec<Component>) -> Result<Structure, Ty
 {
     let names = names_of(alloc, &components)?;
     broken(11, !are_distinct(alloc, &names)?)?;
-    broken(12, components.is_empty() || 64 < components.len())?;
+    broken(
+        12,
+        components.is_empty() || MAX_COMPONENTS < components.len(),
+    )?;
     broken(19, has_null(&components))?;
     Ok(Structure {
         components: List::of(components),

@@ -6,7 +6,6 @@ ghost use Rattle.check_shapes.specs.Clauses.{aggr_form, calc_form, calculated, i
 ghost use Rattle.check_faults.specs.Rules.{ruled};
 
 use crate::choices::{is_identifier_name, push_chosen};
-use crate::copies::share_component;
 use crate::measures::made;
 use crate::names::{component_of, is_among};
 use crate::{Choice, shaped};
@@ -14,7 +13,7 @@ use check_faults::{TypeErr, broken};
 use std::alloc::{AllocError, Global};
 use vtl_cell::Kind;
 use vtl_text::Txt;
-use vtl_tree::{Component, Role, Structure};
+use vtl_tree::{Component, Role, Structure, share_component};
 
 /// A target of `calc` or `aggr`, with the kind of its value.
 #[derive(Debug, Drop)]

@@ -21,7 +21,7 @@ use Rattle.vtl_nodes.specs.declared.calls.Frame.{Frame}
 use Rattle.vtl_nodes.specs.declared.calls.OrderKey.{OrderKey}
 use Rattle.vtl_nodes.specs.declared.calls.Window.{Window}
 use Rattle.check_values.specs.Columns.{name_of}
-use Rattle.vtl_kinds.specs.Literals.{integer_written}
+use Rattle.vtl_kinds.specs.Literals.{integer_written, longest_reach}
 use Rattle.check_faults.specs.Rules.{◌>>=◌, ruled}
 
 abbrev pub is_known : List ℕ → List Component → Bool
@@ -53,10 +53,10 @@ abbrev pub order_typed : List Component → List OrderKey → List OrderPart →
 order_typed columns done [] = Ok done
 order_typed columns done (o ∷ os) = key_typed columns done o >>= λ key. order_typed columns (done ++ key ∷ []) os
 
--- a number of points that digits write: at most 1,000,000, or rule 8 is broken
+-- a number of points that digits write, no farther than a frame or an offset may reach
 abbrev pub points_in : Option ℤ → Result ℕ ℕ
 points_in None = Err 8
-points_in (Some n) = if int_le (pos 0) n && int_le n (pos 1_000_000) then Ok (unsigned_abs n) else Err 8
+points_in (Some n) = if int_le (pos 0) n && int_le n longest_reach then Ok (unsigned_abs n) else Err 8
 
 abbrev pub points_typed : Settings → List ℕ → Result ℕ ℕ
 points_typed p digits = points_in (integer_written p digits)

@@ -10,7 +10,7 @@ use crate::name;
 use check_faults::TypeErr;
 use std::alloc::{AllocError, Global};
 use vtl_decimal::Profile;
-use vtl_kinds::{MOST_POINTS, integer_written};
+use vtl_kinds::{LONGEST_REACH, integer_written};
 use vtl_nodes::{Bound, Frame, OrderKey, Window};
 use vtl_syntax::{Comp, DataPoints, Direction, Limit, OrderPart, OverPart, Side};
 use vtl_text::{List, Txt};
@@ -125,7 +125,7 @@ pub fn points(profile: &Profile, digits: &Txt) -> Result<u32, TypeErr>
     ensures { Answers (λ n. n) result (points_typed profile.now digits.now) }
 {
     match integer_written(profile, digits) {
-        Some(n) if 0 <= n && n <= MOST_POINTS => Ok(n as u32),
+        Some(n) if 0 <= n && n <= LONGEST_REACH => Ok(n as u32),
         _ => Err(TypeErr::Broken(8)),
     }
 }

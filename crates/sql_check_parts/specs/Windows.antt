@@ -7,7 +7,7 @@ use Rattle.vtl_cell.specs.ScalarKinds.{meets}
 use Rattle.vtl_cell.specs.declared.kind.Kind.{Kind}
 use Rattle.vtl_cell.specs.declared.kind.Kind.TheVariants as k
 use Rattle.vtl_kinds.specs.Aggregates.{aggregate_kind, number_of}
-use Rattle.vtl_kinds.specs.Literals.{integer_written, lies_between, most_points}
+use Rattle.vtl_kinds.specs.Literals.{integer_written, lies_between, longest_reach}
 use Rattle.sql_tree.specs.Trees.{Text}
 use Rattle.sql_tree.specs.declared.parts.Column.{Column}
 use Rattle.sql_tree.specs.declared.parts.Literal.{Literal}
@@ -75,9 +75,9 @@ window_kind s w = or_null (call_kind s w.call)
 
 -- ---- literals
 
--- a number of rows, from 0 to 1,000,000
+-- a number of rows, as far as a frame or an offset may reach
 abbrev pub is_row_count : Settings → Text → Bool
-is_row_count p digits = lies_between (pos 0) most_points (integer_written p digits)
+is_row_count p digits = lies_between (pos 0) longest_reach (integer_written p digits)
 
 abbrev pub default_fits : Settings → Option Literal → Bool
 default_fits p None = true

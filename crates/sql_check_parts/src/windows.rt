@@ -12,7 +12,7 @@ use sql_tree::{Bound, Column, Frame, Literal, ValueFunction, Window, WindowCall,
 use std::alloc::{AllocError, Global};
 use vtl_cell::Kind;
 use vtl_decimal::Profile;
-use vtl_kinds::{MOST_POINTS, aggregate_kind, integer_written, lies_between, meets, number_of};
+use vtl_kinds::{LONGEST_REACH, aggregate_kind, integer_written, lies_between, meets, number_of};
 use vtl_text::Txt;
 
 // ---- columns
@@ -132,7 +132,7 @@ fn call_kind(scope: &Scope, call: &WindowCall) -> Option<Kind>
 fn is_row_count(profile: &Profile, digits: &Txt) -> bool
     ensures { result ≡ is_row_count profile.now digits.now }
 {
-    lies_between(0, MOST_POINTS, integer_written(profile, digits))
+    lies_between(0, LONGEST_REACH, integer_written(profile, digits))
 }
 
 fn default_fits(

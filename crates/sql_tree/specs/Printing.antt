@@ -1,6 +1,6 @@
 -- The tokens that a tree is written with: brackets stand only where the tree needs them.
 use Rattle.std.specs.Prelude.{ℕ, Bool, true, false, List, [], ◌∷◌, ◌++◌, nat_le, Option, None, Some}
-use Rattle.grammar_forms.specs.Forms.{given}
+use Rattle.vtl_lists.specs.Options.{given}
 use Rattle.grammar_forms.specs.Written.{between, run}
 use Rattle.sql_lexer.specs.declared.token.TokenKind.TheVariants as t
 use Rattle.sql_lexer.specs.declared.token.Word.{Word}

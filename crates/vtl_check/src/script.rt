@@ -15,11 +15,11 @@ use crate::known::{is_known, put};
 use check_expressions::typing;
 use check_faults::TypeErr;
 use check_operators::{Place, Scope};
-use check_shapes::share_structure;
 use std::alloc::{AllocError, Global};
 use vtl_nodes::Node;
 use vtl_syntax::{Expr, Statement};
 use vtl_text::Txt;
+use vtl_tree::share_structure;
 
 // The value of a statement, where it is a data set.
 fn value(alloc: Global, scope: &Scope, e: &Expr) -> Result<Box<Node>, TypeErr>

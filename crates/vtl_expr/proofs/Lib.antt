@@ -5,3 +5,5 @@ pub mod MeasureLemmas
 pub mod PairLemmas
 pub mod PointLemmas
 pub mod TableLemmas
+pub mod Values
+pub mod Walks

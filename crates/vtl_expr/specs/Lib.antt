@@ -1,4 +1,5 @@
 pub mod Choices
 pub mod DataSets
 pub mod Partners
+pub mod Seen
 pub mod Sides

@@ -7,12 +7,11 @@ ghost use Rattle.vtl_tree.specs.DataSet.{IsDataSet};
 ghost use Rattle.vtl_csv.specs.TableText.{IsTableOf};
 ghost use Rattle.vtl_expr.specs.DataSets.{data_set, with_structure};
 
-use check_shapes::share_structure;
 use std::alloc::{AllocError, Global};
 use std::marker::Model;
 use vtl_rows::{SharedTable, Table};
 use vtl_scalar::ScalarErr;
-use vtl_tree::Structure;
+use vtl_tree::{Structure, share_structure};
 
 /// A data set: its structure, and a table of its points with the structure's columns. A contract sees the structure and
 /// the list of the points.

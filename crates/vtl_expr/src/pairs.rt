@@ -6,7 +6,6 @@ ghost use Rattle.vtl_cell.specs.Row.{Row};
 ghost use Rattle.vtl_rows.specs.Tables.{fits};
 ghost use Rattle.vtl_scalar.specs.Answers.{Answers, AnswersBy};
 ghost use Rattle.vtl_tree.specs.DataSet.{IsDataSet};
-ghost use Rattle.vtl_tree.specs.Seen.{seen_of};
 ghost use Rattle.vtl_tree.specs.Structure.{IsStructure, columns_of};
 ghost use Rattle.vtl_tree.specs.View.{comp_exp_of};
 ghost use Rattle.vtl_csv.specs.TableText.{IsTableOf, table_columns};
@@ -16,6 +15,7 @@ ghost use Rattle.vtl_meaning.specs.Operators.{pair_of};
 ghost use Rattle.vtl_meaning.specs.Points.{each_point, paired, point_fault, point_of};
 ghost use Rattle.vtl_expr.specs.DataSets.{with_structure};
 ghost use Rattle.vtl_expr.specs.Partners.{AllFit, found, with_found};
+ghost use Rattle.vtl_expr.specs.Seen.{seen_of};
 
 use crate::DataSet;
 use crate::namesakes::{Side, namesake_exps};

@@ -10,7 +10,8 @@ use Rattle.vtl_syntax.specs.Trees.{Exp, PointRuleTree, StatementTree, assignment
 use Rattle.vtl_syntax.specs.declared.word_groups.AssignKind.{AssignKind}
 use Rattle.vtl_grammar.specs.Fits.{PointRuleFits, StatementFits, InGrammar}
 use Rattle.vtl_grammar.specs.Grammar.{Tokens, close_bracket, point_rule_onto, rules_onto, statement_onto, script_onto}
-use Rattle.vtl_grammar.specs.Reading.{given, after_keyword, after_sign}
+use Rattle.vtl_lists.specs.Options.{given}
+use Rattle.vtl_grammar.specs.Reading.{after_keyword, after_sign}
 use Rattle.vtl_grammar.specs.ReadStatements.{assignment_read, datapoint_read, hierarchical_read, rules_between, ruleset_end, ruleset_head, ruleset_is, script_read, statement_read, statements_read, value_read}
 use Rattle.vtl_grammar.proofs.AppendExpressions.{statement-append}
 use Rattle.vtl_grammar.proofs.CompleteParts.{comp_read, comps_complete}

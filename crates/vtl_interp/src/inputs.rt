@@ -10,13 +10,12 @@ ghost use Rattle.vtl_backend.specs.Inputs.{AreInputs, environment_of, rows_named
 ghost use Rattle.vtl_interp.specs.Loaded.{IsInput};
 
 use crate::held::Known;
-use check_shapes::share_structure;
 use std::alloc::{AllocError, Global};
 use vtl_check::Checked;
 use vtl_expr::DataSet;
 use vtl_rows::{Inputs, SharedTable};
 use vtl_text::Txt;
-use vtl_tree::Structure;
+use vtl_tree::{Structure, share_structure};
 
 // The data set of a table, which is shared.
 fn data_set_of(

@@ -10,13 +10,12 @@ ghost use Rattle.vtl_expr.specs.DataSets.{data_set, with_structure};
 ghost use Rattle.vtl_interp.specs.Values.{value_view};
 
 use crate::value::Value;
-use check_shapes::share_structure;
 use std::alloc::Global;
 use vtl_cell::ScalarOp;
 use vtl_decimal::Profile;
 use vtl_nodes::{CalcItem, MeasureOp, SubItem};
 use vtl_scalar::ScalarErr;
-use vtl_tree::{CompExpr, Structure};
+use vtl_tree::{CompExpr, Structure, share_structure};
 
 /// An operator on each measure.
 pub fn measures<'a>(

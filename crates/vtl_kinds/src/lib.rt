@@ -7,7 +7,7 @@ mod operators;
 
 pub use aggregates::{aggregate_kind, is_number, number_of};
 pub use literals::{
-    LARGEST_PLACE, MOST_POINTS, integer_cell, integer_written, is_null_kind, lies_between,
+    LARGEST_PLACE, LONGEST_REACH, integer_cell, integer_written, is_null_kind, lies_between,
     number_cell, with_sign, written,
 };
 pub use operators::{

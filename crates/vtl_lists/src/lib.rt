@@ -1,4 +1,9 @@
-//! Facts on lists that every other crate's definitions speak of: lists that differ in order alone, and the sorted list.
+//! Facts on lists that every other crate's definitions speak of.
+//!
+//! Data sets are lists of points up to order, results are compared in sorted order, and definitions chain what may be
+//! missing or may fail: so lists that differ in order alone, the sorted list, lists without repeats, runs of items, one
+//! bind for options and one for results, and names for lists of numbers stand here, once. It has no code but laws, and
+//! knows nothing of cells, of VTL or of SQL. Read specs/Perm and specs/Sorting first.
 #![tactic(auto)]
 
 ghost use Rattle.std.specs.Prelude.{◌≡◌, List, IsPermutation, Bool};

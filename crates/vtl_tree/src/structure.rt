@@ -52,7 +52,9 @@ pub struct Structure {
 // Written out, so that a proof above sees one call and not the drop of each part.
 impl Drop for Structure {
     fn drop(self) {
-        let Structure { components: _components } = self;
+        let Structure {
+            components: _components,
+        } = self;
     }
 }
 

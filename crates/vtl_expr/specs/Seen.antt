@@ -3,8 +3,8 @@ use Rattle.std.specs.Prelude.{◌≡◌, Option, Some, None, Result, Ok, Err}
 use Rattle.vtl_cell.specs.Outcome.{Fault, DivZero, Range, join}
 use Rattle.vtl_scalar.specs.declared.error.ScalarErr.{ScalarErr}
 use Rattle.vtl_scalar.specs.declared.error.ScalarErr.TheVariants as err
-use Rattle.vtl_tree.specs.declared.seen.Seen.{Seen}
-use Rattle.vtl_tree.specs.declared.seen.Seen.TheVariants as seen
+use Rattle.vtl_expr.specs.declared.seen.Seen.{Seen}
+use Rattle.vtl_expr.specs.declared.seen.Seen.TheVariants as seen
 
 abbrev pub seen_of : Seen → Option Fault
 seen_of seen.Nothing = None

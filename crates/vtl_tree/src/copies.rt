@@ -1,9 +1,9 @@
 // Components and structures are shared: their names and codes are the same texts.
 ghost use Rattle.std.specs.Prelude.{◌≡◌, IfOk};
 
+use crate::structure::{Component, Structure};
 use std::alloc::{AllocError, Global};
 use vtl_text::{List, Shared, Txt};
-use vtl_tree::{Component, Structure};
 
 /// One more of the codes of a component.
 pub fn share_codes(codes: &Option<Shared<Txt>>) -> Result<Option<Shared<Txt>>, AllocError>

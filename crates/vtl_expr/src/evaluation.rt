@@ -6,11 +6,11 @@ ghost use Rattle.vtl_scalar.specs.Answers.{Answers};
 ghost use Rattle.vtl_tree.specs.Value.{first_chosen, is_choice, value};
 ghost use Rattle.vtl_tree.specs.View.{comp_exp_of};
 
-use crate::CompExpr;
 use std::alloc::Global;
 use vtl_cell::{Cell, Kind, ScalarOp, clone_cell};
 use vtl_decimal::Profile;
 use vtl_scalar::{ScalarErr, apply, to_kind};
+use vtl_tree::CompExpr;
 
 /// The value of an expression at a point, whose cells stand in column order: the operands are evaluated from left to
 /// right, and the first fault is the answer; of `if` the condition and the branch that it chooses, and not the other

@@ -1,14 +1,14 @@
 // How the points of a data set form groups.
 ghost use Rattle.std.specs.Prelude.{◌≡◌, IfOk, map};
 ghost use Rattle.check_faults.specs.Answers.{Answers};
-ghost use Rattle.check_shapes.specs.Choices.{chosen, is_chosen};
+ghost use Rattle.check_shapes.specs.Choices.{chosen};
 ghost use Rattle.vtl_tree.specs.Structure.{names_of};
 ghost use Rattle.check_values.specs.Columns.{name_of};
-ghost use Rattle.check_groups.specs.Aggregates.{choice_of, grouping_choice, grouping_names, grouping_of, grouping_typed};
+ghost use Rattle.check_values.specs.Groupings.{choice_of, grouping_choice, grouping_names, grouping_of, grouping_typed};
 
+use crate::name;
 use check_faults::TypeErr;
-use check_shapes::{Choice, Wanted, check_names, is_among, is_identifier};
-use check_values::name;
+use check_shapes::{Choice, Wanted, check_names, is_chosen};
 use std::alloc::{AllocError, Global};
 use vtl_syntax::{Comp, GroupKind, GroupPart};
 use vtl_text::{List, Txt};
@@ -53,17 +53,6 @@ pub fn grouping_names(alloc: Global, group: &Option<GroupPart>) -> Result<Vec<Tx
     }
 }
 
-fn is_chosen(choice: Choice, names: &[Txt], component: &Component) -> bool
-    ensures { result ≡ is_chosen choice names.now component.now }
-{
-    match choice {
-        Choice::Keep => is_identifier(component) || is_among(&component.name, names),
-        Choice::Drop => !is_among(&component.name, names),
-        Choice::By => is_identifier(component) && is_among(&component.name, names),
-        Choice::Except => is_identifier(component) && !is_among(&component.name, names),
-    }
-}
-
 fn chosen_names(
     alloc: Global,
     choice: Choice,
@@ -82,7 +71,7 @@ fn chosen_names(
 }
 
 /// The identifiers by which groups are formed, where the names of the grouping are known to be right.
-pub(crate) fn grouping_of(
+pub fn grouping_of(
     alloc: Global,
     components: &[Component],
     group: &Option<GroupPart>,

@@ -1,7 +1,7 @@
 // The fault that a walk over many points has seen.
 ghost use Rattle.vtl_cell.specs.Outcome.{unless};
 ghost use Rattle.vtl_scalar.specs.Answers.{Answers};
-ghost use Rattle.vtl_tree.specs.Seen.{seen_of, SeesAlso};
+ghost use Rattle.vtl_expr.specs.Seen.{seen_of, SeesAlso};
 
 use vtl_scalar::ScalarErr;
 

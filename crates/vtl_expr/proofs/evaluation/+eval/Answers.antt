@@ -2,8 +2,8 @@ use Rattle.std.proofs.Common.{rules, ◌≡◌, get_or, length, true, false, Som
 use Rattle.vtl_cell.specs.declared.cell.Cell.TheVariants as cell
 use Rattle.vtl_tree.specs.Value.{first_chosen, is_choice, result_of, value}
 use Rattle.vtl_tree.specs.View.{comp_exp_of}
-use Rattle.vtl_tree.proofs.Values.{rest_more, Answers_same, Answers_passed, choice-fault, choice-first, choice-second, choice-value, value_at_end, value_stops}
-use Rattle.vtl_tree.proofs.evaluation.+eval.Goals as goal
+use Rattle.vtl_expr.proofs.Values.{rest_more, Answers_same, Answers_passed, choice-fault, choice-first, choice-second, choice-value, value_at_end, value_stops}
+use Rattle.vtl_expr.proofs.evaluation.+eval.Goals as goal
 
 pub returns-in_err-eval-in-Apply : goal.returns-in_err-eval-in-Apply
 returns-in_err-eval-in-Apply t c =
