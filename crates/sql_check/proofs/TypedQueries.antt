@@ -10,6 +10,7 @@ use Rattle.vtl_cell.specs.declared.kind.Kind.{Kind}
 use Rattle.vtl_kinds.specs.Literals.{is_null_kind}
 use Rattle.vtl_text.specs.Words.{is_word}
 use Rattle.sql_tree.specs.Formed.{IsQuery}
+use Rattle.sql_tree.specs.Grammar.{most_levels}
 use Rattle.sql_tree.specs.Trees as tree
 use Rattle.sql_tree.specs.Trees.{QueryTree, SelectTree, StatementTree, Text}
 use Rattle.sql_tree.specs.declared.statements.SqlExport.{SqlExport}
@@ -24,7 +25,7 @@ use Rattle.sql_check_queries.proofs.Columns.{as_many, few_columns, kinds_told, n
 use Rattle.sql_check.specs.Laws.{AreColumns, given_by}
 use Rattle.sql_check.proofs.Settled.{holds_first}
 
-some_names : (q : QueryTree) → IsQuery 512 q → 1 ≤ length (query_names q)
+some_names : (q : QueryTree) → IsQuery most_levels q → 1 ≤ length (query_names q)
 some_names [] h = absurd (omega (arith, h.0))
 some_names (s ∷ ss) h = omega (arith, h.1.0.some, length-map s.items item_name)
 
@@ -41,7 +42,7 @@ kinds_beside (n ∷ names) (c ∷ cs) h = go (lacks_kind c) h (kinds_beside name
     go true e ih = cc
     go false e ih = ih e
 
-pub columns_are : (p : Settings) (tables : Tables) (q : QueryTree) → IsQuery 512 q → least (query_breaks p tables q) ≡ None → AreColumns (query_columns tables q)
+pub columns_are : (p : Settings) (tables : Tables) (q : QueryTree) → IsQuery most_levels q → least (query_breaks p tables q) ≡ None → AreColumns (query_columns tables q)
 columns_are p tables q f h =
     let kinds = map or_null (shared_kinds tables q) in
     let size = long (query_names q) kinds (as_many tables q) in
