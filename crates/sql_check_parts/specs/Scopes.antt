@@ -49,7 +49,7 @@ or_null None = k.Null
 abbrev pub Scope : Type 0
 Scope = List (Text × Columns)
 
--- one more source; a table that is not there (1) has no columns, and of two sources of one alias (2) the first counts
+-- one more source; a table that is not there has no columns, and of two sources of one alias the first counts
 abbrev pub add_source : Scope → Text → Option Columns → Scope
 add_source scope alias None = scope
 add_source scope alias (Some columns) = if is_among alias (keys_of scope) then scope else scope ++ (alias, columns) ∷ []

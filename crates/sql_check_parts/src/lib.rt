@@ -24,7 +24,7 @@ pub use existence::exists;
 pub use grouping::Grouping;
 pub use literals::{constant, constant_value, list_fault, literal_value, literals_fit};
 pub use operators::{aggregate, call, case, condition_fault, operator};
-pub use rules::{least_broken, lesser};
+pub use rules::{SqlRule, Test, least_broken, lesser};
 pub use scope::{Scope, column};
 pub use tables::Tables;
 pub use typed::{Typed, or_null};
