@@ -3,12 +3,6 @@ use Rattle.std.specs.Prelude.{ℕ, Bool, Result, Ok, Err, List, [], ◌∷◌, i
 use Rattle.check_faults.specs.declared.rules.Rule.{Rule}
 use Rattle.check_faults.specs.declared.rules.Rule.TheVariants as rule
 
--- what one part gives goes on to the next; a broken rule ends it
-infixl 10 ◌>>=◌
-abbrev pub ◌>>=◌ : {A B : Type 0} → Result A Rule → (A → Result B Rule) → Result B Rule
-(Ok x) >>= f = f x
-(Err broken) >>= f = Err broken
-
 -- rules, each with whether it is broken
 abbrev pub Tests : Type 0
 Tests = List (Rule × Bool)

@@ -26,7 +26,8 @@ use Rattle.vtl_nodes.specs.Trees.{NodeTree, ValueTree}
 use Rattle.vtl_nodes.specs.declared.calls.AnalyticOp.{AnalyticOp}
 use Rattle.vtl_nodes.specs.declared.calls.AnalyticOp.TheVariants as op
 use Rattle.vtl_nodes.specs.declared.calls.Window.{Window}
-use Rattle.check_faults.specs.Rules.{◌>>=◌, ruled}
+use Rattle.vtl_lists.specs.Results.{◌>>=◌}
+use Rattle.check_faults.specs.Rules.{ruled}
 use Rattle.check_faults.specs.declared.rules.Rule.{Rule}
 use Rattle.check_faults.specs.declared.rules.Rule.TheVariants as rule
 use Rattle.check_shapes.specs.Measures.{Gives, measured_form}

@@ -8,7 +8,7 @@ use Rattle.vtl_cell.specs.Kinds.{is_of}
 use Rattle.vtl_cell.specs.ScalarKinds.{meets}
 use Rattle.vtl_cell.specs.declared.kind.Kind.{Kind}
 use Rattle.vtl_cell.specs.declared.kind.Kind.TheVariants as k
-use Rattle.check_faults.specs.Rules.{◌>>=◌}
+use Rattle.vtl_lists.specs.Results.{◌>>=◌}
 use Rattle.check_faults.specs.declared.rules.Rule.{Rule}
 use Rattle.check_faults.specs.declared.rules.Rule.TheVariants as rule
 use Rattle.vtl_syntax.specs.declared.parts.Comp.{Comp}

@@ -12,7 +12,8 @@ use Rattle.vtl_tree.specs.View.{comp_exp_of}
 use Rattle.vtl_tree.specs.declared.structure.Component.{Component}
 use Rattle.vtl_tree.specs.declared.structure.Structure.{Structure}
 use Rattle.vtl_nodes.specs.Trees.{NodeTree, structure_of, measures, pair, choose}
-use Rattle.check_faults.specs.Rules.{◌>>=◌, ruled}
+use Rattle.vtl_lists.specs.Results.{◌>>=◌}
+use Rattle.check_faults.specs.Rules.{ruled}
 use Rattle.check_faults.specs.declared.rules.Rule.{Rule}
 use Rattle.check_faults.specs.declared.rules.Rule.TheVariants as rule
 use Rattle.check_shapes.specs.Measures.{Gives, any_unmet, measured_form}

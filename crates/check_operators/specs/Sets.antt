@@ -15,7 +15,7 @@ use Rattle.vtl_syntax.specs.declared.parts.Comp.{Comp}
 use Rattle.vtl_tree.specs.declared.structure.Structure.{Structure}
 use Rattle.vtl_nodes.specs.Trees.{FormTree, NodeTree, NodeTrees, nodes_of, structure_of, member, union, intersect, set_diff, sym_diff, exists_in, check, maybe_node}
 use Rattle.vtl_nodes.specs.declared.specifications.CheckSpec.{CheckSpec}
-use Rattle.check_faults.specs.Rules.{◌>>=◌}
+use Rattle.vtl_lists.specs.Results.{◌>>=◌}
 use Rattle.check_faults.specs.declared.rules.Rule.{Rule}
 use Rattle.check_faults.specs.declared.rules.Rule.TheVariants as rule
 use Rattle.check_shapes.specs.Choices.{choice_form}

@@ -13,7 +13,8 @@ use Rattle.vtl_tree.specs.declared.structure.Structure.{Structure}
 use Rattle.check_shapes.specs.Choices.{chosen, is_identifier_name}
 use Rattle.check_shapes.specs.Measures.{made, measures}
 use Rattle.check_shapes.specs.Names.{component_of, is_among, known}
-use Rattle.check_faults.specs.Rules.{◌>>=◌, ruled, Tests}
+use Rattle.vtl_lists.specs.Results.{◌>>=◌}
+use Rattle.check_faults.specs.Rules.{ruled, Tests}
 use Rattle.check_faults.specs.declared.rules.Rule.{Rule}
 use Rattle.check_faults.specs.declared.rules.Rule.TheVariants as rule
 use Rattle.check_shapes.specs.Shape.{shaped}

@@ -14,7 +14,8 @@ use Rattle.sql_tree.specs.declared.parts.Source.{Source}
 use Rattle.sql_check_parts.specs.Expressions.{Site, breaks, condition_breaks, has_aggregate, site}
 use Rattle.sql_check_parts.specs.Kinds.{kind_in}
 use Rattle.sql_check_parts.specs.Rules.{broken}
-use Rattle.sql_check_parts.specs.Scopes.{Columns, Grouping, Scope, Tables, columns_of, grouping_of, is_among, is_empty, or_null, repeats, same_text, with_source}
+use Rattle.vtl_text.specs.Texts.{same_text}
+use Rattle.sql_check_parts.specs.Scopes.{Columns, Grouping, Scope, Tables, columns_of, grouping_of, is_among, is_empty, or_null, repeats, with_source}
 use Rattle.sql_check_parts.specs.Windows.{column_breaks, window_breaks, window_kind}
 use Rattle.sql_check_parts.specs.declared.rules.SqlRule.{SqlRule}
 use Rattle.sql_check_parts.specs.declared.rules.SqlRule.TheVariants as rule

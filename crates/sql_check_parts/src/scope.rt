@@ -2,7 +2,8 @@
 ghost use Rattle.std.specs.Map.{keys_of, lookup};
 ghost use Rattle.std.specs.Option.{option_copied};
 ghost use Rattle.std.specs.Prelude.{◌≡◌, [], IfOk, OnOk};
-ghost use Rattle.sql_check_parts.specs.Scopes.{add_source, column_in, column_kind, is_among, same_text};
+ghost use Rattle.vtl_text.specs.Texts.{same_text};
+ghost use Rattle.sql_check_parts.specs.Scopes.{add_source, column_in, column_kind, is_among};
 ghost use Rattle.sql_check_parts.specs.Typed.{IsTyped};
 ghost use Rattle.sql_check_parts.specs.Windows.{column_breaks, is_ungrouped};
 
