@@ -83,7 +83,7 @@ pub fn grouping_of(
     Ok(List::of(chosen))
 }
 
-/// The identifiers by which groups are formed, in the operand's order. A name breaks rules 4, 5 and 6.
+/// The identifiers by which groups are formed, in the operand's order. A name breaks `UnknownComponent`, `RepeatedName` and `WrongRole`.
 pub fn grouping(
     alloc: Global,
     components: &[Component],
