@@ -1,6 +1,6 @@
 #!/bin/sh
 # Runs all of cases/ and examples/ by the built programs, in a few seconds: cases/run.sh [NAME ..], where a NAME is a folder
-# of cases/, `examples` or `launcher`. Prints what differs, and at the end 'N passed, M failed'.
+# of cases/, `examples`, `launcher`, `check` or `ways`. Prints what differs, and at the end 'N passed, M failed'.
 top=$(CDPATH='' cd -- "$(dirname -- "$0")/.." && pwd) || exit 1
 vtl=$top/crates/vtl/out/vtl
 probe=$top/crates/vtl_probe/out/vtl_probe
@@ -97,6 +97,22 @@ written() {
     fi
 }
 
+# A script that is refused before any data is read: `check` says so in the words of `vtl`, with its code.
+refused() {
+    "$probe" check "$1/script.vtl" "$1/structures.csv" >"$made/said" 2>"$made/told"
+    code=$?
+    if [ "$code" = "$(cat "$1/code")" ] && [ ! -s "$made/told" ] && cmp -s "$1/line" "$made/said"; then
+        pass
+    else
+        fail "$1: check: exit code $code: $(head -n 1 "$made/said") $(head -n 1 "$made/told")"
+    fi
+}
+
+# A number that has a bound.
+within() {
+    if [ "$1" -le "$2" ]; then pass; else fail "$3: $1, and at most $2 are wanted"; fi
+}
+
 wanted() { [ -z "$names" ] || case " $names " in *" $1 "*) ;; *) return 1 ;; esac; }
 
 names=$*
@@ -142,6 +158,24 @@ fi
 if wanted launcher && [ -x "$vtl" ]; then
     program=$top/vtl
     for case in words_none no_script filter_keeps_points_above_five; do run "$top/cases/run/$case"; done
+fi
+if wanted check && [ -x "$probe" ]; then
+    for case in cases/run/*/; do
+        if [ -e "$case/words" ] || [ -e "$case/setup" ]; then continue; fi
+        case $(cat "$case/line" 2>/dev/null) in
+            'error: syntax '* | 'error: structures '* | 'error: type '*) refused "${case%/}" ;;
+        esac
+    done
+fi
+# What keeps a merge short.
+if wanted ways; then
+    scripts/ways.sh >"$made/said" || fail "scripts/ways.sh: exit code $?"
+    while read -r word first second; do
+        case $word in
+            ways) within "$second" 5000 "ways down from $first" ;;
+            chain) within "$first" 14 "libraries in the longest chain, $second" ;;
+        esac
+    done <"$made/said"
 fi
 echo "$passed passed, $failed failed"
 [ "$failed" = 0 ]

@@ -17,7 +17,8 @@ use Rattle.vtl_tree.specs.declared.structure.Structure.{Structure}
 use Rattle.vtl_nodes.specs.Trees as nodes
 use Rattle.vtl_nodes.specs.Trees.{FormTree, NodeTree, node, structure_of}
 use Rattle.vtl_nodes.specs.declared.clauses.SubItem.{SubItem}
-use Rattle.check_faults.specs.Rules.{◌>>=◌}
+use Rattle.vtl_lists.specs.Results.{◌>>=◌}
+use Rattle.check_faults.specs.declared.rules.Rule.{Rule}
 use Rattle.check_shapes.specs.Choices.{chosen}
 use Rattle.check_shapes.specs.Clauses.{pivot_form, rename_form, unpivot_form}
 use Rattle.check_shapes.specs.Names.{known}
@@ -33,20 +34,20 @@ use Rattle.check_operators.specs.Places.{name_written, written_by}
 use Rattle.check_operators.specs.Typed.{TypedTree, components_in, condition_in}
 use Rattle.check_operators.specs.declared.places.Joined.{Joined}
 
-abbrev pub made_of : FormTree → Structure → Result NodeTree ℕ
+abbrev pub made_of : FormTree → Structure → Result NodeTree Rule
 made_of form s = Ok (node s form)
 
 -- `filter`
-unfoldable pub filter_form : NodeTree → TypedTree → Result NodeTree ℕ
+unfoldable pub filter_form : NodeTree → TypedTree → Result NodeTree Rule
 filter_form n x = condition_in x >>= λ e. made_of (nodes.filter n e) (structure_of n)
 
 -- ---- `keep` and `drop`
 -- the name that a reference is, which stands for a component of the wanted role behind other names
-unfoldable pub name_known : Option Joined → Wanted → List Component → List (List ℕ) → Reference → Result (List ℕ) ℕ
+unfoldable pub name_known : Option Joined → Wanted → List Component → List (List ℕ) → Reference → Result (List ℕ) Rule
 name_known j w xs before r = name_written j (written_by r) >>= λ name. known w xs before name >>= λ x. Ok name
 
 -- names in written order behind others, as the wanted role asks of each
-abbrev pub names_typed : Option Joined → Wanted → List Component → List (List ℕ) → List Reference → Result (List (List ℕ)) ℕ
+abbrev pub names_typed : Option Joined → Wanted → List Component → List (List ℕ) → List Reference → Result (List (List ℕ)) Rule
 names_typed j w xs before [] = Ok before
 names_typed j w xs before (r ∷ rs) = name_known j w xs before r >>= λ name. names_typed j w xs (before ++ name ∷ []) rs
 
@@ -62,10 +63,10 @@ abbrev pub keeping_tree : Keeping → NodeTree → List (List ℕ) → FormTree
 keeping_tree (keeping.Keep rs) n names = nodes.keep n names
 keeping_tree (keeping.Drop rs) n names = nodes.drop_named n names
 
-abbrev pub kept_of : Keeping → NodeTree → List (List ℕ) → Result NodeTree ℕ
+abbrev pub kept_of : Keeping → NodeTree → List (List ℕ) → Result NodeTree Rule
 kept_of k n names = shaped (chosen (keeping_choice k) names (components_in n)) >>= made_of (keeping_tree k n names)
 
-unfoldable pub keeping_form : Option Joined → NodeTree → Keeping → Result NodeTree ℕ
+unfoldable pub keeping_form : Option Joined → NodeTree → Keeping → Result NodeTree Rule
 keeping_form j n k = names_typed j wanted.Value (components_in n) [] (references_in k) >>= kept_of k n
 
 -- ---- `rename`
@@ -76,18 +77,18 @@ abbrev pub old_names : List Renaming → List (List ℕ)
 old_names rs = map (λ r. r.from) rs
 
 -- a renaming behind others, whose old names these are
-unfoldable pub renaming_known : Option Joined → List Component → List (List ℕ) → RenamePart → Result Renaming ℕ
+unfoldable pub renaming_known : Option Joined → List Component → List (List ℕ) → RenamePart → Result Renaming Rule
 renaming_known j xs before r = name_known j wanted.Any xs before r.from >>= λ name. Ok (renaming_to r name)
 
-abbrev pub renamings_typed : Option Joined → List Component → List Renaming → List RenamePart → Result (List Renaming) ℕ
+abbrev pub renamings_typed : Option Joined → List Component → List Renaming → List RenamePart → Result (List Renaming) Rule
 renamings_typed j xs done [] = Ok done
 renamings_typed j xs done (r ∷ rs) =
     renaming_known j xs (old_names done) r >>= λ renaming. renamings_typed j xs (done ++ renaming ∷ []) rs
 
-abbrev pub renamed_of : NodeTree → List Renaming → Result NodeTree ℕ
+abbrev pub renamed_of : NodeTree → List Renaming → Result NodeTree Rule
 renamed_of n rs = rename_form rs (components_in n) >>= made_of (nodes.rename n rs)
 
-unfoldable pub renaming_form : Option Joined → NodeTree → List RenamePart → Result NodeTree ℕ
+unfoldable pub renaming_form : Option Joined → NodeTree → List RenamePart → Result NodeTree Rule
 renaming_form j n rs = renamings_typed j (components_in n) [] rs >>= renamed_of n
 
 -- ---- `sub`
@@ -95,15 +96,15 @@ renaming_form j n rs = renamings_typed j (components_in n) [] rs >>= renamed_of 
 abbrev pub cell_as : Settings → Kind → Option Cell → Option Cell
 cell_as p kind cell = option_and_then (λ c. result_ok (as_kind p kind c)) cell
 
--- an identifier's value: a literal of its kind (7) that has a value (8)
-abbrev pub sub_value : Settings → Kind → Literal → Result Cell ℕ
+-- an identifier's value: a literal of its kind that has a value
+abbrev pub sub_value : Settings → Kind → Literal → Result Cell Rule
 sub_value p kind l = wanted_or (still_wanted false kind (literal_kind l)) >>= λ wanted. valued (cell_as p kind (literal_cell p l))
 
 abbrev pub sub_item : List ℕ → Cell → SubItem
 sub_item name cell = record { id = name; value = cell }
 
 -- an identifier with its value, behind others of these names
-unfoldable pub sub_known : Settings → List Component → List (List ℕ) → SubPart → Result SubItem ℕ
+unfoldable pub sub_known : Settings → List Component → List (List ℕ) → SubPart → Result SubItem Rule
 sub_known p xs before s =
     known wanted.Identifier xs before (name_of s.component) >>= λ x. sub_value p x.kind s.value
     >>= λ cell. Ok (sub_item (name_of s.component) cell)
@@ -111,20 +112,20 @@ sub_known p xs before s =
 abbrev pub sub_names : List SubItem → List (List ℕ)
 sub_names items = map (λ i. i.id) items
 
-abbrev pub subs_typed : Settings → List Component → List SubItem → List SubPart → Result (List SubItem) ℕ
+abbrev pub subs_typed : Settings → List Component → List SubItem → List SubPart → Result (List SubItem) Rule
 subs_typed p xs done [] = Ok done
 subs_typed p xs done (s ∷ ss) =
     sub_known p xs (sub_names done) s >>= λ item. subs_typed p xs (done ++ item ∷ []) ss
 
-abbrev pub sub_of : NodeTree → List SubItem → Result NodeTree ℕ
+abbrev pub sub_of : NodeTree → List SubItem → Result NodeTree Rule
 sub_of n items = shaped (chosen choice.Drop (sub_names items) (components_in n)) >>= made_of (nodes.sub n items)
 
-unfoldable pub sub_form : Settings → NodeTree → List SubPart → Result NodeTree ℕ
+unfoldable pub sub_form : Settings → NodeTree → List SubPart → Result NodeTree Rule
 sub_form p n ss = subs_typed p (components_in n) [] ss >>= sub_of n
 
 -- ---- `pivot` and `unpivot`
-unfoldable pub pivot_of : Comp → Comp → NodeTree → Result NodeTree ℕ
+unfoldable pub pivot_of : Comp → Comp → NodeTree → Result NodeTree Rule
 pivot_of id m n = pivot_form (name_of id) (name_of m) (components_in n) >>= made_of (nodes.pivot n (name_of id) (name_of m))
 
-unfoldable pub unpivot_of : Comp → Comp → NodeTree → Result NodeTree ℕ
+unfoldable pub unpivot_of : Comp → Comp → NodeTree → Result NodeTree Rule
 unpivot_of id m n = unpivot_form (name_of id) (name_of m) (components_in n) >>= made_of (nodes.unpivot n (name_of id) (name_of m))

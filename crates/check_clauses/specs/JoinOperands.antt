@@ -11,7 +11,10 @@ use Rattle.check_joins.specs.Joins as joins
 use Rattle.check_joins.specs.declared.joins.Operand.{Operand}
 use Rattle.vtl_nodes.specs.Trees as nodes
 use Rattle.vtl_nodes.specs.Trees.{NodeTree, OperandTree, operands_of, structure_of}
-use Rattle.check_faults.specs.Rules.{◌>>=◌, ruled}
+use Rattle.vtl_lists.specs.Results.{◌>>=◌}
+use Rattle.check_faults.specs.Rules.{ruled}
+use Rattle.check_faults.specs.declared.rules.Rule.{Rule}
+use Rattle.check_faults.specs.declared.rules.Rule.TheVariants as rule
 use Rattle.check_shapes.specs.Names.{component_of, is_among}
 use Rattle.check_shapes.specs.declared.renaming.Renaming.{Renaming}
 use Rattle.check_values.specs.Columns.{name_of}
@@ -28,27 +31,27 @@ abbrev pub aliases_in : List PartTyped → List (List ℕ)
 aliases_in done = map (λ x. x.alias) done
 
 -- a plain name is its own alias
-abbrev pub own_alias : Exp → Result (List ℕ) ℕ
+abbrev pub own_alias : Exp → Result (List ℕ) Rule
 own_alias (tree.component (comp.Name name)) = Ok name
-own_alias e = Err 21
+own_alias e = Err rule.JoinMisuse
 
-abbrev pub alias_of : Exp → Option (List ℕ) → Result (List ℕ) ℕ
+abbrev pub alias_of : Exp → Option (List ℕ) → Result (List ℕ) Rule
 alias_of e (Some alias) = Ok alias
 alias_of e None = own_alias e
 
--- the alias of one more operand behind others: it has one (21), which none before it has (5)
-abbrev pub new_alias : List PartTyped → Exp → Option (List ℕ) → Result (List ℕ) ℕ
-new_alias done e a = alias_of e a >>= λ alias. ruled ((5, is_among alias (aliases_in done)) ∷ []) alias
+-- the alias of one more operand behind others: it has one, which none before it has
+abbrev pub new_alias : List PartTyped → Exp → Option (List ℕ) → Result (List ℕ) Rule
+new_alias done e a = alias_of e a >>= λ alias. ruled ((rule.RepeatedName, is_among alias (aliases_in done)) ∷ []) alias
 
 -- one more operand behind others
-unfoldable pub with_part : List PartTyped → Exp → Option (List ℕ) → TypedTree → Result (List PartTyped) ℕ
+unfoldable pub with_part : List PartTyped → Exp → Option (List ℕ) → TypedTree → Result (List PartTyped) Rule
 with_part done e a x = new_alias done e a >>= λ alias. Ok (done ++ record { operand = x; alias = alias } ∷ [])
 
--- an operand has to be a data set (14)
-abbrev pub operand_in : PartTyped → Result OperandTree ℕ
+-- an operand has to be a data set
+abbrev pub operand_in : PartTyped → Result OperandTree Rule
 operand_in x = dataset_in x.operand >>= λ n. Ok (record { node = n; alias = x.alias })
 
-abbrev pub operands_in : List PartTyped → Result (List OperandTree) ℕ
+abbrev pub operands_in : List PartTyped → Result (List OperandTree) Rule
 operands_in [] = Ok []
 operands_in (x ∷ xs) = operand_in x >>= λ o. operands_in xs >>= λ os. Ok (o ∷ os)
 
@@ -62,7 +65,7 @@ abbrev pub using_names : Option (List Comp) → Option (List (List ℕ))
 using_names u = option_map (map name_of) u
 
 -- the joined set
-unfoldable pub joined_node : JoinKind → Option (List Comp) → List OperandTree → Result NodeTree ℕ
+unfoldable pub joined_node : JoinKind → Option (List Comp) → List OperandTree → Result NodeTree Rule
 joined_node kind u os =
     joins.join_form kind (using_names u) (map shape_of os)
     >>= made_of (nodes.join (operands_of os) (record { kind = kind; using = using_names u }))
@@ -75,5 +78,5 @@ abbrev pub left_names : Joined → List Component → List Renaming
 left_names j xs = filter (is_left xs) (joins.last_renamings j.kind j.held j.operands)
 
 -- the last naming, which each join has
-unfoldable pub last_naming : Joined → NodeTree → Result NodeTree ℕ
+unfoldable pub last_naming : Joined → NodeTree → Result NodeTree Rule
 last_naming j n = renamed_of n (left_names j (components_in n))

@@ -8,27 +8,24 @@ ghost use Rattle.check_faults.specs.Answers.{Answers};
 ghost use Rattle.vtl_syntax.specs.View.{expr_tree};
 ghost use Rattle.vtl_tree.specs.View.{comp_exp_of};
 ghost use Rattle.check_operators.specs.Typed.{boxed_tree, typed_tree};
-ghost use Rattle.check_groups.specs.Aggregates.{grouping_choice as choice_by, grouping_names as names_by, grouping_of};
-ghost use Rattle.check_shapes.specs.Choices.{chosen, is_chosen};
+ghost use Rattle.check_values.specs.Groupings.{grouping_choice as choice_by, grouping_names as names_by};
 ghost use Rattle.check_shapes.specs.Clauses.{aggr_form};
 ghost use Rattle.check_shapes.specs.Names.{is_among as among};
-ghost use Rattle.vtl_tree.specs.Structure.{names_of};
 ghost use Rattle.check_clauses.specs.Targets.{aggr_clause, aggr_name, call_in, grouped, is_aggregate, made_as, made_names, made_target, targets_in, with_made};
 ghost use Rattle.check_clauses.specs.TargetsView.{AnswersLeft};
 
 use crate::Made;
 use crate::targets::role_of;
-use check_faults::{TypeErr, broken};
-use check_groups::{grouping_choice, grouping_names};
+use check_faults::{Rule, TypeErr, broken};
 use check_operators::{Typed, made_node};
-use check_shapes::{Choice, Target, is_among, is_identifier};
-use check_values::name;
+use check_shapes::Target;
+use check_values::{grouping_choice, grouping_names, grouping_of, name};
 use std::alloc::{AllocError, Global};
 use vtl_cell::Kind;
 use vtl_nodes::{AggItems, AggSpec, AggTarget, Node, NodeForm};
 use vtl_syntax::{Comp, Expr, GroupPart, WrittenRole};
 use vtl_text::{List, Txt};
-use vtl_tree::{AggCall, CompExpr, Component, Structure};
+use vtl_tree::{AggCall, CompExpr, Structure};
 
 fn is_target(name: &Txt, done: &[Made]) -> bool
     ensures { result ≡ among name.now (made_names done.now) }
@@ -41,11 +38,11 @@ fn is_target(name: &Txt, done: &[Made]) -> bool
     false
 }
 
-/// The name of a target of `aggr` behind others: it breaks rule 5 where it stands there.
+/// The name of a target of `aggr` behind others: it breaks `RepeatedName` where it stands there.
 pub fn aggr_name(done: &[Made], component: &Comp) -> Result<(), TypeErr>
     ensures { Answers (λ done. done) result (aggr_name done.now component.now) }
 {
-    broken(5, is_target(name(component), done))
+    broken(Rule::RepeatedName, is_target(name(component), done))
 }
 
 fn is_aggregate(e: &Expr) -> bool
@@ -63,7 +60,7 @@ fn call_in(is_call: bool, e: CompExpr) -> Result<(AggCall, Kind), TypeErr>
 {
     match e.aggregate() {
         Some(call) if is_call => Ok(call),
-        _ => Err(TypeErr::Broken(15)),
+        _ => Err(TypeErr::Broken(Rule::AggregateMisuse)),
     }
 }
 
@@ -84,7 +81,8 @@ fn made_as(
     Ok(Made { target, kind })
 }
 
-/// One more target of `aggr` behind others: it breaks rule 14 where it is a data set, and 15 where it is no aggregate call.
+/// One more target of `aggr` behind others: it breaks `DatasetOrValue` where it is a data set, and `AggregateMisuse` where it is
+/// no aggregate call.
 #[tactic(auto, unfolding(crate::specs::Targets::with_made))]
 pub fn push_made(
     done: &mut Vec<Made>,
@@ -131,47 +129,6 @@ fn aggr_structure(
     let names = grouping_names(alloc, group)?;
     let targets = made_targets(alloc, made)?;
     check_shapes::aggr(alloc, grouping_choice(group), &names, structure, &targets)
-}
-
-fn is_chosen(choice: Choice, names: &[Txt], component: &Component) -> bool
-    ensures { result ≡ is_chosen choice names.now component.now }
-{
-    let is_listed = is_among(&component.name, names);
-    match choice {
-        Choice::Keep => is_identifier(component) || is_listed,
-        Choice::Drop => !is_listed,
-        Choice::By => is_identifier(component) && is_listed,
-        Choice::Except => is_identifier(component) && !is_listed,
-    }
-}
-
-fn chosen_names(
-    alloc: Global,
-    choice: Choice,
-    names: &[Txt],
-    components: &[Component],
-) -> Result<Vec<Txt>, AllocError>
-    ensures { IfOk result (λ v. v.items ≡ names_of (chosen choice names.now components.now)) }
-{
-    let mut out = Vec::new(alloc);
-    for component in components {
-        if is_chosen(choice, names, component) {
-            out.push(component.name.share()?)?;
-        }
-    }
-    Ok(out)
-}
-
-fn grouping_of(
-    alloc: Global,
-    group: &Option<GroupPart>,
-    components: &[Component],
-) -> Result<List<Txt>, AllocError>
-    ensures { IfOk result (λ names. names ≡ grouping_of group.now components.now) }
-{
-    let names = grouping_names(alloc, group)?;
-    let chosen = chosen_names(alloc, grouping_choice(group), &names, components)?;
-    Ok(List::of(chosen))
 }
 
 fn targets_in(alloc: Global, made: Vec<Made>) -> Result<Vec<AggTarget>, AllocError>
@@ -236,11 +193,11 @@ fn grouped(
     ensures { Answers (λ of. of) result (grouped group.now (node_tree operand.now) made.now) }
 {
     let structure = aggr_structure(alloc, group, &operand.structure, made)?;
-    let names = grouping_of(alloc, group, operand.structure.components.as_slice())?;
+    let names = grouping_of(alloc, operand.structure.components.as_slice(), group)?;
     Ok((structure, names))
 }
 
-/// `aggr`, behind its targets, its grouping and the condition of groups. It breaks rules 11, 12 and 19.
+/// `aggr`, behind its targets, its grouping and the condition of groups. It breaks `RepeatedComponent`, `ComponentCount` and `NullKind`.
 #[tactic(auto, unfolding(crate::specs::Targets::aggr_clause))]
 pub fn aggr(
     alloc: Global,

@@ -11,11 +11,10 @@ ghost use Rattle.check_clauses.specs.Targets.{calc_clause, calc_name, calc_tree,
 ghost use Rattle.check_clauses.specs.TargetsView.{AnswersLeft, items_view};
 
 use crate::targets::role_of;
-use check_faults::{TypeErr, broken};
-use check_groups::given_kind;
+use check_faults::{Rule, TypeErr, broken};
 use check_operators::made_node;
 use check_shapes::{Target, component_of, is_identifier_name};
-use check_values::{kind, name};
+use check_values::{given_kind, kind, name};
 use std::alloc::{AllocError, Global};
 use vtl_cell::Kind;
 use vtl_nodes::{AnalyticSpec, CalcItem, CalcValue, Node, NodeForm};
@@ -34,14 +33,15 @@ fn is_target(name: &Txt, done: &[CalcItem]) -> bool
     false
 }
 
-/// The name of a target of `calc` behind others: it breaks rule 5 where it stands there, and 6 where it is that of an identifier.
+/// The name of a target of `calc` behind others: it breaks `RepeatedName` where it stands there, and `WrongRole` where it is that
+/// of an identifier.
 pub fn calc_name(operand: &Node, done: &[CalcItem], component: &Comp) -> Result<(), TypeErr>
     ensures { Answers (λ done. done) result (calc_name (node_tree operand.now) (map item_tree done.now) component.now) }
 {
     let name = name(component);
-    broken(5, is_target(name, done))?;
+    broken(Rule::RepeatedName, is_target(name, done))?;
     broken(
-        6,
+        Rule::WrongRole,
         is_identifier_name(operand.structure.components.as_slice(), name),
     )
 }
@@ -168,7 +168,7 @@ fn made_calc(
     made_node(alloc, structure, form_of(operand, items))
 }
 
-/// `calc`, behind its targets. It breaks rules 12 and 19.
+/// `calc`, behind its targets. It breaks `ComponentCount` and `NullKind`.
 #[tactic(auto, unfolding(crate::specs::Targets::calc_clause))]
 pub fn calc(alloc: Global, operand: Box<Node>, items: Vec<CalcItem>) -> Result<Box<Node>, TypeErr>
     ensures { Answers boxed_tree result (calc_clause (boxed_tree operand) (items_view items)) }

@@ -9,14 +9,14 @@ ghost use Rattle.check_clauses.specs.Clauses.{filter_form, keeping_choice, keepi
 
 use check_faults::TypeErr;
 use check_operators::{Joined, Typed, made_node, name_written, written_by};
-use check_shapes::{Choice, Wanted, choose, known, share_structure};
+use check_shapes::{Choice, Wanted, choose, known};
 use std::alloc::Global;
 use vtl_nodes::{Node, NodeForm};
 use vtl_syntax::{Keeping, Reference};
 use vtl_text::{List, Txt};
-use vtl_tree::Component;
+use vtl_tree::{Component, share_structure};
 
-/// `filter`. The condition breaks rules 7 and 14.
+/// `filter`. The condition breaks `WrongKind` and `DatasetOrValue`.
 #[tactic(auto, unfolding(crate::specs::Clauses::filter_form))]
 pub fn filter(alloc: Global, operand: Box<Node>, condition: Typed) -> Result<Box<Node>, TypeErr>
     ensures { Answers boxed_tree result (filter_form (boxed_tree operand) (typed_tree condition)) }
@@ -86,7 +86,8 @@ fn form(keeping: &Keeping, operand: Box<Node>, names: Vec<Txt>) -> NodeForm
     }
 }
 
-/// `keep` or `drop`. A name breaks rules 4, 5 and 6, and the clause 12 where nothing is left.
+/// `keep` or `drop`. A name breaks `UnknownComponent`, `RepeatedName` and `WrongRole`, and the clause `ComponentCount` where
+/// nothing is left.
 #[tactic(auto, unfolding(crate::specs::Clauses::keeping_form))]
 pub fn keeping(
     alloc: Global,

@@ -16,13 +16,13 @@ use crate::renames::renamed;
 use check_faults::TypeErr;
 use check_joins::{Operand, held_names, join, last_renamings};
 use check_operators::{Joined, made_node};
-use check_shapes::{Renaming, component_of, share_structure};
+use check_shapes::{Renaming, component_of};
 use check_values::name;
 use std::alloc::{AllocError, Global};
 use vtl_nodes::{JoinOperand, JoinSpec, Node, NodeForm};
 use vtl_syntax::{Comp, JoinKind};
 use vtl_text::{List, Shared, Txt};
-use vtl_tree::{Component, Structure};
+use vtl_tree::{Component, Structure, share_structure};
 
 fn shape_of(alloc: Global, operand: &JoinOperand) -> Result<Operand, AllocError>
     ensures { IfOk result (λ o. o ≡ shape_of (operand_tree operand.now)) }
@@ -108,7 +108,8 @@ fn made_join(
     made_node(alloc, structure, NodeForm::Join { operands, spec })
 }
 
-/// The joined set. The names behind `using` break rules 4, 5, 6 and 21, the operands 9, and the result 11 and 12.
+/// The joined set. The names behind `using` break `UnknownComponent`, `RepeatedName`, `WrongRole` and `JoinMisuse`, the operands
+/// `IdentifiersDisagree`, and the result `RepeatedComponent` and `ComponentCount`.
 #[tactic(auto, unfolding(crate::specs::JoinOperands::joined_node))]
 pub fn joined_node(
     alloc: Global,
@@ -154,7 +155,7 @@ fn left_names(
     Ok(renamings)
 }
 
-/// The last naming of a join, which each has: what is still named behind an alias is named without. It breaks rule 11.
+/// The last naming of a join, which each has: what is still named behind an alias is named without. It breaks `RepeatedComponent`.
 #[tactic(auto, unfolding(crate::specs::JoinOperands::last_naming))]
 pub fn last_naming(alloc: Global, joined: &Joined, operand: Box<Node>) -> Result<Box<Node>, TypeErr>
     ensures { Answers boxed_tree result (last_naming joined.now (boxed_tree operand)) }

@@ -9,7 +9,7 @@ ghost use Rattle.check_clauses.specs.JoinOperands.{alias_of, aliases_in, new_ali
 ghost use Rattle.check_clauses.specs.JoinView.{operands_view, part_view, parts_view};
 ghost use Rattle.check_clauses.specs.TargetsView.{AnswersLeft};
 
-use check_faults::{TypeErr, broken};
+use check_faults::{Rule, TypeErr, broken};
 use check_operators::Typed;
 use std::alloc::Global;
 use vtl_nodes::JoinOperand;
@@ -30,7 +30,7 @@ fn own_alias(e: &Expr) -> Result<&Txt, TypeErr>
 {
     match e {
         Expr::Component(Comp::Name(name)) => Ok(name),
-        _ => Err(TypeErr::Broken(21)),
+        _ => Err(TypeErr::Broken(Rule::JoinMisuse)),
     }
 }
 
@@ -59,12 +59,12 @@ fn new_alias(done: &[Part], written: &Expr, alias: &Option<Txt>) -> Result<Txt, 
     ensures { Answers (λ alias. alias) result (new_alias (map part_view done.now) (expr_tree written.now) alias.now) }
 {
     let alias = alias_of(written, alias)?;
-    broken(5, is_alias(alias, done))?;
+    broken(Rule::RepeatedName, is_alias(alias, done))?;
     Ok(alias.share()?)
 }
 
-/// One more operand behind others. It breaks rule 21 where it has no alias and is no plain name, and 5 where an operand before it
-/// has its alias.
+/// One more operand behind others. It breaks `JoinMisuse` where it has no alias and is no plain name, and `RepeatedName` where an
+/// operand before it has its alias.
 #[tactic(auto, unfolding(crate::specs::JoinOperands::with_part))]
 pub fn push_part(
     done: &mut Vec<Part>,
@@ -79,7 +79,7 @@ pub fn push_part(
     Ok(())
 }
 
-// A part as an operand: a value breaks rule 14.
+// A part as an operand: a value breaks `DatasetOrValue`.
 fn operand_of(part: Part) -> Result<JoinOperand, TypeErr>
     ensures { Answers operand_tree result (operand_in (part_view part)) }
 {
@@ -88,7 +88,7 @@ fn operand_of(part: Part) -> Result<JoinOperand, TypeErr>
     Ok(JoinOperand { node, alias })
 }
 
-/// The operands, which all have to be data sets (14).
+/// The operands, which all have to be data sets.
 #[tactic(auto, using(crate::proofs::OperandLemmas::behind_none))]
 pub fn operands(alloc: Global, parts: Vec<Part>) -> Result<Vec<JoinOperand>, TypeErr>
     ensures { Answers operands_view result (operands_in (parts_view parts)) }

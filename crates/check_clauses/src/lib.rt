@@ -1,4 +1,11 @@
-//! Clauses and joins on typed operands.
+//! Clauses and joins on typed operands: what `filter`, `calc`, `aggr`, `keep`, `drop`, `rename`, `sub`, `pivot`,
+//! `unpivot` and the parts of a join make of an operand that is typed, or the first rule that is broken.
+//!
+//! The structures come from `check_shapes` and `check_joins`; this crate puts the tests of a clause's parts before
+//! them, in written order, and makes the node.
+//! It goes down no tree (`check_expressions` does, and hands in each value typed), and it evaluates nothing:
+//! `vtl_clause` does that, on points.
+//! Begin with specs/Clauses.antt, then Targets.antt and JoinOperands.antt.
 #![tactic(auto)]
 
 mod aggr_targets;

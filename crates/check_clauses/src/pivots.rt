@@ -10,7 +10,7 @@ use std::alloc::Global;
 use vtl_nodes::{Node, NodeForm};
 use vtl_syntax::Comp;
 
-/// `pivot`. It breaks rules 4, 6, 11, 12 and 13.
+/// `pivot`. It breaks `UnknownComponent`, `WrongRole`, `RepeatedComponent`, `ComponentCount` and `NoCodes`.
 #[tactic(auto, unfolding(crate::specs::Clauses::pivot_of))]
 pub fn pivot(
     alloc: Global,
@@ -26,7 +26,7 @@ pub fn pivot(
     made_node(alloc, structure, NodeForm::Pivot { a: operand, id, m })
 }
 
-/// `unpivot`. It breaks rules 10, 11 and 12.
+/// `unpivot`. It breaks `MeasuresDisagree`, `RepeatedComponent` and `ComponentCount`.
 #[tactic(auto, unfolding(crate::specs::Clauses::unpivot_of))]
 pub fn unpivot(
     alloc: Global,

@@ -15,7 +15,7 @@ use vtl_syntax::RenamePart;
 use vtl_text::{List, Txt};
 use vtl_tree::Component;
 
-// The renamed data set. It breaks rule 11 where a name would stand twice.
+// The renamed data set. It breaks `RepeatedComponent` where a name would stand twice.
 pub(crate) fn renamed(
     alloc: Global,
     operand: Box<Node>,
@@ -62,7 +62,8 @@ fn renamings_typed(
     Ok(renamings)
 }
 
-/// `rename`. An old name breaks rules 4 and 5, and the clause 11 where a name would stand twice.
+/// `rename`. An old name breaks `UnknownComponent` and `RepeatedName`, and the clause `RepeatedComponent` where a name would
+/// stand twice.
 #[tactic(auto, unfolding(crate::specs::Clauses::renaming_form))]
 pub fn renaming(
     alloc: Global,

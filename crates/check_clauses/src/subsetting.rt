@@ -7,7 +7,7 @@ ghost use Rattle.check_values.specs.Literals.{literal_cell, valued};
 ghost use Rattle.check_operators.specs.Typed.{boxed_tree};
 ghost use Rattle.check_clauses.specs.Clauses.{cell_as, sub_form, sub_known, sub_names, sub_of, sub_value, subs_typed};
 
-use check_faults::TypeErr;
+use check_faults::{Rule, TypeErr};
 use check_operators::made_node;
 use check_shapes::{Choice, Wanted, choose, known};
 use check_values::{literal, literal_kind, name, still_wanted, wanted_or};
@@ -31,7 +31,7 @@ fn literal_as(
 {
     match to_kind(kind, literal(alloc, profile, written)?, profile) {
         Ok(cell) => Ok(cell),
-        Err(_) => Err(TypeErr::Broken(8)),
+        Err(_) => Err(TypeErr::Broken(Rule::WrongLiteral)),
     }
 }
 
@@ -117,7 +117,8 @@ fn subset(alloc: Global, operand: Box<Node>, items: Vec<SubItem>) -> Result<Box<
     made_node(alloc, structure, NodeForm::Sub { a: operand, values })
 }
 
-/// `sub`. A name breaks rules 4, 5 and 6, a literal 7 and 8, and the clause 12 where nothing is left.
+/// `sub`. A name breaks `UnknownComponent`, `RepeatedName` and `WrongRole`, a literal `WrongKind` and `WrongLiteral`, and the
+/// clause `ComponentCount` where nothing is left.
 #[tactic(auto, unfolding(crate::specs::Clauses::sub_form))]
 pub fn sub(
     alloc: Global,

@@ -1,5 +1,5 @@
 -- The typing of a join, part by part.
-use Rattle.std.proofs.Common.{rules, ◌≡◌, ◌∙◌, ap, sym, ℕ, List, [], map, Option, None, Some, Result, Ok, Err, Box, Vec, Global}
+use Rattle.std.proofs.Common.{rules, ◌≡◌, ◌∙◌, ap, sym, List, [], map, Option, None, Some, Result, Ok, Err, Box, Vec, Global}
 use Rattle.std.specs.Option.{option_map}
 use Rattle.vtl_syntax.specs.Trees as tree
 use Rattle.vtl_syntax.specs.Trees.{maybe_targets, parts_of}
@@ -17,7 +17,8 @@ use Rattle.vtl_syntax.specs.declared.parts.Keeping.{Keeping}
 use Rattle.vtl_syntax.specs.declared.parts.RenamePart.{RenamePart}
 use Rattle.vtl_syntax.specs.declared.word_groups.JoinKind.{JoinKind}
 use Rattle.vtl_nodes.specs.Trees.{NodeTree, OperandTree}
-use Rattle.check_faults.specs.Rules.{◌>>=◌}
+use Rattle.vtl_lists.specs.Results.{◌>>=◌}
+use Rattle.check_faults.specs.declared.rules.Rule.{Rule}
 use Rattle.check_operators.specs.Places.{Env}
 use Rattle.check_operators.specs.declared.places.Joined.{Joined}
 use Rattle.check_operators.specs.declared.places.Place.{Place}
@@ -34,7 +35,7 @@ join_tree kind ops u None (Some m) k rs = search (rules, views)
 join_tree kind ops u (Some f) None k rs = search (rules, views)
 join_tree kind ops u (Some f) (Some m) k rs = search (rules, views)
 
-chain : {A B C D : Type 0} (p : Result A ℕ) (f : A → Result B ℕ) (g : B → Result C ℕ) (h : B → C → Result D ℕ) (x : A) (y : B) (z : C) → p ≡ Ok x → f x ≡ Ok y → g y ≡ Ok z → ((p >>= f) >>= λ b. g b >>= h b) ≡ h y z
+chain : {A B C D : Type 0} (p : Result A Rule) (f : A → Result B Rule) (g : B → Result C Rule) (h : B → C → Result D Rule) (x : A) (y : B) (z : C) → p ≡ Ok x → f x ≡ Ok y → g y ≡ Ok z → ((p >>= f) >>= λ b. g b >>= h b) ≡ h y z
 chain p f g h x y z hp hf hg =
     ap (λ r. (r >>= f) >>= λ b. g b >>= h b) hp ∙ ap (λ r. r >>= λ b. g b >>= h b) hf ∙ ap (λ r. r >>= h y) hg
 

@@ -21,13 +21,13 @@ use check_clauses::{
     Made, Part, aggr, aggr_name, calc, calc_name, filter, joined_node, keeping,
     operands as joined_operands, pivot, push_item, push_made, push_part, renaming, sub, unpivot,
 };
-use check_faults::TypeErr;
-use check_groups::{aggregate, group_operand, grouping, no_dataset, over, target, written_call};
+use check_faults::{Rule, TypeErr};
+use check_groups::{aggregate, group_operand, no_dataset, over, target, written_call};
 use check_operators::{
     Joined, Place, Scope, Typed, check, check_spec, condition, constant, difference, exists,
     groups, member, member_inside, name, operator, points, set, sets, written,
 };
-use check_values::{binary_operator, kind, unary_operator};
+use check_values::{binary_operator, grouping, kind, unary_operator};
 use std::alloc::{AllocError, Global};
 use vtl_cell::ScalarOp;
 use vtl_nodes::{CalcItem, CalcValue, JoinOperand, Node};
@@ -528,15 +528,15 @@ pub fn typing(alloc: Global, scope: &Scope, place: &Place, e: &Expr) -> Result<T
         }
         Expr::CheckDatapoint { operand, .. } => {
             outside(alloc, scope, operand)?;
-            Err(TypeErr::Broken(3))
+            Err(TypeErr::Broken(Rule::UnknownRuleset))
         }
         Expr::CheckHierarchy { operand, .. } => {
             outside(alloc, scope, operand)?;
-            Err(TypeErr::Broken(3))
+            Err(TypeErr::Broken(Rule::UnknownRuleset))
         }
         Expr::Hierarchy { operand, .. } => {
             outside(alloc, scope, operand)?;
-            Err(TypeErr::Broken(3))
+            Err(TypeErr::Broken(Rule::UnknownRuleset))
         }
         Expr::Join {
             kind,

@@ -3,13 +3,14 @@ ghost use Rattle.std.specs.Prelude.{◌≡◌, [], ◌∷◌};
 ghost use Rattle.check_faults.specs.Answers.{Answers};
 ghost use Rattle.check_faults.specs.Rules.{ruled};
 
+use crate::rules::Rule;
 use std::alloc::{AllocError, AllocFailed};
 
 /// Why a part of a script is not typed.
 #[derive(Clone, Copy, Debug, PartialEq, Eq)]
 pub enum TypeErr {
     /// This rule is broken.
-    Broken(u8),
+    Broken(Rule),
     /// There was not enough memory.
     OutOfMemory,
 }
@@ -37,7 +38,7 @@ impl<T: Drop> From<AllocFailed<T>> for TypeErr {
 }
 
 /// The fault of a rule, where it is broken.
-pub fn broken(rule: u8, is_broken: bool) -> Result<(), TypeErr>
+pub fn broken(rule: Rule, is_broken: bool) -> Result<(), TypeErr>
     ensures { Answers (λ done. done) result (ruled ((rule, is_broken) ∷ []) tt) }
 {
     if is_broken {

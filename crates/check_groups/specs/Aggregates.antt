@@ -1,5 +1,5 @@
 -- Aggregates: of the measures of a data set, and of one component over groups.
-use Rattle.std.specs.Prelude.{ℕ, Bool, true, false, not, List, [], ◌∷◌, Option, Some, None, Result, Ok, Err, map, cond}
+use Rattle.std.specs.Prelude.{ℕ, Bool, true, false, not, List, [], ◌∷◌, Option, Some, None, Result, Ok, Err, cond}
 use Rattle.std.specs.Option.{is_some, option_map}
 use Rattle.vtl_kinds.specs.Aggregates as kinds
 use Rattle.vtl_cell.specs.declared.operator.AggKind.{AggKind}
@@ -11,25 +11,20 @@ use Rattle.vtl_syntax.specs.Trees.{MaybeExp}
 use Rattle.vtl_syntax.specs.declared.parts.GroupPart.{GroupPart}
 use Rattle.vtl_syntax.specs.declared.word_groups.AggregateName.{AggregateName}
 use Rattle.vtl_syntax.specs.declared.word_groups.AggregateName.TheVariants as aggregate
-use Rattle.vtl_syntax.specs.declared.word_groups.GroupKind.{GroupKind}
-use Rattle.vtl_syntax.specs.declared.word_groups.GroupKind.TheVariants as group
 use Rattle.vtl_tree.specs.CompExp as exp
 use Rattle.vtl_tree.specs.CompExp.{CompExp}
-use Rattle.vtl_tree.specs.Structure.{names_of}
-use Rattle.vtl_tree.specs.declared.structure.Component.{Component}
 use Rattle.vtl_nodes.specs.Trees as nodes
 use Rattle.vtl_nodes.specs.Trees.{AggTree, NodeTree}
 use Rattle.vtl_nodes.specs.declared.specifications.AggItems.TheVariants as items
-use Rattle.check_faults.specs.Rules.{◌>>=◌, ruled}
-use Rattle.check_shapes.specs.Choices.{chosen}
+use Rattle.vtl_lists.specs.Results.{◌>>=◌}
+use Rattle.check_faults.specs.Rules.{ruled}
+use Rattle.check_faults.specs.declared.rules.Rule.{Rule}
+use Rattle.check_faults.specs.declared.rules.Rule.TheVariants as rule
 use Rattle.check_shapes.specs.Measures.{Gives, measured_form}
-use Rattle.check_shapes.specs.Names.{all_known}
-use Rattle.check_shapes.specs.declared.choices.Choice.{Choice}
-use Rattle.check_shapes.specs.declared.choices.Choice.TheVariants as choice
 use Rattle.check_shapes.specs.declared.measures.Outcome.{Outcome}
 use Rattle.check_shapes.specs.declared.measures.Outcome.TheVariants as outcome
-use Rattle.check_shapes.specs.declared.names.Wanted.TheVariants as wanted
-use Rattle.check_values.specs.Columns.{column_typed, name_of}
+use Rattle.check_values.specs.Columns.{column_typed}
+use Rattle.check_values.specs.Groupings.{grouping_choice, grouping_names, grouping_of}
 use Rattle.check_values.specs.Kinds.{exp_kind}
 use Rattle.check_operators.specs.Typed.{TypedTree, value, dataset, components_in, made_of, of_value}
 use Rattle.check_operators.specs.Places.{Written, name_written, written_in}
@@ -61,28 +56,6 @@ abbrev pub is_unfit : AggregateName → Option Kind → Bool
 is_unfit f None = true
 is_unfit f (Some kind) = not (is_some (aggregate_kind f kind))
 
--- ---- the groups
-abbrev pub choice_of : GroupKind → Choice
-choice_of group.By = choice.By
-choice_of group.Except = choice.Except
-
--- how groups are formed: without names there is one group
-abbrev pub grouping_choice : Option GroupPart → Choice
-grouping_choice None = choice.By
-grouping_choice (Some g) = choice_of g.kind
-
-abbrev pub grouping_names : Option GroupPart → List (List ℕ)
-grouping_names None = []
-grouping_names (Some g) = map name_of g.names
-
--- the identifiers by which the groups are formed, in the operand's order
-abbrev pub grouping_of : Option GroupPart → List Component → List (List ℕ)
-grouping_of g xs = names_of (chosen (grouping_choice g) (grouping_names g) xs)
-
--- the names of a grouping are those of identifiers (4, 5, 6)
-abbrev pub grouping_typed : List Component → Option GroupPart → Result (List (List ℕ)) ℕ
-grouping_typed xs g = all_known wanted.Identifier xs (grouping_names g) >>= λ u. Ok (grouping_of g xs)
-
 -- ---- of each measure of a data set
 abbrev pub outcome_of : AggregateName → Outcome
 outcome_of aggregate.Count = outcome.Count
@@ -94,25 +67,25 @@ of_measure f a b = aggregate_kind f a
 abbrev pub aggregate_tree : AggregateName → Option GroupPart → NodeTree → Option CompExp → AggTree
 aggregate_tree f g a having = record { items = items.Measures (agg_kind f); grouping = grouping_of g (components_in a); having = having }
 
-unfoldable pub aggregate_node : AggregateName → Option GroupPart → NodeTree → Option CompExp → Result TypedTree ℕ
+unfoldable pub aggregate_node : AggregateName → Option GroupPart → NodeTree → Option CompExp → Result TypedTree Rule
 aggregate_node f g a having =
     measured_form (outcome_of f) (of_measure f) true (grouping_choice g) (grouping_names g) (components_in a)
     >>= made_of (nodes.aggregate a (aggregate_tree f g a having))
 
 -- ---- of a component over groups
-abbrev pub group_call : AggregateName → Option (List ℕ) → Kind → Result TypedTree ℕ
+abbrev pub group_call : AggregateName → Option (List ℕ) → Kind → Result TypedTree Rule
 group_call f component kind = of_value (exp.aggregate (record { kind = agg_kind f; component = component }) kind)
 
-abbrev pub group_call_by : AggregateName → Option (List ℕ) → (grouped : Bool) → Option Kind → Result TypedTree ℕ
-group_call_by f component grouped None = Err 7
-group_call_by f component grouped (Some kind) = ruled ((15, grouped) ∷ []) (tt {0}) >>= λ u. group_call f component kind
+abbrev pub group_call_by : AggregateName → Option (List ℕ) → (grouped : Bool) → Option Kind → Result TypedTree Rule
+group_call_by f component grouped None = Err rule.WrongKind
+group_call_by f component grouped (Some kind) = ruled ((rule.AggregateMisuse, grouped) ∷ []) (tt {0}) >>= λ u. group_call f component kind
 
--- an aggregate of a component, in a target of `aggr` or in `having`: there it has no groups of its own (15)
-abbrev pub component_call : Inside → AggregateName → (grouped : Bool) → List ℕ → Result TypedTree ℕ
+-- an aggregate of a component, in a target of `aggr` or in `having`: there it has no groups of its own
+abbrev pub component_call : Inside → AggregateName → (grouped : Bool) → List ℕ → Result TypedTree Rule
 component_call i f grouped name = column_typed name i.components >>= λ e. group_call_by f (Some name) grouped (call_kind f (Some (exp_kind e)))
 
 -- the component is written with an alias or without
-unfoldable pub written_call : Inside → AggregateName → (grouped : Bool) → Written → Result TypedTree ℕ
+unfoldable pub written_call : Inside → AggregateName → (grouped : Bool) → Written → Result TypedTree Rule
 written_call i f grouped w = name_written i.joined w >>= component_call i f grouped
 
 -- the component that an aggregate over groups is of, where it is of one
@@ -122,16 +95,16 @@ group_operand (place.Inside i) tree.no_exp = None
 group_operand (place.Inside i) (tree.some_exp e) = cond (is_some i.grouping) (option_map (λ w. (i, w)) (written_in e)) None
 
 -- the number of points
-abbrev pub count_call : AggregateName → (grouped : Bool) → Result TypedTree ℕ
+abbrev pub count_call : AggregateName → (grouped : Bool) → Result TypedTree Rule
 count_call f grouped = group_call_by f None grouped (call_kind f None)
 
--- The rule of an aggregate that is no operator on a data set. Its operand does not fit (7). Outside, a value stands where a data
--- set is needed (14); inside, groups need one too (14), and an aggregate of a component stands in `aggr` and `having` (15).
-abbrev pub misuse_rule : Place → (unfit grouped : Bool) → ℕ
-misuse_rule p true grouped = 7
-misuse_rule place.Outside false grouped = 14
-misuse_rule (place.Inside i) false true = 14
-misuse_rule (place.Inside i) false false = 15
+-- The rule of an aggregate that is no operator on a data set. Its operand does not fit. Outside, a value stands where a data set
+-- is needed; inside, groups need one too, and an aggregate of a component stands in `aggr` and `having`.
+abbrev pub misuse_rule : Place → (unfit grouped : Bool) → Rule
+misuse_rule p true grouped = rule.WrongKind
+misuse_rule place.Outside false grouped = rule.DatasetOrValue
+misuse_rule (place.Inside i) false true = rule.DatasetOrValue
+misuse_rule (place.Inside i) false false = rule.AggregateMisuse
 
 abbrev pub operand_kind : Option TypedTree → Option Kind
 operand_kind None = None
@@ -144,6 +117,6 @@ is_group place.Outside = false
 is_group (place.Inside i) = is_some i.grouping
 
 -- an aggregate of no data set; over groups `count()` is the number of points
-abbrev pub no_dataset : Place → AggregateName → (grouped : Bool) → Option Kind → Result TypedTree ℕ
+abbrev pub no_dataset : Place → AggregateName → (grouped : Bool) → Option Kind → Result TypedTree Rule
 no_dataset p f grouped (Some kind) = Err (misuse_rule p (is_unfit f (Some kind)) grouped)
-no_dataset p f grouped None = cond (is_group p) (count_call f grouped) (Err 7)
+no_dataset p f grouped None = cond (is_group p) (count_call f grouped) (Err rule.WrongKind)

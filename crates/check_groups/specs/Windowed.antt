@@ -26,7 +26,10 @@ use Rattle.vtl_nodes.specs.Trees.{NodeTree, ValueTree}
 use Rattle.vtl_nodes.specs.declared.calls.AnalyticOp.{AnalyticOp}
 use Rattle.vtl_nodes.specs.declared.calls.AnalyticOp.TheVariants as op
 use Rattle.vtl_nodes.specs.declared.calls.Window.{Window}
-use Rattle.check_faults.specs.Rules.{◌>>=◌, ruled}
+use Rattle.vtl_lists.specs.Results.{◌>>=◌}
+use Rattle.check_faults.specs.Rules.{ruled}
+use Rattle.check_faults.specs.declared.rules.Rule.{Rule}
+use Rattle.check_faults.specs.declared.rules.Rule.TheVariants as rule
 use Rattle.check_shapes.specs.Measures.{Gives, measured_form}
 use Rattle.check_shapes.specs.declared.choices.Choice.TheVariants as choice
 use Rattle.check_shapes.specs.declared.measures.Outcome.TheVariants as outcome
@@ -88,16 +91,16 @@ over_kind (tree.value_window f e o) kind = window_kind f kind
 over_kind (tree.shift f e n l o) kind = shift_kind l kind
 over_kind e kind = Some k.Int
 
--- the default of `lag` and `lead`: null, or a literal of the operand's kind (7) with a value (8)
-abbrev pub default_typed : Settings → Kind → Option Literal → Result Cell ℕ
+-- the default of `lag` and `lead`: null, or a literal of the operand's kind with a value
+abbrev pub default_typed : Settings → Kind → Option Literal → Result Cell Rule
 default_typed p kind None = Ok c.Null
 default_typed p kind (Some l) = wanted_or (still_wanted (is_null_kind kind) kind (literal_kind l)) >>= λ wanted. valued (literal_cell p l)
 
-unfoldable pub shift_call : Settings → ShiftName → List ℕ → Option Literal → Kind → Result Call ℕ
+unfoldable pub shift_call : Settings → ShiftName → List ℕ → Option Literal → Kind → Result Call Rule
 shift_call p f n l kind = points_typed p n >>= λ points. default_typed p kind l >>= λ cell. Ok (record { op = Some (of_shift f points cell); needed = needed.Ranked })
 
 -- the parts of a call between its operand, beside which this kind is wanted, and its window
-abbrev pub call_typed : Settings → Exp → Kind → Result Call ℕ
+abbrev pub call_typed : Settings → Exp → Kind → Result Call Rule
 call_typed p (tree.aggregate_over f e o) kind = Ok (record { op = of_aggregate f; needed = needed.Nothing })
 call_typed p (tree.value_window f e o) kind = Ok (record { op = Some (of_window f); needed = window_needed f })
 call_typed p (tree.shift f e n l o) kind = shift_call p f n l kind
@@ -130,7 +133,7 @@ suits needed.Whole w = not (is_ordered w) && is_unframed w
 abbrev pub of_measure : Exp → Gives
 of_measure e a b = over_kind e a
 
--- a median, a count and a rank are no operators on data sets (16)
+-- a median, a count and a rank are no operators on data sets
 abbrev pub is_misplaced : Option AnalyticOp → Bool
 is_misplaced (Some op.Count) = true
 is_misplaced (Some op.Rank) = true
@@ -142,12 +145,12 @@ or_count (Some o) = o
 or_count None = op.Count
 
 -- the structure that a call gives, with a window that suits it
-unfoldable pub over_structure : Exp → Call → Window → List Component → Result Structure ℕ
+unfoldable pub over_structure : Exp → Call → Window → List Component → Result Structure Rule
 over_structure e call w xs =
     measured_form outcome.All (of_measure e) true choice.Except [] xs
-    >>= λ s. ruled ((16, is_misplaced call.op) ∷ (16, not (suits call.needed w)) ∷ []) s
+    >>= λ s. ruled ((rule.AnalyticMisuse, is_misplaced call.op) ∷ (rule.AnalyticMisuse, not (suits call.needed w)) ∷ []) s
 
-unfoldable pub over_node : Exp → Call → Window → NodeTree → Result TypedTree ℕ
+unfoldable pub over_node : Exp → Call → Window → NodeTree → Result TypedTree Rule
 over_node e call w a = over_structure e call w (components_in a) >>= made_of (nodes.analytic_of a (nodes.of_measures (or_count call.op) w))
 
 -- ---- of a value
@@ -160,14 +163,14 @@ abbrev pub is_unfit_over : Exp → Option Kind → Bool
 is_unfit_over e None = not (is_rank e)
 is_unfit_over e (Some kind) = not (is_some (over_kind e kind))
 
-abbrev pub elsewhere_rule : Place → Option Kind → ℕ
-elsewhere_rule place.Outside (Some kind) = 14
-elsewhere_rule p kind = 16
+abbrev pub elsewhere_rule : Place → Option Kind → Rule
+elsewhere_rule place.Outside (Some kind) = rule.DatasetOrValue
+elsewhere_rule p kind = rule.AnalyticMisuse
 
--- the rule of an analytic call that is no whole target of `calc`: its operand does not fit (7); outside, a value stands where a
--- data set is needed (14); it stands elsewhere (16)
-abbrev pub misuse_rule : Place → Exp → Option Kind → ℕ
-misuse_rule p e kind = cond (is_unfit_over e kind) 7 (elsewhere_rule p kind)
+-- the rule of an analytic call that is no whole target of `calc`: its operand does not fit; outside, a value stands where a data
+-- set is needed; or no such call may stand there
+abbrev pub misuse_rule : Place → Exp → Option Kind → Rule
+misuse_rule p e kind = cond (is_unfit_over e kind) rule.WrongKind (elsewhere_rule p kind)
 
 -- ---- behind its operand
 abbrev pub kind_beside : Option TypedTree → Kind
@@ -179,17 +182,17 @@ abbrev pub over_columns : Place → Option TypedTree → List Component
 over_columns p (Some (dataset n)) = columns_in n
 over_columns p x = columns_at p
 
-abbrev pub over_form : Place → Exp → Option TypedTree → Call → Window → Result TypedTree ℕ
+abbrev pub over_form : Place → Exp → Option TypedTree → Call → Window → Result TypedTree Rule
 over_form p e (Some (dataset n)) call w = over_node e call w n
 over_form p e (Some (value v)) call w = Err (misuse_rule p e (Some (exp_kind v)))
 over_form p e None call w = Err (misuse_rule p e None)
 
 -- the other parts of a call, behind its operand, and its window
-unfoldable pub over_parts : Settings → Place → Exp → Option TypedTree → Result (Call × Window) ℕ
+unfoldable pub over_parts : Settings → Place → Exp → Option TypedTree → Result (Call × Window) Rule
 over_parts p at e x = call_typed p e (kind_beside x) >>= λ call. window_typed p (over_columns at x) (over_of e) >>= λ w. Ok (call, w)
 
 -- an analytic call that is no whole target, behind its operand: the other parts, the window, and then the call
-unfoldable pub over_typed : Settings → Place → Exp → Option TypedTree → Result TypedTree ℕ
+unfoldable pub over_typed : Settings → Place → Exp → Option TypedTree → Result TypedTree Rule
 over_typed p at e x = over_parts p at e x >>= λ parts. over_form at e x parts.0 parts.1
 
 -- ---- as a target of `calc`
@@ -214,32 +217,23 @@ argument e v = cond (is_component (operand_exp e)) (column_name v) None
 abbrev pub call_tree : AnalyticOp → Option (List ℕ) → Window → ValueTree
 call_tree o component w = nodes.analytic (record { op = o; component = component; window = w })
 
--- a call of a component: the window suits it (16); other operands, and a median, break 16
-abbrev pub call_of : Call → Option (List ℕ) → Window → Option AnalyticOp → Result ValueTree ℕ
-call_of call (Some name) w (Some o) = ruled ((16, not (suits call.needed w)) ∷ []) (call_tree o (Some name) w)
-call_of call named w o = Err 16
+-- a call of a component: the window suits it; other operands, and a median, break `AnalyticMisuse`
+abbrev pub call_of : Call → Option (List ℕ) → Window → Option AnalyticOp → Result ValueTree Rule
+call_of call (Some name) w (Some o) = ruled ((rule.AnalyticMisuse, not (suits call.needed w)) ∷ []) (call_tree o (Some name) w)
+call_of call named w o = Err rule.AnalyticMisuse
 
--- behind an operand that fits (7)
-abbrev pub value_call : Exp → CompExp → Call → Window → Result ValueTree ℕ
-value_call e v call w = ruled ((7, is_unfit_over e (Some (exp_kind v))) ∷ []) (tt {0}) >>= λ u. call_of call (argument e v) w call.op
+-- behind an operand that fits
+abbrev pub value_call : Exp → CompExp → Call → Window → Result ValueTree Rule
+value_call e v call w = ruled ((rule.WrongKind, is_unfit_over e (Some (exp_kind v))) ∷ []) (tt {0}) >>= λ u. call_of call (argument e v) w call.op
 
-abbrev pub rank_call : Call → Window → Result ValueTree ℕ
-rank_call call w = ruled ((16, not (suits call.needed w)) ∷ []) (call_tree op.Rank None w)
+abbrev pub rank_call : Call → Window → Result ValueTree Rule
+rank_call call w = ruled ((rule.AnalyticMisuse, not (suits call.needed w)) ∷ []) (call_tree op.Rank None w)
 
--- the kind that an analytic operator gives of values of a kind that it takes
-abbrev pub given_kind : AnalyticOp → Kind → Kind
-given_kind op.Sum kind = cond (meets k.Int kind) k.Int k.Num
-given_kind op.Avg kind = k.Num
-given_kind op.Count kind = k.Int
-given_kind op.Rank kind = k.Int
-given_kind op.RatioToReport kind = k.Num
-given_kind o kind = kind
-
--- where a value is needed an operator on a data set is typed, and then breaks 14
-abbrev pub target_form : Exp → Option TypedTree → Call → Window → Result ValueTree ℕ
-target_form e (Some (dataset n)) call w = over_node e call w n >>= λ t. Err 14
+-- where a value is needed an operator on a data set is typed, and then breaks `DatasetOrValue`
+abbrev pub target_form : Exp → Option TypedTree → Call → Window → Result ValueTree Rule
+target_form e (Some (dataset n)) call w = over_node e call w n >>= λ t. Err rule.DatasetOrValue
 target_form e (Some (value v)) call w = value_call e v call w
-target_form e None call w = cond (is_rank e) (rank_call call w) (Err 7)
+target_form e None call w = cond (is_rank e) (rank_call call w) (Err rule.WrongKind)
 
-unfoldable pub target_typed : Settings → Place → Exp → Option TypedTree → Result ValueTree ℕ
+unfoldable pub target_typed : Settings → Place → Exp → Option TypedTree → Result ValueTree Rule
 target_typed p at e x = over_parts p at e x >>= λ parts. target_form e x parts.0 parts.1

@@ -10,15 +10,14 @@ ghost use Rattle.check_shapes.specs.Measures.{measured_form};
 ghost use Rattle.vtl_tree.specs.View.{comp_exp_of};
 ghost use Rattle.check_operators.specs.Places.{inside_view, written_in, written_view};
 ghost use Rattle.check_operators.specs.Typed.{boxed_tree, typed_tree};
-ghost use Rattle.check_groups.specs.Aggregates.{agg_kind, aggregate_node, component_call, count_call, group_call, group_call_by, group_operand, grouping_choice, grouping_names, is_group, misuse_rule, no_dataset, of_measure, outcome_of, written_call};
+ghost use Rattle.check_values.specs.Groupings.{grouping_choice, grouping_names};
+ghost use Rattle.check_groups.specs.Aggregates.{agg_kind, aggregate_node, component_call, count_call, group_call, group_call_by, group_operand, is_group, misuse_rule, no_dataset, of_measure, outcome_of, written_call};
 
-use crate::groups::grouping_of;
 use crate::kinds::{agg_kind, aggregate_kind, call_kind, is_unfit};
-use crate::{grouping_choice, grouping_names};
-use check_faults::{TypeErr, broken};
+use check_faults::{Rule, TypeErr, broken};
 use check_operators::{Inside, Place, Typed, WrittenName, made_of, name_written, written_in};
 use check_shapes::{Operator, Outcome, measured};
-use check_values::{column, kind};
+use check_values::{column, grouping_choice, grouping_names, grouping_of, kind};
 use std::alloc::Global;
 use vtl_cell::Kind;
 use vtl_nodes::{AggItems, AggSpec, Node, NodeForm};
@@ -69,9 +68,9 @@ fn group_call_by(
     ensures { Answers typed_tree result (group_call_by function component grouped kind) }
 {
     let Some(kind) = kind else {
-        return Err(TypeErr::Broken(7));
+        return Err(TypeErr::Broken(Rule::WrongKind));
     };
-    broken(15, grouped)?;
+    broken(Rule::AggregateMisuse, grouped)?;
     Ok(group_call(function, component, kind))
 }
 
@@ -88,8 +87,8 @@ fn component_call(
     group_call_by(function, Some(name), grouped, given)
 }
 
-/// An aggregate of a component over groups, in a target of `aggr` or in `having`. It breaks rule 4, 7 where the component's kind
-/// does not fit, and 15 where it has groups of its own.
+/// An aggregate of a component over groups, in a target of `aggr` or in `having`. It breaks `UnknownComponent`, `WrongKind` where
+/// the component's kind does not fit, and `AggregateMisuse` where it has groups of its own.
 #[tactic(auto, unfolding(crate::specs::Aggregates::written_call))]
 pub fn written_call(
     alloc: Global,
@@ -165,8 +164,8 @@ fn aggregate_form(
     NodeForm::Aggregate { a: operand, spec }
 }
 
-/// An aggregate of each measure of a data set. It breaks rule 7 where the kind of a measure does not fit, and 12 where nothing is
-/// left.
+/// An aggregate of each measure of a data set. It breaks `WrongKind` where the kind of a measure does not fit, and
+/// `ComponentCount` where nothing is left.
 #[tactic(auto, unfolding(crate::specs::Aggregates::aggregate_node))]
 pub fn aggregate(
     alloc: Global,
@@ -198,17 +197,18 @@ fn count_call(function: AggregateName, grouped: bool) -> Result<Typed, TypeErr>
     group_call_by(function, None, grouped, call_kind(function, None))
 }
 
-fn misuse_rule(place: &Place, unfit: bool, grouped: bool) -> u8
+fn misuse_rule(place: &Place, unfit: bool, grouped: bool) -> Rule
     ensures { result ≡ misuse_rule place.now unfit grouped }
 {
     match place {
-        _ if unfit => 7,
-        Place::Inside(_) if !grouped => 15,
-        _ => 14,
+        _ if unfit => Rule::WrongKind,
+        Place::Inside(_) if !grouped => Rule::AggregateMisuse,
+        _ => Rule::DatasetOrValue,
     }
 }
 
-/// An aggregate of no data set: over groups `count()` is the number of points; all else breaks rule 7, 14 or 15.
+/// An aggregate of no data set: over groups `count()` is the number of points; all else breaks `WrongKind`, `DatasetOrValue` or
+/// `AggregateMisuse`.
 pub fn no_dataset(
     place: &Place,
     function: AggregateName,
@@ -223,6 +223,6 @@ pub fn no_dataset(
             Err(TypeErr::Broken(misuse_rule(place, unfit, grouped)))
         }
         None if is_group(place) => count_call(function, grouped),
-        None => Err(TypeErr::Broken(7)),
+        None => Err(TypeErr::Broken(Rule::WrongKind)),
     }
 }

@@ -13,7 +13,7 @@ use crate::call_windows::over_parts;
 use crate::calls::suits;
 use crate::over_kinds::{is_rank, is_unfit_over};
 use crate::over_nodes::over_structure;
-use check_faults::{TypeErr, broken};
+use check_faults::{Rule, TypeErr, broken};
 use check_operators::{Place, Typed, written_in};
 use check_values::kind;
 use std::alloc::Global;
@@ -73,14 +73,14 @@ fn call_of(call: Call, component: Option<&Txt>, window: Window) -> Result<CalcVa
     let suits = suits(call.needed, &window);
     match (call.op, component) {
         (Some(op), Some(component)) => {
-            broken(16, !suits)?;
+            broken(Rule::AnalyticMisuse, !suits)?;
             Ok(CalcValue::Analytic(AnalyticCall {
                 op,
                 component: Some(component.share()?),
                 window,
             }))
         }
-        _ => Err(TypeErr::Broken(16)),
+        _ => Err(TypeErr::Broken(Rule::AnalyticMisuse)),
     }
 }
 
@@ -93,14 +93,14 @@ fn value_call(
 ) -> Result<CalcValue, TypeErr>
     ensures { Answers value_tree result (value_call (expr_tree e.now) (comp_exp_of operand.now) call window) }
 {
-    broken(7, is_unfit_over(e, Some(kind(operand))))?;
+    broken(Rule::WrongKind, is_unfit_over(e, Some(kind(operand))))?;
     call_of(call, argument(e, operand), window)
 }
 
 fn rank_call(call: &Call, window: Window) -> Result<CalcValue, TypeErr>
     ensures { Answers value_tree result (rank_call call.now window) }
 {
-    broken(16, !suits(call.needed, &window))?;
+    broken(Rule::AnalyticMisuse, !suits(call.needed, &window))?;
     Ok(CalcValue::Analytic(AnalyticCall {
         op: AnalyticOp::Rank,
         component: None,
@@ -108,7 +108,7 @@ fn rank_call(call: &Call, window: Window) -> Result<CalcValue, TypeErr>
     }))
 }
 
-// Where a value is needed an operator on a data set is typed, and then breaks rule 14.
+// Where a value is needed an operator on a data set is typed, and then breaks `DatasetOrValue`.
 #[tactic(auto, unfolding(crate::specs::Windowed::over_node))]
 fn target_form(
     alloc: Global,
@@ -122,11 +122,11 @@ fn target_form(
     match operand {
         Some(Typed::Dataset(node)) => {
             over_structure(alloc, e, &call, &window, &node.structure)?;
-            Err(TypeErr::Broken(14))
+            Err(TypeErr::Broken(Rule::DatasetOrValue))
         }
         Some(Typed::Value(value)) => value_call(e, value, call, window),
         None if is_rank(e) => rank_call(&call, window),
-        None => Err(TypeErr::Broken(7)),
+        None => Err(TypeErr::Broken(Rule::WrongKind)),
     }
 }
 

@@ -1,11 +1,16 @@
-//! Aggregates and analytic calls on typed operands.
+//! Aggregates and analytic calls on typed operands: of the measures of a data set, of a component over groups, over
+//! windows.
+//!
+//! It decides which of them may stand where (rules 15 and 16), what they ask of measures, and what they give.
+//! It stands beside `check_clauses`, and neither calls the other; what they share is further down. It goes down no
+//! tree and computes no aggregate.
+//! Begin with specs/Aggregates.antt, then Windowed.antt.
 #![tactic(auto)]
 
 mod aggregates;
 mod calc_targets;
 mod call_windows;
 mod calls;
-mod groups;
 mod kinds;
 mod over_kinds;
 mod over_nodes;
@@ -14,6 +19,4 @@ mod windowed;
 pub use aggregates::{aggregate, group_operand, no_dataset, written_call};
 pub use calc_targets::target;
 pub use calls::{Call, Needed};
-pub use groups::{grouping, grouping_choice, grouping_names};
-pub use over_kinds::given_kind;
 pub use windowed::over;

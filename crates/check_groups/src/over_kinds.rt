@@ -1,13 +1,12 @@
 // The kinds that analytic calls take and give.
 ghost use Rattle.std.specs.Prelude.{◌≡◌};
 ghost use Rattle.vtl_syntax.specs.View.{expr_tree};
-ghost use Rattle.check_groups.specs.Windowed.{given_kind, is_rank, is_unfit_over, meets_default, over_kind, shift_kind, window_kind};
+ghost use Rattle.check_groups.specs.Windowed.{is_rank, is_unfit_over, meets_default, over_kind, shift_kind, window_kind};
 
 use crate::kinds::aggregate_kind;
 use check_values::literal_kind;
 use vtl_cell::Kind;
 use vtl_kinds::{meets, number_of};
-use vtl_nodes::AnalyticOp;
 use vtl_syntax::{Expr, Literal, ValueWindowName};
 
 fn window_kind(function: ValueWindowName, kind: Kind) -> Option<Kind>
@@ -67,17 +66,5 @@ pub(crate) fn is_unfit_over(call: &Expr, kind: Option<Kind>) -> bool
     match kind {
         Some(kind) => over_kind(call, kind).is_none(),
         None => !is_rank(call),
-    }
-}
-
-/// The kind that an analytic operator gives of values of a kind that it takes.
-pub fn given_kind(op: &AnalyticOp, kind: Kind) -> Kind
-    ensures { result ≡ given_kind op.now kind }
-{
-    match op {
-        AnalyticOp::Sum if meets(Kind::Int, kind) => Kind::Int,
-        AnalyticOp::Sum | AnalyticOp::Avg | AnalyticOp::RatioToReport => Kind::Num,
-        AnalyticOp::Count | AnalyticOp::Rank => Kind::Int,
-        _ => kind,
     }
 }

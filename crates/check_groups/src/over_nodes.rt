@@ -10,7 +10,7 @@ ghost use Rattle.check_groups.specs.Windowed.{is_misplaced, or_count, over_node,
 use crate::Call;
 use crate::calls::suits;
 use crate::over_kinds::over_kind;
-use check_faults::{TypeErr, broken};
+use check_faults::{Rule, TypeErr, broken};
 use check_operators::{Typed, made_of};
 use check_shapes::{Choice, Operator, Outcome, measured};
 use std::alloc::Global;
@@ -46,8 +46,8 @@ fn is_misplaced(op: &Option<AnalyticOp>) -> bool
     }
 }
 
-/// The structure of a call of each measure. It breaks rule 7 where the kind of a measure does not fit, 12 where nothing is left,
-/// and 16 where the call is no operator on data sets or does not suit its window.
+/// The structure of a call of each measure. It breaks `WrongKind` where the kind of a measure does not fit, `ComponentCount`
+/// where nothing is left, and `AnalyticMisuse` where the call is no operator on data sets or does not suit its window.
 #[tactic(auto, unfolding(crate::specs::Windowed::over_structure))]
 pub(crate) fn over_structure(
     alloc: Global,
@@ -68,8 +68,8 @@ pub(crate) fn over_structure(
         &[],
         structure,
     )?;
-    broken(16, is_misplaced(&call.op))?;
-    broken(16, !suits(call.needed, window))?;
+    broken(Rule::AnalyticMisuse, is_misplaced(&call.op))?;
+    broken(Rule::AnalyticMisuse, !suits(call.needed, window))?;
     Ok(given)
 }
 

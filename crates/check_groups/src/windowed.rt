@@ -10,7 +10,7 @@ use crate::Call;
 use crate::call_windows::over_parts;
 use crate::over_kinds::is_unfit_over;
 use crate::over_nodes::over_node;
-use check_faults::TypeErr;
+use check_faults::{Rule, TypeErr};
 use check_operators::{Place, Typed};
 use check_values::kind;
 use std::alloc::Global;
@@ -19,20 +19,20 @@ use vtl_decimal::Profile;
 use vtl_nodes::Window;
 use vtl_syntax::Expr;
 
-fn elsewhere_rule(place: &Place, kind: Option<Kind>) -> u8
+fn elsewhere_rule(place: &Place, kind: Option<Kind>) -> Rule
     ensures { result ≡ elsewhere_rule place.now kind }
 {
     match (place, kind) {
-        (Place::Outside, Some(_)) => 14,
-        _ => 16,
+        (Place::Outside, Some(_)) => Rule::DatasetOrValue,
+        _ => Rule::AnalyticMisuse,
     }
 }
 
-fn misuse_rule(place: &Place, call: &Expr, kind: Option<Kind>) -> u8
+fn misuse_rule(place: &Place, call: &Expr, kind: Option<Kind>) -> Rule
     ensures { result ≡ misuse_rule place.now (expr_tree call.now) kind }
 {
     if is_unfit_over(call, kind) {
-        7
+        Rule::WrongKind
     } else {
         elsewhere_rule(place, kind)
     }
@@ -55,8 +55,8 @@ fn over_form(
     }
 }
 
-/// An analytic call that is no whole target of `calc`, behind its operand: a data set has its measures, anything else breaks rule
-/// 7, 14 or 16.
+/// An analytic call that is no whole target of `calc`, behind its operand: a data set has its measures, anything else breaks
+/// `WrongKind`, `DatasetOrValue` or `AnalyticMisuse`.
 #[tactic(auto, unfolding(crate::specs::Windowed::over_typed))]
 pub fn over(
     alloc: Global,

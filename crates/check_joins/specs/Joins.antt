@@ -4,11 +4,14 @@ use Rattle.std.specs.List.{list_any, list_all}
 use Rattle.std.specs.Option.{option_map_or}
 use Rattle.vtl_syntax.specs.declared.word_groups.JoinKind.{JoinKind}
 use Rattle.vtl_syntax.specs.declared.word_groups.JoinKind.TheVariants as join
-use Rattle.vtl_tree.specs.Structure.{names_of, same_name}
+use Rattle.vtl_tree.specs.Structure.{most_components, names_of, same_name}
 use Rattle.vtl_tree.specs.declared.structure.Role.TheVariants as role
 use Rattle.vtl_tree.specs.declared.structure.Component.{Component}
 use Rattle.vtl_tree.specs.declared.structure.Structure.{Structure}
-use Rattle.check_faults.specs.Rules.{◌>>=◌, ruled, Tests}
+use Rattle.vtl_lists.specs.Results.{◌>>=◌}
+use Rattle.check_faults.specs.Rules.{ruled, Tests}
+use Rattle.check_faults.specs.declared.rules.Rule.{Rule}
+use Rattle.check_faults.specs.declared.rules.Rule.TheVariants as rule
 use Rattle.check_shapes.specs.Choices.{is_identifier, is_identifier_name}
 use Rattle.check_shapes.specs.Names.{component_of, is_among}
 use Rattle.check_shapes.specs.Operands.{agree, agreed_identifiers}
@@ -134,11 +137,11 @@ joined_components kind held os = joined_identifiers (is_cross kind) held os (ref
 -- a name behind `using`: no operand has it, it stands there already, it is never an identifier
 abbrev pub using_tests : List Operand → List (List ℕ) → List ℕ → Tests
 using_tests os before name =
-    (4, not (list_any (λ o. is_some (component_of name o.structure.components)) os))
-    ∷ (5, is_among name before)
-    ∷ (6, not (list_any (λ o. is_identifier_name o.structure.components name) os)) ∷ []
+    (rule.UnknownComponent, not (list_any (λ o. is_some (component_of name o.structure.components)) os))
+    ∷ (rule.RepeatedName, is_among name before)
+    ∷ (rule.WrongRole, not (list_any (λ o. is_identifier_name o.structure.components name) os)) ∷ []
 
-abbrev pub using_behind : List Operand → List (List ℕ) → List (List ℕ) → Result (Unit {0}) ℕ
+abbrev pub using_behind : List Operand → List (List ℕ) → List (List ℕ) → Result (Unit {0}) Rule
 using_behind os before [] = Ok tt
 using_behind os before (name ∷ names) = ruled (using_tests os before name) (tt {0}) >>= λ u. using_behind os (before ++ name ∷ []) names
 
@@ -149,18 +152,18 @@ takes_using join.Left = true
 takes_using kind = false
 
 -- the names behind `using`, and then that the join takes them
-abbrev pub using_form : JoinKind → List Operand → Option (List (List ℕ)) → Result (Unit {0}) ℕ
+abbrev pub using_form : JoinKind → List Operand → Option (List (List ℕ)) → Result (Unit {0}) Rule
 using_form kind os None = Ok tt
-using_form kind os (Some names) = using_behind os [] names >>= λ u. ruled ((21, not (takes_using kind)) ∷ []) tt
+using_form kind os (Some names) = using_behind os [] names >>= λ u. ruled ((rule.JoinMisuse, not (takes_using kind)) ∷ []) tt
 
 -- the rules that the join can break: the identifiers of its operands, and the size of the joined set
 abbrev pub join_tests : JoinKind → Option (List (List ℕ)) → List Operand → Tests
 join_tests kind listed os =
-    (9, not (go_together kind listed os))
-    ∷ (12, nat_lt 64 (length (held_names kind os))) ∷ []
+    (rule.IdentifiersDisagree, not (go_together kind listed os))
+    ∷ (rule.ComponentCount, nat_lt most_components (length (held_names kind os))) ∷ []
 
 -- a join: the structure of the joined set
-abbrev pub join_form : JoinKind → Option (List (List ℕ)) → List Operand → Result Structure ℕ
+abbrev pub join_form : JoinKind → Option (List (List ℕ)) → List Operand → Result Structure Rule
 join_form kind listed os =
     using_form kind os listed
     >>= λ u. ruled (join_tests kind listed os) (tt {0})
@@ -177,12 +180,12 @@ holds kind is_reference o name = option_map_or (λ x. is_reference || is_held ki
 abbrev pub is_reference : JoinKind → List Operand → List ℕ → Bool
 is_reference kind os alias = option_map_or (λ o. same_name o.alias alias) (reference kind os) false
 
-abbrev pub member_of : JoinKind → List Operand → List (List ℕ) → List ℕ → Option Operand → Result (List ℕ) ℕ
-member_of kind os held name None = Err 4
-member_of kind os held name (Some o) = ruled ((4, not (holds kind (is_reference kind os o.alias) o name)) ∷ []) (joined_name held o.alias name)
+abbrev pub member_of : JoinKind → List Operand → List (List ℕ) → List ℕ → Option Operand → Result (List ℕ) Rule
+member_of kind os held name None = Err rule.UnknownComponent
+member_of kind os held name (Some o) = ruled ((rule.UnknownComponent, not (holds kind (is_reference kind os o.alias) o name)) ∷ []) (joined_name held o.alias name)
 
 -- the name in the joined set that `alias#name` stands for, by the names that operands hold
-abbrev pub member_form : JoinKind → List Operand → List (List ℕ) → List ℕ → List ℕ → Result (List ℕ) ℕ
+abbrev pub member_form : JoinKind → List Operand → List (List ℕ) → List ℕ → List ℕ → Result (List ℕ) Rule
 member_form kind os held alias name = member_of kind os held name (operand_of alias os)
 
 -- the last naming: what is still named `alias'name` becomes `name`

@@ -8,12 +8,12 @@ ghost use Rattle.check_joins.specs.Joins.{all_own, held_by, held_names, holds, i
 
 use crate::Operand;
 use crate::joins::{check_using, go_together, is_cross, reference};
-use check_faults::{TypeErr, broken};
-use check_shapes::{Renaming, component_of, is_identifier, push_identifiers, shaped, share_codes};
+use check_faults::{Rule, TypeErr, broken};
+use check_shapes::{Renaming, component_of, is_identifier, push_identifiers, shaped};
 use std::alloc::{AllocError, Global};
 use vtl_syntax::JoinKind;
 use vtl_text::{Txt, concat};
-use vtl_tree::{Component, Structure};
+use vtl_tree::{Component, MAX_COMPONENTS, Structure, share_codes};
 
 fn is_held(kind: JoinKind, component: &Component) -> bool
     ensures { result ≡ is_held kind component.now }
@@ -191,7 +191,7 @@ fn joined_components(
 
 /// The joined set of a join: the identifiers of the reference, in a cross join those of all operands, and then the other
 /// components operand by operand. A name that several operands hold is `alias'name` in it. Beside what the names behind `using`
-/// break, the join breaks rule 9 where the identifiers of its operands do not agree as it requires.
+/// break, the join breaks `IdentifiersDisagree` where the identifiers of its operands do not agree as it requires.
 pub fn join(
     alloc: Global,
     kind: JoinKind,
@@ -201,9 +201,12 @@ pub fn join(
     ensures { Answers (λ s. s) result (join_form kind (option_copied listed.entry) operands.now) }
 {
     check_using(kind, operands, listed)?;
-    broken(9, !go_together(kind, listed, operands))?;
+    broken(
+        Rule::IdentifiersDisagree,
+        !go_together(kind, listed, operands),
+    )?;
     let held = held_names(alloc, kind, operands)?;
-    broken(12, 64 < held.len())?;
+    broken(Rule::ComponentCount, MAX_COMPONENTS < held.len())?;
     let out = joined_components(alloc, kind, &held, operands)?;
     shaped(alloc, out)
 }
@@ -237,8 +240,8 @@ fn is_reference(kind: JoinKind, operands: &[Operand], alias: &Txt) -> bool
     }
 }
 
-/// The name in the joined set that `alias#name` stands for, by the names that the operands hold (`held_names`). It breaks rule 4
-/// where no operand has the alias or that operand does not hold the name.
+/// The name in the joined set that `alias#name` stands for, by the names that the operands hold (`held_names`). It breaks
+/// `UnknownComponent` where no operand has the alias or that operand does not hold the name.
 pub fn member(
     alloc: Global,
     kind: JoinKind,
@@ -250,10 +253,13 @@ pub fn member(
     ensures { Answers (λ t. t) result (member_form kind operands.now held.now alias.now name.now) }
 {
     let Some(operand) = operand_of(alias, operands) else {
-        return Err(TypeErr::Broken(4));
+        return Err(TypeErr::Broken(Rule::UnknownComponent));
     };
     let is_first = is_reference(kind, operands, &operand.alias);
-    broken(4, !holds(kind, is_first, operand, name))?;
+    broken(
+        Rule::UnknownComponent,
+        !holds(kind, is_first, operand, name),
+    )?;
     Ok(joined_name(alloc, held, &operand.alias, name)?)
 }
 

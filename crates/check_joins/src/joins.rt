@@ -9,7 +9,7 @@ ghost use Rattle.check_shapes.specs.Choices.{is_identifier as is_id, is_identifi
 ghost use Rattle.check_shapes.specs.Names.{component_of as component_named, is_among as among};
 ghost use Rattle.check_joins.specs.Joins.{agrees, all_go_with, clashes, go_together, goes_with, greatest_width, is_cross, is_exactly, place_of_width, reference, reference_place, structures_of, takes_using, using_behind, using_form, using_tests, width};
 
-use check_faults::{TypeErr, broken};
+use check_faults::{Rule, TypeErr, broken};
 use check_shapes::{
     Compared, agree, component_of, contains, count_role, is_among, is_identifier,
     is_identifier_name,
@@ -206,9 +206,9 @@ fn any_identifies(operands: &[Operand], name: &Txt) -> bool
 fn check_using_name(operands: &[Operand], before: &[Txt], name: &Txt) -> Result<(), TypeErr>
     ensures { Answers (λ done. done) result (ruled (using_tests operands.now before.now name.now) tt) }
 {
-    broken(4, !any_has(operands, name))?;
-    broken(5, is_among(name, before))?;
-    broken(6, !any_identifies(operands, name))
+    broken(Rule::UnknownComponent, !any_has(operands, name))?;
+    broken(Rule::RepeatedName, is_among(name, before))?;
+    broken(Rule::WrongRole, !any_identifies(operands, name))
 }
 
 fn check_using_names(operands: &[Operand], names: &[Txt]) -> Result<(), TypeErr>
@@ -229,8 +229,8 @@ fn takes_using(kind: JoinKind) -> bool
     }
 }
 
-/// The names behind `using`: one breaks rule 4 where no operand has it, 5 where it stands there already, and 6 where it is never
-/// an identifier. Behind them a join that takes no `using` breaks rule 21.
+/// The names behind `using`: one breaks `UnknownComponent` where no operand has it, `RepeatedName` where it stands there already,
+/// and `WrongRole` where it is never an identifier. Behind them a join that takes no `using` breaks `JoinMisuse`.
 pub(crate) fn check_using(
     kind: JoinKind,
     operands: &[Operand],
@@ -242,5 +242,5 @@ pub(crate) fn check_using(
         return Ok(());
     };
     check_using_names(operands, names)?;
-    broken(21, !takes_using(kind))
+    broken(Rule::JoinMisuse, !takes_using(kind))
 }

@@ -1,4 +1,10 @@
-//! Joins: which operands go together, the joined set with its structure, and the names in it.
+//! Joins as structures: which operands go together, the joined set, what `alias#name` stands for in it, and its
+//! last naming.
+//!
+//! A join is typed in three steps, of which this is the middle one: `check_clauses` hands in operands that are
+//! typed already and lets the body follow.
+//! It knows no expressions and no points.
+//! Begin with specs/Joins.antt: `join_form`, and above it who goes with whom.
 #![tactic(auto)]
 
 mod joined;

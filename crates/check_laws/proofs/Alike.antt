@@ -3,7 +3,10 @@ use Rattle.std.proofs.Common.{◌≡◌, ℕ, suc, ◌+◌, Bool, true, false, c
 use Rattle.std.specs.Map.{lookup}
 use Rattle.vtl_decimal.specs.Settings.{Settings}
 use Rattle.vtl_cell.specs.declared.operator.ScalarOp.TheVariants as op
-use Rattle.check_faults.specs.Rules.{◌>>=◌, ruled}
+use Rattle.vtl_lists.specs.Results.{◌>>=◌}
+use Rattle.check_faults.specs.Rules.{ruled}
+use Rattle.check_faults.specs.declared.rules.Rule.{Rule}
+use Rattle.check_faults.specs.declared.rules.Rule.TheVariants as rule
 use Rattle.vtl_syntax.specs.Trees as tree
 use Rattle.vtl_syntax.specs.Trees.{Calcs, ClauseTree, Exp, Exps, MaybeExp, MaybeTargets, Parts, ScriptTree, TargetsTree}
 use Rattle.vtl_syntax.specs.declared.parts.Comp.{Comp}
@@ -14,6 +17,7 @@ use Rattle.vtl_tree.specs.Structure.{same_name}
 use Rattle.vtl_tree.specs.Structures.{Named, has_name}
 use Rattle.vtl_tree.specs.declared.structure.Structure.{Structure}
 use Rattle.vtl_nodes.specs.Trees.{ItemTree, NodeTree, structure_of}
+use Rattle.check_values.specs.Groupings.{grouping_typed}
 use Rattle.check_values.specs.Literals.{literals_fit}
 use Rattle.check_values.specs.Operators.{exps_length, of_binary, of_function, of_unary, takes}
 use Rattle.check_operators.specs.Operators.{operator_form, set_form}
@@ -23,7 +27,7 @@ use Rattle.check_operators.specs.Typed.{TypedTree, value, dataset, components_in
 use Rattle.check_operators.specs.declared.places.Joined.{Joined}
 use Rattle.check_operators.specs.declared.places.Place.{Place}
 use Rattle.check_operators.specs.declared.places.Place.TheVariants as place
-use Rattle.check_groups.specs.Aggregates.{aggregate_node, group_operand, grouping_typed}
+use Rattle.check_groups.specs.Aggregates.{aggregate_node, group_operand}
 use Rattle.check_groups.specs.Windowed.{over_typed}
 use Rattle.check_clauses.specs.Clauses.{filter_form}
 use Rattle.check_clauses.specs.JoinOperands.{PartTyped, joined_node, joined_of, operands_in, with_part}
@@ -38,20 +42,20 @@ use Rattle.check_laws.specs.Reads.{all_read, calcs_read, clause_reads, is_inside
 use Rattle.check_laws.specs.Scripts.{AreKnownAlike}
 use Rattle.check_laws.proofs.Lists as lists
 
-same-each : {A B : Type 0} (s : Result A ℕ) (f g : A → Result B ℕ) → ((x : A) → f x ≡ g x) → (s >>= f) ≡ (s >>= g)
+same-each : {A B : Type 0} (s : Result A Rule) (f g : A → Result B Rule) → ((x : A) → f x ≡ g x) → (s >>= f) ≡ (s >>= g)
 same-each (Ok x) f g h = h x
-same-each (Err rule) f g h = refl
+same-each (Err broken) f g h = refl
 
-same-then : {A B : Type 0} (r s : Result A ℕ) (f g : A → Result B ℕ) → r ≡ s → ((x : A) → f x ≡ g x) → (r >>= f) ≡ (s >>= g)
+same-then : {A B : Type 0} (r s : Result A Rule) (f g : A → Result B Rule) → r ≡ s → ((x : A) → f x ≡ g x) → (r >>= f) ≡ (s >>= g)
 same-then r s f g e h = ap (λ r. r >>= f) e ∙ same-each s f g h
 
-same-first : {A B : Type 0} (r s : Result A ℕ) (f : A → Result B ℕ) → r ≡ s → (r >>= f) ≡ (s >>= f)
+same-first : {A B : Type 0} (r s : Result A Rule) (f : A → Result B Rule) → r ≡ s → (r >>= f) ≡ (s >>= f)
 same-first r s f e = ap (λ r. r >>= f) e
 
-same-rest : {A B : Type 0} (r : Result A ℕ) (f g : A → Result B ℕ) → ((x : A) → f x ≡ g x) → (r >>= f) ≡ (r >>= g)
+same-rest : {A B : Type 0} (r : Result A Rule) (f g : A → Result B Rule) → ((x : A) → f x ≡ g x) → (r >>= f) ≡ (r >>= g)
 same-rest r f g h = same-each r f g h
 
-member-alike : (at : Place) (e : Exp) (c : Comp) (known other : Named) (r s : Result TypedTree ℕ) → (AreKnownAlike known other (names_read false e) → r ≡ s) → AreKnownAlike known other (cond (is_inside at && is_some (member_written e c)) [] (names_read false e)) → or_component (member_inside at e c) r ≡ or_component (member_inside at e c) s
+member-alike : (at : Place) (e : Exp) (c : Comp) (known other : Named) (r s : Result TypedTree Rule) → (AreKnownAlike known other (names_read false e) → r ≡ s) → AreKnownAlike known other (cond (is_inside at && is_some (member_written e c)) [] (names_read false e)) → or_component (member_inside at e c) r ≡ or_component (member_inside at e c) s
 member-alike place.Outside e c known other r s f h = f h
 member-alike (place.Inside i) e c known other r s f h = go (member_written e c) h
   where
@@ -132,9 +136,9 @@ module _ (p : Settings) (known other : Named) where
     typed-alike at (tree.check e err i o) h =
         same-then (typed one place.Outside e) (typed two place.Outside e) (λ x. check_spec p err o >>= λ s. maybe_typed one place.Outside i >>= check_form s x) (λ x. check_spec p err o >>= λ s. maybe_typed two place.Outside i >>= check_form s x) (typed-alike place.Outside e (front (names_read false e) (maybe_read false i) h))
         (λ x. same-rest (check_spec p err o) (λ s. maybe_typed one place.Outside i >>= check_form s x) (λ s. maybe_typed two place.Outside i >>= check_form s x) (λ s. same-first (maybe_typed one place.Outside i) (maybe_typed two place.Outside i) (check_form s x) (maybe-alike place.Outside i (back (names_read false e) (maybe_read false i) h))))
-    typed-alike at (tree.check_datapoint e n o) h = same-first (typed one place.Outside e) (typed two place.Outside e) (λ x. Err 3) (typed-alike place.Outside e h)
-    typed-alike at (tree.check_hierarchy e n r m d o) h = same-first (typed one place.Outside e) (typed two place.Outside e) (λ x. Err 3) (typed-alike place.Outside e h)
-    typed-alike at (tree.hierarchy e n r m i o) h = same-first (typed one place.Outside e) (typed two place.Outside e) (λ x. Err 3) (typed-alike place.Outside e h)
+    typed-alike at (tree.check_datapoint e n o) h = same-first (typed one place.Outside e) (typed two place.Outside e) (λ x. Err rule.UnknownRuleset) (typed-alike place.Outside e h)
+    typed-alike at (tree.check_hierarchy e n r m d o) h = same-first (typed one place.Outside e) (typed two place.Outside e) (λ x. Err rule.UnknownRuleset) (typed-alike place.Outside e h)
+    typed-alike at (tree.hierarchy e n r m i o) h = same-first (typed one place.Outside e) (typed two place.Outside e) (λ x. Err rule.UnknownRuleset) (typed-alike place.Outside e h)
     typed-alike at (tree.join kind ps u f m k rs) h =
         same-then (parts_typed one [] ps >>= operands_in) (parts_typed two [] ps >>= operands_in) (λ os. filtered_join one (Some (joined_of kind os)) f kind u os >>= join_end one (Some (joined_of kind os)) m k rs) (λ os. filtered_join two (Some (joined_of kind os)) f kind u os >>= join_end two (Some (joined_of kind os)) m k rs)
         (same-first (parts_typed one [] ps) (parts_typed two [] ps) operands_in (parts-alike [] ps (front (parts_read ps) (maybe_read true f ++ step_reads m) h)))
@@ -231,15 +235,15 @@ more-alike known other name s names h =
 assigned-alike : (p : Settings) (known other : Named) (before : ℕ) (name : List ℕ) (e : Exp) → lookup (same_name name) known ≡ lookup (same_name name) other → AreKnownAlike known other (names_read false e) → assigned (env_over p known) before name e ≡ assigned (env_over p other) before name e
 unfolding assigned
 assigned-alike p known other before name e same h =
-    ap (λ b. ruled ((2, b) ∷ []) (tt {0}) >>= λ u. value_typed (env_over p known) e >>= λ n. ruled ((20, is_too_much before n) ∷ []) n) (has_name-lookup name known ∙ ap is_some same ∙ sym (has_name-lookup name other))
-    ∙ same-rest (ruled ((2, has_name name other) ∷ []) (tt {0})) (λ u. value_typed (env_over p known) e >>= λ n. ruled ((20, is_too_much before n) ∷ []) n) (λ u. value_typed (env_over p other) e >>= λ n. ruled ((20, is_too_much before n) ∷ []) n)
-    (λ u. ap (λ t. t >>= dataset_in >>= λ n. ruled ((20, is_too_much before n) ∷ []) n) (typed-alike p known other place.Outside e h))
+    ap (λ b. ruled ((rule.NameTaken, b) ∷ []) (tt {0}) >>= λ u. value_typed (env_over p known) e >>= λ n. ruled ((rule.TooManyNodes, is_too_much before n) ∷ []) n) (has_name-lookup name known ∙ ap is_some same ∙ sym (has_name-lookup name other))
+    ∙ same-rest (ruled ((rule.NameTaken, has_name name other) ∷ []) (tt {0})) (λ u. value_typed (env_over p known) e >>= λ n. ruled ((rule.TooManyNodes, is_too_much before n) ∷ []) n) (λ u. value_typed (env_over p other) e >>= λ n. ruled ((rule.TooManyNodes, is_too_much before n) ∷ []) n)
+    (λ u. ap (λ t. t >>= dataset_in >>= λ n. ruled ((rule.TooManyNodes, is_too_much before n) ∷ []) n) (typed-alike p known other place.Outside e h))
 
-at-each : {A B : Type 0} (i : ℕ) (s : Result A ℕ) (f g : A → Result B (ℕ × ℕ)) → ((x : A) → f x ≡ g x) → at i s f ≡ at i s g
+at-each : {A B : Type 0} (i : ℕ) (s : Result A Rule) (f g : A → Result B (ℕ × ℕ)) → ((x : A) → f x ≡ g x) → at i s f ≡ at i s g
 at-each i (Ok x) f g h = h x
-at-each i (Err rule) f g h = refl
+at-each i (Err broken) f g h = refl
 
-at-same : {A B : Type 0} (i : ℕ) (r s : Result A ℕ) (f g : A → Result B (ℕ × ℕ)) → r ≡ s → ((x : A) → f x ≡ g x) → at i r f ≡ at i s g
+at-same : {A B : Type 0} (i : ℕ) (r s : Result A Rule) (f g : A → Result B (ℕ × ℕ)) → r ≡ s → ((x : A) → f x ≡ g x) → at i r f ≡ at i s g
 at-same i r s f g e h = ap (λ r. at i r f) e ∙ at-each i s f g h
 
 statements-alike : (p : Settings) (known other : Named) (i before : ℕ) (done : List NodeTree) (ss : ScriptTree) → AreKnownAlike known other (script_names ss) → statements_typed (env_over p known) i before done ss ≡ statements_typed (env_over p other) i before done ss

@@ -8,7 +8,9 @@ use Rattle.vtl_cell.specs.Kinds.{is_of}
 use Rattle.vtl_cell.specs.ScalarKinds.{meets}
 use Rattle.vtl_cell.specs.declared.kind.Kind.{Kind}
 use Rattle.vtl_cell.specs.declared.kind.Kind.TheVariants as k
-use Rattle.check_faults.specs.Rules.{◌>>=◌}
+use Rattle.vtl_lists.specs.Results.{◌>>=◌}
+use Rattle.check_faults.specs.declared.rules.Rule.{Rule}
+use Rattle.check_faults.specs.declared.rules.Rule.TheVariants as rule
 use Rattle.vtl_syntax.specs.declared.parts.Comp.{Comp}
 use Rattle.vtl_syntax.specs.declared.parts.GroupPart.{GroupPart}
 use Rattle.vtl_syntax.specs.declared.parts.Keeping.{Keeping}
@@ -38,13 +40,13 @@ use Rattle.check_shapes.specs.declared.names.Wanted.{Wanted}
 use Rattle.check_shapes.specs.declared.names.Wanted.TheVariants as wanted
 use Rattle.check_shapes.specs.declared.renaming.Renaming.{Renaming}
 use Rattle.check_values.specs.Columns.{name_of}
+use Rattle.check_values.specs.Groupings.{grouping_choice, grouping_names}
 use Rattle.check_values.specs.Kinds.{exp_kind}
 use Rattle.check_values.specs.Literals.{literal_cell, literal_kind, still_wanted, valued, wanted_or}
 use Rattle.check_operators.specs.Places.{Env, at_points, columns_in, name_written, written_by}
 use Rattle.check_operators.specs.Typed.{TypedTree, value, dataset, components_in, condition_in}
 use Rattle.check_operators.specs.declared.places.Joined.{Joined}
 use Rattle.check_operators.specs.declared.places.Place.TheVariants as place
-use Rattle.check_groups.specs.Aggregates.{grouping_choice, grouping_names}
 use Rattle.check_clauses.specs.Clauses.{cell_as, filter_form, kept_of, keeping_form, made_of, name_known, names_typed, pivot_of, references_in, renamed_of, renaming_form, renamings_typed, sub_form, sub_item, sub_known, sub_names, sub_of, sub_value, subs_typed, unpivot_of}
 use Rattle.check_clauses.specs.Targets.{aggr_clause, aggr_tree, calc_clause, calc_name, is_analytic, is_analytic_value, item_names, item_of, made_target, role_of, target_of, value_kind}
 use Rattle.check_clauses.specs.declared.targets.Made.{Made}
@@ -63,9 +65,9 @@ use Rattle.check_laws.proofs.OtherForms.{aggr-shaped, calc-shaped, pivot-shaped,
 use Rattle.check_laws.proofs.Steps.{after, tested, then, weaker}
 use Rattle.check_laws.proofs.Tests.{not-false}
 
-pub node-gives : (env : Env) (form : FormTree) (r : Result Structure ℕ) → Gives (IsMadeWith env form) r → Gives (IsNode env.settings env.known) (r >>= made_of form)
+pub node-gives : (env : Env) (form : FormTree) (r : Result Structure Rule) → Gives (IsMadeWith env form) r → Gives (IsNode env.settings env.known) (r >>= made_of form)
 node-gives env form (Ok s) h = (h.0, (h.0.well_formed, h.1))
-node-gives env form (Err rule) h = tt
+node-gives env form (Err broken) h = tt
 
 -- ---- `filter`
 pub filter-gives : (env : Env) (j : Option Joined) (n : NodeTree) (x : TypedTree) → IsNode env.settings env.known n → IsWellTyped env (place.Inside (at_points j n)) x → Gives (IsNode env.settings env.known) (filter_form n x)
@@ -73,7 +75,7 @@ unfolding filter_form
 filter-gives env j n (dataset m) is h = tt
 filter-gives env j n (value e) is h =
     then (λ c. IsFiltered env.settings c (structure_of n) (structure_of n)) (IsNode env.settings env.known) (condition_in (value e)) (λ c. made_of (nodes.filter n c) (structure_of n))
-    (tested (λ c. IsFiltered env.settings c (structure_of n) (structure_of n)) ((7, not (meets k.Bool (exp_kind e))) ∷ []) e (λ passed. record { same = refl; condition = h; boolean = not-false (meets k.Bool (exp_kind e)) passed.0 }))
+    (tested (λ c. IsFiltered env.settings c (structure_of n) (structure_of n)) ((rule.WrongKind, not (meets k.Bool (exp_kind e))) ∷ []) e (λ passed. record { same = refl; condition = h; boolean = not-false (meets k.Bool (exp_kind e)) passed.0 }))
     (λ c fits. (is.0, (is.0.well_formed, (is.1, fits))))
 
 -- ---- `keep` and `drop`
@@ -196,7 +198,7 @@ pub calc-gives : (env : Env) (n : NodeTree) (items : List ItemTree) → IsNode e
 unfolding calc_clause
 calc-gives env n items is are = go (list_any is_analytic items) refl
   where
-    r : Result Structure ℕ
+    r : Result Structure Rule
     r = calc_form (map (target_of (components_in n)) items) (components_in n)
 
     go : (b : Bool) → list_any is_analytic items ≡ b → Gives (IsNode env.settings env.known) (r >>= made_of (cond b (nodes.analytic_of n (nodes.of_items items)) (nodes.calc n items)))

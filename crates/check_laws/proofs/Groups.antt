@@ -3,6 +3,8 @@ use Rattle.std.proofs.Common.{◌≡◌, ℕ, Bool, true, false, cond, not, List
 use Rattle.std.specs.Option.{IfSome, is_some, option_map}
 use Rattle.vtl_decimal.specs.Settings.{Settings}
 use Rattle.check_faults.specs.Rules.{ruled, Tests}
+use Rattle.check_faults.specs.declared.rules.Rule.{Rule}
+use Rattle.check_faults.specs.declared.rules.Rule.TheVariants as rule
 use Rattle.vtl_syntax.specs.Trees as tree
 use Rattle.vtl_syntax.specs.Trees.{Exp, MaybeExp}
 use Rattle.vtl_syntax.specs.declared.parts.GroupPart.{GroupPart}
@@ -19,13 +21,14 @@ use Rattle.check_shapes.specs.Measures.{measured_form}
 use Rattle.check_shapes.specs.declared.choices.Choice.TheVariants as choice
 use Rattle.check_shapes.specs.declared.measures.Outcome.TheVariants as outcome
 use Rattle.check_values.specs.Columns.{column_typed}
+use Rattle.check_values.specs.Groupings.{grouping_choice, grouping_names}
 use Rattle.check_values.specs.Kinds.{exp_kind}
 use Rattle.check_operators.specs.Places.{Env, Written, name_written, written_in}
 use Rattle.check_operators.specs.Typed.{TypedTree, value, dataset, components_in}
 use Rattle.check_operators.specs.declared.places.Inside.{Inside}
 use Rattle.check_operators.specs.declared.places.Place.{Place}
 use Rattle.check_operators.specs.declared.places.Place.TheVariants as place
-use Rattle.check_groups.specs.Aggregates.{aggregate_node, aggregate_tree, call_kind, component_call, count_call, group_call, group_call_by, group_operand, grouping_choice, grouping_names, no_dataset, of_measure, outcome_of, written_call}
+use Rattle.check_groups.specs.Aggregates.{aggregate_node, aggregate_tree, call_kind, component_call, count_call, group_call, group_call_by, group_operand, no_dataset, of_measure, outcome_of, written_call}
 use Rattle.check_groups.specs.Windowed as windowed
 use Rattle.check_groups.specs.Windowed.{argument, call_of, call_tree, is_misplaced, is_unfit_over, or_count, over_form, over_node, over_parts, over_structure, over_typed, rank_call, suits, target_form, target_typed, value_call}
 use Rattle.check_groups.specs.declared.calls.Call.{Call}
@@ -51,7 +54,7 @@ IsSomeValue (dataset n) = ⊥
 
 call-by : (f : AggregateName) (component : Option (List ℕ)) (grouped : Bool) (kind : Option Kind) → Gives IsSomeValue (group_call_by f component grouped kind)
 call-by f component grouped None = tt
-call-by f component grouped (Some kind) = after IsSomeValue (ruled ((15, grouped) ∷ []) (tt {0})) (λ u. group_call f component kind) (λ u. tt)
+call-by f component grouped (Some kind) = after IsSomeValue (ruled ((rule.AggregateMisuse, grouped) ∷ []) (tt {0})) (λ u. group_call f component kind) (λ u. tt)
 
 written-call : (i : Inside) (f : AggregateName) (grouped : Bool) (w : Written) → Gives IsSomeValue (written_call i f grouped w)
 unfolding written_call
@@ -60,7 +63,7 @@ written-call i f grouped w =
     (λ name. after IsSomeValue (column_typed name i.components) (λ e. group_call_by f (Some name) grouped (call_kind f (Some (exp_kind e)))) (λ e. call-by f (Some name) grouped (call_kind f (Some (exp_kind e)))))
 
 -- at groups nothing is asked of a value
-at-groups : (env : Env) (i : Inside) (r : Result TypedTree ℕ) → is_some i.grouping ≡ true → Gives IsSomeValue r → Gives (IsWellTyped env (place.Inside i)) r
+at-groups : (env : Env) (i : Inside) (r : Result TypedTree Rule) → is_some i.grouping ≡ true → Gives IsSomeValue r → Gives (IsWellTyped env (place.Inside i)) r
 at-groups env i r grouped h = weaker IsSomeValue (IsWellTyped env (place.Inside i)) r one h
   where
     free : (g : Option (List (List ℕ))) (P : Type 0) → is_some g ≡ true → IfUngrouped g P
@@ -76,12 +79,12 @@ no-dataset-gives env at f grouped (Some kind) = tt
 no-dataset-gives env place.Outside f grouped None = tt
 no-dataset-gives env (place.Inside i) f grouped None = go (is_some i.grouping) refl
   where
-    go : (b : Bool) → is_some i.grouping ≡ b → Gives (IsWellTyped env (place.Inside i)) (cond b (count_call f grouped) (Err 7))
+    go : (b : Bool) → is_some i.grouping ≡ b → Gives (IsWellTyped env (place.Inside i)) (cond b (count_call f grouped) (Err rule.WrongKind))
     go true e = at-groups env i (count_call f grouped) e (call-by f None grouped (call_kind f None))
     go false e = tt
 
 -- an aggregate of a component over groups, or else the rest
-pub or-call-gives : (env : Env) (at : Place) (e : MaybeExp) (f : AggregateName) (grouped : Bool) (rest : Result TypedTree ℕ) → Gives (IsWellTyped env at) rest → Gives (IsWellTyped env at) (or_call (group_operand at e) f grouped rest)
+pub or-call-gives : (env : Env) (at : Place) (e : MaybeExp) (f : AggregateName) (grouped : Bool) (rest : Result TypedTree Rule) → Gives (IsWellTyped env at) rest → Gives (IsWellTyped env at) (or_call (group_operand at e) f grouped rest)
 or-call-gives env place.Outside e f grouped rest h = h
 or-call-gives env (place.Inside i) tree.no_exp f grouped rest h = h
 or-call-gives env (place.Inside i) (tree.some_exp e) f grouped rest h = go (is_some i.grouping) refl (written_in e)
@@ -93,7 +96,7 @@ or-call-gives env (place.Inside i) (tree.some_exp e) f grouped rest h = go (is_s
 
 -- ---- analytic calls
 abbrev tests : Call → Window → Tests
-tests call w = (16, is_misplaced call.op) ∷ (16, not (suits call.needed w)) ∷ []
+tests call w = (rule.AnalyticMisuse, is_misplaced call.op) ∷ (rule.AnalyticMisuse, not (suits call.needed w)) ∷ []
 
 over-structure : (e : Exp) (call : Call) (w : Window) (xs : List Component) → Gives IsShaped (over_structure e call w xs)
 unfolding over_structure
@@ -121,17 +124,17 @@ call-analytic : (call : Call) (named : Option (List ℕ)) (w : Window) (o : Opti
 call-analytic call None w None = tt
 call-analytic call None w (Some o) = tt
 call-analytic call (Some name) w None = tt
-call-analytic call (Some name) w (Some o) = tested IsAnalytic ((16, not (suits call.needed w)) ∷ []) (call_tree o (Some name) w) (λ passed. tt)
+call-analytic call (Some name) w (Some o) = tested IsAnalytic ((rule.AnalyticMisuse, not (suits call.needed w)) ∷ []) (call_tree o (Some name) w) (λ passed. tt)
 
 pub target-analytic : (p : Settings) (at : Place) (e : Exp) (x : Option TypedTree) → Gives IsAnalytic (target_typed p at e x)
 unfolding target_typed
 target-analytic p at e x = after IsAnalytic (over_parts p at e x) (λ parts. target_form e x parts.0 parts.1) (λ parts. go x parts.0 parts.1)
   where
     go : (x : Option TypedTree) (call : Call) (w : Window) → Gives IsAnalytic (target_form e x call w)
-    go (Some (dataset n)) call w = after IsAnalytic (over_node e call w n) (λ t. Err 14) (λ t. tt)
-    go (Some (value v)) call w = after IsAnalytic (ruled ((7, is_unfit_over e (Some (exp_kind v))) ∷ []) (tt {0})) (λ u. call_of call (argument e v) w call.op) (λ u. call-analytic call (argument e v) w call.op)
+    go (Some (dataset n)) call w = after IsAnalytic (over_node e call w n) (λ t. Err rule.DatasetOrValue) (λ t. tt)
+    go (Some (value v)) call w = after IsAnalytic (ruled ((rule.WrongKind, is_unfit_over e (Some (exp_kind v))) ∷ []) (tt {0})) (λ u. call_of call (argument e v) w call.op) (λ u. call-analytic call (argument e v) w call.op)
     go None call w = rank (windowed.is_rank e)
       where
-        rank : (b : Bool) → Gives IsAnalytic (cond b (rank_call call w) (Err 7))
-        rank true = tested IsAnalytic ((16, not (suits call.needed w)) ∷ []) (call_tree analytic.Rank None w) (λ passed. tt)
+        rank : (b : Bool) → Gives IsAnalytic (cond b (rank_call call w) (Err rule.WrongKind))
+        rank true = tested IsAnalytic ((rule.AnalyticMisuse, not (suits call.needed w)) ∷ []) (call_tree analytic.Rank None w) (λ passed. tt)
         rank false = tt

@@ -9,7 +9,9 @@ use Rattle.vtl_cell.specs.declared.kind.Kind.{Kind}
 use Rattle.vtl_cell.specs.declared.kind.Kind.TheVariants as k
 use Rattle.vtl_cell.specs.declared.operator.ScalarOp.{ScalarOp}
 use Rattle.vtl_cell.specs.declared.operator.ScalarOp.TheVariants as op
-use Rattle.check_faults.specs.Rules.{◌>>=◌}
+use Rattle.vtl_lists.specs.Results.{◌>>=◌}
+use Rattle.check_faults.specs.declared.rules.Rule.{Rule}
+use Rattle.check_faults.specs.declared.rules.Rule.TheVariants as rule
 use Rattle.vtl_syntax.specs.declared.parts.Literal.{Literal}
 use Rattle.vtl_tree.specs.CompExp.{CompExp, const}
 use Rattle.vtl_tree.specs.Structure.{columns_of}
@@ -90,9 +92,9 @@ outcome-given o = tt
 abbrev pub IsMadeWith : Env → FormTree → Structure → Type 0
 IsMadeWith env form s = IsShaped s × IsMadeForm env.settings env.known s form
 
-pub made-gives : (env : Env) (at : Place) (form : FormTree) (r : Result Structure ℕ) → Gives (IsMadeWith env form) r → Gives (IsWellTyped env at) (r >>= made_of form)
+pub made-gives : (env : Env) (at : Place) (form : FormTree) (r : Result Structure Rule) → Gives (IsMadeWith env form) r → Gives (IsWellTyped env at) (r >>= made_of form)
 made-gives env at form (Ok s) h = (h.0, (h.0.well_formed, h.1))
-made-gives env at form (Err rule) h = tt
+made-gives env at form (Err broken) h = tt
 
 -- ---- on data sets
 over-columns : (p : Settings) (xs : List Component) (es : List CompExp) → AllByRecursion (IsTyped p []) es → AllByRecursion (IsTyped p xs) es
@@ -102,7 +104,7 @@ measures-give : (env : Env) (at : Place) (o : ScalarOp) (literals : Bool) (befor
 unfolding on_measures
 measures-give env at o literals before after' a is hb ha =
     made-gives env at (measures (record { op = o; before = before; after = after' }) a) (given_structure o literals before after' (components_in a))
-    (tested-then (IsMadeWith env (measures (record { op = o; before = before; after = after' }) a)) ((7, any_unmet (by_operands o before after') None (components_in a)) ∷ (8, any_unmet (between_values o before after') None (components_in a)) ∷ []) (λ u. measured_form (outcome_of o) (between_values o before after') literals choice.Except [] (components_in a))
+    (tested-then (IsMadeWith env (measures (record { op = o; before = before; after = after' }) a)) ((rule.WrongKind, any_unmet (by_operands o before after') None (components_in a)) ∷ (rule.WrongLiteral, any_unmet (between_values o before after') None (components_in a)) ∷ []) (λ u. measured_form (outcome_of o) (between_values o before after') literals choice.Except [] (components_in a))
     (λ passed. weaker (λ s. IsShaped s × IsMeasured env.settings (record { op = o; before = before; after = after' }) (structure_of a) s) (IsMadeWith env (measures (record { op = o; before = before; after = after' }) a)) (measured_form (outcome_of o) (between_values o before after') literals choice.Except [] (components_in a))
     (λ s h. (h.0, (is.1, h.1)))
     (measured-fits env.settings (record { op = o; before = before; after = after' }) (structure_of a) (outcome_of o) (between_values o before after') literals is.0 (outcome-given o) (λ x b. refl) (over-columns env.settings (columns_of (structure_of a)) before hb) (over-columns env.settings (columns_of (structure_of a)) after' ha))))
@@ -121,7 +123,7 @@ choice-gives env at t a b it ia ib =
     (weaker (λ s. IsShaped s × IsChoice (structure_of t) (structure_of a) (structure_of b) s) (IsMadeWith env (choose t a b)) (pairs.if_form (structure_of t) (structure_of a) (structure_of b)) (λ s h. (h.0, (it.1, ia.1, ib.1, h.1)))
     (chosen-fits (structure_of t) (structure_of a) (structure_of b) it.0 ia.0 ib.0))
 
-placed : (env : Env) (at : Place) (fits literals : Bool) (form : Result TypedTree ℕ) → Gives (IsWellTyped env at) form → Gives (IsWellTyped env at) (if_placed fits literals form)
+placed : (env : Env) (at : Place) (fits literals : Bool) (form : Result TypedTree Rule) → Gives (IsWellTyped env at) form → Gives (IsWellTyped env at) (if_placed fits literals form)
 placed env at true literals form h = h
 placed env at false literals form h = tt
 
@@ -160,7 +162,7 @@ operands-give : (env : Env) (at : Place) (o : ScalarOp) (number literals : Bool)
 operands-give env place.Outside o number literals before [] after' hb hn ha = value-tree env place.Outside (call_form o literals before) (values-give env.settings place.Outside o literals before hb)
 operands-give env (place.Inside i) o number literals before [] after' hb hn ha = value-tree env (place.Inside i) (call_form o literals before) (values-give env.settings (place.Inside i) o literals before hb)
 operands-give env (place.Inside i) o number literals before (n ∷ ns) after' hb hn ha = tt
-operands-give env place.Outside o number literals before (n ∷ ns) after' hb hn ha = tested-then (IsWellTyped env place.Outside) ((7, not number) ∷ []) (λ u. on_datasets o literals before (n ∷ ns) after') (λ passed. datasets-give env place.Outside o literals before (n ∷ ns) after' hb hn ha)
+operands-give env place.Outside o number literals before (n ∷ ns) after' hb hn ha = tested-then (IsWellTyped env place.Outside) ((rule.WrongKind, not number) ∷ []) (λ u. on_datasets o literals before (n ∷ ns) after') (λ passed. datasets-give env place.Outside o literals before (n ∷ ns) after' hb hn ha)
 
 pub operator-gives : (env : Env) (at : Place) (o : ScalarOp) (number literals : Bool) (xs : List TypedTree) → AllByRecursion (IsWellTyped env at) xs → Gives (IsWellTyped env at) (operator_form at o number literals xs)
 unfolding operator_form

@@ -1,7 +1,9 @@
 -- Forms of which only this is told, that they give a structure.
 use Rattle.std.proofs.Common.{ℕ, Bool, List, [], ◌∷◌, ◌++◌, map, Option, None}
 use Rattle.std.specs.List.{filter}
-use Rattle.check_faults.specs.Rules.{◌>>=◌, ruled}
+use Rattle.vtl_lists.specs.Results.{◌>>=◌}
+use Rattle.check_faults.specs.Rules.{ruled}
+use Rattle.check_faults.specs.declared.rules.Rule.TheVariants as rule
 use Rattle.vtl_syntax.specs.declared.word_groups.JoinKind.{JoinKind}
 use Rattle.vtl_tree.specs.declared.structure.Component.{Component}
 use Rattle.vtl_tree.specs.declared.structure.Structure.{Structure}
@@ -47,13 +49,13 @@ aggr-shaped c names ts xs = some-shaped (chosen c names xs ++ map target_compone
 
 pub pivot-shaped : (name measure : List ℕ) (xs : List Component) → Gives IsShaped (pivot_form name measure xs)
 pivot-shaped name measure xs =
-    after IsShaped (known wanted.Identifier xs [] name >>= λ x. pivot_codes x.codes) (λ texts. known wanted.Measure xs [] measure >>= λ m. ruled ((11, has_no_name texts) ∷ []) (tt {0}) >>= λ u. shaped (pivot_components name m.kind texts xs))
-    (λ texts. after IsShaped (known wanted.Measure xs [] measure) (λ m. ruled ((11, has_no_name texts) ∷ []) (tt {0}) >>= λ u. shaped (pivot_components name m.kind texts xs))
-    (λ m. any-shaped (ruled ((11, has_no_name texts) ∷ []) (tt {0})) (λ u. pivot_components name m.kind texts xs)))
+    after IsShaped (known wanted.Identifier xs [] name >>= λ x. pivot_codes x.codes) (λ texts. known wanted.Measure xs [] measure >>= λ m. ruled ((rule.RepeatedComponent, has_no_name texts) ∷ []) (tt {0}) >>= λ u. shaped (pivot_components name m.kind texts xs))
+    (λ texts. after IsShaped (known wanted.Measure xs [] measure) (λ m. ruled ((rule.RepeatedComponent, has_no_name texts) ∷ []) (tt {0}) >>= λ u. shaped (pivot_components name m.kind texts xs))
+    (λ m. any-shaped (ruled ((rule.RepeatedComponent, has_no_name texts) ∷ []) (tt {0})) (λ u. pivot_components name m.kind texts xs)))
 
 pub unpivot-shaped : (name measure : List ℕ) (xs : List Component) → Gives IsShaped (unpivot_form name measure xs)
 unpivot-shaped name measure xs =
-    any-shaped (ruled ((10, are_unlike (measures xs)) ∷ []) (tt {0}))
+    any-shaped (ruled ((rule.MeasuresDisagree, are_unlike (measures xs)) ∷ []) (tt {0}))
     (λ u. chosen choice.Except [] xs ++ names_column name (measures xs) ∷ made measure role.Measure (first_kind (measures xs)) ∷ [])
 
 pub join-shaped : (kind : JoinKind) (listed : Option (List (List ℕ))) (os : List Operand) → Gives IsShaped (join_form kind listed os)

@@ -8,10 +8,13 @@ use Rattle.std.specs.Prelude.{nat_le}
 use Rattle.vtl_decimal.specs.Settings.{Settings}
 use Rattle.vtl_lists.specs.Apart.{all_apart}
 use Rattle.vtl_text.specs.Words.{is_component_name}
-use Rattle.check_faults.specs.Rules.{◌>>=◌, ruled}
+use Rattle.vtl_lists.specs.Results.{◌>>=◌}
+use Rattle.check_faults.specs.Rules.{ruled}
+use Rattle.check_faults.specs.declared.rules.Rule.{Rule}
+use Rattle.check_faults.specs.declared.rules.Rule.TheVariants as rule
 use Rattle.vtl_syntax.specs.Trees as tree
 use Rattle.vtl_syntax.specs.Trees.{Exp, ScriptTree}
-use Rattle.vtl_tree.specs.Structure.{IsStructure, names_of, same_name}
+use Rattle.vtl_tree.specs.Structure.{IsStructure, most_components, names_of, same_name}
 use Rattle.vtl_tree.specs.Structures.{AreStructures, Named, codes_fit, has_name, is_declarable, is_declarable_component, is_declarable_entry, is_null_kind}
 use Rattle.vtl_tree.proofs.StructuresLemmas.{not_found}
 use Rattle.vtl_tree.specs.declared.structure.Component.{Component}
@@ -46,11 +49,11 @@ component-kind x e = not-true (is_null_kind x.kind) (and-true (is_component_name
 
 declared-shaped : (s : Structure) → is_declarable s ≡ true → IsShaped s
 declared-shaped s e =
-    let three = and-true (nat_le 1 (length s.components) && nat_le (length s.components) 64 && all_apart same_name (names_of s.components)) (list_all is_declarable_component s.components) e in
-    let two = and-true (nat_le 1 (length s.components) && nat_le (length s.components) 64) (all_apart same_name (names_of s.components)) three.0 in
-    let one = and-true (nat_le 1 (length s.components)) (nat_le (length s.components) 64) two.0 in
+    let three = and-true (nat_le 1 (length s.components) && nat_le (length s.components) most_components && all_apart same_name (names_of s.components)) (list_all is_declarable_component s.components) e in
+    let two = and-true (nat_le 1 (length s.components) && nat_le (length s.components) most_components) (all_apart same_name (names_of s.components)) three.0 in
+    let one = and-true (nat_le 1 (length s.components)) (nat_le (length s.components) most_components) two.0 in
     record {
-      well_formed = record { some = leb-true 1 (length s.components) one.0; few = leb-true (length s.components) 64 one.1; distinct = two.1 };
+      well_formed = record { some = leb-true 1 (length s.components) one.0; few = leb-true (length s.components) most_components one.1; distinct = two.1 };
       kinds = lists.weaker (λ x. is_declarable_component x ≡ true) (λ x. is_null_kind x.kind ≡ false) s.components component-kind (lists.all_pass is_declarable_component s.components three.1);
     }
 
@@ -87,17 +90,17 @@ made-same p known other n same m = made_over p known other n (lists.every (λ na
 assigned-gives : (env : Env) (before : ℕ) (name : List ℕ) (e : Exp) → AreShaped env.known → Gives (λ n. (has_name name env.known ≡ false) × IsNode env.settings env.known n) (assigned env before name e)
 unfolding assigned
 assigned-gives env before name e are =
-    tested-then Q ((2, has_name name env.known) ∷ []) (λ u. value_typed env e >>= λ n. ruled ((20, is_too_much before n) ∷ []) n)
-    (λ passed. then (IsNode env.settings env.known) Q (value_typed env e) (λ n. ruled ((20, is_too_much before n) ∷ []) n)
+    tested-then Q ((rule.NameTaken, has_name name env.known) ∷ []) (λ u. value_typed env e >>= λ n. ruled ((rule.TooManyNodes, is_too_much before n) ∷ []) n)
+    (λ passed. then (IsNode env.settings env.known) Q (value_typed env e) (λ n. ruled ((rule.TooManyNodes, is_too_much before n) ∷ []) n)
     (then (IsWellTyped env place.Outside) (IsNode env.settings env.known) (typed env place.Outside e) dataset_in (sound env are place.Outside e) (dataset-gives env place.Outside))
-    (λ n is. tested Q ((20, is_too_much before n) ∷ []) n (λ few. (passed.0, is))))
+    (λ n is. tested Q ((rule.TooManyNodes, is_too_much before n) ∷ []) n (λ few. (passed.0, is))))
   where
     Q : NodeTree → Type 0
     Q n = (has_name name env.known ≡ false) × IsNode env.settings env.known n
 
-at-then : {A B : Type 0} (P : A → Type 0) (Q : B → Type 0) (i : ℕ) (r : Result A ℕ) (f : A → Result B (ℕ × ℕ)) → Gives P r → ((x : A) → P x → Gives Q (f x)) → Gives Q (at i r f)
+at-then : {A B : Type 0} (P : A → Type 0) (Q : B → Type 0) (i : ℕ) (r : Result A Rule) (f : A → Result B (ℕ × ℕ)) → Gives P r → ((x : A) → P x → Gives Q (f x)) → Gives Q (at i r f)
 at-then P Q i (Ok x) f h g = g x h
-at-then P Q i (Err rule) f h g = tt
+at-then P Q i (Err broken) f h g = tt
 
 abbrev AreBehind : Settings → Named → ScriptTree → List NodeTree → List NodeTree → Type 0
 AreBehind p other ss done all = (ns : List NodeTree) × (all ≡ done ++ ns) × AreMadeFrom p other ss ns

@@ -1,10 +1,11 @@
 -- Operators on whole data sets, aggregates and analytic calls.
-use Rattle.std.proofs.Common.{ℕ, List, [], ◌∷◌, ◌++◌, Option, Some, None, Result, Ok}
+use Rattle.std.proofs.Common.{List, [], ◌∷◌, ◌++◌, Option, Some, None, Result, Ok}
 use Rattle.std.specs.List.{AllByRecursion}
 use Rattle.std.specs.Option.{IfSome}
 use Rattle.std.specs.Prelude.{option_to_list, unwrap_or}
 use Rattle.vtl_decimal.specs.Settings.{Settings}
-use Rattle.check_faults.specs.Rules.{◌>>=◌}
+use Rattle.vtl_lists.specs.Results.{◌>>=◌}
+use Rattle.check_faults.specs.declared.rules.Rule.{Rule}
 use Rattle.vtl_syntax.specs.declared.parts.Comp.{Comp}
 use Rattle.vtl_syntax.specs.declared.word_groups.DifferenceName.{DifferenceName}
 use Rattle.vtl_syntax.specs.declared.word_groups.DifferenceName.TheVariants as difference
@@ -42,7 +43,7 @@ dataset-gives env at (value e) h = tt
 dataset-gives env at (dataset n) h = h
 
 -- a form of which only its operands are told
-pub shape-gives : (env : Env) (at : Place) (form : nodes.FormTree) (r : Result Structure ℕ) → Gives IsShaped r → ((s : Structure) → IsShaped s → IsMadeWith env form s) → Gives (IsWellTyped env at) (r >>= made_of form)
+pub shape-gives : (env : Env) (at : Place) (form : nodes.FormTree) (r : Result Structure Rule) → Gives IsShaped r → ((s : Structure) → IsShaped s → IsMadeWith env form s) → Gives (IsWellTyped env at) (r >>= made_of form)
 shape-gives env at form r h f = made-gives env at form r (weaker IsShaped (IsMadeWith env form) r f h)
 
 -- `a#m`

@@ -1,13 +1,14 @@
 -- The structures that forms give.
-use Rattle.std.proofs.Common.{◌≡◌, ℕ, Bool, true, false, cond, ◌&&◌, List, [], ◌∷◌, ◌++◌, length, Result, refl, ap, ◌∙◌}
+use Rattle.std.proofs.Common.{◌≡◌, Bool, true, false, cond, ◌&&◌, List, [], ◌∷◌, ◌++◌, length, Result, refl, ap, ◌∙◌}
 use Rattle.std.proofs.lemmas.Bool.{false≢true}
 use Rattle.std.proofs.lemmas.List.{append-nil}
 use Rattle.std.proofs.lemmas.List.Elements.{filter-append}
 use Rattle.std.specs.List.{AllByRecursion, filter}
 use Rattle.std.specs.Prelude.{nat_eq, nat_lt}
 use Rattle.vtl_lists.specs.Apart.{all_apart}
-use Rattle.check_faults.specs.Rules.{◌>>=◌}
-use Rattle.vtl_tree.specs.Structure.{columns_of, names_of, of_role, same_name, same_role}
+use Rattle.vtl_lists.specs.Results.{◌>>=◌}
+use Rattle.check_faults.specs.declared.rules.Rule.{Rule}
+use Rattle.vtl_tree.specs.Structure.{columns_of, most_components, names_of, of_role, same_name, same_role}
 use Rattle.vtl_tree.specs.Structures.{is_null_kind, structure_of}
 use Rattle.vtl_tree.specs.declared.structure.Component.{Component}
 use Rattle.vtl_tree.specs.declared.structure.Role.{Role}
@@ -27,18 +28,18 @@ pub shaped-gives : (P : Structure → Type 0) (xs : List Component) → (IsShape
 shaped-gives P xs f = tested P (result_tests xs) (structure_of xs) (λ passed. f (is passed))
   where
     is : ArePassed (result_tests xs) → IsShaped (structure_of xs)
-    is passed = let counts = or-false (nat_eq (length xs) 0) (nat_lt 64 (length xs)) passed.1.0 in
+    is passed = let counts = or-false (nat_eq (length xs) 0) (nat_lt most_components (length xs)) passed.1.0 in
         record {
           well_formed = record {
             some = nonzero (length xs) counts.0;
-            few = below 64 (length xs) counts.1;
+            few = below most_components (length xs) counts.1;
             distinct = not-false (all_apart same_name (names_of xs)) passed.0;
           };
           kinds = lists.any_fails (λ x. is_null_kind x.kind) xs passed.1.1.0;
         }
 
 -- whatever the components are
-pub any-shaped : {A : Type 0} (r : Result A ℕ) (f : A → List Component) → Gives IsShaped (r >>= λ x. shaped (f x))
+pub any-shaped : {A : Type 0} (r : Result A Rule) (f : A → List Component) → Gives IsShaped (r >>= λ x. shaped (f x))
 any-shaped r f = after IsShaped r (λ x. shaped (f x)) (λ x. shaped-gives IsShaped (f x) (λ is. is))
 
 -- ---- filters

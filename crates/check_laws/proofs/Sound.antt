@@ -1,10 +1,12 @@
 -- What is typed is typed over the columns of its place, and its nodes are made.
-use Rattle.std.proofs.Common.{ℕ, Bool, true, ◌||◌, List, [], ◌∷◌, Option, Some, None, option_map, Result, Ok, Err, refl}
+use Rattle.std.proofs.Common.{Bool, true, ◌||◌, List, [], ◌∷◌, Option, Some, None, option_map, Result, Ok, Err, refl}
 use Rattle.std.specs.List.{AllByRecursion}
 use Rattle.std.specs.Option.{IfSome, is_some}
 use Rattle.vtl_cell.specs.declared.operator.ScalarOp.{ScalarOp}
 use Rattle.vtl_cell.specs.declared.operator.ScalarOp.TheVariants as op
-use Rattle.check_faults.specs.Rules.{◌>>=◌}
+use Rattle.vtl_lists.specs.Results.{◌>>=◌}
+use Rattle.check_faults.specs.declared.rules.Rule.{Rule}
+use Rattle.check_faults.specs.declared.rules.Rule.TheVariants as rule
 use Rattle.vtl_syntax.specs.Trees as tree
 use Rattle.vtl_syntax.specs.Trees.{Calcs, ClauseTree, Exp, Exps, MaybeExp, MaybeTargets, Parts, TargetsTree}
 use Rattle.vtl_syntax.specs.declared.parts.Comp.{Comp}
@@ -14,6 +16,7 @@ use Rattle.vtl_syntax.specs.declared.parts.RenamePart.{RenamePart}
 use Rattle.vtl_syntax.specs.declared.word_groups.AggregateName.{AggregateName}
 use Rattle.vtl_nodes.specs.Trees as nodes
 use Rattle.vtl_nodes.specs.Trees.{ItemTree, NodeTree, OperandTree, ValueTree}
+use Rattle.check_values.specs.Groupings.{grouping_typed}
 use Rattle.check_values.specs.Kinds.{exp_kind}
 use Rattle.check_values.specs.Operators.{exps_length, of_binary, of_function, of_unary, takes}
 use Rattle.check_values.specs.Literals.{literals_fit}
@@ -26,7 +29,7 @@ use Rattle.check_operators.specs.Typed.{TypedTree, value, dataset, components_in
 use Rattle.check_operators.specs.declared.places.Joined.{Joined}
 use Rattle.check_operators.specs.declared.places.Place.{Place}
 use Rattle.check_operators.specs.declared.places.Place.TheVariants as place
-use Rattle.check_groups.specs.Aggregates.{aggregate_node, grouping_typed}
+use Rattle.check_groups.specs.Aggregates.{aggregate_node}
 use Rattle.check_groups.specs.Windowed.{over_typed, target_typed}
 use Rattle.check_clauses.specs.Clauses.{filter_form}
 use Rattle.check_clauses.specs.JoinOperands.{PartTyped, joined_node, joined_of, operands_in, with_part}
@@ -44,20 +47,20 @@ use Rattle.check_laws.proofs.Steps.{after, then, weaker}
 use Rattle.check_laws.proofs.Values.{constants-give, names-give, written-gives}
 
 -- ---- parts of the walk
-tree-gives : (env : Env) (at : Place) (r : Result NodeTree ℕ) → Gives (IsNode env.settings env.known) r → Gives (IsWellTyped env at) (as_dataset r)
+tree-gives : (env : Env) (at : Place) (r : Result NodeTree Rule) → Gives (IsNode env.settings env.known) r → Gives (IsWellTyped env at) (as_dataset r)
 tree-gives env at r h = then (IsNode env.settings env.known) (IsWellTyped env at) r (λ n. Ok (dataset n)) h (λ n is. is)
 
 -- one more operand, behind others
-behind-gives : (env : Env) (at : Place) (done : List TypedTree) (r : Result TypedTree ℕ) → AllByRecursion (IsWellTyped env at) done → Gives (IsWellTyped env at) r → Gives (AllByRecursion (IsWellTyped env at)) (r >>= behind done)
+behind-gives : (env : Env) (at : Place) (done : List TypedTree) (r : Result TypedTree Rule) → AllByRecursion (IsWellTyped env at) done → Gives (IsWellTyped env at) r → Gives (AllByRecursion (IsWellTyped env at)) (r >>= behind done)
 behind-gives env at done r hd h = then (IsWellTyped env at) (AllByRecursion (IsWellTyped env at)) r (behind done) h (λ x is. lists.appended (IsWellTyped env at) done (x ∷ []) hd (is, tt))
 
-operator-step : (env : Env) (at : Place) (o : ScalarOp) (number literals : Bool) (r : Result (List TypedTree) ℕ) → Gives (AllByRecursion (IsWellTyped env at)) r → Gives (IsWellTyped env at) (r >>= operator_form at o number literals)
+operator-step : (env : Env) (at : Place) (o : ScalarOp) (number literals : Bool) (r : Result (List TypedTree) Rule) → Gives (AllByRecursion (IsWellTyped env at)) r → Gives (IsWellTyped env at) (r >>= operator_form at o number literals)
 operator-step env at o number literals r h = then (AllByRecursion (IsWellTyped env at)) (IsWellTyped env at) r (operator_form at o number literals) h (operator-gives env at o number literals)
 
-dataset-step : (env : Env) (at : Place) (r : Result TypedTree ℕ) → Gives (IsWellTyped env at) r → Gives (IsNode env.settings env.known) (r >>= dataset_in)
+dataset-step : (env : Env) (at : Place) (r : Result TypedTree Rule) → Gives (IsWellTyped env at) r → Gives (IsNode env.settings env.known) (r >>= dataset_in)
 dataset-step env at r h = then (IsWellTyped env at) (IsNode env.settings env.known) r dataset_in h (dataset-gives env at)
 
-component-gives : (env : Env) (at : Place) (e : Exp) (c : Comp) (rest : Result TypedTree ℕ) → Gives (IsWellTyped env at) rest → Gives (IsWellTyped env at) (or_component (member_inside at e c) rest)
+component-gives : (env : Env) (at : Place) (e : Exp) (c : Comp) (rest : Result TypedTree Rule) → Gives (IsWellTyped env at) rest → Gives (IsWellTyped env at) (or_component (member_inside at e c) rest)
 component-gives env place.Outside e c rest h = h
 component-gives env (place.Inside i) e c rest h = go (member_written e c)
   where
@@ -89,7 +92,7 @@ end-gives env at j k rs n is =
     (λ z iz. tree-gives env at (last_step j z) (last-step env j z iz))
 
 -- the value of a target
-target-gives : (env : Env) (j : Option Joined) (n : NodeTree) (e : Exp) (plain : Result TypedTree ℕ) (operand : Result (Option TypedTree) ℕ) → Gives (IsWellTyped env (place.Inside (at_points j n))) plain → Gives (IsTargetValue env.settings (columns_in n)) (calc_value env.settings (place.Inside (at_points j n)) e plain operand)
+target-gives : (env : Env) (j : Option Joined) (n : NodeTree) (e : Exp) (plain : Result TypedTree Rule) (operand : Result (Option TypedTree) Rule) → Gives (IsWellTyped env (place.Inside (at_points j n))) plain → Gives (IsTargetValue env.settings (columns_in n)) (calc_value env.settings (place.Inside (at_points j n)) e plain operand)
 target-gives env j n e plain operand h = go e
   where
     at : Place
@@ -151,9 +154,9 @@ mutual
       then (IsWellTyped env place.Outside) (IsWellTyped env at) (typed env place.Outside e) (λ x. check_spec env.settings err o >>= λ s. maybe_typed env place.Outside i >>= check_form s x) (sound env are place.Outside e)
       (λ x hx. after (IsWellTyped env at) (check_spec env.settings err o) (λ s. maybe_typed env place.Outside i >>= check_form s x)
       (λ s. then (λ y. IfSome y (IsWellTyped env place.Outside)) (IsWellTyped env at) (maybe_typed env place.Outside i) (check_form s x) (sound-maybe env are place.Outside i) (λ y hy. check-gives env at s x y hx hy)))
-  sound env are at (tree.check_datapoint e n o) = after (IsWellTyped env at) (typed env place.Outside e) (λ x. Err 3) (λ x. tt)
-  sound env are at (tree.check_hierarchy e n r m d o) = after (IsWellTyped env at) (typed env place.Outside e) (λ x. Err 3) (λ x. tt)
-  sound env are at (tree.hierarchy e n r m i o) = after (IsWellTyped env at) (typed env place.Outside e) (λ x. Err 3) (λ x. tt)
+  sound env are at (tree.check_datapoint e n o) = after (IsWellTyped env at) (typed env place.Outside e) (λ x. Err rule.UnknownRuleset) (λ x. tt)
+  sound env are at (tree.check_hierarchy e n r m d o) = after (IsWellTyped env at) (typed env place.Outside e) (λ x. Err rule.UnknownRuleset) (λ x. tt)
+  sound env are at (tree.hierarchy e n r m i o) = after (IsWellTyped env at) (typed env place.Outside e) (λ x. Err rule.UnknownRuleset) (λ x. tt)
   sound env are at (tree.join kind ps u f m k rs) =
       then (AllByRecursion (IsOperand env)) (IsWellTyped env at) (parts_typed env [] ps >>= operands_in) (λ os. filtered_join env (Some (joined_of kind os)) f kind u os >>= join_end env (Some (joined_of kind os)) m k rs)
       (then (AllByRecursion (IsPart env)) (AllByRecursion (IsOperand env)) (parts_typed env [] ps) operands_in (sound-parts env are [] ps tt) (operands-give env))

@@ -3,6 +3,7 @@ use Rattle.std.proofs.Common.{◌≡◌, Bool, true, false, cond, List, [], ◌�
 use Rattle.std.proofs.lemmas.Bool.{false≢true}
 use Rattle.std.specs.List.{AllByRecursion, filter, list_all}
 use Rattle.std.specs.Option.{option_map_or}
+use Rattle.vtl_cell.specs.Kinds.{same_kind}
 use Rattle.vtl_cell.specs.declared.kind.Kind.{Kind}
 use Rattle.vtl_cell.specs.declared.kind.Kind.TheVariants as k
 use Rattle.vtl_tree.specs.Structure.{names_of, same_role}
@@ -11,7 +12,6 @@ use Rattle.vtl_tree.specs.declared.structure.Role.{Role}
 use Rattle.vtl_tree.specs.declared.structure.Role.TheVariants as role
 use Rattle.vtl_tree.specs.declared.structure.Structure.{Structure}
 use Rattle.check_shapes.specs.Choices.{is_identifier}
-use Rattle.check_shapes.specs.Kinds.{same_kind}
 use Rattle.check_shapes.specs.Names.{component_of}
 use Rattle.check_shapes.specs.Operands.{agreed, agreed_identifiers, is_alike, is_coded_alike, is_there, is_within}
 use Rattle.check_shapes.specs.declared.operands.Compared.{Compared}

@@ -5,7 +5,10 @@ use Rattle.std.specs.Map.{lookup}
 use Rattle.vtl_decimal.specs.Settings.{Settings}
 use Rattle.vtl_cell.specs.declared.kind.Kind.{Kind}
 use Rattle.vtl_cell.specs.declared.operator.ScalarOp.{ScalarOp}
-use Rattle.check_faults.specs.Rules.{◌>>=◌, ruled}
+use Rattle.vtl_lists.specs.Results.{◌>>=◌}
+use Rattle.check_faults.specs.Rules.{ruled}
+use Rattle.check_faults.specs.declared.rules.Rule.{Rule}
+use Rattle.check_faults.specs.declared.rules.Rule.TheVariants as rule
 use Rattle.vtl_syntax.specs.declared.parts.Comp.{Comp}
 use Rattle.vtl_syntax.specs.declared.parts.Comp.TheVariants as comp
 use Rattle.vtl_syntax.specs.declared.parts.Constant.{Constant}
@@ -34,23 +37,23 @@ use Rattle.check_laws.proofs.Literals.{constant-gives}
 use Rattle.check_laws.proofs.Steps.{after, anything, tested, then, weaker}
 
 -- a typing that only places without groups have to vouch for
-pub ungrouped : {A : Type 0} (g : Option (List (List ℕ))) (P : A → Type 0) (r : Result A ℕ) → Gives P r → Gives (λ x. IfUngrouped g (P x)) r
+pub ungrouped : {A : Type 0} (g : Option (List (List ℕ))) (P : A → Type 0) (r : Result A Rule) → Gives P r → Gives (λ x. IfUngrouped g (P x)) r
 ungrouped None P r h = h
 ungrouped (Some names) P r h = anything r
 
 -- what holds over all columns holds at each place
-pub at-any : (p : Settings) (at : Place) (r : Result CompExp ℕ) → ((xs : List Component) → Gives (IsTyped p xs) r) → Gives (IsValueAt p at) r
+pub at-any : (p : Settings) (at : Place) (r : Result CompExp Rule) → ((xs : List Component) → Gives (IsTyped p xs) r) → Gives (IsValueAt p at) r
 at-any p place.Outside r h = h []
 at-any p (place.Inside i) r h = ungrouped i.grouping (IsTyped p i.components) r (h i.components)
 
-pub value-tree : (env : Env) (at : Place) (r : Result CompExp ℕ) → Gives (IsValueAt env.settings at) r → Gives (IsWellTyped env at) (r >>= of_value)
+pub value-tree : (env : Env) (at : Place) (r : Result CompExp Rule) → Gives (IsValueAt env.settings at) r → Gives (IsWellTyped env at) (r >>= of_value)
 value-tree env at (Ok e) h = h
-value-tree env at (Err rule) h = tt
+value-tree env at (Err broken) h = tt
 
 -- ---- operators on values
 call-form : (p : Settings) (xs : List Component) (o : ScalarOp) (literals : Bool) (args : List CompExp) → AllByRecursion (IsTyped p xs) args → Gives (IsTyped p xs) (call_form o literals args)
 call-form p xs o literals args h =
-    tested (IsTyped p xs) ((7, is_none (kind_by_operands o (map exp_kind args))) ∷ (8, is_none (call_kind o args)) ∷ (8, not literals) ∷ []) (call o (or_null (call_kind o args)) (comp_exps_of args)) (λ passed. call-typed p xs o (or_null (call_kind o args)) args (kind (call_kind o args) passed.1.0) h)
+    tested (IsTyped p xs) ((rule.WrongKind, is_none (kind_by_operands o (map exp_kind args))) ∷ (rule.WrongLiteral, is_none (call_kind o args)) ∷ (rule.WrongLiteral, not literals) ∷ []) (call o (or_null (call_kind o args)) (comp_exps_of args)) (λ passed. call-typed p xs o (or_null (call_kind o args)) args (kind (call_kind o args) passed.1.0) h)
   where
     kind : (m : Option Kind) → is_none m ≡ false → m ≡ Some (or_null m)
     kind None e = absurd (true≢false e)
@@ -92,7 +95,7 @@ component-gives env i name = then (IsTyped env.settings i.components) (IsWellTyp
 
     same : (g : Option (List (List ℕ))) (e : CompExp) → IsTyped env.settings i.components e → Gives (P g) (alone g name e)
     same None e h = h
-    same (Some names) e h = after (P (Some names)) (ruled ((15, not (is_among name names)) ∷ []) (tt {0})) (λ u. of_value e) (λ u. tt)
+    same (Some names) e h = after (P (Some names)) (ruled ((rule.AggregateMisuse, not (is_among name names)) ∷ []) (tt {0})) (λ u. of_value e) (λ u. tt)
 
     one : (e : CompExp) → IsTyped env.settings i.components e → Gives (IsWellTyped env (place.Inside i)) (alone i.grouping name e)
     one e h = weaker (P i.grouping) (IsWellTyped env (place.Inside i)) (alone i.grouping name e) (λ x k. there x k) (same i.grouping e h)

@@ -1,4 +1,10 @@
-//! What typing gives: typed expressions, their nodes and typed scripts, as laws.
+//! What typing gives, as laws on its definition: typed expressions have their kinds, nodes fit their operands,
+//! typed scripts read what is known, and typing depends on nothing else. It has no code.
+//!
+//! It is the one bridge from typing (`vtl_check`) to meaning (`vtl_meaning`): the conditions of the laws there hold
+//! of what is typed.
+//! Neither side names the other; what evaluates (`vtl_interp`) cites this.
+//! Begin with specs/WellTyped.antt and src/laws.rt.
 #![tactic(auto)]
 
 mod laws;

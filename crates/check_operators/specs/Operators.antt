@@ -12,7 +12,10 @@ use Rattle.vtl_tree.specs.View.{comp_exp_of}
 use Rattle.vtl_tree.specs.declared.structure.Component.{Component}
 use Rattle.vtl_tree.specs.declared.structure.Structure.{Structure}
 use Rattle.vtl_nodes.specs.Trees.{NodeTree, structure_of, measures, pair, choose}
-use Rattle.check_faults.specs.Rules.{◌>>=◌, ruled}
+use Rattle.vtl_lists.specs.Results.{◌>>=◌}
+use Rattle.check_faults.specs.Rules.{ruled}
+use Rattle.check_faults.specs.declared.rules.Rule.{Rule}
+use Rattle.check_faults.specs.declared.rules.Rule.TheVariants as rule
 use Rattle.check_shapes.specs.Measures.{Gives, any_unmet, measured_form}
 use Rattle.check_shapes.specs.Pairs as pairs
 use Rattle.check_shapes.specs.declared.choices.Choice.TheVariants as choice
@@ -131,56 +134,56 @@ given_by given k.Period b = given.period
 abbrev pub of_two : ScalarOp → Gives
 of_two o a b = kinds_of o (a ∷ b ∷ [])
 
--- The structure of measures that meet an operator's row but for literals (7), and with the literals (8).
-abbrev pub structure_by : Outcome → (counted given : Gives) → (literals : Bool) → List Component → Result Structure ℕ
+-- The structure of measures that meet an operator's row but for literals, and with the literals.
+abbrev pub structure_by : Outcome → (counted given : Gives) → (literals : Bool) → List Component → Result Structure Rule
 structure_by o counted given literals xs =
-    ruled ((7, any_unmet counted None xs) ∷ (8, any_unmet given None xs) ∷ []) (tt {0})
+    ruled ((rule.WrongKind, any_unmet counted None xs) ∷ (rule.WrongLiteral, any_unmet given None xs) ∷ []) (tt {0})
     >>= λ u. measured_form o given literals choice.Except [] xs
 
 -- what an operator gives of measures between values
-abbrev pub given_structure : ScalarOp → (literals : Bool) → List CompExp → List CompExp → List Component → Result Structure ℕ
+abbrev pub given_structure : ScalarOp → (literals : Bool) → List CompExp → List CompExp → List Component → Result Structure Rule
 given_structure o literals before after xs = structure_by (outcome_of o) (by_operands o before after) (between_values o before after) literals xs
 
-unfoldable pub on_measures : ScalarOp → (literals : Bool) → List CompExp → NodeTree → List CompExp → Result TypedTree ℕ
+unfoldable pub on_measures : ScalarOp → (literals : Bool) → List CompExp → NodeTree → List CompExp → Result TypedTree Rule
 on_measures o literals before a after =
     given_structure o literals before after (components_in a)
     >>= made_of (measures (record { op = o; before = before; after = after }) a)
 
-unfoldable pub on_pair : ScalarOp → NodeTree → NodeTree → Result TypedTree ℕ
+unfoldable pub on_pair : ScalarOp → NodeTree → NodeTree → Result TypedTree Rule
 on_pair o a b = pairs.pair_form (outcome_of o) (of_two o) (structure_of a) (structure_of b) >>= made_of (pair o a b)
 
-unfoldable pub on_choice : NodeTree → NodeTree → NodeTree → Result TypedTree ℕ
+unfoldable pub on_choice : NodeTree → NodeTree → NodeTree → Result TypedTree Rule
 on_choice c a b = pairs.if_form (structure_of c) (structure_of a) (structure_of b) >>= made_of (choose c a b)
 
--- the rule of an operator that takes no data set where one stands: the number of operands is wrong (7), literals are missing (8)
-abbrev pub misplaced_rule : (number literals : Bool) → ℕ
-misplaced_rule false literals = 7
-misplaced_rule true false = 8
-misplaced_rule true true = 14
+-- the rule of an operator that takes no data set where one stands, behind the number of operands and the literals
+abbrev pub misplaced_rule : (number literals : Bool) → Rule
+misplaced_rule false literals = rule.WrongKind
+misplaced_rule true false = rule.WrongLiteral
+misplaced_rule true true = rule.DatasetOrValue
 
-abbrev pub if_placed : (fits literals : Bool) → Result TypedTree ℕ → Result TypedTree ℕ
+abbrev pub if_placed : (fits literals : Bool) → Result TypedTree Rule → Result TypedTree Rule
 if_placed true literals form = form
 if_placed false literals form = Err (misplaced_rule true literals)
 
-abbrev pub on_datasets : ScalarOp → (literals : Bool) → List CompExp → List NodeTree → List CompExp → Result TypedTree ℕ
+abbrev pub on_datasets : ScalarOp → (literals : Bool) → List CompExp → List NodeTree → List CompExp → Result TypedTree Rule
 on_datasets o literals before (a ∷ []) after = if_placed (takes_dataset o (length before)) literals (on_measures o literals before a after)
 on_datasets o literals [] (a ∷ b ∷ []) [] = if_placed (is_binary o) literals (on_pair o a b)
 on_datasets o literals [] (c ∷ a ∷ b ∷ []) [] = if_placed (is_choice o) literals (on_choice c a b)
 on_datasets o literals before datasets after = Err (misplaced_rule true literals)
 
 -- ---- on values
-abbrev pub on_values : ScalarOp → (literals : Bool) → List CompExp → Result TypedTree ℕ
+abbrev pub on_values : ScalarOp → (literals : Bool) → List CompExp → Result TypedTree Rule
 on_values o literals values = call_form o literals values >>= of_value
 
 -- ---- on all operands
-abbrev pub on_operands : Place → ScalarOp → (number literals : Bool) → List CompExp → List NodeTree → List CompExp → Result TypedTree ℕ
+abbrev pub on_operands : Place → ScalarOp → (number literals : Bool) → List CompExp → List NodeTree → List CompExp → Result TypedTree Rule
 on_operands p o number literals before [] after = on_values o literals before
 on_operands (place.Inside i) o number literals before (n ∷ ns) after = Err (misplaced_rule number literals)
-on_operands place.Outside o number literals before (n ∷ ns) after = ruled ((7, not number) ∷ []) (tt {0}) >>= λ u. on_datasets o literals before (n ∷ ns) after
+on_operands place.Outside o number literals before (n ∷ ns) after = ruled ((rule.WrongKind, not number) ∷ []) (tt {0}) >>= λ u. on_datasets o literals before (n ∷ ns) after
 
 -- An operator on its operands. Whether their number is right, and whether those that have to be literals are, is told by the
 -- one who sees how they are written.
-unfoldable pub operator_form : Place → ScalarOp → (number literals : Bool) → List TypedTree → Result TypedTree ℕ
+unfoldable pub operator_form : Place → ScalarOp → (number literals : Bool) → List TypedTree → Result TypedTree Rule
 operator_form p o number literals xs =
     on_operands p o number literals (parted no_operands xs).before (parted no_operands xs).datasets (parted no_operands xs).after
 
@@ -190,5 +193,5 @@ membership true = op.NotIn
 membership false = op.In
 
 -- the members of a set, and then the operator
-unfoldable pub set_form : Settings → Place → (negated : Bool) → List Literal → TypedTree → Result TypedTree ℕ
+unfoldable pub set_form : Settings → Place → (negated : Bool) → List Literal → TypedTree → Result TypedTree Rule
 set_form p at negated ls x = set_typed p (beside_kind x) ls >>= λ cells. operator_form at (membership negated) true true (x ∷ map (λ c. value (const c)) cells)

@@ -17,7 +17,10 @@ use Rattle.vtl_tree.specs.declared.structure.Component.{Component}
 use Rattle.vtl_tree.specs.declared.structure.Structure.{Structure}
 use Rattle.check_joins.specs.Joins as joins
 use Rattle.vtl_nodes.specs.Trees.{NodeTree, named, node, structure_of}
-use Rattle.check_faults.specs.Rules.{◌>>=◌, ruled}
+use Rattle.vtl_lists.specs.Results.{◌>>=◌}
+use Rattle.check_faults.specs.Rules.{ruled}
+use Rattle.check_faults.specs.declared.rules.Rule.{Rule}
+use Rattle.check_faults.specs.declared.rules.Rule.TheVariants as rule
 use Rattle.check_shapes.specs.Names.{is_among}
 use Rattle.check_values.specs.Columns.{column_typed, name_of}
 use Rattle.check_values.specs.Literals.{constant_typed}
@@ -38,28 +41,29 @@ pub record Env : Type 0 where
 abbrev pub env_of : Scope → Env
 env_of s = record { settings = s.profile; known = s.known.entries }
 
--- a name where a data set is needed: an unknown one breaks 1, and a quoted one, which names a component, 14
-abbrev pub known_by : List ℕ → Option Structure → Result TypedTree ℕ
-known_by name None = Err 1
+-- a name where a data set is needed: an unknown one breaks `UnknownDataset`, and a quoted one, which names a component,
+-- `DatasetOrValue`
+abbrev pub known_by : List ℕ → Option Structure → Result TypedTree Rule
+known_by name None = Err rule.UnknownDataset
 known_by name (Some s) = Ok (dataset (node s (named name)))
 
-abbrev pub dataset_named : Named → Comp → Result TypedTree ℕ
+abbrev pub dataset_named : Named → Comp → Result TypedTree Rule
 dataset_named known (comp.Name name) = known_by name (lookup (same_name name) known)
-dataset_named known (comp.Quoted name) = Err 14
+dataset_named known (comp.Quoted name) = Err rule.DatasetOrValue
 
--- in the condition of groups, and in a target of `aggr`, a component stands alone only where it is a grouping identifier (15)
-abbrev pub alone : Option (List (List ℕ)) → List ℕ → CompExp → Result TypedTree ℕ
+-- in the condition of groups, and in a target of `aggr`, a component stands alone only where it is a grouping identifier
+abbrev pub alone : Option (List (List ℕ)) → List ℕ → CompExp → Result TypedTree Rule
 alone None name e = of_value e
-alone (Some names) name e = ruled ((15, not (is_among name names)) ∷ []) (tt {0}) >>= λ u. of_value e
+alone (Some names) name e = ruled ((rule.AggregateMisuse, not (is_among name names)) ∷ []) (tt {0}) >>= λ u. of_value e
 
-abbrev pub component_typed : Inside → List ℕ → Result TypedTree ℕ
+abbrev pub component_typed : Inside → List ℕ → Result TypedTree Rule
 component_typed i name = column_typed name i.components >>= alone i.grouping name
 
-abbrev pub name_typed : Env → Place → Comp → Result TypedTree ℕ
+abbrev pub name_typed : Env → Place → Comp → Result TypedTree Rule
 name_typed env place.Outside c = dataset_named env.known c
 name_typed env (place.Inside i) c = component_typed i (name_of c)
 
-abbrev pub constant_form : Settings → Constant → Result TypedTree ℕ
+abbrev pub constant_form : Settings → Constant → Result TypedTree Rule
 constant_form p c = constant_typed p c >>= of_value
 
 -- a component as it is written: with an alias, or without
@@ -88,20 +92,21 @@ abbrev pub written_by : Reference → Written
 written_by (reference.Component c) = plainly c
 written_by (reference.Member alias c) = with_alias alias c
 
--- the name of the component; `alias#name` stands for a name of the joined set, and breaks 4 outside of a join's body
-abbrev pub member_name : Option Joined → List ℕ → List ℕ → Result (List ℕ) ℕ
-member_name None alias name = Err 4
+-- the name of the component; `alias#name` stands for a name of the joined set, and breaks `UnknownComponent` outside of a join's
+-- body
+abbrev pub member_name : Option Joined → List ℕ → List ℕ → Result (List ℕ) Rule
+member_name None alias name = Err rule.UnknownComponent
 member_name (Some j) alias name = joins.member_form j.kind j.operands j.held alias name
 
-abbrev pub name_by : Option Joined → List ℕ → Option (List ℕ) → Result (List ℕ) ℕ
+abbrev pub name_by : Option Joined → List ℕ → Option (List ℕ) → Result (List ℕ) Rule
 name_by j name None = Ok name
 name_by j name (Some alias) = member_name j alias name
 
-abbrev pub name_written : Option Joined → Written → Result (List ℕ) ℕ
+abbrev pub name_written : Option Joined → Written → Result (List ℕ) Rule
 name_written j w = name_by j w.name w.alias
 
 -- a component as an expression
-unfoldable pub written_typed : Inside → Written → Result TypedTree ℕ
+unfoldable pub written_typed : Inside → Written → Result TypedTree Rule
 written_typed i w = name_written i.joined w >>= component_typed i
 
 -- the component that `operand#component` is inside, where it is one

@@ -1,5 +1,5 @@
 -- Typed expressions: values and data sets.
-use Rattle.std.specs.Prelude.{ℕ, not, List, [], ◌∷◌, Result, Ok, Err, Box, Vec, map}
+use Rattle.std.specs.Prelude.{not, List, [], ◌∷◌, Result, Ok, Err, Box, Vec, map}
 use Rattle.std.specs.declared.alloc.Global.{Global}
 use Rattle.vtl_cell.specs.ScalarKinds.{meets}
 use Rattle.vtl_cell.specs.declared.kind.Kind.{Kind}
@@ -11,7 +11,10 @@ use Rattle.vtl_tree.specs.declared.structure.Structure.{Structure}
 use Rattle.vtl_nodes.specs.Trees.{FormTree, NodeTree, node, structure_of}
 use Rattle.vtl_nodes.specs.View.{node_tree}
 use Rattle.vtl_nodes.specs.declared.nodes.Node.{Node}
-use Rattle.check_faults.specs.Rules.{◌>>=◌, ruled}
+use Rattle.vtl_lists.specs.Results.{◌>>=◌}
+use Rattle.check_faults.specs.Rules.{ruled}
+use Rattle.check_faults.specs.declared.rules.Rule.{Rule}
+use Rattle.check_faults.specs.declared.rules.Rule.TheVariants as rule
 use Rattle.check_shapes.specs.Clauses.{first_kind}
 use Rattle.check_shapes.specs.Measures.{measures}
 use Rattle.check_values.specs.Kinds.{exp_kind}
@@ -36,18 +39,18 @@ typed_trees v = map typed_tree v.items
 abbrev pub components_in : NodeTree → List Component
 components_in n = (structure_of n).components
 
--- where a value is needed a data set breaks 14, and where a data set is needed a value does
-abbrev pub value_in : TypedTree → Result CompExp ℕ
+-- where a value is needed a data set breaks `DatasetOrValue`, and where a data set is needed a value does
+abbrev pub value_in : TypedTree → Result CompExp Rule
 value_in (value e) = Ok e
-value_in (dataset n) = Err 14
+value_in (dataset n) = Err rule.DatasetOrValue
 
-abbrev pub dataset_in : TypedTree → Result NodeTree ℕ
-dataset_in (value e) = Err 14
+abbrev pub dataset_in : TypedTree → Result NodeTree Rule
+dataset_in (value e) = Err rule.DatasetOrValue
 dataset_in (dataset n) = Ok n
 
--- a condition is a value (14) and boolean (7)
-abbrev pub condition_in : TypedTree → Result CompExp ℕ
-condition_in x = value_in x >>= λ e. ruled ((7, not (meets k.Bool (exp_kind e))) ∷ []) e
+-- a condition is a boolean value
+abbrev pub condition_in : TypedTree → Result CompExp Rule
+condition_in x = value_in x >>= λ e. ruled ((rule.WrongKind, not (meets k.Bool (exp_kind e))) ∷ []) e
 
 -- The kind that literals beside an operand have to meet: that of the value, or of the first measure. The operator itself asks
 -- it of each measure.
@@ -56,8 +59,8 @@ beside_kind (value e) = exp_kind e
 beside_kind (dataset n) = first_kind (measures (components_in n))
 
 -- a data set of this structure, made so
-abbrev pub made_of : FormTree → Structure → Result TypedTree ℕ
+abbrev pub made_of : FormTree → Structure → Result TypedTree Rule
 made_of form s = Ok (dataset (node s form))
 
-abbrev pub of_value : CompExp → Result TypedTree ℕ
+abbrev pub of_value : CompExp → Result TypedTree Rule
 of_value e = Ok (value e)

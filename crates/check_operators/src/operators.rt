@@ -11,7 +11,7 @@ use crate::operator_kinds::{GivenKinds, OfTwo, between_kinds};
 use crate::placing::{is_binary, is_choice, misplaced_rule, outcome_of, takes_dataset};
 use crate::typed::made_of;
 use crate::{Place, Typed};
-use check_faults::{TypeErr, broken};
+use check_faults::{Rule, TypeErr, broken};
 use check_shapes::{Choice, Outcome, any_unmet, choose_by, measured, pair};
 use check_values::{call, kinds_in, set as set_members};
 use std::alloc::{AllocError, Global};
@@ -35,8 +35,8 @@ fn structure_by(
     ensures { Answers (λ s. s) result (structure_by outcome (given_by by_operands.now) (given_by given.now) literals structure.now.components) }
 {
     let components = structure.components.as_slice();
-    broken(7, any_unmet(by_operands, None, components))?;
-    broken(8, any_unmet(given, None, components))?;
+    broken(Rule::WrongKind, any_unmet(by_operands, None, components))?;
+    broken(Rule::WrongLiteral, any_unmet(given, None, components))?;
     measured(
         alloc,
         outcome,

@@ -6,12 +6,11 @@ ghost use Rattle.vtl_tree.specs.Structure.{columns_of};
 ghost use Rattle.check_operators.specs.Places.{at_groups, at_points, columns_at};
 
 use check_joins::Operand;
-use check_shapes::share_component;
 use std::alloc::{AllocError, Global};
 use vtl_nodes::Node;
 use vtl_syntax::JoinKind;
 use vtl_text::{List, Shared, Txt};
-use vtl_tree::{Component, Structure};
+use vtl_tree::{Component, Structure, share_component};
 
 /// Where an expression stands.
 #[derive(Drop)]

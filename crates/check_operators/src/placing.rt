@@ -2,6 +2,7 @@
 ghost use Rattle.std.specs.Prelude.{◌≡◌};
 ghost use Rattle.check_operators.specs.Operators.{is_binary, is_choice, misplaced_rule, outcome_of, takes_dataset, takes_first};
 
+use check_faults::Rule;
 use check_shapes::Outcome;
 use vtl_cell::ScalarOp;
 
@@ -60,14 +61,13 @@ pub(crate) fn outcome_of(op: ScalarOp) -> Outcome
     }
 }
 
-/// The rule that is broken where an operator takes no data set and one stands: 7 where the number of operands is wrong, 8 where
-/// literals are missing, and 14 elsewhere.
-pub(crate) fn misplaced_rule(number: bool, literals: bool) -> u8
+/// The rule that is broken where an operator takes no data set and one stands.
+pub(crate) fn misplaced_rule(number: bool, literals: bool) -> Rule
     ensures { result ≡ misplaced_rule number literals }
 {
     match (number, literals) {
-        (false, _) => 7,
-        (true, false) => 8,
-        (true, true) => 14,
+        (false, _) => Rule::WrongKind,
+        (true, false) => Rule::WrongLiteral,
+        (true, true) => Rule::DatasetOrValue,
     }
 }

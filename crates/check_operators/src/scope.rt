@@ -8,8 +8,8 @@ ghost use Rattle.check_operators.specs.Typed.{typed_tree};
 
 use crate::typed::made_of;
 use crate::{Inside, Place, Typed};
-use check_faults::TypeErr;
-use check_shapes::{is_among, share_structure};
+use check_faults::{Rule, TypeErr};
+use check_shapes::is_among;
 use check_values::{column, name as name_of};
 use indexmap::IndexMap;
 use std::alloc::Global;
@@ -17,7 +17,7 @@ use vtl_decimal::Profile;
 use vtl_nodes::NodeForm;
 use vtl_syntax::Comp;
 use vtl_text::{List, Txt};
-use vtl_tree::{CompExpr, Structure};
+use vtl_tree::{CompExpr, Structure, share_structure};
 
 /// How numbers are read, and the data sets that are known: the declared ones, and then the results so far.
 #[derive(Drop)]
@@ -32,7 +32,7 @@ fn known_by(alloc: Global, name: &Txt, structure: Option<&Structure>) -> Result<
     ensures { Answers typed_tree result (known_by name.now (option_copied structure.entry)) }
 {
     let Some(structure) = structure else {
-        return Err(TypeErr::Broken(1));
+        return Err(TypeErr::Broken(Rule::UnknownDataset));
     };
     let structure = share_structure(alloc, structure)?;
     let name = name.share()?;
@@ -48,7 +48,7 @@ fn dataset_named(
 {
     match component {
         Comp::Name(name) => known_by(alloc, name, known.get(name)),
-        Comp::Quoted(_) => Err(TypeErr::Broken(14)),
+        Comp::Quoted(_) => Err(TypeErr::Broken(Rule::DatasetOrValue)),
     }
 }
 
@@ -57,7 +57,9 @@ fn alone(grouping: &Option<List<Txt>>, name: &Txt, e: CompExpr) -> Result<Typed,
     ensures { Answers typed_tree result (alone grouping.now name.now (comp_exp_of e)) }
 {
     match grouping {
-        Some(names) if !is_among(name, names.as_slice()) => Err(TypeErr::Broken(15)),
+        Some(names) if !is_among(name, names.as_slice()) => Err(TypeErr::Broken(
+            Rule::AggregateMisuse,
+        )),
         _ => Ok(Typed::Value(e)),
     }
 }
@@ -70,8 +72,9 @@ pub(crate) fn component_typed(inside: &Inside, name: &Txt) -> Result<Typed, Type
     alone(&inside.grouping, name, e)
 }
 
-/// What a name stands for at a place: a data set, or a component. An unknown data set breaks rule 1, an unknown component 4, a
-/// quoted name where a data set is needed 14, and a component that is no grouping identifier, over groups, 15.
+/// What a name stands for at a place: a data set, or a component. An unknown data set breaks `UnknownDataset`, an unknown
+/// component `UnknownComponent`, a quoted name where a data set is needed `DatasetOrValue`, and a component that is no grouping
+/// identifier, over groups, `AggregateMisuse`.
 pub fn name(alloc: Global, scope: &Scope, place: &Place, component: &Comp) -> Result<Typed, TypeErr>
     ensures { Answers typed_tree result (name_typed (env_of scope.now) place.now component.now) }
 {

@@ -13,7 +13,7 @@ ghost use Rattle.check_operators.specs.Typed.{boxed_tree, typed_tree, typed_tree
 
 use crate::Typed;
 use crate::typed::made_of;
-use check_faults::TypeErr;
+use check_faults::{Rule, TypeErr};
 use check_shapes::{Choice, Wanted, choose_known, exists_in, set_operator};
 use check_values::name;
 use std::alloc::{AllocError, Global};
@@ -31,7 +31,7 @@ fn member_structure(alloc: Global, name: &Txt, structure: &Structure) -> Result<
     choose_known(alloc, Wanted::Measure, Choice::Keep, structure, &names)
 }
 
-/// `operand#component`: the identifiers and one measure. It breaks rules 4 and 6.
+/// `operand#component`: the identifiers and one measure. It breaks `UnknownComponent` and `WrongRole`.
 #[tactic(auto, unfolding(crate::specs::Sets::member_of))]
 pub fn member(alloc: Global, component: &Comp, operand: Box<Node>) -> Result<Typed, TypeErr>
     ensures { Answers typed_tree result (member_of component.now (boxed_tree operand)) }
@@ -70,7 +70,7 @@ fn set_structure(alloc: Global, nodes: &[Node]) -> Result<Structure, TypeErr>
             let others = structures_in(alloc, others)?;
             set_operator(alloc, &first.structure, &others)
         }
-        [] => Err(TypeErr::Broken(14)),
+        [] => Err(TypeErr::Broken(Rule::DatasetOrValue)),
     }
 }
 
@@ -90,7 +90,7 @@ fn set_of(alloc: Global, operator: SetOpName, nodes: Vec<Node>) -> Result<Typed,
     made_of(alloc, structure, set_tree(operator, nodes))
 }
 
-/// `union` and `intersect`. They break rules 9, 10 and 14.
+/// `union` and `intersect`. They break `IdentifiersDisagree`, `MeasuresDisagree` and `DatasetOrValue`.
 #[tactic(auto, unfolding(crate::specs::Sets::sets_form))]
 pub fn sets(alloc: Global, operator: SetOpName, operands: Vec<Typed>) -> Result<Typed, TypeErr>
     ensures { Answers typed_tree result (sets_form operator (typed_trees operands)) }
@@ -108,7 +108,7 @@ fn difference_tree(operator: DifferenceName, a: Box<Node>, b: Box<Node>) -> Node
     }
 }
 
-/// `setdiff` and `symdiff`. They break rules 9, 10 and 14.
+/// `setdiff` and `symdiff`. They break `IdentifiersDisagree`, `MeasuresDisagree` and `DatasetOrValue`.
 #[tactic(auto, unfolding(crate::specs::Sets::difference_form))]
 pub fn difference(
     alloc: Global,
@@ -124,7 +124,7 @@ pub fn difference(
     made_of(alloc, structure, difference_tree(operator, left, right))
 }
 
-/// `exists_in`. It breaks rules 9 and 14.
+/// `exists_in`. It breaks `IdentifiersDisagree` and `DatasetOrValue`.
 #[tactic(auto, unfolding(crate::specs::Sets::exists_form))]
 pub fn exists(
     alloc: Global,
@@ -148,7 +148,7 @@ fn level(profile: &Profile, digits: &Option<Txt>) -> Result<Option<i64>, TypeErr
     match digits {
         Some(digits) => match integer_written(profile, digits) {
             Some(level) => Ok(Some(level)),
-            None => Err(TypeErr::Broken(8)),
+            None => Err(TypeErr::Broken(Rule::WrongLiteral)),
         },
         None => Ok(None),
     }
@@ -163,7 +163,7 @@ fn share_text(text: &Option<Txt>) -> Result<Option<Txt>, AllocError>
     }
 }
 
-/// The error of `check` and its output. The level breaks rule 8 where it is out of range.
+/// The error of `check` and its output. The level breaks `WrongLiteral` where it is out of range.
 pub fn check_spec(
     profile: &Profile,
     error: &ErrorPart,
@@ -202,7 +202,7 @@ fn check_structure(
     }
 }
 
-/// `check`, with an imbalance or without. It breaks rules 9, 10 and 14.
+/// `check`, with an imbalance or without. It breaks `IdentifiersDisagree`, `MeasuresDisagree` and `DatasetOrValue`.
 #[tactic(auto, unfolding(crate::specs::Sets::check_form))]
 pub fn check(
     alloc: Global,

@@ -11,7 +11,7 @@ ghost use Rattle.vtl_tree.specs.View.{comp_exp_of};
 ghost use Rattle.check_values.specs.Kinds.{exp_kind};
 ghost use Rattle.check_operators.specs.Typed.{beside_kind, boxed_tree, condition_in, dataset_in, made_of, typed_tree, value_in};
 
-use check_faults::TypeErr;
+use check_faults::{Rule, TypeErr};
 use check_values::kind;
 use std::alloc::Global;
 use vtl_cell::Kind;
@@ -29,22 +29,22 @@ pub enum Typed {
 }
 
 impl Typed {
-    /// The value, where one is needed: a data set breaks rule 14.
+    /// The value, where one is needed: a data set breaks `DatasetOrValue`.
     pub fn value(self) -> Result<CompExpr, TypeErr>
         ensures { Answers comp_exp_of result (value_in (typed_tree self)) }
     {
         match self {
             Typed::Value(e) => Ok(e),
-            Typed::Dataset(_) => Err(TypeErr::Broken(14)),
+            Typed::Dataset(_) => Err(TypeErr::Broken(Rule::DatasetOrValue)),
         }
     }
 
-    /// The data set, where one is needed: a value breaks rule 14.
+    /// The data set, where one is needed: a value breaks `DatasetOrValue`.
     pub fn dataset(self) -> Result<Box<Node>, TypeErr>
         ensures { Answers boxed_tree result (dataset_in (typed_tree self)) }
     {
         match self {
-            Typed::Value(_) => Err(TypeErr::Broken(14)),
+            Typed::Value(_) => Err(TypeErr::Broken(Rule::DatasetOrValue)),
             Typed::Dataset(node) => Ok(node),
         }
     }
@@ -95,21 +95,21 @@ pub fn made_of(alloc: Global, structure: Structure, form: NodeForm) -> Result<Ty
 }
 
 fn boolean(e: CompExpr) -> Result<CompExpr, TypeErr>
-    ensures { Answers comp_exp_of result (ruled ((7, not (meets Kind.Bool (exp_kind (comp_exp_of e)))) ∷ []) (comp_exp_of e)) }
+    ensures { Answers comp_exp_of result (ruled ((Rule.WrongKind, not (meets Kind.Bool (exp_kind (comp_exp_of e)))) ∷ []) (comp_exp_of e)) }
 {
     if meets(Kind::Bool, kind(&e)) {
         Ok(e)
     } else {
-        Err(TypeErr::Broken(7))
+        Err(TypeErr::Broken(Rule::WrongKind))
     }
 }
 
-/// A condition: it breaks rule 14 where it is a data set, and 7 where its value is not boolean.
+/// A condition: it breaks `DatasetOrValue` where it is a data set, and `WrongKind` where its value is not boolean.
 pub fn condition(condition: Typed) -> Result<CompExpr, TypeErr>
     ensures { Answers comp_exp_of result (condition_in (typed_tree condition)) }
 {
     match condition {
         Typed::Value(e) => boolean(e),
-        Typed::Dataset(_) => Err(TypeErr::Broken(14)),
+        Typed::Dataset(_) => Err(TypeErr::Broken(Rule::DatasetOrValue)),
     }
 }

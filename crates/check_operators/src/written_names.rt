@@ -7,7 +7,7 @@ ghost use Rattle.check_operators.specs.Typed.{typed_tree};
 
 use crate::scope::component_typed;
 use crate::{Inside, Joined, Place, Typed};
-use check_faults::TypeErr;
+use check_faults::{Rule, TypeErr};
 use check_joins::member;
 use check_values::{constant as constant_value, name};
 use std::alloc::Global;
@@ -90,11 +90,11 @@ fn member_name(
             alias,
             name,
         ),
-        None => Err(TypeErr::Broken(4)),
+        None => Err(TypeErr::Broken(Rule::UnknownComponent)),
     }
 }
 
-/// The name of a component. `alias#name` stands for a name of the joined set; outside of a join's body it breaks rule 4.
+/// The name of a component. `alias#name` stands for a name of the joined set; outside of a join's body it breaks `UnknownComponent`.
 pub fn name_written(
     alloc: Global,
     joined: &Option<Joined>,

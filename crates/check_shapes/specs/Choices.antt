@@ -5,7 +5,8 @@ use Rattle.vtl_tree.specs.Structure.{same_role}
 use Rattle.vtl_tree.specs.declared.structure.Role.TheVariants as role
 use Rattle.vtl_tree.specs.declared.structure.Component.{Component}
 use Rattle.check_shapes.specs.Names.{all_known, component_of, is_among}
-use Rattle.check_faults.specs.Rules.{◌>>=◌}
+use Rattle.vtl_lists.specs.Results.{◌>>=◌}
+use Rattle.check_faults.specs.declared.rules.Rule.{Rule}
 use Rattle.check_shapes.specs.Shape.{shaped}
 use Rattle.check_shapes.specs.declared.names.Wanted.{Wanted}
 use Rattle.vtl_tree.specs.declared.structure.Structure.{Structure}
@@ -33,5 +34,5 @@ chosen c names xs = filter (is_chosen c names) xs
 
 -- the clauses `keep` and `drop` (a measure or an attribute is wanted) and `sub` (an identifier), and `#` (one name, a measure): names
 -- in written order, and then what is chosen by them
-abbrev pub choice_form : Wanted → Choice → List (List ℕ) → List Component → Result Structure ℕ
+abbrev pub choice_form : Wanted → Choice → List (List ℕ) → List Component → Result Structure Rule
 choice_form w c names xs = all_known w xs names >>= λ u. shaped (chosen c names xs)

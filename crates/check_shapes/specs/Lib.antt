@@ -1,6 +1,5 @@
 pub mod Choices
 pub mod Clauses
-pub mod Kinds
 pub mod Measures
 pub mod Names
 pub mod Operands

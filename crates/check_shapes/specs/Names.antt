@@ -5,7 +5,10 @@ use Rattle.vtl_tree.specs.Structure.{same_name, same_role}
 use Rattle.vtl_tree.specs.declared.structure.Role.{Role}
 use Rattle.vtl_tree.specs.declared.structure.Role.TheVariants as role
 use Rattle.vtl_tree.specs.declared.structure.Component.{Component}
-use Rattle.check_faults.specs.Rules.{◌>>=◌, ruled, Tests}
+use Rattle.vtl_lists.specs.Results.{◌>>=◌}
+use Rattle.check_faults.specs.Rules.{ruled, Tests}
+use Rattle.check_faults.specs.declared.rules.Rule.{Rule}
+use Rattle.check_faults.specs.declared.rules.Rule.TheVariants as rule
 use Rattle.check_shapes.specs.declared.names.Wanted.{Wanted}
 use Rattle.check_shapes.specs.declared.names.Wanted.TheVariants as wanted
 
@@ -25,22 +28,22 @@ serves wanted.Value r = not (same_role r role.Identifier)
 
 -- the rules that a component's name can break behind other names: it stands there already, or its role does not serve
 abbrev pub name_tests : Wanted → List (List ℕ) → List ℕ → Role → Tests
-name_tests w before name r = (5, is_among name before) ∷ (6, not (serves w r)) ∷ []
+name_tests w before name r = (rule.RepeatedName, is_among name before) ∷ (rule.WrongRole, not (serves w r)) ∷ []
 
-abbrev pub known_as : Wanted → List (List ℕ) → List ℕ → Option Component → Result Component ℕ
-known_as w before name None = Err 4
+abbrev pub known_as : Wanted → List (List ℕ) → List ℕ → Option Component → Result Component Rule
+known_as w before name None = Err rule.UnknownComponent
 known_as w before name (Some x) = ruled (name_tests w before name x.role) x
 
 -- the component that a name stands for behind other names, or the rule that the name breaks: there is none of this name, or
 -- one of the tests
-abbrev pub known : Wanted → List Component → List (List ℕ) → List ℕ → Result Component ℕ
+abbrev pub known : Wanted → List Component → List (List ℕ) → List ℕ → Result Component Rule
 known w xs before name = known_as w before name (component_of name xs)
 
 -- names in written order, behind other names: the rule that the first wrong one breaks
-abbrev pub names_behind : Wanted → List Component → List (List ℕ) → List (List ℕ) → Result (Unit {0}) ℕ
+abbrev pub names_behind : Wanted → List Component → List (List ℕ) → List (List ℕ) → Result (Unit {0}) Rule
 names_behind w xs before [] = Ok tt
 names_behind w xs before (name ∷ names) = known w xs before name >>= λ x. names_behind w xs (before ++ name ∷ []) names
 
 -- names in written order
-abbrev pub all_known : Wanted → List Component → List (List ℕ) → Result (Unit {0}) ℕ
+abbrev pub all_known : Wanted → List Component → List (List ℕ) → Result (Unit {0}) Rule
 all_known w xs names = names_behind w xs [] names

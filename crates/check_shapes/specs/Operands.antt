@@ -3,6 +3,7 @@ use Rattle.std.specs.Prelude.{ℕ, Bool, true, false, not, ◌&&◌, ◌||◌, L
 use Rattle.std.specs.List.{list_any, list_all}
 use Rattle.std.specs.Cmp.Lexicographic.{pointwise}
 use Rattle.std.specs.Option.{option_map_or}
+use Rattle.vtl_cell.specs.Kinds.{same_kind}
 use Rattle.vtl_cell.specs.ScalarKinds.{meets}
 use Rattle.vtl_cell.specs.declared.kind.Kind.{Kind}
 use Rattle.vtl_tree.specs.Structure.{same_name, same_role}
@@ -11,7 +12,6 @@ use Rattle.vtl_tree.specs.declared.structure.Role.TheVariants as role
 use Rattle.vtl_tree.specs.declared.structure.Component.{Component}
 use Rattle.vtl_tree.specs.declared.structure.Structure.{Structure}
 use Rattle.check_shapes.specs.Choices.{is_identifier}
-use Rattle.check_shapes.specs.Kinds.{same_kind}
 use Rattle.check_shapes.specs.Measures.{is_measure, measures}
 use Rattle.check_shapes.specs.Names.{component_of}
 use Rattle.check_shapes.specs.declared.operands.Compared.{Compared}

@@ -1,5 +1,5 @@
 -- Operators on several data sets.
-use Rattle.std.specs.Prelude.{ℕ, Bool, true, false, not, ◌&&◌, ◌||◌, ◌++◌, List, [], ◌∷◌, Some, Result, filter, map, length, codes, nat_eq, if◌then◌else◌}
+use Rattle.std.specs.Prelude.{Bool, true, false, not, ◌&&◌, ◌||◌, ◌++◌, List, [], ◌∷◌, Some, Result, filter, map, length, codes, nat_eq, if◌then◌else◌}
 use Rattle.std.specs.List.{list_any, list_all}
 use Rattle.vtl_cell.specs.declared.kind.Kind.TheVariants as k
 use Rattle.vtl_tree.specs.declared.structure.Role.TheVariants as role
@@ -8,13 +8,16 @@ use Rattle.vtl_tree.specs.declared.structure.Structure.{Structure}
 use Rattle.check_shapes.specs.Choices.{is_identifier}
 use Rattle.check_shapes.specs.Measures.{Gives, any_unmet, bool_var, given_measures, is_miscounted, made, measures}
 use Rattle.check_shapes.specs.Operands.{agree, agreed_identifiers, all_agree, all_meet, has_one_measure, is_there, is_within}
-use Rattle.check_faults.specs.Rules.{◌>>=◌, ruled, Tests}
+use Rattle.vtl_lists.specs.Results.{◌>>=◌}
+use Rattle.check_faults.specs.Rules.{ruled, Tests}
+use Rattle.check_faults.specs.declared.rules.Rule.{Rule}
+use Rattle.check_faults.specs.declared.rules.Rule.TheVariants as rule
 use Rattle.check_shapes.specs.Shape.{shaped}
 use Rattle.check_shapes.specs.declared.measures.Outcome.{Outcome}
 use Rattle.check_shapes.specs.declared.operands.Compared.TheVariants as compared
 
 -- an operand's identifiers, beside other operands, and then measures
-abbrev pub identified : List Structure → Structure → List Component → Result Structure ℕ
+abbrev pub identified : List Structure → Structure → List Component → Result Structure Rule
 identified others s ms = shaped (agreed_identifiers others s.components ++ ms)
 
 -- the first operand's identifiers contain those of the second
@@ -28,11 +31,11 @@ pair_identifiers s t = if contains s t then agreed_identifiers (t ∷ []) s.comp
 -- an operator on the measures of two data sets
 abbrev pub pair_tests : Outcome → Gives → Structure → Structure → Tests
 pair_tests o f s t =
-    (7, any_unmet f (Some t.components) s.components)
-    ∷ (9, not (contains s t || contains t s))
-    ∷ (10, not (agree compared.Names role.Measure s.components t.components) || is_miscounted o (length (measures s.components))) ∷ []
+    (rule.WrongKind, any_unmet f (Some t.components) s.components)
+    ∷ (rule.IdentifiersDisagree, not (contains s t || contains t s))
+    ∷ (rule.MeasuresDisagree, not (agree compared.Names role.Measure s.components t.components) || is_miscounted o (length (measures s.components))) ∷ []
 
-abbrev pub pair_form : Outcome → Gives → Structure → Structure → Result Structure ℕ
+abbrev pub pair_form : Outcome → Gives → Structure → Structure → Result Structure Rule
 pair_form o f s t =
     ruled (pair_tests o f s t) (tt {0})
     >>= λ u. shaped (pair_identifiers s t ++ given_measures o f (Some t.components) s.components)
@@ -46,20 +49,20 @@ are_choices c a b =
 
 abbrev pub if_tests : Structure → Structure → Structure → Tests
 if_tests c a b =
-    (7, not (all_meet k.Bool c.components))
-    ∷ (9, not (all_agree compared.Kinds role.Identifier c.components (a ∷ b ∷ [])))
-    ∷ (10, not (are_choices c a b)) ∷ []
+    (rule.WrongKind, not (all_meet k.Bool c.components))
+    ∷ (rule.IdentifiersDisagree, not (all_agree compared.Kinds role.Identifier c.components (a ∷ b ∷ [])))
+    ∷ (rule.MeasuresDisagree, not (are_choices c a b)) ∷ []
 
-abbrev pub if_form : Structure → Structure → Structure → Result Structure ℕ
+abbrev pub if_form : Structure → Structure → Structure → Result Structure Rule
 if_form c a b = ruled (if_tests c a b) (tt {0}) >>= λ u. identified (a ∷ b ∷ []) c (measures a.components)
 
 -- `union`, `intersect`, `setdiff`, `symdiff`: the same identifiers and the same measures
 abbrev pub set_tests : Structure → List Structure → Tests
 set_tests s others =
-    (9, not (all_agree compared.Kinds role.Identifier s.components others))
-    ∷ (10, not (all_agree compared.Kinds role.Measure s.components others)) ∷ []
+    (rule.IdentifiersDisagree, not (all_agree compared.Kinds role.Identifier s.components others))
+    ∷ (rule.MeasuresDisagree, not (all_agree compared.Kinds role.Measure s.components others)) ∷ []
 
-abbrev pub set_form : Structure → List Structure → Result Structure ℕ
+abbrev pub set_form : Structure → List Structure → Result Structure Rule
 set_form s others = ruled (set_tests s others) (tt {0}) >>= λ u. identified others s (measures s.components)
 
 -- an identifier that both have under different kinds
@@ -72,9 +75,9 @@ is_at_odds t x = is_common t x && not (is_there compared.Kinds t.components x)
 -- `exists_in`: at least one common identifier, each of one kind
 abbrev pub exists_tests : Structure → Structure → Tests
 exists_tests s t =
-    (9, not (list_any (is_common t) (filter is_identifier s.components)) || list_any (is_at_odds t) (filter is_identifier s.components)) ∷ []
+    (rule.IdentifiersDisagree, not (list_any (is_common t) (filter is_identifier s.components)) || list_any (is_at_odds t) (filter is_identifier s.components)) ∷ []
 
-abbrev pub exists_form : Structure → Structure → Result Structure ℕ
+abbrev pub exists_form : Structure → Structure → Result Structure Rule
 exists_form s t = ruled (exists_tests s t) (tt {0}) >>= λ u. identified (t ∷ []) s (bool_var ∷ [])
 
 -- `check`: one boolean measure; the imbalance, of which there is one or none, has the same identifiers and one measure, a number
@@ -83,8 +86,8 @@ has_one_number t = has_one_measure k.Num t.components
 
 abbrev pub check_tests : Structure → List Structure → Tests
 check_tests s others =
-    (9, not (all_agree compared.Kinds role.Identifier s.components others))
-    ∷ (10, not (has_one_measure k.Bool s.components) || not (list_all has_one_number others)) ∷ []
+    (rule.IdentifiersDisagree, not (all_agree compared.Kinds role.Identifier s.components others))
+    ∷ (rule.MeasuresDisagree, not (has_one_measure k.Bool s.components) || not (list_all has_one_number others)) ∷ []
 
 abbrev pub imbalance : Component
 imbalance = made (codes "imbalance") role.Measure k.Num
@@ -98,5 +101,5 @@ errorlevel = made (codes "errorlevel") role.Measure k.Int
 abbrev pub check_measures : List Component
 check_measures = bool_var ∷ imbalance ∷ errorcode ∷ errorlevel ∷ []
 
-abbrev pub check_form : Structure → List Structure → Result Structure ℕ
+abbrev pub check_form : Structure → List Structure → Result Structure Rule
 check_form s others = ruled (check_tests s others) (tt {0}) >>= λ u. identified others s check_measures

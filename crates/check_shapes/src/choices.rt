@@ -4,13 +4,12 @@ ghost use Rattle.check_faults.specs.Answers.{Answers};
 ghost use Rattle.check_shapes.specs.Choices.{choice_form, chosen, is_chosen, is_identifier, is_identifier_name};
 ghost use Rattle.check_shapes.specs.Shape.{shaped};
 
-use crate::copies::share_component;
-use crate::names::{component_of, is_among, is_role};
+use crate::names::{component_of, is_among};
 use crate::{Wanted, check_names, shaped};
 use check_faults::TypeErr;
 use std::alloc::{AllocError, Global};
 use vtl_text::Txt;
-use vtl_tree::{Component, Role, Structure};
+use vtl_tree::{Component, Role, Structure, is_same_role, share_component};
 
 /// Which components of an operand stay, by names that are listed.
 #[derive(Clone, Copy, Debug, PartialEq, Eq)]
@@ -29,7 +28,7 @@ pub enum Choice {
 pub fn is_identifier(component: &Component) -> bool
     ensures { result ≡ is_identifier component.now }
 {
-    is_role(component.role, Role::Identifier)
+    is_same_role(component.role, Role::Identifier)
 }
 
 /// Whether the component of this name is an identifier.

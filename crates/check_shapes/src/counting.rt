@@ -3,8 +3,7 @@ ghost use Rattle.std.specs.Prelude.{◌≡◌, cond, filter, length};
 ghost use Rattle.check_shapes.specs.Measures.{measures};
 ghost use Rattle.vtl_tree.specs.Structure.{same_role};
 
-use crate::names::is_role;
-use vtl_tree::{Component, Role};
+use vtl_tree::{Component, Role, is_same_role};
 
 fn one_if(counted: bool) -> usize
     ensures { result ≡ cond counted 1 0 }
@@ -19,7 +18,7 @@ pub fn count_role(components: &[Component], role: Role) -> usize
 {
     let mut count = 0;
     for i in 0..components.len() {
-        count += one_if(is_role(components[i].role, role));
+        count += one_if(is_same_role(components[i].role, role));
     }
     count
 }

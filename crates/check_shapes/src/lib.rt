@@ -1,8 +1,12 @@
-//! The structures that operators on data sets give, and the rules that their operands can break.
+//! The structure that each operator on data sets gives, or the first type rule that its operands break.
+//!
+//! Names in lists with a wanted role, choices by names, operators on measures, clauses, operators on several data
+//! sets: each as a function on components. Every result passes one list of tests (`shaped`).
+//! It knows no expressions, no values and no syntax trees: operators come as functions on kinds.
+//! Begin with specs/Shape.antt, then Names.antt and Clauses.antt.
 #![tactic(auto)]
 
 mod choices;
-mod copies;
 mod counting;
 mod kinds;
 mod measures;
@@ -15,7 +19,6 @@ mod shape;
 mod targets;
 
 pub use choices::{Choice, choose, choose_known, is_chosen, is_identifier, is_identifier_name};
-pub use copies::{share_codes, share_component, share_structure};
 pub use counting::count_role;
 pub use measures::{Operator, Outcome, any_unmet, measured};
 pub use names::{Wanted, check_names, check_new_name, component_of, is_among, known};

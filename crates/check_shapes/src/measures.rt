@@ -6,15 +6,14 @@ ghost use Rattle.check_faults.specs.Answers.{Answers};
 ghost use Rattle.check_shapes.specs.Measures.{any_unmet, bool_var as bool_measure, int_var as int_measure, given_measure, given_measures, is_measure, is_miscounted, is_unmet, made, measured_form, measures, namesake, paired};
 
 use crate::choices::push_chosen;
-use crate::copies::share_component;
 use crate::counting::count_measures;
-use crate::names::{component_of, is_role};
+use crate::names::component_of;
 use crate::{Choice, shaped};
-use check_faults::{TypeErr, broken};
+use check_faults::{Rule, TypeErr, broken};
 use std::alloc::{AllocError, Global};
 use vtl_cell::Kind;
 use vtl_text::Txt;
-use vtl_tree::{Component, Role, Structure};
+use vtl_tree::{Component, Role, Structure, is_same_role, share_component};
 
 /// An operator on measures, by the kinds that it takes and gives.
 pub trait Operator {
@@ -45,7 +44,7 @@ pub enum Outcome {
 pub(crate) fn is_measure(component: &Component) -> bool
     ensures { result ≡ is_measure component.now }
 {
-    is_role(component.role, Role::Measure)
+    is_same_role(component.role, Role::Measure)
 }
 
 /// Adds the measures, in their order.
@@ -198,7 +197,8 @@ pub(crate) fn push_given<F: Operator>(
 }
 
 /// An operator on the measures of one data set: the identifiers that are chosen, then the measures that it gives. It breaks
-/// rule 7 where a measure does not meet the operator's row, 8 where operands that have to be literals are not, and 10 where the number of measures is not the one it asks for.
+/// `WrongKind` where a measure does not meet the operator's row, `WrongLiteral` where operands that have to be literals are not,
+/// and `MeasuresDisagree` where the number of measures is not the one it asks for.
 pub fn measured<F: Operator>(
     alloc: Global,
     outcome: Outcome,
@@ -211,9 +211,12 @@ pub fn measured<F: Operator>(
     ensures { Answers (λ s. s) result (measured_form outcome (F.gives operator.now) literals choice names.now structure.now.components) }
 {
     let components = structure.components.as_slice();
-    broken(7, any_unmet(operator, None, components))?;
-    broken(8, !literals)?;
-    broken(10, is_miscounted(outcome, count_measures(components)))?;
+    broken(Rule::WrongKind, any_unmet(operator, None, components))?;
+    broken(Rule::WrongLiteral, !literals)?;
+    broken(
+        Rule::MeasuresDisagree,
+        is_miscounted(outcome, count_measures(components)),
+    )?;
     let mut out = Vec::new(alloc);
     push_chosen(&mut out, choice, names, components)?;
     push_given(alloc, &mut out, outcome, operator, None, components)?;

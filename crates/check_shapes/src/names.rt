@@ -1,14 +1,13 @@
 // Names of components, as an operator asks for them.
 ghost use Rattle.std.specs.Option.{option_copied};
 ghost use Rattle.std.specs.Prelude.{◌≡◌, [], ◌∷◌};
-ghost use Rattle.vtl_tree.specs.Structure.{same_name, same_role};
 ghost use Rattle.check_faults.specs.Answers.{Answers};
 ghost use Rattle.check_faults.specs.Rules.{ruled};
 ghost use Rattle.check_shapes.specs.Names.{all_known, component_of, is_among, known, serves};
 
-use check_faults::{TypeErr, broken};
+use check_faults::{Rule, TypeErr, broken};
 use vtl_text::Txt;
-use vtl_tree::{Component, Role};
+use vtl_tree::{Component, Role, is_same_role};
 
 /// The role that a place asks of a component.
 #[derive(Clone, Copy, Debug, PartialEq, Eq)]
@@ -21,17 +20,6 @@ pub enum Wanted {
     Measure,
     /// A measure or an attribute.
     Value,
-}
-
-pub(crate) fn is_role(role: Role, wanted: Role) -> bool
-    ensures { result ≡ same_role role wanted }
-{
-    match (role, wanted) {
-        (Role::Identifier, Role::Identifier) => true,
-        (Role::Measure, Role::Measure) => true,
-        (Role::Attribute, Role::Attribute) => true,
-        _ => false,
-    }
 }
 
 /// Whether a name is among others.
@@ -58,21 +46,22 @@ fn serves(wanted: Wanted, role: Role) -> bool
 {
     match wanted {
         Wanted::Any => true,
-        Wanted::Identifier => is_role(role, Role::Identifier),
-        Wanted::Measure => is_role(role, Role::Measure),
-        Wanted::Value => !is_role(role, Role::Identifier),
+        Wanted::Identifier => is_same_role(role, Role::Identifier),
+        Wanted::Measure => is_same_role(role, Role::Measure),
+        Wanted::Value => !is_same_role(role, Role::Identifier),
     }
 }
 
-/// A new name behind other names, as that of a target of `aggr` or an alias. It breaks rule 5 where it stands there already.
+/// A new name behind other names, as that of a target of `aggr` or an alias. It breaks `RepeatedName` where it stands there
+/// already.
 pub fn check_new_name(before: &[Txt], name: &Txt) -> Result<(), TypeErr>
-    ensures { Answers (λ done. done) result (ruled ((5, is_among name.now before.now) ∷ []) tt) }
+    ensures { Answers (λ done. done) result (ruled ((Rule.RepeatedName, is_among name.now before.now) ∷ []) tt) }
 {
-    broken(5, is_among(name, before))
+    broken(Rule::RepeatedName, is_among(name, before))
 }
 
-/// The component that a name stands for behind other names. The name breaks rule 4 where there is no such component, 5 where
-/// it stands there already, and 6 where the component's role is not the wanted one.
+/// The component that a name stands for behind other names. The name breaks `UnknownComponent` where there is no such component,
+/// `RepeatedName` where it stands there already, and `WrongRole` where the component's role is not the wanted one.
 pub fn known<'a>(
     wanted: Wanted,
     components: &'a [Component],
@@ -82,10 +71,10 @@ pub fn known<'a>(
     ensures { Answers (λ x. x.now) result (known wanted components.now before.now name.now) }
 {
     let Some(component) = component_of(name, components) else {
-        return Err(TypeErr::Broken(4));
+        return Err(TypeErr::Broken(Rule::UnknownComponent));
     };
-    broken(5, is_among(name, before))?;
-    broken(6, !serves(wanted, component.role))?;
+    broken(Rule::RepeatedName, is_among(name, before))?;
+    broken(Rule::WrongRole, !serves(wanted, component.role))?;
     Ok(component)
 }
 

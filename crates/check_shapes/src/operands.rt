@@ -5,15 +5,14 @@ ghost use Rattle.vtl_tree.specs.Shown.{shown};
 ghost use Rattle.check_shapes.specs.Operands.{agree, all_meet, agreed, agreed_identifiers, all_agree, has_one_measure, is_alike, is_coded_alike, is_there, is_within, same_codes};
 
 use crate::choices::is_identifier;
-use crate::copies::share_component;
 use crate::counting::count_measures;
-use crate::kinds::{is_same_kind, meets};
+use crate::kinds::meets;
 use crate::measures::is_measure;
-use crate::names::{component_of, is_role};
+use crate::names::component_of;
 use std::alloc::{AllocError, Global};
-use vtl_cell::Kind;
+use vtl_cell::{Kind, is_same_kind};
 use vtl_text::{Shared, Txt};
-use vtl_tree::{Component, Role, Structure};
+use vtl_tree::{Component, Role, Structure, is_same_role, share_component};
 
 /// How components of two operands are compared.
 #[derive(Clone, Copy, Debug, PartialEq, Eq)]
@@ -28,8 +27,8 @@ fn is_alike(compared: Compared, a: &Component, b: &Component) -> bool
     ensures { result ≡ is_alike compared a.now b.now }
 {
     match compared {
-        Compared::Names => is_role(a.role, b.role),
-        Compared::Kinds => is_role(a.role, b.role) && is_same_kind(a.kind, b.kind),
+        Compared::Names => is_same_role(a.role, b.role),
+        Compared::Kinds => is_same_role(a.role, b.role) && is_same_kind(a.kind, b.kind),
     }
 }
 
@@ -51,7 +50,7 @@ pub(crate) fn is_within(
     ensures { result ≡ is_within compared role components.now others.now }
 {
     for component in components {
-        if is_role(component.role, role) && !is_there(compared, others, component) {
+        if is_same_role(component.role, role) && !is_there(compared, others, component) {
             return false;
         }
     }

@@ -15,7 +15,7 @@ use crate::operands::{
     Compared, agree, all_agree, all_meet, has_one_measure, is_there, is_within, push_identifiers,
 };
 use crate::{Operator, Outcome, shaped};
-use check_faults::{TypeErr, broken};
+use check_faults::{Rule, TypeErr, broken};
 use std::alloc::{AllocError, Global};
 use vtl_cell::Kind;
 use vtl_tree::{Component, Role, Structure};
@@ -46,9 +46,9 @@ fn push_pair_identifiers(
     }
 }
 
-/// An operator on the measures of two data sets. It breaks rule 7 where a measure and its namesake do not meet the operator's
-/// row, 9 where neither operand's identifiers contain the other's, and 10 where the names of the measures differ or their number
-/// is not the one that the operator asks for.
+/// An operator on the measures of two data sets. It breaks `WrongKind` where a measure and its namesake do not meet the
+/// operator's row, `IdentifiersDisagree` where neither operand's identifiers contain the other's, and `MeasuresDisagree` where
+/// the names of the measures differ or their number is not the one that the operator asks for.
 pub fn pair<F: Operator>(
     alloc: Global,
     outcome: Outcome,
@@ -60,11 +60,14 @@ pub fn pair<F: Operator>(
 {
     let ours = left.components.as_slice();
     let theirs = right.components.as_slice();
-    broken(7, any_unmet(operator, Some(theirs), ours))?;
-    broken(9, !(contains(left, right) || contains(right, left)))?;
+    broken(Rule::WrongKind, any_unmet(operator, Some(theirs), ours))?;
+    broken(
+        Rule::IdentifiersDisagree,
+        !(contains(left, right) || contains(right, left)),
+    )?;
     let is_named_alike = agree(Compared::Names, Role::Measure, ours, theirs);
     broken(
-        10,
+        Rule::MeasuresDisagree,
         !is_named_alike || is_miscounted(outcome, count_measures(ours)),
     )?;
     let mut out = Vec::new(alloc);
@@ -102,8 +105,9 @@ fn are_choices(condition: &Structure, then: &Structure, other: &Structure) -> bo
         )
 }
 
-/// `if` on data sets. It breaks rule 7 where the measure of the condition is not boolean, 9 where the identifiers are not those of
-/// the condition, and 10 where the condition has not one measure, or the choices have none or not the same ones.
+/// `if` on data sets. It breaks `WrongKind` where the measure of the condition is not boolean, `IdentifiersDisagree` where the
+/// identifiers are not those of the condition, and `MeasuresDisagree` where the condition has not one measure, or the choices
+/// have none or not the same ones.
 pub fn choose_by(
     alloc: Global,
     condition: &Structure,
@@ -113,9 +117,9 @@ pub fn choose_by(
     ensures { Answers (λ s. s) result (if_form condition.now then.now other.now) }
 {
     let conditions = condition.components.as_slice();
-    broken(7, !all_meet(Kind::Bool, conditions))?;
+    broken(Rule::WrongKind, !all_meet(Kind::Bool, conditions))?;
     broken(
-        9,
+        Rule::IdentifiersDisagree,
         !all_agree(
             Compared::Kinds,
             Role::Identifier,
@@ -123,12 +127,12 @@ pub fn choose_by(
             &[then, other],
         ),
     )?;
-    broken(10, !are_choices(condition, then, other))?;
+    broken(Rule::MeasuresDisagree, !are_choices(condition, then, other))?;
     with_measures(alloc, condition, &[then, other], then)
 }
 
-/// `union`, `intersect`, `setdiff` or `symdiff` of an operand and others. It breaks rule 9 where the identifiers are not the same,
-/// and 10 where the measures are not.
+/// `union`, `intersect`, `setdiff` or `symdiff` of an operand and others. It breaks `IdentifiersDisagree` where the identifiers
+/// are not the same, and `MeasuresDisagree` where the measures are not.
 pub fn set_operator(
     alloc: Global,
     first: &Structure,
@@ -138,11 +142,11 @@ pub fn set_operator(
 {
     let components = first.components.as_slice();
     broken(
-        9,
+        Rule::IdentifiersDisagree,
         !all_agree(Compared::Kinds, Role::Identifier, components, others),
     )?;
     broken(
-        10,
+        Rule::MeasuresDisagree,
         !all_agree(Compared::Kinds, Role::Measure, components, others),
     )?;
     with_measures(alloc, first, others, first)
@@ -183,13 +187,13 @@ fn any_at_odds(other: &Structure, components: &[Component]) -> bool
     false
 }
 
-/// `exists_in`. It breaks rule 9 where the operands have no identifier in common, or one under different kinds.
+/// `exists_in`. It breaks `IdentifiersDisagree` where the operands have no identifier in common, or one under different kinds.
 pub fn exists_in(alloc: Global, left: &Structure, right: &Structure) -> Result<Structure, TypeErr>
     ensures { Answers (λ s. s) result (exists_form left.now right.now) }
 {
     let components = left.components.as_slice();
     broken(
-        9,
+        Rule::IdentifiersDisagree,
         !any_common(right, components) || any_at_odds(right, components),
     )?;
     let mut out = Vec::new(alloc);
@@ -259,18 +263,18 @@ fn check_beside(
 {
     let components = structure.components.as_slice();
     broken(
-        9,
+        Rule::IdentifiersDisagree,
         !all_agree(Compared::Kinds, Role::Identifier, components, imbalance),
     )?;
     broken(
-        10,
+        Rule::MeasuresDisagree,
         !has_one_measure(Kind::Bool, components) || !have_one_number(imbalance),
     )?;
     checked(alloc, structure, imbalance)
 }
 
-/// `check`, with an imbalance or without. It breaks rule 9 where the identifiers are not the same, and 10 where the operand has not
-/// one boolean measure, or the imbalance not one that is a number.
+/// `check`, with an imbalance or without. It breaks `IdentifiersDisagree` where the identifiers are not the same, and
+/// `MeasuresDisagree` where the operand has not one boolean measure, or the imbalance not one that is a number.
 pub fn check(
     alloc: Global,
     structure: &Structure,

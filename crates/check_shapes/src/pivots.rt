@@ -1,20 +1,19 @@
 // The clauses `pivot` and `unpivot`.
 ghost use Rattle.std.specs.List.{list_all};
 ghost use Rattle.std.specs.Prelude.{◌≡◌, ◌++◌, IfOk, OnOk, map};
+ghost use Rattle.vtl_cell.specs.Kinds.{same_kind};
 ghost use Rattle.check_faults.specs.Answers.{Answers};
 ghost use Rattle.check_shapes.specs.Clauses.{are_unlike, code_measure, first_kind, has_no_name, names_column, pivot_codes, pivot_components, pivot_form, unpivot_form};
-ghost use Rattle.check_shapes.specs.Kinds.{same_kind};
 ghost use Rattle.check_shapes.specs.Measures.{measures};
 
 use crate::choices::push_chosen;
-use crate::kinds::is_same_kind;
 use crate::measures::{made, push_measures};
 use crate::names::known;
 use crate::shape::names_of;
 use crate::{Choice, Wanted, shaped};
-use check_faults::{TypeErr, broken};
+use check_faults::{Rule, TypeErr, broken};
 use std::alloc::{AllocError, Global};
-use vtl_cell::Kind;
+use vtl_cell::{Kind, is_same_kind};
 use vtl_text::{Shared, Txt, is_component_name};
 use vtl_tree::{Component, Role, Structure};
 
@@ -34,7 +33,7 @@ fn pivot_codes(component: &Component) -> Result<&[Txt], TypeErr>
 {
     match &component.codes {
         Some(texts) => Ok(texts.as_slice()),
-        None => Err(TypeErr::Broken(13)),
+        None => Err(TypeErr::Broken(Rule::NoCodes)),
     }
 }
 
@@ -63,8 +62,8 @@ fn pivot_components(
 }
 
 /// What `pivot` gives: the other identifiers, and a measure for each code of the identifier, of the kind of the measure. Beside
-/// what their names break, the identifier breaks rule 13 where it has no codes, and a code that is no name of a component breaks
-/// rule 11.
+/// what their names break, the identifier breaks `NoCodes` where it has no codes, and a code that is no name of a component
+/// breaks `RepeatedComponent`.
 pub fn pivot(
     alloc: Global,
     structure: &Structure,
@@ -76,7 +75,7 @@ pub fn pivot(
     let components = structure.components.as_slice();
     let texts = pivot_codes(known(Wanted::Identifier, components, &[], identifier)?)?;
     let kind = known(Wanted::Measure, components, &[], measure)?.kind;
-    broken(11, has_no_name(texts))?;
+    broken(Rule::RepeatedComponent, has_no_name(texts))?;
     let out = pivot_components(alloc, identifier, kind, texts, components)?;
     shaped(alloc, out)
 }
@@ -118,8 +117,8 @@ fn names_column(alloc: Global, name: &Txt, measures: &[Component]) -> Result<Com
     })
 }
 
-/// What `unpivot` gives: the identifiers, an identifier whose codes are the names of the measures, and one measure of their
-/// kind. It breaks rule 10 where there is no measure or they have several kinds.
+/// What `unpivot` gives: the identifiers, an identifier whose codes are the names of the measures, and one measure of their kind.
+/// It breaks `MeasuresDisagree` where there is no measure or they have several kinds.
 pub fn unpivot(
     alloc: Global,
     structure: &Structure,
@@ -131,7 +130,7 @@ pub fn unpivot(
     let components = structure.components.as_slice();
     let mut measures = Vec::new(alloc);
     push_measures(&mut measures, components)?;
-    broken(10, are_unlike(&measures))?;
+    broken(Rule::MeasuresDisagree, are_unlike(&measures))?;
     let mut out = Vec::new(alloc);
     push_chosen(&mut out, Choice::Except, &[], components)?;
     out.push(names_column(alloc, identifier, &measures)?)?;

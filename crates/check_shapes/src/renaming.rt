@@ -3,12 +3,11 @@ ghost use Rattle.std.specs.Prelude.{◌≡◌, ◌++◌, IfOk, OnOk, map};
 ghost use Rattle.check_faults.specs.Answers.{Answers};
 ghost use Rattle.check_shapes.specs.Clauses.{new_name, rename_form, renamed};
 
-use crate::copies::share_codes;
 use crate::shaped;
 use check_faults::TypeErr;
 use std::alloc::{AllocError, Global};
 use vtl_text::Txt;
-use vtl_tree::{Component, Structure};
+use vtl_tree::{Component, Structure, share_codes};
 
 /// `from to to`
 #[derive(Debug)]

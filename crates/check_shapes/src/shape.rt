@@ -8,11 +8,11 @@ ghost use Rattle.vtl_tree.specs.declared.structure.Structure.{Structure as Colum
 ghost use Rattle.check_faults.specs.Answers.{Answers};
 ghost use Rattle.check_shapes.specs.Shape.{shaped};
 
-use check_faults::{TypeErr, broken};
+use check_faults::{Rule, TypeErr, broken};
 use std::alloc::{AllocError, Global};
 use vtl_cell::Kind;
-use vtl_text::{List, Txt};
-use vtl_tree::{Component, Structure, are_distinct};
+use vtl_text::{List, Txt, are_distinct};
+use vtl_tree::{Component, MAX_COMPONENTS, Structure};
 
 fn is_null(kind: Kind) -> bool
     ensures { result ≡ is_null_kind kind }
@@ -44,15 +44,18 @@ pub(crate) fn names_of(alloc: Global, components: &[Component]) -> Result<Vec<Tx
     Ok(names)
 }
 
-/// The structure of these components, which are the result of an operator. They break rule 11 where a name stands twice, 12
-/// where there is none or more than 64, and 19 where one has the kind of null.
+/// The structure of these components, which are the result of an operator. They break `RepeatedComponent` where a name stands
+/// twice, `ComponentCount` where there is none or too many, and `NullKind` where one has the kind of null.
 pub fn shaped(alloc: Global, components: Vec<Component>) -> Result<Structure, TypeErr>
     ensures { Answers (λ s. s) result (shaped components.items) }
 {
     let names = names_of(alloc, &components)?;
-    broken(11, !are_distinct(alloc, &names)?)?;
-    broken(12, components.is_empty() || 64 < components.len())?;
-    broken(19, has_null(&components))?;
+    broken(Rule::RepeatedComponent, !are_distinct(alloc, &names)?)?;
+    broken(
+        Rule::ComponentCount,
+        components.is_empty() || MAX_COMPONENTS < components.len(),
+    )?;
+    broken(Rule::NullKind, has_null(&components))?;
     Ok(Structure {
         components: List::of(components),
     })

@@ -6,15 +6,14 @@ ghost use Rattle.check_shapes.specs.Clauses.{aggr_form, calc_form, calculated, i
 ghost use Rattle.check_faults.specs.Rules.{ruled};
 
 use crate::choices::{is_identifier_name, push_chosen};
-use crate::copies::share_component;
 use crate::measures::made;
 use crate::names::{component_of, is_among};
 use crate::{Choice, shaped};
-use check_faults::{TypeErr, broken};
+use check_faults::{Rule, TypeErr, broken};
 use std::alloc::{AllocError, Global};
 use vtl_cell::Kind;
 use vtl_text::Txt;
-use vtl_tree::{Component, Role, Structure};
+use vtl_tree::{Component, Role, Structure, share_component};
 
 /// A target of `calc` or `aggr`, with the kind of its value.
 #[derive(Debug, Drop)]
@@ -27,13 +26,16 @@ pub struct Target {
     pub kind: Kind,
 }
 
-/// The name of a target of `calc`, behind the names of other targets. It breaks rule 5 where it stands there already, and 6
-/// where it is that of an identifier.
+/// The name of a target of `calc`, behind the names of other targets. It breaks `RepeatedName` where it stands there already, and
+/// `WrongRole` where it is that of an identifier.
 pub fn check_target(structure: &Structure, before: &[Txt], name: &Txt) -> Result<(), TypeErr>
     ensures { Answers (λ done. done) result (ruled (target_tests structure.now.components before.now name.now) tt) }
 {
-    broken(5, is_among(name, before))?;
-    broken(6, is_identifier_name(structure.components.as_slice(), name))
+    broken(Rule::RepeatedName, is_among(name, before))?;
+    broken(
+        Rule::WrongRole,
+        is_identifier_name(structure.components.as_slice(), name),
+    )
 }
 
 fn target_of<'a>(name: &Txt, targets: &'a [Target]) -> Option<&'a Target>

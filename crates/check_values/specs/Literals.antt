@@ -1,5 +1,5 @@
 -- The values of literals, and their kinds.
-use Rattle.std.specs.Prelude.{ℕ, ℤ, pos, Bool, true, false, ◌&&◌, List, [], ◌∷◌, ◌++◌, Option, Some, None, if◌then◌else◌, Result, Ok, Err}
+use Rattle.std.specs.Prelude.{ℤ, pos, Bool, true, false, ◌&&◌, List, [], ◌∷◌, ◌++◌, Option, Some, None, if◌then◌else◌, Result, Ok, Err}
 use Rattle.vtl_decimal.specs.Settings.{Settings}
 use Rattle.vtl_cell.specs.ScalarKinds.{meets, shared_kind}
 use Rattle.vtl_kinds.specs.Literals.{integer_cell, integer_written, is_null_kind, largest_place, lies_between, number_cell, with_sign, written}
@@ -21,7 +21,9 @@ use Rattle.vtl_syntax.specs.declared.word_groups.FunctionName.{FunctionName}
 use Rattle.vtl_syntax.specs.declared.word_groups.FunctionName.TheVariants as function
 use Rattle.vtl_syntax.specs.declared.word_groups.UnaryOp.TheVariants as sign
 use Rattle.vtl_tree.specs.CompExp.{CompExp, const}
-use Rattle.check_faults.specs.Rules.{◌>>=◌}
+use Rattle.vtl_lists.specs.Results.{◌>>=◌}
+use Rattle.check_faults.specs.declared.rules.Rule.{Rule}
+use Rattle.check_faults.specs.declared.rules.Rule.TheVariants as rule
 
 -- the kind of a number: digits alone are an integer
 abbrev pub numeral_kind : Numeral → Kind
@@ -58,13 +60,13 @@ literal_kind (literal.String text) = k.Text
 literal_kind (literal.Boolean b) = k.Bool
 literal_kind (literal.Cast text kind) = cast_kind kind
 
--- a literal without a value breaks rule 8
-abbrev pub valued : Option Cell → Result Cell ℕ
+-- a literal without a value breaks `WrongLiteral`
+abbrev pub valued : Option Cell → Result Cell Rule
 valued (Some cell) = Ok cell
-valued None = Err 8
+valued None = Err rule.WrongLiteral
 
 -- a constant as an expression
-abbrev pub constant_typed : Settings → Constant → Result CompExp ℕ
+abbrev pub constant_typed : Settings → Constant → Result CompExp Rule
 constant_typed p c = valued (constant_cell p c) >>= λ cell. Ok (const cell)
 
 -- the kind that the members of a set still have to meet, behind one of this kind: that of the operand, or beside an operand
@@ -73,18 +75,18 @@ abbrev pub still_wanted : (is_free : Bool) (wanted given : Kind) → Option Kind
 still_wanted true wanted given = shared_kind wanted given
 still_wanted false wanted given = if meets wanted given then Some wanted else None
 
-abbrev pub wanted_or : Option Kind → Result Kind ℕ
+abbrev pub wanted_or : Option Kind → Result Kind Rule
 wanted_or (Some kind) = Ok kind
-wanted_or None = Err 7
+wanted_or None = Err rule.WrongKind
 
--- the members of a set in order, behind those that are done: each of a kind that is wanted (7), and with a value (8)
-abbrev pub members_typed : Settings → (is_free : Bool) → Kind → List Cell → List Literal → Result (List Cell) ℕ
+-- the members of a set in order, behind those that are done: each of a kind that is wanted, and with a value
+abbrev pub members_typed : Settings → (is_free : Bool) → Kind → List Cell → List Literal → Result (List Cell) Rule
 members_typed p is_free wanted done [] = Ok done
 members_typed p is_free wanted done (l ∷ ls) =
     wanted_or (still_wanted is_free wanted (literal_kind l)) >>= λ kind. valued (literal_cell p l) >>= λ cell. members_typed p is_free kind (done ++ cell ∷ []) ls
 
 -- the members of a set behind an operand of this kind
-abbrev pub set_typed : Settings → Kind → List Literal → Result (List Cell) ℕ
+abbrev pub set_typed : Settings → Kind → List Literal → Result (List Cell) Rule
 set_typed p kind ls = members_typed p (is_null_kind kind) kind [] ls
 
 -- ---- literal operands

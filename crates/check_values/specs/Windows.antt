@@ -21,18 +21,21 @@ use Rattle.vtl_nodes.specs.declared.calls.Frame.{Frame}
 use Rattle.vtl_nodes.specs.declared.calls.OrderKey.{OrderKey}
 use Rattle.vtl_nodes.specs.declared.calls.Window.{Window}
 use Rattle.check_values.specs.Columns.{name_of}
-use Rattle.vtl_kinds.specs.Literals.{integer_written}
-use Rattle.check_faults.specs.Rules.{◌>>=◌, ruled}
+use Rattle.vtl_kinds.specs.Literals.{integer_written, longest_reach}
+use Rattle.vtl_lists.specs.Results.{◌>>=◌}
+use Rattle.check_faults.specs.Rules.{ruled}
+use Rattle.check_faults.specs.declared.rules.Rule.{Rule}
+use Rattle.check_faults.specs.declared.rules.Rule.TheVariants as rule
 
 abbrev pub is_known : List ℕ → List Component → Bool
 is_known name columns = list_any (λ x. same_name x.name name) columns
 
--- a name behind others: it is that of a component (4), and not one of them (5)
-abbrev pub name_form : (known repeated : Bool) → Result (Unit {0}) ℕ
-name_form known repeated = ruled ((4, not known) ∷ (5, repeated) ∷ []) (tt {0})
+-- a name behind others: it is that of a component, and not one of them
+abbrev pub name_form : (known repeated : Bool) → Result (Unit {0}) Rule
+name_form known repeated = ruled ((rule.UnknownComponent, not known) ∷ (rule.RepeatedName, repeated) ∷ []) (tt {0})
 
 -- the names of `partition by`, behind those that are done
-abbrev pub partition_typed : List Component → List (List ℕ) → List Comp → Result (List (List ℕ)) ℕ
+abbrev pub partition_typed : List Component → List (List ℕ) → List Comp → Result (List (List ℕ)) Rule
 partition_typed columns done [] = Ok done
 partition_typed columns done (c ∷ cs) = name_form (is_known (name_of c) columns) (list_any (same_name (name_of c)) done) >>= λ u. partition_typed columns (done ++ name_of c ∷ []) cs
 
@@ -45,20 +48,20 @@ abbrev pub key_of : OrderPart → OrderKey
 key_of o = record { component = name_of o.component; falling = is_falling o.direction }
 
 -- a key behind others
-abbrev pub key_typed : List Component → List OrderKey → OrderPart → Result OrderKey ℕ
+abbrev pub key_typed : List Component → List OrderKey → OrderPart → Result OrderKey Rule
 key_typed columns done o = name_form (is_known (name_of o.component) columns) (list_any (λ x. same_name (name_of o.component) x.component) done) >>= λ u. Ok (key_of o)
 
 -- the keys of `order by`, behind those that are done
-abbrev pub order_typed : List Component → List OrderKey → List OrderPart → Result (List OrderKey) ℕ
+abbrev pub order_typed : List Component → List OrderKey → List OrderPart → Result (List OrderKey) Rule
 order_typed columns done [] = Ok done
 order_typed columns done (o ∷ os) = key_typed columns done o >>= λ key. order_typed columns (done ++ key ∷ []) os
 
--- a number of points that digits write: at most 1,000,000, or rule 8 is broken
-abbrev pub points_in : Option ℤ → Result ℕ ℕ
-points_in None = Err 8
-points_in (Some n) = if int_le (pos 0) n && int_le n (pos 1_000_000) then Ok (unsigned_abs n) else Err 8
+-- a number of points that digits write, no farther than a frame or an offset may reach
+abbrev pub points_in : Option ℤ → Result ℕ Rule
+points_in None = Err rule.WrongLiteral
+points_in (Some n) = if int_le (pos 0) n && int_le n longest_reach then Ok (unsigned_abs n) else Err rule.WrongLiteral
 
-abbrev pub points_typed : Settings → List ℕ → Result ℕ ℕ
+abbrev pub points_typed : Settings → List ℕ → Result ℕ Rule
 points_typed p digits = points_in (integer_written p digits)
 
 abbrev pub points_at : Side → ℕ → Bound
@@ -69,12 +72,12 @@ abbrev pub unbounded_at : Side → Bound
 unbounded_at side.Preceding = bound.UnboundedPreceding
 unbounded_at side.Following = bound.UnboundedFollowing
 
-abbrev pub bound_typed : Settings → Limit → Result Bound ℕ
+abbrev pub bound_typed : Settings → Limit → Result Bound Rule
 bound_typed p (limit.Unbounded s) = Ok (unbounded_at s)
 bound_typed p (limit.Points digits s) = points_typed p digits >>= λ n. Ok (points_at s n)
 bound_typed p limit.Current = Ok bound.Current
 
-abbrev pub frame_typed : Settings → Option DataPoints → Result (Option Frame) ℕ
+abbrev pub frame_typed : Settings → Option DataPoints → Result (Option Frame) Rule
 frame_typed p None = Ok None
 frame_typed p (Some d) = bound_typed p d.from >>= λ a. bound_typed p d.to >>= λ b. Ok (Some (record { start = a; end = b }))
 
@@ -83,6 +86,6 @@ or_none (Some xs) = xs
 or_none None = []
 
 -- a window: its partition, its order and its frame
-abbrev pub window_typed : Settings → List Component → OverPart → Result Window ℕ
+abbrev pub window_typed : Settings → List Component → OverPart → Result Window Rule
 window_typed p columns o =
     partition_typed columns [] (or_none o.partition) >>= λ names. order_typed columns [] (or_none o.order) >>= λ keys. frame_typed p o.points >>= λ f. Ok (record { partition = names; order = keys; frame = f })

@@ -7,7 +7,7 @@ ghost use Rattle.check_values.specs.Kinds.{exp_kind};
 ghost use Rattle.vtl_kinds.specs.Operators.{kind_by_operands};
 
 use crate::kind;
-use check_faults::TypeErr;
+use check_faults::{Rule, TypeErr};
 use std::alloc::{AllocError, Global};
 use vtl_cell::{Kind, ScalarOp};
 use vtl_kinds::{kind_by_operands, operator_kind};
@@ -51,9 +51,9 @@ fn call_of_kind(
     ensures { Answers comp_exp_of result (call_form op literals (map comp_exp_of args.items)) }
 {
     match kind {
-        _ if !met => Err(TypeErr::Broken(7)),
+        _ if !met => Err(TypeErr::Broken(Rule::WrongKind)),
         Some(kind) if literals => Ok(CompExpr::Apply { op, kind, args }),
-        _ => Err(TypeErr::Broken(8)),
+        _ => Err(TypeErr::Broken(Rule::WrongLiteral)),
     }
 }
 

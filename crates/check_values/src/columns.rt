@@ -6,7 +6,7 @@ ghost use Rattle.vtl_tree.specs.View.{comp_exp_of};
 ghost use Rattle.check_faults.specs.Answers.{Answers};
 ghost use Rattle.check_values.specs.Columns.{column_typed, name_of};
 
-use check_faults::TypeErr;
+use check_faults::{Rule, TypeErr};
 use std::alloc::AllocError;
 use vtl_syntax::Comp;
 use vtl_text::Txt;
@@ -47,5 +47,5 @@ pub fn column(name: &Txt, columns: &[Component]) -> Result<CompExpr, TypeErr>
             return Ok(column_at(place, component)?);
         }
     }
-    Err(TypeErr::Broken(4))
+    Err(TypeErr::Broken(Rule::UnknownComponent))
 }

@@ -1,10 +1,12 @@
-// The kinds of values.
+// The kinds of values and of analytic calls.
 ghost use Rattle.std.specs.Prelude.{◌≡◌};
 ghost use Rattle.vtl_cell.specs.Kinds.{kind_of};
 ghost use Rattle.vtl_tree.specs.View.{comp_exp_of};
-ghost use Rattle.check_values.specs.Kinds.{exp_kind};
+ghost use Rattle.check_values.specs.Kinds.{exp_kind, given_kind};
 
 use vtl_cell::{Cell, Kind};
+use vtl_kinds::meets;
+use vtl_nodes::AnalyticOp;
 use vtl_tree::CompExpr;
 
 fn cell_kind(cell: &Cell) -> Kind
@@ -30,5 +32,17 @@ pub fn kind(e: &CompExpr) -> Kind
         CompExpr::Const(cell) => cell_kind(cell),
         CompExpr::Apply { kind, .. } => *kind,
         CompExpr::Aggregate { kind, .. } => *kind,
+    }
+}
+
+/// The kind that an analytic operator gives of values of a kind that it takes.
+pub fn given_kind(op: &AnalyticOp, kind: Kind) -> Kind
+    ensures { result ≡ given_kind op.now kind }
+{
+    match op {
+        AnalyticOp::Sum if meets(Kind::Int, kind) => Kind::Int,
+        AnalyticOp::Sum | AnalyticOp::Avg | AnalyticOp::RatioToReport => Kind::Num,
+        AnalyticOp::Count | AnalyticOp::Rank => Kind::Int,
+        _ => kind,
     }
 }

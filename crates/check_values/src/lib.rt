@@ -1,8 +1,14 @@
-//! The parts of component expressions: literals, names, operators and windows.
+//! The parts of component expressions: literals, names of components, operators on values, windows, groupings.
+//!
+//! Each function takes parts that are typed and gives a component expression with its kind, or the rule that is
+//! broken. Literals get their values here, at the scale of the run.
+//! It knows no data sets as operands and goes down no tree (`check_operators`, `check_expressions`).
+//! Begin with specs/Calls.antt and specs/Literals.antt.
 #![tactic(auto)]
 
 mod calls;
 mod columns;
+mod groupings;
 mod kinds;
 mod literals;
 mod operators;
@@ -10,7 +16,8 @@ mod windows;
 
 pub use calls::{call, kinds_in};
 pub use columns::{column, name};
-pub use kinds::kind;
+pub use groupings::{grouping, grouping_choice, grouping_names, grouping_of};
+pub use kinds::{given_kind, kind};
 pub use literals::{constant, literal, literal_kind, literals_fit, set, still_wanted, wanted_or};
 pub use operators::{binary_operator, function_operator, takes, unary_operator};
 pub use windows::{points, window};

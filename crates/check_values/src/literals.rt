@@ -7,7 +7,7 @@ ghost use Rattle.check_faults.specs.Answers.{Answers};
 ghost use Rattle.check_values.specs.Literals.{are_digits, cast_kind, constant_cell, constant_typed, integer_in, lies_in, literal_cell, literal_kind, literals_fit, members_typed, numeral_cell, numeral_kind, second_passes, set_typed, still_wanted, third_passes, valued, wanted_or};
 ghost use Rattle.vtl_kinds.specs.Literals.{integer_written, is_null_kind};
 
-use check_faults::TypeErr;
+use check_faults::{Rule, TypeErr};
 use std::alloc::{AllocError, Global};
 use vtl_cell::{Cell, Kind};
 use vtl_decimal::Profile;
@@ -96,7 +96,7 @@ fn valued(cell: Option<Cell>) -> Result<Cell, TypeErr>
 {
     match cell {
         Some(cell) => Ok(cell),
-        None => Err(TypeErr::Broken(8)),
+        None => Err(TypeErr::Broken(Rule::WrongLiteral)),
     }
 }
 
@@ -113,7 +113,7 @@ pub fn constant(alloc: Global, profile: &Profile, constant: &Constant) -> Result
 {
     match constant_cell(alloc, profile, constant)? {
         Some(cell) => Ok(CompExpr::Const(cell)),
-        None => Err(TypeErr::Broken(8)),
+        None => Err(TypeErr::Broken(Rule::WrongLiteral)),
     }
 }
 
@@ -135,7 +135,7 @@ pub fn wanted_or(kind: Option<Kind>) -> Result<Kind, TypeErr>
 {
     match kind {
         Some(kind) => Ok(kind),
-        None => Err(TypeErr::Broken(7)),
+        None => Err(TypeErr::Broken(Rule::WrongKind)),
     }
 }
 

@@ -7,10 +7,10 @@ ghost use Rattle.check_values.specs.Columns.{name_of};
 ghost use Rattle.check_values.specs.Windows.{bound_typed, frame_typed, is_falling, is_known, key_of, key_typed, name_form, or_none, order_typed, partition_typed, points_at, points_typed, unbounded_at, window_typed};
 
 use crate::name;
-use check_faults::TypeErr;
+use check_faults::{Rule, TypeErr};
 use std::alloc::{AllocError, Global};
 use vtl_decimal::Profile;
-use vtl_kinds::{MOST_POINTS, integer_written};
+use vtl_kinds::{LONGEST_REACH, integer_written};
 use vtl_nodes::{Bound, Frame, OrderKey, Window};
 use vtl_syntax::{Comp, DataPoints, Direction, Limit, OrderPart, OverPart, Side};
 use vtl_text::{List, Txt};
@@ -53,9 +53,9 @@ fn named(known: bool, repeated: bool) -> Result<(), TypeErr>
     ensures { Answers (λ done. done) result (name_form known repeated) }
 {
     if !known {
-        Err(TypeErr::Broken(4))
+        Err(TypeErr::Broken(Rule::UnknownComponent))
     } else if repeated {
-        Err(TypeErr::Broken(5))
+        Err(TypeErr::Broken(Rule::RepeatedName))
     } else {
         Ok(())
     }
@@ -125,8 +125,8 @@ pub fn points(profile: &Profile, digits: &Txt) -> Result<u32, TypeErr>
     ensures { Answers (λ n. n) result (points_typed profile.now digits.now) }
 {
     match integer_written(profile, digits) {
-        Some(n) if 0 <= n && n <= MOST_POINTS => Ok(n as u32),
-        _ => Err(TypeErr::Broken(8)),
+        Some(n) if 0 <= n && n <= LONGEST_REACH => Ok(n as u32),
+        _ => Err(TypeErr::Broken(Rule::WrongLiteral)),
     }
 }
 

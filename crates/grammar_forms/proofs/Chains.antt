@@ -1,6 +1,7 @@
 -- The laws of chains and of lists, and longer chains from shorter ones.
 use Rattle.std.proofs.Common.{◌≡◌, ◌∙◌, ◌≤◌, ℕ, zero, suc, true, false, List, [], ◌∷◌, ◌++◌, length, Option, None, Some, refl, sym, ap, subst, arith, append_assoc, append-nil, length-append}
-use Rattle.grammar_forms.specs.Forms.{Form, Spelling, Deep, IsChain, EachSpells, chain, turns, joined, listed, deep_listed, given, gives, ◌>>=◌, has, apart}
+use Rattle.vtl_lists.specs.Options.{given, ◌>>=◌}
+use Rattle.grammar_forms.specs.Forms.{Form, Spelling, Deep, IsChain, EachSpells, chain, turns, joined, listed, deep_listed, gives, has, apart}
 use Rattle.grammar_forms.proofs.Laws.{Begins, Stops, Read, Lawful, some_of, pair_of, stops-left, stops-right, stops-both, unread, as-law, after-law}
 use Rattle.grammar_forms.proofs.Tests.{clash, apart-lacks'}
 

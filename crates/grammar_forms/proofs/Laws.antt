@@ -1,7 +1,8 @@
 -- The laws of forms: what is read is spelled, what is spelled is read, and what it begins with.
 use Rattle.std.proofs.Common.{◌≡◌, ◌⊎◌, inl, inr, ◌∙◌, ℕ, Bool, true, false, List, [], ◌∷◌, ◌++◌, map, Option, None, Some, refl, sym, ap, subst, append_assoc}
 use Rattle.std.specs.Prelude.{nat_eq, if◌then◌else◌, ◌&&◌, option_map}
-use Rattle.grammar_forms.specs.Forms.{led, led_reads, IsAbsent, absent, maybe_after, «as», after, before, Form, Spelling, Both, IsMade, IsToken, MaybeSpells, seq, made, or, maybe, token, words, lookup, first_as, nothing, gate, given, gives, ◌>>=◌, has, apart, among}
+use Rattle.vtl_lists.specs.Options.{given, ◌>>=◌}
+use Rattle.grammar_forms.specs.Forms.{led, led_reads, IsAbsent, absent, maybe_after, «as», after, before, Form, Spelling, Both, IsMade, IsToken, MaybeSpells, seq, made, or, maybe, token, words, lookup, first_as, nothing, gate, gives, has, apart, among}
 use Rattle.grammar_forms.proofs.Tests.{clash, has-left, has-right, lacks-left, lacks-right, lacks-both, apart-lacks', among-has, among-lacks}
 
 -- what tokens of a form begin with

@@ -1,6 +1,7 @@
 -- Spellings that agree up to a bound: what the first spells and is not deeper than the bound, the second spells.
 use Rattle.std.proofs.Common.{◌≡◌, ◌⊎◌, inl, inr, ◌∙◌, ◌≤◌, ℕ, max, Bool, true, false, List, [], ◌∷◌, Option, None, Some, refl, ap, arith}
-use Rattle.grammar_forms.specs.Forms.{Spelling, Both, IsMade, IsChain, EachSpells, Deep, deep, limited, joined, ◌>>=◌}
+use Rattle.vtl_lists.specs.Options.{◌>>=◌}
+use Rattle.grammar_forms.specs.Forms.{Spelling, Both, IsMade, IsChain, EachSpells, Deep, deep, limited, joined}
 use Rattle.grammar_forms.proofs.Laws.{some_of}
 use borrow.Author.Tests.{le-leb}
 use Rattle.std.specs.Prelude.{nat_le, if◌then◌else◌}

@@ -2,7 +2,8 @@
 use Rattle.std.proofs.Common.{◌≡◌, ◌∙◌, ◌≤◌, ◌<◌, ◌+◌, ◌-◌, ℕ, zero, suc, false, List, [], ◌∷◌, ◌++◌, map, length, Option, None, Some, refl, sym, ap, subst, arith, append_assoc, append-nil, length-append, take, drop}
 use Rattle.std.proofs.Math.Seq.{drop-append_seam}
 use Rattle.std.proofs.lemmas.List.{append_cancel_right, drop-map, length-map, map-append, take-append-drop}
-use Rattle.grammar_forms.specs.Forms.{Form, given}
+use Rattle.vtl_lists.specs.Options.{given}
+use Rattle.grammar_forms.specs.Forms.{Form}
 use Rattle.grammar_forms.specs.Scripts.{ahead, ScriptSpells, SyntaxFault, WholeScript, byte_of, script_reads}
 use Rattle.grammar_forms.proofs.Laws.{Lawful, Stops, exact, stops-nil}
 use Rattle.grammar_forms.proofs.Tests.{clash}

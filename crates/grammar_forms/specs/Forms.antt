@@ -1,4 +1,5 @@
 -- Forms of a language over tokens: what each spells, how it is read, the classes of its first tokens, and those of the tokens that may go on with it.
+use Rattle.vtl_lists.specs.Options.{◌>>=◌, given}
 use Rattle.std.specs.Prelude.{◌≡◌, ◌⊎◌, ℕ, zero, suc, Bool, true, false, ◌&&◌, List, [], ◌∷◌, ◌++◌, length, map, Option, None, Some, option_map, nat_eq, nat_le, max, if◌then◌else◌}
 
 -- the tokens mean the value
@@ -15,16 +16,6 @@ pub record Form (T A : Type 0) : Type 1 where
   pub starts : List ℕ
   pub more : List ℕ
   pub empty : Bool
-
-abbrev pub ◌>>=◌ : {A B : Type 0} → Option A → (A → Option B) → Option B
-None >>= f = None
-Some x >>= f = f x
-
-infixl 10 ◌>>=◌
--- what is made of a value, or another thing where there is none
-abbrev pub given : {A B : Type 0} → Option A → (A → B) → B → B
-given None f other = other
-given (Some x) f other = f x
 
 abbrev pub gives : {T A : Type 0} → A → List T → Option (A × List T)
 gives a ts = Some (a, ts)

@@ -1,6 +1,7 @@
 -- Scripts: statements one after the other. `at i` is the form of the one at place i; a script has `least` statements at least. A text's tokens have a kind, over which the forms are, and a first byte.
 use Rattle.std.specs.Prelude.{◌≡◌, ℕ, zero, suc, ◌≤◌, ◌<◌, List, [], ◌∷◌, ◌++◌, length, map, Option, None, Some}
-use Rattle.grammar_forms.specs.Forms.{Form, given}
+use Rattle.vtl_lists.specs.Options.{given}
+use Rattle.grammar_forms.specs.Forms.{Form}
 
 abbrev pub ScriptSpells : {T S : Type 0} → (ℕ → Form T S) → ℕ → List T → List S → Type 0
 ScriptSpells {T} at i ts [] = ts ≡ []

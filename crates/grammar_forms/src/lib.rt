@@ -1,2 +1,9 @@
-//! Forms of languages over tokens of any type: what tokens spell, how they are read, and the laws that every grammar made of forms has. It is definitions and lemmas alone.
+//! What a grammar is made of, over tokens of any type: forms, their combinations, statements in a row and their
+//! fault.
+//!
+//! A form says which tokens spell what, how they are read, with which tokens it begins and goes on. The laws of
+//! each combination are proved here once, so that a production costs its grammar a line. Definitions and lemmas
+//! alone: no code.
+//! It knows no language; which forms there are is for each grammar to say (`sql_tree`).
+//! Begin with specs/Forms.antt.
 #![tactic(auto)]

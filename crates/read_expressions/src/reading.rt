@@ -9,11 +9,9 @@ use crate::grammar::Grammar;
 use crate::reads::Read;
 use read_parts::{Front, Unread};
 use std::alloc::Global;
-use vtl_grammar::Level;
+use vtl_grammar::{DEPTH_LIMIT, Level};
 use vtl_lexer::Token;
 use vtl_syntax::Expr;
-
-const DEPTH_LIMIT: usize = 128;
 
 // The expression at the front that may stand at the level, of at most that depth.
 fn read(
@@ -38,7 +36,7 @@ fn read(
     grammar.level(level, tokens)
 }
 
-/// The expression at the front of the tokens, the longest of depth 128 at most; in its box, since a tree that is moved
+/// The expression at the front of the tokens, the longest that is no deeper than a statement may be; in its box, since a tree that is moved
 /// by value is dear to check.
 #[tactic(auto, unfolding(vtl_grammar::specs::ReadStatements::whole_exp))]
 pub fn whole_expression(alloc: Global, tokens: &[Token]) -> Result<Front<'_, Box<Expr>>, Unread>

@@ -26,7 +26,7 @@ pub trait Item: Drop {
         ensures { ReadsAs (reads (kinds tokens.now)) result };
 }
 
-/// One part, and those that follow it behind commas.
+/// One part, and those that follow it after commas.
 pub fn listed<I: Item>(alloc: Global, tokens: &[Token]) -> Result<Front<'_, List<I>>, Unread>
     ensures { ReadsAs (listed I.reads (kinds tokens.now)) result }
 {

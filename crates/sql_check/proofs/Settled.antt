@@ -17,8 +17,10 @@ use Rattle.sql_tree.specs.declared.statements.SqlInput.{SqlInput}
 use Rattle.sql_check_parts.specs.Queries.{query_breaks, query_columns, query_names, shared_kinds}
 use Rattle.sql_check_parts.specs.Rules.{Tests, broken, least, lesser}
 use Rattle.sql_check_parts.specs.Scopes.{Columns, Tables, is_among, is_empty, or_null, repeats}
-use Rattle.sql_check_parts.specs.Statements.{Given, after, codes_fit, column_entry, input_breaks, input_columns, is_taken, names_fit, scale_of, scale_written, statement_breaks, with_table}
+use Rattle.sql_check_parts.specs.Statements.{Given, after, codes_fit, column_entry, input_breaks, input_columns, is_taken, most_input_columns, names_fit, scale_of, scale_written, statement_breaks, with_table}
 use Rattle.sql_check_parts.specs.Typed.{distinct_columns}
+use Rattle.sql_check_parts.specs.declared.rules.SqlRule.{SqlRule}
+use Rattle.sql_check_parts.specs.declared.rules.SqlRule.TheVariants as rule
 use Rattle.sql_check_parts.proofs.Least.{least_append}
 use Rattle.sql_check_parts.proofs.Maps.{keys_all}
 use Rattle.sql_check_queries.proofs.Columns.{names_differ}
@@ -27,16 +29,16 @@ use Rattle.sql_check_queries.specs.declared.queries.QueryTyped.{QueryTyped}
 use Rattle.sql_check.specs.Answers.{GivesIfTyped, IsSettled, IsStep, MayPut, Sets, some_columns}
 
 -- a test that no rule is broken at
-pub holds_first : (rule : ℕ) (b : Bool) (tests : Tests) → least (broken ((rule, b) ∷ tests)) ≡ None → (b ≡ false) × (least (broken tests) ≡ None)
+pub holds_first : (r : SqlRule) (b : Bool) (tests : Tests) → least (broken ((r, b) ∷ tests)) ≡ None → (b ≡ false) × (least (broken tests) ≡ None)
 unfolding least
-holds_first rule true tests h = absurd (some (least (broken tests)) h)
+holds_first r true tests h = absurd (some (least (broken tests)) h)
   where
-    some : (o : Option ℕ) → lesser (Some rule) o ≡ None → ⊥
+    some : (o : Option SqlRule) → lesser (Some r) o ≡ None → ⊥
     some None e = cc
-    some (Some r) e = cc
-holds_first rule false tests h = (refl, h)
+    some (Some x) e = cc
+holds_first r false tests h = (refl, h)
 
-pub none_lesser : (a b : Option ℕ) → lesser a b ≡ None → (a ≡ None) × (b ≡ None)
+pub none_lesser : (a b : Option SqlRule) → lesser a b ≡ None → (a ≡ None) × (b ≡ None)
 none_lesser None b h = (refl, h)
 none_lesser (Some a) None h = cc
 none_lesser (Some a) (Some b) h = cc
@@ -47,12 +49,12 @@ none_either false b h = (refl, h)
 
 -- ---- SET
 
-set_whole : (b : Bool) → b ≡ true → least (broken ((6, not b) ∷ [])) ≡ None
+set_whole : (b : Bool) → b ≡ true → least (broken ((rule.UnfitLiteral, not b) ∷ [])) ≡ None
 unfolding least
 set_whole true h = refl
 set_whole false h = cc
 
-pub set_broken : (b : Bool) → b ≡ false → least (broken ((6, not b) ∷ [])) ≡ Some 6
+pub set_broken : (b : Bool) → b ≡ false → least (broken ((rule.UnfitLiteral, not b) ∷ [])) ≡ Some rule.UnfitLiteral
 unfolding least
 set_broken true h = cc
 set_broken false h = refl
@@ -99,10 +101,10 @@ may_put tables name None all f e = cc
 may_put tables name (Some c) all f e = record { free = f; some = refl }
 
 -- what is settled is what a statement gives that breaks these rules and gives these columns
-settled : (p : Settings) (before now : Given) (s : StatementTree) (name : Text) (columns : Option Columns) (all : Columns) (fault told : Option ℕ) → fault ≡ least (statement_breaks p before s) → after before s ≡ with_table before name all → (fault ≡ None → columns ≡ Some all) → IsSettled before now name columns fault told → IsStep p before now s told
+settled : (p : Settings) (before now : Given) (s : StatementTree) (name : Text) (columns : Option Columns) (all : Columns) (fault told : Option SqlRule) → fault ≡ least (statement_breaks p before s) → after before s ≡ with_table before name all → (fault ≡ None → columns ≡ Some all) → IsSettled before now name columns fault told → IsStep p before now s told
 settled p before now s name columns all fault told f a e h = record { fault_is = h.told_is ∙ f; given_is = go fault told h.told_is e h.given_is }
   where
-    go : (fault told : Option ℕ) → told ≡ fault → (fault ≡ None → columns ≡ Some all) → GivesIfTyped fault now (with_table before name (some_columns columns)) → GivesIfTyped told now (after before s)
+    go : (fault told : Option SqlRule) → told ≡ fault → (fault ≡ None → columns ≡ Some all) → GivesIfTyped fault now (with_table before name (some_columns columns)) → GivesIfTyped told now (after before s)
     go None None q e g = g ∙ ap (λ c. with_table before name (some_columns c)) (e refl) ∙ sym a
     go None (Some r) q e g = tt
     go (Some r) None q e g = cc
@@ -114,39 +116,39 @@ input_settled tables s h =
     let taken = is_among s.name (keys_of tables) in
     let twice = repeats (keys_of (input_columns s)) in
     let misplaced = not (names_fit (input_columns s) s.key) in
-    let codes = list_any (λ c. not (codes_fit s.key c)) s.columns || nat_lt 64 (length s.columns) in
-    let one = holds_first 2 (taken || not (is_word s.name)) ((4, twice || misplaced) ∷ (12, codes) ∷ []) h in
-    let two = holds_first 4 (twice || misplaced) ((12, codes) ∷ []) one.1 in
+    let codes = list_any (λ c. not (codes_fit s.key c)) s.columns || nat_lt most_input_columns (length s.columns) in
+    let one = holds_first rule.MisnamedTable (taken || not (is_word s.name)) ((rule.MisnamedColumn, twice || misplaced) ∷ (rule.CodesOrCount, codes) ∷ []) h in
+    let two = holds_first rule.MisnamedColumn (twice || misplaced) ((rule.CodesOrCount, codes) ∷ []) one.1 in
     ((none_either taken (not (is_word s.name)) one.0).0, distinct (input_columns s) (none_either twice misplaced two.0).0)
 
-pub input_may : (tables : Tables) (s : SqlInput) (columns : Option Columns) (fault : Option ℕ) → columns ≡ distinct_columns (input_columns s) → fault ≡ least (input_breaks tables s) → fault ≡ None → MayPut tables s.name columns
+pub input_may : (tables : Tables) (s : SqlInput) (columns : Option Columns) (fault : Option SqlRule) → columns ≡ distinct_columns (input_columns s) → fault ≡ least (input_breaks tables s) → fault ≡ None → MayPut tables s.name columns
 input_may tables s columns fault c f n =
     let whole = input_settled tables s (sym f ∙ n) in may_put tables s.name columns (input_columns s) whole.0 (c ∙ whole.1)
 
-pub input_step : (p : Settings) (before now : Given) (s : SqlInput) (columns : Option Columns) (fault : Option ℕ) {E : Type 0} (r : Result (Option ℕ) E) → columns ≡ distinct_columns (input_columns s) → fault ≡ least (input_breaks before.tables s)
+pub input_step : (p : Settings) (before now : Given) (s : SqlInput) (columns : Option Columns) (fault : Option SqlRule) {E : Type 0} (r : Result (Option SqlRule) E) → columns ≡ distinct_columns (input_columns s) → fault ≡ least (input_breaks before.tables s)
     → IfOk r (IsSettled before now s.name columns fault) → IfOk r (IsStep p before now (tree.input s))
 input_step p before now s columns fault r c f h =
     if_ok r h (λ told. settled p before now (tree.input s) s.name columns (input_columns s) fault told f refl (λ n. c ∙ (input_settled before.tables s (sym f ∙ n)).1))
 
 -- where a created table breaks no rule its name is free, and the columns of its query have different names
-create_settled : (p : Settings) (tables : Tables) (name : Text) (q : QueryTree) (names : List Text) (kinds : List Kind) (taken query : Option ℕ) → taken ≡ least (broken ((2, is_taken tables name) ∷ [])) → query ≡ least (query_breaks p tables q)
+create_settled : (p : Settings) (tables : Tables) (name : Text) (q : QueryTree) (names : List Text) (kinds : List Kind) (taken query : Option SqlRule) → taken ≡ least (broken ((rule.MisnamedTable, is_taken tables name) ∷ [])) → query ≡ least (query_breaks p tables q)
     → names ≡ query_names q → kinds ≡ map or_null (shared_kinds tables q) → length kinds ≡ length names → lesser taken query ≡ None → (is_among name (keys_of tables) ≡ false) × (distinct_columns (zip names kinds) ≡ Some (query_columns tables q))
 create_settled p tables name q names kinds taken query t f n k l h =
     let none = none_lesser taken query h in (
-      (holds_first 2 (is_taken tables name) [] (sym t ∙ none.0)).0,
+      (holds_first rule.MisnamedTable (is_taken tables name) [] (sym t ∙ none.0)).0,
       ap distinct_columns (ap (λ ns. zip ns kinds) n ∙ ap (zip (query_names q)) k)
           ∙ distinct (query_columns tables q) (ap repeats (keys_all (query_names q) (map or_null (shared_kinds tables q)) (sym (ap length k) ∙ l ∙ ap length n)) ∙ names_differ p tables q (sym f ∙ none.1)),
     )
 
-pub create_may : (p : Settings) (tables : Tables) (name : Text) (q : QueryTree) (t : QueryTyped) (taken : Option ℕ) (columns : Option Columns) → IsTypedQuery p tables q t → taken ≡ least (broken ((2, is_taken tables name) ∷ [])) → columns ≡ distinct_columns (zip t.names t.kinds)
+pub create_may : (p : Settings) (tables : Tables) (name : Text) (q : QueryTree) (t : QueryTyped) (taken : Option SqlRule) (columns : Option Columns) → IsTypedQuery p tables q t → taken ≡ least (broken ((rule.MisnamedTable, is_taken tables name) ∷ [])) → columns ≡ distinct_columns (zip t.names t.kinds)
     → lesser taken t.fault ≡ None → MayPut tables name columns
 create_may p tables name q t taken columns h e c n =
     let whole = create_settled p tables name q t.names t.kinds taken t.fault e h.fault_is h.names_are h.kinds_are h.as_many n in
     may_put tables name columns (query_columns tables q) whole.0 (c ∙ whole.1)
 
-pub create_step : (p : Settings) (before now : Given) (name : Text) (q : QueryTree) (t : QueryTyped) (taken : Option ℕ) (columns : Option Columns) {E : Type 0} (r : Result (Option ℕ) E) → IsTypedQuery p before.tables q t → taken ≡ least (broken ((2, is_taken before.tables name) ∷ [])) → columns ≡ distinct_columns (zip t.names t.kinds)
+pub create_step : (p : Settings) (before now : Given) (name : Text) (q : QueryTree) (t : QueryTyped) (taken : Option SqlRule) (columns : Option Columns) {E : Type 0} (r : Result (Option SqlRule) E) → IsTypedQuery p before.tables q t → taken ≡ least (broken ((rule.MisnamedTable, is_taken before.tables name) ∷ [])) → columns ≡ distinct_columns (zip t.names t.kinds)
     → IfOk r (IsSettled before now name columns (lesser taken t.fault)) → IfOk r (IsStep p before now (tree.create name q))
 create_step p before now name q t taken columns r h e c s =
     if_ok r s (λ told. settled p before now (tree.create name q) name columns (query_columns before.tables q) (lesser taken t.fault) told
-    (ap (λ a. lesser a t.fault) e ∙ ap (lesser (least (broken ((2, is_taken before.tables name) ∷ [])))) h.fault_is ∙ sym (least_append (broken ((2, is_taken before.tables name) ∷ [])) (query_breaks p before.tables q)))
+    (ap (λ a. lesser a t.fault) e ∙ ap (lesser (least (broken ((rule.MisnamedTable, is_taken before.tables name) ∷ [])))) h.fault_is ∙ sym (least_append (broken ((rule.MisnamedTable, is_taken before.tables name) ∷ [])) (query_breaks p before.tables q)))
     refl (λ n. c ∙ (create_settled p before.tables name q t.names t.kinds taken t.fault e h.fault_is h.names_are h.kinds_are h.as_many n).1))

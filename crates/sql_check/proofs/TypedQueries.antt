@@ -10,19 +10,22 @@ use Rattle.vtl_cell.specs.declared.kind.Kind.{Kind}
 use Rattle.vtl_kinds.specs.Literals.{is_null_kind}
 use Rattle.vtl_text.specs.Words.{is_word}
 use Rattle.sql_tree.specs.Formed.{IsQuery}
+use Rattle.sql_tree.specs.Grammar.{most_levels}
 use Rattle.sql_tree.specs.Trees as tree
 use Rattle.sql_tree.specs.Trees.{QueryTree, SelectTree, StatementTree, Text}
 use Rattle.sql_tree.specs.declared.statements.SqlExport.{SqlExport}
 use Rattle.sql_check_parts.specs.Queries.{item_name, lacks_kind, query_breaks, query_columns, query_names, shared_kinds}
 use Rattle.sql_check_parts.specs.Rules.{least}
 use Rattle.sql_check_parts.specs.Scopes.{Tables, columns_of, is_among, or_null, repeats}
-use Rattle.sql_check_parts.specs.Statements.{Given, IsTypedScript, after, fault_from, fault_or, nothing, order_fits, setting_breaks, settings_of, statement_breaks}
+use Rattle.sql_check_parts.specs.Statements.{Fault, Given, IsTypedScript, after, fault_from, fault_or, nothing, order_fits, setting_breaks, settings_of, statement_breaks}
+use Rattle.sql_check_parts.specs.declared.rules.SqlRule.{SqlRule}
+use Rattle.sql_check_parts.specs.declared.rules.SqlRule.TheVariants as rule
 use Rattle.sql_check_parts.proofs.Maps.{keys_all}
 use Rattle.sql_check_queries.proofs.Columns.{as_many, few_columns, kinds_told, names_differ}
 use Rattle.sql_check.specs.Laws.{AreColumns, given_by}
 use Rattle.sql_check.proofs.Settled.{holds_first}
 
-some_names : (q : QueryTree) → IsQuery 512 q → 1 ≤ length (query_names q)
+some_names : (q : QueryTree) → IsQuery most_levels q → 1 ≤ length (query_names q)
 some_names [] h = absurd (omega (arith, h.0))
 some_names (s ∷ ss) h = omega (arith, h.1.0.some, length-map s.items item_name)
 
@@ -39,7 +42,7 @@ kinds_beside (n ∷ names) (c ∷ cs) h = go (lacks_kind c) h (kinds_beside name
     go true e ih = cc
     go false e ih = ih e
 
-pub columns_are : (p : Settings) (tables : Tables) (q : QueryTree) → IsQuery 512 q → least (query_breaks p tables q) ≡ None → AreColumns (query_columns tables q)
+pub columns_are : (p : Settings) (tables : Tables) (q : QueryTree) → IsQuery most_levels q → least (query_breaks p tables q) ≡ None → AreColumns (query_columns tables q)
 columns_are p tables q f h =
     let kinds = map or_null (shared_kinds tables q) in
     let size = long (query_names q) kinds (as_many tables q) in
@@ -56,12 +59,12 @@ columns_are p tables q f h =
 breaks_none : (p : Settings) (n : ℕ) (given : Given) (before behind : List StatementTree) (s : StatementTree) → fault_from p n given (before ++ s ∷ behind) ≡ None → least (statement_breaks p (fold after given before) s) ≡ None
 breaks_none p n given [] behind s h = first n (least (statement_breaks p given s)) (fault_from p (suc n) (after given s) behind) h
   where
-    first : (n : ℕ) (o : Option ℕ) (rest : Option (ℕ × ℕ)) → fault_or n o rest ≡ None → o ≡ None
+    first : (n : ℕ) (o : Option SqlRule) (rest : Option Fault) → fault_or n o rest ≡ None → o ≡ None
     first n None rest e = refl
     first n (Some r) rest e = cc
 breaks_none p n given (b ∷ before) behind s h = breaks_none p (suc n) (after given b) before behind s (rest n (least (statement_breaks p given b)) (fault_from p (suc n) (after given b) (before ++ s ∷ behind)) h)
   where
-    rest : (n : ℕ) (o : Option ℕ) (r : Option (ℕ × ℕ)) → fault_or n o r ≡ None → r ≡ None
+    rest : (n : ℕ) (o : Option SqlRule) (r : Option Fault) → fault_or n o r ≡ None → r ≡ None
     rest n None r e = e
     rest n (Some x) r e = cc
 
@@ -73,8 +76,8 @@ pub exports_exist : (digits : Text) (rounding : Rounding) (before behind : List 
 exports_exist digits rounding before behind e h =
     let given = given_by before in
     let none = breaks_none (settings_of digits rounding) 2 nothing before behind (tree.export e) (rest (least (setting_breaks digits)) (fault_from (settings_of digits rounding) 2 nothing (before ++ tree.export e ∷ behind)) h) in
-    known (columns_of given.tables e.name) (holds_first 1 (is_none (columns_of given.tables e.name)) ((2, is_among e.name given.exported || not (is_word e.name)) ∷ (4, not (order_fits (columns_of given.tables e.name) e.order)) ∷ []) none).0
+    known (columns_of given.tables e.name) (holds_first rule.UnknownTable (is_none (columns_of given.tables e.name)) ((rule.MisnamedTable, is_among e.name given.exported || not (is_word e.name)) ∷ (rule.MisnamedColumn, not (order_fits (columns_of given.tables e.name) e.order)) ∷ []) none).0
   where
-    rest : (o : Option ℕ) (r : Option (ℕ × ℕ)) → fault_or 1 o r ≡ None → r ≡ None
+    rest : (o : Option SqlRule) (r : Option Fault) → fault_or 1 o r ≡ None → r ≡ None
     rest None r e = e
     rest (Some x) r e = cc

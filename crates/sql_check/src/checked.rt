@@ -78,7 +78,10 @@ pub fn check(alloc: Global, script: SqlScript) -> Result<SqlChecked, SqlTypeErr>
     ensures settings { IfOk result (λ checked. checked.settings ≡ script_settings (script_tree script)) }
 {
     match script_fault(alloc, &script)? {
-        Some((statement, rule)) => Err(SqlTypeErr::Mistyped { statement, rule }),
+        Some((statement, rule)) => Err(SqlTypeErr::Mistyped {
+            statement,
+            rule: rule.number(),
+        }),
         None => Ok(SqlChecked::of(script)),
     }
 }

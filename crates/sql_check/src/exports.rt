@@ -9,7 +9,7 @@ ghost use Rattle.sql_check_parts.specs.Statements.{export_breaks, order_fits};
 use crate::given::SoFar;
 use crate::inputs::names_fit;
 use indexmap::IndexSet;
-use sql_check_parts::{Columns, least_broken};
+use sql_check_parts::{Columns, SqlRule, Test, least_broken};
 use sql_tree::SqlExport;
 use std::alloc::{AllocError, Global};
 use vtl_text::{Txt, is_word};
@@ -34,15 +34,24 @@ pub fn export_fault(
     alloc: Global,
     given: &SoFar,
     export: &SqlExport,
-) -> Result<Option<u8>, AllocError>
+) -> Result<Option<SqlRule>, AllocError>
     ensures { IfOk result (λ fault. fault ≡ least (export_breaks given.now.tables given.now.exported.keys export.now)) }
 {
     let columns = given.tables.columns(&export.name);
     let is_unknown = columns.is_none();
     let fits = order_fits(alloc, columns, export.order.as_slice())?;
     Ok(least_broken(&[
-        (1, is_unknown),
-        (2, is_misnamed(&given.exported, &export.name)),
-        (4, !fits),
+        Test {
+            rule: SqlRule::UnknownTable,
+            is_broken: is_unknown,
+        },
+        Test {
+            rule: SqlRule::MisnamedTable,
+            is_broken: is_misnamed(&given.exported, &export.name),
+        },
+        Test {
+            rule: SqlRule::MisnamedColumn,
+            is_broken: !fits,
+        },
     ]))
 }

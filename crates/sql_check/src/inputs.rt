@@ -7,10 +7,10 @@ ghost use Rattle.vtl_cell.specs.declared.kind.Kind.{Kind};
 ghost use Rattle.vtl_text.specs.Words.{is_word};
 ghost use Rattle.sql_check_parts.specs.Rules.{least};
 ghost use Rattle.sql_check_parts.specs.Scopes.{is_among, is_empty, kind_among, repeats};
-ghost use Rattle.sql_check_parts.specs.Statements.{codes_fit, column_entry, input_breaks, input_columns, is_taken, is_text, names_fit};
+ghost use Rattle.sql_check_parts.specs.Statements.{codes_fit, column_entry, input_breaks, input_columns, is_taken, is_text, most_input_columns, names_fit};
 ghost use Rattle.sql_check_parts.specs.Typed.{distinct_columns};
 
-use sql_check_parts::{Columns, Tables, least_broken, repeats};
+use sql_check_parts::{Columns, SqlRule, Tables, Test, least_broken, repeats};
 use sql_tree::{InputColumn, SqlInput};
 use std::alloc::{AllocError, Global};
 use vtl_cell::Kind;
@@ -138,11 +138,13 @@ fn any_misplaced(alloc: Global, key: &[Txt], columns: &[InputColumn]) -> Result<
     Ok(false)
 }
 
+const MOST_INPUT_COLUMNS: usize = 64;
+
 // Whether codes stand where they may not, or there are too many columns; the codes of too many are not looked at.
 fn codes_misplaced(alloc: Global, input: &SqlInput) -> Result<bool, AllocError>
-    ensures { IfOk result (λ b. b ≡ (list_any (λ c. not (codes_fit input.now.key c)) input.now.columns || nat_lt 64 (length input.now.columns))) }
+    ensures { IfOk result (λ b. b ≡ (list_any (λ c. not (codes_fit input.now.key c)) input.now.columns || nat_lt most_input_columns (length input.now.columns))) }
 {
-    if input.columns.as_slice().len() > 64 {
+    if input.columns.as_slice().len() > MOST_INPUT_COLUMNS {
         Ok(true)
     } else {
         any_misplaced(alloc, input.key.as_slice(), input.columns.as_slice())
@@ -162,15 +164,24 @@ pub fn input_fault(
     tables: &Tables,
     input: &SqlInput,
     columns: &Option<Columns>,
-) -> Result<Option<u8>, AllocError>
+) -> Result<Option<SqlRule>, AllocError>
     requires { columns.now ≡ distinct_columns (input_columns input.now) }
     ensures { IfOk result (λ fault. fault ≡ least (input_breaks tables.now input.now)) }
 {
     let misplaced = key_misplaced(alloc, columns, input.key.as_slice())?;
     let codes = codes_misplaced(alloc, input)?;
     Ok(least_broken(&[
-        (2, is_misnamed(tables, &input.name)),
-        (4, misplaced),
-        (12, codes),
+        Test {
+            rule: SqlRule::MisnamedTable,
+            is_broken: is_misnamed(tables, &input.name),
+        },
+        Test {
+            rule: SqlRule::MisnamedColumn,
+            is_broken: misplaced,
+        },
+        Test {
+            rule: SqlRule::CodesOrCount,
+            is_broken: codes,
+        },
     ]))
 }

@@ -3,6 +3,7 @@ ghost use Rattle.std.specs.Prelude.{◌≡◌, ◌∷◌, ◌++◌, List, None, 
 ghost use Rattle.vtl_decimal.specs.Settings.{Settings};
 ghost use Rattle.vtl_decimal.specs.declared.settings.Rounding.{Rounding};
 ghost use Rattle.sql_tree.specs.Formed.{IsQuery};
+ghost use Rattle.sql_tree.specs.Grammar.{most_levels};
 ghost use Rattle.sql_tree.specs.Trees as tree;
 ghost use Rattle.sql_tree.specs.Trees.{QueryTree, StatementTree, Text};
 ghost use Rattle.sql_tree.specs.declared.statements.SqlExport.{SqlExport};
@@ -15,7 +16,7 @@ ghost use Rattle.sql_check.specs.Laws.{AreColumns, given_by};
 /// A formed query that breaks no rule gives from 1 to 1,024 columns of different names, and of kinds other than null.
 #[tactic(auto, using(crate::proofs::TypedQueries::columns_are))]
 pub fn typed_queries_give_columns()
-    ensures { (p : Settings) (tables : Tables) (q : QueryTree) → IsQuery 512 q → least (query_breaks p tables q) ≡ None → AreColumns (query_columns tables q) }
+    ensures { (p : Settings) (tables : Tables) (q : QueryTree) → IsQuery most_levels q → least (query_breaks p tables q) ≡ None → AreColumns (query_columns tables q) }
 {}
 
 /// An EXPORT of a typed script names a table that a statement before it gives.

@@ -1,4 +1,10 @@
-//! Typing of scripts of the SQL dialect: statements, scripts, and scripts that are typed.
+//! The typing of scripts of the SQL dialect: `check` hands a formed script back as one that is typed, or tells its
+//! fault.
+//!
+//! Statements in order: what they give to later ones, exports, and the profile of SET. The laws of typed scripts
+//! stand here, and `Plan`, a query with what an engine is to prepare; its conditions are not stated yet.
+//! It decides nothing inside a query (`sql_check_queries`) and runs nothing.
+//! Begin with sql_check_parts/specs/Statements.antt, then specs/Laws.antt.
 #![tactic(auto)]
 
 mod checked;

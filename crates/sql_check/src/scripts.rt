@@ -6,6 +6,7 @@ ghost use Rattle.sql_check_parts.specs.Statements.{fault_from, nothing, script_f
 use crate::given::SoFar;
 use crate::settings::settings;
 use crate::statements::statement;
+use sql_check_parts::SqlRule;
 use sql_tree::{SqlScript, Statement};
 use std::alloc::{AllocError, Global};
 use vtl_decimal::Profile;
@@ -14,7 +15,7 @@ fn statements_fault(
     alloc: Global,
     profile: &Profile,
     statements: &[Statement],
-) -> Result<Option<(usize, u8)>, AllocError>
+) -> Result<Option<(usize, SqlRule)>, AllocError>
     ensures { IfOk result (λ fault. fault ≡ fault_from profile.now 2 nothing (map statement_tree statements.now)) }
 {
     let mut given = SoFar::new(alloc);
@@ -28,11 +29,14 @@ fn statements_fault(
 
 /// The fault of a script: its first faulty statement, counted from 1 with SET, and the least rule that it breaks. It fails only
 /// for want of memory.
-pub fn script_fault(alloc: Global, script: &SqlScript) -> Result<Option<(usize, u8)>, AllocError>
+pub fn script_fault(
+    alloc: Global,
+    script: &SqlScript,
+) -> Result<Option<(usize, SqlRule)>, AllocError>
     ensures { IfOk result (λ fault. fault ≡ script_fault (script_tree script.now)) }
 {
     match settings(&script.scale, script.rounding) {
         Some(profile) => statements_fault(alloc, &profile, script.statements.as_slice()),
-        None => Ok(Some((1, 6))),
+        None => Ok(Some((1, SqlRule::UnfitLiteral))),
     }
 }

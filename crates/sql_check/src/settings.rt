@@ -37,7 +37,7 @@ fn scale_of(written: Option<i64>) -> u8
     }
 }
 
-/// The profile of SET; none where its scale is over 9, which breaks rule 6.
+/// The profile of SET; none where its scale is over 9.
 pub fn settings(digits: &Txt, rounding: Rounding) -> Option<Profile>
     ensures { Sets digits.now rounding result }
 {

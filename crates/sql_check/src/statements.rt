@@ -8,7 +8,7 @@ ghost use Rattle.sql_check.specs.Answers.{IsSettled, IsStep, MayPut, given_view,
 use crate::exports::export_fault;
 use crate::given::SoFar;
 use crate::inputs::{input_columns, input_fault};
-use sql_check_parts::{Columns, least_broken, lesser};
+use sql_check_parts::{Columns, SqlRule, Test, least_broken, lesser};
 use sql_check_queries::query;
 use sql_tree::{SqlCreate, SqlExport, SqlInput, Statement};
 use std::alloc::{AllocError, Global};
@@ -31,8 +31,8 @@ fn settle(
     given: &mut SoFar,
     name: &Txt,
     columns: Option<Columns>,
-    fault: Option<u8>,
-) -> Result<Option<u8>, AllocError>
+    fault: Option<SqlRule>,
+) -> Result<Option<SqlRule>, AllocError>
     requires { fault ≡ None → MayPut given.old.tables name.now columns }
     ensures { IfOk result (IsSettled (given_view given.old) (given_view given.new) name.now columns fault) }
 {
@@ -50,7 +50,7 @@ fn input(
     profile: &Profile,
     given: &mut SoFar,
     input: &SqlInput,
-) -> Result<Option<u8>, AllocError>
+) -> Result<Option<SqlRule>, AllocError>
     ensures { IfOk result (IsStep profile.now (given_view given.old) (given_view given.new) (tree.input input.now)) }
 {
     let columns = input_columns(alloc, input)?;
@@ -63,11 +63,14 @@ fn create(
     profile: &Profile,
     given: &mut SoFar,
     create: &SqlCreate,
-) -> Result<Option<u8>, AllocError>
+) -> Result<Option<SqlRule>, AllocError>
     ensures { IfOk result (IsStep profile.now (given_view given.old) (given_view given.new) (tree.create create.now.name (query_tree create.now.query))) }
 {
     let typed = query(alloc, profile, &given.tables, &create.query)?;
-    let taken = least_broken(&[(2, given.tables.has(&create.name))]);
+    let taken = least_broken(&[Test {
+        rule: SqlRule::MisnamedTable,
+        is_broken: given.tables.has(&create.name),
+    }]);
     let columns = Columns::of(alloc, typed.names.as_slice(), typed.kinds.as_slice())?;
     settle(given, &create.name, columns, lesser(taken, typed.fault))
 }
@@ -77,7 +80,7 @@ fn export(
     profile: &Profile,
     given: &mut SoFar,
     export: &SqlExport,
-) -> Result<Option<u8>, AllocError>
+) -> Result<Option<SqlRule>, AllocError>
     ensures { IfOk result (IsStep profile.now (given_view given.old) (given_view given.new) (tree.export export.now)) }
 {
     let fault = export_fault(alloc, given, export)?;
@@ -94,7 +97,7 @@ pub fn statement(
     profile: &Profile,
     given: &mut SoFar,
     statement: &Statement,
-) -> Result<Option<u8>, AllocError>
+) -> Result<Option<SqlRule>, AllocError>
     ensures { IfOk result (IsStep profile.now (given_view given.old) (given_view given.new) (statement_tree statement.now)) }
 {
     match statement {

@@ -15,13 +15,14 @@ use Rattle.sql_check_parts.specs.Rules.{least, lesser}
 use Rattle.sql_check_parts.specs.Scopes.{Grouping, Scope}
 use Rattle.sql_check_parts.specs.Typed.{IsTyped}
 use Rattle.sql_check_parts.specs.declared.typed.Typed.{Typed}
+use Rattle.sql_check_parts.specs.declared.rules.SqlRule.{SqlRule}
 use Rattle.sql_check_parts.proofs.Least.{least_append, least_none, lesser_apart}
 use Rattle.sql_check_expressions.specs.Told.{AreParts}
 use Rattle.sql_check_expressions.specs.declared.parts.Parts.{Parts}
 use Rattle.sql_check_expressions.proofs.Views.{views}
 
 -- parts, before others whose kinds and rules are still to come
-pub record Goes (kinds : List Kind) (rules : List ℕ) (whole : List Kind) (whole_rules : List ℕ) (p : Parts) : Type 0 where
+pub record Goes (kinds : List Kind) (rules : List SqlRule) (whole : List Kind) (whole_rules : List SqlRule) (p : Parts) : Type 0 where
   pub kinds_are : p.kinds.items ++ kinds ≡ whole
   pub fault_is : lesser p.fault (least rules) ≡ least whole_rules
 
@@ -30,7 +31,7 @@ pub record Put (t : Typed) (p q : Parts) : Type 0 where
   pub kinds_are : q.kinds.items ≡ p.kinds.items ++ t.kind ∷ []
   pub fault_is : q.fault ≡ lesser p.fault t.fault
 
-goes_on : (kind : Kind) (own : List ℕ) (t : Typed) (kinds : List Kind) (rules : List ℕ) (whole : List Kind) (whole_rules : List ℕ) (p q : Parts) → IsTyped kind own t → Put t p q → Goes (kind ∷ kinds) (own ++ rules) whole whole_rules p → Goes kinds rules whole whole_rules q
+goes_on : (kind : Kind) (own : List SqlRule) (t : Typed) (kinds : List Kind) (rules : List SqlRule) (whole : List Kind) (whole_rules : List SqlRule) (p q : Parts) → IsTyped kind own t → Put t p q → Goes (kind ∷ kinds) (own ++ rules) whole whole_rules p → Goes kinds rules whole whole_rules q
 goes_on kind own t kinds rules whole whole_rules p q h put goes = record {
   kinds_are = ap (λ l. l ++ kinds) put.kinds_are ∙ append_assoc p.kinds.items (t.kind ∷ []) kinds ∙ ap (λ k. p.kinds.items ++ k ∷ kinds) h.kind_is ∙ goes.kinds_are;
   fault_is =
@@ -41,7 +42,7 @@ goes_on kind own t kinds rules whole whole_rules p q h put goes = record {
       ∙ goes.fault_is;
 }
 
-goes_through : (whole : List Kind) (rules : List ℕ) (p : Parts) → Goes [] [] whole rules p → AreParts whole rules p
+goes_through : (whole : List Kind) (rules : List SqlRule) (p : Parts) → Goes [] [] whole rules p → AreParts whole rules p
 goes_through whole rules p goes = record {
   kinds_are = sym (append-nil p.kinds.items) ∙ goes.kinds_are;
   fault_is = sym (least_none p.fault) ∙ goes.fault_is;

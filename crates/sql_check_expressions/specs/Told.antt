@@ -1,5 +1,5 @@
 -- What the program tells of expressions and of their parts.
-use Rattle.std.specs.Prelude.{◌≡◌, ℕ, List, Option}
+use Rattle.std.specs.Prelude.{◌≡◌, List, Option}
 use Rattle.vtl_cell.specs.declared.kind.Kind.{Kind}
 use Rattle.sql_tree.specs.Trees.{Exp}
 use Rattle.sql_check_parts.specs.Expressions.{Site, breaks}
@@ -8,6 +8,7 @@ use Rattle.sql_check_parts.specs.Rules.{least, lesser}
 use Rattle.sql_check_parts.specs.Scopes.{Grouping}
 use Rattle.sql_check_parts.specs.Typed.{IsTyped}
 use Rattle.sql_check_parts.specs.declared.typed.Typed.{Typed}
+use Rattle.sql_check_parts.specs.declared.rules.SqlRule.{SqlRule}
 use Rattle.sql_check_expressions.specs.declared.parts.Parts.{Parts}
 
 -- the kind of an expression and the least of the rules that it breaks
@@ -15,11 +16,11 @@ abbrev pub IsTypedAt : Site → Option Grouping → Exp → Typed → Type 0
 IsTypedAt at g e = IsTyped (kind_in at.scope e) (breaks at g e)
 
 -- the kinds of parts and the least of the rules that they break
-pub record AreParts (kinds : List Kind) (rules : List ℕ) (p : Parts) : Type 0 where
+pub record AreParts (kinds : List Kind) (rules : List SqlRule) (p : Parts) : Type 0 where
   pub kinds_are : p.kinds.items ≡ kinds
   pub fault_is : p.fault ≡ least rules
 
 -- a kind and rules, behind parts of which the least broken rule is `before`
-pub record IsBehind (before : Option ℕ) (kind : Kind) (rules : List ℕ) (t : Typed) : Type 0 where
+pub record IsBehind (before : Option SqlRule) (kind : Kind) (rules : List SqlRule) (t : Typed) : Type 0 where
   pub kind_is : t.kind ≡ kind
   pub fault_is : t.fault ≡ lesser before (least rules)

@@ -13,14 +13,16 @@ ghost use Rattle.sql_check_expressions.specs.Told.{IsBehind};
 
 use crate::Site;
 use crate::parts::Parts;
-use sql_check_parts::{self, Grouping, Typed, exists, least_broken, lesser, operator};
+use sql_check_parts::{
+    self, Grouping, SqlRule, Test, Typed, exists, least_broken, lesser, operator,
+};
 use sql_tree::{Equality, Source};
 use std::alloc::{AllocError, Global};
 use vtl_cell::{Kind, ScalarOp};
 use vtl_text::List;
 
 // What is told behind parts with a fault.
-pub(crate) fn behind(before: Option<u8>, own: Typed) -> Typed
+pub(crate) fn behind(before: Option<SqlRule>, own: Typed) -> Typed
     ensures kind { result.kind ≡ own.kind }
     ensures fault { result.fault ≡ lesser before own.fault }
 {
@@ -31,7 +33,7 @@ pub(crate) fn behind(before: Option<u8>, own: Typed) -> Typed
 }
 
 // A truth value with a fault.
-pub(crate) fn truth(fault: Option<u8>) -> Typed
+pub(crate) fn truth(fault: Option<SqlRule>) -> Typed
     ensures kind { result.kind ≡ k.Bool }
     ensures fault { result.fault ≡ fault }
 {
@@ -47,7 +49,10 @@ pub(crate) fn count_all(group: &Option<Grouping>) -> Typed
 {
     Typed {
         kind: Kind::Int,
-        fault: least_broken(&[(8, group.is_none())]),
+        fault: least_broken(&[Test {
+            rule: SqlRule::OutsideGroup,
+            is_broken: group.is_none(),
+        }]),
     }
 }
 

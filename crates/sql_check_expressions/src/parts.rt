@@ -2,7 +2,7 @@
 ghost use Rattle.std.specs.Prelude.{◌≡◌, ◌++◌, ◌∷◌, [], None, OnOk};
 ghost use Rattle.sql_check_parts.specs.Rules.{lesser};
 
-use sql_check_parts::{Typed, lesser};
+use sql_check_parts::{SqlRule, Typed, lesser};
 use std::alloc::{AllocError, Global};
 use vtl_cell::Kind;
 
@@ -10,7 +10,7 @@ use vtl_cell::Kind;
 #[derive(Drop)]
 pub(crate) struct Parts {
     pub(crate) kinds: Vec<Kind>,
-    pub(crate) fault: Option<u8>,
+    pub(crate) fault: Option<SqlRule>,
 }
 
 impl Parts {

@@ -15,7 +15,7 @@ use crate::Site;
 use crate::operators::{behind, binary, case, count_all, existence, truth};
 use crate::parts::Parts;
 use sql_check_parts::{
-    self, Grouping, Typed, column, condition_fault, constant, lesser, list_fault, operator,
+    self, Grouping, SqlRule, Typed, column, condition_fault, constant, lesser, list_fault, operator,
 };
 use sql_tree::{Branch, Literal, SqlExpr};
 use std::alloc::{AllocError, Global};
@@ -156,7 +156,7 @@ pub fn condition(
     at: &Site,
     group: &Option<Grouping>,
     e: &SqlExpr,
-) -> Result<Option<u8>, AllocError>
+) -> Result<Option<SqlRule>, AllocError>
     ensures { IfOk result (λ fault. fault ≡ least (condition_at at.now group.now (expr_tree e.now))) }
 {
     let value = expression(alloc, at, group, e)?;

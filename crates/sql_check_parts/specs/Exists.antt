@@ -1,16 +1,19 @@
 -- The equalities of EXISTS.
-use Rattle.std.specs.Prelude.{ℕ, Bool, true, false, not, ◌&&◌, List, [], ◌∷◌, ◌++◌, Option, option_and_then, if◌then◌else◌}
+use Rattle.std.specs.Prelude.{Bool, true, false, not, ◌&&◌, List, [], ◌∷◌, ◌++◌, Option, option_and_then, if◌then◌else◌}
 use Rattle.std.specs.List.{flat_map}
 use Rattle.std.specs.Option.{is_none}
+use Rattle.vtl_cell.specs.Kinds.{same_kind}
 use Rattle.vtl_cell.specs.declared.kind.Kind.{Kind}
-use Rattle.vtl_cell.specs.declared.kind.Kind.TheVariants as k
 use Rattle.sql_tree.specs.Trees.{Text}
 use Rattle.sql_tree.specs.declared.parts.Column.{Column}
 use Rattle.sql_tree.specs.declared.parts.Equality.{Equality}
 use Rattle.sql_tree.specs.declared.parts.Source.{Source}
 use Rattle.sql_check_parts.specs.Rules.{broken}
-use Rattle.sql_check_parts.specs.Scopes.{Columns, Grouping, Scope, Tables, column_in, columns_of, kind_among, or_null, same_text}
+use Rattle.vtl_text.specs.Texts.{same_text}
+use Rattle.sql_check_parts.specs.Scopes.{Columns, Grouping, Scope, Tables, column_in, columns_of, kind_among, or_null}
 use Rattle.sql_check_parts.specs.Windows.{is_ungrouped}
+use Rattle.sql_check_parts.specs.declared.rules.SqlRule.{SqlRule}
+use Rattle.sql_check_parts.specs.declared.rules.SqlRule.TheVariants as rule
 
 -- the inner source: its alias hides an outer one wholly
 pub record Inner : Type 0 where
@@ -26,19 +29,9 @@ is_inner i c = same_text i.alias c.source
 abbrev pub kind_inside : Scope → Inner → Column → Option Kind
 kind_inside s i c = if is_inner i c then option_and_then (λ columns. kind_among columns c.name) i.columns else column_in s c
 
--- a column of the inner source is known (3); one of an outer source besides is one of GROUP BY in a group (8)
-abbrev pub side_breaks : Scope → Option Grouping → Inner → Column → List ℕ
-side_breaks s g i c = broken ((3, is_none (kind_inside s i c)) ∷ (8, not (is_inner i c) && is_ungrouped g c) ∷ [])
-
-abbrev pub same_kind : Kind → Kind → Bool
-same_kind k.Null k.Null = true
-same_kind k.Bool k.Bool = true
-same_kind k.Int k.Int = true
-same_kind k.Num k.Num = true
-same_kind k.Text k.Text = true
-same_kind k.Day k.Day = true
-same_kind k.Period k.Period = true
-same_kind a b = false
+-- a column of the inner source is known; one of an outer source besides is one of GROUP BY in a group
+abbrev pub side_breaks : Scope → Option Grouping → Inner → Column → List SqlRule
+side_breaks s g i c = broken ((rule.UnknownColumn, is_none (kind_inside s i c)) ∷ (rule.OutsideGroup, not (is_inner i c) && is_ungrouped g c) ∷ [])
 
 abbrev pub same_side : Bool → Bool → Bool
 same_side true b = b
@@ -48,10 +41,10 @@ same_side false b = not b
 abbrev pub is_tie : Scope → Inner → Equality → Bool
 is_tie s i e = not (same_side (is_inner i e.left) (is_inner i e.right)) && same_kind (or_null (kind_inside s i e.left)) (or_null (kind_inside s i e.right))
 
--- an equality ties the inner source to an outer one (11)
-abbrev pub equality_breaks : Scope → Option Grouping → Inner → Equality → List ℕ
-equality_breaks s g i e = side_breaks s g i e.left ++ side_breaks s g i e.right ++ broken ((11, not (is_tie s i e)) ∷ [])
+-- an equality ties the inner source to an outer one
+abbrev pub equality_breaks : Scope → Option Grouping → Inner → Equality → List SqlRule
+equality_breaks s g i e = side_breaks s g i e.left ++ side_breaks s g i e.right ++ broken ((rule.UntiedEquality, not (is_tie s i e)) ∷ [])
 
--- the table of EXISTS is known (1)
-abbrev pub exists_breaks : Tables → Scope → Option Grouping → Source → List Equality → List ℕ
-exists_breaks tables s g source es = broken ((1, is_none (columns_of tables source.table)) ∷ []) ++ flat_map (equality_breaks s g (inner_of tables source)) es
+-- the table of EXISTS is known
+abbrev pub exists_breaks : Tables → Scope → Option Grouping → Source → List Equality → List SqlRule
+exists_breaks tables s g source es = broken ((rule.UnknownTable, is_none (columns_of tables source.table)) ∷ []) ++ flat_map (equality_breaks s g (inner_of tables source)) es

@@ -1,5 +1,5 @@
 -- The rules that expressions break: at rows, where no aggregate stands and any column may be named, and at groups, where the columns outside of aggregates are those of GROUP BY.
-use Rattle.std.specs.Prelude.{ℕ, Bool, true, false, not, ◌||◌, List, [], ◌∷◌, ◌++◌, map, Option, None}
+use Rattle.std.specs.Prelude.{Bool, true, false, not, ◌||◌, List, [], ◌∷◌, ◌++◌, map, Option, None}
 use Rattle.std.specs.List.{list_any}
 use Rattle.std.specs.Option.{is_none}
 use Rattle.vtl_decimal.specs.Settings.{Settings}
@@ -19,6 +19,8 @@ use Rattle.sql_check_parts.specs.Literals.{constant_value, has_no_value, literal
 use Rattle.sql_check_parts.specs.Rules.{broken}
 use Rattle.sql_check_parts.specs.Scopes.{Grouping, Scope, Tables}
 use Rattle.sql_check_parts.specs.Windows.{column_breaks}
+use Rattle.sql_check_parts.specs.declared.rules.SqlRule.{SqlRule}
+use Rattle.sql_check_parts.specs.declared.rules.SqlRule.TheVariants as rule
 
 -- where expressions stand: the settings, the tables before the statement, and the sources that may be named
 pub record Site : Type 0 where
@@ -31,38 +33,38 @@ site p tables scope = record { settings = p; tables = tables; scope = scope }
 
 -- ---- parts
 
--- a constant has a value (6)
-abbrev pub constant_breaks : Settings → Constant → List ℕ
-constant_breaks p c = broken ((6, is_none (constant_value p c)) ∷ [])
+-- a constant has a value
+abbrev pub constant_breaks : Settings → Constant → List SqlRule
+constant_breaks p c = broken ((rule.UnfitLiteral, is_none (constant_value p c)) ∷ [])
 
--- operands meet their operator (5)
-abbrev pub operator_breaks : ScalarOp → List Kind → List ℕ
-operator_breaks o kinds = broken ((5, is_none (operator_kind o kinds)) ∷ [])
+-- operands meet their operator
+abbrev pub operator_breaks : ScalarOp → List Kind → List SqlRule
+operator_breaks o kinds = broken ((rule.UnfitKind, is_none (operator_kind o kinds)) ∷ [])
 
--- operands meet their function (5), and those that have to be literals are literals in their intervals (6)
-abbrev pub call_breaks : Settings → ScalarOp → Exps → List Kind → List ℕ
-call_breaks p f es kinds = broken ((5, is_none (operator_kind f kinds)) ∷ (6, not (literals_fit p f es)) ∷ [])
+-- operands meet their function, and those that have to be literals are literals in their intervals
+abbrev pub call_breaks : Settings → ScalarOp → Exps → List Kind → List SqlRule
+call_breaks p f es kinds = broken ((rule.UnfitKind, is_none (operator_kind f kinds)) ∷ (rule.UnfitLiteral, not (literals_fit p f es)) ∷ [])
 
--- operand and literals meet IN (5), and the literals have values (6)
-abbrev pub list_breaks : Settings → Kind → List Literal → List ℕ
-list_breaks p kind ls = broken ((5, is_none (operator_kind op.In (kind ∷ map literal_kind ls))) ∷ (6, list_any (has_no_value p) ls) ∷ [])
+-- operand and literals meet IN, and the literals have values
+abbrev pub list_breaks : Settings → Kind → List Literal → List SqlRule
+list_breaks p kind ls = broken ((rule.UnfitKind, is_none (operator_kind op.In (kind ∷ map literal_kind ls))) ∷ (rule.UnfitLiteral, list_any (has_no_value p) ls) ∷ [])
 
--- an aggregate takes the kind of its operand (5), and stands in a group (8)
-abbrev pub aggregate_breaks : Option Kind → Option Grouping → List ℕ
-aggregate_breaks given g = broken ((5, is_none given) ∷ (8, is_none g) ∷ [])
+-- an aggregate takes the kind of its operand, and stands in a group
+abbrev pub aggregate_breaks : Option Kind → Option Grouping → List SqlRule
+aggregate_breaks given g = broken ((rule.UnfitKind, is_none given) ∷ (rule.OutsideGroup, is_none g) ∷ [])
 
--- a condition is boolean (5); null counts as that
-abbrev pub condition_breaks : Kind → List ℕ
-condition_breaks kind = broken ((5, not (meets k.Bool kind)) ∷ [])
+-- a condition is boolean; null counts as that
+abbrev pub condition_breaks : Kind → List SqlRule
+condition_breaks kind = broken ((rule.UnfitKind, not (meets k.Bool kind)) ∷ [])
 
--- the values of CASE share a kind (5)
-abbrev pub case_breaks : List Kind → List ℕ
-case_breaks kinds = broken ((5, is_none (common_kind kinds)) ∷ [])
+-- the values of CASE share a kind
+abbrev pub case_breaks : List Kind → List SqlRule
+case_breaks kinds = broken ((rule.UnfitKind, is_none (common_kind kinds)) ∷ [])
 
 -- ---- expressions
 
 abbrev mutual
-  pub breaks : Site → Option Grouping → Exp → List ℕ
+  pub breaks : Site → Option Grouping → Exp → List SqlRule
   breaks at g (tree.binary a o b) = breaks at g a ++ breaks at g b ++ operator_breaks o (kind_in at.scope a ∷ kind_in at.scope b ∷ [])
   breaks at g (tree.unary o e) = breaks at g e ++ operator_breaks o (kind_in at.scope e ∷ [])
   breaks at g (tree.is_null e negated) = breaks at g e
@@ -70,16 +72,16 @@ abbrev mutual
   breaks at g (tree.constant c) = constant_breaks at.settings c
   breaks at g (tree.column c) = column_breaks at.scope g c
   breaks at g (tree.call f es) = all_break at g es ++ call_breaks at.settings f es (kinds_in at.scope es)
-  breaks at g tree.count_all = broken ((8, is_none g) ∷ [])
+  breaks at g tree.count_all = broken ((rule.OutsideGroup, is_none g) ∷ [])
   breaks at g (tree.aggregate f e) = breaks at None e ++ aggregate_breaks (aggregate_kind f (kind_in at.scope e)) g
   breaks at g (tree.case_when bs e) = branches_break at g bs ++ breaks at g e ++ case_breaks (value_kinds at.scope bs (kind_in at.scope e ∷ []))
   breaks at g (tree.exists s es) = exists_breaks at.tables at.scope g s es
 
-  pub all_break : Site → Option Grouping → Exps → List ℕ
+  pub all_break : Site → Option Grouping → Exps → List SqlRule
   all_break at g tree.no_exps = []
   all_break at g (tree.exp e es) = breaks at g e ++ all_break at g es
 
-  pub branches_break : Site → Option Grouping → Branches → List ℕ
+  pub branches_break : Site → Option Grouping → Branches → List SqlRule
   branches_break at g tree.no_branches = []
   branches_break at g (tree.branch c v bs) = breaks at g c ++ condition_breaks (kind_in at.scope c) ++ breaks at g v ++ branches_break at g bs
 

@@ -1,4 +1,4 @@
--- The kinds of expressions. Where operands do not meet their operator (5), its value counts as null.
+-- The kinds of expressions. Where operands do not meet their operator, its value counts as null.
 use Rattle.std.specs.Prelude.{List, [], ◌∷◌, Option, None}
 use Rattle.vtl_cell.specs.ScalarKinds.{common_kind}
 use Rattle.vtl_cell.specs.declared.kind.Kind.{Kind}

@@ -14,39 +14,42 @@ use Rattle.sql_tree.specs.declared.parts.Source.{Source}
 use Rattle.sql_check_parts.specs.Expressions.{Site, breaks, condition_breaks, has_aggregate, site}
 use Rattle.sql_check_parts.specs.Kinds.{kind_in}
 use Rattle.sql_check_parts.specs.Rules.{broken}
-use Rattle.sql_check_parts.specs.Scopes.{Columns, Grouping, Scope, Tables, columns_of, grouping_of, is_among, is_empty, or_null, repeats, same_text, with_source}
+use Rattle.vtl_text.specs.Texts.{same_text}
+use Rattle.sql_check_parts.specs.Scopes.{Columns, Grouping, Scope, Tables, columns_of, grouping_of, is_among, is_empty, or_null, repeats, with_source}
 use Rattle.sql_check_parts.specs.Windows.{column_breaks, window_breaks, window_kind}
+use Rattle.sql_check_parts.specs.declared.rules.SqlRule.{SqlRule}
+use Rattle.sql_check_parts.specs.declared.rules.SqlRule.TheVariants as rule
 
 -- ---- conditions
 
-abbrev pub condition_at : Site → Option Grouping → Exp → List ℕ
+abbrev pub condition_at : Site → Option Grouping → Exp → List SqlRule
 condition_at at g e = breaks at g e ++ condition_breaks (kind_in at.scope e)
 
-abbrev pub maybe_condition : Site → Option Grouping → Option Exp → List ℕ
+abbrev pub maybe_condition : Site → Option Grouping → Option Exp → List SqlRule
 maybe_condition at g None = []
 maybe_condition at g (Some e) = condition_at at g e
 
 -- ---- sources
 
--- a source: its table is known (1), and no source before it has its alias (2)
-abbrev pub source_breaks : Tables → Scope → Source → List ℕ
-source_breaks tables before s = broken ((1, is_none (columns_of tables s.table)) ∷ (2, is_among s.alias (keys_of before)) ∷ [])
+-- a source: its table is known, and no source before it has its alias
+abbrev pub source_breaks : Tables → Scope → Source → List SqlRule
+source_breaks tables before s = broken ((rule.UnknownTable, is_none (columns_of tables s.table)) ∷ (rule.MisnamedTable, is_among s.alias (keys_of before)) ∷ [])
 
 abbrev pub join_source : JoinTree → Source
 join_source (tree.on kind s e) = s
 join_source (tree.cross s) = s
 
 -- the condition of a join names the sources up to its own
-abbrev pub join_condition : Site → JoinTree → List ℕ
+abbrev pub join_condition : Site → JoinTree → List SqlRule
 join_condition at (tree.on kind s e) = condition_at at None e
 join_condition at (tree.cross s) = []
 
-abbrev pub join_breaks : Settings → Tables → Scope → JoinTree → List ℕ
+abbrev pub join_breaks : Settings → Tables → Scope → JoinTree → List SqlRule
 join_breaks p tables before j =
     source_breaks tables before (join_source j) ++ join_condition (site p tables (with_source tables before (join_source j))) j
 
 -- joins from the left, behind the sources before them
-abbrev pub joins_break : Settings → Tables → Scope → List JoinTree → List ℕ
+abbrev pub joins_break : Settings → Tables → Scope → List JoinTree → List SqlRule
 joins_break p tables before [] = []
 joins_break p tables before (j ∷ js) = join_breaks p tables before j ++ joins_break p tables (with_source tables before (join_source j)) js
 
@@ -60,7 +63,7 @@ first_scope tables s = with_source tables [] s.source
 abbrev pub scope_of : Tables → SelectTree → Scope
 scope_of tables s = joined_scope tables (first_scope tables s) s.joins
 
-abbrev pub sources_break : Settings → Tables → SelectTree → List ℕ
+abbrev pub sources_break : Settings → Tables → SelectTree → List SqlRule
 sources_break p tables s = source_breaks tables [] s.source ++ joins_break p tables (first_scope tables s) s.joins
 
 -- ---- groups
@@ -98,25 +101,25 @@ item_kind scope i = value_kind scope i.value
 abbrev pub kinds_of : Tables → SelectTree → List Kind
 kinds_of tables s = map (item_kind (scope_of tables s)) s.items
 
-abbrev pub value_breaks : Site → Option Grouping → ValueTree → List ℕ
+abbrev pub value_breaks : Site → Option Grouping → ValueTree → List SqlRule
 value_breaks at g (tree.expression e) = breaks at g e
 value_breaks at g (tree.window w) = window_breaks at.settings at.scope g w
 
-abbrev pub item_breaks : Site → Option Grouping → ItemTree → List ℕ
+abbrev pub item_breaks : Site → Option Grouping → ItemTree → List SqlRule
 item_breaks at g i = value_breaks at g i.value
 
 -- ---- selects
 
--- the parts of a select that see all its sources; the names of its items differ (4)
-abbrev pub parts_break : Site → SelectTree → List ℕ
+-- the parts of a select that see all its sources; the names of its items differ
+abbrev pub parts_break : Site → SelectTree → List SqlRule
 parts_break at s =
     maybe_condition at None s.condition
     ++ flat_map (column_breaks at.scope None) s.group
     ++ maybe_condition at (groups_of s) s.having
     ++ flat_map (item_breaks at (groups_of s)) s.items
-    ++ broken ((4, repeats (names_of s)) ∷ [])
+    ++ broken ((rule.MisnamedColumn, repeats (names_of s)) ∷ [])
 
-abbrev pub select_breaks : Settings → Tables → SelectTree → List ℕ
+abbrev pub select_breaks : Settings → Tables → SelectTree → List SqlRule
 select_breaks p tables s = sources_break p tables s ++ parts_break (site p tables (scope_of tables s)) s
 
 -- ---- queries
@@ -146,13 +149,17 @@ same_names = pointwise same_text
 abbrev pub lacks_kind : Option Kind → Bool
 lacks_kind kind = is_null_kind (or_null kind)
 
--- the selects: they have the same names, and items of one place share a kind (7), which is not that of null alone (10); there
--- are at most 1,024 items (12)
-abbrev pub union_breaks : List Text → List (Option Kind) → QueryTree → List ℕ
-union_breaks names kinds q =
-    broken ((7, not (list_all (λ s. same_names names (names_of s)) q) || list_any is_none kinds)
-    ∷ (10, list_any lacks_kind kinds)
-    ∷ (12, nat_lt 1_024 (length names)) ∷ [])
+-- the most columns of a query
+abbrev pub most_columns : ℕ
+most_columns = 1_024
 
-abbrev pub query_breaks : Settings → Tables → QueryTree → List ℕ
+-- the selects: they have the same names, and items of one place share a kind, which is not that of null alone; there are not too
+-- many items
+abbrev pub union_breaks : List Text → List (Option Kind) → QueryTree → List SqlRule
+union_breaks names kinds q =
+    broken ((rule.UnlikeSelects, not (list_all (λ s. same_names names (names_of s)) q) || list_any is_none kinds)
+    ∷ (rule.NullColumn, list_any lacks_kind kinds)
+    ∷ (rule.CodesOrCount, nat_lt most_columns (length names)) ∷ [])
+
+abbrev pub query_breaks : Settings → Tables → QueryTree → List SqlRule
 query_breaks p tables q = flat_map (select_breaks p tables) q ++ union_breaks (query_names q) (shared_kinds tables q) q

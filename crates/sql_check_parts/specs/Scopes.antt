@@ -1,18 +1,15 @@
 -- Tables by name, their columns by name, and the sources of a select by alias.
 use Rattle.std.specs.Prelude.{Bool, true, false, not, ◌&&◌, List, [], ◌∷◌, ◌++◌, Option, Some, None, nat_eq, fold, map, option_and_then, if◌then◌else◌}
-use Rattle.std.specs.Cmp.Lexicographic.{pointwise}
 use Rattle.std.specs.List.{list_any}
 use Rattle.std.specs.Map.{keys_of, lookup}
 use Rattle.indexmap.specs.IndexSet.{insert_key}
 use Rattle.vtl_lists.specs.Apart.{all_apart}
+use Rattle.vtl_text.specs.Texts.{same_text}
 use Rattle.vtl_cell.specs.declared.kind.Kind.{Kind}
 use Rattle.vtl_cell.specs.declared.kind.Kind.TheVariants as k
 use Rattle.sql_tree.specs.Trees.{Text}
 use Rattle.sql_tree.specs.declared.parts.Column.{Column}
 use Rattle.sql_tree.specs.declared.parts.Source.{Source}
-
-abbrev pub same_text : Text → Text → Bool
-same_text = pointwise nat_eq
 
 abbrev pub is_among : Text → List Text → Bool
 is_among name names = list_any (same_text name) names
@@ -49,7 +46,7 @@ or_null None = k.Null
 abbrev pub Scope : Type 0
 Scope = List (Text × Columns)
 
--- one more source; a table that is not there (1) has no columns, and of two sources of one alias (2) the first counts
+-- one more source; a table that is not there has no columns, and of two sources of one alias the first counts
 abbrev pub add_source : Scope → Text → Option Columns → Scope
 add_source scope alias None = scope
 add_source scope alias (Some columns) = if is_among alias (keys_of scope) then scope else scope ++ (alias, columns) ∷ []

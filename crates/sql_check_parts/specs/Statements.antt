@@ -18,7 +18,10 @@ use Rattle.sql_tree.specs.declared.statements.SqlExport.{SqlExport}
 use Rattle.sql_tree.specs.declared.statements.SqlInput.{SqlInput}
 use Rattle.sql_check_parts.specs.Queries.{query_breaks, query_columns}
 use Rattle.sql_check_parts.specs.Rules.{broken, least}
-use Rattle.sql_check_parts.specs.Scopes.{Columns, Tables, columns_of, is_among, is_empty, kind_among, repeats, same_text}
+use Rattle.vtl_text.specs.Texts.{same_text}
+use Rattle.sql_check_parts.specs.Scopes.{Columns, Tables, columns_of, is_among, is_empty, kind_among, repeats}
+use Rattle.sql_check_parts.specs.declared.rules.SqlRule.{SqlRule}
+use Rattle.sql_check_parts.specs.declared.rules.SqlRule.TheVariants as rule
 
 -- ---- SET
 
@@ -26,9 +29,9 @@ use Rattle.sql_check_parts.specs.Scopes.{Columns, Tables, columns_of, is_among, 
 abbrev pub scale_written : Text → Option ℤ
 scale_written digits = integer_written (record { scale = 0; rounding = rounding.Down }) digits
 
--- the scale is at most 9 (6)
-abbrev pub setting_breaks : Text → List ℕ
-setting_breaks digits = broken ((6, not (lies_between (pos 0) (pos 9) (scale_written digits))) ∷ [])
+-- the scale is at most 9
+abbrev pub setting_breaks : Text → List SqlRule
+setting_breaks digits = broken ((rule.UnfitLiteral, not (lies_between (pos 0) (pos 9) (scale_written digits))) ∷ [])
 
 abbrev pub scale_of : Option ℤ → ℕ
 scale_of (Some n) = unsigned_abs n
@@ -61,13 +64,17 @@ codes_fit key c = is_empty c.codes || (is_text c.kind && is_among c.name key && 
 abbrev pub is_taken : Tables → Text → Bool
 is_taken tables name = is_among name (keys_of tables)
 
--- An input has a name of its own that is a word (2); its columns have different names, and the key is of them (4); codes stand
--- where they may, and there are at most 64 columns (12).
-abbrev pub input_breaks : Tables → SqlInput → List ℕ
+-- the most columns of an input
+abbrev pub most_input_columns : ℕ
+most_input_columns = 64
+
+-- An input has a name of its own that is a word; its columns have different names, and the key is of them; codes stand where they
+-- may, and there are not too many columns.
+abbrev pub input_breaks : Tables → SqlInput → List SqlRule
 input_breaks tables s =
-    broken ((2, is_taken tables s.name || not (is_word s.name))
-    ∷ (4, repeats (keys_of (input_columns s)) || not (names_fit (input_columns s) s.key))
-    ∷ (12, list_any (λ c. not (codes_fit s.key c)) s.columns || nat_lt 64 (length s.columns)) ∷ [])
+    broken ((rule.MisnamedTable, is_taken tables s.name || not (is_word s.name))
+    ∷ (rule.MisnamedColumn, repeats (keys_of (input_columns s)) || not (names_fit (input_columns s) s.key))
+    ∷ (rule.CodesOrCount, list_any (λ c. not (codes_fit s.key c)) s.columns || nat_lt most_input_columns (length s.columns)) ∷ [])
 
 -- ---- EXPORT
 
@@ -76,19 +83,18 @@ abbrev pub order_fits : Option Columns → List Text → Bool
 order_fits None names = true
 order_fits (Some columns) names = names_fit columns names
 
--- An exported table is known (1), is exported once and has a name that is a word (2), and is ordered by columns of it, each once
--- (4).
-abbrev pub export_breaks : Tables → List Text → SqlExport → List ℕ
+-- An exported table is known, is exported once and has a name that is a word, and is ordered by columns of it, each once.
+abbrev pub export_breaks : Tables → List Text → SqlExport → List SqlRule
 export_breaks tables exported s =
-    broken ((1, is_none (columns_of tables s.name))
-    ∷ (2, is_among s.name exported || not (is_word s.name))
-    ∷ (4, not (order_fits (columns_of tables s.name) s.order)) ∷ [])
+    broken ((rule.UnknownTable, is_none (columns_of tables s.name))
+    ∷ (rule.MisnamedTable, is_among s.name exported || not (is_word s.name))
+    ∷ (rule.MisnamedColumn, not (order_fits (columns_of tables s.name) s.order)) ∷ [])
 
 -- ---- CREATE
 
--- a created table has a name of its own (2)
-abbrev pub create_breaks : Settings → Tables → Text → QueryTree → List ℕ
-create_breaks p tables name q = broken ((2, is_taken tables name) ∷ []) ++ query_breaks p tables q
+-- a created table has a name of its own
+abbrev pub create_breaks : Settings → Tables → Text → QueryTree → List SqlRule
+create_breaks p tables name q = broken ((rule.MisnamedTable, is_taken tables name) ∷ []) ++ query_breaks p tables q
 
 -- ---- scripts
 
@@ -107,7 +113,7 @@ abbrev pub with_export : Given → Text → Given
 with_export given name = record { tables = given.tables; exported = insert_key same_text given.exported name }
 
 -- SET stands first alone
-abbrev pub statement_breaks : Settings → Given → StatementTree → List ℕ
+abbrev pub statement_breaks : Settings → Given → StatementTree → List SqlRule
 statement_breaks p given (tree.setting digits rounding) = []
 statement_breaks p given (tree.input s) = input_breaks given.tables s
 statement_breaks p given (tree.create name q) = create_breaks p given.tables name q
@@ -119,13 +125,13 @@ after given (tree.input s) = with_table given s.name (input_columns s)
 after given (tree.create name q) = with_table given name (query_columns given.tables q)
 after given (tree.export s) = with_export given s.name
 
--- the number of a statement and a rule
+-- the number of a statement, and a rule
 abbrev pub Fault : Type 0
-Fault = ℕ × ℕ
+Fault = ℕ × SqlRule
 
 -- the fault of a statement that breaks a rule, or that of the rest
-abbrev pub fault_or : ℕ → Option ℕ → Option Fault → Option Fault
-fault_or n (Some rule) rest = Some (n, rule)
+abbrev pub fault_or : ℕ → Option SqlRule → Option Fault → Option Fault
+fault_or n (Some r) rest = Some (n, r)
 fault_or n None rest = rest
 
 -- statements from the n-th on

@@ -1,5 +1,5 @@
 -- Windows: the columns that they name, the kinds that they take and give, and what they ask for.
-use Rattle.std.specs.Prelude.{ℕ, pos, Bool, true, false, not, ◌&&◌, ◌||◌, List, [], ◌∷◌, ◌++◌, Option, Some, None, is_some, if◌then◌else◌}
+use Rattle.std.specs.Prelude.{pos, Bool, true, false, not, ◌&&◌, ◌||◌, List, [], ◌∷◌, ◌++◌, Option, Some, None, is_some, if◌then◌else◌}
 use Rattle.std.specs.List.{flat_map}
 use Rattle.std.specs.Option.{is_none}
 use Rattle.vtl_decimal.specs.Settings.{Settings}
@@ -7,7 +7,7 @@ use Rattle.vtl_cell.specs.ScalarKinds.{meets}
 use Rattle.vtl_cell.specs.declared.kind.Kind.{Kind}
 use Rattle.vtl_cell.specs.declared.kind.Kind.TheVariants as k
 use Rattle.vtl_kinds.specs.Aggregates.{aggregate_kind, number_of}
-use Rattle.vtl_kinds.specs.Literals.{integer_written, lies_between, most_points}
+use Rattle.vtl_kinds.specs.Literals.{integer_written, lies_between, longest_reach}
 use Rattle.sql_tree.specs.Trees.{Text}
 use Rattle.sql_tree.specs.declared.parts.Column.{Column}
 use Rattle.sql_tree.specs.declared.parts.Literal.{Literal}
@@ -23,6 +23,8 @@ use Rattle.sql_tree.specs.declared.word_groups.ValueFunction.TheVariants as valu
 use Rattle.sql_check_parts.specs.Literals.{has_no_value, literal_kind}
 use Rattle.sql_check_parts.specs.Rules.{broken}
 use Rattle.sql_check_parts.specs.Scopes.{Grouping, Scope, column_in, column_kind, is_empty, is_grouped_by, or_null}
+use Rattle.sql_check_parts.specs.declared.rules.SqlRule.{SqlRule}
+use Rattle.sql_check_parts.specs.declared.rules.SqlRule.TheVariants as rule
 
 -- ---- columns
 
@@ -31,9 +33,9 @@ abbrev pub is_ungrouped : Option Grouping → Column → Bool
 is_ungrouped None c = false
 is_ungrouped (Some group) c = not (is_grouped_by group c)
 
--- a column: it is known (3), and in a group one of GROUP BY (8)
-abbrev pub column_breaks : Scope → Option Grouping → Column → List ℕ
-column_breaks s g c = broken ((3, is_none (column_in s c)) ∷ (8, is_ungrouped g c) ∷ [])
+-- a column: it is known, and in a group one of GROUP BY
+abbrev pub column_breaks : Scope → Option Grouping → Column → List SqlRule
+column_breaks s g c = broken ((rule.UnknownColumn, is_none (column_in s c)) ∷ (rule.OutsideGroup, is_ungrouped g c) ∷ [])
 
 -- ---- calls
 
@@ -44,11 +46,11 @@ argument (call.Value f c) = c ∷ []
 argument (call.Shift f c rows default) = c ∷ []
 argument call.Rank = []
 
-abbrev pub key_breaks : Scope → Option Grouping → WindowKey → List ℕ
+abbrev pub key_breaks : Scope → Option Grouping → WindowKey → List SqlRule
 key_breaks s g key = column_breaks s g key.column
 
 -- the columns of a window
-abbrev pub columns_break : Scope → Option Grouping → Window → List ℕ
+abbrev pub columns_break : Scope → Option Grouping → Window → List SqlRule
 columns_break s g w = flat_map (column_breaks s g) (argument w.call) ++ flat_map (column_breaks s g) w.over.partition ++ flat_map (key_breaks s g) w.over.order
 
 abbrev pub value_kind : ValueFunction → Kind → Option Kind
@@ -73,9 +75,9 @@ window_kind s w = or_null (call_kind s w.call)
 
 -- ---- literals
 
--- a number of rows, from 0 to 1,000,000
+-- a number of rows, as far as a frame or an offset may reach
 abbrev pub is_row_count : Settings → Text → Bool
-is_row_count p digits = lies_between (pos 0) most_points (integer_written p digits)
+is_row_count p digits = lies_between (pos 0) longest_reach (integer_written p digits)
 
 abbrev pub default_fits : Settings → Option Literal → Bool
 default_fits p None = true
@@ -119,8 +121,8 @@ order_misplaced other keys = false
 abbrev pub is_misplaced : Option Grouping → Window → Bool
 is_misplaced g w = is_some g || (frame_misplaced w.call w.over.frame || order_misplaced w.call w.over.order)
 
--- A window: its columns, the kind of the call's column (5), its literals (6), and whether it stands in no group, with the frame
--- and the order that its call asks for (9).
-abbrev pub window_breaks : Settings → Scope → Option Grouping → Window → List ℕ
+-- A window: its columns, the kind of the call's column, its literals, and whether it stands in no group, with the frame
+-- and the order that its call asks for.
+abbrev pub window_breaks : Settings → Scope → Option Grouping → Window → List SqlRule
 window_breaks p s g w =
-    columns_break s g w ++ broken ((5, is_none (call_kind s w.call)) ∷ (6, not (literals_fit p w)) ∷ (9, is_misplaced g w) ∷ [])
+    columns_break s g w ++ broken ((rule.UnfitKind, is_none (call_kind s w.call)) ∷ (rule.UnfitLiteral, not (literals_fit p w)) ∷ (rule.MisplacedWindow, is_misplaced g w) ∷ [])

@@ -9,8 +9,7 @@ use indexmap::IndexMap;
 use std::alloc::{AllocError, Global};
 use std::marker::Model;
 use vtl_cell::Kind;
-use vtl_text::Txt;
-use vtl_tree::are_distinct;
+use vtl_text::{Txt, are_distinct};
 
 /// The columns of a table. A contract sees the list of their names with their kinds.
 #[derive(Drop)]

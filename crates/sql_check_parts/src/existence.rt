@@ -1,17 +1,17 @@
 // EXISTS.
 ghost use Rattle.std.specs.List.{flat_map};
 ghost use Rattle.std.specs.Prelude.{◌≡◌, ◌&&◌, not, option_and_then, IfOk};
-ghost use Rattle.sql_check_parts.specs.Exists.{equality_breaks, exists_breaks, inner_of, is_inner, is_tie, kind_inside, same_kind, same_side, side_breaks};
+ghost use Rattle.sql_check_parts.specs.Exists.{equality_breaks, exists_breaks, inner_of, is_inner, is_tie, kind_inside, same_side, side_breaks};
 ghost use Rattle.sql_check_parts.specs.Rules.{least};
 ghost use Rattle.sql_check_parts.specs.Scopes.{kind_among};
 ghost use Rattle.sql_check_parts.specs.Windows.{is_ungrouped};
 
 use crate::scope::is_ungrouped;
-use crate::{Columns, Grouping, Scope, Tables, least_broken, lesser, or_null};
+use crate::{Columns, Grouping, Scope, SqlRule, Tables, Test, least_broken, lesser, or_null};
 use sql_tree::{Column, Equality, Source};
 use std::alloc::AllocError;
 use std::marker::Model;
-use vtl_cell::Kind;
+use vtl_cell::{Kind, is_same_kind};
 use vtl_text::Txt;
 
 // The source of EXISTS: its alias, and the columns of its table, if there is one.
@@ -84,27 +84,21 @@ fn side_fault(
     group: &Option<Grouping>,
     inner: &InnerSource,
     column: &Column,
-) -> Result<Option<u8>, AllocError>
+) -> Result<Option<SqlRule>, AllocError>
     ensures { IfOk result (λ fault. fault ≡ least (side_breaks scope.now group.now inner.now column.now)) }
 {
     let is_unknown = kind_inside(scope, inner, column).is_none();
     let ungrouped = is_outer_ungrouped(group, inner, column)?;
-    Ok(least_broken(&[(3, is_unknown), (8, ungrouped)]))
-}
-
-fn same_kind(a: Kind, b: Kind) -> bool
-    ensures { result ≡ same_kind a b }
-{
-    match (a, b) {
-        (Kind::Null, Kind::Null) => true,
-        (Kind::Bool, Kind::Bool) => true,
-        (Kind::Int, Kind::Int) => true,
-        (Kind::Num, Kind::Num) => true,
-        (Kind::Text, Kind::Text) => true,
-        (Kind::Day, Kind::Day) => true,
-        (Kind::Period, Kind::Period) => true,
-        _ => false,
-    }
+    Ok(least_broken(&[
+        Test {
+            rule: SqlRule::UnknownColumn,
+            is_broken: is_unknown,
+        },
+        Test {
+            rule: SqlRule::OutsideGroup,
+            is_broken: ungrouped,
+        },
+    ]))
 }
 
 // Whether an equality is of one column of the inner source and one of an outer source, and of one kind.
@@ -114,7 +108,7 @@ fn is_tie(scope: &Scope, inner: &InnerSource, equality: &Equality) -> bool
     let left = or_null(kind_inside(scope, inner, &equality.left));
     let right = or_null(kind_inside(scope, inner, &equality.right));
     let apart = is_inner(inner, &equality.left) != is_inner(inner, &equality.right);
-    apart && same_kind(left, right)
+    apart && is_same_kind(left, right)
 }
 
 #[tactic(auto, using(crate::proofs::Least::least_append))]
@@ -123,12 +117,15 @@ fn equality_fault(
     group: &Option<Grouping>,
     inner: &InnerSource,
     equality: &Equality,
-) -> Result<Option<u8>, AllocError>
+) -> Result<Option<SqlRule>, AllocError>
     ensures { IfOk result (λ fault. fault ≡ least (equality_breaks scope.now group.now inner.now equality.now)) }
 {
     let left = side_fault(scope, group, inner, &equality.left)?;
     let right = side_fault(scope, group, inner, &equality.right)?;
-    let tie = least_broken(&[(11, !is_tie(scope, inner, equality))]);
+    let tie = least_broken(&[Test {
+        rule: SqlRule::UntiedEquality,
+        is_broken: !is_tie(scope, inner, equality),
+    }]);
     Ok(lesser(lesser(left, right), tie))
 }
 
@@ -138,7 +135,7 @@ fn equalities_fault(
     group: &Option<Grouping>,
     inner: &InnerSource,
     equalities: &[Equality],
-) -> Result<Option<u8>, AllocError>
+) -> Result<Option<SqlRule>, AllocError>
     ensures { IfOk result (λ fault. fault ≡ least (flat_map (equality_breaks scope.now group.now inner.now) equalities.now)) }
 {
     let mut least = None;
@@ -156,11 +153,14 @@ pub fn exists(
     group: &Option<Grouping>,
     source: &Source,
     equalities: &[Equality],
-) -> Result<Option<u8>, AllocError>
+) -> Result<Option<SqlRule>, AllocError>
     ensures { IfOk result (λ fault. fault ≡ least (exists_breaks tables.now scope.now group.now source.now equalities.now)) }
 {
     let inner = inner_of(tables, source);
-    let unknown = least_broken(&[(1, inner.columns.is_none())]);
+    let unknown = least_broken(&[Test {
+        rule: SqlRule::UnknownTable,
+        is_broken: inner.columns.is_none(),
+    }]);
     let rest = equalities_fault(scope, group, &inner, equalities)?;
     Ok(lesser(unknown, rest))
 }

@@ -1,5 +1,11 @@
-//! Typing of the SQL dialect as a definition, and the parts of it that look at no expression's operands: names, literals,
-//! windows and EXISTS.
+//! The typing of the SQL dialect as one definition, and the parts of it that look at no expression's operands:
+//! names, literals, windows, EXISTS.
+//!
+//! Of each part the definition gives the rules that it breaks, each a test of its own; the fault is the least of
+//! them. What has no kind counts as null. Tables, columns and sources by name stand here for the crates above.
+//! It goes down no expression, and knows nothing of VTL's structures: the kinds of both languages are in
+//! `vtl_kinds`.
+//! Begin with specs/Rules.antt, then Expressions.antt, Queries.antt and Statements.antt.
 #![tactic(auto)]
 
 mod columns;
@@ -18,7 +24,7 @@ pub use existence::exists;
 pub use grouping::Grouping;
 pub use literals::{constant, constant_value, list_fault, literal_value, literals_fit};
 pub use operators::{aggregate, call, case, condition_fault, operator};
-pub use rules::{least_broken, lesser};
+pub use rules::{SqlRule, Test, least_broken, lesser};
 pub use scope::{Scope, column};
 pub use tables::Tables;
 pub use typed::{Typed, or_null};

@@ -9,7 +9,7 @@ ghost use Rattle.sql_check_parts.specs.Rules.{least};
 ghost use Rattle.sql_check_parts.specs.Typed.{IsTyped};
 
 use crate::operators::operator_kind;
-use crate::{Typed, least_broken};
+use crate::{SqlRule, Test, Typed, least_broken};
 use sql_tree::{Constant, Literal, Numeral, SqlExpr};
 use std::alloc::{AllocError, Global};
 use vtl_cell::{Cell, Kind, ScalarOp};
@@ -75,7 +75,10 @@ pub fn constant(alloc: Global, profile: &Profile, constant: &Constant) -> Result
     let value = constant_value(alloc, profile, constant)?;
     Ok(Typed {
         kind: constant_kind(constant),
-        fault: least_broken(&[(6, value.is_none())]),
+        fault: least_broken(&[Test {
+            rule: SqlRule::UnfitLiteral,
+            is_broken: value.is_none(),
+        }]),
     })
 }
 
@@ -156,13 +159,22 @@ pub fn list_fault(
     profile: &Profile,
     kind: Kind,
     literals: &[Literal],
-) -> Result<Option<u8>, AllocError>
+) -> Result<Option<SqlRule>, AllocError>
     ensures { IfOk result (λ fault. fault ≡ least (list_breaks profile.now kind literals.now)) }
 {
     let kinds = member_kinds(alloc, kind, literals)?;
     let given = operator_kind(alloc, ScalarOp::In, &kinds)?;
     let no_value = any_has_no_value(alloc, profile, literals)?;
-    Ok(least_broken(&[(5, given.is_none()), (6, no_value)]))
+    Ok(least_broken(&[
+        Test {
+            rule: SqlRule::UnfitKind,
+            is_broken: given.is_none(),
+        },
+        Test {
+            rule: SqlRule::UnfitLiteral,
+            is_broken: no_value,
+        },
+    ]))
 }
 
 // The integer that an expression is, without a sign.

@@ -10,7 +10,7 @@ ghost use Rattle.sql_check_parts.specs.Rules.{least};
 ghost use Rattle.sql_check_parts.specs.Scopes.{or_null};
 ghost use Rattle.sql_check_parts.specs.Typed.{IsTyped};
 
-use crate::{Grouping, Typed, least_broken, literals_fit, or_null};
+use crate::{Grouping, SqlRule, Test, Typed, least_broken, literals_fit, or_null};
 use sql_tree::SqlExpr;
 use std::alloc::{AllocError, Global};
 use vtl_cell::{AggKind, Kind, ScalarOp};
@@ -38,7 +38,10 @@ pub fn operator(alloc: Global, op: ScalarOp, kinds: &[Kind]) -> Result<Typed, Al
     let kind = operator_kind(alloc, op, kinds)?;
     Ok(Typed {
         kind: or_null(kind),
-        fault: least_broken(&[(5, kind.is_none())]),
+        fault: least_broken(&[Test {
+            rule: SqlRule::UnfitKind,
+            is_broken: kind.is_none(),
+        }]),
     })
 }
 
@@ -56,7 +59,16 @@ pub fn call(
     let fit = literals_fit(profile, function, operands);
     Ok(Typed {
         kind: or_null(kind),
-        fault: least_broken(&[(5, kind.is_none()), (6, !fit)]),
+        fault: least_broken(&[
+            Test {
+                rule: SqlRule::UnfitKind,
+                is_broken: kind.is_none(),
+            },
+            Test {
+                rule: SqlRule::UnfitLiteral,
+                is_broken: !fit,
+            },
+        ]),
     })
 }
 
@@ -67,7 +79,16 @@ pub fn aggregate(function: AggKind, kind: Kind, group: &Option<Grouping>) -> Typ
     let given = aggregate_kind(function, kind);
     Typed {
         kind: or_null(given),
-        fault: least_broken(&[(5, given.is_none()), (8, group.is_none())]),
+        fault: least_broken(&[
+            Test {
+                rule: SqlRule::UnfitKind,
+                is_broken: given.is_none(),
+            },
+            Test {
+                rule: SqlRule::OutsideGroup,
+                is_broken: group.is_none(),
+            },
+        ]),
     }
 }
 
@@ -78,13 +99,19 @@ pub fn case(kinds: &[Kind]) -> Typed
     let kind = common_kind(kinds);
     Typed {
         kind: or_null(kind),
-        fault: least_broken(&[(5, kind.is_none())]),
+        fault: least_broken(&[Test {
+            rule: SqlRule::UnfitKind,
+            is_broken: kind.is_none(),
+        }]),
     }
 }
 
 /// A condition of a kind.
-pub fn condition_fault(kind: Kind) -> Option<u8>
+pub fn condition_fault(kind: Kind) -> Option<SqlRule>
     ensures { result ≡ least (condition_breaks kind) }
 {
-    least_broken(&[(5, !meets(Kind::Bool, kind))])
+    least_broken(&[Test {
+        rule: SqlRule::UnfitKind,
+        is_broken: !meets(Kind::Bool, kind),
+    }])
 }

@@ -2,11 +2,12 @@
 ghost use Rattle.std.specs.Map.{keys_of, lookup};
 ghost use Rattle.std.specs.Option.{option_copied};
 ghost use Rattle.std.specs.Prelude.{◌≡◌, [], IfOk, OnOk};
-ghost use Rattle.sql_check_parts.specs.Scopes.{add_source, column_in, column_kind, is_among, same_text};
+ghost use Rattle.vtl_text.specs.Texts.{same_text};
+ghost use Rattle.sql_check_parts.specs.Scopes.{add_source, column_in, column_kind, is_among};
 ghost use Rattle.sql_check_parts.specs.Typed.{IsTyped};
 ghost use Rattle.sql_check_parts.specs.Windows.{column_breaks, is_ungrouped};
 
-use crate::{Columns, Grouping, Typed, least_broken, or_null};
+use crate::{Columns, Grouping, SqlRule, Test, Typed, least_broken, or_null};
 use indexmap::IndexMap;
 use sql_tree::Column;
 use std::alloc::{AllocError, Global};
@@ -95,6 +96,15 @@ pub fn column(scope: &Scope, group: &Option<Grouping>, column: &Column) -> Resul
     let ungrouped = is_ungrouped(group, column)?;
     Ok(Typed {
         kind: or_null(kind),
-        fault: least_broken(&[(3, kind.is_none()), (8, ungrouped)]),
+        fault: least_broken(&[
+            Test {
+                rule: SqlRule::UnknownColumn,
+                is_broken: kind.is_none(),
+            },
+            Test {
+                rule: SqlRule::OutsideGroup,
+                is_broken: ungrouped,
+            },
+        ]),
     })
 }

@@ -2,6 +2,7 @@
 ghost use Rattle.std.specs.Prelude.{◌≡◌};
 ghost use Rattle.sql_check_parts.specs.Scopes.{or_null};
 
+use crate::SqlRule;
 use vtl_cell::Kind;
 
 /// The kind of an expression, and the least of the rules that it breaks.
@@ -10,7 +11,7 @@ pub struct Typed {
     /// The kind; that of null where there is none, since a rule is broken then.
     pub kind: Kind,
     /// The least of the rules that are broken, if any is.
-    pub fault: Option<u8>,
+    pub fault: Option<SqlRule>,
 }
 
 /// A kind, or that of null where there is none.

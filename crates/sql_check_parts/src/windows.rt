@@ -7,12 +7,12 @@ ghost use Rattle.sql_check_parts.specs.Typed.{IsTyped};
 ghost use Rattle.sql_check_parts.specs.Windows.{argument, bound_fits, call_fits, call_kind, column_breaks, columns_break, default_fits, frame_fits, frame_misplaced, is_framed, is_misplaced, is_row_count, key_breaks, literals_fit, order_misplaced, shift_kind, value_kind, window_breaks, window_kind};
 
 use crate::literals::{has_no_value, literal_kind};
-use crate::{Grouping, Scope, Typed, column, least_broken, lesser, or_null};
+use crate::{Grouping, Scope, SqlRule, Test, Typed, column, least_broken, lesser, or_null};
 use sql_tree::{Bound, Column, Frame, Literal, ValueFunction, Window, WindowCall, WindowKey};
 use std::alloc::{AllocError, Global};
 use vtl_cell::Kind;
 use vtl_decimal::Profile;
-use vtl_kinds::{MOST_POINTS, aggregate_kind, integer_written, lies_between, meets, number_of};
+use vtl_kinds::{LONGEST_REACH, aggregate_kind, integer_written, lies_between, meets, number_of};
 use vtl_text::Txt;
 
 // ---- columns
@@ -21,7 +21,7 @@ fn column_fault(
     scope: &Scope,
     group: &Option<Grouping>,
     name: &Column,
-) -> Result<Option<u8>, AllocError>
+) -> Result<Option<SqlRule>, AllocError>
     ensures { IfOk result (λ fault. fault ≡ least (column_breaks scope.now group.now name.now)) }
 {
     Ok(column(scope, group, name)?.fault)
@@ -33,7 +33,7 @@ pub fn columns_fault(
     scope: &Scope,
     group: &Option<Grouping>,
     columns: &[Column],
-) -> Result<Option<u8>, AllocError>
+) -> Result<Option<SqlRule>, AllocError>
     ensures { IfOk result (λ fault. fault ≡ least (flat_map (column_breaks scope.now group.now) columns.now)) }
 {
     let mut least = None;
@@ -48,7 +48,7 @@ fn keys_fault(
     scope: &Scope,
     group: &Option<Grouping>,
     keys: &[WindowKey],
-) -> Result<Option<u8>, AllocError>
+) -> Result<Option<SqlRule>, AllocError>
     ensures { IfOk result (λ fault. fault ≡ least (flat_map (key_breaks scope.now group.now) keys.now)) }
 {
     let mut least = None;
@@ -63,7 +63,7 @@ fn argument_fault(
     scope: &Scope,
     group: &Option<Grouping>,
     call: &WindowCall,
-) -> Result<Option<u8>, AllocError>
+) -> Result<Option<SqlRule>, AllocError>
     ensures { IfOk result (λ fault. fault ≡ least (flat_map (column_breaks scope.now group.now) (argument call.now))) }
 {
     match call {
@@ -79,7 +79,7 @@ fn window_columns_fault(
     scope: &Scope,
     group: &Option<Grouping>,
     window: &Window,
-) -> Result<Option<u8>, AllocError>
+) -> Result<Option<SqlRule>, AllocError>
     ensures { IfOk result (λ fault. fault ≡ least (columns_break scope.now group.now window.now)) }
 {
     let argument = argument_fault(scope, group, &window.call)?;
@@ -132,7 +132,7 @@ fn call_kind(scope: &Scope, call: &WindowCall) -> Option<Kind>
 fn is_row_count(profile: &Profile, digits: &Txt) -> bool
     ensures { result ≡ is_row_count profile.now digits.now }
 {
-    lies_between(0, MOST_POINTS, integer_written(profile, digits))
+    lies_between(0, LONGEST_REACH, integer_written(profile, digits))
 }
 
 fn default_fits(
@@ -254,9 +254,18 @@ pub fn window(
     let kind = call_kind(scope, &window.call);
     let fits = literals_fit(alloc, profile, window)?;
     let own = least_broken(&[
-        (5, kind.is_none()),
-        (6, !fits),
-        (9, is_misplaced(group, window)),
+        Test {
+            rule: SqlRule::UnfitKind,
+            is_broken: kind.is_none(),
+        },
+        Test {
+            rule: SqlRule::UnfitLiteral,
+            is_broken: !fits,
+        },
+        Test {
+            rule: SqlRule::MisplacedWindow,
+            is_broken: is_misplaced(group, window),
+        },
     ]);
     Ok(Typed {
         kind: or_null(kind),

@@ -9,6 +9,7 @@ use Rattle.sql_tree.specs.Trees.{JoinTree}
 use Rattle.sql_check_parts.specs.Queries.{join_breaks, join_source, joins_break}
 use Rattle.sql_check_parts.specs.Rules.{least, lesser}
 use Rattle.sql_check_parts.specs.Scopes.{Scope, Tables, with_source}
+use Rattle.sql_check_parts.specs.declared.rules.SqlRule.{SqlRule}
 use Rattle.sql_check_parts.proofs.Least.{least_append, least_none, lesser_apart}
 
 -- an item and those behind it
@@ -16,7 +17,7 @@ pub drop_read : {X : Type 0} (xs : List X) (i : ℕ) (x : X) → i < length xs �
 drop_read xs i x h e = drop_more xs i x h ∙ ap (λ y. y ∷ drop (i + 1) xs) (sym e)
 
 -- one more part
-pub part_left : {X Y : Type 0} (f : Y → List ℕ) (view : X → Y) (xs : List X) (i : ℕ) (x : X) (a b : Option ℕ) → i < length xs → x ≡ get_or xs i x → b ≡ least (f (view x))
+pub part_left : {X Y : Type 0} (f : Y → List SqlRule) (view : X → Y) (xs : List X) (i : ℕ) (x : X) (a b : Option SqlRule) → i < length xs → x ≡ get_or xs i x → b ≡ least (f (view x))
     → lesser (lesser a b) (least (flat_map f (map view (drop (i + 1) xs)))) ≡ lesser a (least (flat_map f (map view (drop i xs))))
 part_left f view xs i x a b h e s =
     let rest = least (flat_map f (map view (drop (i + 1) xs))) in
@@ -26,11 +27,11 @@ part_left f view xs i x a b h e s =
     ∙ sym (ap (λ ys. lesser a (least (flat_map f (map view ys)))) (drop_read xs i x h e))
 
 -- no part is left
-pub parts_end : {X Y : Type 0} (f : Y → List ℕ) (view : X → Y) (xs : List X) (i : ℕ) (a : Option ℕ) → length xs ≤ i → lesser a (least (flat_map f (map view (drop i xs)))) ≡ a
+pub parts_end : {X Y : Type 0} (f : Y → List SqlRule) (view : X → Y) (xs : List X) (i : ℕ) (a : Option SqlRule) → length xs ≤ i → lesser a (least (flat_map f (map view (drop i xs)))) ≡ a
 parts_end f view xs i a h = ap (λ ys. lesser a (least (flat_map f (map view ys)))) (drop_all i xs h) ∙ least_none a
 
 -- one more join
-pub join_left : {X : Type 0} (p : Settings) (tables : Tables) (before after : Scope) (view : X → JoinTree) (xs : List X) (i : ℕ) (x : X) (a b : Option ℕ) → i < length xs → x ≡ get_or xs i x
+pub join_left : {X : Type 0} (p : Settings) (tables : Tables) (before after : Scope) (view : X → JoinTree) (xs : List X) (i : ℕ) (x : X) (a b : Option SqlRule) → i < length xs → x ≡ get_or xs i x
     → after ≡ with_source tables before (join_source (view x)) → b ≡ least (join_breaks p tables before (view x))
     → lesser (lesser a b) (least (joins_break p tables after (map view (drop (i + 1) xs)))) ≡ lesser a (least (joins_break p tables before (map view (drop i xs))))
 join_left p tables before after view xs i x a b h e grown s =
@@ -43,7 +44,7 @@ join_left p tables before after view xs i x a b h e grown s =
     ∙ sym (ap (λ ys. lesser a (least (joins_break p tables before (map view ys)))) (drop_read xs i x h e))
 
 -- no join is left
-pub joins_end : {X : Type 0} (p : Settings) (tables : Tables) (before : Scope) (view : X → JoinTree) (xs : List X) (i : ℕ) (a : Option ℕ) → length xs ≤ i → lesser a (least (joins_break p tables before (map view (drop i xs)))) ≡ a
+pub joins_end : {X : Type 0} (p : Settings) (tables : Tables) (before : Scope) (view : X → JoinTree) (xs : List X) (i : ℕ) (a : Option SqlRule) → length xs ≤ i → lesser a (least (joins_break p tables before (map view (drop i xs)))) ≡ a
 joins_end p tables before view xs i a h = ap (λ ys. lesser a (least (joins_break p tables before (map view ys)))) (drop_all i xs h) ∙ least_none a
 
 -- one more that has to pass a test

@@ -1,14 +1,16 @@
 -- What the program tells of the parts of a select, of selects and of queries.
-use Rattle.std.specs.Prelude.{◌≡◌, ◌∷◌, ◌||◌, ◌&&◌, ℕ, [], Bool, true, not, List, Option, Some, map, length, nat_lt}
+use Rattle.std.specs.Prelude.{◌≡◌, ◌∷◌, ◌||◌, ◌&&◌, [], Bool, true, not, List, Option, Some, map, length, nat_lt}
 use Rattle.std.specs.List.{fold, flat_map, list_all, list_any}
 use Rattle.std.specs.Option.{is_none}
 use Rattle.vtl_decimal.specs.Settings.{Settings}
 use Rattle.vtl_cell.specs.declared.kind.Kind.{Kind}
 use Rattle.sql_tree.specs.Trees.{Text, ItemTree, QueryTree, SelectTree}
 use Rattle.sql_check_parts.specs.Expressions.{Site}
-use Rattle.sql_check_parts.specs.Queries.{beside, item_breaks, item_kind, kinds_of, lacks_kind, names_of, parts_break, query_breaks, query_names, same_names, scope_of, select_breaks, shared_kinds, sources_break}
+use Rattle.sql_check_parts.specs.Queries.{beside, item_breaks, item_kind, kinds_of, lacks_kind, most_columns, names_of, parts_break, query_breaks, query_names, same_names, scope_of, select_breaks, shared_kinds, sources_break}
 use Rattle.sql_check_parts.specs.Rules.{broken, least, lesser}
 use Rattle.sql_check_parts.specs.Scopes.{Grouping, Tables, or_null}
+use Rattle.sql_check_parts.specs.declared.rules.SqlRule.{SqlRule}
+use Rattle.sql_check_parts.specs.declared.rules.SqlRule.TheVariants as rule
 use Rattle.sql_check_queries.specs.declared.items.ItemsTyped.{ItemsTyped}
 use Rattle.sql_check_queries.specs.declared.queries.QueryTyped.{QueryTyped}
 use Rattle.sql_check_queries.specs.declared.selects.SelectTyped.{SelectTyped}
@@ -44,11 +46,11 @@ pub record IsFirst (first : SelectTyped) (u : Union) : Type 0 where
   pub fault_is : u.fault ≡ first.fault
 
 -- the rules of a union's columns, where it is known whether the selects have the same names
-abbrev pub columns_breaks : List Text → List (Option Kind) → Bool → List ℕ
+abbrev pub columns_breaks : List Text → List (Option Kind) → Bool → List SqlRule
 columns_breaks names kinds same =
-    broken ((7, not same || list_any is_none kinds)
-    ∷ (10, list_any lacks_kind kinds)
-    ∷ (12, nat_lt 1_024 (length names)) ∷ [])
+    broken ((rule.UnlikeSelects, not same || list_any is_none kinds)
+    ∷ (rule.NullColumn, list_any lacks_kind kinds)
+    ∷ (rule.CodesOrCount, nat_lt most_columns (length names)) ∷ [])
 
 -- a union with selects behind those before
 pub record Grows (p : Settings) (tables : Tables) (selects : List SelectTree) (before : Union) (u : Union) : Type 0 where

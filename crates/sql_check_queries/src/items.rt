@@ -6,7 +6,7 @@ ghost use Rattle.sql_check_parts.specs.Typed.{IsTyped};
 ghost use Rattle.sql_check_queries.specs.Typed.{HasItems};
 
 use sql_check_expressions::{Site, expression};
-use sql_check_parts::{Grouping, Typed, lesser, window};
+use sql_check_parts::{Grouping, SqlRule, Typed, lesser, window};
 use sql_tree::{Item, ItemValue};
 use std::alloc::{AllocError, Global};
 use vtl_cell::Kind;
@@ -16,7 +16,7 @@ use vtl_text::{List, Txt};
 #[derive(Drop)]
 pub(crate) struct ItemsTyped {
     pub(crate) kinds: List<Kind>,
-    pub(crate) fault: Option<u8>,
+    pub(crate) fault: Option<SqlRule>,
 }
 
 fn value(

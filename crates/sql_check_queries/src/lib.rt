@@ -1,4 +1,10 @@
-//! Typing of the SQL dialect's selects and queries: the sources and their joins, groups, items, and the columns of a union.
+//! The typing of the SQL dialect's selects and queries: sources and their joins, groups, items, and the columns of
+//! a union; with the least rule that is broken.
+//!
+//! It builds the scope of each select from the left and asks `sql_check_expressions` for each condition and item;
+//! the columns that a query gives are those that later statements see.
+//! It knows no statement (`sql_check` puts tables in and takes columns out), no rows, and nothing of VTL.
+//! Begin with sql_check_parts/specs/Queries.antt, then specs/Typed.antt.
 #![tactic(auto)]
 
 mod groups;

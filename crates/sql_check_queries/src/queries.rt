@@ -5,7 +5,7 @@ ghost use Rattle.sql_check_queries.specs.Typed.{Grows, IsTypedQuery, IsUnion};
 
 use crate::selects::select;
 use crate::unions::Union;
-use sql_check_parts::Tables;
+use sql_check_parts::{SqlRule, Tables};
 use sql_tree::{Query, Select};
 use std::alloc::{AllocError, Global};
 use vtl_cell::Kind;
@@ -20,7 +20,7 @@ pub struct QueryTyped {
     /// Their kinds; that of null where there is none, since a rule is broken then.
     pub kinds: List<Kind>,
     /// The least of the rules that are broken, if any is.
-    pub fault: Option<u8>,
+    pub fault: Option<SqlRule>,
 }
 
 // The selects behind those before them.

@@ -12,7 +12,9 @@ use crate::groups::groups_of;
 use crate::items::{items, names};
 use crate::sources::{SourcesTyped, sources};
 use sql_check_expressions::{Site, condition};
-use sql_check_parts::{Grouping, Scope, Tables, columns_fault, least_broken, lesser, repeats};
+use sql_check_parts::{
+    Grouping, Scope, SqlRule, Tables, Test, columns_fault, least_broken, lesser, repeats,
+};
 use sql_tree::{Select, SqlExpr};
 use std::alloc::{AllocError, Global};
 use vtl_cell::Kind;
@@ -24,7 +26,7 @@ use vtl_text::{List, Txt};
 pub(crate) struct SelectTyped {
     pub(crate) names: List<Txt>,
     pub(crate) kinds: List<Kind>,
-    pub(crate) fault: Option<u8>,
+    pub(crate) fault: Option<SqlRule>,
 }
 
 #[tactic(auto, unfolding(sql_check_parts::specs::Rules::least))]
@@ -33,7 +35,7 @@ fn maybe_condition(
     at: &Site,
     group: &Option<Grouping>,
     e: &Option<SqlExpr>,
-) -> Result<Option<u8>, AllocError>
+) -> Result<Option<SqlRule>, AllocError>
     ensures { IfOk result (λ fault. fault ≡ least (maybe_condition at.now group.now (option_map expr_tree e.now))) }
 {
     match e {
@@ -44,7 +46,7 @@ fn maybe_condition(
 
 // WHERE and the columns of GROUP BY, which see the rows.
 #[tactic(auto, using(sql_check_parts::proofs::Least::least_append))]
-fn rows_fault(alloc: Global, at: &Site, select: &Select) -> Result<Option<u8>, AllocError>
+fn rows_fault(alloc: Global, at: &Site, select: &Select) -> Result<Option<SqlRule>, AllocError>
     ensures { let s = select_tree select.now in IfOk result (λ fault. fault ≡ least (maybe_condition at.now None s.condition ++ flat_map (column_breaks at.now.scope None) s.group)) }
 {
     let condition = maybe_condition(alloc, at, &None, &select.condition)?;
@@ -69,7 +71,10 @@ fn parts(
     let having = maybe_condition(alloc, &at, &group, &select.having)?;
     let typed = items(alloc, &at, &group, select.items.as_slice())?;
     let names = names(alloc, select.items.as_slice())?;
-    let twice = least_broken(&[(4, repeats(alloc, names.as_slice())?)]);
+    let twice = least_broken(&[Test {
+        rule: SqlRule::MisnamedColumn,
+        is_broken: repeats(alloc, names.as_slice())?,
+    }]);
     let before = lesser(lesser(rows, having), typed.fault);
     Ok(SelectTyped {
         names,

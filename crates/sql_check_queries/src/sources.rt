@@ -8,7 +8,7 @@ ghost use Rattle.sql_check_parts.specs.Scopes.{with_source};
 ghost use Rattle.sql_check_queries.specs.Typed.{HasSources};
 
 use sql_check_expressions::{Site, condition};
-use sql_check_parts::{Scope, Tables, least_broken, lesser};
+use sql_check_parts::{Scope, SqlRule, Tables, Test, least_broken, lesser};
 use sql_tree::{Join, Select, Source};
 use std::alloc::{AllocError, Global};
 use vtl_decimal::Profile;
@@ -17,16 +17,22 @@ use vtl_decimal::Profile;
 #[derive(Drop)]
 pub(crate) struct SourcesTyped<'a> {
     pub(crate) scope: Scope<'a>,
-    pub(crate) fault: Option<u8>,
+    pub(crate) fault: Option<SqlRule>,
 }
 
 // The rules of a source behind others.
-fn source_fault(tables: &Tables, before: &Scope, source: &Source) -> Option<u8>
+fn source_fault(tables: &Tables, before: &Scope, source: &Source) -> Option<SqlRule>
     ensures { result ≡ least (source_breaks tables.now before.now source.now) }
 {
     least_broken(&[
-        (1, tables.columns(&source.table).is_none()),
-        (2, before.has(&source.alias)),
+        Test {
+            rule: SqlRule::UnknownTable,
+            is_broken: tables.columns(&source.table).is_none(),
+        },
+        Test {
+            rule: SqlRule::MisnamedTable,
+            is_broken: before.has(&source.alias),
+        },
     ])
 }
 
@@ -56,7 +62,7 @@ fn join_condition(
     tables: &Tables,
     scope: &Scope,
     join: &Join,
-) -> Result<Option<u8>, AllocError>
+) -> Result<Option<SqlRule>, AllocError>
     ensures { IfOk result (λ fault. fault ≡ least (join_condition (site profile.now tables.now scope.now) (join_tree join.now))) }
 {
     match join {
@@ -75,7 +81,7 @@ fn add_join<'a>(
     tables: &'a Tables,
     scope: &mut Scope<'a>,
     join: &Join,
-) -> Result<Option<u8>, AllocError>
+) -> Result<Option<SqlRule>, AllocError>
     ensures grown { OnOk result (scope.new ≡ with_source tables.now scope.old (join_source (join_tree join.now))) }
     ensures fault { IfOk result (λ fault. fault ≡ least (join_breaks profile.now tables.now scope.old (join_tree join.now))) }
 {
@@ -93,7 +99,7 @@ fn add_joins<'a>(
     tables: &'a Tables,
     scope: &mut Scope<'a>,
     joins: &[Join],
-) -> Result<Option<u8>, AllocError>
+) -> Result<Option<SqlRule>, AllocError>
     ensures grown { OnOk result (scope.new ≡ joined_scope tables.now scope.old (map join_tree joins.now)) }
     ensures fault { IfOk result (λ fault. fault ≡ least (joins_break profile.now tables.now scope.old (map join_tree joins.now))) }
 {

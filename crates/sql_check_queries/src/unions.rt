@@ -9,13 +9,13 @@ ghost use Rattle.sql_check_parts.specs.Scopes.{or_null};
 ghost use Rattle.sql_check_queries.specs.Typed.{columns_breaks, IsFirst};
 
 use crate::selects::SelectTyped;
-use sql_check_parts::{least_broken, lesser, or_null};
+use sql_check_parts::{SqlRule, Test, least_broken, lesser, or_null};
 use std::alloc::{AllocError, Global};
 use vtl_cell::Kind;
 use vtl_kinds::{is_null_kind, shared_kind};
 use vtl_text::{List, Txt};
 
-const MOST_ITEMS: usize = 1_024;
+const MOST_COLUMNS: usize = 1_024;
 
 /// What is known of the first selects of a query.
 #[derive(Drop)]
@@ -27,7 +27,7 @@ pub(crate) struct Union {
     /// Whether all of them have the names of the first.
     pub(crate) same_names: bool,
     /// The least of the rules that one of them breaks.
-    pub(crate) fault: Option<u8>,
+    pub(crate) fault: Option<SqlRule>,
 }
 
 // The kind that a column shares with one more.
@@ -97,14 +97,23 @@ impl Union {
     }
 
     /// The least of the rules that the selects break, alone and together.
-    pub(crate) fn least_fault(&self) -> Option<u8>
+    pub(crate) fn least_fault(&self) -> Option<SqlRule>
         ensures { result ≡ lesser self.now.fault (least (columns_breaks self.now.names self.now.shared.items self.now.same_names)) }
     {
         let shared = self.shared.as_slice();
         let own = least_broken(&[
-            (7, !self.same_names || any_none(shared)),
-            (10, any_lacks_kind(shared)),
-            (12, self.names.as_slice().len() > MOST_ITEMS),
+            Test {
+                rule: SqlRule::UnlikeSelects,
+                is_broken: !self.same_names || any_none(shared),
+            },
+            Test {
+                rule: SqlRule::NullColumn,
+                is_broken: any_lacks_kind(shared),
+            },
+            Test {
+                rule: SqlRule::CodesOrCount,
+                is_broken: self.names.as_slice().len() > MOST_COLUMNS,
+            },
         ]);
         lesser(self.fault, own)
     }

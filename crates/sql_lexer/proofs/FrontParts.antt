@@ -8,14 +8,14 @@ use Rattle.std.proofs.lemmas.List.{append_cancel_right}
 use Rattle.std.proofs.lemmas.List.Folds.{list_all-append}
 use Rattle.sql_lexer.specs.Lexed.{IsToken, NoToken, Starts, is_white_space}
 use Rattle.sql_lexer.specs.Spelling.{IsDecimal, IsDigits, IsFormed, doubled, quoted, spelled, spelling}
-use Rattle.sql_lexer.specs.Writing.{begins_with}
+use Rattle.vtl_lists.specs.Runs.{begins_with}
 use Rattle.sql_lexer.specs.declared.token.TokenKind.{TokenKind}
 use Rattle.sql_lexer.specs.declared.token.TokenKind.TheVariants as k
 use Rattle.sql_lexer.specs.declared.token.Word.{Word}
 use Rattle.sql_lexer.specs.declared.token.Word.TheVariants as w
 use Rattle.sql_lexer.proofs.Leads.{apostrophe, digit, lead_kind, lead_of, nothing, other, quote, spelled-lead, starts-lead}
 use Rattle.sql_lexer.proofs.Quoting.{doubled-other, doubled-same}
-use Rattle.sql_lexer.proofs.RunParts.{front-same}
+use Rattle.vtl_lists.proofs.Runs.{front-same}
 use Rattle.sql_lexer.proofs.Table.{one-word}
 
 digits-first : (cs rest : List ℕ) → IsDigits cs → begins_with is_ascii_digit (cs ++ rest) ≡ true

@@ -6,7 +6,7 @@ use Rattle.std.proofs.lemmas.Str.{chars-nil, encodes-chars, length-le-encodes}
 use Rattle.sql_lexer.specs.Front.{Run}
 use Rattle.sql_lexer.specs.Lexed.{IsLexed, IsToken, Lexes, NoToken, Starts, is_white_space, at_end, at_fault, behind_space, behind_token}
 use Rattle.sql_lexer.specs.Spelling.{size, spelled}
-use Rattle.sql_lexer.specs.Writing.{begins_with}
+use Rattle.vtl_lists.specs.Runs.{begins_with}
 use Rattle.sql_lexer.specs.declared.token.Token.{Token}
 use Rattle.sql_lexer.specs.declared.token.TokenKind.{TokenKind}
 use Rattle.sql_lexer.proofs.FrontParts.{one-token, spelled-dark, spelled-some}

@@ -5,11 +5,11 @@ use Rattle.std.specs.List.{list_all}
 use Rattle.std.proofs.lemmas.Bool.{and_parts}
 use Rattle.sql_lexer.specs.Lexed.{IsToken, Starts}
 use Rattle.sql_lexer.specs.Spelling.{IsDigits, IsFormed, spelled}
-use Rattle.sql_lexer.specs.Writing.{begins_with}
+use Rattle.vtl_lists.specs.Runs.{begins_with}
 use Rattle.sql_lexer.specs.declared.token.TokenKind.{TokenKind}
 use Rattle.sql_lexer.specs.declared.token.TokenKind.TheVariants as k
 use Rattle.sql_lexer.proofs.Leads.{digit, digit-lead, lead_kind, lead_of, starts-lead}
-use Rattle.sql_lexer.proofs.RunParts.{run-longest, run-same}
+use Rattle.vtl_lists.proofs.Runs.{run-longest, run-same}
 
 lead-digits : (front rest : List ℕ) → 0 < length front → list_all is_ascii_digit front ≡ true → lead_of (front ++ rest) ≡ digit
 lead-digits [] rest some all = absurd (omega arith)

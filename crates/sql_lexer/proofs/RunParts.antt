@@ -8,7 +8,8 @@ use Rattle.std.proofs.lemmas.List.Sums.{prefix_len-le-length}
 use Rattle.std.proofs.lemmas.Str.{IsCharBoundary-from_take, IsUtf8-drop, IsUtf8-from_ascii, encode_ascii, encodes-chars}
 use Rattle.sql_lexer.specs.Front.{Run}
 use Rattle.sql_lexer.specs.Lexed.{is_white_space}
-use Rattle.sql_lexer.specs.Writing.{begins_with}
+use Rattle.vtl_lists.specs.Runs.{begins_with}
+use Rattle.vtl_lists.proofs.Runs.{prefix-passes, prefix-stops}
 use Rattle.sql_lexer.proofs.Texts.{all-ascii, front-chars, tail-utf8}
 
 pub digit-ascii : (c : ℕ) → is_ascii_digit c ≡ true → c < 128
@@ -17,54 +18,7 @@ digit-ascii c e = grind (arith, nat_tests, e)
 pub white-ascii : (c : ℕ) → is_white_space c ≡ true → c < 128
 white-ascii c e = grind (arith, nat_tests, e)
 
--- a front that passes is no longer than one behind which the next character fails
-pub run-longest : (test : ℕ → Bool) (front rest more behind : List ℕ) → front ++ rest ≡ more ++ behind → begins_with test rest ≡ false → list_all test more ≡ true → length more ≤ length front
-run-longest test front rest [] behind e stops all = omega arith
-run-longest test [] rest (m ∷ more) behind e stops all = absurd (false≢true (sym stops ∙ ap (begins_with test) e ∙ (and_parts (test m) (list_all test more) all).0))
-run-longest test (c ∷ front) rest (m ∷ more) behind e stops all =
-    let tails : front ++ rest ≡ more ++ behind = cc e in
-    let le = run-longest test front rest more behind tails stops (and_parts (test m) (list_all test more) all).1 in
-    omega arith
-
--- fronts of one length are one
-pub front-same : (xs ys rest behind : List ℕ) → xs ++ rest ≡ ys ++ behind → length xs ≡ length ys → (xs ≡ ys) × (rest ≡ behind)
-front-same [] [] rest behind e l = (refl, e)
-front-same [] (y ∷ ys) rest behind e l = absurd (omega arith)
-front-same (x ∷ xs) [] rest behind e l = absurd (omega arith)
-front-same (x ∷ xs) (y ∷ ys) rest behind e l =
-    let tails : xs ++ rest ≡ ys ++ behind = cc e in
-    let heads : x ≡ y = cc e in
-    let lengths : length xs ≡ length ys = omega arith in
-    let more = front-same xs ys rest behind tails lengths in
-    let first : xs ≡ ys = more.0 in
-    (cc, more.1)
-
-pub run-same : (test : ℕ → Bool) (xs rest ys behind : List ℕ) → xs ++ rest ≡ ys ++ behind → list_all test xs ≡ true → begins_with test rest ≡ false
-    → list_all test ys ≡ true → begins_with test behind ≡ false → (xs ≡ ys) × (rest ≡ behind)
-run-same test xs rest ys behind e all stops all' stops' =
-    let le = run-longest test xs rest ys behind e stops all' in
-    let ge = run-longest test ys behind xs rest (sym e) stops' all in
-    front-same xs ys rest behind e (omega arith)
-
 -- ---- a run that was counted
-
-prefix-passes : (test : ℕ → Bool) (text : List ℕ) → list_all test (take (prefix_len test text) text) ≡ true
-prefix-passes test [] = refl
-prefix-passes test (c ∷ rest) = elim (cases_Bool (test c)) [
-  | inl e ↦
-      let one : 1 + prefix_len test rest ≡ suc (prefix_len test rest) = omega arith in
-      rw (e, one) (and_from (test c) _ e (prefix-passes test rest))
-  | inr e ↦ rw e refl
-]
-
-prefix-stops : (test : ℕ → Bool) (text : List ℕ) → begins_with test (drop (prefix_len test text) text) ≡ false
-prefix-stops test [] = refl
-prefix-stops test (c ∷ rest) = elim (cases_Bool (test c)) [
-  | inl e ↦
-      let one : 1 + prefix_len test rest ≡ suc (prefix_len test rest) = omega arith in
-      rw (e, one) (prefix-stops test rest)
-  | inr e ↦ rw e e
-]
 
 module _ (test : ℕ → Bool) (ascii : (c : ℕ) → test c ≡ true → c < 128) where
   stops-chars : (rest cs : List ℕ) → encode_utf8_all cs ≡ rest → begins_with test rest ≡ false → begins_with test cs ≡ false

@@ -7,7 +7,8 @@ use Rattle.std.proofs.lemmas.Bool.Decides.{nat_tests}
 use Rattle.std.proofs.lemmas.Str.{encodes-IsAscii}
 use Rattle.sql_lexer.specs.Lexed.{IsLexed, IsToken, Lexes, at_end, behind_token, is_white_space, kinds_of}
 use Rattle.sql_lexer.specs.Spelling.{IsFormed, doubled, quoted, size, spelled, spelling}
-use Rattle.sql_lexer.specs.Writing.{IsApart, IsGap, Written, begins_with, goes_on, is_keyword_character, last_goes_on, more, nothing}
+use Rattle.vtl_lists.specs.Runs.{begins_with}
+use Rattle.sql_lexer.specs.Writing.{IsApart, IsGap, Written, goes_on, is_keyword_character, last_goes_on, more, nothing}
 use Rattle.sql_lexer.specs.declared.token.Token.{Token}
 use Rattle.sql_lexer.specs.declared.token.TokenKind.{TokenKind}
 use Rattle.sql_lexer.specs.declared.token.TokenKind.TheVariants as k

@@ -5,7 +5,7 @@ use Rattle.std.specs.List.{list_all}
 use denote.Ref.{Bor}
 use Rattle.sql_lexer.specs.Lexed.{IsToken, NoToken}
 use Rattle.sql_lexer.specs.Spelling.{doubled, is_name, spelling}
-use Rattle.sql_lexer.specs.Writing.{begins_with}
+use Rattle.vtl_lists.specs.Runs.{begins_with}
 use Rattle.sql_lexer.specs.declared.quotes.Quotes.{Quotes}
 use Rattle.sql_lexer.specs.declared.quotes.Quotes.TheVariants as q
 use Rattle.sql_lexer.specs.declared.token.TokenKind.{TokenKind}

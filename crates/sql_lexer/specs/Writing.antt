@@ -3,16 +3,12 @@
 use Rattle.std.specs.Prelude.{◌≡◌, ◌==◌, ◌&&◌, ◌||◌, nat_le, ℕ, Bool, true, false, List, [], ◌∷◌, ◌++◌}
 use Rattle.std.specs.Char.{is_ascii_digit}
 use Rattle.std.specs.List.{list_all}
+use Rattle.vtl_lists.specs.Runs.{begins_with}
 use Rattle.sql_lexer.specs.Lexed.{is_white_space}
 use Rattle.sql_lexer.specs.Spelling.{IsFormed, spelled, spelling}
 use Rattle.sql_lexer.specs.declared.token.TokenKind.{TokenKind}
 use Rattle.sql_lexer.specs.declared.token.TokenKind.TheVariants as k
 use Rattle.sql_lexer.specs.declared.token.Word.TheVariants as w
-
--- whether the first character of a text passes a test
-abbrev pub begins_with : (ℕ → Bool) → List ℕ → Bool
-begins_with test [] = false
-begins_with test (c ∷ cs) = test c
 
 -- a character of a keyword: A-Z or `_`
 abbrev pub is_keyword_character : ℕ → Bool

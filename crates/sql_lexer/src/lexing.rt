@@ -13,11 +13,11 @@ use vtl_text::List;
 pub struct Lexed {
     /// The tokens, in order.
     pub tokens: List<Token>,
-    /// The place of that byte, if there is one; else the tokens are all of the text.
+    /// The place of that byte, if there is one; otherwise the tokens are all of the text.
     pub fault: Option<usize>,
 }
 
-/// The tokens of `text` before the first byte from which none starts, and that byte. It fails only for want of memory. Its time grows with the length of the text.
+/// The tokens of `text` before the first byte from which none starts, and that byte. It fails only when out of memory. Its time grows with the length of the text.
 pub fn lex(alloc: Global, text: &str) -> Result<Lexed, AllocError>
     ensures { IfOk result (λ lexed. IsLexed text.now lexed.tokens lexed.fault) }
 {

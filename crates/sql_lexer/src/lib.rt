@@ -1,4 +1,10 @@
-//! Tokens of the SQL dialect.
+//! The tokens of the SQL dialect: those of a text before the first byte from which none starts, and a token as
+//! text.
+//!
+//! One function says how a token is spelled, and reading and writing cite it, so that written tokens read back.
+//! Each token is the longest: no word ends a keyword.
+//! It knows no grammar and no types.
+//! Begin with specs/Spelling.antt and specs/Lexed.antt.
 
 #![tactic(auto)]
 

@@ -7,9 +7,10 @@ use Rattle.grammar_forms.proofs.Laws.{pair_of}
 use Rattle.std.proofs.Math.Utf8.{encodes}
 use Rattle.std.proofs.lemmas.Str.{encodes_same}
 use Rattle.std.specs.Cmp.Lexicographic.{pointwise, same_text}
+use Rattle.sql_lexer.specs.Places.{place}
 use Rattle.sql_lexer.specs.declared.token.TokenKind.{TokenKind}
 use Rattle.sql_lexer.specs.declared.token.Word.{Word}
-use Rattle.sql_tree.specs.Classes.{class, place}
+use Rattle.sql_tree.specs.Classes.{class}
 use Rattle.sql_tree.specs.Grammar.{key, of_table}
 use Rattle.sql_parser.specs.Answers.{AnswersBy, item_views, marked, same, vec_items}
 use Rattle.sql_parser.specs.declared.front.Front.{Front}

@@ -2,11 +2,13 @@
 use Rattle.std.specs.Prelude.{◌≡◌, ℕ, List, [], ◌∷◌, map, Option, None, Some, Result, Ok, Err, Vec}
 use Rattle.std.specs.Borrow.{Bor}
 use Rattle.std.specs.declared.alloc.Global.{Global}
-use Rattle.grammar_forms.specs.Forms.{Reads, ◌>>=◌, first_as, gives, lookup, one_of, then_reads}
+use Rattle.vtl_lists.specs.Options.{◌>>=◌}
+use Rattle.grammar_forms.specs.Forms.{Reads, first_as, gives, lookup, one_of, then_reads}
+use Rattle.sql_lexer.specs.Places.{place}
 use Rattle.sql_lexer.specs.declared.token.Token.{Token}
 use Rattle.sql_lexer.specs.declared.token.TokenKind.{TokenKind}
 use Rattle.sql_lexer.specs.declared.token.Word.{Word}
-use Rattle.sql_tree.specs.Classes.{class, place}
+use Rattle.sql_tree.specs.Classes.{class}
 use Rattle.sql_parser.specs.declared.front.Front.{Front}
 use Rattle.sql_parser.specs.declared.front.Unread.{Unread}
 use Rattle.sql_parser.specs.declared.front.Unread.TheVariants as u

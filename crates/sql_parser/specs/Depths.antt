@@ -2,10 +2,11 @@
 use Rattle.std.specs.Prelude.{◌≤◌, ℕ, suc, List, Option, Some, Result, Box}
 use Rattle.std.specs.Borrow.{Bor}
 use Rattle.std.specs.declared.alloc.Global.{Global}
-use Rattle.grammar_forms.specs.Forms.{Deep, deep, deep_one, Reads, gives, limited, ◌>>=◌}
+use Rattle.vtl_lists.specs.Options.{◌>>=◌}
+use Rattle.grammar_forms.specs.Forms.{Deep, deep, deep_one, Reads, gives, limited}
 use Rattle.sql_lexer.specs.declared.token.Token.{Token}
 use Rattle.sql_lexer.specs.declared.token.TokenKind.{TokenKind}
-use Rattle.sql_tree.specs.Grammar.{Place, Whole, Negated, Signed, expr_at}
+use Rattle.sql_tree.specs.Grammar.{Place, Whole, Negated, Signed, expr_at, most_levels}
 use Rattle.sql_tree.specs.Trees.{Exp}
 use Rattle.sql_tree.specs.View.{expr_tree}
 use Rattle.sql_tree.specs.declared.expressions.SqlExpr.{SqlExpr}
@@ -34,7 +35,7 @@ node_reads n e depth rest = limited n e (suc depth) >>= (λ g. gives g rest)
 
 -- the function reads parts of that depth at most
 pub record Nests (budget : ℕ) (pre : placed.Place → Bor (List Token) → Type 0) (post : placed.Place → Bor (List Token) → Result (Front (program.Deep (Box SqlExpr Global))) Unread → Type 0) : Type 0 where
-  pub small : budget ≤ 512
+  pub small : budget ≤ most_levels
   pub callable : (p : placed.Place) (ts : Bor (List Token)) → pre p ts
   pub reads : (p : placed.Place) (ts : Bor (List Token)) (r : Result (Front (program.Deep (Box SqlExpr Global))) Unread) → post p ts r → AnswersBy (deep_view box_tree) ((expr_at budget (place_of p)).reads (kinds ts.now)) r
 

@@ -3,6 +3,7 @@ ghost use Rattle.std.specs.Prelude.{◌≡◌, ◌≤◌, suc};
 ghost use Rattle.grammar_forms.specs.Forms.{deep, gives};
 ghost use Rattle.sql_parser.specs.Answers.{AnswersBy, kinds};
 ghost use Rattle.sql_parser.specs.Depths.{box_tree, deep_view, node_reads};
+ghost use Rattle.sql_tree.specs.Grammar.{most_levels};
 ghost use Rattle.sql_tree.specs.View.{expr_tree};
 
 use crate::front::{Front, Tokens, Unread};
@@ -58,7 +59,7 @@ pub(crate) fn node<'t>(
     depth: usize,
     rest: Tokens<'t>,
 ) -> Result<Node<'t>, Unread>
-    requires { budget ≤ 512 }
+    requires { budget ≤ most_levels }
     ensures { AnswersBy (deep_view box_tree) (node_reads (suc budget) (expr_tree tree) depth (kinds rest.now)) result }
 {
     if depth > budget {
@@ -92,7 +93,7 @@ pub(crate) fn deeper<'t>(
     part: Deep<Box<SqlExpr>>,
     rest: Tokens<'t>,
 ) -> Result<Node<'t>, Unread>
-    requires { budget ≤ 512 }
+    requires { budget ≤ most_levels }
     ensures { AnswersBy (deep_view box_tree) (node_reads (suc budget) (box_tree part.tree) part.depth (kinds rest.now)) result }
 {
     if part.depth > budget {

@@ -1,4 +1,9 @@
-//! Reading scripts of the SQL dialect.
+//! Reads scripts of the SQL dialect: `parse` gives the script that a text is, or its fault, each exactly.
+//!
+//! Each function reads what one form of the grammar reads, and its contract says so; the laws of forms do the rest.
+//! Depth is bounded by a budget of 512.
+//! It knows no types (`sql_check`) and nothing of VTL's own reader.
+//! Begin with specs/Parsed.antt, then src/parsing.rt and src/grammar.rt.
 #![tactic(auto)]
 
 mod conditions;

@@ -39,7 +39,7 @@ impl From<AllocError> for SqlErr {
     }
 }
 
-/// The script that `text` is. It fails exactly where the text is no script, with its fault; and for want of memory. Its time grows with the length of the text.
+/// The script that `text` is. It fails exactly where the text is no script, with its fault; and when out of memory. Its time grows with the length of the text.
 pub fn parse(alloc: Global, text: &str) -> Result<SqlScript, SqlErr>
     ensures answer { MatchResult result (λ script. IsScript text.now (script_tree script)) (λ error. IsFault text.now error) }
     ensures scripts { (script : ScriptTree) → IsScript text.now script → MatchResult result (λ read. script_tree read ≡ script) (λ error. IsMemory error) }

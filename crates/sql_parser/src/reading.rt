@@ -2,7 +2,7 @@
 ghost use Rattle.std.specs.Prelude.{◌≤◌};
 ghost use Rattle.sql_parser.specs.Answers.{AnswersBy, kinds};
 ghost use Rattle.sql_parser.specs.Depths.{box_tree, deep_view, place_of};
-ghost use Rattle.sql_tree.specs.Grammar.{expr, expr_at};
+ghost use Rattle.sql_tree.specs.Grammar.{expr, expr_at, most_levels};
 ghost use Rattle.sql_tree.specs.View.{expr_tree};
 
 use crate::front::{Front, Tokens, Unread};
@@ -17,7 +17,7 @@ fn read<'t>(
     place: Place,
     tokens: Tokens<'t>,
 ) -> Result<Node<'t>, Unread>
-    requires { budget ≤ 512 }
+    requires { budget ≤ most_levels }
     ensures { AnswersBy (deep_view box_tree) ((expr_at budget (place_of place)).reads (kinds tokens.now)) result }
 {
     if budget == 0 {
@@ -28,7 +28,7 @@ fn read<'t>(
         alloc,
         inner,
         move |place, tokens|
-            requires { inner ≤ 512 }
+            requires { inner ≤ most_levels }
             ensures { AnswersBy (deep_view box_tree) ((expr_at inner (place_of place)).reads (kinds tokens.now)) result }
         { read(alloc, inner, place, tokens) },
     );

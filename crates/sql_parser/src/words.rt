@@ -1,9 +1,10 @@
 // Keywords and marks.
 ghost use Rattle.std.specs.Prelude.{◌≡◌, List, None, Some, MatchResult, map, option_map};
 ghost use Rattle.grammar_forms.specs.Forms.{first_as, lookup, maybe, «as»};
+ghost use Rattle.sql_lexer.specs.Places.{place};
 ghost use Rattle.sql_parser.specs.declared.front.Unread.TheVariants as unread;
 ghost use Rattle.sql_parser.specs.Answers.{by_places, front_view, kinds, marked, same};
-ghost use Rattle.sql_tree.specs.Classes.{class, place};
+ghost use Rattle.sql_tree.specs.Classes.{class};
 ghost use Rattle.sql_tree.specs.Grammar.{is_some, key, two_keys};
 
 use crate::front::{Front, Tokens, Unread, next};
@@ -16,16 +17,24 @@ fn place(word: Word) -> u8
     word as u8
 }
 
+const NAME_CLASS: u8 = 200;
+
+const TEXT_CLASS: u8 = 201;
+
+const INT_CLASS: u8 = 202;
+
+const DEC_CLASS: u8 = 203;
+
 // The class of a token: the place of a word, and a number above them all for each kind of other token.
 fn class_of(kind: &TokenKind) -> u8
     ensures { result ≡ class kind.now }
 {
     match kind {
         TokenKind::Word(word) => place(*word),
-        TokenKind::Name(_) => 200,
-        TokenKind::Text(_) => 201,
-        TokenKind::Int(_) => 202,
-        TokenKind::Dec(_) => 203,
+        TokenKind::Name(_) => NAME_CLASS,
+        TokenKind::Text(_) => TEXT_CLASS,
+        TokenKind::Int(_) => INT_CLASS,
+        TokenKind::Dec(_) => DEC_CLASS,
     }
 }
 

@@ -2,6 +2,7 @@
 ghost use Rattle.std.specs.Prelude.{◌≡◌, ◌++◌, ◌∷◌, [], false, map, nat_le, OnOk};
 ghost use Rattle.sql_lexer.specs.declared.token.TokenKind.TheVariants as t;
 ghost use Rattle.sql_lexer.specs.declared.token.Word.TheVariants as w;
+ghost use Rattle.sql_tree.specs.Grammar.{digit_one};
 ghost use Rattle.sql_tree.specs.Printing.{bracketed, level_of, more_exps, wrapped, written, written_branches, written_exps};
 ghost use Rattle.sql_print.specs.Tails.{membership, null_test};
 ghost use Rattle.sql_print.specs.Onto.{branches_onto, exps_onto, onto, part_onto, parted, put};
@@ -191,7 +192,7 @@ fn exists(out: &mut Vec<TokenKind>, from: &Source, items: &[Equality]) -> Printe
 }
 
 fn one(out: &mut Vec<TokenKind>) -> Printed
-    ensures { OnOk result (out.new.items ≡ out.old.items ++ t.Int (49 ∷ []) ∷ []) }
+    ensures { OnOk result (out.new.items ≡ out.old.items ++ t.Int (digit_one ∷ []) ∷ []) }
 {
     let digit = Txt::new(*out.allocator(), "1")?;
     out.push(TokenKind::Int(digit))?;

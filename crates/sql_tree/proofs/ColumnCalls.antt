@@ -3,11 +3,12 @@ use Rattle.std.proofs.Common.{◌≡◌, ◌⊎◌, ◌≤◌, inl, inr, ◌∙�
 use Rattle.std.specs.Prelude.{if◌then◌else◌}
 use Rattle.grammar_forms.specs.Forms.{deep, lookup}
 use Rattle.grammar_forms.proofs.Laws.{some_of}
+use Rattle.sql_lexer.specs.Places.{place}
 use Rattle.sql_lexer.specs.declared.token.TokenKind.{TokenKind}
 use Rattle.sql_lexer.specs.declared.token.Word.TheVariants as w
 use Rattle.vtl_cell.specs.declared.operator.AggKind.{AggKind}
 use Rattle.vtl_cell.specs.declared.operator.AggKind.TheVariants as agg
-use Rattle.sql_tree.specs.Classes.{class, place}
+use Rattle.sql_tree.specs.Classes.{class}
 use Rattle.sql_tree.specs.Trees.{Exp}
 use Rattle.sql_tree.specs.Trees as tree
 use Rattle.sql_tree.specs.Grammar as g

@@ -3,11 +3,12 @@ use Rattle.std.proofs.Common.{◌≡◌, ℕ, zero, suc, true, [], ◌∷◌, Li
 use Rattle.grammar_forms.specs.Forms.{gate, has, apart}
 use Rattle.grammar_forms.proofs.Laws.{Lawful, token-law, words-law, seq-law, made-law, or-law, maybe-law, led-law, absent-law, gate-law, nothing-law, as-law, after-law, before-law}
 use Rattle.grammar_forms.proofs.Chains.{chain-law, listed-law, deep_listed-law}
+use Rattle.sql_lexer.specs.Places.{place}
 use Rattle.sql_lexer.specs.declared.token.TokenKind.{TokenKind}
 use Rattle.sql_lexer.specs.declared.token.TokenKind.TheVariants as t
 use Rattle.sql_lexer.specs.declared.token.Word.{Word}
 use Rattle.sql_lexer.specs.declared.token.Word.TheVariants as w
-use Rattle.sql_tree.specs.Classes.{class, place, name_class, text_class, int_class, dec_class}
+use Rattle.sql_tree.specs.Classes.{class, name_class, text_class, int_class, dec_class}
 use Rattle.sql_tree.specs.Trees.{Text}
 use Rattle.sql_tree.specs.Grammar as g
 use Rattle.sql_tree.specs.Grammar.{SqlForm, Place, Whole, Negated, Signed, Expr, key, name, text, int, dec, one, name_at, text_at, int_at, dec_at, one_at, of_table, in_brackets, commas, items_after, two_keys, starts_of, more_of}

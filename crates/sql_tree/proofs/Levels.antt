@@ -4,11 +4,11 @@ use borrow.Author.Tests.{eq-eqb, le-leb}
 use Rattle.grammar_forms.specs.Forms.{Both, IsMade, Spelling, deep, limited}
 use Rattle.grammar_forms.proofs.Chains.{chain-alone}
 use Rattle.grammar_forms.proofs.Written.{both-of, as-of, after-of, before-of}
+use Rattle.sql_lexer.specs.Places.{place}
 use Rattle.sql_lexer.specs.declared.token.TokenKind.{TokenKind}
 use Rattle.sql_lexer.specs.declared.token.TokenKind.TheVariants as t
 use Rattle.sql_lexer.specs.declared.token.Word.{Word}
 use Rattle.sql_lexer.specs.declared.token.Word.TheVariants as w
-use Rattle.sql_tree.specs.Classes.{place}
 use Rattle.sql_tree.specs.Trees.{Text, Exp}
 use Rattle.sql_tree.specs.Trees as tree
 use Rattle.sql_tree.specs.Grammar as g

@@ -5,6 +5,7 @@ use Rattle.grammar_forms.specs.Forms.{Form, chain, seq, deep, Deep, limited, loo
 use Rattle.grammar_forms.specs.Written.{Each}
 use Rattle.grammar_forms.proofs.Chains.{chain-alone, chain-more}
 use Rattle.grammar_forms.proofs.Written.{both-of, as-of, after-of, before-of, listed-of}
+use Rattle.sql_lexer.specs.Places.{place}
 use Rattle.sql_lexer.specs.declared.token.TokenKind.TheVariants as t
 use Rattle.sql_lexer.specs.declared.token.Word.{Word}
 use Rattle.sql_lexer.specs.declared.token.Word.TheVariants as w
@@ -12,7 +13,6 @@ use Rattle.vtl_cell.specs.declared.operator.ScalarOp.{ScalarOp}
 use Rattle.vtl_cell.specs.declared.operator.ScalarOp.TheVariants as op
 use Rattle.vtl_cell.specs.declared.operator.AggKind.{AggKind}
 use Rattle.vtl_cell.specs.declared.operator.AggKind.TheVariants as agg
-use Rattle.sql_tree.specs.Classes.{place}
 use Rattle.sql_tree.specs.Trees.{Exp, Exps, Branches, exps_of, branches_of, binary, unary, is_null, in_list, constant, column, call, count_all, aggregate, case_when, exists, no_exps, exp, no_branches, branch}
 use Rattle.sql_tree.specs.Grammar as g
 use Rattle.sql_tree.specs.Grammar.{SqlForm, Tokens, Expr, DeepExp, Place, Whole, Negated, Signed, key, of_table, in_brackets, expr_at, joined_by, operator_before, or_ops_table, and_ops_table, add_ops_table, multiply_ops_table, compare_ops_table, signs_table, functions_table, aggregates_table}

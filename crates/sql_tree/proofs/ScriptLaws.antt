@@ -5,8 +5,9 @@ use Rattle.grammar_forms.proofs.Laws.{Lawful, Begins, Stops, pair_of, unread, be
 use Rattle.grammar_forms.proofs.Chains.{chain-law, listed-law}
 use Rattle.grammar_forms.proofs.Scripts.{Closed}
 use Rattle.grammar_forms.proofs.Tests.{clash, has-left}
+use Rattle.sql_lexer.specs.Places.{place}
 use Rattle.sql_lexer.specs.declared.token.Word.TheVariants as w
-use Rattle.sql_tree.specs.Classes.{class, place}
+use Rattle.sql_tree.specs.Classes.{class}
 use Rattle.sql_tree.specs.Trees.{Exp, ValueTree, StatementTree}
 use Rattle.sql_tree.specs.Trees as tree
 use Rattle.sql_tree.specs.Grammar as g

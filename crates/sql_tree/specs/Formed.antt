@@ -8,6 +8,7 @@ use Rattle.vtl_cell.specs.declared.operator.AggKind.{AggKind}
 use Rattle.vtl_cell.specs.declared.operator.AggKind.TheVariants as agg
 use Rattle.vtl_cell.specs.declared.kind.Kind.{Kind}
 use Rattle.vtl_cell.specs.declared.kind.Kind.TheVariants as kind
+use Rattle.sql_tree.specs.Grammar.{most_levels}
 use Rattle.sql_tree.specs.Trees.{Text, Exp, binary, unary, is_null, in_list, constant, column, call, count_all, aggregate, case_when, exists, Exps, no_exps, exp, Branches, no_branches, branch, ValueTree, expression, window, ItemTree, JoinTree, on, cross, SelectTree, QueryTree, StatementTree, setting, input, create, export, ScriptTree}
 use Rattle.sql_tree.specs.declared.parts.Column.{Column}
 use Rattle.sql_tree.specs.declared.parts.Source.{Source}
@@ -253,7 +254,7 @@ IsFormed limit _ = ⊥
 
 -- what the grammar spells
 abbrev pub FormedScript : ScriptTree → Type 0
-FormedScript s = IsFormed 512 s
+FormedScript s = IsFormed most_levels s
 
 -- what `print` writes so that it reads back
 abbrev pub PrintableScript : ScriptTree → Type 0

@@ -1,6 +1,7 @@
 -- The grammar of the dialect, as forms over the kinds of tokens. Above each form stands its production: words in capitals and marks are tokens, `{ }` is any number of times, `[ ]` is optional, `|` is a choice.
 use Rattle.std.specs.Prelude.{ℕ, zero, suc, max, Bool, true, false, List, [], ◌∷◌, ◌++◌, Option, None, Some, nat_eq, if◌then◌else◌}
 use Rattle.grammar_forms.specs.Forms.{Form, Deep, deep, limited, token, words, word, seq, made, «as», after, before, or, led, absent, maybe, maybe_after, chain, listed, deep_listed, deep_one, deep_added, gate, nothing}
+use Rattle.sql_lexer.specs.Places.{place}
 use Rattle.sql_lexer.specs.declared.token.TokenKind.{TokenKind}
 use Rattle.sql_lexer.specs.declared.token.TokenKind.TheVariants as t
 use Rattle.sql_lexer.specs.declared.token.Word.{Word}
@@ -13,7 +14,7 @@ use Rattle.vtl_cell.specs.declared.kind.Kind.{Kind}
 use Rattle.vtl_cell.specs.declared.kind.Kind.TheVariants as kind
 use Rattle.vtl_decimal.specs.declared.settings.Rounding.{Rounding}
 use Rattle.vtl_decimal.specs.declared.settings.Rounding.TheVariants as rounding
-use Rattle.sql_tree.specs.Classes.{class, place, name_class, text_class, int_class, dec_class}
+use Rattle.sql_tree.specs.Classes.{class, name_class, text_class, int_class, dec_class}
 use Rattle.sql_tree.specs.Trees as tree
 use Rattle.sql_tree.specs.Trees.{Text, Exp, exps_of, branches_of, ValueTree, ItemTree, JoinTree, SelectTree, QueryTree, StatementTree, ScriptTree}
 use Rattle.sql_tree.specs.declared.parts.Column.{Column}
@@ -71,9 +72,12 @@ abbrev pub dec_at : TokenKind → Option Text
 dec_at (t.Dec x) = Some x
 dec_at _ = None
 
+abbrev pub digit_one : ℕ
+digit_one = 49
+
 -- the digit 1 alone
 abbrev pub is_one : Text → Option (Unit {0})
-is_one (d ∷ []) = if nat_eq d 49 then Some tt else None
+is_one (d ∷ []) = if nat_eq d digit_one then Some tt else None
 is_one _ = None
 
 abbrev pub one_at : TokenKind → Option (Unit {0})
@@ -418,8 +422,12 @@ inner (suc n) p = at_place (suc n) (λ q. gate (starts_of q) (more_of q) (inner 
 abbrev pub expr_at : ℕ → Place → Expr
 expr_at n p = gate (starts_of p) (more_of p) (inner n p)
 
+-- the most levels of an expression
+abbrev pub most_levels : ℕ
+most_levels = 512
+
 unfoldable pub expr : SqlForm Exp
-expr = «as» (λ g. g.tree) (expr_at 512 Whole)
+expr = «as» (λ g. g.tree) (expr_at most_levels Whole)
 
 -- ---- windows
 

@@ -1,6 +1,6 @@
 -- The tokens that a tree is written with: brackets stand only where the tree needs them.
 use Rattle.std.specs.Prelude.{ℕ, Bool, true, false, List, [], ◌∷◌, ◌++◌, nat_le, Option, None, Some}
-use Rattle.grammar_forms.specs.Forms.{given}
+use Rattle.vtl_lists.specs.Options.{given}
 use Rattle.grammar_forms.specs.Written.{between, run}
 use Rattle.sql_lexer.specs.declared.token.TokenKind.TheVariants as t
 use Rattle.sql_lexer.specs.declared.token.Word.{Word}
@@ -13,7 +13,7 @@ use Rattle.vtl_cell.specs.declared.kind.Kind.{Kind}
 use Rattle.vtl_cell.specs.declared.kind.Kind.TheVariants as kind
 use Rattle.vtl_decimal.specs.declared.settings.Rounding.{Rounding}
 use Rattle.vtl_decimal.specs.declared.settings.Rounding.TheVariants as rounding
-use Rattle.sql_tree.specs.Grammar.{Tokens}
+use Rattle.sql_tree.specs.Grammar.{Tokens, digit_one}
 use Rattle.sql_tree.specs.Trees.{Text, Exp, binary, unary, is_null, in_list, constant, column, call, count_all, aggregate, case_when, exists, Exps, no_exps, exp, Branches, no_branches, branch, ValueTree, expression, window, ItemTree, JoinTree, on, cross, SelectTree, QueryTree, StatementTree, setting, input, create, export, ScriptTree}
 use Rattle.sql_tree.specs.declared.parts.Column.{Column}
 use Rattle.sql_tree.specs.declared.parts.Source.{Source}
@@ -260,7 +260,7 @@ abbrev mutual
   written count_all = t.Word w.Count ∷ bracketed (just w.Star)
   written (aggregate f e) = t.Word (aggregate_word f) ∷ bracketed (written e)
   written (case_when bs e) = t.Word w.Case ∷ (written_branches bs ++ (t.Word w.Else ∷ (written e ++ just w.End)))
-  written (exists s es) = t.Word w.Exists ∷ bracketed (t.Word w.Select ∷ (t.Int (49 ∷ []) ∷ (t.Word w.From ∷ (written_source s ++ written_equalities es))))
+  written (exists s es) = t.Word w.Exists ∷ bracketed (t.Word w.Select ∷ (t.Int (digit_one ∷ []) ∷ (t.Word w.From ∷ (written_source s ++ written_equalities es))))
 
   pub written_exps : Exps → Tokens
   written_exps no_exps = []

@@ -62,17 +62,43 @@ impl Drop for SqlExpr {
     #[cycle(dropped)]
     fn drop(self) {
         match self {
-            SqlExpr::Binary { left: _left, op: _op, right: _right } => {}
-            SqlExpr::Unary { op: _op, operand: _operand } => {}
-            SqlExpr::IsNull { operand: _operand, negated: _negated } => {}
-            SqlExpr::InList { operand: _operand, negated: _negated, literals: _literals } => {}
+            SqlExpr::Binary {
+                left: _left,
+                op: _op,
+                right: _right,
+            } => {}
+            SqlExpr::Unary {
+                op: _op,
+                operand: _operand,
+            } => {}
+            SqlExpr::IsNull {
+                operand: _operand,
+                negated: _negated,
+            } => {}
+            SqlExpr::InList {
+                operand: _operand,
+                negated: _negated,
+                literals: _literals,
+            } => {}
             SqlExpr::Constant(_part0) => {}
             SqlExpr::Column(_part0) => {}
-            SqlExpr::Call { function: _function, operands: _operands } => {}
+            SqlExpr::Call {
+                function: _function,
+                operands: _operands,
+            } => {}
             SqlExpr::CountAll => {}
-            SqlExpr::Aggregate { function: _function, operand: _operand } => {}
-            SqlExpr::Case { branches: _branches, other: _other } => {}
-            SqlExpr::Exists { source: _source, equalities: _equalities } => {}
+            SqlExpr::Aggregate {
+                function: _function,
+                operand: _operand,
+            } => {}
+            SqlExpr::Case {
+                branches: _branches,
+                other: _other,
+            } => {}
+            SqlExpr::Exists {
+                source: _source,
+                equalities: _equalities,
+            } => {}
         }
     }
 }

@@ -3,7 +3,7 @@ ghost use Rattle.std.specs.Prelude.{◌≡◌, ◌≤◌, ◌++◌, ℕ, List, O
 ghost use Rattle.grammar_forms.specs.Scripts.{ScriptSpells, SyntaxFault, WholeScript};
 ghost use Rattle.sql_lexer.specs.declared.token.Token.{Token};
 ghost use Rattle.sql_tree.specs.Depth.{Spelled};
-ghost use Rattle.sql_tree.specs.Grammar.{Tokens, expr, statement_at};
+ghost use Rattle.sql_tree.specs.Grammar.{Tokens, expr, most_levels, statement_at};
 ghost use Rattle.sql_tree.specs.Texts.{kind, start};
 ghost use Rattle.sql_tree.specs.Trees.{Exp, ScriptTree, StatementTree};
 
@@ -22,8 +22,8 @@ pub fn scripts_are_unique()
     ensures apart { (ts : List Token) (bad : Option ℕ) (end : ℕ) (script : ScriptTree) (done byte : ℕ) → WholeScript kind statement_at 1 ts bad script → SyntaxFault kind start statement_at 1 ts bad end done byte → ⊥ }
 {}
 
-/// The expressions of statements are those that some tokens spell without a bound, whose depth is 512 at most.
+/// The expressions of statements are those that some tokens spell without a bound, of at most 512 levels.
 pub fn expressions_are_bounded_by_depth()
-    ensures there { (ts : Tokens) (e : Exp) → expr.spells ts e → (depth : ℕ) × Spelled ts e depth × (depth ≤ 512) }
-    ensures back { (ts : Tokens) (e : Exp) (depth : ℕ) → Spelled ts e depth → depth ≤ 512 → expr.spells ts e }
+    ensures there { (ts : Tokens) (e : Exp) → expr.spells ts e → (depth : ℕ) × Spelled ts e depth × (depth ≤ most_levels) }
+    ensures back { (ts : Tokens) (e : Exp) (depth : ℕ) → Spelled ts e depth → depth ≤ most_levels → expr.spells ts e }
 {}

@@ -1,4 +1,10 @@
-//! The SQL dialect: the trees of its scripts, its grammar, and with which tokens a script is written.
+//! The SQL dialect: the trees of its scripts, its grammar, which trees are scripts, and with which tokens a tree is
+//! written.
+//!
+//! The grammar is a page of forms, each with its production above it; brackets leave no trace in a tree. Printer,
+//! reader and checker all cite these definitions.
+//! It knows no types and no meaning, and nothing of VTL but its values and operators, which the dialect shares.
+//! Begin with specs/Grammar.antt (docs/SQL.md has the same productions), then Formed.antt and Texts.antt.
 #![tactic(auto)]
 
 mod expressions;

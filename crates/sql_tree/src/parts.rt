@@ -25,7 +25,7 @@ pub struct Source {
 pub struct Equality {
     /// The column before the sign.
     pub left: Column,
-    /// The column behind it.
+    /// The column after it.
     pub right: Column,
 }
 

@@ -11,14 +11,18 @@ pub struct SqlScript {
     pub scale: Txt,
     /// The rounding.
     pub rounding: Rounding,
-    /// The statements behind SET.
+    /// The statements after SET.
     pub statements: List<Statement>,
 }
 
 // Written out, so that a proof above sees one call and not the drop of each part.
 impl Drop for SqlScript {
     fn drop(self) {
-        let SqlScript { scale: _scale, rounding: _rounding, statements: _statements } = self;
+        let SqlScript {
+            scale: _scale,
+            rounding: _rounding,
+            statements: _statements,
+        } = self;
     }
 }
 
@@ -76,7 +80,10 @@ pub struct SqlCreate {
 // Written out, so that a proof above sees one call and not the drop of each part.
 impl Drop for SqlCreate {
     fn drop(self) {
-        let SqlCreate { name: _name, query: _query } = self;
+        let SqlCreate {
+            name: _name,
+            query: _query,
+        } = self;
     }
 }
 
@@ -121,7 +128,14 @@ pub struct Select {
 // Written out, so that a proof above sees one call and not the drop of each part.
 impl Drop for Select {
     fn drop(self) {
-        let Select { items: _items, from: _from, joins: _joins, condition: _condition, group: _group, having: _having } = self;
+        let Select {
+            items: _items,
+            from: _from,
+            joins: _joins,
+            condition: _condition,
+            group: _group,
+            having: _having,
+        } = self;
     }
 }
 

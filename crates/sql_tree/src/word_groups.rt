@@ -45,6 +45,6 @@ pub enum ValueFunction {
 pub enum ShiftFunction {
     /// `LAG`: of a row before
     Lag,
-    /// `LEAD`: of a row behind
+    /// `LEAD`: of a later row
     Lead,
 }

@@ -1,5 +1,9 @@
 //! The program: it carries out the words of its command line over the files of the system, and exits with the code
 //! of the status.
+//!
+//! All else is `vtl_top::vtl`. A word that is not UTF-8 is `Usage`; that `main` calls what is proved is tested by
+//! cases/run.sh.
+//! Begin with `main` below.
 #![tactic(auto)]
 
 ghost use Rattle.std.specs.Prelude.{◌≡◌, ◌≢◌, ◌⊎◌, drop, IfErr, IfOk};

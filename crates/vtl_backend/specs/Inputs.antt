@@ -3,12 +3,12 @@ use Rattle.std.specs.Prelude.{ℕ, List, [], map, Option, None, Some}
 use Rattle.std.specs.List.{AllByRecursion}
 use Rattle.std.specs.Option.{option_map_or}
 use Rattle.vtl_cell.specs.Row.{Row}
-use Rattle.vtl_csv.specs.TableText.{IsTableOf}
 use Rattle.vtl_rows.specs.Named.{NamedTables, table_of}
 use Rattle.vtl_rows.specs.Tables.{Listed}
 use Rattle.vtl_tree.specs.Environment.{DataSet, Environment}
 use Rattle.vtl_tree.specs.Structures.{Named}
 use Rattle.vtl_tree.specs.declared.structure.Structure.{Structure}
+use Rattle.vtl_sets.specs.TableOf.{IsTableOf}
 use Rattle.vtl_check.specs.Checked.{TypedScript, nodes_of}
 use Rattle.vtl_check.specs.Uses.{reads}
 

@@ -1,4 +1,4 @@
--- Which values belong to a kind.
+-- Kinds, and which values belong to one.
 use Rattle.std.specs.Prelude.{Bool, true, false}
 use Rattle.vtl_cell.specs.declared.cell.Cell.{Cell}
 use Rattle.vtl_cell.specs.declared.cell.Cell.TheVariants as c
@@ -34,3 +34,14 @@ is_of k.Day (c.Day x) = true
 is_of k.Period (c.Period x) = true
 is_of kind c.Null = true
 is_of kind cell = false
+
+-- an integer and a number are two kinds
+abbrev pub same_kind : Kind → Kind → Bool
+same_kind k.Null k.Null = true
+same_kind k.Bool k.Bool = true
+same_kind k.Int k.Int = true
+same_kind k.Num k.Num = true
+same_kind k.Text k.Text = true
+same_kind k.Day k.Day = true
+same_kind k.Period k.Period = true
+same_kind a b = false

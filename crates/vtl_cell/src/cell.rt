@@ -40,7 +40,7 @@ pub enum Cell {
 // Most of the memory that is taken is rows of cells.
 const _: () = prove!(size_of::<Cell>() <= 32);
 
-/// An equal cell, which shares its text. It fails only for want of memory.
+/// An equal cell, which shares its text. It fails only when out of memory.
 pub fn clone_cell(c: &Cell) -> Result<Cell, AllocError>
     ensures { IfOk result (λ copy. copy ≡ c.now) }
 {

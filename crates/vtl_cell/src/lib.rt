@@ -1,4 +1,11 @@
-//! Cells: the values of a data set's points, with their kinds and their order.
+//! Cells: a value of one of six kinds, or null, with their order, their equality and their texts.
+//!
+//! Rows, keys, sorts, joins and groups all compare by the one order and the one equality that are defined here. The
+//! table of scalar operators stands here as definitions (values, kinds, spellings in both languages), and so do
+//! aggregates, orders of rows and frames, so that the two languages cannot drift apart; `vtl_scalar` computes the
+//! operators.
+//! It knows no columns, no structures and no files: what an empty field means is for `vtl_csv` to say.
+//! Begin with specs/Kinds.antt, Order.antt and Scalars.antt.
 #![tactic(auto)]
 
 mod cell;
@@ -11,7 +18,7 @@ mod row;
 mod writing;
 
 pub use cell::{Cell, clone_cell, compare, hashes_tell_apart, is_same, order_is_lawful};
-pub use kind::Kind;
+pub use kind::{Kind, is_same_kind};
 pub use laws::{
     frames_lie_between_their_bounds, groups_have_no_order, least_and_greatest_are_bounds,
 };

@@ -12,7 +12,7 @@ use vtl_time::{write_day, write_period};
 /// digits of an integer, a number as `vtl_decimal::write` writes it, a text as it is, a day as `YYYY-MM-DD` and a
 /// period as `write_period` writes it.
 ///
-/// It fails only for want of memory, and then leaves `out` as it was. The clause `held` says which cells there are: those
+/// It fails only when out of memory, and then leaves `out` as it was. The clause `held` says which cells there are: those
 /// whose parts are in the range of their types.
 pub fn write_cell(c: &Cell, p: &Profile, out: &mut Vec<u8>) -> Result<(), AllocError>
     ensures ok { OnOk result (out.new.items ≡ out.old.items ++ text_of p.now c.now) }

@@ -17,6 +17,7 @@ use Rattle.vtl_check.specs.Count.{count}
 use Rattle.vtl_check.specs.Script.{assigned, at, statements_typed, with_result}
 use Rattle.vtl_check.specs.Uses.{outputs_in, reads, results_behind}
 use Rattle.vtl_check.specs.declared.uses.Uses.{Uses}
+use Rattle.check_faults.specs.declared.rules.Rule.{Rule}
 
 -- a typed script has a node for each statement
 same-ok : {T E : Type 0} (x y : T) (r : Result T E) → r ≡ Ok x → r ≡ Ok y → x ≡ y
@@ -31,7 +32,7 @@ nodes-typed env i before done (tree.assignment name kind x ∷ ss) ns e =
     (λ n. nodes-typed (with_result env name n) (suc i) (before + count n) (done ++ n ∷ []) ss ns)
     e
   where
-    go : (rest : NodeTree → Result (List NodeTree) (ℕ × ℕ)) (r : Result NodeTree ℕ)
+    go : (rest : NodeTree → Result (List NodeTree) (ℕ × ℕ)) (r : Result NodeTree Rule)
         → ((n : NodeTree) → rest n ≡ Ok ns → length ns ≡ length (done ++ n ∷ []) + length ss)
         → at i r rest ≡ Ok ns → length ns ≡ length done + suc (length ss)
     go rest (Ok n) more e = more n e ∙ omega (arith, length-append done (n ∷ []))

@@ -5,9 +5,12 @@ use Rattle.vtl_syntax.specs.Trees as tree
 use Rattle.vtl_syntax.specs.Trees.{Exp, ScriptTree, StatementTree}
 use Rattle.vtl_tree.specs.Structures.{has_name}
 use Rattle.vtl_nodes.specs.Trees.{NodeTree, structure_of}
-use Rattle.check_faults.specs.Rules.{◌>>=◌, ruled}
+use Rattle.vtl_lists.specs.Results.{◌>>=◌}
+use Rattle.check_faults.specs.Rules.{number_of, ruled}
 use Rattle.check_faults.specs.declared.error.TypeErr.{TypeErr}
 use Rattle.check_faults.specs.declared.error.TypeErr.TheVariants as type
+use Rattle.check_faults.specs.declared.rules.Rule.{Rule}
+use Rattle.check_faults.specs.declared.rules.Rule.TheVariants as rule
 use Rattle.check_operators.specs.Places.{Env}
 use Rattle.check_operators.specs.Typed.{dataset_in}
 use Rattle.check_operators.specs.declared.places.Place.TheVariants as place
@@ -24,31 +27,31 @@ most_nodes = 4096
 abbrev pub is_too_much : ℕ → NodeTree → Bool
 is_too_much before n = nat_lt most_nodes (before + count n)
 
--- the value of a statement: a data set (14)
-abbrev pub value_typed : Env → Exp → Result NodeTree ℕ
+-- the value of a statement: a data set
+abbrev pub value_typed : Env → Exp → Result NodeTree Rule
 value_typed env e = typed env place.Outside e >>= dataset_in
 
--- a statement behind others with so many nodes: its name is new (2), its value a data set (14), and the nodes are few enough (20)
-unfoldable pub assigned : Env → (before : ℕ) → List ℕ → Exp → Result NodeTree ℕ
+-- a statement behind others with so many nodes: its name is new, its value a data set, and the nodes are few enough
+unfoldable pub assigned : Env → (before : ℕ) → List ℕ → Exp → Result NodeTree Rule
 assigned env before name e =
-    ruled ((2, has_name name env.known) ∷ []) (tt {0}) >>= λ u. value_typed env e
-    >>= λ n. ruled ((20, is_too_much before n) ∷ []) n
+    ruled ((rule.NameTaken, has_name name env.known) ∷ []) (tt {0}) >>= λ u. value_typed env e
+    >>= λ n. ruled ((rule.TooManyNodes, is_too_much before n) ∷ []) n
 
 -- what is known behind a statement
 abbrev pub with_result : Env → List ℕ → NodeTree → Env
 with_result env name n = record env { known = env.known ++ (name, structure_of n) ∷ [] }
 
--- a fault with the number of its statement
-abbrev pub at : {A B : Type 0} → ℕ → Result A ℕ → (A → Result B (ℕ × ℕ)) → Result B (ℕ × ℕ)
+-- a fault as the numbers of its statement and of the rule
+abbrev pub at : {A B : Type 0} → ℕ → Result A Rule → (A → Result B (ℕ × ℕ)) → Result B (ℕ × ℕ)
 at i (Ok x) f = f x
-at i (Err rule) f = Err (i, rule)
+at i (Err broken) f = Err (i, number_of broken)
 
--- The nodes so far with those of the statements that are left, or the first fault: the number of its statement and the rule. All
--- statements are counted, from 1 on. Rulesets are not typed yet: no script that is checked defines one.
+-- The nodes so far with those of the statements that are left, or the first fault: the numbers of its statement and of the rule. All
+-- statements are counted, from 1 on. Rulesets are not typed yet, so that none is known; no script that is checked defines one.
 abbrev pub statements_typed : Env → (i before : ℕ) → List NodeTree → ScriptTree → Result (List NodeTree) (ℕ × ℕ)
 statements_typed env i before done [] = Ok done
 statements_typed env i before done (tree.assignment name kind e ∷ ss) = at i (assigned env before name e) (λ n. statements_typed (with_result env name n) (suc i) (before + count n) (done ++ n ∷ []) ss)
-statements_typed env i before done (s ∷ ss) = Err (i, 0)
+statements_typed env i before done (s ∷ ss) = Err (i, number_of rule.UnknownRuleset)
 
 -- the nodes of a script over the declared structures, or its first fault
 abbrev pub script_typed : Env → ScriptTree → Result (List NodeTree) (ℕ × ℕ)
@@ -65,7 +68,7 @@ has_definitions script = list_any is_definition script
 -- the answer is the typing, or the first fault; or it tells of want of memory
 abbrev pub Checks : {A B : Type 0} → (A → B) → Result A CheckErr → Result B (ℕ × ℕ) → Type 0
 Checks view (Ok x) typing = typing ≡ Ok (view x)
-Checks view (Err (err.Mistyped i rule)) typing = typing ≡ Err (i, rule)
+Checks view (Err (err.Mistyped i number)) typing = typing ≡ Err (i, number)
 Checks view (Err err.OutOfMemory) typing = Unit {0}
 
 -- whether a script is typed, without its nodes
@@ -74,5 +77,5 @@ verdict (Ok x) = Ok tt
 verdict (Err fault) = Err fault
 
 abbrev pub fault_at : ℕ → TypeErr → CheckErr
-fault_at i (type.Broken rule) = err.Mistyped i rule
+fault_at i (type.Broken broken) = err.Mistyped i (number_of broken)
 fault_at i type.OutOfMemory = err.OutOfMemory

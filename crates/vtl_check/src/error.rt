@@ -8,7 +8,7 @@ pub enum CheckErr {
     Mistyped {
         /// The number of the statement.
         statement: usize,
-        /// The rule of docs/TYPES.md.
+        /// The number of the rule (docs/TYPES.md).
         rule: u8,
     },
     /// There was not enough memory.

@@ -2,11 +2,10 @@
 ghost use Rattle.std.specs.Prelude.{◌≡◌, ◌<◌, ◌+◌, ◌++◌, [], ◌∷◌, false, length, take, IfOk, OnOk};
 ghost use Rattle.vtl_tree.specs.Structures.{AreStructures, has_name};
 
-use check_shapes::share_structure;
 use indexmap::IndexMap;
 use std::alloc::{AllocError, Global};
 use vtl_text::Txt;
-use vtl_tree::{Structure, Structures};
+use vtl_tree::{Structure, Structures, share_structure};
 
 /// Whether a name is known.
 pub fn is_known(known: &IndexMap<Txt, Structure>, name: &Txt) -> bool

@@ -13,13 +13,13 @@ use crate::CheckErr;
 use crate::count::counted;
 use crate::known::{is_known, put};
 use check_expressions::typing;
-use check_faults::TypeErr;
+use check_faults::{Rule, TypeErr};
 use check_operators::{Place, Scope};
-use check_shapes::share_structure;
 use std::alloc::{AllocError, Global};
 use vtl_nodes::Node;
 use vtl_syntax::{Expr, Statement};
 use vtl_text::Txt;
+use vtl_tree::share_structure;
 
 // The value of a statement, where it is a data set.
 fn value(alloc: Global, scope: &Scope, e: &Expr) -> Result<Box<Node>, TypeErr>
@@ -44,12 +44,12 @@ fn assigned(
     ensures few { IfOk result (λ r. r.1 ≤ most_nodes) }
 {
     if is_known(&scope.known, name) {
-        return Err(TypeErr::Broken(2));
+        return Err(TypeErr::Broken(Rule::NameTaken));
     }
     let node = value(alloc, scope, e)?;
     match counted(before, &node) {
         Some(all) => Ok((node, all)),
-        None => Err(TypeErr::Broken(20)),
+        None => Err(TypeErr::Broken(Rule::TooManyNodes)),
     }
 }
 
@@ -67,7 +67,10 @@ fn fault(statement: usize, error: TypeErr) -> CheckErr
     ensures { result ≡ fault_at statement error }
 {
     match error {
-        TypeErr::Broken(rule) => CheckErr::Mistyped { statement, rule },
+        TypeErr::Broken(rule) => CheckErr::Mistyped {
+            statement,
+            rule: rule.number(),
+        },
         TypeErr::OutOfMemory => CheckErr::OutOfMemory,
     }
 }
@@ -94,12 +97,7 @@ pub fn typed_statements(
                     Err(error) => return Err(fault(i + 1, error)),
                 }
             }
-            _ => {
-                return Err(CheckErr::Mistyped {
-                    statement: i + 1,
-                    rule: 0,
-                });
-            }
+            _ => return Err(fault(i + 1, TypeErr::Broken(Rule::UnknownRuleset))),
         }
     }
     Ok(nodes)

@@ -8,13 +8,12 @@ ghost use Rattle.vtl_check.specs.Uses.{output_in, outputs_in, read_behind, reads
 
 use crate::known::{is_known, put};
 use crate::names::read_names;
-use check_shapes::share_structure;
 use indexmap::IndexMap;
 use std::alloc::{AllocError, Global};
 use vtl_nodes::Node;
 use vtl_syntax::{AssignKind, Statement};
 use vtl_text::Txt;
-use vtl_tree::Structure;
+use vtl_tree::{Structure, share_structure};
 
 /// The data sets that a script reads and gives.
 #[derive(Drop)]

@@ -4,21 +4,22 @@ ghost use Rattle.vtl_cell.specs.Outcome.{fault_in, join};
 ghost use Rattle.vtl_rows.specs.Tables.{fits};
 ghost use Rattle.vtl_scalar.specs.Answers.{Answers, AnswersBy};
 ghost use Rattle.vtl_tree.specs.Clauses.{filter_of, is_true};
-ghost use Rattle.vtl_tree.specs.Seen.{seen_of};
 ghost use Rattle.vtl_tree.specs.Value.{value};
 ghost use Rattle.vtl_tree.specs.View.{comp_exp_of};
-ghost use Rattle.vtl_csv.specs.TableText.{IsTableOf};
+ghost use Rattle.vtl_sets.specs.DataSets.{with_structure};
 ghost use Rattle.vtl_meaning.specs.Made.{IsFiltered};
-ghost use Rattle.vtl_expr.specs.DataSets.{with_structure};
+ghost use Rattle.vtl_sets.specs.TableOf.{IsTableOf};
+ghost use Rattle.vtl_expr.specs.Seen.{seen_of};
 
 use crate::rows::copied_row;
 use std::alloc::Global;
 use vtl_cell::Cell;
 use vtl_decimal::Profile;
-use vtl_expr::{DataSet, new_table};
+use vtl_expr::{Seen, eval};
 use vtl_rows::Table;
 use vtl_scalar::ScalarErr;
-use vtl_tree::{CompExpr, Seen, Structure, eval};
+use vtl_sets::{DataSet, new_table};
+use vtl_tree::{CompExpr, Structure};
 
 // Puts a row behind those that are kept, where the condition is true, and sees its fault.
 fn keep(

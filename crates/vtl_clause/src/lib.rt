@@ -1,4 +1,10 @@
-//! Clauses on data sets. `keep` and `drop` leave some of the columns, as `vtl_expr::keep_columns` does.
+//! Clauses on data sets: `filter`, `calc`, `rename` and `sub`. `keep` and `drop` leave some of the columns, as
+//! `vtl_expr::keep_columns` does.
+//!
+//! It decides which points a clause leaves and what their cells are made of. The values of expressions come from vtl_expr,
+//! and the structure of each result is handed in as the check of the script found it.
+//! It knows no script, no statement, no file and no text format.
+//! Begin with `filtering.rt`.
 #![tactic(auto)]
 
 mod calculation;

@@ -1,5 +1,5 @@
 -- The text of a data set, its points sorted by their identifiers alone.
-use Rattle.std.proofs.Common.{◌≡◌, ◌∷◌, ◌<◌, ◌≤◌, List, [], ◌++◌, map, flat_map, length, length-append, true, ◌&&◌, not, encode_utf8_all, arith, refl, sym, ap, ◌∙◌, true≢false, All}
+use Rattle.std.proofs.Common.{◌≡◌, ◌∷◌, ◌<◌, List, [], map, flat_map, length, true, ◌&&◌, not, encode_utf8_all, arith, refl, sym, ap, ◌∙◌, true≢false, All}
 use Rattle.std.specs.List.{AllByRecursion, range_with_len}
 use Rattle.std.proofs.lemmas.List.{length-map}
 use Rattle.std.proofs.lemmas.Simd.{map-map}
@@ -15,12 +15,14 @@ use Rattle.vtl_rows.specs.declared.column.SortKey.{SortKey}
 use Rattle.vtl_rows.specs.Keys.{key_of, ordered}
 use Rattle.vtl_rows.specs.Tables.{Listed}
 use Rattle.vtl_tree.specs.DataSet.{is_point}
-use Rattle.vtl_tree.specs.Structure.{columns_of, key_width, of_role, same_role}
+use Rattle.vtl_tree.specs.Structure.{columns_of, key_width, same_role}
 use Rattle.vtl_tree.specs.declared.structure.Component.{Component}
 use Rattle.vtl_tree.specs.declared.structure.Role.TheVariants as role
 use Rattle.vtl_tree.specs.declared.structure.Structure.{Structure}
+use Rattle.vtl_sets.specs.TableOf.{IsTableOf, column_for}
+use Rattle.vtl_sets.proofs.ColumnLemmas.{few_keys}
 use Rattle.vtl_csv.specs.CsvText.{csv_of, header_of}
-use Rattle.vtl_csv.specs.TableText.{IsTableOf, column_for, rows_text}
+use Rattle.vtl_csv.specs.TableText.{rows_text}
 use Rattle.vtl_csv.proofs.TableTextLemmas.{first_keys_within, sorted_by_keys}
 
 point_wide : (xs : List Component) (r : Row) → is_point xs r ≡ true → length r ≡ length xs
@@ -34,12 +36,6 @@ point_wide (x ∷ xs) (v ∷ vs) e =
 points_wide : (xs : List Component) (rows : List Row) → AllByRecursion (λ r. is_point xs r ≡ true) rows → AllByRecursion (λ r. length r ≡ length xs) rows
 points_wide xs [] all = tt
 points_wide xs (r ∷ rows) all = (point_wide xs r all.0, points_wide xs rows all.1)
-
-few_keys : (s : Structure) → key_width s ≤ length (columns_of s)
-few_keys s =
-    let a = length-append (of_role role.Identifier s ++ of_role role.Measure s) (of_role role.Attribute s) in
-    let b = length-append (of_role role.Identifier s) (of_role role.Measure s) in
-    omega (arith, a, b)
 
 -- the identifiers are columns of the table
 pub identifiers_within : (s : Structure) (t : Listed) (keys : List SortKey) → IsTableOf s t → map key_of keys ≡ map rising (range_with_len 0 (key_width s)) → All (λ k. k.column < length t.columns) keys

@@ -22,7 +22,7 @@ use Rattle.vtl_cell.specs.declared.kind.Kind.{Kind}
 use Rattle.vtl_cell.specs.declared.kind.Kind.TheVariants as k
 use Rattle.vtl_tree.specs.declared.structure.Role.{Role}
 use Rattle.vtl_tree.specs.declared.structure.Component.{Component}
-use Rattle.vtl_tree.specs.Structure.{same_name}
+use Rattle.vtl_tree.specs.Structure.{most_components, same_name}
 use Rattle.vtl_tree.specs.Structures.{Fits, Named, are_codes, codes_fit, components_of, is_declarable_component, is_filled, is_null_kind, is_string_identifier}
 use Rattle.vtl_csv.specs.Declarations.{Declaration, code_in, codes_in, codes_of, component_in, dataset_in, declaration_of, declared_by, distinct, has_component, is_bar, is_full, kind_in, onto_first, or_rule, parts, record_of, role_in, text_in, text_that, unless_rule}
 
@@ -190,7 +190,7 @@ codes_of-fit role kind (b ∷ bs) texts e = go (is_string_identifier role kind) 
 ok_same : {X : Type 0} (x y : X) → ◌≡◌ {A = Result X ℕ} (Ok x) (Ok y) → x ≡ y
 ok_same x y e = cc
 
-not_full : (n : ℕ) → nat_le 64 n ≡ false → n < 64
+not_full : (n : ℕ) → nat_le most_components n ≡ false → n < most_components
 not_full n e = grind (arith, nat_tests)
 
 negated : (b : Bool) → b ≡ false → not b ≡ true

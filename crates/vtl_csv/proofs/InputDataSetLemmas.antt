@@ -11,12 +11,12 @@ use Rattle.vtl_tree.specs.DataSet.{IsDataSet}
 use Rattle.vtl_tree.specs.declared.structure.Component.{Component}
 use Rattle.vtl_tree.specs.declared.structure.Structure.{Structure}
 use Rattle.vtl_tree.specs.Structure.{IsStructure, columns_of, key_width}
+use Rattle.vtl_sets.specs.TableOf.{IsTableOf, table_columns}
 use Rattle.vtl_csv.specs.declared.input.InputKind.TheVariants as i
 use Rattle.vtl_csv.specs.InputFields.{Flaw, record_row}
 use Rattle.vtl_csv.specs.InputFile.{Fault, Layout, at_line, dataset_rows, in_column_order, is_repeat, joined, layout_of, rows_below, rows_in_records, rows_with}
 use Rattle.vtl_csv.specs.InputSteps.{IsLayout}
 use Rattle.vtl_csv.specs.StructuresFile.{records_in}
-use Rattle.vtl_csv.specs.TableText.{IsTableOf, table_columns}
 use Rattle.vtl_csv.proofs.InputLayoutLemmas.{layout_points}
 use Rattle.vtl_csv.proofs.InputPointLemmas.{ArePoints, ok_same, points_more, record_good}
 use Rattle.vtl_csv.proofs.RepeatLemmas.{still_apart}

@@ -1,5 +1,5 @@
 -- The columns of a CSV file are the components of the structure, each once, and the places lead from one order to the other.
-use Rattle.std.proofs.Common.{◌≡◌, ℕ, zero, suc, ◌+◌, ◌<◌, ◌≤◌, ◌⊎◌, inl, inr, List, [], ◌∷◌, ◌++◌, Bool, true, false, cond, ◌&&◌, Option, Some, None, Result, Ok, Err, length, length-append, map, take, get_or, arith, refl, sym, ap, ◌∙◌, subst, true≢false}
+use Rattle.std.proofs.Common.{◌≡◌, ℕ, zero, suc, ◌+◌, ◌<◌, ◌≤◌, ◌⊎◌, inl, inr, List, [], ◌∷◌, ◌++◌, Bool, true, false, cond, ◌&&◌, Option, Some, None, Result, Ok, Err, length, map, take, get_or, arith, refl, sym, ap, ◌∙◌, subst, true≢false}
 use Rattle.std.specs.List.{filter, All, AllByRecursion}
 use Rattle.std.specs.Cmp.Lexicographic.{nat_list_eq_equiv}
 use Rattle.std.specs.Prelude.{encode_utf8_all}
@@ -14,14 +14,14 @@ use Rattle.vtl_cell.proofs.Rows.{split_and}
 use Rattle.vtl_rows.specs.Tables.{cells_at, column_at}
 use Rattle.vtl_tree.specs.DataSet.{is_point}
 use Rattle.vtl_tree.specs.declared.structure.Component.{Component}
-use Rattle.vtl_tree.specs.declared.structure.Role.{Role}
 use Rattle.vtl_tree.specs.declared.structure.Role.TheVariants as role
 use Rattle.vtl_tree.specs.declared.structure.Structure.{Structure}
 use Rattle.vtl_tree.specs.Structure.{IsStructure, columns_of, key_width, names_of, of_role, same_name, same_role}
+use Rattle.vtl_sets.specs.TableOf.{column_for, table_columns}
+use Rattle.vtl_sets.proofs.ColumnLemmas.{few_keys, some_columns}
 use Rattle.vtl_csv.proofs.InputPointLemmas.{is_good, ok_same}
 use Rattle.vtl_csv.specs.InputFile.{Layout, at_name, columns_with, laid_out, layout_of, named_by, newly_named, none_before, place_from, place_in, with_places}
 use Rattle.vtl_csv.specs.InputSteps.{IsLayout}
-use Rattle.vtl_csv.specs.TableText.{column_for, table_columns}
 
 -- ---- components of a list
 abbrev pub Has : {X : Type 0} → List X → X → Type 0
@@ -241,30 +241,13 @@ module _ (ys : List Component) where
       let good = subst (λ y. is_good y (column_of i row) ≡ true) (h.0.there x) (good_at ys row i x e h.0.within) in
       ap (λ b. b && is_point xs (cells_at is row)) good ∙ points_there row e xs is h.1
 
--- ---- the components in column order are some
-some_of_roles : (x : Component) (a b c : List Component) (r : Role)
-    → 1 ≤ length (cond (same_role r role.Identifier) (x ∷ a) a ++ cond (same_role r role.Measure) (x ∷ b) b ++ cond (same_role r role.Attribute) (x ∷ c) c)
-some_of_roles x a b c role.Identifier = let l = length-append (x ∷ a ++ b) c in let m = length-append (x ∷ a) b in omega (arith, l, m)
-some_of_roles x a b c role.Measure = let l = length-append (a ++ x ∷ b) c in let m = length-append a (x ∷ b) in omega (arith, l, m)
-some_of_roles x a b c role.Attribute = let l = length-append (a ++ b) (x ∷ c) in omega (arith, l)
-
-some_columns : (xs : List Component) → 1 ≤ length xs → 1 ≤ length (filter (λ x. same_role x.role role.Identifier) xs ++ filter (λ x. same_role x.role role.Measure) xs ++ filter (λ x. same_role x.role role.Attribute) xs)
-some_columns [] h = absurd (omega arith)
-some_columns (x ∷ xs) h = some_of_roles x (filter (λ y. same_role y.role role.Identifier) xs) (filter (λ y. same_role y.role role.Measure) xs) (filter (λ y. same_role y.role role.Attribute) xs) x.role
-
-keys_fit : (s : Structure) → key_width s ≤ length (columns_of s)
-keys_fit s =
-    let l = length-append (of_role role.Identifier s ++ of_role role.Measure s) (of_role role.Attribute s) in
-    let m = length-append (of_role role.Identifier s) (of_role role.Measure s) in
-    omega (arith, l, m)
-
 -- ---- of the structure's layout
 module _ (s : Structure) (layout : Layout) (well : IsStructure s) (found : IsLayout s layout) where
   laid : IsLaidOut s layout
   laid = layout_lays_out s layout well found
 
   pub layout_keys : key_width s ≤ length layout.places
-  layout_keys = let w = places_wide layout.columns (columns_of s) layout.places laid.places in let f = keys_fit s in omega (arith, w, f)
+  layout_keys = let w = places_wide layout.columns (columns_of s) layout.places laid.places in let f = few_keys s in omega (arith, w, f)
 
   pub layout_some : 0 < length layout.places
   layout_some = let w = places_wide layout.columns (columns_of s) layout.places laid.places in let f = some_columns s.components well.some in omega (arith, w, f)

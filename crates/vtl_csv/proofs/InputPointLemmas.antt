@@ -14,19 +14,19 @@ use Rattle.vtl_cell.specs.Kinds.{is_null, is_of}
 use Rattle.vtl_cell.specs.Reading.{reads}
 use Rattle.vtl_cell.specs.Row.{Row}
 use Rattle.vtl_cell.proofs.Readings.{read_kind}
-use Rattle.vtl_cell.proofs.Rows.{split_and}
 use Rattle.vtl_rows.specs.declared.column.Column.{Column}
 use Rattle.vtl_rows.specs.Tables.{fits}
 use Rattle.vtl_tree.specs.DataSet.{is_point}
 use Rattle.vtl_tree.specs.declared.structure.Component.{Component}
 use Rattle.vtl_tree.specs.declared.structure.Role.TheVariants as role
 use Rattle.vtl_tree.specs.Structure.{same_role}
+use Rattle.vtl_sets.specs.TableOf.{column_for}
+use Rattle.vtl_sets.proofs.TableLemmas.{point_fits}
 use Rattle.vtl_csv.specs.declared.input.InputKind.{InputKind}
 use Rattle.vtl_csv.specs.declared.input.InputKind.TheVariants as i
 use Rattle.vtl_csv.specs.InputFields.{Flaw, at_column, coded_cell, field_cell, is_coded, most_points, record_row, row_with, text_cell}
 use Rattle.vtl_csv.specs.InputSteps.{on_row, taken, taken_with}
 use Rattle.vtl_csv.specs.StructuresFile.{is_identifier}
-use Rattle.vtl_csv.specs.TableText.{column_for}
 
 abbrev ok_of : {X E : Type 0} → X → Result X E
 ok_of x = Ok x
@@ -113,15 +113,6 @@ record_good p columns count fields row e =
     let same : length fields ≡ length columns = let t = wide.0 in grind (arith, nat_tests) in
     let g = row_good p (zip columns fields) [] row wide.1 in
     ap (is_point columns) g.1 ∙ ap (λ xs. is_point xs g.0) (sym (first_of_pairs columns fields same)) ∙ g.2
-
--- a point fits the columns of a table
-pub point_fits : (xs : List Component) (row : Row) → is_point xs row ≡ true → fits (map column_for xs) row ≡ true
-point_fits [] [] e = refl
-point_fits [] (v ∷ vs) e = cc
-point_fits (x ∷ xs) [] e = cc
-point_fits (x ∷ xs) (v ∷ vs) e =
-    let h = split_and (is_good x v) (is_point xs vs) e in
-    and_true (is_of x.kind v) (fits (map column_for xs) vs) (split_and (is_of x.kind v) (not (is_identifier x && is_null v)) h.0).0 (point_fits xs vs h.1)
 
 -- ---- the rows that are taken
 abbrev pub ArePoints : List Component → List Row → Type 0

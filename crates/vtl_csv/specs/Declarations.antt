@@ -11,7 +11,7 @@ use Rattle.vtl_cell.specs.declared.kind.Kind.TheVariants as k
 use Rattle.vtl_tree.specs.declared.structure.Role.{Role}
 use Rattle.vtl_tree.specs.declared.structure.Role.TheVariants as r
 use Rattle.vtl_tree.specs.declared.structure.Component.{Component}
-use Rattle.vtl_tree.specs.Structure.{names_of, same_name}
+use Rattle.vtl_tree.specs.Structure.{most_components, names_of, same_name}
 use Rattle.vtl_tree.specs.Structures.{Named, components_of, is_filled, is_string_identifier}
 
 -- the fields of a record that has five
@@ -88,17 +88,13 @@ abbrev pub codes_of : Role → Kind → List ℕ → Option (Option (List (List 
 codes_of role kind [] = Some None
 codes_of role kind (b ∷ bs) = if is_string_identifier role kind then option_map Some (codes_in (b ∷ bs)) else None
 
--- the most components that a data set may have
-abbrev pub max_components : ℕ
-max_components = 64
-
 -- the data set has a component of this name already
 abbrev pub has_component : Named → List ℕ → List ℕ → Bool
 has_component so_far dataset name = list_any (same_name name) (names_of (components_of dataset so_far))
 
 -- the data set has as many components as it may have
 abbrev pub is_full : Named → List ℕ → Bool
-is_full so_far dataset = nat_le max_components (length (components_of dataset so_far))
+is_full so_far dataset = nat_le most_components (length (components_of dataset so_far))
 
 -- a rule that is broken where there is no value, or where something holds
 abbrev pub or_rule : {X Y : Type 0} → ℕ → Option X → (X → Result Y ℕ) → Result Y ℕ

@@ -10,12 +10,12 @@ use Rattle.vtl_rows.specs.Tables.{Listed, cells_at}
 use Rattle.vtl_tree.specs.declared.structure.Component.{Component}
 use Rattle.vtl_tree.specs.declared.structure.Structure.{Structure}
 use Rattle.vtl_tree.specs.Structure.{columns_of, key_width, same_name}
+use Rattle.vtl_sets.specs.TableOf.{table_columns}
 use Rattle.vtl_csv.specs.declared.input.InputErr.{InputErr}
 use Rattle.vtl_csv.specs.declared.input.InputErr.TheVariants as e
 use Rattle.vtl_csv.specs.declared.input.InputKind.TheVariants as i
 use Rattle.vtl_csv.specs.InputFields.{Flaw, record_row}
 use Rattle.vtl_csv.specs.StructuresFile.{records_in}
-use Rattle.vtl_csv.specs.TableText.{table_columns}
 
 -- the component of which a field is the name
 abbrev pub named_by : List Component → List ℕ → Option Component

@@ -7,13 +7,13 @@ use Rattle.vtl_cell.specs.Row.{Row}
 use Rattle.vtl_rows.specs.Tables.{Listed}
 use Rattle.vtl_tree.specs.declared.structure.Component.{Component}
 use Rattle.vtl_tree.specs.declared.structure.Structure.{Structure}
+use Rattle.vtl_sets.specs.TableOf.{table_columns}
 use Rattle.vtl_csv.specs.declared.header.Layout.{Layout as LayoutFields}
 use Rattle.vtl_csv.specs.declared.input.Fault.{Fault as FaultFields}
 use Rattle.vtl_csv.specs.declared.input.Flaw.{Flaw as FlawFields}
 use Rattle.vtl_csv.specs.declared.input.InputKind.TheVariants as i
 use Rattle.vtl_csv.specs.InputFields.{Flaw, record_row}
 use Rattle.vtl_csv.specs.InputFile.{Fault, Layout, layout_of}
-use Rattle.vtl_csv.specs.TableText.{table_columns}
 
 abbrev pub flaw_of : FlawFields → Flaw
 flaw_of f = (f.column, f.kind)

@@ -1,5 +1,5 @@
 -- The CSV text of a table.
-use Rattle.std.specs.Prelude.{◌≡◌, ℕ, List, ◌∷◌, ◌++◌, map, flat_map, length, encode_utf8_all}
+use Rattle.std.specs.Prelude.{ℕ, List, ◌∷◌, ◌++◌, map, flat_map, length, encode_utf8_all}
 use Rattle.std.specs.List.{range_with_len}
 use Rattle.csv.specs.Writing.{default_writer, row_text}
 use Rattle.vtl_decimal.specs.Settings.{Settings}
@@ -9,10 +9,6 @@ use Rattle.vtl_cell.specs.Sorted.{by_keys, rising}
 use Rattle.vtl_cell.specs.Writing.{text_of}
 use Rattle.vtl_rows.specs.declared.column.Column.{Column}
 use Rattle.vtl_rows.specs.Tables.{Listed, cells_at}
-use Rattle.vtl_tree.specs.DataSet.{IsDataSet}
-use Rattle.vtl_tree.specs.declared.structure.Component.{Component}
-use Rattle.vtl_tree.specs.declared.structure.Structure.{Structure}
-use Rattle.vtl_tree.specs.Structure.{columns_of}
 
 -- the fields of the header
 abbrev pub names_written : List Column → List (List ℕ)
@@ -37,16 +33,3 @@ in_listed_order listed columns rows = sorted_by (le_by (by_keys (map rising (lis
 -- the text of a table, its rows by the listed columns and then by all
 abbrev pub table_text : Settings → List ℕ → Listed → List ℕ
 table_text p listed t = rows_text p t.columns (in_listed_order listed t.columns (whole_rows t.columns t.rows))
-
--- the column of a component
-abbrev pub column_for : Component → Column
-column_for x = record { name = x.name; kind = x.kind }
-
--- the columns of a data set's table
-abbrev pub table_columns : Structure → List Column
-table_columns s = map column_for (columns_of s)
-
--- the table is one of a data set of the structure
-pub record IsTableOf (s : Structure) (t : Listed) : Type 0 where
-  pub columns : t.columns ≡ table_columns s
-  pub points : IsDataSet s t.rows

@@ -4,9 +4,9 @@ ghost use Rattle.std.specs.List.{range_with_len};
 ghost use Rattle.std.specs.Bool.{OnTrue};
 ghost use Rattle.vtl_rows.specs.Tables.{cells_at, column_at, fits};
 ghost use Rattle.vtl_tree.specs.Structure.{IsStructure, key_width};
+ghost use Rattle.vtl_sets.specs.TableOf.{IsTableOf, column_for};
 ghost use Rattle.vtl_csv.specs.InputFile.{Reads, dataset_rows, rows_below, rows_with};
 ghost use Rattle.vtl_csv.specs.InputSteps.{Answers, IsLayout, fault_among, fault_of, flaw_of, layout_seen, rows_outcome, taken, taken_with};
-ghost use Rattle.vtl_csv.specs.TableText.{IsTableOf, column_for};
 
 use crate::file_column::FileColumn;
 use crate::header::{Layout, read_layout};
@@ -17,7 +17,8 @@ use crate::text_pool::pools;
 use csv::ByteRecord;
 use std::alloc::{AllocError, Global};
 use vtl_decimal::Profile;
-use vtl_rows::{Column, Table};
+use vtl_rows::Table;
+use vtl_sets::table_column;
 use vtl_tree::Structure;
 
 // A table of no rows with the columns of a file.
@@ -28,11 +29,7 @@ fn table_of(alloc: Global, file: &[FileColumn]) -> Result<Table, AllocError>
 {
     let mut columns = Vec::with_capacity(alloc, file.len())?;
     for column in file {
-        let component = column.component();
-        columns.push(Column {
-            name: component.name.share()?,
-            kind: component.kind,
-        })?;
+        columns.push(table_column(column.component())?)?;
     }
     Ok(Table::new(alloc, columns))
 }

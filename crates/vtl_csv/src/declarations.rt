@@ -14,11 +14,8 @@ use csv::ByteRecord;
 use std::alloc::{AllocError, Global};
 use std::str;
 use vtl_cell::Kind;
-use vtl_text::{Shared, Txt, is_component_name, is_name};
-use vtl_tree::{Component, Role, Structures, are_distinct};
-
-// The most components that a data set may have.
-const MAX_COMPONENTS: usize = 64;
+use vtl_text::{Shared, Txt, are_distinct, is_component_name, is_name};
+use vtl_tree::{Component, MAX_COMPONENTS, Role, Structures};
 
 // The fields of a record, as they stand in its text.
 #[derive(Clone, Copy)]

@@ -7,8 +7,9 @@ ghost use Rattle.vtl_cell.specs.Sorted.{rising};
 ghost use Rattle.vtl_rows.specs.Keys.{key_of, ordered};
 ghost use Rattle.vtl_rows.specs.Places.{row_at};
 ghost use Rattle.vtl_tree.specs.Structure.{key_width};
+ghost use Rattle.vtl_sets.specs.TableOf.{IsTableOf};
 ghost use Rattle.vtl_csv.specs.CsvText.{csv_of};
-ghost use Rattle.vtl_csv.specs.TableText.{IsTableOf, names_written, rows_text, table_text};
+ghost use Rattle.vtl_csv.specs.TableText.{names_written, rows_text, table_text};
 
 use crate::record_text::push_record;
 use crate::row_text::RowWriter;

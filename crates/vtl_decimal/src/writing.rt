@@ -79,9 +79,9 @@ fn text_of(d: Dec, p: &Profile) -> Line
 }
 
 /// Appends the text of the number: `-` where it is negative, no leading zeros, no zeros at the end
-/// behind the point, and no point where nothing follows it.
+/// after the point, and no point where nothing follows it.
 ///
-/// On want of memory `out` is as before.
+/// When out of memory, `out` is as before.
 pub fn write(d: Dec, p: &Profile, out: &mut Vec<u8>) -> Result<(), AllocError>
     ensures ok { OnOk result (out.new.items ≡ out.old.items ++ number_text p.now.scale d) }
     ensures reads_back { number_read p.now (number_text p.now.scale d) ≡ Some d }
@@ -93,7 +93,7 @@ pub fn write(d: Dec, p: &Profile, out: &mut Vec<u8>) -> Result<(), AllocError>
 
 /// Appends the digits of a whole number, with `-` before them where it is negative.
 ///
-/// On want of memory `out` is as before.
+/// When out of memory, `out` is as before.
 pub fn write_whole(n: i64, out: &mut Vec<u8>) -> Result<(), AllocError>
     ensures ok { OnOk result (out.new.items ≡ out.old.items ++ signed_decimal n) }
     ensures err { OnErr result (out.new.items ≡ out.old.items) }

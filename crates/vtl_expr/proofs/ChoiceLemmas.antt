@@ -11,7 +11,8 @@ use Rattle.vtl_tree.specs.DataSet.{IsDataSet, is_point, look}
 use Rattle.vtl_tree.specs.Environment.{DataSet}
 use Rattle.vtl_tree.specs.Structure.{IsStructure, columns_of, key_width}
 use Rattle.vtl_tree.specs.declared.structure.Structure.{Structure}
-use Rattle.vtl_csv.specs.TableText.{table_columns}
+use Rattle.vtl_sets.specs.TableOf.{table_columns}
+use Rattle.vtl_sets.proofs.TableLemmas.{point_fits}
 use Rattle.vtl_meaning.specs.Columns.{identifiers_of, measures_of, place_of, places_in}
 use Rattle.vtl_meaning.specs.Made.{AreAmong, HasIdentifiers}
 use Rattle.vtl_meaning.specs.Operators.{choice_of, is_first_chosen, joined_point, taken_at, taken_from}
@@ -22,7 +23,6 @@ use Rattle.vtl_expr.specs.Partners.{Sought, found}
 use Rattle.vtl_expr.specs.declared.choice.Alternative.{Alternative}
 use Rattle.vtl_expr.specs.declared.choice.Choice.{Choice}
 use Rattle.vtl_expr.proofs.PointLemmas.{holds_at}
-use Rattle.vtl_expr.proofs.TableLemmas.{point_fits}
 
 joined_is_point : (t other s : Structure) (r q : Row) → IsStructure t → HasIdentifiers s (identifiers_of t) → columns_of s ≡ identifiers_of s ++ measures_of s → AreAmong (measures_of s) (columns_of other) → is_point (columns_of t) r ≡ true → is_point (columns_of other) q ≡ true → is_point (columns_of s) (joined_point t other s r q) ≡ true
 joined_is_point t other s r q w h n m i j =

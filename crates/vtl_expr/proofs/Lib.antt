@@ -4,4 +4,5 @@ pub mod FindingLemmas
 pub mod MeasureLemmas
 pub mod PairLemmas
 pub mod PointLemmas
-pub mod TableLemmas
+pub mod Values
+pub mod Walks

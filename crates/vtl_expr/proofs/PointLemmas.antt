@@ -19,11 +19,11 @@ use Rattle.vtl_tree.specs.View.{comp_exp_of}
 use Rattle.vtl_tree.specs.declared.expression.CompExpr.{CompExpr}
 use Rattle.vtl_tree.specs.declared.structure.Component.{Component}
 use Rattle.vtl_tree.proofs.Faults.{faults_by-append, join_none}
-use Rattle.vtl_csv.specs.TableText.{column_for}
+use Rattle.vtl_sets.specs.TableOf.{column_for}
+use Rattle.vtl_sets.proofs.ColumnLemmas.{kinds_of_columns}
 use Rattle.vtl_meaning.specs.Made.{AreFor}
 use Rattle.vtl_meaning.specs.Points.{cell_or_null, point_fault, point_of}
 use Rattle.vtl_meaning.proofs.Kept.{values_fit}
-use Rattle.vtl_expr.proofs.ColumnLemmas.{kinds_of_columns}
 
 -- ---- one more value
 pub values_more : (p : Settings) (es : List CompExpr) (i : ℕ) (e : CompExpr) (r : Row) → i < length es → e ≡ get_or es i e → point_of p (map comp_exp_of (take (i + 1) es)) r ≡ point_of p (map comp_exp_of (take i es)) r ++ cell_or_null (value p (comp_exp_of e) r) ∷ []

@@ -3,23 +3,22 @@ ghost use Rattle.std.specs.Prelude.{◌≡◌, ◌<◌, ◌++◌, Ok, IfOk, OnOk
 ghost use Rattle.vtl_cell.specs.Row.{column_of};
 ghost use Rattle.vtl_rows.specs.Tables.{cells_at};
 ghost use Rattle.vtl_tree.specs.Clauses.{is_true};
-ghost use Rattle.vtl_csv.specs.TableText.{IsTableOf};
+ghost use Rattle.vtl_sets.specs.DataSets.{data_set};
 ghost use Rattle.vtl_meaning.specs.Made.{IsChoice};
 ghost use Rattle.vtl_meaning.specs.Operators.{choice_of};
 ghost use Rattle.vtl_expr.specs.Choices.{Fits, IsAsked, IsBetween, chosen, taken};
-ghost use Rattle.vtl_expr.specs.DataSets.{data_set};
+ghost use Rattle.vtl_sets.specs.TableOf.{IsTableOf};
 
-use crate::DataSet;
 use crate::columns::measures;
 use crate::partners::Partners;
 use crate::places::{places_in, push_cells};
-use crate::points::new_table;
 use std::alloc::{AllocError, Global};
 use std::marker::Brand;
 use std::sync::ledger::{Blank, Ledger};
 use vtl_cell::Cell;
 use vtl_index::Steps;
 use vtl_rows::Table;
+use vtl_sets::{DataSet, new_table};
 use vtl_tree::Structure;
 
 // Where the condition's points find those of an operand, and the places of the measures that are taken.

@@ -1,13 +1,11 @@
 // Columns by their names.
 ghost use Rattle.std.specs.Prelude.{◌≡◌, ◌≤◌, length, map, IfOk, OnOk, ◌++◌, filter};
-ghost use Rattle.vtl_csv.specs.TableText.{table_columns};
 ghost use Rattle.vtl_tree.specs.Shown.{shown};
 ghost use Rattle.vtl_tree.specs.Structure.{same_role};
 ghost use Rattle.vtl_meaning.specs.Columns.{kind_named, measures_of, place_of};
 
 use std::alloc::{AllocError, Global};
 use vtl_cell::Kind;
-use vtl_rows::Column;
 use vtl_text::Txt;
 use vtl_tree::{Component, Role, Structure};
 
@@ -54,19 +52,4 @@ pub(crate) fn measures(alloc: Global, structure: &Structure) -> Result<Vec<&Comp
         }
     }
     Ok(measures)
-}
-
-/// The columns of the tables of a structure's data sets. It fails only for want of memory.
-pub fn table_columns(alloc: Global, structure: &Structure) -> Result<Vec<Column>, AllocError>
-    ensures { IfOk result (λ v. v.items ≡ table_columns structure.now) }
-{
-    let columns = structure.columns(alloc)?;
-    let mut table_columns = Vec::with_capacity(alloc, columns.len())?;
-    for column in columns.as_slice() {
-        table_columns.push(Column {
-            name: column.name.share()?,
-            kind: column.kind,
-        })?;
-    }
-    Ok(table_columns)
 }

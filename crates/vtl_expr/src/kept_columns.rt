@@ -1,14 +1,14 @@
 // Some of the columns of a data set.
 ghost use Rattle.std.specs.Prelude.{◌≡◌, IfOk};
-ghost use Rattle.vtl_csv.specs.TableText.{IsTableOf};
+ghost use Rattle.vtl_sets.specs.DataSets.{data_set};
 ghost use Rattle.vtl_meaning.specs.Made.{IsLeft};
 ghost use Rattle.vtl_meaning.specs.Operators.{left_of};
-ghost use Rattle.vtl_expr.specs.DataSets.{data_set};
+ghost use Rattle.vtl_sets.specs.TableOf.{IsTableOf};
 
-use crate::DataSet;
 use crate::places::places_in;
 use std::alloc::{AllocError, Global};
 use vtl_rows::Table;
+use vtl_sets::DataSet;
 use vtl_tree::Structure;
 
 fn kept_table(alloc: Global, a: &DataSet, made: &Structure) -> Result<Table, AllocError>

@@ -1,9 +1,15 @@
-//! Data sets in tables, and the operators that work on every measure of one or two of them.
+//! The value of an expression at a point, and the operators that work on every measure of one or two data sets.
+//!
+//! It decides how these values are computed, how the points of two data sets find one another, and which fault of many is
+//! the answer. Which value is meant stands in vtl_tree for an expression and in vtl_meaning for an operator; which structure
+//! a result has is decided where scripts are checked, and handed in. Clauses on data sets are left to vtl_clause.
+//! It knows no script, no statement, no file and no text format.
+//! Begin with `evaluation.rt`, then `points.rt` and `measures.rt`.
 #![tactic(auto)]
 
 mod choice;
 mod columns;
-mod data_set;
+mod evaluation;
 mod expressions;
 mod kept_columns;
 mod measures;
@@ -12,13 +18,15 @@ mod pairs;
 mod partners;
 mod places;
 mod points;
+mod seen;
 
 pub use choice::choose;
-pub use columns::{place_of, table_columns};
-pub use data_set::DataSet;
+pub use columns::place_of;
+pub use evaluation::eval;
 pub use expressions::{copied, push_column};
 pub use kept_columns::keep_columns;
 pub use measures::map_measures;
 pub use pairs::pair_measures;
 pub use places::{places_in, push_cells, push_row};
-pub use points::{each_point, new_table};
+pub use points::each_point;
+pub use seen::Seen;

@@ -4,13 +4,12 @@ ghost use Rattle.vtl_scalar.specs.Answers.{Answers, AnswersBy};
 ghost use Rattle.vtl_tree.specs.Shown.{shown};
 ghost use Rattle.vtl_tree.specs.Structure.{columns_of};
 ghost use Rattle.vtl_tree.specs.View.{comp_exp_of};
-ghost use Rattle.vtl_csv.specs.TableText.{IsTableOf};
 ghost use Rattle.vtl_nodes.specs.View.{measure_tree};
+ghost use Rattle.vtl_sets.specs.DataSets.{with_structure};
 ghost use Rattle.vtl_meaning.specs.Made.{IsMeasured};
 ghost use Rattle.vtl_meaning.specs.Operators.{for_measures, measured_exps, measured_of, with_measure};
-ghost use Rattle.vtl_expr.specs.DataSets.{with_structure};
+ghost use Rattle.vtl_sets.specs.TableOf.{IsTableOf};
 
-use crate::DataSet;
 use crate::columns::measures;
 use crate::expressions::{columns_named, push_column, push_copies};
 use crate::points::each_point;
@@ -19,6 +18,7 @@ use vtl_decimal::Profile;
 use vtl_nodes::MeasureOp;
 use vtl_rows::Table;
 use vtl_scalar::ScalarErr;
+use vtl_sets::DataSet;
 use vtl_tree::{CompExpr, Component, Structure};
 
 // The operator at a measure, which becomes another one.

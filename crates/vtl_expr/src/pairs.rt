@@ -6,18 +6,17 @@ ghost use Rattle.vtl_cell.specs.Row.{Row};
 ghost use Rattle.vtl_rows.specs.Tables.{fits};
 ghost use Rattle.vtl_scalar.specs.Answers.{Answers, AnswersBy};
 ghost use Rattle.vtl_tree.specs.DataSet.{IsDataSet};
-ghost use Rattle.vtl_tree.specs.Seen.{seen_of};
 ghost use Rattle.vtl_tree.specs.Structure.{IsStructure, columns_of};
 ghost use Rattle.vtl_tree.specs.View.{comp_exp_of};
-ghost use Rattle.vtl_csv.specs.TableText.{IsTableOf, table_columns};
 ghost use Rattle.check_shapes.specs.Pairs.{contains};
+ghost use Rattle.vtl_sets.specs.DataSets.{with_structure};
 ghost use Rattle.vtl_meaning.specs.Made.{AreFor, IsPaired};
 ghost use Rattle.vtl_meaning.specs.Operators.{pair_of};
 ghost use Rattle.vtl_meaning.specs.Points.{each_point, paired, point_fault, point_of};
-ghost use Rattle.vtl_expr.specs.DataSets.{with_structure};
+ghost use Rattle.vtl_sets.specs.TableOf.{IsTableOf, table_columns};
 ghost use Rattle.vtl_expr.specs.Partners.{AllFit, found, with_found};
+ghost use Rattle.vtl_expr.specs.Seen.{seen_of};
 
-use crate::DataSet;
 use crate::namesakes::{Side, namesake_exps};
 use crate::partners::Partners;
 use crate::places::push_row;
@@ -31,6 +30,7 @@ use vtl_decimal::Profile;
 use vtl_index::Steps;
 use vtl_rows::Table;
 use vtl_scalar::ScalarErr;
+use vtl_sets::DataSet;
 use vtl_tree::{CompExpr, Structure};
 
 // The cells of a row, and behind them those of its partner.

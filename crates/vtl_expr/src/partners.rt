@@ -5,7 +5,6 @@ ghost use Rattle.vtl_index.specs.Index.{rows_by, width_of};
 ghost use Rattle.vtl_index.specs.Lookup.{rows_of};
 ghost use Rattle.vtl_expr.specs.Partners.{found, numbered, sought_by};
 
-use crate::DataSet;
 use crate::places::{places_in, push_cells};
 use std::alloc::{AllocError, Global};
 use std::marker::Model;
@@ -13,6 +12,7 @@ use std::sync::ledger::Ledger;
 use vtl_cell::Cell;
 use vtl_index::{Index, Steps};
 use vtl_rows::Table;
+use vtl_sets::DataSet;
 use vtl_tree::Structure;
 
 // The points of a data set, which rows find that have its identifiers at these places.

@@ -3,37 +3,29 @@ ghost use Rattle.std.specs.Prelude.{◌≡◌, true, ◌++◌, ◌∷◌, [], ma
 ghost use Rattle.vtl_cell.specs.Outcome.{fault_in, join, unless};
 ghost use Rattle.vtl_rows.specs.Tables.{fits};
 ghost use Rattle.vtl_scalar.specs.Answers.{Answers, AnswersBy};
-ghost use Rattle.vtl_tree.specs.Seen.{seen_of};
 ghost use Rattle.vtl_tree.specs.Structure.{IsStructure, columns_of};
 ghost use Rattle.vtl_tree.specs.Value.{value};
 ghost use Rattle.vtl_tree.specs.View.{comp_exp_of};
-ghost use Rattle.vtl_csv.specs.TableText.{table_columns};
+ghost use Rattle.vtl_sets.specs.TableOf.{table_columns};
 ghost use Rattle.vtl_meaning.specs.Made.{AreFor};
 ghost use Rattle.vtl_meaning.specs.Points.{cell_or_null, each_point, point_fault, point_of};
+ghost use Rattle.vtl_expr.specs.Seen.{seen_of};
 
-use crate::DataSet;
-use crate::columns::table_columns;
+use crate::evaluation::eval;
+use crate::seen::Seen;
 use std::alloc::{AllocError, Global};
 use vtl_cell::Cell;
 use vtl_decimal::Profile;
 use vtl_rows::Table;
 use vtl_scalar::ScalarErr;
-use vtl_tree::{CompExpr, Seen, Structure, eval};
+use vtl_sets::{DataSet, new_table};
+use vtl_tree::{CompExpr, Structure};
 
 // A table of the points so far, and the fault of their values.
 #[derive(Drop)]
 pub(crate) struct Points {
     pub(crate) table: Table,
     pub(crate) seen: Seen,
-}
-
-/// A table of no rows below the columns of a structure.
-pub fn new_table(alloc: Global, made: &Structure) -> Result<Table, AllocError>
-    requires { IsStructure made.now }
-    ensures columns { IfOk result (λ t. t.columns ≡ table_columns made.now) }
-    ensures rows { IfOk result (λ t. t.rows ≡ []) }
-{
-    Ok(Table::new(alloc, table_columns(alloc, made)?))
 }
 
 // Puts the value of an expression at a row behind others, or null where it has a fault.

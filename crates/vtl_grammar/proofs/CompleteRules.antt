@@ -21,7 +21,7 @@ use Rattle.vtl_syntax.specs.declared.statements.HierRule.{HierRule}
 use Rattle.vtl_syntax.specs.declared.word_groups.BinaryOp.{BinaryOp}
 use Rattle.vtl_syntax.specs.declared.word_groups.UnaryOp.{UnaryOp}
 use Rattle.vtl_syntax.specs.declared.word_groups.UnaryOp.TheVariants as unary_op
-use Rattle.vtl_grammar.specs.Fits.{Filled, Fits, PointRuleFits, OptionFits}
+use Rattle.vtl_grammar.specs.Fits.{Filled, Fits, PointRuleFits, OptionFits, depth_limit}
 use Rattle.vtl_grammar.specs.Grammar.{Tokens, maybe_onto, set_onto, clause_onto, error_onto, exp_onto, constant_onto, rule_name_onto, when_onto, point_rule_onto, signed_onto, hier_rule_onto, more_rules_onto, rules_onto}
 use Rattle.vtl_grammar.specs.Reading.{Reads, is_keyword, is_sign, after_keyword, after_sign}
 use Rattle.vtl_grammar.specs.ReadStatements.{whole_exp, rule_name, when_part, holds_read, rule_behind, point_rule_read, more_signed, right_side, hier_rule_read, ends_rules, more_rules, rules_read, point_rules, hier_rules}
@@ -37,9 +37,9 @@ use Rattle.vtl_grammar.proofs.CompleteLevels.{goes_on, within_all, starts, when_
 use Rattle.vtl_grammar.proofs.CompleteParts.{comp_read, comp_lacks, error_complete}
 use Rattle.vtl_grammar.proofs.CompleteTables.{binary_op_lacks, comparison_read, comparison_lacks, addition_read}
 
-pub whole_complete : (e : Exp) (rest : Tokens) → Fits e → exp_depth e ≤ 128 → Lacks (goes_on level.Expression) rest → whole_exp (exp_onto e rest) ≡ Some (e, rest)
+pub whole_complete : (e : Exp) (rest : Tokens) → Fits e → exp_depth e ≤ depth_limit → Lacks (goes_on level.Expression) rest → whole_exp (exp_onto e rest) ≡ Some (e, rest)
 unfolding whole_exp
-whole_complete e rest fits shallow stops = rw (read_complete 128 level.Expression e rest (within_all e) fits shallow stops) refl
+whole_complete e rest fits shallow stops = rw (read_complete depth_limit level.Expression e rest (within_all e) fits shallow stops) refl
 
 -- ---- a rule without a name does not seem to have one
 
@@ -124,7 +124,7 @@ rule_ends (t ∷ ts) h =
     let colon = or_parts (is_sign sign.Colon t) (goes_on level.Expression t) error.1 in
     record { no_code = code.0; no_level = error.0; no_colon = colon.0; stops = colon.1 }
 
-when_complete : (w : Option Exp) (rest : Tokens) → OptionFits w → option_depth w ≤ 128 → Lacks (is_keyword keyword.When) rest → when_part (when_onto w rest) ≡ Some (w, rest)
+when_complete : (w : Option Exp) (rest : Tokens) → OptionFits w → option_depth w ≤ depth_limit → Lacks (is_keyword keyword.When) rest → when_part (when_onto w rest) ≡ Some (w, rest)
 unfolding when_part after_keyword
 when_complete None rest fits shallow ends = rw (lacks_keyword keyword.When rest ends) refl
 when_complete (Some e) rest fits shallow ends = rw (whole_complete e (token.Keyword keyword.Then ∷ rest) fits shallow refl) refl
@@ -134,12 +134,12 @@ when_no_rule_name None rest h = h
 when_no_rule_name (Some e) rest h = no_name _ _ refl
 
 abbrev pub PointRuleIs : PointRuleTree → Type 0
-PointRuleIs r = PointRuleFits r × (point_rule_depth r ≤ 128)
+PointRuleIs r = PointRuleFits r × (point_rule_depth r ≤ depth_limit)
 
 pub point_rule_complete : (r : PointRuleTree) (rest : Tokens) → PointRuleIs r → Lacks rule_goes_on rest → point_rule_read (point_rule_onto r rest) ≡ Some (r, rest)
 unfolding point_rule_read rule_behind holds_read
 point_rule_complete (point_rule n w e err) rest is stops =
-    let shallow : max (option_depth w) (exp_depth e) ≤ 128 = is.1 in
+    let shallow : max (option_depth w) (exp_depth e) ≤ depth_limit = is.1 in
     let ends = rule_ends rest stops in
     let error : Tokens = error_onto err rest in
     let holds : Tokens = exp_onto e error in
@@ -178,7 +178,7 @@ more_signed_complete (suc n) items (s ∷ ss) rest few ends =
     rw (addition_read s.sign, comp_read s.item) (more_signed_complete n (items ++ s ∷ []) ss rest (omega arith) ends ∙ rw append_assoc refl)
 
 abbrev pub HierRuleIs : HierRule → Type 0
-HierRuleIs r = hier_rule_depth r ≤ 128
+HierRuleIs r = hier_rule_depth r ≤ depth_limit
 
 pub hier_rule_complete : (r : HierRule) (rest : Tokens) → HierRuleIs r → Lacks hier_goes_on rest → hier_rule_read (hier_rule_onto r rest) ≡ Some (r, rest)
 unfolding hier_rule_read right_side
@@ -193,7 +193,7 @@ hier_rule_complete r rest is stops =
     let named = rule_name_complete r.name (comp_token r.item ∷ compared) (comp_no_rule_name r.item compared no_colon) in
     let signed = maybe_word_complete addition_at addition_token addition_read r.sign first (comp_lacks (in_table addition_at) (λ n. refl) (λ n. refl) r.first) in
     let more = more_signed_complete (length others) [] r.others error (signed_grows r.others error) (error_lacks (in_table addition_at) refl refl r.error rest ends.no_sign) in
-    let depth : nat_le (hier_rule_depth r) 128 ≡ true = le-leb (hier_rule_depth r) 128 is in
+    let depth : nat_le (hier_rule_depth r) depth_limit ≡ true = le-leb (hier_rule_depth r) depth_limit is in
     rw (named, comp_read r.item, comparison_read r.comparison, signed, comp_read r.first, more, error_complete r.error rest ends.no_code ends.no_level, depth) refl
 
 -- ---- lists of rules, which `end` follows

@@ -8,9 +8,10 @@ use Rattle.vtl_lexer.specs.declared.token.TokenKind.TheVariants as token
 use Rattle.vtl_syntax.specs.Depth.{deepest, point_rule_depth, hier_rule_depth}
 use Rattle.vtl_syntax.specs.Trees.{Exp, PointRuleTree, StatementTree, assignment, datapoint, hierarchical, ScriptTree}
 use Rattle.vtl_syntax.specs.declared.word_groups.AssignKind.{AssignKind}
-use Rattle.vtl_grammar.specs.Fits.{PointRuleFits, StatementFits, InGrammar}
+use Rattle.vtl_grammar.specs.Fits.{PointRuleFits, StatementFits, InGrammar, depth_limit}
 use Rattle.vtl_grammar.specs.Grammar.{Tokens, close_bracket, point_rule_onto, rules_onto, statement_onto, script_onto}
-use Rattle.vtl_grammar.specs.Reading.{given, after_keyword, after_sign}
+use Rattle.vtl_lists.specs.Options.{given}
+use Rattle.vtl_grammar.specs.Reading.{after_keyword, after_sign}
 use Rattle.vtl_grammar.specs.ReadStatements.{assignment_read, datapoint_read, hierarchical_read, rules_between, ruleset_end, ruleset_head, ruleset_is, script_read, statement_read, statements_read, value_read}
 use Rattle.vtl_grammar.proofs.AppendExpressions.{statement-append}
 use Rattle.vtl_grammar.proofs.CompleteParts.{comp_read, comps_complete}
@@ -21,7 +22,7 @@ shallow_all : {A : Type 0} (depth : A → ℕ) (n : ℕ) (xs : List A) → deepe
 shallow_all depth n [] h = tt
 shallow_all depth n (x ∷ xs) h = (omega arith, shallow_all depth n xs (omega arith))
 
-point_rules_are : (rs : List PointRuleTree) → AllByRecursion PointRuleFits rs → deepest point_rule_depth rs ≤ 128 → AllByRecursion PointRuleIs rs
+point_rules_are : (rs : List PointRuleTree) → AllByRecursion PointRuleFits rs → deepest point_rule_depth rs ≤ depth_limit → AllByRecursion PointRuleIs rs
 point_rules_are [] fits h = tt
 point_rules_are (r ∷ rs) fits h = ((fits.0, omega arith), point_rules_are rs fits.1 (omega arith))
 
@@ -40,7 +41,7 @@ statement_complete (datapoint n vs rs last) rest is =
     rw (comps_complete vs (close_bracket ∷ token.Keyword keyword.Is ∷ rules) fits.0 refl, point_rules_complete rs last end fits.1 (point_rules_are rs fits.2 is.shallow)) refl
 statement_complete (hierarchical n i rs last) rest is =
     let end : Tokens = token.Keyword keyword.Hierarchical ∷ token.Keyword keyword.Ruleset ∷ token.Sign sign.Semicolon ∷ rest in
-    rw (comp_read i, hier_rules_complete rs last end is.fits (shallow_all hier_rule_depth 128 rs is.shallow)) refl
+    rw (comp_read i, hier_rules_complete rs last end is.fits (shallow_all hier_rule_depth depth_limit rs is.shallow)) refl
 
 -- ---- and every script
 

@@ -8,7 +8,7 @@ use Rattle.vtl_grammar.specs.Faults.{SyntaxFault, WholeScript, byte_of, kinds}
 use Rattle.vtl_grammar.specs.Fits.{InGrammar, SpellsScript}
 use Rattle.vtl_grammar.specs.Grammar.{Tokens, script_onto, statement_onto, tokens_of}
 use Rattle.vtl_grammar.specs.ReadStatements.{script_read, statement_read, statements_read}
-use Rattle.vtl_grammar.specs.Reading.{given}
+use Rattle.vtl_lists.specs.Options.{given}
 use Rattle.vtl_grammar.proofs.AppendExpressions.{script-append}
 use Rattle.vtl_grammar.proofs.CompleteStatements.{nothing_read, statement_some, statements_stop}
 use Rattle.vtl_grammar.proofs.SoundStatements.{statement_read-sound}

@@ -14,7 +14,8 @@ use Rattle.vtl_grammar.specs.Grammar.{Tokens, constant_onto, exp_onto, open_brac
 use Rattle.vtl_grammar.specs.Levels.{Within, level_of, looseness, operator_level, tighter}
 use Rattle.vtl_grammar.specs.ReadExpressions.{add_at, and_at, around, bracketed, call, chain, compare_at, choice, choice_or, clause, clause_behind, closed, formed, in_turns, leaf_at, member_behind, membership_at, multiply_at, one_more, operand_behind, operand_step, operator_at, or_at, postfix, postfix_step, prefixed, primary, read, read_level, set_behind, Step, unary_at}
 use Rattle.vtl_grammar.specs.ReadParts.{literal_set}
-use Rattle.vtl_grammar.specs.Reading.{Gets, Got, after_keyword, after_sign, given, got, word}
+use Rattle.vtl_lists.specs.Options.{given}
+use Rattle.vtl_grammar.specs.Reading.{Gets, Got, after_keyword, after_sign, got, word}
 use Rattle.vtl_grammar.specs.Words.{binary_op_at, binary_op_token, comp_at, constant_at, form_at, form_token, in_token, unary_op_at, unary_op_token}
 use Rattle.vtl_grammar.specs.declared.levels.Level.{Level}
 use Rattle.vtl_grammar.specs.declared.levels.Level.TheVariants as level

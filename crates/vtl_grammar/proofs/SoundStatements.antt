@@ -14,7 +14,7 @@ use Rattle.vtl_syntax.specs.declared.parts.ErrorPart.{ErrorPart}
 use Rattle.vtl_syntax.specs.declared.parts.SignedComp.{SignedComp}
 use Rattle.vtl_syntax.specs.declared.statements.HierRule.{HierRule}
 use Rattle.vtl_syntax.specs.declared.word_groups.Addition.{Addition}
-use Rattle.vtl_grammar.specs.Fits.{Filled, Fits, InGrammar, OptionFits, PointRuleFits}
+use Rattle.vtl_grammar.specs.Fits.{Filled, Fits, InGrammar, OptionFits, PointRuleFits, depth_limit}
 use Rattle.vtl_grammar.specs.Grammar.{Tokens, close_bracket, error_onto, exp_onto, hier_rule_onto, maybe_onto, more_rules_onto, open_bracket, point_rule_onto, rule_name_onto, rules_onto, signed_onto, statement_onto, when_onto}
 use Rattle.vtl_grammar.specs.ReadParts.{comps, error_part}
 use Rattle.vtl_grammar.specs.ReadExpressions.{read}
@@ -32,12 +32,12 @@ use Rattle.vtl_grammar.proofs.SoundTokens.{Spelled, after_keyword-sound, after_s
 -- ---- rules
 
 abbrev Whole : Exp → Type 0
-Whole e = Fits e × (exp_depth e ≤ 128)
+Whole e = Fits e × (exp_depth e ≤ depth_limit)
 
 whole_exp-sound : (ts : Tokens) → Gives (IsRead exp_onto Whole ts) (whole_exp ts)
 unfolding whole_exp
 whole_exp-sound ts =
-    follow (read 128 level.Expression ts) _ (read-sound 128 level.Expression ts)
+    follow (read depth_limit level.Expression ts) _ (read-sound depth_limit level.Expression ts)
     (λ g is. some_gives (g.tree, g.rest) (record { spelled = is.spelled; fits = (is.fits, omega arith) }))
 
 rule_name-sound : (ts : Tokens) → Spelled rule_name_onto ts (rule_name ts)
@@ -48,7 +48,7 @@ rule_name-sound ts =
     refl
 
 abbrev MaybeWhole : Option Exp → Type 0
-MaybeWhole o = OptionFits o × (option_depth o ≤ 128)
+MaybeWhole o = OptionFits o × (option_depth o ≤ depth_limit)
 
 when_part-sound : (ts : Tokens) → Gives (IsRead when_onto MaybeWhole ts) (when_part ts)
 unfolding when_part
@@ -61,7 +61,7 @@ when_part-sound ts =
 
 record WholePointRule (r : PointRuleTree) : Type 0 where
   fits : PointRuleFits r
-  shallow : point_rule_depth r ≤ 128
+  shallow : point_rule_depth r ≤ depth_limit
 
 -- what has to hold, with its error
 abbrev holds_onto : Exp × ErrorPart → Tokens → Tokens
@@ -116,7 +116,7 @@ right_side-sound ts =
     (λ os is. some_gives (((maybe_word addition_at ts).0, (f.0, os.0)), os.1) (cc)))
 
 abbrev ShallowRule : HierRule → Type 0
-ShallowRule r = hier_rule_depth r ≤ 128
+ShallowRule r = hier_rule_depth r ≤ depth_limit
 
 at_most : (a b : ℕ) → nat_le a b ≡ true → a ≤ b
 at_most a b e = grind (arith, nat_tests)
@@ -131,8 +131,8 @@ hier_rule_read-sound ts =
     (λ r er. follow (error_part r.1) _ (error_part-sound r.1)
     (λ err ee.
     let rule : HierRule = record { name = (rule_name ts).0; item = i.0; comparison = c.0; sign = r.0.0; first = r.0.1.0; others = r.0.1.1; error = err.0 } in
-    under_test (nat_le (hier_rule_depth rule) 128) (Some (rule, err.1)) None
-    (λ t. some_gives (rule, err.1) (record { spelled = cc; fits = at_most (hier_rule_depth rule) 128 t }))
+    under_test (nat_le (hier_rule_depth rule) depth_limit) (Some (rule, err.1)) None
+    (λ t. some_gives (rule, err.1) (record { spelled = cc; fits = at_most (hier_rule_depth rule) depth_limit t }))
     (λ t. none_gives)))))
 
 -- ---- rulesets
@@ -178,11 +178,11 @@ fitting : (rs : List PointRuleTree) → AllByRecursion WholePointRule rs → All
 fitting [] h = tt
 fitting (r ∷ rs) h = (h.0.fits, fitting rs h.1)
 
-points_shallow : (rs : List PointRuleTree) → AllByRecursion WholePointRule rs → deepest point_rule_depth rs ≤ 128
+points_shallow : (rs : List PointRuleTree) → AllByRecursion WholePointRule rs → deepest point_rule_depth rs ≤ depth_limit
 points_shallow [] h = omega arith
 points_shallow (r ∷ rs) h = let here = h.0.shallow in let rest = points_shallow rs h.1 in omega arith
 
-rules_shallow : (rs : List HierRule) → AllByRecursion ShallowRule rs → deepest hier_rule_depth rs ≤ 128
+rules_shallow : (rs : List HierRule) → AllByRecursion ShallowRule rs → deepest hier_rule_depth rs ≤ depth_limit
 rules_shallow [] h = omega arith
 rules_shallow (r ∷ rs) h = let rest = rules_shallow rs h.1 in omega arith
 

@@ -1,7 +1,7 @@
 -- What holds of that which a reading gives, step by step.
 use Rattle.std.proofs.Common.{◌≡◌, Bool, true, false, Option, None, Some, refl, subst}
 use Rattle.std.specs.Prelude.{if◌then◌else◌}
-use Rattle.vtl_grammar.specs.Reading.{◌>>=◌, given}
+use Rattle.vtl_lists.specs.Options.{◌>>=◌, given}
 
 -- what is given, if anything is, is so
 pub record Gives {A : Type 0} (P : A → Type 0) (r : Option A) : Type 0 where

@@ -11,6 +11,10 @@ use Rattle.vtl_grammar.specs.Grammar.{Tokens, tokens_of}
 use Rattle.vtl_grammar.specs.Levels.{operator_level, tighter, Within}
 use Rattle.vtl_grammar.specs.declared.levels.Level.TheVariants as level
 
+-- the depth that a statement may have
+abbrev pub depth_limit : ℕ
+depth_limit = 128
+
 -- an item at least
 abbrev pub Filled : {A : Type 0} → List A → Type 0
 Filled xs = 1 ≤ length xs
@@ -121,7 +125,7 @@ StatementFits (hierarchical n i rs last) = Filled rs
 -- a statement of the grammar: it fits, and it is not too deep
 pub record InGrammar (s : StatementTree) : Type 0 where
   pub fits : StatementFits s
-  pub shallow : statement_depth s ≤ 128
+  pub shallow : statement_depth s ≤ depth_limit
 
 -- the tokens spell the script
 pub record SpellsScript (ts : Tokens) (script : ScriptTree) : Type 0 where

@@ -20,7 +20,8 @@ use Rattle.vtl_syntax.specs.declared.word_groups.ValueWindowName.{ValueWindowNam
 use Rattle.vtl_syntax.specs.declared.word_groups.WrittenRole.{WrittenRole}
 use Rattle.vtl_grammar.specs.Grammar.{Tokens}
 use Rattle.vtl_grammar.specs.Levels.{looseness, operator_level}
-use Rattle.vtl_grammar.specs.Reading.{Got, Gets, Reads, got, ◌>>=◌, given, is_keyword, is_sign, after_keyword, after_sign, word, maybe_word, got_listed, spared}
+use Rattle.vtl_lists.specs.Options.{◌>>=◌, given}
+use Rattle.vtl_grammar.specs.Reading.{Got, Gets, Reads, got, is_keyword, is_sign, after_keyword, after_sign, word, maybe_word, got_listed, spared}
 use Rattle.vtl_grammar.specs.ReadParts.{cast_part, literal_set, error_part, group_part, over_part, maybe_keeping, maybe_renames, sub_parts, two_comps, using_part, alias_part, shift_part, retain_part, ruleset_part, rule_part}
 use Rattle.vtl_grammar.specs.Words.{binary_op_at, unary_op_at, mode_at, basic_out_at, check_out_at, hier_input_at, hier_out_at, written_role_at, comp_at, constant_at, in_at, form_at}
 use Rattle.vtl_grammar.specs.declared.call_forms.CallForm.{CallForm}

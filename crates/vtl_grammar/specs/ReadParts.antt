@@ -23,7 +23,8 @@ use Rattle.vtl_syntax.specs.declared.parts.RenamePart.{RenamePart}
 use Rattle.vtl_syntax.specs.declared.parts.SubPart.{SubPart}
 use Rattle.vtl_syntax.specs.declared.word_groups.CastKind.{CastKind}
 use Rattle.vtl_grammar.specs.Grammar.{Tokens}
-use Rattle.vtl_grammar.specs.Reading.{Reads, ◌>>=◌, given, after_keyword, after_sign, word, maybe_word, maybe_after, listed}
+use Rattle.vtl_lists.specs.Options.{◌>>=◌, given}
+use Rattle.vtl_grammar.specs.Reading.{Reads, after_keyword, after_sign, word, maybe_word, maybe_after, listed}
 use Rattle.vtl_grammar.specs.Words.{name_at, string_at, integer_at, comp_at, numeral_at, constant_at, cast_kind_at, group_kind_at, direction_at, side_at, retain_at}
 use Rattle.vtl_syntax.specs.declared.word_groups.Retain.{Retain}
 

@@ -10,16 +10,18 @@ use Rattle.vtl_syntax.specs.declared.parts.ErrorPart.{ErrorPart}
 use Rattle.vtl_syntax.specs.declared.parts.SignedComp.{SignedComp}
 use Rattle.vtl_syntax.specs.declared.statements.HierRule.{HierRule}
 use Rattle.vtl_syntax.specs.declared.word_groups.Addition.{Addition}
+use Rattle.vtl_grammar.specs.Fits.{depth_limit}
 use Rattle.vtl_grammar.specs.Grammar.{Tokens}
 use Rattle.vtl_grammar.specs.ReadExpressions.{read}
 use Rattle.vtl_grammar.specs.ReadParts.{comps, error_part}
-use Rattle.vtl_grammar.specs.Reading.{Reads, ◌>>=◌, given, is_keyword, after_keyword, after_sign, word, maybe_word}
+use Rattle.vtl_lists.specs.Options.{◌>>=◌, given}
+use Rattle.vtl_grammar.specs.Reading.{Reads, is_keyword, after_keyword, after_sign, word, maybe_word}
 use Rattle.vtl_grammar.specs.Words.{name_at, comp_at, comparison_at, addition_at, assign_kind_at}
 use Rattle.vtl_grammar.specs.declared.levels.Level.TheVariants as level
 
--- an expression of a statement, which may be 128 deep
+-- an expression of a statement
 unfoldable pub whole_exp : Reads Exp
-whole_exp ts = read 128 level.Expression ts >>= (λ g. Some (g.tree, g.rest))
+whole_exp ts = read depth_limit level.Expression ts >>= (λ g. Some (g.tree, g.rest))
 
 -- [ name ":" ]
 unfoldable pub rule_name : Tokens → Option (List ℕ) × Tokens
@@ -66,7 +68,7 @@ hier_rule_read ts =
     >>= (λ c. right_side c.1
     >>= (λ r. error_part r.1
     >>= (λ err. let rule : HierRule = record { name = (rule_name ts).0; item = i.0; comparison = c.0; sign = r.0.0; first = r.0.1.0; others = r.0.1.1; error = err.0 } in
-    if nat_le (hier_rule_depth rule) 128 then Some (rule, err.1) else None))))
+    if nat_le (hier_rule_depth rule) depth_limit then Some (rule, err.1) else None))))
 
 abbrev pub ends_rules : Tokens → Bool
 ends_rules [] = false

@@ -1,5 +1,6 @@
 -- How reading goes: each reading function gives what stands at the front of some tokens and the tokens that are left, or nothing.
 use Rattle.std.specs.Prelude.{ℕ, zero, suc, ◌-◌, min, Bool, false, List, [], ◌∷◌, ◌++◌, length, Option, None, Some, option_map, nat_eq, nat_le, if◌then◌else◌}
+use Rattle.vtl_lists.specs.Options.{◌>>=◌, given}
 use Rattle.vtl_lexer.specs.Keywords.{same_keyword}
 use Rattle.vtl_lexer.specs.declared.keyword.Keyword.{Keyword}
 use Rattle.vtl_lexer.specs.declared.token.Sign.{Sign}
@@ -22,17 +23,6 @@ Gets A = Tokens → Option (Got A)
 
 abbrev pub got : {A : Type 0} → A → ℕ → Tokens → Got A
 got tree spare rest = record { tree = tree; spare = spare; rest = rest }
-
--- first one, and then the other at its result
-abbrev pub ◌>>=◌ : {A B : Type 0} → Option A → (A → Option B) → Option B
-None >>= f = None
-Some x >>= f = f x
-
-infixl 10 ◌>>=◌
--- one of two ways
-abbrev pub given : {A B : Type 0} → Option A → (A → B) → B → B
-given None f other = other
-given (Some x) f other = f x
 
 -- ---- tokens
 

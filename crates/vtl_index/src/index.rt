@@ -31,7 +31,7 @@ impl Index {
         }
     }
 
-    /// Adds a row behind the others of its key. It fails only for want of memory, and leaves the index as it was then.
+    /// Adds a row after the others of its key. It fails only when out of memory, and leaves the index as it was then.
     pub fn add<L: Ledger>(
         &mut self,
         key: &[Cell],

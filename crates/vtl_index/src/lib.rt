@@ -1,4 +1,11 @@
-//! A look-up from keys to numbers of rows.
+//! A look-up from keys, which are rows of one width, to the numbers that were added with them, in the order of
+//! adding.
+//!
+//! By hash first and by order where a bucket is full, so no choice of keys makes it slow. Null is a key like any
+//! other: who must not match nulls looks before probing. Each call counts one step, for callers that bound their
+//! work.
+//! It knows no tables: a number is whatever the caller means by it.
+//! Begin with specs/Lookup.antt, then specs/Index.antt.
 #![tactic(auto)]
 
 mod bucket;

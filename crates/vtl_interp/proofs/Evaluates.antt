@@ -9,8 +9,8 @@ use Rattle.vtl_scalar.specs.declared.error.ScalarErr.TheVariants as err
 use Rattle.vtl_tree.specs.Environment.{DataSet, Environment}
 use Rattle.vtl_tree.specs.declared.structure.Structure.{Structure}
 use Rattle.vtl_nodes.specs.Trees.{NodeTree, structure_of}
+use Rattle.vtl_sets.specs.DataSets.{data_set, with_structure}
 use Rattle.vtl_meaning.specs.Meaning.{node_value}
-use Rattle.vtl_expr.specs.DataSets.{data_set, with_structure}
 use Rattle.vtl_interp.specs.Evaluated.{Evaluates, Gives}
 
 -- a function of a structure and a data set at others that are the same

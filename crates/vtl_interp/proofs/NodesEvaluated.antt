@@ -25,9 +25,9 @@ use Rattle.vtl_nodes.specs.declared.nodes.Node.{Node}
 use Rattle.vtl_nodes.specs.declared.nodes.NodeForm.{NodeForm}
 use Rattle.vtl_nodes.specs.declared.nodes.NodeForm.TheVariants as form
 use Rattle.vtl_nodes.specs.declared.nodes.NodeForm as forms
+use Rattle.vtl_sets.specs.DataSets.{with_structure}
 use Rattle.vtl_meaning.specs.Made.{IsMade}
 use Rattle.vtl_meaning.specs.Meaning.{form_value, known_in, node_value}
-use Rattle.vtl_expr.specs.DataSets.{with_structure}
 use Rattle.vtl_interp.specs.Evaluated.{Evaluates, Gives}
 use Rattle.vtl_interp.proofs.Environments.{data_looked, known_looked}
 use Rattle.vtl_interp.proofs.Evaluates.{applied, then}

@@ -10,7 +10,10 @@ use Rattle.vtl_tree.specs.Structure.{same_name}
 use Rattle.vtl_tree.specs.Structures.{has_name}
 use Rattle.vtl_tree.specs.declared.structure.Structure.{Structure}
 use Rattle.vtl_nodes.specs.Trees.{NodeTree, structure_of}
-use Rattle.check_faults.specs.Rules.{◌>>=◌, ruled}
+use Rattle.vtl_lists.specs.Results.{◌>>=◌}
+use Rattle.check_faults.specs.Rules.{ruled}
+use Rattle.check_faults.specs.declared.rules.Rule.{Rule}
+use Rattle.check_faults.specs.declared.rules.Rule.TheVariants as rule
 use Rattle.check_operators.specs.Places.{Env}
 use Rattle.vtl_check.specs.Checked.{IsTyped, TypedScript, env_over, nodes_of, tree_of}
 use Rattle.vtl_check.specs.Count.{count}
@@ -49,7 +52,7 @@ name_new : (env : Env) (before : ℕ) (name : List ℕ) (e : Exp) (n : NodeTree)
 unfolding assigned
 name_new env before name e n h = go (has_name name env.known) h
   where
-    go : (b : Bool) → (ruled ((2, b) ∷ []) (tt {0}) >>= (λ u. value_typed env e >>= (λ n. ruled ((20, is_too_much before n) ∷ []) n))) ≡ Ok n → b ≡ false
+    go : (b : Bool) → (ruled ((rule.NameTaken, b) ∷ []) (tt {0}) >>= (λ u. value_typed env e >>= (λ n. ruled ((rule.TooManyNodes, is_too_much before n) ∷ []) n))) ≡ Ok n → b ≡ false
     go false h = refl
     go true h = cc
 
@@ -62,10 +65,10 @@ names_new env i before done (tree.assignment name k e ∷ ss) all (n ∷ ns) h =
     rest : NodeTree → Result (List NodeTree) (ℕ × ℕ)
     rest m = statements_typed (with_result env name m) (suc i) (before + count m) (done ++ m ∷ []) ss
 
-    go : (r : Result NodeTree ℕ) → assigned env before name e ≡ r → ((m : NodeTree) → rest m ≡ Ok all → AreNew (keys_of (env.known ++ (name, structure_of m) ∷ [])) (with_nodes ss ns))
+    go : (r : Result NodeTree Rule) → assigned env before name e ≡ r → ((m : NodeTree) → rest m ≡ Ok all → AreNew (keys_of (env.known ++ (name, structure_of m) ∷ [])) (with_nodes ss ns))
         → at i r rest ≡ Ok all → (list_any (same_name name) (keys_of env.known) ≡ false) × AreNew (keys_of env.known ++ name ∷ []) (with_nodes ss ns)
     go (Ok m) e ih h = (name_new env before name _ m e, subst (λ l. AreNew l (with_nodes ss ns)) (map-append (λ (x : List ℕ × Structure). x.0) env.known ((name, structure_of m) ∷ [])) (ih m h))
-    go (Err rule) e ih h = cc
+    go (Err broken) e ih h = cc
 names_new env i before done (tree.datapoint n vs rs b ∷ ss) all ns h = cc
 names_new env i before done (tree.hierarchical n v rs b ∷ ss) all ns h = cc
 
@@ -113,9 +116,9 @@ no_definitions env i before done (tree.assignment name k e ∷ ss) all h =
     rest : NodeTree → Result (List NodeTree) (ℕ × ℕ)
     rest m = statements_typed (with_result env name m) (suc i) (before + count m) (done ++ m ∷ []) ss
 
-    go : (r : Result NodeTree ℕ) → ((m : NodeTree) → rest m ≡ Ok all → has_definitions ss ≡ false) → at i r rest ≡ Ok all → has_definitions ss ≡ false
+    go : (r : Result NodeTree Rule) → ((m : NodeTree) → rest m ≡ Ok all → has_definitions ss ≡ false) → at i r rest ≡ Ok all → has_definitions ss ≡ false
     go (Ok m) ih h = ih m h
-    go (Err rule) ih h = cc
+    go (Err broken) ih h = cc
 no_definitions env i before done (tree.datapoint n vs rs b ∷ ss) all h = cc
 no_definitions env i before done (tree.hierarchical n v rs b ∷ ss) all h = cc
 

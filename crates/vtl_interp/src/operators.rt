@@ -4,19 +4,18 @@ ghost use Rattle.vtl_scalar.specs.Answers.{AnswersBy};
 ghost use Rattle.vtl_tree.specs.Clauses.{filter_of};
 ghost use Rattle.vtl_tree.specs.View.{comp_exp_of};
 ghost use Rattle.vtl_nodes.specs.View.{item_tree, measure_tree};
+ghost use Rattle.vtl_sets.specs.DataSets.{data_set, with_structure};
 ghost use Rattle.vtl_meaning.specs.Made.{IsCalculated, IsChoice, IsFiltered, IsLeft, IsMeasured, IsPaired, IsRenamed, IsSub};
 ghost use Rattle.vtl_meaning.specs.Operators.{calculated_of, choice_of, left_of, measured_of, pair_of, sub_of};
-ghost use Rattle.vtl_expr.specs.DataSets.{data_set, with_structure};
 ghost use Rattle.vtl_interp.specs.Values.{value_view};
 
 use crate::value::Value;
-use check_shapes::share_structure;
 use std::alloc::Global;
 use vtl_cell::ScalarOp;
 use vtl_decimal::Profile;
 use vtl_nodes::{CalcItem, MeasureOp, SubItem};
 use vtl_scalar::ScalarErr;
-use vtl_tree::{CompExpr, Structure};
+use vtl_tree::{CompExpr, Structure, share_structure};
 
 /// An operator on each measure.
 pub fn measures<'a>(

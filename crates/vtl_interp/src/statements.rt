@@ -19,10 +19,10 @@ use crate::last_reads::{LastReads, last_reads, let_go};
 use std::alloc::{AllocError, Global};
 use vtl_backend::RunErr;
 use vtl_decimal::Profile;
-use vtl_expr::DataSet;
 use vtl_nodes::Node;
 use vtl_rows::Outputs;
 use vtl_scalar::ScalarErr;
+use vtl_sets::DataSet;
 use vtl_syntax::{AssignKind, Statement};
 use vtl_text::Txt;
 

@@ -42,9 +42,9 @@ lies_between low high n = option_map_or (λ n. int_le low n && int_le n high) n 
 abbrev pub largest_place : ℤ
 largest_place = pos 1_000_000_000
 
--- the most rows that a literal may name
-abbrev pub most_points : ℤ
-most_points = pos 1_000_000
+-- how far from a row a frame or an offset may reach
+abbrev pub longest_reach : ℤ
+longest_reach = pos 1_000_000
 
 abbrev pub is_null_kind : Kind → Bool
 is_null_kind k.Null = true

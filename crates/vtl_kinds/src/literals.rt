@@ -12,8 +12,8 @@ use vtl_text::Txt;
 /// The last place in a text that a literal may name.
 pub const LARGEST_PLACE: i64 = 1_000_000_000;
 
-/// The most rows that a literal may name.
-pub const MOST_POINTS: i64 = 1_000_000;
+/// How far from a row a frame or an offset may reach.
+pub const LONGEST_REACH: i64 = 1_000_000;
 
 /// The integer that digits write, where it is in range.
 pub fn integer_written(profile: &Profile, digits: &Txt) -> Option<i64>
@@ -36,7 +36,7 @@ pub fn number_cell(profile: &Profile, digits: &Txt) -> Option<Cell>
     read_literal(digits.as_str(), profile).ok().map(Cell::Num)
 }
 
-/// The value of a kind that a text stands for. It fails only for want of memory.
+/// The value of a kind that a text stands for. It fails only when out of memory.
 pub fn written(
     alloc: Global,
     profile: &Profile,

@@ -275,7 +275,7 @@ fn counted_kind(op: ScalarOp, kind: Kind) -> Kind
     if takes_literals(op) { Kind::Int } else { kind }
 }
 
-/// The kinds of operands behind the first, where what stands for an integer literal counts as one.
+/// The kinds of operands after the first, where what stands for an integer literal counts as one.
 pub fn counted_kinds(alloc: Global, op: ScalarOp, kinds: &[Kind]) -> Result<Vec<Kind>, AllocError>
     ensures { IfOk result (λ v. v.items ≡ counted_kinds op kinds.now) }
 {

@@ -14,7 +14,8 @@ use Rattle.vtl_lexer.specs.Gaps.{IsGap, block_comment, line_comment, white_space
 use Rattle.vtl_lexer.specs.Lexed.{mark_len}
 use Rattle.vtl_lexer.specs.Leads.{lead_of}
 use Rattle.vtl_lexer.specs.Spelling.{Spells, doubled, spelling}
-use Rattle.vtl_lexer.specs.Tokens.{NoToken, begins_with}
+use Rattle.vtl_lists.specs.Runs.{begins_with}
+use Rattle.vtl_lexer.specs.Tokens.{NoToken}
 use Rattle.vtl_lexer.specs.declared.lead.Lead.TheVariants.{Nothing}
 use Rattle.vtl_lexer.specs.declared.token.Found.{Found}
 use Rattle.vtl_lexer.specs.declared.token.Sign.{Sign}

@@ -5,12 +5,13 @@ use Rattle.std.proofs.lemmas.Bool.{false≢true}
 use Rattle.std.proofs.lemmas.Bool.Decides.{nat_tests}
 use Rattle.vtl_lexer.specs.Gaps.{HasNoEnd, IsGap, block_comment, is_white_space, line_comment, white_space}
 use Rattle.vtl_lexer.specs.Spelling.{Lacks, Spells, spelling}
-use Rattle.vtl_lexer.specs.Tokens.{IsToken, begins_with, goes_on}
+use Rattle.vtl_lists.specs.Runs.{begins_with}
+use Rattle.vtl_lexer.specs.Tokens.{IsToken, goes_on}
 use Rattle.vtl_lexer.specs.declared.token.Sign.{Sign}
 use Rattle.vtl_lexer.specs.declared.token.Sign.TheVariants as s
 use Rattle.vtl_lexer.specs.declared.token.TokenKind.{TokenKind}
 use Rattle.vtl_lexer.specs.declared.token.TokenKind.TheVariants as k
-use Rattle.vtl_lexer.proofs.ListLemmas.{front-same, run-same}
+use Rattle.vtl_lists.proofs.Runs.{front-same, run-same}
 use Rattle.vtl_lexer.specs.Leads.{lead_byte_of, lead_of}
 use Rattle.vtl_lexer.specs.declared.lead.Lead.TheVariants.{Other}
 use Rattle.vtl_lexer.proofs.SpellingLemmas.{front-lead, lead_kind}

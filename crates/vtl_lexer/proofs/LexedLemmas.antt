@@ -10,7 +10,7 @@ use Rattle.vtl_lexer.specs.declared.token.Found.{Found}
 use Rattle.vtl_lexer.specs.declared.token.Token.{Token}
 use Rattle.vtl_lexer.specs.declared.token.TokenKind.{TokenKind}
 use Rattle.vtl_lexer.proofs.GapLemmas.{gap-no_token, gap-some, one-gap}
-use Rattle.vtl_lexer.proofs.ListLemmas.{front-same}
+use Rattle.vtl_lists.proofs.Runs.{front-same}
 use Rattle.vtl_lexer.proofs.SpellingLemmas.{lead_kind, front-lead, one-kind, spelled-some}
 
 -- two tokens at the front of one text are one

@@ -4,7 +4,6 @@ pub mod GapLemmas
 pub mod GapSearchLemmas
 pub mod LeadLemmas
 pub mod LexedLemmas
-pub mod ListLemmas
 pub mod NumberLemmas
 pub mod QuoteLemmas
 pub mod ReservedLemmas

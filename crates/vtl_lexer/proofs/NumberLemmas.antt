@@ -15,13 +15,14 @@ use Rattle.vtl_text.specs.Words.{is_word_character}
 use Rattle.vtl_lexer.specs.Found.{HasNoFraction, IsFractionOf, IsTokenOf}
 use Rattle.vtl_lexer.specs.Leads.{lead_of}
 use Rattle.vtl_lexer.specs.Spelling.{IsDigits, Spells}
-use Rattle.vtl_lexer.specs.Tokens.{IsToken, begins_with}
+use Rattle.vtl_lists.specs.Runs.{begins_with}
+use Rattle.vtl_lexer.specs.Tokens.{IsToken}
 use Rattle.vtl_lexer.specs.declared.lead.Lead.TheVariants.{Digit}
 use Rattle.vtl_lexer.specs.declared.token.TokenKind.{TokenKind}
 use Rattle.vtl_lexer.specs.declared.token.TokenKind.TheVariants as k
 use Rattle.vtl_lexer.proofs.CutLemmas.{all-ascii, cut-behind, cut-run, digit-ascii, ends-all, ends-append, ends-more, word-ascii}
 use Rattle.vtl_lexer.proofs.LeadLemmas.{lead-digit}
-use Rattle.vtl_lexer.proofs.ListLemmas.{run-longest, run-same}
+use Rattle.vtl_lists.proofs.Runs.{run-longest, run-same}
 use Rattle.vtl_lexer.proofs.SearchLemmas.{IsRun}
 use Rattle.vtl_lexer.proofs.SpellingLemmas.{front-lead, lead_kind}
 

@@ -16,7 +16,7 @@ use Rattle.vtl_lexer.specs.declared.token.TokenKind.{TokenKind}
 use Rattle.vtl_lexer.specs.declared.token.TokenKind.TheVariants as k
 use Rattle.vtl_lexer.proofs.CutLemmas.{cut-after, cut-before}
 use Rattle.vtl_lexer.proofs.LeadLemmas.{double-first, quote-first}
-use Rattle.vtl_lexer.proofs.ListLemmas.{run-same}
+use Rattle.vtl_lists.proofs.Runs.{run-same}
 use Rattle.vtl_lexer.proofs.NumberLemmas.{never, token-of}
 use Rattle.vtl_lexer.proofs.SpellingLemmas.{front-lead, lead_kind}
 use Rattle.vtl_lexer.proofs.StringLemmas.{lacks-split}

@@ -10,31 +10,14 @@ use Rattle.memchr.specs.Find.{FindsNeedle, IsFirstByte, OccursAt, is_byte}
 use Rattle.vtl_lexer.specs.Gaps.{HasNoEnd}
 use Rattle.vtl_lexer.specs.Searches.{EndsFirst, StandsFirst}
 use Rattle.vtl_lexer.specs.Spelling.{Lacks}
-use Rattle.vtl_lexer.specs.Tokens.{begins_with}
+use Rattle.vtl_lists.specs.Runs.{begins_with}
+use Rattle.vtl_lists.proofs.Runs.{prefix-passes, prefix-stops}
 
 -- the bytes at the front that pass a test
 pub record IsRun (test : ℕ → Bool) (text : List ℕ) (size : ℕ) : Type 0 where
   pub within : size ≤ length text
   pub passes : list_all test (take size text) ≡ true
   pub stops : begins_with test (drop size text) ≡ false
-
-prefix-passes : (test : ℕ → Bool) (text : List ℕ) → list_all test (take (prefix_len test text) text) ≡ true
-prefix-passes test [] = refl
-prefix-passes test (byte ∷ rest) = elim (cases_Bool (test byte)) [
-  | inl e ↦
-      let one : 1 + prefix_len test rest ≡ suc (prefix_len test rest) = omega arith in
-      rw (e, one) (and_from (test byte) _ e (prefix-passes test rest))
-  | inr e ↦ rw e refl
-]
-
-prefix-stops : (test : ℕ → Bool) (text : List ℕ) → begins_with test (drop (prefix_len test text) text) ≡ false
-prefix-stops test [] = refl
-prefix-stops test (byte ∷ rest) = elim (cases_Bool (test byte)) [
-  | inl e ↦
-      let one : 1 + prefix_len test rest ≡ suc (prefix_len test rest) = omega arith in
-      rw (e, one) (prefix-stops test rest)
-  | inr e ↦ rw e e
-]
 
 pub run-from_prefix : (test : ℕ → Bool) (text : List ℕ) (size : ℕ) → size ≡ prefix_len test text → IsRun test text size
 run-from_prefix test text size e =

@@ -7,7 +7,8 @@ use Rattle.vtl_lexer.specs.Found.{IsTokenOf}
 use Rattle.vtl_lexer.specs.Leads.{lead_of}
 use Rattle.vtl_lexer.specs.Signs.{begins_comment, sign_of_one, sign_of_two}
 use Rattle.vtl_lexer.specs.Spelling.{Spells, spelling}
-use Rattle.vtl_lexer.specs.Tokens.{NoToken, begins_with, goes_on}
+use Rattle.vtl_lists.specs.Runs.{begins_with}
+use Rattle.vtl_lexer.specs.Tokens.{NoToken, goes_on}
 use Rattle.vtl_lexer.specs.declared.lead.Lead.TheVariants.{Other}
 use Rattle.vtl_lexer.specs.declared.token.Sign.{Sign}
 use Rattle.vtl_lexer.specs.declared.token.Sign.TheVariants as s

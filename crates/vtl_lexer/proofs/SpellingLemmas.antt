@@ -15,7 +15,7 @@ use Rattle.vtl_lexer.specs.declared.token.Sign.{Sign}
 use Rattle.vtl_lexer.specs.declared.token.Sign.TheVariants as s
 use Rattle.vtl_lexer.specs.declared.token.TokenKind.{TokenKind}
 use Rattle.vtl_lexer.specs.declared.token.TokenKind.TheVariants as k
-use Rattle.vtl_lexer.proofs.ListLemmas.{front-same}
+use Rattle.vtl_lists.proofs.Runs.{front-same}
 use Rattle.vtl_lexer.proofs.ReservedLemmas.{keyword-reserved, keyword-word, one-keyword}
 
 -- what a token of each kind begins with

@@ -12,14 +12,15 @@ use Rattle.vtl_lexer.specs.Found.{IsTokenOf, IsWordKind}
 use Rattle.vtl_lexer.specs.Keywords.{word_of}
 use Rattle.vtl_lexer.specs.Leads.{lead_of}
 use Rattle.vtl_lexer.specs.Spelling.{Spells}
-use Rattle.vtl_lexer.specs.Tokens.{NoToken, begins_with, goes_on}
+use Rattle.vtl_lists.specs.Runs.{begins_with}
+use Rattle.vtl_lexer.specs.Tokens.{NoToken, goes_on}
 use Rattle.vtl_lexer.specs.declared.keyword.Keyword.{Keyword}
 use Rattle.vtl_lexer.specs.declared.lead.Lead.TheVariants.{Letter}
 use Rattle.vtl_lexer.specs.declared.token.TokenKind.{TokenKind}
 use Rattle.vtl_lexer.specs.declared.token.TokenKind.TheVariants as k
 use Rattle.vtl_lexer.proofs.CutLemmas.{all-ascii, cut-run, word-ascii}
 use Rattle.vtl_lexer.proofs.LeadLemmas.{lead-letter}
-use Rattle.vtl_lexer.proofs.ListLemmas.{run-longest, run-same}
+use Rattle.vtl_lists.proofs.Runs.{run-longest, run-same}
 use Rattle.vtl_lexer.proofs.ReservedLemmas.{keyword-word}
 use Rattle.vtl_lexer.proofs.SearchLemmas.{IsRun}
 use Rattle.vtl_lexer.proofs.SpellingLemmas.{front-lead, lead_kind, name-word, word-characters}

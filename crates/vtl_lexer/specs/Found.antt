@@ -5,7 +5,8 @@ use Rattle.std.specs.Str.{IsCharBoundary}
 use Rattle.vtl_text.specs.Words.{is_word_character}
 use Rattle.vtl_lexer.specs.Gaps.{IsGap, NoGap}
 use Rattle.vtl_lexer.specs.Spelling.{IsDigits, Spells}
-use Rattle.vtl_lexer.specs.Tokens.{IsToken, NoToken, begins_with, goes_on}
+use Rattle.vtl_lists.specs.Runs.{begins_with}
+use Rattle.vtl_lexer.specs.Tokens.{IsToken, NoToken, goes_on}
 use Rattle.vtl_lexer.specs.declared.token.TokenKind.{TokenKind}
 use Rattle.vtl_lexer.specs.declared.finding.Piece.{Piece}
 use Rattle.vtl_lexer.specs.declared.finding.Piece.TheVariants as p

@@ -1,7 +1,7 @@
 -- What may stand between tokens.
 use Rattle.std.specs.Prelude.{◌≡◌, ◌==◌, ◌||◌, not, ℕ, Bool, true, false, List, [], ◌∷◌, ◌++◌, codes}
 use Rattle.vtl_lexer.specs.Spelling.{Lacks}
-use Rattle.vtl_lexer.specs.Tokens.{begins_with}
+use Rattle.vtl_lists.specs.Runs.{begins_with}
 
 -- a space, a tab, a carriage return or a line feed
 abbrev pub is_white_space : ℕ → Bool

@@ -1,15 +1,11 @@
 -- Which token starts at the front of a text.
 use Rattle.std.specs.Prelude.{◌≡◌, ◌≤◌, ◌==◌, ◌||◌, ℕ, Bool, false, List, [], ◌∷◌, ◌++◌, length}
+use Rattle.vtl_lists.specs.Runs.{begins_with}
 use Rattle.vtl_text.specs.Words.{is_word_character}
 use Rattle.vtl_lexer.specs.Spelling.{Spells}
 use Rattle.vtl_lexer.specs.declared.token.Sign.TheVariants as s
 use Rattle.vtl_lexer.specs.declared.token.TokenKind.{TokenKind}
 use Rattle.vtl_lexer.specs.declared.token.TokenKind.TheVariants as k
-
--- whether the first byte of a text passes a test
-abbrev pub begins_with : (ℕ → Bool) → List ℕ → Bool
-begins_with test [] = false
-begins_with test (byte ∷ rest) = test byte
 
 -- whether a byte right behind it makes the token a part of something else: of a longer word, or of the start of a comment (42 is `*`, 47 is `/`)
 abbrev pub goes_on : TokenKind → ℕ → Bool

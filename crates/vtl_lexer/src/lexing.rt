@@ -35,11 +35,11 @@ impl From<AllocError> for LexErr {
 pub struct Lexed {
     /// The tokens, in order.
     pub tokens: List<Token>,
-    /// The place of that byte, if there is one; else the tokens are all of the text.
+    /// The place of that byte, if there is one; otherwise the tokens are all of the text.
     pub bad: Option<usize>,
 }
 
-/// The tokens of `text`, each with the bytes where it starts and ends. It fails at the first byte from which no token starts, and for want of memory.
+/// The tokens of `text`, each with the bytes where it starts and ends. It fails at the first byte from which no token starts, and when out of memory.
 pub fn lex(alloc: Global, text: &str) -> Result<Vec<Token>, LexErr>
     ensures answer { MatchResult result (λ tokens. IsLexed text.now tokens.items None) (λ error. IsFault text.now error) }
     ensures only { (tokens : Items Token) (bad : Option ℕ) → IsLexed text.now tokens bad
@@ -52,7 +52,7 @@ pub fn lex(alloc: Global, text: &str) -> Result<Vec<Token>, LexErr>
     }
 }
 
-/// The tokens of `text` before the first byte from which none starts, and that byte. It fails only for want of memory.
+/// The tokens of `text` before the first byte from which none starts, and that byte. It fails only when out of memory.
 pub fn tokens_before_fault(alloc: Global, text: &str) -> Result<Lexed, AllocError>
     ensures { IfOk result (λ lexed. IsLexed text.now lexed.tokens lexed.bad) }
 {

@@ -1,4 +1,10 @@
-//! Tokens of scripts.
+//! The tokens of a script: `lex` gives them all with their places, or the first byte from which none starts.
+//!
+//! The definition is a relation on bytes, not a reader; that it determines the answer is a law. Comments and white
+//! space end here.
+//! It knows which words are reserved (`vtl_text` has the list) and nothing of how tokens follow each other
+//! (`vtl_grammar`).
+//! Begin with specs/Spelling.antt, Tokens.antt and Lexed.antt.
 #![tactic(auto)]
 
 mod finding;

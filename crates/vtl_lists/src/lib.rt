@@ -1,4 +1,11 @@
-//! Facts on lists that every other crate's definitions speak of: lists that differ in order alone, and the sorted list.
+//! Facts on lists, for any items: lists that differ in order alone, the sorted list, lists without repeats, a value
+//! for each item, runs of items that pass a test; and names for lists of numbers.
+//!
+//! Cells, data sets, tables and both languages cite them, so each is said and proved once, below all of them.
+//! `Perm` is a relation of its own, since a proof can follow it case by case; that it is std's permutation is a law
+//! here. `>>=`, which puts one step after another that may give nothing or fail, stands here too.
+//! It knows no type of the program, and runs nothing.
+//! Begin with specs/Perm.antt and specs/Sorting.antt.
 #![tactic(auto)]
 
 ghost use Rattle.std.specs.Prelude.{◌≡◌, List, IsPermutation, Bool};

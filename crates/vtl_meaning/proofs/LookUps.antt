@@ -7,7 +7,7 @@ use Rattle.std.proofs.lemmas.Bool.{and_parts, cases_lt}
 use Rattle.std.proofs.lemmas.List.{get_or-append-add, get_or_append_left, get_or_past, append-nil, get_or-take, length-map, length-take-le, map-append, take-append-le, take_all}
 use Rattle.vtl_decimal.specs.Settings.{Settings}
 use Rattle.vtl_lists.proofs.Sorts.{AllByRecursion-filter}
-use Rattle.vtl_cell.specs.Kinds.{is_of}
+use Rattle.vtl_cell.specs.Kinds.{is_of, same_kind}
 use Rattle.vtl_cell.specs.Order.{same_cell}
 use Rattle.vtl_cell.specs.Outcome.{faults_by}
 use Rattle.vtl_cell.specs.Row.{Row, column_of, same_row}
@@ -31,7 +31,6 @@ use Rattle.vtl_tree.specs.declared.structure.Structure.{Structure}
 use Rattle.vtl_tree.proofs.LookUps.{look-filter}
 use Rattle.vtl_nodes.specs.Trees.{ItemTree, MeasureTree}
 use Rattle.vtl_nodes.specs.declared.clauses.SubItem.{SubItem}
-use Rattle.check_shapes.specs.Kinds.{same_kind}
 use Rattle.check_shapes.specs.Names.{component_of}
 use Rattle.check_shapes.specs.Operands.{is_alike, is_there}
 use Rattle.check_shapes.specs.Pairs.{contains}

@@ -37,7 +37,7 @@ pub enum AnalyticOp {
     RatioToReport,
     /// `lag`: the value so many points before, or the default
     Lag { offset: u32, default: Cell },
-    /// `lead`: the value so many points behind, or the default
+    /// `lead`: the value so many points after, or the default
     Lead { offset: u32, default: Cell },
 }
 
@@ -79,7 +79,7 @@ pub enum Bound {
     Preceding(u32),
     /// The place of the point.
     Current,
-    /// So many places behind.
+    /// So many places after.
     Following(u32),
     /// The place of the last point.
     UnboundedFollowing,

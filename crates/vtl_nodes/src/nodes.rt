@@ -183,13 +183,13 @@ impl Drop for JoinOperand {
     }
 }
 
-/// An operator on each measure, with the values that stand before and behind the measure.
+/// An operator on each measure, with the values that stand before and after the measure.
 #[derive(Drop)]
 pub struct MeasureOp {
     /// The operator.
     pub op: ScalarOp,
     /// The operands before the measure.
     pub before: List<CompExpr>,
-    /// The operands behind the measure.
+    /// The operands after the measure.
     pub after: List<CompExpr>,
 }

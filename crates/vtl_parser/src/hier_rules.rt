@@ -1,6 +1,7 @@
 // Rules of hierarchical rulesets.
 ghost use Rattle.std.specs.Prelude.{◌≡◌, length, nat_le};
 ghost use Rattle.vtl_grammar.specs.Faults.{kinds};
+ghost use Rattle.vtl_grammar.specs.Fits.{depth_limit};
 ghost use Rattle.vtl_grammar.specs.ReadStatements.{hier_rule_read, more_signed, right_side};
 ghost use Rattle.read_parts.specs.Fronts.{ReadsAs};
 ghost use Rattle.vtl_syntax.specs.Depth.{hier_rule_depth};
@@ -9,6 +10,7 @@ use crate::heads::rule_name;
 use crate::rules::Rule;
 use read_parts::{Front, Unread, comp, error_part, maybe_word, word};
 use std::alloc::Global;
+use vtl_grammar::DEPTH_LIMIT;
 use vtl_lexer::Token;
 use vtl_syntax::{Addition, Comp, HierRule, SignedComp};
 use vtl_text::List;
@@ -55,15 +57,15 @@ fn right_side(
     })
 }
 
-// A rule may be 128 deep: it has two levels, and one more for each sign, a leading one too.
+// Whether a rule is no deeper than a statement may be: it has two levels, and one more for each sign, a leading one too.
 fn is_shallow(rule: &HierRule) -> bool
-    ensures { result ≡ nat_le (hier_rule_depth rule.now) 128 }
+    ensures { result ≡ nat_le (hier_rule_depth rule.now) depth_limit }
 {
     let leading = match rule.sign {
         Some(_) => 1,
         None => 0,
     };
-    rule.others.as_slice().len() <= 126 - leading
+    rule.others.as_slice().len() <= DEPTH_LIMIT - 2 - leading
 }
 
 // `name: item comparison sign first others error`

@@ -36,7 +36,7 @@ impl From<AllocError> for ParseErr {
     }
 }
 
-/// The script that `text` is. It fails exactly where the text is no script, with its fault; and for want of memory.
+/// The script that `text` is. It fails exactly where the text is no script, with its fault; and when out of memory.
 pub fn parse(alloc: Global, text: &str) -> Result<Script, ParseErr>
     ensures answer { MatchResult result (λ script. IsScript text.now (script_tree script)) (λ error. IsFault text.now error) }
     ensures scripts { (script : ScriptTree) → IsScript text.now script → MatchResult result (λ read. script_tree read ≡ script) (λ error. IsMemory error) }

@@ -97,7 +97,7 @@ fn statement(alloc: Global, tokens: &[Token]) -> Result<Front<'_, Statement>, Un
     hierarchical(alloc, after)
 }
 
-/// As many statements as there are at the front. It fails only for want of memory.
+/// As many statements as there are at the front. It fails only when out of memory.
 pub fn statements(alloc: Global, tokens: &[Token]) -> Result<Front<'_, List<Statement>>, Unread>
     ensures { ReadsBy (map statement_tree) (Some (script_read (kinds tokens.now))) result }
 {

@@ -1,6 +1,6 @@
 // Data sets: what a CSV file of one is read as, written again.
-ghost use Rattle.vtl_csv.specs.TableText.{IsTableOf};
 ghost use Rattle.vtl_tree.specs.Structure.{IsStructure};
+ghost use Rattle.vtl_sets.specs.TableOf.{IsTableOf};
 
 use crate::notation::{profile, text_of};
 use crate::rows::Row;

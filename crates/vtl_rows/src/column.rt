@@ -15,7 +15,10 @@ pub struct Column {
 // Written out, so that a proof above sees one call and not the drop of each part.
 impl Drop for Column {
     fn drop(self) {
-        let Column { name: _name, kind: _kind } = self;
+        let Column {
+            name: _name,
+            kind: _kind,
+        } = self;
     }
 }
 

@@ -72,8 +72,8 @@ fn repeat_of(alloc: Global, table: &Table, keys: &[SortKey]) -> Result<Option<us
 }
 
 impl Table {
-    /// The place of the first row that agrees in the columns with a row before it, if there is one. It fails only for
-    /// want of memory.
+    /// The place of the first row that agrees in the columns with a row before it, if there is one. It fails only when
+    /// out of memory.
     pub fn first_repeat(
         &self,
         alloc: Global,
@@ -86,7 +86,7 @@ impl Table {
         repeat_of(alloc, self, &keys)
     }
 
-    /// Whether no two rows agree in the columns. It fails only for want of memory.
+    /// Whether no two rows agree in the columns. It fails only when out of memory.
     #[tactic(auto, using(crate::proofs::Firsts::found_or_apart))]
     pub fn is_key(&self, alloc: Global, columns: &[usize]) -> Result<bool, AllocError>
         requires { All (λ i. i < length self.now.columns) columns.now }

@@ -1,4 +1,9 @@
-//! The scalar operators on values.
+//! The scalar operators on values: `apply` gives exactly the value or the fault of the table in `vtl_cell`.
+//!
+//! It is total: where operands do not meet an operator's row the value is null, so an evaluator need not carry
+//! kinds about. `to_kind` makes a value one of the kind that an expression has.
+//! It decides no rule of typing and evaluates no expression (`vtl_expr`): operands come as values.
+//! Begin with `scalar_of` in vtl_cell/specs/Scalars.antt, then src/operators.rt.
 #![tactic(auto)]
 
 mod arithmetic;

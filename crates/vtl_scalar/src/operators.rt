@@ -18,7 +18,7 @@ use vtl_decimal::{Fault, Profile};
 /// the number that equals it. The value is null where the operands do not meet the operator's row.
 ///
 /// DivZero and Range as the row says; Range too for an integer that is none of the profile where a number is wanted.
-/// OutOfMemory only for want of memory.
+/// OutOfMemory only when there is no memory.
 pub fn apply(alloc: Global, op: ScalarOp, args: &[Cell], p: &Profile) -> Result<Cell, ScalarErr>
     ensures { Answers result (scalar_of p.now op args.now) }
 {

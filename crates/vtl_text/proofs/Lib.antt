@@ -1,3 +1,4 @@
+pub mod Apart
 pub mod ByteOrder
 pub mod Occurrences
 pub mod Parts

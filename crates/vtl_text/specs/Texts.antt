@@ -1,7 +1,12 @@
 -- What the operators on texts give. A text is the list of its characters, and a character is its code.
 use Rattle.std.specs.Prelude.{ℕ, zero, suc, ◌-◌, Bool, List, [], ◌∷◌, ◌++◌, length, take, drop, reverse, Option, None, Some, nat_eq, ◌==◌, if◌then◌else◌}
+use Rattle.std.specs.Cmp.Lexicographic.{pointwise}
 use Rattle.std.specs.List.{starts_with}
 use Rattle.std.specs.Option.{option_map, option_map_or}
+
+-- whether two texts have the same characters
+abbrev pub same_text : List ℕ → List ℕ → Bool
+same_text = pointwise nat_eq
 
 -- the text without the spaces at its start
 abbrev pub ltrim_of : List ℕ → List ℕ

@@ -1,6 +1,13 @@
-//! Texts: a shared text that contracts see as its characters, lists that they see as their items, the operators on texts, and words and names.
+//! Texts: a shared text that contracts see as its characters, lists that they see as their items, the operators on
+//! texts, what a word, a reserved word and a name is, and whether texts are apart.
+//!
+//! Everything that has a name holds a `Txt`, and everything that has parts a `List`, so contracts speak of
+//! characters and items and not of memory. Searches go by bytes, and are proved to find characters.
+//! It knows no values and no syntax; the reserved words stand here, since structures files are held to them too.
+//! Begin with specs/Texts.antt and specs/Words.antt.
 #![tactic(auto)]
 
+mod distinct;
 mod item_list;
 mod operators;
 mod searches;
@@ -8,6 +15,7 @@ mod shared_items;
 mod shared_text;
 mod words;
 
+pub use distinct::are_distinct;
 pub use item_list::List;
 pub use operators::{concat, length, ltrim, rtrim, substr, trim};
 pub use searches::{instr, replace};

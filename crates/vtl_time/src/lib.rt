@@ -1,4 +1,9 @@
 //! Days and periods of time: their texts, their order, and the shift of a period.
+//!
+//! The calendar is defined here; the crate `jiff` is asked whether a day exists, and is proved to answer by this
+//! definition.
+//! Which spellings an input may use is decided here; which kinds of values there are is not (`vtl_cell`).
+//! Begin with specs/Days.antt and specs/Periods.antt.
 #![tactic(auto)]
 
 mod days;

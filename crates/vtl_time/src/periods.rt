@@ -11,7 +11,7 @@ use std::marker::Model;
 // Periods lie in the years 0 to 9999.
 const YEARS: u64 = 10_000;
 
-/// How a year is parted: not at all, into halves, quarters or months.
+/// How a year is divided: not at all, into halves, quarters or months.
 #[derive(Clone, Copy, Debug, PartialEq, Eq, Hash)]
 pub enum Frequency {
     /// The whole year, written `A1`.
@@ -233,7 +233,7 @@ pub fn shift(p: Period, n: i64) -> Option<Period>
     }
 }
 
-/// Appends the period to `out`, as `YYYY-A1`, `YYYY-S1`, `YYYY-Q1` or `YYYY-M01`. It fails only for want of memory, and then leaves `out` as it was.
+/// Appends the period to `out`, as `YYYY-A1`, `YYYY-S1`, `YYYY-Q1` or `YYYY-M01`. It fails only when out of memory, and then leaves `out` as it was.
 pub fn write_period(p: Period, out: &mut Vec<u8>) -> Result<(), AllocError>
     ensures ok { OnOk result (out.new.items ≡ out.old.items ++ period_text p) }
     ensures err { OnErr result (out.new.items ≡ out.old.items) }

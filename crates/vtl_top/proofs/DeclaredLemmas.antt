@@ -6,7 +6,7 @@ use Rattle.std.specs.Option.{option_and_then, option_map_or}
 use Rattle.std.specs.Cmp.Lexicographic.{bytes_decides}
 use Rattle.std.proofs.lemmas.Bool.{and_parts}
 use Rattle.std.proofs.lemmas.Bool.Decides.{nat_tests}
-use Rattle.vtl_tree.specs.Structure.{IsStructure, key_width, names_of, same_name}
+use Rattle.vtl_tree.specs.Structure.{IsStructure, key_width, most_components, names_of, same_name}
 use Rattle.vtl_tree.specs.Structures.{AreStructures, Named, components_of, has_name, is_declarable, is_declarable_component, structure_of, with_component}
 use Rattle.vtl_tree.specs.declared.structure.Component.{Component}
 use Rattle.vtl_tree.specs.declared.structure.Structure.{Structure}
@@ -184,15 +184,15 @@ some_kept p (x ∷ xs) e = go (p x) (some_kept p xs) e
 
 pub declarable_is_structure : (t : Structure) → is_declarable t ≡ true → IsStructure t
 declarable_is_structure t e =
-    let parts = and_parts (nat_le 1 (length t.components) && nat_le (length t.components) 64 && all_apart same_name (names_of t.components)) (list_all is_declarable_component t.components) e in
-    let front = and_parts (nat_le 1 (length t.components) && nat_le (length t.components) 64) (all_apart same_name (names_of t.components)) parts.0 in
-    let sizes = and_parts (nat_le 1 (length t.components)) (nat_le (length t.components) 64) front.0 in
+    let parts = and_parts (nat_le 1 (length t.components) && nat_le (length t.components) most_components && all_apart same_name (names_of t.components)) (list_all is_declarable_component t.components) e in
+    let front = and_parts (nat_le 1 (length t.components) && nat_le (length t.components) most_components) (all_apart same_name (names_of t.components)) parts.0 in
+    let sizes = and_parts (nat_le 1 (length t.components)) (nat_le (length t.components) most_components) front.0 in
     record { some = from (length t.components) sizes.0; few = upto (length t.components) sizes.1; distinct = front.1 }
   where
     from : (n : ℕ) → nat_le 1 n ≡ true → 1 ≤ n
     from n e = grind (arith, nat_tests)
 
-    upto : (n : ℕ) → nat_le n 64 ≡ true → n ≤ 64
+    upto : (n : ℕ) → nat_le n most_components ≡ true → n ≤ most_components
     upto n e = grind (arith, nat_tests)
 
 module _ (name text : List ℕ) (all : Named) (t : Structure) (read : structures_of_file text ≡ Ok all) (found : lookup (same_name name) all ≡ Some t) where

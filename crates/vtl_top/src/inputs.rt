@@ -2,9 +2,9 @@
 ghost use Rattle.std.specs.Prelude.{◌≡◌, ◌<◌, [], None, true, length, slice_index_or, IfOk, OnOk};
 ghost use Rattle.vtl_rows.specs.Named.{table_of};
 ghost use Rattle.vtl_tree.specs.Structures.{is_declarable};
+ghost use Rattle.vtl_sets.specs.TableOf.{IsTableOf};
 ghost use Rattle.vtl_csv.specs.InputFile.{dataset_rows};
 ghost use Rattle.vtl_backend.specs.Inputs.{AreInputs, environment_of, inputs_of, rows_named};
-ghost use Rattle.vtl_csv.specs.TableText.{IsTableOf};
 ghost use Rattle.vtl_top.specs.Answered.{Takes};
 ghost use Rattle.vtl_top.specs.Expected.{dataset_step, inputs_step};
 ghost use Rattle.vtl_top.specs.InputsRead.{Adds, rows_in};

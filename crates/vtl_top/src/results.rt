@@ -1,7 +1,7 @@
 // The outputs of the results.
 ghost use Rattle.std.specs.Prelude.{◌≡◌, ◌<◌, true, length, map, slice_index_or, IfOk};
 ghost use Rattle.std.specs.List.{AllByRecursion};
-ghost use Rattle.vtl_csv.specs.TableText.{IsTableOf};
+ghost use Rattle.vtl_sets.specs.TableOf.{IsTableOf};
 ghost use Rattle.vtl_check.specs.Checked.{known_of};
 ghost use Rattle.vtl_backend.specs.Inputs.{AreInputs};
 ghost use Rattle.vtl_backend.specs.Runs.{script_meaning};

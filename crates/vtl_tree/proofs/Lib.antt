@@ -1,5 +1,3 @@
 pub mod Faults
 pub mod LookUps
 pub mod StructuresLemmas
-pub mod Values
-pub mod Walks

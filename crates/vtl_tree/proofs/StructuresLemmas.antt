@@ -15,7 +15,8 @@ use Rattle.std.proofs.lemmas.List.{take_more}
 use Rattle.vtl_lists.specs.Apart.{all_apart}
 use Rattle.vtl_tree.specs.declared.structure.Component.{Component}
 use Rattle.vtl_tree.specs.declared.structure.Structure.{Structure}
-use Rattle.vtl_tree.specs.Structure.{names_of, same_name}
+use Rattle.vtl_text.proofs.Apart.{apart_push}
+use Rattle.vtl_tree.specs.Structure.{names_of, same_name, most_components}
 use Rattle.vtl_tree.specs.Structures.{AreStructures, Named, are_declarable, components_of, Fits, has_name, is_declarable, is_declarable_component, is_declarable_entry, structure_of, with_component}
 
 -- a test that all pass is passed by each
@@ -40,23 +41,6 @@ all_push p [] x h e = and_from (p x) true e refl
 all_push p (y ∷ ys) x h e =
     let parts = and_parts (p y) (list_all p ys) h in
     and_from (p y) (list_all p (ys ++ x ∷ [])) parts.0 (all_push p ys x parts.1 e)
-
--- a name that is not there yet goes behind those that are apart
-pub apart_push : (names : List (List ℕ)) (name : List ℕ) → all_apart same_name names ≡ true → list_any (same_name name) names ≡ false → all_apart same_name (names ++ name ∷ []) ≡ true
-apart_push [] name h e = refl
-apart_push (x ∷ xs) name h e =
-    let parts = and_parts (not (list_any (same_name x) xs)) (all_apart same_name xs) h in
-    let other = or_parts (same_name name x) (list_any (same_name name) xs) e in
-    let one : (not (list_any (same_name x) (xs ++ name ∷ [])) ≡ true) = ap not (list_any-append (same_name x) xs (name ∷ []) ∙ ap (λ b. list_any (same_name x) xs || (b || false)) (nat_list_eq_equiv.symm x name ∙ other.0)) ∙ or_false (list_any (same_name x) xs) parts.0 in
-    and_from (not (list_any (same_name x) (xs ++ name ∷ []))) (all_apart same_name (xs ++ name ∷ [])) one (apart_push xs name parts.1 other.1)
-  where
-    or_parts : (a b : Bool) → (a || b) ≡ false → (a ≡ false) × (b ≡ false)
-    or_parts true b e = cc
-    or_parts false b e = (refl, e)
-
-    or_false : (a : Bool) → not a ≡ true → not (a || (false || false)) ≡ true
-    or_false true e = cc
-    or_false false e = refl
 
 keys_push : (xs : Named) (name : List ℕ) (s : Structure) → keys_of (xs ++ (name, s) ∷ []) ≡ keys_of xs ++ name ∷ []
 keys_push [] name s = refl
@@ -128,18 +112,18 @@ one_is_declarable x e = and_from (is_declarable_component x) true e refl
 
 pub more_is_declarable : (xs : List Component) (x : Component) → are_declarable xs ≡ true → Fits x xs → are_declarable (xs ++ x ∷ []) ≡ true
 more_is_declarable xs x h f =
-    let parts = and_parts (nat_le 1 (length xs) && nat_le (length xs) 64 && all_apart same_name (names_of xs)) (list_all is_declarable_component xs) h in
-    let front = and_parts (nat_le 1 (length xs) && nat_le (length xs) 64) (all_apart same_name (names_of xs)) parts.0 in
-    let few : (nat_le 1 (length (xs ++ x ∷ [])) && nat_le (length (xs ++ x ∷ [])) 64) ≡ true = and_from (nat_le 1 (length (xs ++ x ∷ []))) (nat_le (length (xs ++ x ∷ [])) 64) (ap (nat_le 1) (length_push xs x) ∙ some (length xs)) (ap (λ n. nat_le n 64) (length_push xs x) ∙ below (length xs) f.2) in
-    and_from (nat_le 1 (length (xs ++ x ∷ [])) && nat_le (length (xs ++ x ∷ [])) 64 && all_apart same_name (names_of (xs ++ x ∷ []))) (list_all is_declarable_component (xs ++ x ∷ []))
-    (and_from (nat_le 1 (length (xs ++ x ∷ [])) && nat_le (length (xs ++ x ∷ [])) 64) (all_apart same_name (names_of (xs ++ x ∷ []))) few
+    let parts = and_parts (nat_le 1 (length xs) && nat_le (length xs) most_components && all_apart same_name (names_of xs)) (list_all is_declarable_component xs) h in
+    let front = and_parts (nat_le 1 (length xs) && nat_le (length xs) most_components) (all_apart same_name (names_of xs)) parts.0 in
+    let few : (nat_le 1 (length (xs ++ x ∷ [])) && nat_le (length (xs ++ x ∷ [])) most_components) ≡ true = and_from (nat_le 1 (length (xs ++ x ∷ []))) (nat_le (length (xs ++ x ∷ [])) most_components) (ap (nat_le 1) (length_push xs x) ∙ some (length xs)) (ap (λ n. nat_le n most_components) (length_push xs x) ∙ below (length xs) f.2) in
+    and_from (nat_le 1 (length (xs ++ x ∷ [])) && nat_le (length (xs ++ x ∷ [])) most_components && all_apart same_name (names_of (xs ++ x ∷ []))) (list_all is_declarable_component (xs ++ x ∷ []))
+    (and_from (nat_le 1 (length (xs ++ x ∷ [])) && nat_le (length (xs ++ x ∷ [])) most_components) (all_apart same_name (names_of (xs ++ x ∷ []))) few
     (ap (all_apart same_name) (names_push xs x) ∙ apart_push (names_of xs) x.name front.1 f.1))
     (all_push is_declarable_component xs x parts.1 f.0)
   where
     some : (n : ℕ) → nat_le 1 (suc n) ≡ true
     some n = grind (arith, nat_tests)
 
-    below : (n : ℕ) → n < 64 → nat_le (suc n) 64 ≡ true
+    below : (n : ℕ) → n < most_components → nat_le (suc n) most_components ≡ true
     below n l = grind (arith, nat_tests)
 
 keys_kept : (xs : Named) (name : List ℕ) (x : Component) → has_name name xs ≡ true → keys_of (with_component name x xs) ≡ keys_of xs
@@ -199,37 +183,3 @@ pub began : {A E : Type 0} (xs old new : Named) (name : List ℕ) (x : Component
     → s ≡ structure_of (x ∷ []) → OnOk r (new ≡ old ++ (name, s) ∷ []) → OnOk r (new ≡ with_component name x xs)
 began xs old new name x s (Ok a) same none e q = q ∙ ap (λ l. l ++ (name, s) ∷ []) same ∙ ap (λ t. xs ++ (name, t) ∷ []) e ∙ sym (begins_data_set xs name x (not_there xs name none))
 began xs old new name x s (Err a) same none e q = tt
-
-any_at : (p : List ℕ → Bool) (xs : List (List ℕ)) (i : ℕ) (x : List ℕ) → i < length xs → x ≡ get_or xs i x → p x ≡ true → list_any p xs ≡ true
-any_at p [] i x h e t = absurd (omega (arith, h))
-any_at p (y ∷ ys) zero x h e t = ap (λ b. b || list_any p ys) (ap p (sym e) ∙ t)
-any_at p (y ∷ ys) (suc i) x h e t = ap (λ b. p y || b) (any_at p ys i x (omega (arith, h)) e t) ∙ or_true (p y)
-  where
-    or_true : (b : Bool) → (b || true) ≡ true
-    or_true true = refl
-    or_true false = refl
-
--- a text that stands before is repeated
-pub repeated : (xs : List (List ℕ)) (i : ℕ) (x : List ℕ) → i < length xs → x ≡ get_or xs i x → list_any (same_name x) (take i xs) ≡ true → false ≡ all_apart same_name xs
-repeated [] i x h e t = absurd (omega (arith, h))
-repeated (y ∷ ys) zero x h e t = cc
-repeated (y ∷ ys) (suc i) x h e t = go (same_name x y) refl t (repeated ys i x (omega (arith, h)) e)
-  where
-    at : same_name x y ≡ true → list_any (same_name y) ys ≡ true
-    at s = any_at (same_name y) ys i x (omega (arith, h)) e (nat_list_eq_equiv.symm y x ∙ s)
-
-    and_false : (b : Bool) → false ≡ (b && false)
-    and_false true = refl
-    and_false false = refl
-
-    go : (b : Bool) → same_name x y ≡ b → (b || list_any (same_name x) (take i ys)) ≡ true → (list_any (same_name x) (take i ys) ≡ true → false ≡ all_apart same_name ys)
-        → false ≡ (not (list_any (same_name y) ys) && all_apart same_name ys)
-    go true s q ih = ap (λ b. not b && all_apart same_name ys) (sym (at s))
-    go false s q ih = and_false (not (list_any (same_name y) ys)) ∙ ap (λ b. not (list_any (same_name y) ys) && b) (ih q)
-
--- one more text, which does not stand before
-pub one_more : (xs seen : List (List ℕ)) (i : ℕ) (x : List ℕ) → i < length xs → x ≡ get_or xs i x → seen ≡ take i xs → all_apart same_name seen ≡ true → list_any (same_name x) seen ≡ false
-    → (insert_key same_name seen x ≡ take (i + 1) xs) × (all_apart same_name (insert_key same_name seen x) ≡ true)
-one_more xs seen i x h e s a t =
-    let grown : insert_key same_name seen x ≡ seen ++ x ∷ [] = ap (λ b. if b then seen else seen ++ x ∷ []) t in
-    (grown ∙ ap (λ l. l ++ x ∷ []) s ∙ ap (λ y. take i xs ++ y ∷ []) e ∙ sym (take_more xs i x h), ap (all_apart same_name) grown ∙ apart_push seen x a t)

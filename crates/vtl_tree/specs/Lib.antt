@@ -4,7 +4,6 @@ pub mod CompExp
 pub mod Environment
 pub mod Kept
 pub mod SameResult
-pub mod Seen
 pub mod Shown
 pub mod Structure
 pub mod Structures

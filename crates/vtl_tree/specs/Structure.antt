@@ -1,7 +1,7 @@
 -- Structures, and the order of their columns.
 use Rattle.std.specs.Prelude.{ℕ, ◌≡◌, ◌≤◌, Bool, true, false, List, ◌++◌, map, length, filter, nat_eq}
-use lib.Pointwise.{pointwise}
 use Rattle.vtl_lists.specs.Apart.{all_apart}
+use Rattle.vtl_text.specs.Texts.{same_text}
 use Rattle.vtl_tree.specs.declared.structure.Role.{Role}
 use Rattle.vtl_tree.specs.declared.structure.Role.TheVariants as role
 use Rattle.vtl_tree.specs.declared.structure.Component.{Component}
@@ -14,7 +14,7 @@ same_role role.Attribute role.Attribute = true
 same_role _ _ = false
 
 abbrev pub same_name : List ℕ → List ℕ → Bool
-same_name = pointwise nat_eq
+same_name = same_text
 
 -- the components of one role, in the structure's order
 abbrev pub of_role : Role → Structure → List Component
@@ -31,8 +31,12 @@ names_of cs = map (λ x. x.name) cs
 abbrev pub key_width : Structure → ℕ
 key_width s = length (of_role role.Identifier s)
 
--- 1 to 64 components with distinct names
+-- the most components that a structure may have
+abbrev pub most_components : ℕ
+most_components = 64
+
+-- no more components than a structure may have, one at least, with distinct names
 pub record IsStructure (s : Structure) : Type 0 where
   pub some : 1 ≤ length s.components
-  pub few : length s.components ≤ 64
+  pub few : length s.components ≤ most_components
   pub distinct : all_apart same_name (names_of s.components) ≡ true

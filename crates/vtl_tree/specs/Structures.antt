@@ -11,7 +11,7 @@ use Rattle.vtl_tree.specs.declared.structure.Role.{Role}
 use Rattle.vtl_tree.specs.declared.structure.Role.TheVariants as role
 use Rattle.vtl_tree.specs.declared.structure.Component.{Component}
 use Rattle.vtl_tree.specs.declared.structure.Structure.{Structure}
-use Rattle.vtl_tree.specs.Structure.{names_of, same_name, same_role}
+use Rattle.vtl_tree.specs.Structure.{most_components, names_of, same_name, same_role}
 
 abbrev pub is_null_kind : Kind → Bool
 is_null_kind k.Null = true
@@ -41,7 +41,7 @@ abbrev pub is_declarable_component : Component → Bool
 is_declarable_component x = is_component_name x.name && not (is_null_kind x.kind) && codes_fit x
 
 abbrev pub are_declarable : List Component → Bool
-are_declarable xs = nat_le 1 (length xs) && nat_le (length xs) 64 && all_apart same_name (names_of xs) && list_all is_declarable_component xs
+are_declarable xs = nat_le 1 (length xs) && nat_le (length xs) most_components && all_apart same_name (names_of xs) && list_all is_declarable_component xs
 
 -- a structure as it may be declared: 1 to 64 components with distinct names, each as it may be declared
 abbrev pub is_declarable : Structure → Bool
@@ -76,4 +76,4 @@ with_component name x (e ∷ es) = if same_name name e.0 then (e.0, structure_of
 
 -- the component may be added to a data set with these components
 abbrev pub Fits : Component → List Component → Type 0
-Fits x xs = (is_declarable_component x ≡ true) × (list_any (same_name x.name) (names_of xs) ≡ false) × (length xs < 64)
+Fits x xs = (is_declarable_component x ≡ true) × (list_any (same_name x.name) (names_of xs) ≡ false) × (length xs < most_components)

@@ -6,10 +6,10 @@ ghost use Rattle.vtl_tree.specs.Structure.{names_of, same_name};
 ghost use Rattle.vtl_tree.specs.Structures.{are_codes, codes_fit, is_declarable, is_declarable_component, is_filled, is_null_kind, is_string_identifier};
 
 use crate::structure::{Component, Role, Structure};
-use crate::structures::are_distinct;
+use crate::structures::MAX_COMPONENTS;
 use std::alloc::{AllocError, Global};
 use vtl_cell::Kind;
-use vtl_text::{Txt, is_component_name};
+use vtl_text::{Txt, are_distinct, is_component_name};
 
 fn is_null_kind(kind: Kind) -> bool
     ensures { result ≡ is_null_kind kind }
@@ -108,7 +108,7 @@ pub fn is_declarable(alloc: Global, structure: &Structure) -> Result<bool, Alloc
     ensures { IfOk result (λ b. b ≡ is_declarable structure.now) }
 {
     let components = structure.components.as_slice();
-    if components.is_empty() || components.len() > 64 || !names_are_apart(components) {
+    if components.is_empty() || components.len() > MAX_COMPONENTS || !names_are_apart(components) {
         return Ok(false);
     }
     are_declarable(alloc, components)

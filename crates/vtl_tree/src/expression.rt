@@ -39,10 +39,21 @@ impl Drop for CompExpr {
     #[cycle(dropped)]
     fn drop(self) {
         match self {
-            CompExpr::Column { place: _, name: _name, kind: _ } => {}
+            CompExpr::Column {
+                place: _,
+                name: _name,
+                kind: _,
+            } => {}
             CompExpr::Const(_cell) => {}
-            CompExpr::Apply { op: _, kind: _, args: _args } => {}
-            CompExpr::Aggregate { call: _call, kind: _ } => {}
+            CompExpr::Apply {
+                op: _,
+                kind: _,
+                args: _args,
+            } => {}
+            CompExpr::Aggregate {
+                call: _call,
+                kind: _,
+            } => {}
         }
     }
 }

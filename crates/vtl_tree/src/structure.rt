@@ -19,6 +19,18 @@ pub enum Role {
     Attribute,
 }
 
+/// Whether two roles are the same.
+pub fn is_same_role(a: Role, b: Role) -> bool
+    ensures { result ≡ same_role a b }
+{
+    match (a, b) {
+        (Role::Identifier, Role::Identifier) => true,
+        (Role::Measure, Role::Measure) => true,
+        (Role::Attribute, Role::Attribute) => true,
+        _ => false,
+    }
+}
+
 /// A component of a structure.
 pub struct Component {
     /// Its name, which no other component of the structure has.
@@ -52,7 +64,9 @@ pub struct Structure {
 // Written out, so that a proof above sees one call and not the drop of each part.
 impl Drop for Structure {
     fn drop(self) {
-        let Structure { components: _components } = self;
+        let Structure {
+            components: _components,
+        } = self;
     }
 }
 
@@ -93,15 +107,4 @@ fn push_role<'a>(
         }
     }
     Ok(())
-}
-
-fn is_same_role(a: Role, b: Role) -> bool
-    ensures { result ≡ same_role a b }
-{
-    match (a, b) {
-        (Role::Identifier, Role::Identifier) => true,
-        (Role::Measure, Role::Measure) => true,
-        (Role::Attribute, Role::Attribute) => true,
-        _ => false,
-    }
 }

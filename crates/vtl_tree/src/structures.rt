@@ -3,12 +3,11 @@ ghost use Rattle.std.specs.Prelude.{◌≡◌, ◌<◌, ◌++◌, ◌∷◌, [],
 ghost use Rattle.std.specs.Map.{lookup};
 ghost use Rattle.std.specs.List.{list_any};
 ghost use Rattle.std.specs.Option.{option_copied};
-ghost use Rattle.vtl_lists.specs.Apart.{all_apart};
 ghost use Rattle.vtl_tree.specs.Structure.{names_of, same_name};
 ghost use Rattle.vtl_tree.specs.Structures.{AreStructures, are_codes, codes_fit, components_of, has_name, is_declarable, is_declarable_component, is_null_kind, is_string_identifier, structure_of, with_component, Fits};
 
 use crate::structure::{Component, Role, Structure};
-use indexmap::{IndexMap, IndexSet};
+use indexmap::IndexMap;
 use std::alloc::{AllocError, Global};
 use std::marker::Model;
 use std::mem;
@@ -28,7 +27,10 @@ pub struct Structures {
 // Written out, so that a proof above sees one call and not the drop of each part.
 impl Drop for Structures {
     fn drop(self) {
-        let Structures { by_name: _by_name, alloc: _alloc } = self;
+        let Structures {
+            by_name: _by_name,
+            alloc: _alloc,
+        } = self;
     }
 }
 
@@ -132,18 +134,4 @@ fn one_component(alloc: Global, component: Component) -> Result<Structure, Alloc
     Ok(Structure {
         components: List::of(components),
     })
-}
-
-/// Whether no two texts are the same. It fails only for want of memory.
-pub fn are_distinct(alloc: Global, texts: &[Txt]) -> Result<bool, AllocError>
-    ensures { IfOk result (λ b. b ≡ all_apart same_name texts.now) }
-{
-    let mut seen = IndexSet::new(alloc);
-    for text in texts {
-        let (_, is_new) = seen.insert_full(text.share()?)?;
-        if !is_new {
-            return Ok(false);
-        }
-    }
-    Ok(true)
 }

@@ -9,4 +9,4 @@ loop-test-init c = least_nil
 pub loop-test-preserved : goal.loop-test-preserved
 loop-test-preserved c =
     c.lesser-least.ensures ∙ ap (lesser c.loop-test.least) c.if_broken.ensures
-    ∙ tests_taken c.args.tests.now c.loop-test.test-index _ c.loop-test.least c.loop-test-test.true c.loop-test.invariant
+    ∙ tests_taken c.args.tests.now c.loop-test.test-index c.test-item.result c.loop-test.least c.loop-test-test.true c.test-item.is c.loop-test.invariant

@@ -2,7 +2,7 @@ use Rattle.std.proofs.Common.{◌≡◌, ◌≤◌, false, chars, length}
 use denote.Text.{Utf8}
 use denote.Shadow.{shadow}
 use Rattle.sql_lexer.specs.Lexed.{is_white_space}
-use Rattle.sql_lexer.specs.Writing.{begins_with}
+use Rattle.vtl_lists.specs.Runs.{begins_with}
 use Rattle.sql_lexer.proofs.LexedParts.{GoesOn}
 use Rattle.sql_lexer.proofs.lexing.lex.Given as goal
 

@@ -1,7 +1,8 @@
 use Rattle.std.proofs.Common.{◌≡◌, ◌<◌, ◌+◌, ◌++◌, ◌∙◌, ◌⊎◌, ℕ, List, chars, inl, inr, ap, sym, subst, arith, encode_utf8_all}
 use borrow.Author.Tests.{ltb-true}
+use Rattle.sql_lexer.specs.Places.{place}
 use Rattle.sql_lexer.specs.Spelling.{spelling}
-use Rattle.sql_lexer.proofs.Table.{first-longest, place, place-below, placed, spelling-ascii, word_at}
+use Rattle.sql_lexer.proofs.Table.{first-longest, place-below, placed, spelling-ascii, word_at}
 use Rattle.sql_lexer.proofs.Texts.{front-bytes, front-chars, tail-utf8}
 use Rattle.sql_lexer.proofs.words.word_at_front.Goals as goal
 

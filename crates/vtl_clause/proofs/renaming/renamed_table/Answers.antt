@@ -3,7 +3,7 @@ use Rattle.std.proofs.lemmas.List.{length-map}
 use Rattle.vtl_cell.specs.Row.{Row}
 use Rattle.vtl_tree.specs.DataSet.{IsDataSet}
 use Rattle.vtl_tree.specs.Structure.{columns_of}
-use Rattle.vtl_csv.specs.TableText.{column_for, table_columns}
+use Rattle.vtl_sets.specs.TableOf.{column_for, table_columns}
 use Rattle.vtl_meaning.proofs.Kept.{renamed_kept}
 use Rattle.vtl_clause.proofs.renaming.renamed_table.Goals as goal
 

@@ -4,10 +4,10 @@ use Rattle.vtl_rows.specs.Tables.{cells_at, column_at}
 use Rattle.vtl_tree.specs.Structure.{key_width}
 use Rattle.vtl_csv.specs.InputFile.{rows_with}
 use Rattle.vtl_csv.specs.InputSteps.{fault_of, layout_seen, rows_outcome}
-use Rattle.vtl_csv.specs.TableText.{column_for}
 use Rattle.vtl_csv.proofs.InputDataSetLemmas.{rows_arranged}
 use Rattle.vtl_csv.proofs.InputLayoutLemmas.{layout_all_below, layout_below, layout_columns, layout_keys, layout_some, layout_wide}
 use Rattle.std.specs.Option.{option_map}
+use Rattle.vtl_sets.specs.TableOf.{column_for}
 use Rattle.vtl_csv.proofs.dataset.read_table.Goals as goal
 
 pub table_of-requires : goal.table_of-requires

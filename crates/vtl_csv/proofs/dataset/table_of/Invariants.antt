@@ -1,5 +1,5 @@
 use Rattle.std.proofs.Common.{◌≡◌, map, take}
-use Rattle.vtl_csv.specs.TableText.{column_for}
+use Rattle.vtl_sets.specs.TableOf.{column_for}
 use Rattle.vtl_csv.proofs.dataset.table_of.Given as goal
 
 abbrev pub invariant-loop-column : goal.invariant-loop-column

@@ -1,6 +1,6 @@
 use Rattle.std.proofs.Common.{◌≡◌, take}
 use Rattle.std.specs.List.{flat_map}
-use Rattle.vtl_csv.specs.TableText.{table_columns}
+use Rattle.vtl_sets.specs.TableOf.{table_columns}
 use Rattle.vtl_expr.specs.Choices.{chosen}
 use Rattle.vtl_expr.proofs.choice.choice_table.Given as goal
 

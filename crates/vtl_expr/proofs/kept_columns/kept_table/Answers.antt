@@ -7,12 +7,12 @@ use Rattle.vtl_tree.specs.Shown.{shown}
 use Rattle.vtl_tree.specs.Structure.{columns_of}
 use Rattle.vtl_tree.specs.declared.structure.Component.{Component}
 use Rattle.vtl_tree.specs.declared.structure.Structure.{Structure}
-use Rattle.vtl_csv.specs.TableText.{column_for, table_columns}
+use Rattle.vtl_sets.specs.TableOf.{column_for, table_columns}
+use Rattle.vtl_sets.proofs.TableLemmas.{made_is_table}
 use Rattle.vtl_meaning.specs.Columns.{places_in}
 use Rattle.vtl_meaning.specs.Operators.{left_of}
 use Rattle.vtl_meaning.proofs.Kept.{left_kept}
 use Rattle.vtl_expr.proofs.ColumnLemmas.{all_within, chosen_columns, some_places}
-use Rattle.vtl_expr.proofs.TableLemmas.{made_is_table}
 use Rattle.vtl_expr.proofs.kept_columns.kept_table.Goals as goal
 
 pub project-requires-clause-some : goal.project-requires-clause-some

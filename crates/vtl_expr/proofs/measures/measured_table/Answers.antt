@@ -6,11 +6,11 @@ use Rattle.vtl_tree.specs.Structure.{columns_of}
 use Rattle.vtl_tree.specs.View.{comp_exp_of}
 use Rattle.vtl_tree.specs.declared.structure.Structure.{Structure}
 use Rattle.vtl_nodes.specs.View.{measure_tree}
+use Rattle.vtl_sets.proofs.TableLemmas.{answered_is_table}
 use Rattle.vtl_meaning.specs.Made.{AreFor}
 use Rattle.vtl_meaning.specs.Operators.{measured_exps, measured_of}
 use Rattle.vtl_meaning.specs.Points.{each_point}
 use Rattle.vtl_meaning.proofs.Kept.{measured_kept}
-use Rattle.vtl_expr.proofs.TableLemmas.{answered_is_table}
 use Rattle.vtl_expr.proofs.measures.measured_table.Goals as goal
 
 pub each_point-requires-clause-expressions : goal.each_point-requires-clause-expressions

@@ -4,11 +4,11 @@ use Rattle.std.proofs.lemmas.List.{take_all}
 use Rattle.vtl_cell.specs.Outcome.{faults_by}
 use Rattle.vtl_cell.specs.Row.{Row}
 use Rattle.vtl_rows.specs.Tables.{Listed, fits}
-use Rattle.vtl_tree.specs.Seen.{seen_of}
 use Rattle.vtl_tree.specs.View.{comp_exp_of}
-use Rattle.vtl_csv.specs.TableText.{table_columns}
+use Rattle.vtl_sets.specs.TableOf.{table_columns}
 use Rattle.vtl_meaning.specs.Points.{point_fault, point_of}
 use Rattle.vtl_expr.specs.Partners.{found, with_found}
+use Rattle.vtl_expr.specs.Seen.{seen_of}
 use Rattle.vtl_expr.proofs.PointLemmas.{drawn_faults, drawn_mapped, finished, holds_at}
 use Rattle.vtl_expr.proofs.pairs.each_beside.Goals as goal
 

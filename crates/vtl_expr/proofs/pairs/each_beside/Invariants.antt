@@ -1,11 +1,11 @@
 use Rattle.std.proofs.Common.{◌≡◌, ◌++◌, map, take}
 use Rattle.std.specs.List.{flat_map}
 use Rattle.vtl_cell.specs.Outcome.{faults_by}
-use Rattle.vtl_tree.specs.Seen.{seen_of}
 use Rattle.vtl_tree.specs.View.{comp_exp_of}
-use Rattle.vtl_csv.specs.TableText.{table_columns}
+use Rattle.vtl_sets.specs.TableOf.{table_columns}
 use Rattle.vtl_meaning.specs.Points.{point_fault, point_of}
 use Rattle.vtl_expr.specs.Partners.{with_found}
+use Rattle.vtl_expr.specs.Seen.{seen_of}
 use Rattle.vtl_expr.proofs.pairs.each_beside.Given as goal
 
 abbrev pub invariant-loop-i : goal.invariant-loop-i

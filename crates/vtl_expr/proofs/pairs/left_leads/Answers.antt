@@ -6,12 +6,12 @@ use Rattle.vtl_tree.specs.CompExp.{CompExp}
 use Rattle.vtl_tree.specs.Structure.{columns_of}
 use Rattle.vtl_tree.specs.View.{comp_exp_of}
 use Rattle.vtl_tree.specs.declared.structure.Component.{Component}
+use Rattle.vtl_sets.proofs.TableLemmas.{answered_is_table}
 use Rattle.vtl_meaning.specs.Made.{AreFor}
 use Rattle.vtl_meaning.specs.Operators.{pair_exps, pair_of}
 use Rattle.vtl_meaning.specs.Points.{each_point, paired}
 use Rattle.vtl_meaning.proofs.Kept.{pair_kept}
 use Rattle.vtl_expr.proofs.PairLemmas.{left_exps}
-use Rattle.vtl_expr.proofs.TableLemmas.{answered_is_table}
 use Rattle.vtl_expr.proofs.pairs.left_leads.Goals as goal
 
 pub pairs_table-requires-clause-expressions : goal.pairs_table-requires-clause-expressions

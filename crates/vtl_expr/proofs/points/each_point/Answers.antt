@@ -1,12 +1,12 @@
 use Rattle.std.proofs.Common.{◌<◌, [], ◌∷◌, ◌++◌, length, map, true, ◌≡◌, ap, sym, ◌∙◌, arith}
 use Rattle.vtl_rows.specs.Tables.{fits}
 use Rattle.vtl_tree.specs.DataSet.{is_point}
-use Rattle.vtl_tree.specs.Seen.{seen_of}
 use Rattle.vtl_tree.specs.Structure.{columns_of}
 use Rattle.vtl_tree.specs.View.{comp_exp_of}
-use Rattle.vtl_tree.proofs.Walks.{seen_more}
 use Rattle.vtl_meaning.specs.Points.{point_fault, point_of}
+use Rattle.vtl_expr.specs.Seen.{seen_of}
 use Rattle.vtl_expr.proofs.PointLemmas.{fitting, holds_at, rows_more}
+use Rattle.vtl_expr.proofs.Walks.{seen_more}
 use Rattle.vtl_expr.proofs.points.each_point.Goals as goal
 
 pub push-requires : goal.push-requires

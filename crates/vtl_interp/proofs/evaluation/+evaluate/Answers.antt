@@ -3,8 +3,8 @@ use Rattle.vtl_scalar.specs.Answers.{AnswersBy}
 use Rattle.vtl_nodes.specs.Trees as nodes
 use Rattle.vtl_nodes.specs.View.{item_tree, measure_tree, node_tree}
 use Rattle.vtl_nodes.specs.declared.nodes.NodeForm.TheVariants as form
+use Rattle.vtl_sets.specs.DataSets.{data_set, with_structure}
 use Rattle.vtl_meaning.specs.Operators.{calculated_of, left_of, measured_of, pair_of, sub_of}
-use Rattle.vtl_expr.specs.DataSets.{data_set, with_structure}
 use Rattle.vtl_interp.specs.Evaluated.{Gives}
 use Rattle.vtl_interp.specs.Values.{value_view}
 use Rattle.vtl_interp.proofs.NodesEvaluated.{form_tree-Calc, form_tree-DropNamed, form_tree-Keep, form_tree-Measures, form_tree-Member, form_tree-Pair, form_tree-Sub, name_gives, name_is_held, one_operand, two_operands}

@@ -1,10 +1,10 @@
 use Rattle.std.proofs.Common.{[], ◌∷◌, ◌++◌, map, take, ap, sym, ◌∙◌}
 use Rattle.vtl_cell.specs.Outcome.{fault_in, join}
-use Rattle.vtl_tree.specs.Seen.{seen_of}
 use Rattle.vtl_tree.specs.Value.{value}
 use Rattle.vtl_tree.specs.View.{comp_exp_of}
 use Rattle.vtl_tree.proofs.Faults.{join_assoc}
 use Rattle.vtl_meaning.specs.Points.{cell_or_null, point_fault}
+use Rattle.vtl_expr.specs.Seen.{seen_of}
 use Rattle.vtl_expr.proofs.PointLemmas.{fault_more, values_more}
 use Rattle.vtl_expr.proofs.points.Points.push.Goals as goal
 

@@ -1,8 +1,8 @@
 use Rattle.std.proofs.Common.{◌≡◌, map, take}
 use Rattle.vtl_cell.specs.Outcome.{join}
-use Rattle.vtl_tree.specs.Seen.{seen_of}
 use Rattle.vtl_tree.specs.View.{comp_exp_of}
 use Rattle.vtl_meaning.specs.Points.{point_fault, point_of}
+use Rattle.vtl_expr.specs.Seen.{seen_of}
 use Rattle.vtl_expr.proofs.points.Points.push.Given as goal
 
 abbrev pub invariant-loop-e : goal.invariant-loop-e

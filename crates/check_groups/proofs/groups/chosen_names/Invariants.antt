@@ -1,7 +1,0 @@
-use Rattle.std.proofs.Common.{◌≡◌, take}
-use Rattle.check_shapes.specs.Choices.{chosen}
-use Rattle.vtl_tree.specs.Structure.{names_of}
-use Rattle.check_groups.proofs.groups.chosen_names.Given as goal
-
-abbrev pub invariant-loop-component : goal.invariant-loop-component
-invariant-loop-component l = l.out.items ≡ names_of (chosen l.choice l.names (take l.component-index l.components))

@@ -1,0 +1,7 @@
+use Rattle.std.proofs.Common.{◌≡◌, take}
+use Rattle.std.specs.Prelude.{map}
+use Rattle.check_values.specs.Columns.{name_of}
+use Rattle.check_values.proofs.groupings.names_of.Given as goal
+
+abbrev pub invariant-loop-component : goal.invariant-loop-component
+invariant-loop-component l = l.names.items ≡ map name_of (take l.component-index l.components)

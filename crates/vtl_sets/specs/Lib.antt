@@ -1,0 +1,2 @@
+pub mod DataSets
+pub mod TableOf

@@ -1,0 +1,108 @@
+// Data sets that are kept in tables.
+ghost use Rattle.std.specs.Prelude.{◌≡◌, IfOk, List};
+ghost use Rattle.vtl_cell.specs.Outcome.{Outcome};
+ghost use Rattle.vtl_cell.specs.Row.{Row};
+ghost use Rattle.vtl_scalar.specs.Answers.{Answers, AnswersBy};
+ghost use Rattle.vtl_tree.specs.DataSet.{IsDataSet};
+ghost use Rattle.vtl_sets.specs.DataSets.{data_set, with_structure};
+ghost use Rattle.vtl_sets.specs.TableOf.{IsTableOf};
+
+use std::alloc::{AllocError, Global};
+use std::marker::Model;
+use vtl_rows::{SharedTable, Table};
+use vtl_scalar::ScalarErr;
+use vtl_tree::{Structure, share_structure};
+
+/// A data set: its structure, and a table of its points with the structure's columns. A contract sees the structure and
+/// the list of the points.
+#[derive(Drop)]
+pub struct DataSet {
+    structure: Structure,
+    table: SharedTable,
+}
+
+impl Model for DataSet {
+    ghost use Rattle.vtl_tree.specs.Environment as meaning;
+    ghost use Rattle.vtl_sets.specs.DataSets.{data_set};
+    ghost use Rattle.vtl_sets.specs.TableOf.{IsTableOf};
+
+    ghost Value = { meaning.DataSet };
+
+    ghost view = { λ d. data_set d.structure d.table.rows };
+
+    ghost invariant = { λ d. IsTableOf d.structure d.table };
+}
+
+impl DataSet {
+    /// The data set of a table that is one of this structure, and that may have other owners.
+    pub fn shared(structure: Structure, table: SharedTable) -> DataSet
+        requires { IsTableOf structure table }
+        ensures { result ≡ data_set structure table.rows }
+    {
+        DataSet { structure, table }
+    }
+
+    /// The data set of a table that is one of this structure. It fails only for want of memory.
+    pub fn of(alloc: Global, structure: Structure, table: Table) -> Result<DataSet, AllocError>
+        requires { IsTableOf structure table }
+        ensures { IfOk result (λ d. d ≡ data_set structure table.rows) }
+    {
+        let table = SharedTable::of(alloc, table)?;
+        Ok(DataSet::shared(structure, table))
+    }
+
+    /// The data set of a table that was answered, which is one of this structure; or want of memory.
+    pub fn answered(
+        alloc: Global,
+        structure: Structure,
+        table: Result<Table, ScalarErr>,
+    ) -> Result<DataSet, ScalarErr>
+        requires { IfOk table (IsTableOf structure) }
+        ensures { (m : Outcome (List Row)) → AnswersBy (λ t. t.rows) table m → Answers result (with_structure structure m) }
+    {
+        match table {
+            Ok(table) => Ok(DataSet::of(alloc, structure, table)?),
+            Err(error) => Err(error),
+        }
+    }
+
+    /// The structure.
+    pub fn structure(&self) -> &Structure
+        ensures structure { result.now ≡ self.now.structure }
+        ensures points { IsDataSet self.now.structure self.now.points }
+    {
+        &self.structure
+    }
+
+    /// The table of the points.
+    pub fn table(&self) -> &Table
+        ensures points { result.now.rows ≡ self.now.points }
+        ensures table { IsTableOf self.now.structure result.now }
+    {
+        self.table.table()
+    }
+
+    /// One more owner of the table of the points. It fails only for want of memory.
+    pub fn share_table(&self) -> Result<SharedTable, AllocError>
+        ensures points { IfOk result (λ t. t.rows ≡ self.now.points) }
+        ensures table { IfOk result (IsTableOf self.now.structure) }
+    {
+        self.table.share()
+    }
+
+    /// The table of the points for oneself: it is copied where it has other owners. It fails only for want of memory.
+    pub fn into_table(self, alloc: Global) -> Result<Table, AllocError>
+        ensures points { IfOk result (λ t. t.rows ≡ self.points) }
+        ensures table { IfOk result (IsTableOf self.structure) }
+    {
+        self.table.into_table(alloc)
+    }
+
+    /// One more of the data set, whose table and texts are shared. It fails only for want of memory.
+    pub fn copy(&self, alloc: Global) -> Result<DataSet, AllocError>
+        ensures { IfOk result (λ d. d ≡ self.now) }
+    {
+        let structure = share_structure(alloc, &self.structure)?;
+        Ok(DataSet::shared(structure, self.table.share()?))
+    }
+}

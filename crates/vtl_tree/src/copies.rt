@@ -1,0 +1,41 @@
+// Components and structures are shared: their names and codes are the same texts.
+ghost use Rattle.std.specs.Prelude.{◌≡◌, IfOk};
+
+use crate::structure::{Component, Structure};
+use std::alloc::{AllocError, Global};
+use vtl_text::{List, Shared, Txt};
+
+/// One more of the codes of a component.
+pub fn share_codes(codes: &Option<Shared<Txt>>) -> Result<Option<Shared<Txt>>, AllocError>
+    ensures { IfOk result (λ copy. copy ≡ codes.now) }
+{
+    match codes {
+        Some(codes) => Ok(Some(codes.share()?)),
+        None => Ok(None),
+    }
+}
+
+/// One more of a component.
+pub fn share_component(component: &Component) -> Result<Component, AllocError>
+    ensures { IfOk result (λ copy. copy ≡ component.now) }
+{
+    Ok(Component {
+        name: component.name.share()?,
+        role: component.role,
+        kind: component.kind,
+        codes: share_codes(&component.codes)?,
+    })
+}
+
+/// One more of a structure.
+pub fn share_structure(alloc: Global, structure: &Structure) -> Result<Structure, AllocError>
+    ensures { IfOk result (λ copy. copy ≡ structure.now) }
+{
+    let mut components = Vec::new(alloc);
+    for component in structure.components.as_slice() {
+        components.push(share_component(component)?)?;
+    }
+    Ok(Structure {
+        components: List::of(components),
+    })
+}
