@@ -1,5 +1,5 @@
 -- Refusals by typing and by evaluation come from these steps alone: no other step refuses by such a status.
-use Rattle.std.proofs.Common.{◌≡◌, ◌⊎◌, inl, inr, ℕ, Bool, true, false, cond, List, [], ◌∷◌, length, nat_lt, Option, Some, None, Result, Ok, Err, refl, sym, ap, subst, ◌∙◌}
+use Rattle.std.proofs.Common.{◌≡◌, ◌⊎◌, inl, inr, ℕ, Bool, true, false, cond, not, List, [], ◌∷◌, length, nat_lt, Option, Some, None, Result, Ok, Err, refl, sym, ap, subst}
 use Rattle.std.specs.Prelude.{chars}
 use Rattle.std.specs.List.{list_all}
 use Rattle.std.specs.Str.{is_utf8}
@@ -12,60 +12,64 @@ use Rattle.vtl_tree.specs.Structures.{Named}
 use Rattle.vtl_tree.specs.declared.structure.Structure.{Structure}
 use Rattle.vtl_csv.specs.InputFile.{Fault, dataset_rows}
 use Rattle.vtl_csv.specs.StructuresFile.{Fault as StructuresFault, structures_of_file}
-use Rattle.vtl_csv.specs.declared.input.InputKind.{InputKind}
 use Rattle.vtl_nodes.specs.Trees.{NodeTree}
-use Rattle.vtl_meaning.specs.Meaning.{Outputs, is_built, meaning}
+use Rattle.vtl_meaning.specs.Meaning.{Outputs, is_built}
 use Rattle.vtl_check.specs.Checked.{env_over}
 use Rattle.vtl_check.specs.Script.{has_definitions, script_typed}
 use Rattle.vtl_check.specs.Uses.{reads}
-use Rattle.vtl_backend.specs.Statements.{with_nodes}
-use Rattle.vtl_top.specs.Expected.{built_or_not, checked_step, csv_limit, data_step, dataset_step, declared_step, fault_status, input_path, inputs_step, one_more_step, outputs_of, planned_step, points_or_fault, read, results_step, run_step, script_in, script_limit, script_of, script_step, sized, statements_step, structures_limit, structures_step, typed_or_fault, typing_of, with_points, without_rulesets}
-use Rattle.vtl_top.specs.Meant.{IsFaulted, IsMistyped}
+use Rattle.vtl_top.specs.Expected.{Typed, csv_limit, dataset_step, fault_status, input_path, inputs_step, meant, one_more_step, outputs_of, points_or_fault, read, run_step, script_in, script_limit, script_of, script_step, sized, structures_limit, structures_step, typed_by, typed_or_fault, typed_step, typing_of, unbuilt, with_points}
+use Rattle.vtl_top.specs.Meant.{IsFaulted, IsMistyped, IsRead, IsReady}
+use Rattle.std.specs.Option.{IfSome}
+use Rattle.vtl_files.specs.declared.files.Files.{Ghosts}
+use Rattle.vtl_check.specs.Checked.{TypedScript}
+use Rattle.vtl_top.specs.Answered.{Takes}
+use Rattle.vtl_top.specs.Informed.{HasRun, IsTold, TellsRun}
+use Rattle.vtl_top.proofs.StepLemmas.{if_some_map}
 use Rattle.vtl_top.specs.ScriptFile.{Parsed, faulty, no_text, whole}
-use Rattle.vtl_top.specs.Steps.{Behind, Held, Step, onward, settled}
+use Rattle.vtl_top.specs.Steps.{Behind, Held, Step, ◌>>=◌, refused_if, settled}
 use Rattle.vtl_top.specs.Structures.{declared, structures_in}
-use Rattle.vtl_top.specs.Words.{Run}
+use Rattle.vtl_top.specs.Words.{Run, Source}
 use Rattle.vtl_top.specs.declared.status.Status.{Status}
 use Rattle.vtl_top.specs.declared.status.Status.TheVariants as st
-use Rattle.vtl_top.proofs.MeantLemmas.{IsRead, built_from, nodes_from, read_from, went_on}
+use Rattle.vtl_top.proofs.MeantLemmas.{after_built, after_plain, after_script, after_structures, after_typing, passes, ready_from, ready_gives, script_there, source_from}
 
 -- where a status comes from: typing, evaluation, or the files and the form of the script
-data Source : Type 0 where
-  by_types : Source
-  by_values : Source
-  otherwise : Source
+data Cause : Type 0 where
+  by_types : Cause
+  by_values : Cause
+  otherwise : Cause
 
-abbrev source : Status → Source
-source (st.Mistyped statement rule) = by_types
-source (st.DivZero name) = by_values
-source (st.Range name) = by_values
-source status = otherwise
+abbrev cause : Status → Cause
+cause (st.Mistyped statement rule) = by_types
+cause (st.DivZero name) = by_values
+cause (st.Range name) = by_values
+cause status = otherwise
 
-abbrev is_other : Source → Bool
+abbrev is_other : Cause → Bool
 is_other otherwise = true
 is_other by_types = false
 is_other by_values = false
 
-abbrev same_source : Source → Source → Bool
-same_source by_types by_types = true
-same_source by_values by_values = true
-same_source otherwise otherwise = true
-same_source a b = false
+abbrev same_cause : Cause → Cause → Bool
+same_cause by_types by_types = true
+same_cause by_values by_values = true
+same_cause otherwise otherwise = true
+same_cause a b = false
 
 -- statuses of two sources are two
-apart : {A : Type 0} (a b : Status) → same_source (source a) (source b) ≡ false → ◌≡◌ {A = Result A Status} (Err a) (Err b) → ⊥
+apart : {A : Type 0} (a b : Status) → same_cause (cause a) (cause b) ≡ false → ◌≡◌ {A = Result A Status} (Err a) (Err b) → ⊥
 apart a b differ e =
     let same : a ≡ b = cc in
-    let one : same_source (source b) (source b) ≡ false = subst (λ x. same_source (source x) (source b) ≡ false) same differ in
-    go (source b) one
+    let one : same_cause (cause b) (cause b) ≡ false = subst (λ x. same_cause (cause x) (cause b) ≡ false) same differ in
+    go (cause b) one
   where
-    go : (s : Source) → same_source s s ≡ false → ⊥
+    go : (s : Cause) → same_cause s s ≡ false → ⊥
     go by_types e = cc
     go by_values e = cc
     go otherwise e = cc
 
 -- a refusal of two steps is one of the first, or one of the second behind a value of the first
-refused_at : {A B : Type 0} (step : Step A) (next : A → Step B) (held : Held) (status : Status) → (onward step next).gives held (Err status) → step.gives held (Err status) ⊎ ((x : A) × step.gives held (Ok x) × (next x).gives held (Err status))
+refused_at : {A B : Type 0} (step : Step A) (next : A → Step B) (held : Held) (status : Status) → (step >>= next).gives held (Err status) → step.gives held (Err status) ⊎ ((x : A) × step.gives held (Ok x) × (next x).gives held (Err status))
 refused_at {A} {B} step next held status (first, is, rest) = by_first first is rest
   where
     by_first : (first : Result A Status) → step.gives held first → Behind first (λ x. (next x).gives held) (Err status) → step.gives held (Err status) ⊎ ((x : A) × step.gives held (Ok x) × (next x).gives held (Err status))
@@ -73,19 +77,19 @@ refused_at {A} {B} step next held status (first, is, rest) = by_first first is r
     by_first (Err other) is rest = let same : other ≡ status = cc in inl (subst (λ (s : Status). step.gives held (Err s)) same is)
 
 -- ---- steps that do not refuse by a status of typing or of evaluation
-module _ (status : Status) (own : is_other (source status) ≡ false) (held : Held) where
+module _ (status : Status) (own : is_other (cause status) ≡ false) (held : Held) where
   abbrev Never : {A : Type 0} → Step A → Type 0
   Never step = step.gives held (Err status) → ⊥
 
-  other : {A : Type 0} (b : Status) → source b ≡ otherwise → ◌≡◌ {A = Result A Status} (Err status) (Err b) → ⊥
-  other b is e = apart status b (go (source status) own (source b) is) e
+  other : {A : Type 0} (b : Status) → cause b ≡ otherwise → ◌≡◌ {A = Result A Status} (Err status) (Err b) → ⊥
+  other b is e = apart status b (go (cause status) own (cause b) is) e
     where
-      go : (s : Source) → is_other s ≡ false → (t : Source) → t ≡ otherwise → same_source s t ≡ false
-      go by_types o t is = ap (same_source by_types) is
-      go by_values o t is = ap (same_source by_values) is
+      go : (s : Cause) → is_other s ≡ false → (t : Cause) → t ≡ otherwise → same_cause s t ≡ false
+      go by_types o t is = ap (same_cause by_types) is
+      go by_values o t is = ap (same_cause by_values) is
       go otherwise o t is = cc
 
-  never_onward : {A B : Type 0} (step : Step A) (next : A → Step B) → Never step → ((x : A) → Never (next x)) → Never (onward step next)
+  never_onward : {A B : Type 0} (step : Step A) (next : A → Step B) → Never step → ((x : A) → Never (next x)) → Never (step >>= next)
   never_onward {A} {B} step next here there gives = by_step (refused_at step next held status gives)
     where
       by_step : step.gives held (Err status) ⊎ ((x : A) × step.gives held (Ok x) × (next x).gives held (Err status)) → ⊥
@@ -119,12 +123,9 @@ module _ (status : Status) (own : is_other (source status) ≡ false) (held : He
       by_text true (Err fault) e = other (st.Structure fault.0 fault.1) refl e
       by_text false read e = other (st.NotText (chars path)) refl e
 
-  never_built : (r : Run) (nodes : List NodeTree) → Never (settled (built_or_not r nodes))
-  never_built r nodes gives = by_test (list_all is_built nodes) gives
-    where
-      by_test : (b : Bool) → ◌≡◌ {A = Result (Unit {0}) Status} (Err status) (cond b (Ok tt) (Err (st.Unbuilt (chars r.script)))) → ⊥
-      by_test true e = cc
-      by_test false e = other (st.Unbuilt (chars r.script)) refl e
+  never_refused : (b : Bool) (wrong : Status) → cause wrong ≡ otherwise → Never (refused_if b wrong)
+  never_refused true wrong is e = other wrong is e
+  never_refused false wrong is e = cc
 
   never_points : (name : List ℕ) (read : Result (List Row) Fault) → Never (settled (points_or_fault name read))
   never_points name (Ok points) e = cc
@@ -135,8 +136,8 @@ module _ (status : Status) (own : is_other (source status) ≡ false) (held : He
 
   never_dataset : (r : Run) (e : List ℕ × Structure) → Never (dataset_step r e)
   never_dataset r e =
-      never_onward (read (input_path r e.0) csv_limit) (λ bytes. settled (points_or_fault e.0 (dataset_rows r.settings e.1 bytes))) (never_read (input_path r e.0) csv_limit)
-      (λ bytes. never_points e.0 (dataset_rows r.settings e.1 bytes))
+      never_onward (read (input_path r e.0) csv_limit) (λ bytes. settled (points_or_fault e.0 (dataset_rows r.source.settings e.1 bytes))) (never_read (input_path r e.0) csv_limit)
+      (λ bytes. never_points e.0 (dataset_rows r.source.settings e.1 bytes))
 
   never_inputs : (r : Run) (before : Environment) (inputs : Named) → Never (inputs_step r before inputs)
   never_inputs r before [] = never_ok before
@@ -145,49 +146,62 @@ module _ (status : Status) (own : is_other (source status) ≡ false) (held : He
       (never_onward (dataset_step r e) (λ points. settled (Ok (with_points before e points))) (never_dataset r e) (λ points. never_ok (with_points before e points)))
       (λ more. never_inputs r more rest)
 
-  -- ---- up to the typing
-  -- the script and the structures of a run that is refused so
-  record IsAt (r : Run) : Type 0 where
-    text : List ℕ
+  -- ---- a source is refused so by its typing alone
+  record ByTypes (s : Source) : Type 0 where
     tree : ScriptTree
     structures : Named
-    is_read : IsRead text tree
-    gives_text : (read r.script script_limit).gives held (Ok text)
-    plain : has_definitions tree ≡ false
-    declares : (structures_step r.structures).gives held (Ok structures)
-    rest : (checked_step r tree structures).gives held (Err status)
+    is_read : IsRead s held tree structures
+    typing : Err status ≡ typing_of s tree structures
 
-  at_structures : (r : Run) (text : List ℕ) (tree : ScriptTree) → IsRead text tree → (read r.script script_limit).gives held (Ok text) → has_definitions tree ≡ false
-      → (structures_step r.structures).gives held (Err status) ⊎ ((structures : Named) × (structures_step r.structures).gives held (Ok structures) × (checked_step r tree structures).gives held (Err status)) → IsAt r
-  at_structures r text tree script given plain (inl e) =
-      absurd (never_onward (read r.structures structures_limit) (λ bytes. settled (structures_in r.structures bytes)) (never_read r.structures structures_limit) (never_structures r.structures) e)
-  at_structures r text tree script given plain (inr (structures, is, rest)) =
-      record { text = text; tree = tree; structures = structures; is_read = script; gives_text = given; plain = plain; declares = is; rest = rest }
-
-  at_tree : (r : Run) (text : List ℕ) (tree : ScriptTree) → IsRead text tree → (read r.script script_limit).gives held (Ok text) → (statements_step r tree).gives held (Err status) → IsAt r
-  at_tree r text tree script given gives = go (has_definitions tree) refl gives
+  by_types_alone : (s : Source) → (typed_step s).gives held (Err status) → ByTypes s
+  by_types_alone s gives = at_script (refused_at (script_step s.script) (after_script s) held status gives)
     where
-      go : (b : Bool) → has_definitions tree ≡ b → (without_rulesets r tree b).gives held (Err status) → IsAt r
-      go true is e = absurd (other {A = List (List ℕ × List ℕ)} (st.Unbuilt (chars r.script)) refl e)
-      go false is e = at_structures r text tree script given is (refused_at (structures_step r.structures) (checked_step r tree) held status e)
+      at_typing : (tree : ScriptTree) (structures : Named) → IsRead s held tree structures
+          → (settled (typing_of s tree structures)).gives held (Err status) ⊎ ((nodes : List NodeTree) × (settled (typing_of s tree structures)).gives held (Ok nodes) × (settled (Ok (typed_by tree structures nodes))).gives held (Err status)) → ByTypes s
+      at_typing tree structures is (inl e) = record { tree = tree; structures = structures; is_read = is; typing = e }
+      at_typing tree structures is (inr (nodes, given, e)) = absurd (never_ok (typed_by tree structures nodes) e)
 
-  at_script : (r : Run) → (script_step r.script).gives held (Err status) ⊎ ((tree : ScriptTree) × (script_step r.script).gives held (Ok tree) × (statements_step r tree).gives held (Err status)) → IsAt r
-  at_script r (inl e) =
-      absurd (never_onward (read r.script script_limit) (script_of r.script) (never_read r.script script_limit) (never_script r.script) e)
-  at_script r (inr (tree, is, rest)) =
-      let t = went_on (read r.script script_limit) (script_of r.script) held tree is in
-      at_tree r t.0 tree (read_from r.script t.0 t.2.0 tree t.2.1 t.2.2) t.1 rest
+      at_structures : (tree : ScriptTree) (u : Unit {0}) → (script_step s.script).gives held (Ok tree) → (refused_if (has_definitions tree) (unbuilt s)).gives held (Ok u)
+          → (structures_step s.structures).gives held (Err status) ⊎ ((structures : Named) × (structures_step s.structures).gives held (Ok structures) × (after_structures s tree structures).gives held (Err status)) → ByTypes s
+      at_structures tree u script plain (inl e) =
+          absurd (never_onward (read s.structures structures_limit) (λ bytes. settled (structures_in s.structures bytes)) (never_read s.structures structures_limit) (never_structures s.structures) e)
+      at_structures tree u script plain (inr (structures, is, rest)) =
+          at_typing tree structures (source_from s held tree structures u script plain is) (refused_at (settled (typing_of s tree structures)) (λ nodes. settled (Ok (typed_by tree structures nodes))) held status rest)
 
-  refused_there : (r : Run) → (run_step r).gives held (Err status) → IsAt r
-  refused_there r gives = at_script r (refused_at (script_step r.script) (statements_step r) held status gives)
+      at_plain : (tree : ScriptTree) → (script_step s.script).gives held (Ok tree)
+          → (refused_if (has_definitions tree) (unbuilt s)).gives held (Err status) ⊎ ((u : Unit {0}) × (refused_if (has_definitions tree) (unbuilt s)).gives held (Ok u) × (after_plain s tree).gives held (Err status)) → ByTypes s
+      at_plain tree script (inl e) = absurd (never_refused (has_definitions tree) (unbuilt s) refl e)
+      at_plain tree script (inr (u, plain, rest)) = at_structures tree u script plain (refused_at (structures_step s.structures) (after_structures s tree) held status rest)
 
--- ---- and the other way round: what is refused behind the structures is refused
-reached : (r : Run) (held : Held) (status : Status) (text : List ℕ) (tree : ScriptTree) (structures : Named) → (read r.script script_limit).gives held (Ok text) → IsRead text tree → has_definitions tree ≡ false
-    → (structures_step r.structures).gives held (Ok structures) → (checked_step r tree structures).gives held (Err status) → (run_step r).gives held (Err status)
-reached r held status text tree structures given script plain declares rest =
-    let behind : (declared_step r tree).gives held (Err status) = (Ok structures, declares, rest) in
-    let statements : (statements_step r tree).gives held (Err status) = subst (λ b. (without_rulesets r tree b).gives held (Err status)) (sym plain) behind in
-    (Ok tree, (Ok text, given, (whole tree, (script.utf8, script.parsed), refl)), statements)
+      at_script : (script_step s.script).gives held (Err status) ⊎ ((tree : ScriptTree) × (script_step s.script).gives held (Ok tree) × (after_script s tree).gives held (Err status)) → ByTypes s
+      at_script (inl e) = absurd (never_onward (read s.script script_limit) (script_of s.script) (never_read s.script script_limit) (never_script s.script) e)
+      at_script (inr (tree, is, rest)) = at_plain tree is (refused_at (refused_if (has_definitions tree) (unbuilt s)) (λ plain. after_plain s tree) held status rest)
+
+  -- ---- a run by its typing, or by what it means
+  record ByValues (r : Run) : Type 0 where
+    typed : Typed
+    inputs : Environment
+    ready : IsReady r held typed inputs
+    values : Err status ≡ outputs_of r (meant r typed inputs)
+
+  by_run : (r : Run) → (run_step r).gives held (Err status) → ByTypes r.source ⊎ ByValues r
+  by_run r gives = at_types (refused_at (typed_step r.source) (after_typing r) held status gives)
+    where
+      at_values : (t : Typed) (u : Unit {0}) → (typed_step r.source).gives held (Ok t) → (refused_if (not (list_all is_built t.nodes)) (unbuilt r.source)).gives held (Ok u)
+          → (inputs_step r [] (reads t.structures t.nodes)).gives held (Err status)
+          ⊎ ((env : Environment) × (inputs_step r [] (reads t.structures t.nodes)).gives held (Ok env) × (settled (outputs_of r (meant r t env))).gives held (Err status)) → ByTypes r.source ⊎ ByValues r
+      at_values t u typed built (inl e) = absurd (never_inputs r [] (reads t.structures t.nodes) e)
+      at_values t u typed built (inr (env, is, rest)) = inr (record { typed = t; inputs = env; ready = ready_from r held t env u typed built is; values = rest })
+
+      at_built : (t : Typed) → (typed_step r.source).gives held (Ok t)
+          → (refused_if (not (list_all is_built t.nodes)) (unbuilt r.source)).gives held (Err status)
+          ⊎ ((u : Unit {0}) × (refused_if (not (list_all is_built t.nodes)) (unbuilt r.source)).gives held (Ok u) × (after_built r t).gives held (Err status)) → ByTypes r.source ⊎ ByValues r
+      at_built t typed (inl e) = absurd (never_refused (not (list_all is_built t.nodes)) (unbuilt r.source) refl e)
+      at_built t typed (inr (u, built, rest)) = at_values t u typed built (refused_at (inputs_step r [] (reads t.structures t.nodes)) (λ env. settled (outputs_of r (meant r t env))) held status rest)
+
+      at_types : (typed_step r.source).gives held (Err status) ⊎ ((t : Typed) × (typed_step r.source).gives held (Ok t) × (after_typing r t).gives held (Err status)) → ByTypes r.source ⊎ ByValues r
+      at_types (inl e) = inl (by_types_alone r.source e)
+      at_types (inr (t, is, rest)) = at_built t is (refused_at (refused_if (not (list_all is_built t.nodes)) (unbuilt r.source)) (λ built. after_built r t) held status rest)
 
 -- ---- by types
 typing_fault : (i rule : ℕ) (typing : Result (List NodeTree) (ℕ × ℕ)) → Err (st.Mistyped i rule) ≡ typed_or_fault typing → typing ≡ Err (i, rule)
@@ -205,40 +219,23 @@ values_give_no_type i rule r (Err fault) e = go fault.0 e
     go DivZero e = cc
     go Range e = cc
 
-planned_give_no_type : (i rule : ℕ) (held : Held) (r : Run) (tree : ScriptTree) (structures : Named) (nodes : List NodeTree) → (planned_step r tree structures nodes).gives held (Err (st.Mistyped i rule)) → ⊥
-planned_give_no_type i rule held r tree structures nodes =
-    never_onward (st.Mistyped i rule) refl held (settled (built_or_not r nodes)) (λ u. data_step r (reads structures nodes) (with_nodes tree nodes)) (never_built (st.Mistyped i rule) refl held r nodes) (λ u.
-    never_onward (st.Mistyped i rule) refl held (inputs_step r [] (reads structures nodes)) (results_step r (with_nodes tree nodes)) (never_inputs (st.Mistyped i rule) refl held r [] (reads structures nodes)) (λ env.
-    values_give_no_type i rule r (meaning r.settings (with_nodes tree nodes) env)))
-
-pub mistyped_only : (r : Run) (held : Held) (i rule : ℕ) → (run_step r).gives held (Err (st.Mistyped i rule)) → IsMistyped r held i rule
-mistyped_only r held i rule gives = go (refused_at (settled (typing_of r at.tree at.structures)) (planned_step r at.tree at.structures) held (st.Mistyped i rule) at.rest)
+pub mistyped_only : (r : Run) (held : Held) (i rule : ℕ) → (run_step r).gives held (Err (st.Mistyped i rule)) → IsMistyped r.source held i rule
+mistyped_only r held i rule gives = go (by_run (st.Mistyped i rule) refl held r gives)
   where
-    at : IsAt (st.Mistyped i rule) refl held r
-    at = refused_there (st.Mistyped i rule) refl held r gives
+    go : ByTypes (st.Mistyped i rule) refl held r.source ⊎ ByValues (st.Mistyped i rule) refl held r → IsMistyped r.source held i rule
+    go (inl b) = record { tree = b.tree; structures = b.structures; source = b.is_read; fault = typing_fault i rule (script_typed (env_over r.source.settings b.structures) b.tree) b.typing }
+    go (inr b) = absurd (values_give_no_type i rule r (meant r b.typed b.inputs) b.values)
 
-    go : (settled (typing_of r at.tree at.structures)).gives held (Err (st.Mistyped i rule))
-        ⊎ ((nodes : List NodeTree) × (settled (typing_of r at.tree at.structures)).gives held (Ok nodes) × (planned_step r at.tree at.structures nodes).gives held (Err (st.Mistyped i rule))) → IsMistyped r held i rule
-    go (inl e) = record {
-      text = at.text;
-      tree = at.tree;
-      structures = at.structures;
-      script = sym at.gives_text;
-      utf8 = at.is_read.utf8;
-      parsed = at.is_read.parsed;
-      plain = at.plain;
-      declared = at.declares;
-      fault = typing_fault i rule (script_typed (env_over r.settings at.structures) at.tree) e;
-    }
-    go (inr (nodes, is, rest)) = absurd (planned_give_no_type i rule held r at.tree at.structures nodes rest)
-
-pub mistyped_always : (r : Run) (held : Held) (i rule : ℕ) → IsMistyped r held i rule → (run_step r).gives held (Err (st.Mistyped i rule))
+pub mistyped_always : (r : Run) (held : Held) (i rule : ℕ) → IsMistyped r.source held i rule → (run_step r).gives held (Err (st.Mistyped i rule))
 mistyped_always r held i rule is =
-    let typing : (settled (typing_of r is.tree is.structures)).gives held (Err (st.Mistyped i rule)) = sym (ap typed_or_fault is.fault) in
-    reached r held (st.Mistyped i rule) is.text is.tree is.structures (sym is.script) (record { utf8 = is.utf8; parsed = is.parsed }) is.plain is.declared (Err (st.Mistyped i rule), typing, refl)
+    let s = r.source in
+    let typing : (settled (typing_of s is.tree is.structures)).gives held (Err (st.Mistyped i rule)) = sym (ap typed_or_fault is.fault) in
+    let typed : (typed_step s).gives held (Err (st.Mistyped i rule)) =
+    (Ok is.tree, script_there s held is.tree is.structures is.source, (Ok tt, passes (has_definitions is.tree) (unbuilt s) is.source.plain, (Ok is.structures, is.source.declared, (Err (st.Mistyped i rule), typing, refl)))) in
+    (Err (st.Mistyped i rule), typed, refl)
 
 -- ---- by values
-own_values : (f : EvaluationFault) (name : List ℕ) → is_other (source (fault_status f name)) ≡ false
+own_values : (f : EvaluationFault) (name : List ℕ) → is_other (cause (fault_status f name)) ≡ false
 own_values DivZero name = refl
 own_values Range name = refl
 
@@ -258,50 +255,32 @@ value_fault f name r (Err fault) e = ap Err (go f fault.0 e)
     go Range Range e = let same : name ≡ fault.1 = cc in ap (λ (n : List ℕ). (Range, n)) (sym same)
 
 pub faulted_only : (r : Run) (held : Held) (f : EvaluationFault) (name : List ℕ) → (run_step r).gives held (Err (fault_status f name)) → IsFaulted r held f name
-faulted_only r held f name gives = by_typing (refused_at (settled (typing_of r at.tree at.structures)) (planned_step r at.tree at.structures) held (fault_status f name) at.rest)
+faulted_only r held f name gives = go (by_run (fault_status f name) (own_values f name) held r gives)
   where
-    at : IsAt (fault_status f name) (own_values f name) held r
-    at = refused_there (fault_status f name) (own_values f name) held r gives
-
-    by_inputs : (nodes : List NodeTree) → script_typed (env_over r.settings at.structures) at.tree ≡ Ok nodes → list_all is_built nodes ≡ true
-        → (inputs_step r [] (reads at.structures nodes)).gives held (Err (fault_status f name))
-        ⊎ ((env : Environment) × (inputs_step r [] (reads at.structures nodes)).gives held (Ok env) × (results_step r (with_nodes at.tree nodes) env).gives held (Err (fault_status f name))) → IsFaulted r held f name
-    by_inputs nodes fits built (inl e) = absurd (never_inputs (fault_status f name) (own_values f name) held r [] (reads at.structures nodes) e)
-    by_inputs nodes fits built (inr (env, is, rest)) = record {
-      text = at.text;
-      tree = at.tree;
-      structures = at.structures;
-      nodes = nodes;
-      inputs = env;
-      script = sym at.gives_text;
-      utf8 = at.is_read.utf8;
-      parsed = at.is_read.parsed;
-      plain = at.plain;
-      declared = at.declares;
-      fits = fits;
-      built = built;
-      read = is;
-      means = value_fault f name r (meaning r.settings (with_nodes at.tree nodes) env) rest;
-    }
-
-    by_built : (nodes : List NodeTree) → script_typed (env_over r.settings at.structures) at.tree ≡ Ok nodes
-        → (settled (built_or_not r nodes)).gives held (Err (fault_status f name))
-        ⊎ ((u : Unit {0}) × (settled (built_or_not r nodes)).gives held (Ok u) × (data_step r (reads at.structures nodes) (with_nodes at.tree nodes)).gives held (Err (fault_status f name))) → IsFaulted r held f name
-    by_built nodes fits (inl e) = absurd (never_built (fault_status f name) (own_values f name) held r nodes e)
-    by_built nodes fits (inr (u, is, rest)) =
-        by_inputs nodes fits (built_from r nodes u is) (refused_at (inputs_step r [] (reads at.structures nodes)) (results_step r (with_nodes at.tree nodes)) held (fault_status f name) rest)
-
-    by_typing : (settled (typing_of r at.tree at.structures)).gives held (Err (fault_status f name))
-        ⊎ ((nodes : List NodeTree) × (settled (typing_of r at.tree at.structures)).gives held (Ok nodes) × (planned_step r at.tree at.structures nodes).gives held (Err (fault_status f name))) → IsFaulted r held f name
-    by_typing (inl e) = absurd (types_give_no_value f name (script_typed (env_over r.settings at.structures) at.tree) e)
-    by_typing (inr (nodes, is, rest)) =
-        by_built nodes (nodes_from (script_typed (env_over r.settings at.structures) at.tree) nodes is)
-        (refused_at (settled (built_or_not r nodes)) (λ u. data_step r (reads at.structures nodes) (with_nodes at.tree nodes)) held (fault_status f name) rest)
+    go : ByTypes (fault_status f name) (own_values f name) held r.source ⊎ ByValues (fault_status f name) (own_values f name) held r → IsFaulted r held f name
+    go (inl b) = absurd (types_give_no_value f name (script_typed (env_over r.source.settings b.structures) b.tree) b.typing)
+    go (inr b) = record { typed = b.typed; inputs = b.inputs; ready = b.ready; means = value_fault f name r (meant r b.typed b.inputs) b.values }
 
 pub faulted_always : (r : Run) (held : Held) (f : EvaluationFault) (name : List ℕ) → IsFaulted r held f name → (run_step r).gives held (Err (fault_status f name))
-faulted_always r held f name is =
-    let typing : (settled (typing_of r is.tree is.structures)).gives held (Ok is.nodes) = sym (ap typed_or_fault is.fits) in
-    let built : (settled (built_or_not r is.nodes)).gives held (Ok tt) = sym (ap (λ b. cond b (Ok tt) (Err (st.Unbuilt (chars r.script)))) is.built) in
-    let values : (results_step r (with_nodes is.tree is.nodes) is.inputs).gives held (Err (fault_status f name)) = sym (ap (outputs_of r) is.means) in
-    reached r held (fault_status f name) is.text is.tree is.structures (sym is.script) (record { utf8 = is.utf8; parsed = is.parsed }) is.plain is.declared
-    (Ok is.nodes, typing, (Ok tt, built, (Ok is.inputs, is.read, values)))
+faulted_always r held f name is = ready_gives r held is.typed is.inputs (Err (fault_status f name)) is.ready (sym (ap (outputs_of r) is.means))
+
+-- ---- what is refused before the script is run, is refused by no fault of it
+module _ {F A X : Type 0} (g : Ghosts F) (a b : F) (step : Step A) (never : (f : EvaluationFault) (name : List ℕ) (held : Held) → step.gives held (Err (fault_status f name)) → ⊥) (view : X → A) (Q : Held → Type 0) where
+  no_run : (status : Status) → Takes g a b step view (Err status) → HasRun status → IfSome (g.held a) Q
+  no_run st.Done t h = absurd t.came
+  no_run (st.DivZero name) t h = if_some_map (g.held a) (λ held. step.gives held (Err (st.DivZero name))) Q (λ held p. absurd (never DivZero name held p)) t.came
+  no_run (st.Range name) t h = if_some_map (g.held a) (λ held. step.gives held (Err (st.Range name))) Q (λ held p. absurd (never Range name held p)) t.came
+  no_run status t h = absurd h
+
+pub typing_tells : {F X : Type 0} (g : Ghosts F) (a b : F) (s : Source) (view : X → Typed) (told : TypedScript → Type 0) (status : Status) → Takes g a b (typed_step s) view (Err status) → TellsRun g a s told status
+typing_tells g a b s view told status = no_run g a b (typed_step s) never view (λ held. IsTold held s told) status
+  where
+    never : (f : EvaluationFault) (name : List ℕ) (held : Held) → (typed_step s).gives held (Err (fault_status f name)) → ⊥
+    never f name held gives =
+        let b = by_types_alone (fault_status f name) (own_values f name) held s gives in
+        types_give_no_value f name (script_typed (env_over s.settings b.structures) b.tree) b.typing
+
+pub inputs_tell : {F X : Type 0} (g : Ghosts F) (a b c : F) (s : Source) (r : Run) (inputs : Named) (view : X → Environment) (told : TypedScript → Type 0) (status : Status) → g.held b ≡ g.held a → Takes g b c (inputs_step r [] inputs) view (Err status) → TellsRun g a s told status
+inputs_tell g a b c s r inputs view told status same t h =
+    subst (λ o. IfSome o (λ held. IsTold held s told)) same
+    (no_run g b c (inputs_step r [] inputs) (λ f name held. never_inputs (fault_status f name) (own_values f name) held r [] inputs) view (λ held. IsTold held s told) status t h)

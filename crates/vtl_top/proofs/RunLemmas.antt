@@ -1,6 +1,5 @@
 -- Steps of a run: what they settle, and the data sets that they read.
-use Rattle.std.proofs.Common.{◌≡◌, inl, inr, ℕ, Bool, true, false, cond, List, Option, Some, None, Result, Ok, Err, refl, sym, ap, subst, ◌∙◌, chars}
-use Rattle.std.specs.List.{list_all}
+use Rattle.std.proofs.Common.{◌≡◌, inl, inr, ℕ, Bool, true, false, not, List, [], Result, Ok, Err, refl, sym, ap, subst, ◌∙◌, chars}
 use Rattle.vtl_files.specs.declared.files.Files.{Ghosts}
 use Rattle.vtl_cell.specs.Outcome.{DivZero, Fault as EvaluationFault, Range}
 use Rattle.vtl_cell.specs.Row.{Row}
@@ -10,24 +9,36 @@ use Rattle.vtl_tree.specs.declared.structure.Structure.{Structure}
 use Rattle.vtl_csv.specs.InputFile.{Fault, Reads}
 use Rattle.vtl_csv.specs.declared.input.InputErr.{InputErr}
 use Rattle.vtl_csv.specs.declared.input.InputErr.TheVariants as input
-use Rattle.vtl_syntax.specs.Trees.{ScriptTree}
-use Rattle.vtl_nodes.specs.Trees.{NodeTree}
-use Rattle.vtl_meaning.specs.Meaning.{Outputs, is_built}
-use Rattle.vtl_check.specs.Script.{has_definitions}
+use Rattle.vtl_meaning.specs.Meaning.{Outputs, is_built, meaning}
 use Rattle.vtl_backend.specs.Runs.{Tells}
 use Rattle.vtl_backend.specs.declared.error.RunErr.{RunErr}
 use Rattle.vtl_backend.specs.declared.error.RunErr.TheVariants as run
 use Rattle.vtl_top.specs.Answered.{Came, Takes}
-use Rattle.vtl_top.specs.Expected.{built_or_not, declared_step, fault_status, outputs_of, points_or_fault, statements_step, without_rulesets}
+use Rattle.std.specs.Prelude.{IfOk, IsErrAnd, map}
+use Rattle.vtl_syntax.specs.declared.statements.Statement.{Statement}
+use Rattle.std.specs.List.{list_all}
+use Rattle.vtl_decimal.specs.Settings.{Settings}
+use Rattle.vtl_syntax.specs.Trees.{ScriptTree}
+use Rattle.vtl_syntax.specs.View.{script_tree, statement_tree}
+use Rattle.vtl_syntax.specs.declared.statements.Script.{Script}
+use Rattle.vtl_tree.specs.Structures.{Named}
+use Rattle.vtl_check.specs.Checked.{TypedScript, nodes_of, tree_of}
+use Rattle.vtl_check.specs.Script.{has_definitions}
+use Rattle.vtl_backend.specs.Inputs.{environment_of, inputs_of}
+use Rattle.vtl_backend.specs.Runs.{script_meaning}
+use Rattle.vtl_backend.specs.Statements.{statements_of}
+use Rattle.vtl_top.specs.Expected.{Typed, fault_status, inputs_step, meant, outputs_of, points_or_fault, run_step, script_step, structures_step, typed_by, typed_step, typing_of, unbuilt}
 use Rattle.vtl_top.specs.InputsRead.{rows_in}
 use Rattle.vtl_top.specs.Kinds.{refused, told_by}
 use Rattle.vtl_top.specs.Refusal.{IsOrMemory, IsTableRead, SettlesBy, faulted, input_refusal}
-use Rattle.vtl_top.specs.Steps.{File, Step, settled}
-use Rattle.vtl_top.specs.Words.{Run}
+use Rattle.vtl_top.specs.Steps.{File, Made, Step, ◌>>=◌, refused_if, settled}
+use Rattle.vtl_top.specs.Informed.{HasRun, typed_view}
+use Rattle.vtl_top.specs.Words.{Run, Source}
 use Rattle.vtl_top.specs.declared.status.Status.{Status}
 use Rattle.vtl_top.specs.declared.status.Status.TheVariants as st
-use Rattle.vtl_top.proofs.ReadScripts.{if_some_all}
-use Rattle.vtl_top.proofs.StepLemmas.{nothing_read}
+use Rattle.vtl_top.proofs.ReadScripts.{if_some_all, settled_given, typing_given}
+use Rattle.vtl_top.proofs.StepLemmas.{nothing_read, takes_onward, takes_stopped}
+use Rattle.vtl_top.proofs.MeantLemmas.{after_built, after_plain, after_script, after_structures, after_typing}
 
 module _ {F : Type 0} (g : Ghosts F) (a : F) where
   pub settled_ok : {A X : Type 0} (view : X → A) (x : X) (wanted : Result A Status) → wanted ≡ Ok (view x) → Takes g a a (settled wanted) view (Ok x)
@@ -44,22 +55,12 @@ module _ {F : Type 0} (g : Ghosts F) (a : F) where
         (if_some_all (g.held a) (λ held. (settled given).gives held (Err (st.Unbuilt (chars path)))) (λ held. sym is));
   }
 
-  module _ {Y : Type 0} (r : Run) (script : ScriptTree) (view : Y → List File) where
-    pub rulesets_take : (status : Status) → has_definitions script ≡ true → IsOrMemory (st.Unbuilt (chars r.script)) status → Takes g a a (statements_step r script) view (Err status)
-    rulesets_take status defines is =
-        subst (λ d. Takes g a a (without_rulesets r script d) view (Err status)) (sym defines)
-        (unbuilt_takes view r.script (Err (st.Unbuilt (chars r.script))) status refl is)
+  -- a test that holds refuses, and one that does not goes on
+  pub test_refuses : {X : Type 0} (view : X → Unit {0}) (path : List ℕ) (b : Bool) (status : Status) → b ≡ true → IsOrMemory (st.Unbuilt (chars path)) status → Takes g a a (refused_if b (st.Unbuilt (chars path))) view (Err status)
+  test_refuses view path b status e is = subst (λ d. Takes g a a (refused_if d (st.Unbuilt (chars path))) view (Err status)) (sym e) (unbuilt_takes view path (Err (st.Unbuilt (chars path))) status refl is)
 
-    pub plain_takes : (b : F) (result : Result Y Status) → has_definitions script ≡ false → Takes g a b (declared_step r script) view result → Takes g a b (statements_step r script) view result
-    plain_takes b result plain is =
-        subst (λ d. Takes g a b (without_rulesets r script d) view result) (sym plain) is
-
--- a script of which each expression is evaluated is built, and no other
-pub is_built_so : (r : Run) (nodes : List NodeTree) → list_all is_built nodes ≡ true → built_or_not r nodes ≡ Ok tt
-is_built_so r nodes e = ap (λ b. cond b (Ok tt) (Err (st.Unbuilt (chars r.script)))) e
-
-pub is_not_built : (r : Run) (nodes : List NodeTree) → list_all is_built nodes ≡ false → built_or_not r nodes ≡ Err (st.Unbuilt (chars r.script))
-is_not_built r nodes e = ap (λ b. cond b (Ok tt) (Err (st.Unbuilt (chars r.script)))) e
+  pub test_passes : (b : Bool) (status : Status) → b ≡ false → Takes g a a (refused_if b status) (λ (u : Unit {0}). u) (Ok tt)
+  test_passes b status e = subst (λ d. Takes g a a (refused_if d status) (λ (u : Unit {0}). u) (Ok tt)) (sym e) (settled_ok (λ (u : Unit {0}). u) tt (Ok tt) refl)
 
 -- ---- a data set that is read
 pub input_refused : (name : List ℕ) (s : Structure) (read : Result (List Row) Fault) (error : InputErr) (status : Status) → Reads s (Err error) read → IsOrMemory (input_refusal name error) status → IsTableRead name s read (Err status)
@@ -90,3 +91,102 @@ results_refuse r (Err fault) status e = let same : fault_status fault.0 fault.1 
     go : (f : EvaluationFault) → told_by (fault_status f fault.1) ≡ refused
     go DivZero = refl
     go Range = refl
+
+-- ---- what a run that ended with a status was told
+pub told_of_run : (T : Type 0) (error : RunErr) (status : Status) → status ≡ faulted error → (((error ≡ run.OutOfMemory) → ⊥) → T) → HasRun status → T
+told_of_run T (run.DivZero name) status e f h = f (λ q. cc)
+told_of_run T (run.Range name) status e f h = f (λ q. cc)
+told_of_run T run.OutOfMemory status e f h = absurd (subst HasRun e h)
+
+-- ---- the steps that lead to a typed script
+module _ {F X : Type 0} (g : Ghosts F) (s : Source) (view : X → Typed) (a b : F) where
+  pub script_refused : (status : Status) → Takes g a b (script_step s.script) script_tree (Err status) → Takes g a b (typed_step s) view (Err status)
+  script_refused status t = takes_stopped g (script_step s.script) (after_script s) a b script_tree view status t
+
+  module _ (script : Script) (t : Takes g a b (script_step s.script) script_tree (Ok script)) where
+    pub defines_refused : (status : Status) → has_definitions (script_tree script) ≡ true → IsOrMemory (unbuilt s) status → Takes g a b (typed_step s) view (Err status)
+    defines_refused status defines is =
+        takes_onward g (script_step s.script) (after_script s) a b b script_tree view script (Err status) t
+        (takes_stopped g (refused_if (has_definitions (script_tree script)) (unbuilt s)) (λ plain. after_plain s (script_tree script)) b b (λ (u : Unit {0}). u) view status
+        (test_refuses g b (λ (u : Unit {0}). u) s.script (has_definitions (script_tree script)) status defines is))
+
+    plainly : (c : F) (result : Result X Status) → has_definitions (script_tree script) ≡ false → Takes g b c (after_plain s (script_tree script)) view result → Takes g a c (typed_step s) view result
+    plainly c result plain rest =
+        takes_onward g (script_step s.script) (after_script s) a b c script_tree view script result t
+        (takes_onward g (refused_if (has_definitions (script_tree script)) (unbuilt s)) (λ plain. after_plain s (script_tree script)) b b c (λ (u : Unit {0}). u) view tt result
+        (test_passes g b (has_definitions (script_tree script)) (unbuilt s) plain) rest)
+
+    pub structures_refused : (c : F) (status : Status) → has_definitions (script_tree script) ≡ false → Takes g b c (structures_step s.structures) (λ (x : Named). x) (Err status) → Takes g a c (typed_step s) view (Err status)
+    structures_refused c status plain u =
+        plainly c (Err status) plain (takes_stopped g (structures_step s.structures) (after_structures s (script_tree script)) b c (λ (x : Named). x) view status u)
+
+    pub then_typed : (c : F) (structures : Named) (result : Result X Status) → has_definitions (script_tree script) ≡ false → Takes g b c (structures_step s.structures) (λ (x : Named). x) (Ok structures)
+        → Takes g c c (after_structures s (script_tree script) structures) view result → Takes g a c (typed_step s) view result
+    then_typed c structures result plain u rest =
+        plainly c result plain (takes_onward g (structures_step s.structures) (after_structures s (script_tree script)) b c c (λ (x : Named). x) view structures result u rest)
+
+module _ {F : Type 0} (g : Ghosts F) (s : Source) (a : F) (tree : ScriptTree) (structures : Named) where
+  typed_same : (t : TypedScript) → tree_of t ≡ tree → t.declared ≡ structures → typed_by tree structures (nodes_of t) ≡ typed_view t
+  typed_same t p q = ap (λ (x : ScriptTree). typed_by x structures (nodes_of t)) (sym p) ∙ ap (λ (x : Named). typed_by (tree_of t) x (nodes_of t)) (sym q)
+
+  pub typed_takes : (result : Result TypedScript Status) → SettlesBy nodes_of (typing_of s tree structures) result → IfOk result (λ t. tree_of t ≡ tree) → IfOk result (λ t. t.declared ≡ structures)
+      → Takes g a a (after_structures s tree structures) typed_view result
+  typed_takes (Ok t) is p q =
+      takes_onward g (settled (typing_of s tree structures)) (λ nodes. settled (Ok (typed_by tree structures nodes))) a a a nodes_of typed_view t (Ok t)
+      (settled_ok g a nodes_of t (typing_of s tree structures) is) (settled_ok g a typed_view t (Ok (typed_by tree structures (nodes_of t))) (ap Ok (typed_same t p q)))
+  typed_takes (Err status) is p q =
+      takes_stopped g (settled (typing_of s tree structures)) (λ nodes. settled (Ok (typed_by tree structures nodes))) a a nodes_of typed_view status
+      (typing_given g a s tree structures nodes_of (Err status) is)
+
+-- ---- the steps of a run
+module _ {F X : Type 0} (g : Ghosts F) (r : Run) (view : X → List File) (a b : F) where
+  pub typing_refused : (status : Status) → Takes g a b (typed_step r.source) typed_view (Err status) → Takes g a b (run_step r) view (Err status)
+  typing_refused status t = takes_stopped g (typed_step r.source) (after_typing r) a b typed_view view status t
+
+  module _ (t : TypedScript) (typed : Takes g a b (typed_step r.source) typed_view (Ok t)) where
+    abbrev test : Bool
+    test = not (list_all is_built (nodes_of t))
+
+    pub not_built : (status : Status) → list_all is_built (nodes_of t) ≡ false → IsOrMemory (unbuilt r.source) status → Takes g a b (run_step r) view (Err status)
+    not_built status e is =
+        takes_onward g (typed_step r.source) (after_typing r) a b b typed_view view t (Err status) typed
+        (takes_stopped g (refused_if test (unbuilt r.source)) (λ built. after_built r (typed_view t)) b b (λ (u : Unit {0}). u) view status
+        (test_refuses g b (λ (u : Unit {0}). u) r.source.script test status (ap not e) is))
+
+    built_on : (c : F) (result : Result X Status) → list_all is_built (nodes_of t) ≡ true → Takes g b c (after_built r (typed_view t)) view result → Takes g a c (run_step r) view result
+    built_on c result e rest =
+        takes_onward g (typed_step r.source) (after_typing r) a b c typed_view view t result typed
+        (takes_onward g (refused_if test (unbuilt r.source)) (λ built. after_built r (typed_view t)) b b c (λ (u : Unit {0}). u) view tt result (test_passes g b test (unbuilt r.source) (ap not e)) rest)
+
+    pub inputs_refused : (c : F) (status : Status) → list_all is_built (nodes_of t) ≡ true → Takes g b c (inputs_step r [] (inputs_of t)) (environment_of t) (Err status) → Takes g a c (run_step r) view (Err status)
+    inputs_refused c status e u =
+        built_on c (Err status) e (takes_stopped g (inputs_step r [] (inputs_of t)) (λ env. settled (outputs_of r (meant r (typed_view t) env))) b c (environment_of t) view status u)
+
+    pub then_results : (c : F) (inputs : NamedTables) (result : Result X Status) → list_all is_built (nodes_of t) ≡ true → t.settings ≡ r.source.settings → Takes g b c (inputs_step r [] (inputs_of t)) (environment_of t) (Ok inputs)
+        → SettlesBy view (outputs_of r (script_meaning t inputs)) result → Takes g a c (run_step r) view result
+    then_results c inputs result e same u is =
+        let m = meant r (typed_view t) (environment_of t inputs) in
+        let here : SettlesBy view (outputs_of r m) result =
+        subst (λ (p : Settings). SettlesBy view (outputs_of r (meaning p (statements_of t) (environment_of t inputs))) result) same is in
+        built_on c result e
+        (takes_onward g (inputs_step r [] (inputs_of t)) (λ env. settled (outputs_of r (meant r (typed_view t) env))) b c c (environment_of t) view inputs result u
+        (settled_given g c view (outputs_of r m) (results_refuse r m) result here))
+
+-- ---- what is made of files, or of a text
+module _ {F A X : Type 0} (g : Ghosts F) (a b : F) (step : Step A) (wrap : A → Made) (view : X → A) where
+  pub wrapped : {Y : Type 0} (whole : Y → Made) (x : X) (result : Result Y Status) → Takes g a b step view (Ok x) → SettlesBy whole (Ok (wrap (view x))) result → Takes g a b (step >>= λ y. settled (Ok (wrap y))) whole result
+  wrapped whole x result t is =
+      takes_onward g step (λ y. settled (Ok (wrap y))) a b b view whole x result t
+      (settled_given g b whole (Ok (wrap (view x))) (λ status e. cc) result is)
+
+  pub wrapped_refusal : {Y : Type 0} (whole : Y → Made) (status : Status) → Takes g a b step view (Err status) → Takes g a b (step >>= λ y. settled (Ok (wrap y))) whole (Err status)
+  wrapped_refusal whole status t = takes_stopped g step (λ y. settled (Ok (wrap y))) a b view whole status t
+
+-- ---- what `?` hands on
+pub passed_on : {T : Type 0} (r : Result T Status) (e : Status) → IsErrAnd r (λ y. y ≡ e) → r ≡ Err e
+passed_on (Ok x) e is = absurd is
+passed_on (Err y) e is = ap Err is
+
+pub same_tree : (result : Result TypedScript Status) (statements : List Statement) → IfOk result (λ t. t.script ≡ statements) → IfOk result (λ t. tree_of t ≡ map statement_tree statements)
+same_tree (Ok t) statements e = ap (map statement_tree) e
+same_tree (Err status) statements e = tt

@@ -8,12 +8,13 @@ use Rattle.vtl_files.specs.Whole.{AddsUpTo, TakesFront}
 use Rattle.std.proofs.lemmas.List.{drop_all, drop_more}
 use Rattle.vtl_top.specs.PartView.{all_said, said_bytes}
 use Rattle.vtl_top.specs.declared.status.Part.{Part as Said}
-use Rattle.std.proofs.Common.{arith}
 use Rattle.vtl_files.specs.declared.sink.Sink.{Ghosts}
-use Rattle.vtl_top.specs.Said.{HandsOver, Says}
+use Rattle.vtl_files.specs.Outside.{Rose}
+use Rattle.vtl_files.specs.declared.files.Files.{Ghosts as Store}
+use Rattle.vtl_top.specs.Answered.{Ends}
+use Rattle.vtl_top.specs.Said.{Hears, Says}
 use Rattle.vtl_top.specs.StatusLine.{line_of}
-use Rattle.vtl_top.specs.Steps.{Held}
-use Rattle.vtl_top.specs.Words.{Command}
+use Rattle.vtl_top.specs.Words.{Run, run}
 use Rattle.vtl_top.specs.declared.status.Status.{Status}
 use Rattle.vtl_top.specs.declared.status.Status.TheVariants as st
 
@@ -98,16 +99,18 @@ taken_nothing : (t : Option (List ℕ)) → TakesAll t t []
 taken_nothing None = refl
 taken_nothing (Some t) = ap Some (sym (append-nil t))
 
-pub hands_nothing : {S : Type 0} (g : Ghosts S) (s : S) → HandsOver g s s []
-hands_nothing g s = record {
-  front = front_of_all (g.taken s) (g.taken s) [] (taken_nothing (g.taken s));
-  whole = λ calm. taken_nothing (g.taken s);
-  faults = omega arith;
-}
+pub hears_nothing : {S : Type 0} (g : Ghosts S) (s : S) (text : List ℕ) → text ≡ [] → Hears g s s text
+hears_nothing g s text e = record { taken = subst (λ t. TakesAll (g.taken s) (g.taken s) t) (sym e) (taken_nothing (g.taken s)); silent = λ n. refl }
 
--- no text, and then the line
-pub says_line : {S : Type 0} (g : Ghosts S) (before now : S) (command : Option Command) (held : Option Held) (status : Status) → HandsOver g before now (line_of status) → Says g before now command held status
-says_line g before now command held status line = record { text = []; between = before; is_text = refl; text_over = hands_nothing g before; line_over = line }
+-- no line of a status but that of Done is empty
+pub says_line : {S : Type 0} (g : Ghosts S) (between now : S) (status : Status) → (status ≡ st.Done → ⊥) → TakesFront (g.taken between) (g.taken now) (line_of status)
+    → (¬ Rose (g.faults between) (g.faults now) → TakesAll (g.taken between) (g.taken now) (line_of status)) → g.faults between ≤ g.faults now → Says g between now status
+says_line g between now st.Done n front whole faults = absurd (n refl)
+says_line g between now status n front whole faults = record { front = front; whole = whole; faults = faults }
 
-pub says_nothing : {S : Type 0} (g : Ghosts S) (s : S) (command : Option Command) (held : Option Held) (status : Status) → status ≡ st.Done → Says g s s command held status
-says_nothing g s command held status e = says_line g s s command held status (subst (λ (x : Status). HandsOver g s s (line_of x)) (sym e) (hands_nothing g s))
+pub says_nothing : {S : Type 0} (g : Ghosts S) (s : S) (status : Status) → status ≡ st.Done → Says g s s status
+says_nothing g s status e = subst (λ (x : Status). Says g s s x) (sym e) refl
+
+-- a run that is done has no text, and so says nothing
+pub run_is_quiet : {F S : Type 0} (g : Store F) (o : Ghosts S) (a b : F) (out now : S) (r : Run) → Ends g o a b out now (Some (run r)) st.Done → now ≡ out
+run_is_quiet g o a b out now r ends = ends.line ∙ ends.command_ends.gave.1.silent ends.command_ends.shape

@@ -1,11 +1,10 @@
 -- Fewer words than a command has.
 use Rattle.std.proofs.Common.{◌≡◌, ℕ, ◌<◌, List, [], ◌∷◌, length, map, None, arith, refl}
-use Rattle.vtl_top.specs.Words.{command_of}
+use Rattle.vtl_top.specs.Words.{run_of}
 
-pub too_few : {X : Type 0} (f : X → List ℕ) (xs : List X) → length xs < 5 → None ≡ command_of (map f xs)
+pub too_few : {X : Type 0} (f : X → List ℕ) (xs : List X) → length xs < 4 → None ≡ run_of (map f xs)
 too_few f [] h = refl
 too_few f (a ∷ []) h = refl
 too_few f (a ∷ b ∷ []) h = refl
 too_few f (a ∷ b ∷ c ∷ []) h = refl
-too_few f (a ∷ b ∷ c ∷ d ∷ []) h = refl
-too_few f (a ∷ b ∷ c ∷ d ∷ e ∷ xs) h = absurd (omega (arith, h))
+too_few f (a ∷ b ∷ c ∷ d ∷ xs) h = absurd (omega (arith, h))

@@ -1,5 +1,5 @@
 -- What the words and the files that are held give: the outputs of the run, or the first refusal.
-use Rattle.std.specs.Prelude.{◌≡◌, ℕ, Bool, true, false, List, [], ◌∷◌, ◌++◌, length, map, nat_lt, Option, Some, None, Result, Ok, Err, codes, chars, encode_utf8_all, if◌then◌else◌}
+use Rattle.std.specs.Prelude.{◌≡◌, ℕ, not, List, [], ◌∷◌, ◌++◌, length, map, nat_lt, Option, Some, None, Result, Ok, Err, codes, chars, encode_utf8_all, if◌then◌else◌}
 use Rattle.vtl_files.specs.Outside.{bytes_at}
 use Rattle.vtl_cell.specs.Outcome.{DivZero, Fault as EvaluationFault, Range}
 use Rattle.vtl_cell.specs.Row.{Row}
@@ -7,7 +7,7 @@ use Rattle.vtl_syntax.specs.Trees.{ScriptTree}
 use Rattle.vtl_tree.specs.Environment.{DataSet, Environment}
 use Rattle.vtl_tree.specs.Structures.{Named}
 use Rattle.vtl_nodes.specs.Trees.{NodeTree}
-use Rattle.vtl_meaning.specs.Meaning.{Outputs, Statement, is_built, meaning}
+use Rattle.vtl_meaning.specs.Meaning.{Outputs, is_built, meaning}
 use Rattle.vtl_backend.specs.Statements.{with_nodes}
 use Rattle.std.specs.List.{list_all}
 use Rattle.vtl_tree.specs.declared.structure.Structure.{Structure}
@@ -17,14 +17,14 @@ use Rattle.vtl_check.specs.Checked.{env_over}
 use Rattle.vtl_check.specs.Script.{has_definitions, script_typed}
 use Rattle.vtl_check.specs.Uses.{reads}
 use Rattle.vtl_top.specs.ScriptFile.{IsParsed, Parsed, faulty, no_text, whole}
-use Rattle.vtl_top.specs.Steps.{File, Held, Step, onward, settled}
+use Rattle.vtl_top.specs.Steps.{File, Held, Made, Name, Path, Step, Text, ◌>>=◌, only_files, refused_if, settled}
 use Rattle.vtl_top.specs.Structures.{structures_in}
-use Rattle.vtl_top.specs.Words.{Command, Run, run}
+use Rattle.vtl_top.specs.Words.{Command, Run, Source, run}
 use Rattle.vtl_top.specs.declared.status.Status.{Status}
 use Rattle.vtl_top.specs.declared.status.Status.TheVariants as st
 
 -- the file of a data set in a folder
-abbrev pub file_in : List ℕ → List ℕ → List ℕ
+abbrev pub file_in : Path → Name → Path
 file_in folder name = folder ++ codes "/" ++ encode_utf8_all name ++ codes ".csv"
 
 -- the most bytes of a file of each sort
@@ -38,125 +38,122 @@ abbrev pub csv_limit : ℕ
 csv_limit = 67108864
 
 -- the bytes of a file
-abbrev pub sized : List ℕ → ℕ → Option (List ℕ) → Result (List ℕ) Status
+abbrev pub sized : Path → ℕ → Option Text → Result Text Status
 sized path limit None = Err (st.NoFile (chars path))
 sized path limit (Some bytes) = if nat_lt limit (length bytes) then Err (st.TooLong (chars path)) else Ok bytes
 
-abbrev pub content : List ℕ → ℕ → Held → Result (List ℕ) Status
+abbrev pub content : Path → ℕ → Held → Result Text Status
 content path limit held = sized path limit (bytes_at path held)
 
 -- ---- the steps of a run
 -- the bytes of a file
-abbrev pub read : List ℕ → ℕ → Step (List ℕ)
+abbrev pub read : Path → ℕ → Step Text
 read path limit = record { gives = λ held given. given ≡ content path limit held; reads = λ held named. named ≡ chars path }
 
 -- the tree of a script file, by what it is read as
-abbrev pub script_in : List ℕ → Parsed → Result ScriptTree Status
+abbrev pub script_in : Path → Parsed → Result ScriptTree Status
 script_in path no_text = Err (st.NotText (chars path))
 script_in path (faulty done byte) = Err (st.Syntax done byte)
 script_in path (whole script) = Ok script
 
-abbrev pub script_of : List ℕ → List ℕ → Step ScriptTree
+abbrev pub script_of : Path → Text → Step ScriptTree
 script_of path bytes = record { gives = λ held given. (parsed : Parsed) × IsParsed bytes parsed × (given ≡ script_in path parsed); reads = λ held named. ⊥ }
 
-abbrev pub script_step : List ℕ → Step ScriptTree
-script_step path = onward (read path script_limit) (script_of path)
+abbrev pub script_step : Path → Step ScriptTree
+script_step path = read path script_limit >>= script_of path
 
 -- ---- the inputs
-abbrev pub input_path : Run → List ℕ → List ℕ
+abbrev pub input_path : Run → Name → Path
 input_path r name = file_in r.input name
 
 -- the points that a file holds, or the status of its first fault
-abbrev pub points_or_fault : List ℕ → Result (List Row) Fault → Result (List Row) Status
+abbrev pub points_or_fault : Name → Result (List Row) Fault → Result (List Row) Status
 points_or_fault name (Ok points) = Ok points
 points_or_fault name (Err fault) = Err (st.Input name fault.0 fault.1.0 fault.1.1)
 
 -- the points of the data set of this name and structure
-abbrev pub dataset_step : Run → List ℕ × Structure → Step (List Row)
-dataset_step r e = onward (read (input_path r e.0) csv_limit) (λ bytes. settled (points_or_fault e.0 (dataset_rows r.settings e.1 bytes)))
+abbrev pub dataset_step : Run → Name × Structure → Step (List Row)
+dataset_step r e = read (input_path r e.0) csv_limit >>= λ bytes. settled (points_or_fault e.0 (dataset_rows r.source.settings e.1 bytes))
 
 abbrev pub data_set : Structure → List Row → DataSet
 data_set structure points = record { structure = structure; points = points }
 
-abbrev pub with_points : Environment → List ℕ × Structure → List Row → Environment
+abbrev pub with_points : Environment → Name × Structure → List Row → Environment
 with_points before e points = before ++ (e.0, data_set e.1 points) ∷ []
 
 -- the data sets before, and one more behind them
-abbrev pub one_more_step : Run → Environment → List ℕ × Structure → Step Environment
-one_more_step r before e = onward (dataset_step r e) (λ points. settled (Ok (with_points before e points)))
+abbrev pub one_more_step : Run → Environment → Name × Structure → Step Environment
+one_more_step r before e = dataset_step r e >>= λ points. settled (Ok (with_points before e points))
 
 -- the data sets before, and behind them those of these names and structures, each read in turn
 abbrev pub inputs_step : Run → Environment → Named → Step Environment
 inputs_step r before [] = settled (Ok before)
-inputs_step r before (e ∷ rest) = onward (one_more_step r before e) (λ more. inputs_step r more rest)
+inputs_step r before (e ∷ rest) = one_more_step r before e >>= λ more. inputs_step r more rest
 
 -- ---- the outputs
 -- the file of a result
-abbrev pub output_of : Run → List ℕ × DataSet → File
-output_of r result = (file_in r.output result.0, csv_of r.settings result.1.structure result.1.points)
+abbrev pub output_of : Run → Name × DataSet → File
+output_of r result = (file_in r.output result.0, csv_of r.source.settings result.1.structure result.1.points)
 
 -- the status of a fault, which names the result of its statement
-abbrev pub fault_status : EvaluationFault → List ℕ → Status
+abbrev pub fault_status : EvaluationFault → Name → Status
 fault_status DivZero name = st.DivZero name
 fault_status Range name = st.Range name
 
 -- the files of all results, in order, or the status of the fault
-abbrev pub outputs_of : Run → Result Outputs (EvaluationFault × List ℕ) → Result (List File) Status
+abbrev pub outputs_of : Run → Result Outputs (EvaluationFault × Name) → Result (List File) Status
 outputs_of r (Ok results) = Ok (map (output_of r) results)
 outputs_of r (Err fault) = Err (fault_status fault.0 fault.1)
 
--- what the statements mean over the data sets that were read
-abbrev pub results_step : Run → List Statement → Environment → Step (List File)
-results_step r statements env = settled (outputs_of r (meaning r.settings statements env))
-
--- all inputs, and then the outputs
-abbrev pub data_step : Run → Named → List Statement → Step (List File)
-data_step r inputs statements = onward (inputs_step r [] inputs) (results_step r statements)
-
 -- ---- the whole
 -- the structures of the structures file
-abbrev pub structures_step : List ℕ → Step Named
-structures_step path = onward (read path structures_limit) (λ bytes. settled (structures_in path bytes))
-
--- a script with a form that is not evaluated yet is told of
-abbrev pub built_or_not : Run → List NodeTree → Result (Unit {0}) Status
-built_or_not r nodes = if list_all is_built nodes then Ok tt else Err (st.Unbuilt (chars r.script))
-
--- what follows the typing: the data sets that the statements read, and what they mean
-abbrev pub planned_step : Run → ScriptTree → Named → List NodeTree → Step (List File)
-planned_step r script structures nodes = onward (settled (built_or_not r nodes)) (λ u. data_step r (reads structures nodes) (with_nodes script nodes))
+abbrev pub structures_step : Path → Step Named
+structures_step path = read path structures_limit >>= λ bytes. settled (structures_in path bytes)
 
 -- the status of the first statement that breaks a rule of typing
 abbrev pub typed_or_fault : {A : Type 0} → Result A (ℕ × ℕ) → Result A Status
 typed_or_fault (Ok x) = Ok x
 typed_or_fault (Err fault) = Err (st.Mistyped fault.0 fault.1)
 
+-- a script with its structures, and its nodes, one for each statement
+pub record Typed : Type 0 where
+  pub tree : ScriptTree
+  pub structures : Named
+  pub nodes : List NodeTree
+
+abbrev pub typed_by : ScriptTree → Named → List NodeTree → Typed
+typed_by tree structures nodes = record { tree = tree; structures = structures; nodes = nodes }
+
 -- the typing of a script over structures
-abbrev pub typing_of : Run → ScriptTree → Named → Result (List NodeTree) Status
-typing_of r script structures = typed_or_fault (script_typed (env_over r.settings structures) script)
+abbrev pub typing_of : Source → ScriptTree → Named → Result (List NodeTree) Status
+typing_of s tree structures = typed_or_fault (script_typed (env_over s.settings structures) tree)
 
--- what follows the structures: a script that is not typed over them is refused by its first fault
-abbrev pub checked_step : Run → ScriptTree → Named → Step (List File)
-checked_step r script structures = onward (settled (typing_of r script structures)) (planned_step r script structures)
+-- the status of a script with a form that is not evaluated yet
+abbrev pub unbuilt : Source → Status
+unbuilt s = st.Unbuilt (chars s.script)
 
--- what the structures file and then the inputs give
-abbrev pub declared_step : Run → ScriptTree → Step (List File)
-declared_step r script = onward (structures_step r.structures) (checked_step r script)
+-- the script of a source, typed over its structures
+abbrev pub typed_step : Source → Step Typed
+typed_step s =
+    script_step s.script >>= λ tree.
+    refused_if (has_definitions tree) (unbuilt s) >>= λ plain.
+    structures_step s.structures >>= λ structures.
+    settled (typing_of s tree structures) >>= λ nodes.
+    settled (Ok (typed_by tree structures nodes))
 
--- a script that defines rulesets is not built
-abbrev pub without_rulesets : Run → ScriptTree → Bool → Step (List File)
-without_rulesets r script true = settled (Err (st.Unbuilt (chars r.script)))
-without_rulesets r script false = declared_step r script
+-- what a script means over the data sets that were read
+abbrev pub meant : Run → Typed → Environment → Result Outputs (EvaluationFault × Name)
+meant r t env = meaning r.source.settings (with_nodes t.tree t.nodes) env
 
--- what follows the script's tree
-abbrev pub statements_step : Run → ScriptTree → Step (List File)
-statements_step r script = without_rulesets r script (has_definitions script)
-
--- what a run gives: its outputs, or the first refusal
+-- what a run makes: the files of its outputs
 abbrev pub run_step : Run → Step (List File)
-run_step r = onward (script_step r.script) (statements_step r)
+run_step r =
+    typed_step r.source >>= λ t.
+    refused_if (not (list_all is_built t.nodes)) (unbuilt r.source) >>= λ built.
+    inputs_step r [] (reads t.structures t.nodes) >>= λ env.
+    settled (outputs_of r (meant r t env))
 
 -- what the words ask for
-abbrev pub asked_step : Option Command → Step (List File)
+abbrev pub asked_step : Option Command → Step Made
 asked_step None = settled (Err st.Usage)
-asked_step (Some (run r)) = run_step r
+asked_step (Some (run r)) = run_step r >>= λ files. settled (Ok (only_files files))

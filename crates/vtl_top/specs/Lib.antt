@@ -1,7 +1,10 @@
 pub mod Answered
+pub mod Complete
 pub mod Expected
+pub mod Informed
 pub mod InputsRead
 pub mod Kinds
+pub mod MadeView
 pub mod Meant
 pub mod OutputView
 pub mod PartView

@@ -1,67 +1,55 @@
 -- The outputs of a run in the words of the language: what the script means over its inputs.
-use Rattle.std.specs.Prelude.{◌≡◌, ℕ, false, true, List, [], map, Err, Ok, Some, IsUtf8}
+use Rattle.std.specs.Prelude.{◌≡◌, ℕ, false, true, List, [], map, Err, Ok, IsUtf8}
 use Rattle.vtl_syntax.specs.Trees.{ScriptTree}
 use Rattle.vtl_parser.specs.Parsed.{IsScript}
 use Rattle.vtl_tree.specs.Environment.{Environment}
 use Rattle.vtl_tree.specs.Structures.{Named}
 use Rattle.vtl_cell.specs.Outcome.{Fault}
-use Rattle.vtl_nodes.specs.Trees.{NodeTree}
 use Rattle.vtl_check.specs.Checked.{env_over}
 use Rattle.vtl_check.specs.Script.{has_definitions, script_typed}
 use Rattle.vtl_check.specs.Uses.{reads}
-use Rattle.vtl_meaning.specs.Meaning.{Outputs, is_built, meaning}
-use Rattle.vtl_backend.specs.Statements.{with_nodes}
+use Rattle.vtl_meaning.specs.Meaning.{Outputs, is_built}
 use Rattle.std.specs.List.{list_all}
-use Rattle.vtl_top.specs.Expected.{content, inputs_step, output_of, script_limit, structures_step}
-use Rattle.vtl_top.specs.Words.{Run}
+use Rattle.vtl_top.specs.Expected.{Typed, content, inputs_step, meant, output_of, script_limit, structures_step}
+use Rattle.vtl_top.specs.Steps.{File, Held, Name, Text}
+use Rattle.vtl_top.specs.Words.{Run, Source}
 
--- The script's tree, the structures and the data sets are those of the files; the script defines no rulesets and is typed over the
--- structures, and each of its expressions is evaluated; its statements mean results over the data sets that it reads; and the files
--- are named after the results that are written, in order, and hold their CSV texts.
-pub record IsMeant (r : Run) (held files : List (List ℕ × List ℕ)) : Type 0 where
-  pub text : List ℕ
-  pub tree : ScriptTree
-  pub structures : Named
-  pub nodes : List NodeTree
-  pub inputs : Environment
-  pub results : Outputs
-  pub script : content r.script script_limit held ≡ Ok text
+-- The script's tree and the structures are those of the files, and the script defines no rulesets.
+pub record IsRead (s : Source) (held : Held) (tree : ScriptTree) (structures : Named) : Type 0 where
+  pub text : Text
+  pub script : content s.script script_limit held ≡ Ok text
   pub utf8 : IsUtf8 text
   pub parsed : IsScript text tree
   pub plain : has_definitions tree ≡ false
-  pub declared : (structures_step r.structures).gives held (Ok structures)
-  pub fits : script_typed (env_over r.settings structures) tree ≡ Ok nodes
-  pub built : list_all is_built nodes ≡ true
-  pub read : (inputs_step r [] (reads structures nodes)).gives held (Ok inputs)
-  pub means : meaning r.settings (with_nodes tree nodes) inputs ≡ Ok results
+  pub declared : (structures_step s.structures).gives held (Ok structures)
+
+-- That script is typed over the structures, and each of its expressions is evaluated; and these are the data sets that it reads.
+pub record IsReady (r : Run) (held : Held) (t : Typed) (inputs : Environment) : Type 0 where
+  pub source : IsRead r.source held t.tree t.structures
+  pub fits : script_typed (env_over r.source.settings t.structures) t.tree ≡ Ok t.nodes
+  pub built : list_all is_built t.nodes ≡ true
+  pub read : (inputs_step r [] (reads t.structures t.nodes)).gives held (Ok inputs)
+
+-- A script is ready, and its statements mean results over the data sets that it reads; and the files are named after the results
+-- that are written, in order, and hold their CSV texts.
+pub record IsMeant (r : Run) (held : Held) (files : List File) : Type 0 where
+  pub typed : Typed
+  pub inputs : Environment
+  pub results : Outputs
+  pub ready : IsReady r held typed inputs
+  pub means : meant r typed inputs ≡ Ok results
   pub written : files ≡ map (output_of r) results
 
 -- The same up to the meaning, which is a fault: it is this one, in the statement with this result.
-pub record IsFaulted (r : Run) (held : List (List ℕ × List ℕ)) (fault : Fault) (name : List ℕ) : Type 0 where
-  pub text : List ℕ
-  pub tree : ScriptTree
-  pub structures : Named
-  pub nodes : List NodeTree
+pub record IsFaulted (r : Run) (held : Held) (fault : Fault) (name : Name) : Type 0 where
+  pub typed : Typed
   pub inputs : Environment
-  pub script : content r.script script_limit held ≡ Ok text
-  pub utf8 : IsUtf8 text
-  pub parsed : IsScript text tree
-  pub plain : has_definitions tree ≡ false
-  pub declared : (structures_step r.structures).gives held (Ok structures)
-  pub fits : script_typed (env_over r.settings structures) tree ≡ Ok nodes
-  pub built : list_all is_built nodes ≡ true
-  pub read : (inputs_step r [] (reads structures nodes)).gives held (Ok inputs)
-  pub means : meaning r.settings (with_nodes tree nodes) inputs ≡ Err (fault, name)
+  pub ready : IsReady r held typed inputs
+  pub means : meant r typed inputs ≡ Err (fault, name)
 
--- The script's tree and the structures are those of the files; the script defines no rulesets, and this is its first fault over
--- the structures: the number of the statement, and the rule.
-pub record IsMistyped (r : Run) (held : List (List ℕ × List ℕ)) (statement rule : ℕ) : Type 0 where
-  pub text : List ℕ
+-- The script has this first fault over the structures: the number of the statement, and the rule.
+pub record IsMistyped (s : Source) (held : Held) (statement rule : ℕ) : Type 0 where
   pub tree : ScriptTree
   pub structures : Named
-  pub script : content r.script script_limit held ≡ Ok text
-  pub utf8 : IsUtf8 text
-  pub parsed : IsScript text tree
-  pub plain : has_definitions tree ≡ false
-  pub declared : (structures_step r.structures).gives held (Ok structures)
-  pub fault : script_typed (env_over r.settings structures) tree ≡ Err (statement, rule)
+  pub source : IsRead s held tree structures
+  pub fault : script_typed (env_over s.settings structures) tree ≡ Err (statement, rule)

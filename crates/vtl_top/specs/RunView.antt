@@ -1,15 +1,20 @@
 -- A run, without where its paths and its profile lie in memory.
-use Rattle.vtl_top.specs.Words.{Command, Run, Setting, rounding, run, scale}
+use Rattle.vtl_top.specs.Words.{Command, Run, Setting, Source, rounding, run, scale}
+use Rattle.vtl_top.specs.declared.words.Source.{Source as SourceWords}
+use Rattle.vtl_top.specs.declared.words.Command.{Command as CommandWords}
+use Rattle.vtl_top.specs.declared.words.Command.TheVariants as asked
 use Rattle.vtl_top.specs.declared.words.Run.{Run as Words}
 use Rattle.vtl_top.specs.declared.words.Setting.{Setting as Option}
 use Rattle.vtl_top.specs.declared.words.Setting.TheVariants as option
 
-abbrev pub run_view : Words → Run
-run_view w = record { script = w.script.now; structures = w.structures.now; input = w.input.now; output = w.output.now; settings = w.profile }
+abbrev pub source_view : SourceWords → Source
+source_view w = record { script = w.script.now; structures = w.structures.now; settings = w.profile }
 
--- the command to run it
-abbrev pub command_view : Words → Command
-command_view w = run (run_view w)
+abbrev pub run_view : Words → Run
+run_view w = record { source = source_view w.source; input = w.input.now; output = w.output.now }
+
+abbrev pub command_view : CommandWords → Command
+command_view (asked.Run w) = run (run_view w)
 
 abbrev pub setting_view : Option → Setting
 setting_view (option.Scale digits) = scale digits

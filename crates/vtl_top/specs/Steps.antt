@@ -1,18 +1,31 @@
 -- Steps of a run over the held files.
-use Rattle.std.specs.Prelude.{◌≡◌, ◌⊎◌, ℕ, List, Result, Ok, Err}
+use Rattle.std.specs.Prelude.{◌≡◌, ◌⊎◌, ℕ, Bool, List, [], Result, Ok, Err, if◌then◌else◌}
 use Rattle.vtl_top.specs.declared.status.Status.{Status}
+use Rattle.vtl_top.specs.declared.status.Status.TheVariants as st
 
--- a file's name with its bytes
+-- in bytes: a path, and what a file or the sink holds
+abbrev pub Path : Type 0
+Path = List ℕ
+
+abbrev pub Text : Type 0
+Text = List ℕ
+
+-- in characters: the name of a data set, and a path as a status names it
+abbrev pub Name : Type 0
+Name = List ℕ
+
+-- a file's path with what it holds
 abbrev pub File : Type 0
-File = List ℕ × List ℕ
+File = Path × Text
 
+-- the files that can be read
 abbrev pub Held : Type 0
-Held = List (List ℕ × List ℕ)
+Held = List File
 
--- what a step gives over held bytes, a value or a refusal; and which paths are read up to there, in characters
+-- what a step gives over held bytes, a value or a refusal; and which paths are read up to there
 pub record Step (A : Type 0) : Type 1 where
   pub gives : Held → Result A Status → Type 0
-  pub reads : Held → List ℕ → Type 0
+  pub reads : Held → Name → Type 0
 
 -- nothing is read
 abbrev pub settled : {A : Type 0} → Result A Status → Step A
@@ -24,8 +37,26 @@ Behind (Ok x) next given = next x given
 Behind (Err status) next given = given ≡ Err status
 
 -- a step, and the next one where it was not refused
-abbrev pub onward : {A B : Type 0} → Step A → (A → Step B) → Step B
-onward {A} {B} step next = record {
+abbrev pub ◌>>=◌ : {A B : Type 0} → Step A → (A → Step B) → Step B
+◌>>=◌ {A} {B} step next = record {
   gives = λ held given. (first : Result A Status) × step.gives held first × Behind first (λ x. (next x).gives held) given;
   reads = λ held path. step.reads held path ⊎ ((x : A) × step.gives held (Ok x) × (next x).reads held path);
 }
+
+infixl 10 ◌>>=◌
+-- refused by this status where the test holds
+abbrev pub refused_if : Bool → Status → Step (Unit {0})
+refused_if broken status = settled (if broken then Err status else Ok tt)
+
+-- the status of a call that makes this, where nothing fails
+abbrev pub status_of : {X : Type 0} → Result X Status → Status
+status_of (Ok x) = st.Done
+status_of (Err status) = status
+
+-- what a command makes: files, and behind them a text for the sink
+pub record Made : Type 0 where
+  pub files : List File
+  pub text : Text
+
+abbrev pub only_files : List File → Made
+only_files files = record { files = files; text = [] }

@@ -1,8 +1,9 @@
 -- The structures of a structures file.
-use Rattle.std.specs.Prelude.{ℕ, List, Result, Ok, Err, chars, if◌then◌else◌}
+use Rattle.std.specs.Prelude.{Result, Ok, Err, chars, if◌then◌else◌}
 use Rattle.std.specs.Str.{is_utf8}
 use Rattle.vtl_tree.specs.Structures.{Named}
 use Rattle.vtl_csv.specs.StructuresFile.{Fault, structures_of_file}
+use Rattle.vtl_top.specs.Steps.{Path, Text}
 use Rattle.vtl_top.specs.declared.status.Status.{Status}
 use Rattle.vtl_top.specs.declared.status.Status.TheVariants as st
 
@@ -12,5 +13,5 @@ declared (Ok structures) = Ok structures
 declared (Err fault) = Err (st.Structure fault.0 fault.1)
 
 -- what the bytes of the file at this path declare
-abbrev pub structures_in : List ℕ → List ℕ → Result Named Status
+abbrev pub structures_in : Path → Text → Result Named Status
 structures_in path bytes = if is_utf8 bytes then declared (structures_of_file bytes) else Err (st.NotText (chars path))

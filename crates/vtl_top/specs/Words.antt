@@ -1,24 +1,30 @@
 -- The command that the words of a command line are.
 use Rattle.std.specs.Prelude.{ℕ, ◌-◌, Bool, not, ◌&&◌, ◌==◌, List, [], ◌∷◌, length, nat_le, Option, Some, None, option_map, codes, if◌then◌else◌}
+use Rattle.std.specs.List.{list_all}
 use Rattle.std.specs.Option.{option_and_then}
 use Rattle.vtl_decimal.specs.Settings.{Settings}
 use Rattle.vtl_decimal.specs.declared.settings.Rounding.{Rounding}
 use Rattle.vtl_decimal.specs.declared.settings.Rounding.TheVariants.{Down, HalfEven, HalfUp}
 use Rattle.vtl_tree.specs.Structure.{same_name}
+use Rattle.vtl_top.specs.Steps.{Path, Text}
 
--- the paths of a run, and its settings
-pub record Run : Type 0 where
-  pub script : List ℕ
-  pub structures : List ℕ
-  pub input : List ℕ
-  pub output : List ℕ
+-- the paths of a script and of its structures, and the settings that it is typed with
+pub record Source : Type 0 where
+  pub script : Path
+  pub structures : Path
   pub settings : Settings
+
+-- a script that is run, from the folder of its inputs into the folder of its outputs
+pub record Run : Type 0 where
+  pub source : Source
+  pub input : Path
+  pub output : Path
 
 -- a command, with its paths and settings
 pub data Command : Type 0 where
   run : Run → Command
 
-abbrev pub is_path : List ℕ → Bool
+abbrev pub is_path : Path → Bool
 is_path word = not (length word == 0)
 
 -- ---- options
@@ -31,18 +37,18 @@ abbrev pub is_digit : ℕ → Bool
 is_digit b = nat_le 48 b && nat_le b 57
 
 -- one digit
-abbrev pub scale_in : List ℕ → Option ℕ
+abbrev pub scale_in : Text → Option ℕ
 scale_in (b ∷ []) = if is_digit b then Some (b - 48) else None
 scale_in _ = None
 
-abbrev pub rounding_in : List ℕ → Option Rounding
+abbrev pub rounding_in : Text → Option Rounding
 rounding_in word =
     if same_name word (codes "half_up") then Some HalfUp
     else (if same_name word (codes "half_even") then Some HalfEven
     else (if same_name word (codes "down") then Some Down else None))
 
 -- the setting of an option and its value: `--scale D` or `--round R`
-abbrev pub setting_in : List ℕ → List ℕ → Option Setting
+abbrev pub setting_in : Text → Text → Option Setting
 setting_in name value =
     if same_name name (codes "--scale") then option_map scale (scale_in value)
     else (if same_name name (codes "--round") then option_map rounding (rounding_in value) else None)
@@ -67,7 +73,7 @@ both_set (rounding mode) (scale digits) = settings_with digits mode
 both_set _ _ = None
 
 -- the settings that the words behind the paths give: each option at most once, in either order
-abbrev pub settings_in : List (List ℕ) → Option Settings
+abbrev pub settings_in : List Text → Option Settings
 settings_in [] = default_settings
 settings_in (name ∷ value ∷ []) = option_and_then one_set (setting_in name value)
 settings_in (name ∷ value ∷ other ∷ its_value ∷ []) =
@@ -75,12 +81,19 @@ settings_in (name ∷ value ∷ other ∷ its_value ∷ []) =
 settings_in _ = None
 
 -- ---- commands
-abbrev pub run_with : (script structures input output : List ℕ) → Settings → Command
-run_with script structures input output settings = run (record { script = script; structures = structures; input = input; output = output; settings = settings })
+abbrev pub source_with : (script structures : Path) → Settings → Source
+source_with script structures settings = record { script = script; structures = structures; settings = settings }
 
--- the command that the words are: `run SCRIPT STRUCTURES IN OUT`, each a path, and then options
-abbrev pub command_of : List (List ℕ) → Option Command
-command_of (command ∷ script ∷ structures ∷ input ∷ output ∷ options) =
-    if same_name command (codes "run") && (is_path script && (is_path structures && (is_path input && is_path output)))
-    then option_map (run_with script structures input output) (settings_in options) else None
-command_of _ = None
+abbrev pub run_with : (script structures input output : Path) → Settings → Command
+run_with script structures input output settings = run (record { source = source_with script structures settings; input = input; output = output })
+
+-- the words behind `run`: SCRIPT STRUCTURES IN OUT, each a path, and then options
+abbrev pub run_of : List Text → Option Command
+run_of (script ∷ structures ∷ input ∷ output ∷ options) =
+    if list_all is_path (script ∷ structures ∷ input ∷ output ∷ []) then option_map (run_with script structures input output) (settings_in options) else None
+run_of _ = None
+
+-- the command that the words are, by its name
+abbrev pub command_of : List Text → Option Command
+command_of [] = None
+command_of (name ∷ words) = if same_name name (codes "run") then run_of words else None

@@ -1,7 +1,7 @@
 // The data sets that a script reads, from their files.
 ghost use Rattle.std.specs.Prelude.{◌≡◌, ◌<◌, [], None, true, length, slice_index_or, IfOk, OnOk};
 ghost use Rattle.vtl_rows.specs.Named.{table_of};
-ghost use Rattle.vtl_tree.specs.Structures.{AreStructures, is_declarable};
+ghost use Rattle.vtl_tree.specs.Structures.{is_declarable};
 ghost use Rattle.vtl_sets.specs.TableOf.{IsTableOf};
 ghost use Rattle.vtl_csv.specs.InputFile.{dataset_rows};
 ghost use Rattle.vtl_backend.specs.Inputs.{AreInputs, environment_of, inputs_of, rows_named};
@@ -22,7 +22,7 @@ use vtl_decimal::Profile;
 use vtl_files::Files;
 use vtl_rows::{Table, Tables};
 use vtl_text::Txt;
-use vtl_tree::{Structure, Structures};
+use vtl_tree::Structure;
 
 const CSV_LIMIT: usize = 67_108_864;
 
@@ -57,7 +57,7 @@ fn read_input<F: Files>(
 {
     let path = file_in(alloc, run.input, name)?;
     match read_file(alloc, files, path.as_str(), CSV_LIMIT) {
-        Ok(bytes) => table_in(alloc, name, structure, &bytes, &run.profile),
+        Ok(bytes) => table_in(alloc, name, structure, &bytes, &run.source.profile),
         Err(status) => Err(status),
     }
 }
@@ -83,21 +83,14 @@ fn add_input<F: Files>(
     }
 }
 
-// The name and the declared structure of the data set at a place among those that are read.
+// The name and the structure of the data set at a place among those that are read.
 #[tactic(auto, using(crate::proofs::InputLemmas::key_within, crate::proofs::InputLemmas::input_there, crate::proofs::InputLemmas::input_not_missing))]
-fn input_at<'c, 's>(
-    structures: &'s Structures,
-    checked: &'c Checked,
-    i: usize,
-) -> (&'c Txt, &'s Structure)
-    requires declared { checked.now.declared ≡ structures.now }
-    requires structures { AreStructures structures.now }
+fn input_at(checked: &Checked, i: usize) -> (&Txt, &Structure)
     requires within { i < length (inputs_of checked.now) }
     ensures at { (result.0.now, result.1.now) ≡ slice_index_or (inputs_of checked.now) i (result.0.now, result.1.now) }
-    ensures declarable { is_declarable result.1.now ≡ true }
 {
     let name = &checked.inputs()[i];
-    match structures.get(name) {
+    match checked.structure(name) {
         Some(structure) => (name, structure),
         None => unreachable!(),
     }
@@ -108,17 +101,16 @@ pub fn read_inputs<F: Files>(
     alloc: Global,
     files: &mut F,
     run: &Run<'_>,
-    structures: &Structures,
     checked: &Checked,
 ) -> Result<Tables, Status>
-    requires declared { checked.now.declared ≡ structures.now }
-    requires structures { AreStructures structures.now }
     ensures takes { Takes F.Files files.old files.new (inputs_step (run_view run.now) [] (inputs_of checked.now)) (environment_of checked.now) result }
     ensures inputs { IfOk result (λ t. AreInputs checked.now t) }
 {
+    // The nodes are typed over structures as they may be declared, whose names are distinct.
+    let _nodes = checked.nodes();
     let mut tables = Tables::new(alloc);
     for i in 0..checked.inputs().len() {
-        let (name, structure) = input_at(structures, checked, i);
+        let (name, structure) = input_at(checked, i);
         match add_input(alloc, files, run, name, structure, &mut tables) {
             Ok(()) => {}
             Err(status) => return Err(status),

@@ -1,43 +1,62 @@
 // Laws of the definitions that the top call cites.
-ghost use Rattle.std.specs.Prelude.{◌≡◌, ◌≤◌, ℕ, Err, List, Ok, Result, Some};
+ghost use Rattle.std.specs.Prelude.{◌≡◌, ◌≤◌, ◌⊎◌, ℕ, Err, List, Ok, Option, Result, Some};
 ghost use Rattle.std.specs.Map.{lookup};
 ghost use Rattle.vtl_tree.specs.Structure.{IsStructure, key_width, same_name};
 ghost use Rattle.vtl_tree.specs.Structures.{Named};
 ghost use Rattle.vtl_tree.specs.declared.structure.Structure.{Structure};
 ghost use Rattle.vtl_csv.specs.StructuresFile.{structures_of_file};
 ghost use Rattle.vtl_cell.specs.Outcome.{Fault};
-ghost use Rattle.vtl_top.specs.Expected.{fault_status, run_step};
+ghost use Rattle.vtl_top.specs.Answered.{Ends};
+ghost use Rattle.vtl_top.specs.Complete.{IsCalm};
+ghost use Rattle.vtl_top.specs.Expected.{asked_step, fault_status, run_step};
 ghost use Rattle.vtl_top.specs.Meant.{IsFaulted, IsMeant, IsMistyped};
-ghost use Rattle.vtl_top.specs.Words.{Run};
+ghost use Rattle.vtl_top.specs.Steps.{File, Held, Made, Name, Text, status_of};
+ghost use Rattle.vtl_top.specs.Words.{Command, Run, run};
 ghost use Rattle.vtl_top.specs.declared.status.Status.{Status};
+
+use vtl_files::{Files, Sink};
 
 /// The outputs that a run gives over the held files are what the script means: its text, over the data sets that the inputs
 /// hold, gives results, and each file is named after a result and holds its CSV text, in order.
 pub fn output_is_meant()
-    ensures { (r : Run) (held files : List (List ℕ × List ℕ)) → (run_step r).gives held (Ok files) → IsMeant r held files }
+    ensures only { (r : Run) (held : Held) (files : List File) → (run_step r).gives held (Ok files) → IsMeant r held files }
+    ensures always { (r : Run) (held : Held) (files : List File) → IsMeant r held files → (run_step r).gives held (Ok files) }
 {}
 
 /// A run is `Mistyped` exactly where its script, without rulesets, breaks a rule over its structures: by the first statement
 /// that does, and by its rule. Neither the form of the statements nor the data sets are looked at before.
 pub fn mistyped_is_first_fault()
-    ensures only { (r : Run) (held : List (List ℕ × List ℕ)) (statement rule : ℕ) → (run_step r).gives held (Err (Status.Mistyped statement rule)) → IsMistyped r held statement rule }
-    ensures always { (r : Run) (held : List (List ℕ × List ℕ)) (statement rule : ℕ) → IsMistyped r held statement rule → (run_step r).gives held (Err (Status.Mistyped statement rule)) }
+    ensures only { (r : Run) (held : Held) (statement rule : ℕ) → (run_step r).gives held (Err (Status.Mistyped statement rule)) → IsMistyped r.source held statement rule }
+    ensures always { (r : Run) (held : Held) (statement rule : ℕ) → IsMistyped r.source held statement rule → (run_step r).gives held (Err (Status.Mistyped statement rule)) }
 {}
 
 /// A run divides by zero, or a number leaves its range, exactly where what its script means over its inputs is this fault, in
 /// the statement with this result.
 pub fn faults_are_meant()
-    ensures only { (r : Run) (held : List (List ℕ × List ℕ)) (fault : Fault) (name : List ℕ) → (run_step r).gives held (Err (fault_status fault name)) → IsFaulted r held fault name }
-    ensures always { (r : Run) (held : List (List ℕ × List ℕ)) (fault : Fault) (name : List ℕ) → IsFaulted r held fault name → (run_step r).gives held (Err (fault_status fault name)) }
+    ensures only { (r : Run) (held : Held) (fault : Fault) (name : Name) → (run_step r).gives held (Err (fault_status fault name)) → IsFaulted r held fault name }
+    ensures always { (r : Run) (held : Held) (fault : Fault) (name : Name) → IsFaulted r held fault name → (run_step r).gives held (Err (fault_status fault name)) }
 {}
 
-/// What a run gives is one: two outcomes over the same held bytes are equal.
+/// What a command gives is one: two outcomes over the same held bytes are equal.
 pub fn expected_is_determined()
-    ensures { (r : Run) (held : List (List ℕ × List ℕ)) (given other : Result (List (List ℕ × List ℕ)) Status) → (run_step r).gives held given → (run_step r).gives held other → given ≡ other }
+    ensures { (command : Option Command) (held : Held) (given other : Result Made Status) → (asked_step command).gives held given → (asked_step command).gives held other → given ≡ other }
+{}
+
+/// A call in which no count of faults rose answers what the words and the held files give, or want of memory. So where a script
+/// means results over its inputs, its run is done, and where it has a fault, this is told.
+pub fn calm_calls_are_complete<F: Files, O: Sink>()
+    ensures given { (a b : F) (u v : O) (command : Option Command) (status : Status) (held : Held) (given : Result Made Status) → Ends F.Files O.Sink a b u v command status → IsCalm F.Files O.Sink a b u v → F.held a ≡ Some held → (asked_step command).gives held given → (status ≡ Status.Memory) ⊎ (status ≡ status_of given) }
+    ensures meant { (a b : F) (u v : O) (r : Run) (status : Status) (held : Held) (files : List File) → Ends F.Files O.Sink a b u v (Some (run r)) status → IsCalm F.Files O.Sink a b u v → F.held a ≡ Some held → IsMeant r held files → (status ≡ Status.Memory) ⊎ (status ≡ Status.Done) }
+    ensures faulted { (a b : F) (u v : O) (r : Run) (status : Status) (held : Held) (fault : Fault) (name : Name) → Ends F.Files O.Sink a b u v (Some (run r)) status → IsCalm F.Files O.Sink a b u v → F.held a ≡ Some held → IsFaulted r held fault name → (status ≡ Status.Memory) ⊎ (status ≡ fault_status fault name) }
+{}
+
+/// A run that is done leaves the sink as before.
+pub fn runs_are_quiet<F: Files, O: Sink>()
+    ensures { (a b : F) (u v : O) (r : Run) → Ends F.Files O.Sink a b u v (Some (run r)) Status.Done → v ≡ u }
 {}
 
 /// The structure that a structures file declares under a name is one, with at least one identifier.
 pub fn structures_have_identifiers()
-    ensures structure { (name text : List ℕ) (all : Named) (t : Structure) → structures_of_file text ≡ Ok all → lookup (same_name name) all ≡ Some t → IsStructure t }
-    ensures identifier { (name text : List ℕ) (all : Named) (t : Structure) → structures_of_file text ≡ Ok all → lookup (same_name name) all ≡ Some t → 1 ≤ key_width t }
+    ensures structure { (name : Name) (text : Text) (all : Named) (t : Structure) → structures_of_file text ≡ Ok all → lookup (same_name name) all ≡ Some t → IsStructure t }
+    ensures identifier { (name : Name) (text : Text) (all : Named) (t : Structure) → structures_of_file text ≡ Ok all → lookup (same_name name) all ≡ Some t → 1 ≤ key_width t }
 {}

@@ -10,6 +10,7 @@
 
 mod inputs;
 mod laws;
+mod made;
 mod output;
 mod reading;
 mod refusal;
@@ -24,7 +25,8 @@ mod typing;
 mod words;
 
 pub use laws::{
-    expected_is_determined, mistyped_is_first_fault, output_is_meant, structures_have_identifiers,
+    calm_calls_are_complete, expected_is_determined, faults_are_meant, mistyped_is_first_fault,
+    output_is_meant, runs_are_quiet, structures_have_identifiers,
 };
 pub use status::{Status, tell};
-pub use top::vtl;
+pub use top::{vtl, vtl_by};

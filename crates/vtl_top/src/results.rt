@@ -2,7 +2,7 @@
 ghost use Rattle.std.specs.Prelude.{◌≡◌, ◌<◌, true, length, map, slice_index_or, IfOk};
 ghost use Rattle.std.specs.List.{AllByRecursion};
 ghost use Rattle.vtl_sets.specs.TableOf.{IsTableOf};
-ghost use Rattle.vtl_check.specs.Checked.{IsTyped, known_of};
+ghost use Rattle.vtl_check.specs.Checked.{known_of};
 ghost use Rattle.vtl_backend.specs.Inputs.{AreInputs};
 ghost use Rattle.vtl_backend.specs.Runs.{script_meaning};
 ghost use Rattle.vtl_backend.specs.Statements.{is_script_built};
@@ -11,6 +11,8 @@ ghost use Rattle.vtl_top.specs.OutputView.{NamesPath, output_view, outputs_view}
 ghost use Rattle.vtl_top.specs.Refusal.{SettlesBy, faulted};
 ghost use Rattle.vtl_top.specs.ResultTables.{AreKnown, IsKnown, file_for};
 ghost use Rattle.vtl_top.specs.RunView.{run_view};
+ghost use Rattle.vtl_top.specs.Informed.{HasRun};
+ghost use Rattle.vtl_top.specs.Steps.{status_of};
 
 use crate::output::Output;
 use crate::reading::file_in;
@@ -38,7 +40,7 @@ fn make_output(
 {
     let path = file_in(alloc, run.output, name)?;
     let named = Txt::new(alloc, path.as_str())?;
-    let bytes = write_dataset(alloc, table, structure, &run.profile)?;
+    let bytes = write_dataset(alloc, table, structure, &run.source.profile)?;
     Ok(Output { path, named, bytes })
 }
 
@@ -80,13 +82,6 @@ fn make_outputs(
     Ok(outputs)
 }
 
-// What a checked script keeps: its nodes are its typing.
-fn is_typed(checked: &Checked)
-    ensures { IsTyped checked.now }
-{
-    let _nodes = checked.nodes();
-}
-
 // The status of a run that gave no tables.
 fn faulted(error: RunErr) -> Status
     ensures { result ≡ faulted error }
@@ -110,8 +105,10 @@ pub fn results<B: Backend>(
     requires built { is_script_built checked.now ≡ true }
     ensures view { SettlesBy outputs_view (outputs_of (run_view run.now) (script_meaning checked.now inputs.now)) result }
     ensures named { IfOk result (λ o. AllByRecursion NamesPath o.items) }
+    ensures told { HasRun (status_of result) → B.told back.new checked.now }
 {
-    is_typed(checked);
+    // The nodes are the typing of the script, so the structures of its results are known.
+    let _nodes = checked.nodes();
     let mut tables = Tables::new(alloc);
     match back.run(alloc, checked, inputs, &mut tables) {
         Ok(()) => Ok(make_outputs(alloc, run, checked, &tables)?),

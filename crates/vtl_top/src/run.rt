@@ -1,17 +1,14 @@
 // The run of a script, from the paths of its files to the texts of its outputs.
-ghost use Rattle.std.specs.Prelude.{◌≡◌, false, true, IfOk};
+ghost use Rattle.std.specs.Prelude.{◌≡◌, IfOk};
 ghost use Rattle.std.specs.List.{AllByRecursion};
 ghost use Rattle.vtl_syntax.specs.View.{script_tree};
-ghost use Rattle.vtl_tree.specs.Structures.{AreStructures};
-ghost use Rattle.vtl_check.specs.Checked.{nodes_of, tree_of};
-ghost use Rattle.vtl_check.specs.Script.{has_definitions};
-ghost use Rattle.vtl_backend.specs.Inputs.{inputs_of};
-ghost use Rattle.vtl_backend.specs.Statements.{is_script_built, statements_of};
 ghost use Rattle.vtl_top.specs.Answered.{Takes};
-ghost use Rattle.vtl_top.specs.Expected.{checked_step, data_step, declared_step, planned_step, run_step, script_step, statements_step, structures_step};
+ghost use Rattle.vtl_top.specs.Expected.{run_step, script_step, structures_step, typed_step};
 ghost use Rattle.vtl_top.specs.OutputView.{NamesPath, outputs_view};
 ghost use Rattle.vtl_top.specs.Refusal.{IsScriptOf, IsScriptOfText, fault_of};
-ghost use Rattle.vtl_top.specs.RunView.{run_view};
+ghost use Rattle.vtl_top.specs.RunView.{run_view, source_view};
+ghost use Rattle.vtl_top.specs.Informed.{TellsRun, typed_view};
+ghost use Rattle.vtl_top.specs.Steps.{status_of};
 
 use crate::inputs::read_inputs;
 use crate::output::Output;
@@ -21,7 +18,7 @@ use crate::results::results;
 use crate::status::Status;
 use crate::structures::structures_of;
 use crate::typing::typed;
-use crate::words::Run;
+use crate::words::{Run, Source};
 use std::alloc::Global;
 use std::str;
 use vtl_backend::{Backend, is_built};
@@ -75,7 +72,11 @@ fn parsed(alloc: Global, text: &str) -> Result<Script, Status>
 }
 
 // The structures of the structures file.
-fn read_structures<F: Files>(alloc: Global, files: &mut F, path: &str) -> Result<Structures, Status>
+fn read_structures_file<F: Files>(
+    alloc: Global,
+    files: &mut F,
+    path: &str,
+) -> Result<Structures, Status>
     ensures { Takes F.Files files.old files.new (structures_step path.now) (λ s. s) result }
 {
     match read_file(alloc, files, path, STRUCTURES_LIMIT) {
@@ -84,114 +85,26 @@ fn read_structures<F: Files>(alloc: Global, files: &mut F, path: &str) -> Result
     }
 }
 
-// What the data sets that are read give.
-fn read_data<B: Backend, F: Files>(
+/// The script of a source, typed over its structures; or the first refusal in the order script, structures file, types of the script
+/// over the structures; or want of memory at any place.
+pub fn read_typed<F: Files>(
     alloc: Global,
-    back: &mut B,
     files: &mut F,
-    run: &Run<'_>,
-    structures: &Structures,
-    checked: &Checked,
-) -> Result<Vec<Output>, Status>
-    requires declared { checked.now.declared ≡ structures.now }
-    requires structures { AreStructures structures.now }
-    requires settings { checked.now.settings ≡ run.now.profile }
-    requires built { is_script_built checked.now ≡ true }
-    ensures takes { Takes F.Files files.old files.new (data_step (run_view run.now) (inputs_of checked.now) (statements_of checked.now)) outputs_view result }
-    ensures named { IfOk result (λ o. AllByRecursion NamesPath o.items) }
+    source: &Source<'_>,
+) -> Result<Checked, Status>
+    ensures takes { Takes F.Files files.old files.new (typed_step (source_view source.now)) typed_view result }
+    ensures settings { IfOk result (λ c. c.settings ≡ source.now.profile) }
 {
-    match read_inputs(alloc, files, run, structures, checked) {
-        Ok(inputs) => results(alloc, back, run, checked, &inputs),
-        Err(status) => Err(status),
+    let script = read_script(alloc, files, source.script)?;
+    if defines_rulesets(&script) {
+        return Err(unbuilt(alloc, source.script));
     }
+    let structures = read_structures_file(alloc, files, source.structures)?;
+    typed(alloc, &script, &structures, &source.profile)
 }
 
-// What the inputs give for a script that is typed over the structures.
-fn read_checked<B: Backend, F: Files>(
-    alloc: Global,
-    back: &mut B,
-    files: &mut F,
-    run: &Run<'_>,
-    structures: &Structures,
-    checked: &Checked,
-) -> Result<Vec<Output>, Status>
-    requires declared { checked.now.declared ≡ structures.now }
-    requires structures { AreStructures structures.now }
-    requires settings { checked.now.settings ≡ run.now.profile }
-    ensures takes { Takes F.Files files.old files.new (planned_step (run_view run.now) (tree_of checked.now) checked.now.declared (nodes_of checked.now)) outputs_view result }
-    ensures named { IfOk result (λ o. AllByRecursion NamesPath o.items) }
-{
-    if is_built(checked) {
-        read_data(alloc, back, files, run, structures, checked)
-    } else {
-        Err(unbuilt(alloc, run.script))
-    }
-}
-
-// What the type of structures keeps: each is as it may be declared, and their names are distinct.
-fn are_structures(structures: &Structures)
-    ensures { AreStructures structures.now }
-{
-    let _count = structures.len();
-}
-
-// What the inputs give by the structures, over which the script is typed first.
-fn read_by<B: Backend, F: Files>(
-    alloc: Global,
-    back: &mut B,
-    files: &mut F,
-    run: &Run<'_>,
-    script: &Script,
-    structures: &Structures,
-) -> Result<Vec<Output>, Status>
-    requires { has_definitions (script_tree script.now) ≡ false }
-    ensures takes { Takes F.Files files.old files.new (checked_step (run_view run.now) (script_tree script.now) structures.now) outputs_view result }
-    ensures named { IfOk result (λ o. AllByRecursion NamesPath o.items) }
-{
-    are_structures(structures);
-    match typed(alloc, script, structures, &run.profile) {
-        Ok(checked) => read_checked(alloc, back, files, run, structures, &checked),
-        Err(status) => Err(status),
-    }
-}
-
-// The structures file and the inputs, and the outputs that they give.
-fn read_declared<B: Backend, F: Files>(
-    alloc: Global,
-    back: &mut B,
-    files: &mut F,
-    run: &Run<'_>,
-    script: &Script,
-) -> Result<Vec<Output>, Status>
-    requires { has_definitions (script_tree script.now) ≡ false }
-    ensures takes { Takes F.Files files.old files.new (declared_step (run_view run.now) (script_tree script.now)) outputs_view result }
-    ensures named { IfOk result (λ o. AllByRecursion NamesPath o.items) }
-{
-    match read_structures(alloc, files, run.structures) {
-        Ok(structures) => read_by(alloc, back, files, run, script, &structures),
-        Err(status) => Err(status),
-    }
-}
-
-// What the files give by the script's tree.
-fn carry_out<B: Backend, F: Files>(
-    alloc: Global,
-    back: &mut B,
-    files: &mut F,
-    run: &Run<'_>,
-    script: &Script,
-) -> Result<Vec<Output>, Status>
-    ensures takes { Takes F.Files files.old files.new (statements_step (run_view run.now) (script_tree script.now)) outputs_view result }
-    ensures named { IfOk result (λ o. AllByRecursion NamesPath o.items) }
-{
-    if defines_rulesets(script) {
-        return Err(unbuilt(alloc, run.script));
-    }
-    read_declared(alloc, back, files, run, script)
-}
-
-/// Reads the files of a run, and makes its outputs: nothing is created. The answer is the outputs, or the first refusal
-/// in the order script, structures file, types of the script over the structures, inputs; or want of memory at any place.
+/// Reads the files of a run, and makes its outputs: nothing is created. The answer is the outputs, or the first refusal: by the
+/// script, then by the inputs, then by what it means; or want of memory at any place.
 pub fn prepare<B: Backend, F: Files>(
     alloc: Global,
     back: &mut B,
@@ -200,9 +113,12 @@ pub fn prepare<B: Backend, F: Files>(
 ) -> Result<Vec<Output>, Status>
     ensures takes { Takes F.Files files.old files.new (run_step (run_view run.now)) outputs_view result }
     ensures named { IfOk result (λ o. AllByRecursion NamesPath o.items) }
+    ensures told { TellsRun F.Files files.old (source_view run.now.source) (B.told back.new) (status_of result) }
 {
-    match read_script(alloc, files, run.script) {
-        Ok(script) => carry_out(alloc, back, files, run, &script),
-        Err(status) => Err(status),
+    let checked = read_typed(alloc, files, &run.source)?;
+    if !is_built(&checked) {
+        return Err(unbuilt(alloc, run.source.script));
     }
+    let inputs = read_inputs(alloc, files, run, &checked)?;
+    results(alloc, back, run, &checked, &inputs)
 }

@@ -1,27 +1,50 @@
 // The top call.
-ghost use Rattle.std.specs.Prelude.{◌≡◌, ◌≢◌, ◌≤◌, ◌↔◌, None, false, map, IsTrue, string_bytes};
-ghost use Rattle.vtl_top.specs.Answered.{Ends};
-ghost use Rattle.vtl_top.specs.Expected.{asked_step, run_step};
+ghost use Rattle.std.specs.Prelude.{◌≡◌, ◌≢◌, ◌≤◌, ◌↔◌, None, Some, false, map, IsTrue, OnErr, OnOk, string_bytes};
+ghost use Rattle.vtl_files.specs.Outside.{Rose};
+ghost use Rattle.vtl_files.specs.Whole.{TakesFront};
+ghost use Rattle.vtl_top.specs.Answered.{Ends, EndsAs, GivesOut, OnlyWrites};
+ghost use Rattle.vtl_top.specs.Kinds.{told_by};
+ghost use Rattle.vtl_top.specs.MadeView.{Names, made_view};
 ghost use Rattle.vtl_top.specs.Words.{command_of};
-ghost use Rattle.vtl_top.specs.RunView.{run_view};
-ghost use Rattle.vtl_top.specs.Said.{Says};
+ghost use Rattle.vtl_top.specs.RunView.{command_view};
+ghost use Rattle.vtl_top.specs.Said.{Hears};
+ghost use Rattle.vtl_top.specs.Informed.{Informs};
 
+use crate::made::{Made, make};
 use crate::output::write_outputs;
-use crate::run::prepare;
 use crate::status::{Status, tell};
-use crate::words::{Run, command_of};
+use crate::words::{Command, command_of};
 use std::alloc::Global;
 use vtl_backend::Backend;
-use vtl_files::{Files, Sink};
+use vtl_files::{Failed, Files, Sink, sink_all};
 use vtl_interp::Interp;
 
 /// Carries out the words of a command line over the files and the sink that are handed in, and answers how it went.
 ///
-/// `run SCRIPT STRUCTURES IN OUT` reads the script, the structures file and the CSV file of the data set in the folder
-/// IN, and writes the CSV file of the result into the folder OUT. Options may follow: `--scale D`, the digits of a number
-/// after its point (one digit; else 6), and `--round R`, how results are rounded to them (`half_up`, which it is else,
-/// `half_even` or `down`), each at most once. A status other than Done is named by a line on `out`.
+/// `run SCRIPT STRUCTURES IN OUT` reads the script and the structures file, and from the folder IN the CSV file of each data set that
+/// the script reads; into the folder OUT it writes the CSV file of each result that the script assigns by `<-`. Options may follow:
+/// `--scale D`, the digits of a number after its point (one digit, 6 by default), and `--round R`, how results are rounded to them
+/// (`half_up`, the default, `half_even` or `down`), each at most once. A status other than Done is named by a line on `out`.
 pub fn vtl<F: Files, O: Sink>(alloc: Global, words: &[String], files: &mut F, out: &mut O) -> Status
+    requires { F.creating files.old ≡ false }
+    ensures held { F.held files.new ≡ F.held files.old }
+    ensures misuses { F.misuses files.new ≡ F.misuses files.old }
+    ensures faults { F.faults files.old ≤ F.faults files.new }
+    ensures absences { F.absences files.old ≤ F.absences files.new }
+    ensures usage { (result ≡ Status.Usage) ↔ (command_of (map string_bytes words.now) ≡ None) }
+    ensures ends { Ends F.Files O.Sink files.old files.new out.old out.new (command_of (map string_bytes words.now)) result }
+{
+    vtl_by(alloc, words, files, out, &mut Interp)
+}
+
+/// The same by a back end that is handed in.
+pub fn vtl_by<B: Backend, F: Files, O: Sink>(
+    alloc: Global,
+    words: &[String],
+    files: &mut F,
+    out: &mut O,
+    back: &mut B,
+) -> Status
     requires { F.creating files.old ≡ false }
 
     ensures held { F.held files.new ≡ F.held files.old }
@@ -32,16 +55,14 @@ pub fn vtl<F: Files, O: Sink>(alloc: Global, words: &[String], files: &mut F, ou
     // The words alone tell whether they have a form.
     ensures usage { (result ≡ Status.Usage) ↔ (command_of (map string_bytes words.now) ≡ None) }
 
-    // How the call ended, by the kind of the status: what was written, what is closed, the cause, and where the held files
-    // are told, what the words and the held bytes give.
-    ensures ends { Ends F.Files files.old files.new (asked_step (command_of (map string_bytes words.now))) result }
+    // How the call ended, by the kind of the status: what was written and said, what is closed, the cause, and where the held files
+    // are told, what the words and the held bytes give; and then the line of the status.
+    ensures ends { Ends F.Files O.Sink files.old files.new out.old out.new (command_of (map string_bytes words.now)) result }
 
-    // What went to the sink: the command's text and then the line of the status, each whole unless the sink failed while
-    // it was handed over. A run that is done leaves the sink as before.
-    ensures says { Says O.Sink out.old out.new (command_of (map string_bytes words.now)) (F.held files.old) result }
-    ensures quiet { result ≡ Status.Done → out.new ≡ out.old }
+    // What the back end was told of the script that was run.
+    ensures told { Informs F.Files files.old B.told back.old back.new (command_of (map string_bytes words.now)) result }
 {
-    let status = answer(alloc, &mut Interp, words, files);
+    let status = answer(alloc, back, words, files, out);
     if is_done(&status) {
         return status;
     }
@@ -55,12 +76,13 @@ fn is_done(status: &Status) -> bool
     matches!(status, Status::Done)
 }
 
-// The status of the words, without its line.
-fn answer<B: Backend, F: Files>(
+// The status of the words, before its line.
+fn answer<B: Backend, F: Files, O: Sink>(
     alloc: Global,
     back: &mut B,
     words: &[String],
     files: &mut F,
+    out: &mut O,
 ) -> Status
     requires { F.creating files.old ≡ false }
     ensures held { F.held files.new ≡ F.held files.old }
@@ -68,20 +90,22 @@ fn answer<B: Backend, F: Files>(
     ensures faults { F.faults files.old ≤ F.faults files.new }
     ensures absences { F.absences files.old ≤ F.absences files.new }
     ensures usage { (result ≡ Status.Usage) ↔ (command_of (map string_bytes words.now) ≡ None) }
-    ensures ends { Ends F.Files files.old files.new (asked_step (command_of (map string_bytes words.now))) result }
+    ensures ends { EndsAs F.Files O.Sink files.old files.new out.old out.new (command_of (map string_bytes words.now)) result (told_by result) }
+    ensures told { Informs F.Files files.old B.told back.old back.new (command_of (map string_bytes words.now)) result }
 {
     match command_of(words) {
-        Some(run) => carry_out(alloc, back, files, &run),
+        Some(command) => carry_out(alloc, back, files, out, &command),
         None => Status::Usage,
     }
 }
 
-// The status of a run.
-fn carry_out<B: Backend, F: Files>(
+// The status of a command: nothing is given out before all of it is made.
+fn carry_out<B: Backend, F: Files, O: Sink>(
     alloc: Global,
     back: &mut B,
     files: &mut F,
-    run: &Run<'_>,
+    out: &mut O,
+    command: &Command<'_>,
 ) -> Status
     requires { F.creating files.old ≡ false }
     ensures held { F.held files.new ≡ F.held files.old }
@@ -89,10 +113,45 @@ fn carry_out<B: Backend, F: Files>(
     ensures faults { F.faults files.old ≤ F.faults files.new }
     ensures absences { F.absences files.old ≤ F.absences files.new }
     ensures usage { result ≢ Status.Usage }
-    ensures ends { Ends F.Files files.old files.new (run_step (run_view run.now)) result }
+    ensures ends { EndsAs F.Files O.Sink files.old files.new out.old out.new (Some (command_view command.now)) result (told_by result) }
+    ensures told { Informs F.Files files.old B.told back.old back.new (Some (command_view command.now)) result }
 {
-    match prepare(alloc, back, files, run) {
-        Ok(outputs) => write_outputs(files, outputs),
+    match make(alloc, back, files, command) {
+        Ok(made) => give_out(files, out, made),
         Err(status) => status,
     }
+}
+
+// Writes the files, and then hands the text to the sink. It takes no memory.
+fn give_out<F: Files, O: Sink>(files: &mut F, out: &mut O, made: Made) -> Status
+    requires idle { F.creating files.old ≡ false }
+    requires named { Names made }
+    ensures writes { OnlyWrites F.Files files.old files.new }
+    ensures out { GivesOut F.Files O.Sink files.old files.new out.old out.new (made_view made) (told_by result) }
+{
+    let Made {
+        outputs,
+        text,
+        sink,
+    } = made;
+    let status = write_outputs(files, outputs);
+    if !is_done(&status) {
+        return status;
+    }
+    match say(out, &text) {
+        Ok(()) => Status::Done,
+        Err(_) => Status::WriteFault(sink),
+    }
+}
+
+// Hands a text to the sink, if there is one.
+fn say<O: Sink>(out: &mut O, text: &[u8]) -> Result<(), Failed>
+    ensures whole { OnOk result (Hears O.Sink out.old out.new text.now) }
+    ensures failed { OnErr result (Rose (O.faults out.old) (O.faults out.new)) }
+    ensures front { OnErr result (TakesFront (O.taken out.old) (O.taken out.new) text.now) }
+{
+    if text.is_empty() {
+        return Ok(());
+    }
+    sink_all(out, text)
 }

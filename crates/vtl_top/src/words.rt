@@ -1,18 +1,31 @@
 // The words of the command line.
 ghost use Rattle.std.specs.Prelude.{◌≡◌, ◌∷◌, map, option_map, string_bytes};
 ghost use Rattle.vtl_top.specs.RunView.{command_view, setting_view};
-ghost use Rattle.vtl_top.specs.Words.{both_set, command_of, is_path, one_set, rounding, rounding_in, scale, scale_in, setting_in, settings_in, settings_with};
+ghost use Rattle.vtl_top.specs.Words.{both_set, command_of, is_path, one_set, rounding, rounding_in, run_of, scale, scale_in, setting_in, settings_in, settings_with};
 
 use vtl_decimal::{Profile, Rounding};
 
-/// The paths of a run, and its profile.
+/// The paths of a script and of its structures, and the profile that it is typed with.
 #[derive(Drop)]
-pub struct Run<'a> {
+pub struct Source<'a> {
     pub script: &'a str,
     pub structures: &'a str,
+    pub profile: Profile,
+}
+
+/// A script that is run, from the folder of its inputs into the folder of its outputs.
+#[derive(Drop)]
+pub struct Run<'a> {
+    pub source: Source<'a>,
     pub input: &'a str,
     pub output: &'a str,
-    pub profile: Profile,
+}
+
+/// What the words ask for.
+#[derive(Drop)]
+pub enum Command<'a> {
+    /// A script is run.
+    Run(Run<'a>),
 }
 
 // What an option sets.
@@ -30,14 +43,31 @@ fn is_path(word: &str) -> bool
     !word.is_empty()
 }
 
-/// The command that the words are, so far one: `run SCRIPT STRUCTURES IN OUT`, each a path that is not empty, and then
-/// the options `--scale D` and `--round R`, each at most once.
-pub fn command_of(words: &[String]) -> Option<Run<'_>>
+/// The command that the words are, by its name: `run SCRIPT STRUCTURES IN OUT`, each a path that is not empty, and then the options
+/// `--scale D` and `--round R`, each at most once.
+pub fn command_of(words: &[String]) -> Option<Command<'_>>
     ensures { option_map command_view result ≡ command_of (map string_bytes words.now) }
 {
     match words {
-        [command, script, structures, input, output, options @ ..] => run_of(
-            command.as_str(),
+        [name, rest @ ..] => named(name.as_str(), rest),
+        [] => None,
+    }
+}
+
+fn named<'a>(name: &str, words: &'a [String]) -> Option<Command<'a>>
+    ensures { option_map command_view result ≡ command_of (name.now ∷ map string_bytes words.now) }
+{
+    if name == "run" {
+        return run_of(words);
+    }
+    None
+}
+
+fn run_of(words: &[String]) -> Option<Command<'_>>
+    ensures { option_map command_view result ≡ run_of (map string_bytes words.now) }
+{
+    match words {
+        [script, structures, input, output, options @ ..] => run_with(
             script.as_str(),
             structures.as_str(),
             input.as_str(),
@@ -48,32 +78,28 @@ pub fn command_of(words: &[String]) -> Option<Run<'_>>
     }
 }
 
-fn run_of<'a>(
-    command: &str,
+fn run_with<'a>(
     script: &'a str,
     structures: &'a str,
     input: &'a str,
     output: &'a str,
     options: &[String],
-) -> Option<Run<'a>>
-    ensures { option_map command_view result ≡ command_of (command.now ∷ script.now ∷ structures.now ∷ input.now ∷ output.now ∷ map string_bytes options.now) }
+) -> Option<Command<'a>>
+    ensures { option_map command_view result ≡ run_of (script.now ∷ structures.now ∷ input.now ∷ output.now ∷ map string_bytes options.now) }
 {
-    if command != "run"
-        || !is_path(script)
-        || !is_path(structures)
-        || !is_path(input)
-        || !is_path(output)
-    {
+    if !is_path(script) || !is_path(structures) || !is_path(input) || !is_path(output) {
         return None;
     }
     match profile_of(options) {
-        Some(profile) => Some(Run {
-            script,
-            structures,
+        Some(profile) => Some(Command::Run(Run {
+            source: Source {
+                script,
+                structures,
+                profile,
+            },
             input,
             output,
-            profile,
-        }),
+        })),
         None => None,
     }
 }

@@ -8,7 +8,7 @@ use Rattle.vtl_top.specs.Answered.{Takes}
 use Rattle.vtl_top.specs.Expected.{dataset_step, inputs_step, one_more_step, with_points}
 use Rattle.vtl_top.specs.RunView.{run_view}
 use Rattle.vtl_top.specs.Steps.{settled}
-use Rattle.vtl_top.proofs.InputLemmas.{here_at, inputs_are, not_yet, one_more, place_ended, place_within}
+use Rattle.vtl_top.proofs.InputLemmas.{declarable_at, here_at, inputs_are, not_yet, one_more, place_ended, place_within}
 use Rattle.vtl_top.proofs.RunLemmas.{settled_ok}
 use Rattle.vtl_top.proofs.StepLemmas.{takes_onward, takes_stopped}
 use Rattle.vtl_top.proofs.inputs.read_inputs.Goals as goal
@@ -18,8 +18,14 @@ add_input-requires-clause-new g c =
     let ins = inputs_of c.args.checked.now in
     let i = c.loop-i.i in
     let within = place_within ins c.inputs-i-end.result.now i c.inputs-i-end.ensures (omega (arith, c.loop-i-test.true)) in
-    let are = inputs_are c.args.checked.now.declared c.args.structures.now (nodes_of c.args.checked.now) c.requires.declared c.requires.structures in
+    let are = inputs_are c.args.checked.now.declared (nodes_of c.args.checked.now) c.nodes-nodes.ensures.declared in
     not_yet ins i (c.input_at.result.0.now, c.input_at.result.1.now) c.loop-i.tables are c.loop-i.invariant.so within c.input_at.ensures.at
+
+pub add_input-requires-clause-declarable : goal.add_input-requires-clause-declarable
+add_input-requires-clause-declarable g c =
+    let ins = inputs_of c.args.checked.now in
+    let within = place_within ins c.inputs-i-end.result.now c.loop-i.i c.inputs-i-end.ensures (omega (arith, c.loop-i-test.true)) in
+    declarable_at ins c.loop-i.i (c.input_at.result.0.now, c.input_at.result.1.now) (inputs_are c.args.checked.now.declared (nodes_of c.args.checked.now) c.nodes-nodes.ensures.declared) within c.input_at.ensures.at
 
 pub returns-in-Err-clause-takes : goal.returns-in-Err-clause-takes
 returns-in-Err-clause-takes g c =
@@ -43,7 +49,7 @@ loop-i-preserved g c =
     let env = map (input_of c.loop-i.tables) (take i ins) in
     let e : List ℕ × Structure = (c.input_at.result.0.now, c.input_at.result.1.now) in
     let within = place_within ins c.inputs-i-end.result.now i c.inputs-i-end.ensures (omega (arith, c.loop-i-test.true)) in
-    let are = inputs_are c.args.checked.now.declared c.args.structures.now (nodes_of c.args.checked.now) c.requires.declared c.requires.structures in
+    let are = inputs_are c.args.checked.now.declared (nodes_of c.args.checked.now) c.nodes-nodes.ensures.declared in
     let more = one_more ins i e c.loop-i.tables c.add_input.new.tables are c.loop-i.invariant.so within c.input_at.ensures.at c.in-Ok.ensures.put in
     let read = settled_ok g.F.Files c.add_input.new.files (λ (x : Unit {0}). map (input_of c.add_input.new.tables) (take (i + 1) ins)) tt (Ok (with_points env e (rows_named e.0 c.add_input.new.tables))) (ap Ok (sym more.env)) in
     let one =

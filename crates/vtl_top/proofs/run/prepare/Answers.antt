@@ -1,16 +1,41 @@
-use Rattle.vtl_syntax.specs.View.{script_tree}
-use Rattle.vtl_top.specs.Expected.{script_step, statements_step}
+use Rattle.std.proofs.Common.{sym, subst, ◌∙◌, Result, Vec, Global}
+use Rattle.vtl_top.specs.Answered.{Takes}
+use Rattle.vtl_top.specs.Expected.{run_step}
 use Rattle.vtl_top.specs.OutputView.{outputs_view}
-use Rattle.vtl_top.specs.RunView.{run_view}
-use Rattle.vtl_top.proofs.StepLemmas.{takes_onward, takes_stopped}
+use Rattle.vtl_top.specs.RunView.{run_view, source_view}
+use Rattle.vtl_top.specs.Informed.{TellsRun}
+use Rattle.vtl_top.specs.Steps.{status_of}
+use Rattle.vtl_top.specs.declared.output.Output.{Output}
+use Rattle.vtl_top.specs.declared.status.Status.{Status}
+use Rattle.vtl_backend.specs.Inputs.{environment_of, inputs_of}
+use Rattle.vtl_top.proofs.RefusedLemmas.{inputs_tell}
+use Rattle.vtl_top.proofs.RunLemmas.{inputs_refused, passed_on, then_results}
+use Rattle.vtl_top.proofs.StepLemmas.{told_behind}
 use Rattle.vtl_top.proofs.run.prepare.Goals as goal
 
-pub returns-in-Ok-clause-takes : goal.returns-in-Ok-clause-takes
-returns-in-Ok-clause-takes g c =
+pub returns-in_err-inputs-clause-takes : goal.returns-in_err-inputs-clause-takes
+returns-in_err-inputs-clause-takes g c =
     let r = run_view c.args.run.now in
-    takes_onward g.F.Files (script_step r.script) (statements_step r) c.args.files.now c.read_script.new.files c.carry_out.new.files script_tree outputs_view c.in-Ok.script c.carry_out.result c.in-Ok.ensures c.carry_out.ensures.takes
+    subst (λ (res : Result (Vec Output Global) Status). Takes g.F.Files c.args.files.now c.read_inputs.new.files (run_step r) outputs_view res)
+    (sym (passed_on c.from_residual-in_err-inputs.result c.in_err-inputs.field-0.0 c.from_residual-in_err-inputs.ensures.1))
+    (inputs_refused g.F.Files r outputs_view c.args.files.now c.read_typed.new.files c.in_ok-checked.checked c.in_ok-checked.ensures.takes c.read_inputs.new.files c.in_err-inputs.field-0.0
+    (sym c.is_built.ensures ∙ c.if-not-is_built.false) c.in_err-inputs.ensures.takes)
 
-pub returns-in-Err-clause-takes : goal.returns-in-Err-clause-takes
-returns-in-Err-clause-takes g c =
+pub returns-in_err-inputs-clause-told : goal.returns-in_err-inputs-clause-told
+returns-in_err-inputs-clause-told g c =
+    let s = source_view c.args.run.now.source in
+    let told = g.B.Backend.told c.args.back.now in
+    subst (λ (res : Result (Vec Output Global) Status). TellsRun g.F.Files c.args.files.now s told (status_of res))
+    (sym (passed_on c.from_residual-in_err-inputs.result c.in_err-inputs.field-0.0 c.from_residual-in_err-inputs.ensures.1))
+    (inputs_tell g.F.Files c.args.files.now c.read_typed.new.files c.read_inputs.new.files s (run_view c.args.run.now) (inputs_of c.in_ok-checked.checked) (environment_of c.in_ok-checked.checked) told c.in_err-inputs.field-0.0
+    c.in_ok-checked.ensures.takes.reads.held c.in_err-inputs.ensures.takes)
+
+pub returns-clause-takes : goal.returns-clause-takes
+returns-clause-takes g c =
     let r = run_view c.args.run.now in
-    takes_stopped g.F.Files (script_step r.script) (statements_step r) c.args.files.now c.read_script.new.files script_tree outputs_view c.in-Err.status c.in-Err.ensures
+    then_results g.F.Files r outputs_view c.args.files.now c.read_typed.new.files c.in_ok-checked.checked c.in_ok-checked.ensures.takes c.read_inputs.new.files c.in_ok-inputs.inputs c.results.result
+    (sym c.is_built.ensures ∙ c.if-not-is_built.false) c.in_ok-checked.ensures.settings c.in_ok-inputs.ensures.takes c.results.ensures.view
+
+pub returns-clause-told : goal.returns-clause-told
+returns-clause-told g c =
+    told_behind g.F.Files c.args.files.now c.read_typed.new.files (source_view c.args.run.now.source) (g.B.Backend.told c.results.new.back) c.in_ok-checked.checked (status_of c.results.result) c.in_ok-checked.ensures.takes c.results.ensures.told

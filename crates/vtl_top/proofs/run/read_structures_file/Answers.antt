@@ -5,7 +5,7 @@ use Rattle.vtl_top.specs.Steps.{settled}
 use Rattle.vtl_top.specs.Structures.{structures_in}
 use Rattle.vtl_top.proofs.ReadScripts.{settled_given, structures_refuse}
 use Rattle.vtl_top.proofs.StepLemmas.{takes_onward, takes_stopped}
-use Rattle.vtl_top.proofs.run.read_structures.Goals as goal
+use Rattle.vtl_top.proofs.run.read_structures_file.Goals as goal
 
 pub returns-in-Ok : goal.returns-in-Ok
 returns-in-Ok g c =

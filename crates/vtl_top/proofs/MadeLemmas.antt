@@ -1,0 +1,30 @@
+-- What commands make, by its parts.
+use Rattle.std.proofs.Common.{◌≡◌, inl, ℕ, List, [], Result, Ok, Err, sym, ap, ◌∙◌}
+use Rattle.std.specs.Global.{Vec}
+use Rattle.std.specs.Prelude.{IfOk}
+use Rattle.vtl_top.specs.MadeView.{IsMade, Names, made_view}
+use Rattle.vtl_top.specs.OutputView.{outputs_view}
+use Rattle.vtl_top.specs.Refusal.{SettlesBy}
+use Rattle.vtl_top.specs.Steps.{File, Made}
+use Rattle.vtl_top.specs.declared.made.Made.{Made as Program}
+use Rattle.vtl_top.specs.declared.output.Output.{Output}
+use Rattle.vtl_top.specs.declared.status.Status.{Status}
+
+abbrev made_by : List File → List ℕ → Made
+made_by files text = record { files = files; text = text }
+
+module _ (outputs : Vec Output) (text : Vec ℕ) where
+  same_made : (m : Program) (files : List File) (bytes : List ℕ) → m.outputs ≡ outputs → m.text ≡ text → outputs_view outputs ≡ files → text.items ≡ bytes → made_by files bytes ≡ made_view m
+  same_made m files bytes p q e f = sym (ap (λ (x : Vec Output). made_by (outputs_view x) m.text.items) p ∙ ap (λ (x : List ℕ). made_by (outputs_view outputs) x) (ap (λ (v : Vec ℕ). v.items) q ∙ f) ∙ ap (λ (x : List File). made_by x bytes) e)
+
+  pub settles : (files : List File) (bytes : List ℕ) (result : Result Program Status) → IsMade outputs text result → outputs_view outputs ≡ files → text.items ≡ bytes → SettlesBy made_view (Ok (record { files = files; text = bytes })) result
+  settles files bytes (Ok m) is e f = ap Ok (same_made m files bytes is.0 is.1 e f)
+  settles files bytes (Err status) is e f = inl is
+
+  pub are_named : (result : Result Program Status) → IsMade outputs text result → IfOk result Names
+  are_named (Ok m) is = is.2
+  are_named (Err status) is = tt
+
+  pub no_text_made : (result : Result Program Status) → IsMade outputs text result → text.items ≡ [] → IfOk result (λ m. m.text.items ≡ [])
+  no_text_made (Ok m) is e = ap (λ (v : Vec ℕ). v.items) is.1 ∙ e
+  no_text_made (Err status) is e = tt

@@ -1,0 +1,76 @@
+-- What commands give is one.
+use Rattle.std.proofs.Common.{◌≡◌, ℕ, Bool, cond, not, List, [], ◌∷◌, Option, Some, None, Result, Ok, Err, sym, ap, subst, ◌∙◌}
+use Rattle.std.specs.List.{list_all}
+use Rattle.vtl_tree.specs.Environment.{Environment}
+use Rattle.vtl_tree.specs.Structures.{Named}
+use Rattle.vtl_tree.specs.declared.structure.Structure.{Structure}
+use Rattle.vtl_csv.specs.InputFile.{dataset_rows}
+use Rattle.vtl_check.specs.Script.{has_definitions}
+use Rattle.vtl_check.specs.Uses.{reads}
+use Rattle.vtl_meaning.specs.Meaning.{is_built}
+use Rattle.vtl_top.specs.Structures.{structures_in}
+use Rattle.vtl_top.specs.Expected.{asked_step, csv_limit, dataset_step, input_path, inputs_step, meant, one_more_step, outputs_of, points_or_fault, read, run_step, script_in, script_limit, script_of, script_step, structures_limit, structures_step, typed_by, typed_step, typing_of, unbuilt, with_points}
+use Rattle.vtl_top.specs.Steps.{Behind, Held, Step, ◌>>=◌, only_files, refused_if, settled}
+use Rattle.vtl_top.specs.Words.{Command, Run, Source, run}
+use Rattle.vtl_top.specs.declared.status.Status.{Status}
+use Rattle.vtl_top.specs.declared.status.Status.TheVariants as st
+use Rattle.vtl_top.proofs.MeantLemmas.{after_built, after_plain, after_script, after_structures, after_typing}
+use Rattle.vtl_top.proofs.ReadScripts.{parsed_once}
+
+-- ---- what is settled, is one; and so is a step that follows one
+abbrev pub Once : {A : Type 0} → Step A → Held → Type 0
+Once {A} step held = (x y : Result A Status) → step.gives held x → step.gives held y → x ≡ y
+
+settled_once : {A : Type 0} (given : Result A Status) (held : Held) → Once (settled given) held
+settled_once given held x y p q = p ∙ sym q
+
+onward_once : {A B : Type 0} (step : Step A) (next : A → Step B) (held : Held) → Once step held → ((x : A) → Once (next x) held) → Once (step >>= next) held
+onward_once {A} {B} step next held once each x y p q = by_first p.0 q.0 (once p.0 q.0 p.1 q.1) p.2 q.2
+  where
+    by_first : (m n : Result A Status) → m ≡ n → Behind m (λ z. (next z).gives held) x → Behind n (λ z. (next z).gives held) y → x ≡ y
+    by_first (Ok z) n e p q = each z x y p (subst (λ (m : Result A Status). Behind m (λ w. (next w).gives held) y) (sym e) q)
+    by_first (Err status) n e p q = p ∙ sym (subst (λ (m : Result A Status). Behind m (λ w. (next w).gives held) y) (sym e) q)
+
+read_once : (path : List ℕ) (limit : ℕ) (held : Held) → Once (read path limit) held
+read_once path limit held x y p q = p ∙ sym q
+
+script_once : (path bytes : List ℕ) (held : Held) → Once (script_of path bytes) held
+script_once path bytes held x y p q = p.2 ∙ ap (script_in path) (parsed_once bytes p.0 q.0 p.1 q.1) ∙ sym q.2
+
+structures_once : (path : List ℕ) (held : Held) → Once (structures_step path) held
+structures_once path held =
+    onward_once (read path structures_limit) (λ bytes. settled (structures_in path bytes)) held (read_once path structures_limit held) (λ bytes. settled_once (structures_in path bytes) held)
+
+refused_once : (b : Bool) (status : Status) (held : Held) → Once (refused_if b status) held
+refused_once b status held = settled_once (cond b (Err status) (Ok tt)) held
+
+dataset_once : (r : Run) (e : List ℕ × Structure) (held : Held) → Once (dataset_step r e) held
+dataset_once r e held =
+    onward_once (read (input_path r e.0) csv_limit) (λ bytes. settled (points_or_fault e.0 (dataset_rows r.source.settings e.1 bytes))) held (read_once (input_path r e.0) csv_limit held)
+    (λ bytes. settled_once (points_or_fault e.0 (dataset_rows r.source.settings e.1 bytes)) held)
+
+inputs_once : (r : Run) (before : Environment) (inputs : Named) (held : Held) → Once (inputs_step r before inputs) held
+inputs_once r before [] held = settled_once (Ok before) held
+inputs_once r before (e ∷ rest) held =
+    onward_once (one_more_step r before e) (λ more. inputs_step r more rest) held
+    (onward_once (dataset_step r e) (λ points. settled (Ok (with_points before e points))) held (dataset_once r e held) (λ points. settled_once (Ok (with_points before e points)) held))
+    (λ more. inputs_once r more rest held)
+
+typed_once : (s : Source) (held : Held) → Once (typed_step s) held
+typed_once s held =
+    onward_once (script_step s.script) (after_script s) held (onward_once (read s.script script_limit) (script_of s.script) held (read_once s.script script_limit held) (λ bytes. script_once s.script bytes held)) (λ tree.
+    onward_once (refused_if (has_definitions tree) (unbuilt s)) (λ plain. after_plain s tree) held (refused_once (has_definitions tree) (unbuilt s) held) (λ plain.
+    onward_once (structures_step s.structures) (after_structures s tree) held (structures_once s.structures held) (λ structures.
+    onward_once (settled (typing_of s tree structures)) (λ nodes. settled (Ok (typed_by tree structures nodes))) held (settled_once (typing_of s tree structures) held) (λ nodes.
+    settled_once (Ok (typed_by tree structures nodes)) held))))
+
+run_once : (r : Run) (held : Held) → Once (run_step r) held
+run_once r held =
+    onward_once (typed_step r.source) (after_typing r) held (typed_once r.source held) (λ t.
+    onward_once (refused_if (not (list_all is_built t.nodes)) (unbuilt r.source)) (λ built. after_built r t) held (refused_once (not (list_all is_built t.nodes)) (unbuilt r.source) held) (λ built.
+    onward_once (inputs_step r [] (reads t.structures t.nodes)) (λ env. settled (outputs_of r (meant r t env))) held (inputs_once r [] (reads t.structures t.nodes) held) (λ env.
+    settled_once (outputs_of r (meant r t env)) held)))
+
+pub determined : (command : Option Command) (held : Held) → Once (asked_step command) held
+determined None held = settled_once (Err st.Usage) held
+determined (Some (run r)) held = onward_once (run_step r) (λ files. settled (Ok (only_files files))) held (run_once r held) (λ files. settled_once (Ok (only_files files)) held)

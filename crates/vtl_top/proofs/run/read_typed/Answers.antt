@@ -1,0 +1,26 @@
+use Rattle.std.proofs.Common.{sym, subst, ◌∙◌, Result}
+use Rattle.vtl_syntax.specs.View.{script_tree}
+use Rattle.vtl_check.specs.Checked.{TypedScript}
+use Rattle.vtl_top.specs.Answered.{Takes}
+use Rattle.vtl_top.specs.Expected.{typed_step}
+use Rattle.vtl_top.specs.RunView.{source_view}
+use Rattle.vtl_top.specs.Informed.{typed_view}
+use Rattle.vtl_top.specs.declared.status.Status.{Status}
+use Rattle.vtl_top.proofs.RunLemmas.{passed_on, same_tree, structures_refused, then_typed, typed_takes}
+use Rattle.vtl_top.proofs.run.read_typed.Goals as goal
+
+pub returns-in_err-structures-clause-takes : goal.returns-in_err-structures-clause-takes
+returns-in_err-structures-clause-takes g c =
+    let s = source_view c.args.source.now in
+    subst (λ (res : Result TypedScript Status). Takes g.F.Files c.args.files.now c.read_structures_file.new.files (typed_step s) typed_view res)
+    (sym (passed_on c.from_residual-in_err-structures.result c.in_err-structures.field-0.0 c.from_residual-in_err-structures.ensures.1))
+    (structures_refused g.F.Files s typed_view c.args.files.now c.read_script.new.files c.in_ok-script.script c.in_ok-script.ensures c.read_structures_file.new.files c.in_err-structures.field-0.0
+    (sym c.defines_rulesets.ensures ∙ c.if-defines_rulesets.false) c.in_err-structures.ensures)
+
+pub returns-clause-takes : goal.returns-clause-takes
+returns-clause-takes g c =
+    let s = source_view c.args.source.now in
+    then_typed g.F.Files s typed_view c.args.files.now c.read_script.new.files c.in_ok-script.script c.in_ok-script.ensures c.read_structures_file.new.files c.in_ok-structures.structures c.typed.result
+    (sym c.defines_rulesets.ensures ∙ c.if-defines_rulesets.false) c.in_ok-structures.ensures
+    (typed_takes g.F.Files s c.read_structures_file.new.files (script_tree c.in_ok-script.script) c.in_ok-structures.structures c.typed.result c.typed.ensures.typing
+    (same_tree c.typed.result c.in_ok-script.script.statements c.typed.ensures.script) c.typed.ensures.declared)

@@ -1,0 +1,79 @@
+// What commands make, before anything of it is given out.
+ghost use Rattle.std.specs.Prelude.{◌≡◌, [], Some, IfOk};
+ghost use Rattle.std.specs.List.{AllByRecursion};
+ghost use Rattle.vtl_top.specs.Answered.{IsMadeBy, Takes};
+ghost use Rattle.vtl_top.specs.Expected.{asked_step};
+ghost use Rattle.vtl_top.specs.MadeView.{IsMade, Names, made_view};
+ghost use Rattle.vtl_top.specs.OutputView.{NamesPath};
+ghost use Rattle.vtl_top.specs.RunView.{command_view, run_view, source_view};
+ghost use Rattle.vtl_top.specs.Informed.{Informs, TellsRun};
+ghost use Rattle.vtl_top.specs.Steps.{status_of};
+ghost use Rattle.vtl_top.specs.Words.{run};
+
+use crate::output::Output;
+use crate::run::prepare;
+use crate::status::Status;
+use crate::words::{Command, Run};
+use std::alloc::Global;
+use vtl_backend::Backend;
+use vtl_files::Files;
+use vtl_text::Txt;
+
+/// What a command gives out: files, and behind them a text for the sink.
+#[derive(Drop)]
+pub struct Made {
+    /// The files, in order.
+    pub outputs: Vec<Output>,
+    /// The text.
+    pub text: Vec<u8>,
+    /// The sink, as a status names it.
+    pub sink: Txt,
+}
+
+/// Makes all that a command gives out. It reads only.
+pub fn make<B: Backend, F: Files>(
+    alloc: Global,
+    back: &mut B,
+    files: &mut F,
+    command: &Command<'_>,
+) -> Result<Made, Status>
+    ensures takes { Takes F.Files files.old files.new (asked_step (Some (command_view command.now))) made_view result }
+    ensures named { IfOk result Names }
+    ensures shape { IfOk result (λ m. IsMadeBy (Some (command_view command.now)) (made_view m)) }
+    ensures told { Informs F.Files files.old B.told back.old back.new (Some (command_view command.now)) (status_of result) }
+{
+    match command {
+        Command::Run(run) => make_run(alloc, back, files, run),
+    }
+}
+
+fn make_run<B: Backend, F: Files>(
+    alloc: Global,
+    back: &mut B,
+    files: &mut F,
+    asked: &Run<'_>,
+) -> Result<Made, Status>
+    ensures takes { Takes F.Files files.old files.new (asked_step (Some (run (run_view asked.now)))) made_view result }
+    ensures named { IfOk result Names }
+    ensures shape { IfOk result (λ m. m.text.items ≡ []) }
+    ensures told { TellsRun F.Files files.old (source_view asked.now.source) (B.told back.new) (status_of result) }
+{
+    match prepare(alloc, back, files, asked) {
+        Ok(outputs) => made_of(alloc, outputs, Vec::new(alloc)),
+        Err(status) => Err(status),
+    }
+}
+
+fn made_of(alloc: Global, outputs: Vec<Output>, text: Vec<u8>) -> Result<Made, Status>
+    requires { AllByRecursion NamesPath outputs.items }
+    ensures { IsMade outputs text result }
+{
+    match Txt::new(alloc, "-") {
+        Ok(sink) => Ok(Made {
+            outputs,
+            text,
+            sink,
+        }),
+        Err(_) => Err(Status::Memory),
+    }
+}
