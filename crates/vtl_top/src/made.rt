@@ -15,8 +15,8 @@ use crate::run::prepare;
 use crate::status::Status;
 use crate::words::{Command, Run};
 use std::alloc::Global;
-use vtl_backend::Backend;
 use vtl_files::Files;
+use vtl_interp::Backend;
 use vtl_text::Txt;
 
 /// What a command gives out: files, and behind them a text for the sink.
