@@ -31,7 +31,8 @@ use Rattle.check_laws.proofs.Measured.{IsGivenBy, for-given, for-parts, given-ki
 use Rattle.check_laws.proofs.Shapes.{AreParts, shaped-gives}
 use Rattle.check_laws.proofs.Steps.{tested-then}
 use Rattle.check_laws.proofs.Tests.{and-true, not-false, or-false}
-use Rattle.check_laws.proofs.Twins.{HasTwin, agreed-kind, agreed-kinds, agreed-name, agreed-names, agreed-roles, within-twins}
+use Rattle.check_shapes.proofs.Twins.{HasTwin}
+use Rattle.check_laws.proofs.Twins.{agreed-kind, agreed-kinds, agreed-name, agreed-names, agreed-roles, within-twins}
 
 -- a measure of the first operand with its namesake, and the measure that they become
 record IsMatched (o : ScalarOp) (a b : Structure) (x z : Component) : Type 0 where
