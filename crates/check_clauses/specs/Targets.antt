@@ -21,7 +21,7 @@ use Rattle.vtl_nodes.specs.Trees as nodes
 use Rattle.vtl_nodes.specs.Trees.{AggTree, FormTree, ItemTree, NodeTree, ValueTree}
 use Rattle.vtl_nodes.specs.declared.specifications.AggItems.TheVariants as items
 use Rattle.vtl_nodes.specs.declared.specifications.AggTarget.{AggTarget}
-use Rattle.vtl_lists.specs.Results.{◌>>=◌}
+use Rattle.vtl_cell.specs.Results.{◌>>=◌}
 use Rattle.check_faults.specs.Rules.{ruled}
 use Rattle.check_faults.specs.declared.rules.Rule.{Rule}
 use Rattle.check_faults.specs.declared.rules.Rule.TheVariants as rule

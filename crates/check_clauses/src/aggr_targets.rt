@@ -21,10 +21,9 @@ use check_operators::{Typed, made_node};
 use check_shapes::Target;
 use check_values::{grouping_choice, grouping_names, grouping_of, name};
 use std::alloc::{AllocError, Global};
-use vtl_cell::Kind;
+use vtl_cell::{Kind, List, Txt};
 use vtl_nodes::{AggItems, AggSpec, AggTarget, Node, NodeForm};
 use vtl_syntax::{Comp, Expr, GroupPart, WrittenRole};
-use vtl_text::{List, Txt};
 use vtl_tree::{AggCall, CompExpr, Structure};
 
 fn is_target(name: &Txt, done: &[Made]) -> bool

@@ -19,9 +19,9 @@ use check_operators::{Joined, made_node};
 use check_shapes::{Renaming, component_of};
 use check_values::name;
 use std::alloc::{AllocError, Global};
+use vtl_cell::{List, Shared, Txt};
 use vtl_nodes::{JoinOperand, JoinSpec, Node, NodeForm};
 use vtl_syntax::{Comp, JoinKind};
-use vtl_text::{List, Shared, Txt};
 use vtl_tree::{Component, Structure, share_structure};
 
 fn shape_of(alloc: Global, operand: &JoinOperand) -> Result<Operand, AllocError>

@@ -10,9 +10,9 @@ use check_operators::{Joined, made_node};
 use check_shapes::{Renaming, Wanted, rename};
 use check_values::name;
 use std::alloc::Global;
+use vtl_cell::{List, Txt};
 use vtl_nodes::{Node, NodeForm};
 use vtl_syntax::RenamePart;
-use vtl_text::{List, Txt};
 use vtl_tree::Component;
 
 // The renamed data set. It breaks `RepeatedComponent` where a name would stand twice.

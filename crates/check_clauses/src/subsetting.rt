@@ -12,12 +12,10 @@ use check_operators::made_node;
 use check_shapes::{Choice, Wanted, choose, known};
 use check_values::{literal, literal_kind, name, still_wanted, wanted_or};
 use std::alloc::{AllocError, Global};
-use vtl_cell::{Cell, Kind};
-use vtl_decimal::Profile;
+use vtl_cell::{Cell, Kind, List, Profile, Txt};
 use vtl_nodes::{Node, NodeForm, SubItem};
 use vtl_scalar::to_kind;
 use vtl_syntax::{Literal, SubPart};
-use vtl_text::{List, Txt};
 use vtl_tree::{Component, Structure};
 
 // The value of a literal as one of a kind.

@@ -1,2 +1,9 @@
+pub use Rattle.check_clauses.specs.Clauses
+pub use Rattle.check_clauses.specs.JoinOperands
+pub use Rattle.check_clauses.specs.Targets
+pub use Rattle.check_clauses.specs.declared.targets
+pub use Rattle.check_groups.specs.Aggregates
+pub use Rattle.check_groups.specs.Windowed
+pub use Rattle.check_groups.specs.declared.calls
 pub mod Typing
 pub mod WalkView

@@ -10,9 +10,9 @@ use check_clauses::{joined, keeping, last_naming, renaming};
 use check_faults::TypeErr;
 use check_operators::{Joined, Typed};
 use std::alloc::{AllocError, Global};
+use vtl_cell::List;
 use vtl_nodes::{JoinOperand, Node};
 use vtl_syntax::{JoinKind, Keeping, RenamePart};
-use vtl_text::List;
 
 /// What the body of a join sees of its operands.
 pub fn seen_by_body(

@@ -15,7 +15,7 @@ use check_faults::TypeErr;
 use check_operators::{Place, Typed, operator};
 use check_values::{function_operator, literals_fit, takes};
 use std::alloc::{AllocError, Global};
-use vtl_decimal::Profile;
+use vtl_cell::Profile;
 use vtl_nodes::CalcValue;
 use vtl_syntax::{Expr, FunctionName};
 

@@ -29,13 +29,12 @@ use check_operators::{
 };
 use check_values::{binary_operator, grouping, kind, unary_operator};
 use std::alloc::{AllocError, Global};
-use vtl_cell::ScalarOp;
+use vtl_cell::{List, ScalarOp, Txt};
 use vtl_nodes::{CalcItem, CalcValue, JoinOperand, Node};
 use vtl_syntax::{
     AggregateName, BasicOut, CalcPart, Clause, Comp, DifferenceName, ErrorPart, Expr, GroupPart,
     JoinKind, JoinPart, Keeping, RenamePart, Retain, Targets,
 };
-use vtl_text::{List, Txt};
 use vtl_tree::CompExpr;
 
 // One more operand behind others.

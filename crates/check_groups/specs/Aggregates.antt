@@ -16,7 +16,7 @@ use Rattle.vtl_tree.specs.CompExp.{CompExp}
 use Rattle.vtl_nodes.specs.Trees as nodes
 use Rattle.vtl_nodes.specs.Trees.{AggTree, NodeTree}
 use Rattle.vtl_nodes.specs.declared.specifications.AggItems.TheVariants as items
-use Rattle.vtl_lists.specs.Results.{◌>>=◌}
+use Rattle.vtl_cell.specs.Results.{◌>>=◌}
 use Rattle.check_faults.specs.Rules.{ruled}
 use Rattle.check_faults.specs.declared.rules.Rule.{Rule}
 use Rattle.check_faults.specs.declared.rules.Rule.TheVariants as rule

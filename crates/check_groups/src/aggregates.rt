@@ -19,10 +19,9 @@ use check_operators::{Inside, Place, Typed, WrittenName, made_of, name_written, 
 use check_shapes::{Operator, Outcome, measured};
 use check_values::{column, grouping_choice, grouping_names, grouping_of, kind};
 use std::alloc::Global;
-use vtl_cell::Kind;
+use vtl_cell::{Kind, List, Txt};
 use vtl_nodes::{AggItems, AggSpec, Node, NodeForm};
 use vtl_syntax::{AggregateName, Expr, GroupPart};
-use vtl_text::{List, Txt};
 use vtl_tree::{AggCall, CompExpr, Structure};
 
 fn over_groups<'a>(inside: &'a Inside, e: &'a Expr) -> Option<(&'a Inside, WrittenName<'a>)>

@@ -17,10 +17,9 @@ use check_faults::{Rule, TypeErr, broken};
 use check_operators::{Place, Typed, written_in};
 use check_values::kind;
 use std::alloc::Global;
-use vtl_decimal::Profile;
+use vtl_cell::{Profile, Txt};
 use vtl_nodes::{AnalyticCall, AnalyticOp, CalcValue, Window};
 use vtl_syntax::Expr;
-use vtl_text::Txt;
 use vtl_tree::CompExpr;
 
 fn operand_exp(call: &Expr) -> Option<&Expr>

@@ -7,12 +7,10 @@ ghost use Rattle.check_groups.specs.Windowed.{call_typed, default_typed, is_orde
 use check_faults::TypeErr;
 use check_values::{literal, literal_kind, points, still_wanted, wanted_or};
 use std::alloc::Global;
-use vtl_cell::{Cell, Kind};
-use vtl_decimal::Profile;
+use vtl_cell::{Cell, Kind, Profile, Txt};
 use vtl_kinds::is_null_kind;
 use vtl_nodes::{AnalyticOp, Window};
 use vtl_syntax::{AggregateName, Expr, Literal, ShiftName, ValueWindowName};
-use vtl_text::Txt;
 
 /// What an analytic call asks of its window.
 #[derive(Clone, Copy, Debug, PartialEq, Eq)]

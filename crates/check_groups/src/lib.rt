@@ -1,8 +1,8 @@
 //! Aggregates and analytic calls on typed operands: of the measures of a data set, of a component over groups, over
 //! windows.
 //!
-//! It decides which of them may stand where (rules 15 and 16), what they ask of measures, and what they give.
-//! It stands beside `check_clauses`, and neither calls the other; what they share is further down. It goes down no
+//! It decides which of them may stand where (`AggregateMisuse` and `AnalyticMisuse`), what they ask of measures, and what
+//! they give. It stands beside `check_clauses`, and neither calls the other; what they share is further down. It goes down no
 //! tree and computes no aggregate.
 //! Begin with specs/Aggregates.antt, then Windowed.antt.
 #![tactic(auto)]

@@ -14,8 +14,7 @@ use check_faults::{Rule, TypeErr};
 use check_operators::{Place, Typed};
 use check_values::kind;
 use std::alloc::Global;
-use vtl_cell::Kind;
-use vtl_decimal::Profile;
+use vtl_cell::{Kind, Profile};
 use vtl_nodes::Window;
 use vtl_syntax::Expr;
 

@@ -1,5 +1,5 @@
 -- Joins: which operands go together, the joined set, and the names in it.
-use Rattle.std.specs.Prelude.{ℕ, suc, Bool, true, false, not, ◌&&◌, ◌||◌, ◌++◌, List, [], ◌∷◌, Option, Some, None, Result, Ok, Err, filter, find, flat_map, map, max, length, count_by, nat_eq, nat_lt, slice_get, take, drop, is_some, if◌then◌else◌}
+use Rattle.std.specs.Prelude.{ℕ, Bool, true, false, not, ◌&&◌, ◌||◌, ◌++◌, List, [], ◌∷◌, Option, Some, None, Result, Ok, Err, filter, find, flat_map, map, length, count_by, nat_lt, slice_get, is_some, if◌then◌else◌}
 use Rattle.std.specs.List.{list_any, list_all}
 use Rattle.std.specs.Option.{option_map_or}
 use Rattle.vtl_syntax.specs.declared.word_groups.JoinKind.{JoinKind}
@@ -8,7 +8,7 @@ use Rattle.vtl_tree.specs.Structure.{most_components, names_of, same_name}
 use Rattle.vtl_tree.specs.declared.structure.Role.TheVariants as role
 use Rattle.vtl_tree.specs.declared.structure.Component.{Component}
 use Rattle.vtl_tree.specs.declared.structure.Structure.{Structure}
-use Rattle.vtl_lists.specs.Results.{◌>>=◌}
+use Rattle.vtl_cell.specs.Results.{◌>>=◌}
 use Rattle.check_faults.specs.Rules.{ruled, Tests}
 use Rattle.check_faults.specs.declared.rules.Rule.{Rule}
 use Rattle.check_faults.specs.declared.rules.Rule.TheVariants as rule
@@ -24,28 +24,18 @@ use Rattle.check_shapes.specs.declared.renaming.Renaming.{Renaming}
 abbrev pub structures_of : List Operand → List Structure
 structures_of os = map (λ o. o.structure) os
 
--- how many identifiers an operand has
-abbrev pub width : Operand → ℕ
-width o = length (filter is_identifier o.structure.components)
+-- the identifiers of an operand contain those of every operand
+abbrev pub contains_all : List Operand → Operand → Bool
+contains_all os o = list_all (λ x. contains o.structure x.structure) os
 
--- the most identifiers that an operand has
-abbrev pub greatest_width : List Operand → ℕ
-greatest_width [] = 0
-greatest_width (o ∷ os) = max (width o) (greatest_width os)
+-- the first operand whose identifiers contain those of every other one
+abbrev pub containing : List Operand → Option Operand
+containing os = find (contains_all os) os
 
--- the place of the first operand of this width
-abbrev pub place_of_width : ℕ → List Operand → ℕ
-place_of_width n [] = 0
-place_of_width n (o ∷ os) = if nat_eq (width o) n then 0 else suc (place_of_width n os)
-
--- the place of the reference. In an inner join its identifiers have to contain those of every other operand: that is the first
--- with the most identifiers, if any. In the other joins it is the first operand.
-abbrev pub reference_place : JoinKind → List Operand → ℕ
-reference_place join.Inner os = place_of_width (greatest_width os) os
-reference_place kind os = 0
-
+-- the reference: in an inner join the operand that contains the others, in the other joins the first one
 abbrev pub reference : JoinKind → List Operand → Option Operand
-reference kind os = slice_get os (reference_place kind os)
+reference join.Inner os = containing os
+reference kind os = slice_get os 0
 
 -- the identifiers of an operand are exactly these
 abbrev pub is_exactly : List (List ℕ) → List Component → Bool
@@ -61,23 +51,22 @@ agrees kind (Some names) r s = contains r s && is_exactly names s.components
 agrees join.Inner None r s = contains r s
 agrees kind None r s = agree compared.Kinds role.Identifier r.components s.components
 
+-- an operand goes with the reference
 abbrev pub goes_with : JoinKind → Option (List (List ℕ)) → Structure → Operand → Bool
 goes_with kind listed r o = agrees kind listed r o.structure && not (list_any (clashes r.components) o.structure.components)
 
-abbrev pub all_go_with : JoinKind → Option (List (List ℕ)) → Structure → List Operand → Bool
-all_go_with kind listed r os = list_all (goes_with kind listed r) os
+-- each operand but the reference does
+abbrev pub all_go_with : JoinKind → Option (List (List ℕ)) → (r : Operand) → List Operand → Bool
+all_go_with kind listed r os = list_all (λ o. same_name o.alias r.alias || goes_with kind listed r.structure o) os
 
 abbrev pub is_cross : JoinKind → Bool
 is_cross join.Cross = true
 is_cross kind = false
 
--- each operand but the reference goes with it; in a cross join all go together
+-- each operand but the reference goes with it, where there is one; in a cross join all go together
 abbrev pub go_with : JoinKind → Option (List (List ℕ)) → List Operand → Option Operand → Bool
-go_with kind listed os None = true
-go_with kind listed os (Some r) =
-    is_cross kind
-    || (all_go_with kind listed r.structure (take (reference_place kind os) os)
-    && all_go_with kind listed r.structure (drop (suc (reference_place kind os)) os))
+go_with kind listed os None = false
+go_with kind listed os (Some r) = is_cross kind || all_go_with kind listed r os
 
 abbrev pub go_together : JoinKind → Option (List (List ℕ)) → List Operand → Bool
 go_together kind listed os = go_with kind listed os (reference kind os)

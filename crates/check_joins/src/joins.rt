@@ -7,12 +7,11 @@ ghost use Rattle.check_faults.specs.Answers.{Answers};
 ghost use Rattle.check_faults.specs.Rules.{ruled};
 ghost use Rattle.check_shapes.specs.Choices.{is_identifier as is_id, is_identifier_name as is_id_name};
 ghost use Rattle.check_shapes.specs.Names.{component_of as component_named, is_among as among};
-ghost use Rattle.check_joins.specs.Joins.{agrees, all_go_with, clashes, go_together, goes_with, greatest_width, is_cross, is_exactly, place_of_width, reference, reference_place, structures_of, takes_using, using_behind, using_form, using_tests, width};
+ghost use Rattle.check_joins.specs.Joins.{agrees, all_go_with, clashes, containing, contains_all, go_together, goes_with, is_cross, is_exactly, reference, structures_of, takes_using, using_behind, using_form, using_tests};
 
 use check_faults::{Rule, TypeErr, broken};
 use check_shapes::{
-    Compared, agree, component_of, contains, count_role, is_among, is_identifier,
-    is_identifier_name,
+    Compared, agree, component_of, contains, is_among, is_identifier, is_identifier_name,
 };
 use std::alloc::{AllocError, Global};
 use vtl_syntax::JoinKind;
@@ -37,46 +36,42 @@ pub(crate) fn is_cross(kind: JoinKind) -> bool
     }
 }
 
-fn width(operand: &Operand) -> usize
-    ensures { result ≡ width operand.now }
+fn contains_all(operand: &Operand, operands: &[Operand]) -> bool
+    ensures { result ≡ contains_all operands.now operand.now }
 {
-    count_role(operand.structure.components.as_slice(), Role::Identifier)
-}
-
-fn greatest_width(operands: &[Operand]) -> usize
-    ensures { result ≡ greatest_width operands.now }
-{
-    let mut greatest = 0;
-    for operand in operands {
-        greatest = greatest.max(width(operand));
-    }
-    greatest
-}
-
-fn place_of_width(wanted: usize, operands: &[Operand]) -> usize
-    ensures { result ≡ place_of_width wanted operands.now }
-{
-    for i in 0..operands.len() {
-        if width(&operands[i]) == wanted {
-            return i;
+    for other in operands {
+        if !contains(&operand.structure, &other.structure) {
+            return false;
         }
     }
-    operands.len()
+    true
 }
 
-pub(crate) fn reference_place(kind: JoinKind, operands: &[Operand]) -> usize
-    ensures { result ≡ reference_place kind operands.now }
+// The first operand whose identifiers contain those of every other one. One that does not contain another gives way to it: if any
+// contains all, the first of them is the one that is left.
+fn containing(operands: &[Operand]) -> Option<&Operand>
+    ensures { option_copied result ≡ containing operands.now }
 {
-    match kind {
-        JoinKind::Inner => place_of_width(greatest_width(operands), operands),
-        _ => 0,
+    let mut left = operands.first()?;
+    for operand in operands {
+        if !contains(&left.structure, &operand.structure) {
+            left = operand;
+        }
+    }
+    if contains_all(left, operands) {
+        Some(left)
+    } else {
+        None
     }
 }
 
 pub(crate) fn reference(kind: JoinKind, operands: &[Operand]) -> Option<&Operand>
     ensures { option_copied result ≡ reference kind operands.now }
 {
-    operands.get(reference_place(kind, operands))
+    match kind {
+        JoinKind::Inner => containing(operands),
+        _ => operands.first(),
+    }
 }
 
 fn are_among(names: &[Txt], components: &[Component]) -> bool
@@ -155,30 +150,29 @@ fn goes_with(
 fn all_go_with(
     kind: JoinKind,
     listed: Option<&[Txt]>,
-    reference: &Structure,
+    reference: &Operand,
     operands: &[Operand],
 ) -> bool
     ensures { result ≡ all_go_with kind (option_copied listed.entry) reference.now operands.now }
 {
     for operand in operands {
-        if !goes_with(kind, listed, reference, operand) {
+        if operand.alias != reference.alias
+            && !goes_with(kind, listed, &reference.structure, operand)
+        {
             return false;
         }
     }
     true
 }
 
-/// Whether each operand but the reference goes with it; in a cross join all go together.
+/// Whether there is a reference, and each other operand goes with it; in a cross join all go together.
 pub(crate) fn go_together(kind: JoinKind, listed: Option<&[Txt]>, operands: &[Operand]) -> bool
     ensures { result ≡ go_together kind (option_copied listed.entry) operands.now }
 {
-    let place = reference_place(kind, operands);
-    let Some(reference) = operands.get(place) else {
-        return true;
-    };
-    is_cross(kind)
-        || (all_go_with(kind, listed, &reference.structure, &operands[..place])
-            && all_go_with(kind, listed, &reference.structure, &operands[place + 1..]))
+    match reference(kind, operands) {
+        Some(reference) => is_cross(kind) || all_go_with(kind, listed, reference, operands),
+        None => false,
+    }
 }
 
 fn any_has(operands: &[Operand], name: &Txt) -> bool

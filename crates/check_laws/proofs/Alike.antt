@@ -1,9 +1,9 @@
 -- Typing depends only on the structures of the names that are read.
 use Rattle.std.proofs.Common.{◌≡◌, ℕ, suc, ◌+◌, Bool, true, false, cond, ◌||◌, ◌&&◌, List, [], ◌∷◌, ◌++◌, Option, Some, None, is_some, option_map, Result, Ok, Err, refl, sym, ap, ◌∙◌}
 use Rattle.std.specs.Map.{lookup}
-use Rattle.vtl_decimal.specs.Settings.{Settings}
+use Rattle.vtl_cell.specs.Settings.{Settings}
 use Rattle.vtl_cell.specs.declared.operator.ScalarOp.TheVariants as op
-use Rattle.vtl_lists.specs.Results.{◌>>=◌}
+use Rattle.vtl_cell.specs.Results.{◌>>=◌}
 use Rattle.check_faults.specs.Rules.{ruled}
 use Rattle.check_faults.specs.declared.rules.Rule.{Rule}
 use Rattle.check_faults.specs.declared.rules.Rule.TheVariants as rule
@@ -27,13 +27,13 @@ use Rattle.check_operators.specs.Typed.{TypedTree, value, dataset, components_in
 use Rattle.check_operators.specs.declared.places.Joined.{Joined}
 use Rattle.check_operators.specs.declared.places.Place.{Place}
 use Rattle.check_operators.specs.declared.places.Place.TheVariants as place
-use Rattle.check_groups.specs.Aggregates.{aggregate_node, group_operand}
-use Rattle.check_groups.specs.Windowed.{over_typed}
-use Rattle.check_clauses.specs.Clauses.{filter_form}
-use Rattle.check_clauses.specs.JoinOperands.{PartTyped, joined_node, joined_of, operands_in, with_part}
-use Rattle.check_clauses.specs.Targets.{aggr_clause, aggr_name, calc_clause, calc_name, with_item, with_made}
-use Rattle.check_clauses.specs.declared.targets.Made.{Made}
-use Rattle.check_expressions.specs.Typing.{Having, aggrs_typed, as_dataset, behind, body_end, calc_value, calcs_typed, clause_typed, filter_step, filtered_join, grouped_of, has_exp, having_typed, join_end, maybe_typed, operands_typed, or_call, or_component, over_operand, parts_typed, targets_step, targets_typed, typed}
+use Rattle.vtl_check.specs.Aggregates.{aggregate_node, group_operand}
+use Rattle.vtl_check.specs.Windowed.{over_typed}
+use Rattle.vtl_check.specs.Clauses.{filter_form}
+use Rattle.vtl_check.specs.JoinOperands.{PartTyped, joined_node, joined_of, operands_in, with_part}
+use Rattle.vtl_check.specs.Targets.{aggr_clause, aggr_name, calc_clause, calc_name, with_item, with_made}
+use Rattle.vtl_check.specs.targets.Made.{Made}
+use Rattle.vtl_check.specs.Typing.{Having, aggrs_typed, as_dataset, behind, body_end, calc_value, calcs_typed, clause_typed, filter_step, filtered_join, grouped_of, has_exp, having_typed, join_end, maybe_typed, operands_typed, or_call, or_component, over_operand, parts_typed, targets_step, targets_typed, typed}
 use Rattle.vtl_check.specs.Checked.{env_over}
 use Rattle.vtl_check.specs.Count.{count}
 use Rattle.vtl_check.specs.Script.{assigned, at, is_too_much, script_typed, statements_typed, value_typed, with_result}

@@ -6,9 +6,9 @@ use Rattle.std.proofs.lemmas.List.Elements.{filter-append}
 use Rattle.std.specs.List.{AllByRecursion, filter, find}
 use Rattle.std.specs.Option.{option_map_or}
 use Rattle.std.specs.Prelude.{unwrap_or}
-use Rattle.vtl_decimal.specs.Settings.{Settings}
-use Rattle.vtl_lists.specs.Apart.{all_apart}
-use Rattle.vtl_lists.proofs.Aparts.{apart_parts}
+use Rattle.vtl_cell.specs.Settings.{Settings}
+use Rattle.vtl_cell.specs.Apart.{all_apart}
+use Rattle.vtl_cell.proofs.Aparts.{apart_parts}
 use Rattle.vtl_tree.specs.Structure.{columns_of, names_of, same_name, same_role}
 use Rattle.vtl_tree.specs.Structures.{structure_of}
 use Rattle.vtl_tree.specs.declared.structure.Component.{Component}

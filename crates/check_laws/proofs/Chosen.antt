@@ -27,7 +27,8 @@ use Rattle.check_laws.proofs.Measured.{has-identifiers}
 use Rattle.check_laws.proofs.Shapes.{AreParts, measure-roles, parts-columns, parts-identifiers, parts-measures, shaped-gives}
 use Rattle.check_laws.proofs.Steps.{tested-then}
 use Rattle.check_laws.proofs.Tests.{and-true, not-false}
-use Rattle.check_laws.proofs.Twins.{HasTwin, agreed-kinds, agreed-names, agreed-roles, within-twins}
+use Rattle.check_shapes.proofs.Twins.{HasTwin}
+use Rattle.check_laws.proofs.Twins.{agreed-kinds, agreed-names, agreed-roles, within-twins}
 
 -- one measure that is boolean
 boolean-measure : (ms : List Component) → nat_eq (length ms) 1 ≡ true → AllByRecursion (λ x. meets k.Bool x.kind ≡ true) ms → AllByRecursion (λ x. is_null_kind x.kind ≡ false) ms → map (λ x. x.kind) ms ≡ k.Bool ∷ []

@@ -2,13 +2,13 @@
 use Rattle.std.proofs.Common.{◌≡◌, ℕ, Bool, true, false, cond, not, ◌||◌, List, [], ◌∷◌, ◌++◌, map, Option, Some, None, Result, Ok, Err, refl, sym, ap, ◌∙◌, subst, true≢false}
 use Rattle.std.specs.List.{AllByRecursion, list_any}
 use Rattle.std.specs.Prelude.{unwrap_or}
-use Rattle.vtl_decimal.specs.Settings.{Settings}
-use Rattle.vtl_lists.specs.Apart.{all_apart}
+use Rattle.vtl_cell.specs.Settings.{Settings}
+use Rattle.vtl_cell.specs.Apart.{all_apart}
 use Rattle.vtl_cell.specs.Kinds.{is_of}
 use Rattle.vtl_cell.specs.ScalarKinds.{meets}
 use Rattle.vtl_cell.specs.declared.kind.Kind.{Kind}
 use Rattle.vtl_cell.specs.declared.kind.Kind.TheVariants as k
-use Rattle.vtl_lists.specs.Results.{◌>>=◌}
+use Rattle.vtl_cell.specs.Results.{◌>>=◌}
 use Rattle.check_faults.specs.declared.rules.Rule.{Rule}
 use Rattle.check_faults.specs.declared.rules.Rule.TheVariants as rule
 use Rattle.vtl_syntax.specs.declared.parts.Comp.{Comp}
@@ -47,9 +47,9 @@ use Rattle.check_operators.specs.Places.{Env, at_points, columns_in, name_writte
 use Rattle.check_operators.specs.Typed.{TypedTree, value, dataset, components_in, condition_in}
 use Rattle.check_operators.specs.declared.places.Joined.{Joined}
 use Rattle.check_operators.specs.declared.places.Place.TheVariants as place
-use Rattle.check_clauses.specs.Clauses.{cell_as, filter_form, kept_of, keeping_form, made_of, name_known, names_typed, pivot_of, references_in, renamed_of, renaming_form, renamings_typed, sub_form, sub_item, sub_known, sub_names, sub_of, sub_value, subs_typed, unpivot_of}
-use Rattle.check_clauses.specs.Targets.{aggr_clause, aggr_tree, calc_clause, calc_name, is_analytic, is_analytic_value, item_names, item_of, made_target, role_of, target_of, value_kind}
-use Rattle.check_clauses.specs.declared.targets.Made.{Made}
+use Rattle.vtl_check.specs.Clauses.{cell_as, filter_form, kept_of, keeping_form, made_of, name_known, names_typed, pivot_of, references_in, renamed_of, renaming_form, renamings_typed, sub_form, sub_item, sub_known, sub_names, sub_of, sub_value, subs_typed, unpivot_of}
+use Rattle.vtl_check.specs.Targets.{aggr_clause, aggr_tree, calc_clause, calc_name, is_analytic, is_analytic_value, item_names, item_of, made_target, role_of, target_of, value_kind}
+use Rattle.vtl_check.specs.targets.Made.{Made}
 use Rattle.vtl_meaning.specs.Made.{IsCalculated, IsFiltered, IsLeft, IsRenamed, IsSub, IsTyped}
 use Rattle.vtl_meaning.specs.Operators.{value_exp}
 use Rattle.check_laws.specs.Gives.{ArePassed, Gives, IsShaped}

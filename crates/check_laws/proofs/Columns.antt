@@ -4,8 +4,8 @@ use Rattle.std.proofs.lemmas.Bool.{false≢true}
 use Rattle.std.specs.Cmp.Lexicographic.{bytes_decides, nat_list_eq_equiv}
 use Rattle.std.specs.List.{AllByRecursion, filter, list_any}
 use Rattle.std.specs.Option.{option_map_or}
-use Rattle.vtl_lists.specs.Apart.{all_apart}
-use Rattle.vtl_lists.proofs.Aparts.{apart_parts}
+use Rattle.vtl_cell.specs.Apart.{all_apart}
+use Rattle.vtl_cell.proofs.Aparts.{apart_parts}
 use Rattle.vtl_cell.specs.declared.kind.Kind.TheVariants as k
 use Rattle.vtl_tree.specs.Structure.{IsStructure, columns_of, names_of, of_role, same_name, same_role}
 use Rattle.vtl_tree.specs.declared.structure.Component.{Component}

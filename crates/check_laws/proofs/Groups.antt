@@ -1,7 +1,7 @@
 -- Aggregates and analytic calls.
 use Rattle.std.proofs.Common.{◌≡◌, ℕ, Bool, true, false, cond, not, List, [], ◌∷◌, Option, Some, None, Result, Err, refl}
 use Rattle.std.specs.Option.{IfSome, is_some, option_map}
-use Rattle.vtl_decimal.specs.Settings.{Settings}
+use Rattle.vtl_cell.specs.Settings.{Settings}
 use Rattle.check_faults.specs.Rules.{ruled, Tests}
 use Rattle.check_faults.specs.declared.rules.Rule.{Rule}
 use Rattle.check_faults.specs.declared.rules.Rule.TheVariants as rule
@@ -28,12 +28,12 @@ use Rattle.check_operators.specs.Typed.{TypedTree, value, dataset, components_in
 use Rattle.check_operators.specs.declared.places.Inside.{Inside}
 use Rattle.check_operators.specs.declared.places.Place.{Place}
 use Rattle.check_operators.specs.declared.places.Place.TheVariants as place
-use Rattle.check_groups.specs.Aggregates.{aggregate_node, aggregate_tree, call_kind, component_call, count_call, group_call, group_call_by, group_operand, no_dataset, of_measure, outcome_of, written_call}
-use Rattle.check_groups.specs.Windowed as windowed
-use Rattle.check_groups.specs.Windowed.{argument, call_of, call_tree, is_misplaced, is_unfit_over, or_count, over_form, over_node, over_parts, over_structure, over_typed, rank_call, suits, target_form, target_typed, value_call}
-use Rattle.check_groups.specs.declared.calls.Call.{Call}
+use Rattle.vtl_check.specs.Aggregates.{aggregate_node, aggregate_tree, call_kind, component_call, count_call, group_call, group_call_by, group_operand, no_dataset, of_measure, outcome_of, written_call}
+use Rattle.vtl_check.specs.Windowed as windowed
+use Rattle.vtl_check.specs.Windowed.{argument, call_of, call_tree, is_misplaced, is_unfit_over, or_count, over_form, over_node, over_parts, over_structure, over_typed, rank_call, suits, target_form, target_typed, value_call}
+use Rattle.vtl_check.specs.calls.Call.{Call}
 use Rattle.vtl_meaning.specs.Made.{IsTyped}
-use Rattle.check_expressions.specs.Typing.{or_call}
+use Rattle.vtl_check.specs.Typing.{or_call}
 use Rattle.check_laws.specs.Gives.{Gives, IsShaped}
 use Rattle.check_laws.specs.WellTyped.{IfUngrouped, IsNode, IsWellTyped}
 use Rattle.check_laws.proofs.Sets.{shape-gives}

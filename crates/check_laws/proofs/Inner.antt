@@ -1,7 +1,7 @@
 -- All nodes of an expression that is made are made.
 use Rattle.std.proofs.Common.{List, ◌++◌}
 use Rattle.std.specs.List.{AllByRecursion}
-use Rattle.vtl_decimal.specs.Settings.{Settings}
+use Rattle.vtl_cell.specs.Settings.{Settings}
 use Rattle.vtl_tree.specs.Structure.{IsStructure}
 use Rattle.vtl_tree.specs.Structures.{Named}
 use Rattle.vtl_tree.specs.declared.structure.Structure.{Structure}

@@ -1,7 +1,7 @@
 -- Joins: their operands, and the joined set.
 use Rattle.std.proofs.Common.{ℕ, List, [], ◌∷◌, ◌++◌, map, Option, Ok}
 use Rattle.std.specs.List.{AllByRecursion}
-use Rattle.vtl_lists.specs.Results.{◌>>=◌}
+use Rattle.vtl_cell.specs.Results.{◌>>=◌}
 use Rattle.vtl_syntax.specs.Trees.{Exp}
 use Rattle.vtl_syntax.specs.declared.parts.Comp.{Comp}
 use Rattle.vtl_syntax.specs.declared.word_groups.JoinKind.{JoinKind}
@@ -12,7 +12,7 @@ use Rattle.check_operators.specs.Places.{Env}
 use Rattle.check_operators.specs.Typed.{TypedTree, components_in, dataset_in}
 use Rattle.check_operators.specs.declared.places.Joined.{Joined}
 use Rattle.check_operators.specs.declared.places.Place.TheVariants as place
-use Rattle.check_clauses.specs.JoinOperands.{PartTyped, joined_node, last_naming, left_names, new_alias, operand_in, operands_in, shape_of, using_names, with_part}
+use Rattle.vtl_check.specs.JoinOperands.{PartTyped, joined_node, last_naming, left_names, new_alias, operand_in, operands_in, shape_of, using_names, with_part}
 use Rattle.vtl_meaning.specs.Made.{AreMadeOperands}
 use Rattle.check_laws.specs.Gives.{Gives, IsShaped}
 use Rattle.check_laws.specs.WellTyped.{IsNode, IsWellTyped}

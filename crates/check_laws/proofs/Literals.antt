@@ -6,12 +6,12 @@ use Rattle.std.specs.List.{AllByRecursion}
 use Rattle.std.specs.Option.{IfSome}
 use Rattle.std.specs.Prelude.{◌==◌, chars, encode_utf8_all, nat_lt, unsigned_abs, ℤ, neg_ℤ}
 use Rattle.std.specs.Result.{IsOk, result_ok}
-use Rattle.vtl_decimal.specs.Numeral.{Numeral, denominator, integer_of, number_spelled, numeral_of, numerator, signed}
-use Rattle.vtl_decimal.specs.Range.{fit_integer, fit_number}
-use Rattle.vtl_decimal.specs.Settings.{Settings}
-use Rattle.vtl_decimal.specs.declared.number.Fault.{Fault}
-use Rattle.vtl_decimal.specs.declared.number.Fault.TheVariants.{Range}
-use Rattle.vtl_lists.specs.Results.{◌>>=◌}
+use Rattle.vtl_cell.specs.Numeral.{Numeral, denominator, integer_of, number_spelled, numeral_of, numerator, signed}
+use Rattle.vtl_cell.specs.Range.{fit_integer, fit_number}
+use Rattle.vtl_cell.specs.Settings.{Settings}
+use Rattle.vtl_cell.specs.number.Fault.{Fault}
+use Rattle.vtl_cell.specs.number.Fault.TheVariants.{Range}
+use Rattle.vtl_cell.specs.Results.{◌>>=◌}
 use Rattle.vtl_cell.specs.Conversion.{as_kind}
 use Rattle.vtl_cell.specs.Kinds.{is_of}
 use Rattle.vtl_cell.specs.Profile.{IsOfProfile}

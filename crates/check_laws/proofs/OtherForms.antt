@@ -1,7 +1,7 @@
 -- Forms of which only this is told, that they give a structure.
 use Rattle.std.proofs.Common.{ℕ, Bool, List, [], ◌∷◌, ◌++◌, map, Option, None}
 use Rattle.std.specs.List.{filter}
-use Rattle.vtl_lists.specs.Results.{◌>>=◌}
+use Rattle.vtl_cell.specs.Results.{◌>>=◌}
 use Rattle.check_faults.specs.Rules.{ruled}
 use Rattle.check_faults.specs.declared.rules.Rule.TheVariants as rule
 use Rattle.vtl_syntax.specs.declared.word_groups.JoinKind.{JoinKind}

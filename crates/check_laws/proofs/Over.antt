@@ -2,7 +2,7 @@
 use Rattle.std.proofs.Common.{◌≡◌, ℕ, List, ◌++◌, is_some, true, sym, ap, ◌∙◌}
 use Rattle.std.specs.List.{AllByRecursion}
 use Rattle.std.specs.Map.{lookup}
-use Rattle.vtl_decimal.specs.Settings.{Settings}
+use Rattle.vtl_cell.specs.Settings.{Settings}
 use Rattle.vtl_tree.specs.Structure.{same_name}
 use Rattle.vtl_tree.specs.Structures.{Named, has_name}
 use Rattle.vtl_tree.specs.declared.structure.Structure.{Structure}

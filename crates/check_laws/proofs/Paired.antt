@@ -1,7 +1,7 @@
 -- Operators on the measures of two operands.
 use Rattle.std.proofs.Common.{◌≡◌, ℕ, Bool, true, false, cond, ◌||◌, not, List, [], ◌∷◌, ◌++◌, length, Some, None, is_none, refl, sym, ap, ◌∙◌}
 use Rattle.std.specs.List.{AllByRecursion, filter}
-use Rattle.vtl_decimal.specs.Settings.{Settings}
+use Rattle.vtl_cell.specs.Settings.{Settings}
 use Rattle.vtl_cell.specs.ScalarKinds.{kinds_of}
 use Rattle.vtl_cell.specs.declared.kind.Kind.{Kind}
 use Rattle.vtl_cell.specs.declared.operator.ScalarOp.{ScalarOp}
@@ -31,7 +31,8 @@ use Rattle.check_laws.proofs.Measured.{IsGivenBy, for-given, for-parts, given-ki
 use Rattle.check_laws.proofs.Shapes.{AreParts, shaped-gives}
 use Rattle.check_laws.proofs.Steps.{tested-then}
 use Rattle.check_laws.proofs.Tests.{and-true, not-false, or-false}
-use Rattle.check_laws.proofs.Twins.{HasTwin, agreed-kind, agreed-kinds, agreed-name, agreed-names, agreed-roles, within-twins}
+use Rattle.check_shapes.proofs.Twins.{HasTwin}
+use Rattle.check_laws.proofs.Twins.{agreed-kind, agreed-kinds, agreed-name, agreed-names, agreed-roles, within-twins}
 
 -- a measure of the first operand with its namesake, and the measure that they become
 record IsMatched (o : ScalarOp) (a b : Structure) (x z : Component) : Type 0 where

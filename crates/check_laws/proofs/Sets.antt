@@ -3,8 +3,8 @@ use Rattle.std.proofs.Common.{List, [], ◌∷◌, ◌++◌, Option, Some, None,
 use Rattle.std.specs.List.{AllByRecursion}
 use Rattle.std.specs.Option.{IfSome}
 use Rattle.std.specs.Prelude.{option_to_list, unwrap_or}
-use Rattle.vtl_decimal.specs.Settings.{Settings}
-use Rattle.vtl_lists.specs.Results.{◌>>=◌}
+use Rattle.vtl_cell.specs.Settings.{Settings}
+use Rattle.vtl_cell.specs.Results.{◌>>=◌}
 use Rattle.check_faults.specs.declared.rules.Rule.{Rule}
 use Rattle.vtl_syntax.specs.declared.parts.Comp.{Comp}
 use Rattle.vtl_syntax.specs.declared.word_groups.DifferenceName.{DifferenceName}

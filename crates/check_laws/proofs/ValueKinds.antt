@@ -12,7 +12,7 @@ use Rattle.check_operators.specs.Places.{Env}
 use Rattle.check_operators.specs.Typed.{value}
 use Rattle.check_operators.specs.declared.places.Inside.{Inside}
 use Rattle.check_operators.specs.declared.places.Place.TheVariants as place
-use Rattle.check_expressions.specs.Typing.{typed}
+use Rattle.vtl_check.specs.Typing.{typed}
 use Rattle.vtl_meaning.proofs.ValueKinds.{value_is_of}
 use Rattle.vtl_meaning.specs.Made.{IsTyped}
 use Rattle.check_laws.specs.WellTyped.{AreShaped, IfUngrouped, IsWellTyped}

@@ -2,7 +2,7 @@
 use Rattle.std.specs.Prelude.{◌≡◌, ℕ, false, true, List, [], ◌∷◌}
 use Rattle.std.specs.List.{AllByRecursion, list_any}
 use Rattle.std.specs.Map.{lookup}
-use Rattle.vtl_decimal.specs.Settings.{Settings}
+use Rattle.vtl_cell.specs.Settings.{Settings}
 use Rattle.vtl_syntax.specs.Trees as tree
 use Rattle.vtl_syntax.specs.Trees.{ScriptTree}
 use Rattle.vtl_tree.specs.Structure.{same_name}

@@ -1,7 +1,7 @@
 -- What typing gives at a place: values that are typed over its columns, and nodes that are made.
 use Rattle.std.specs.Prelude.{ℕ, List, [], Option, Some, None}
 use Rattle.std.specs.List.{AllByRecursion}
-use Rattle.vtl_decimal.specs.Settings.{Settings}
+use Rattle.vtl_cell.specs.Settings.{Settings}
 use Rattle.vtl_tree.specs.CompExp.{CompExp}
 use Rattle.vtl_tree.specs.Structures.{Named}
 use Rattle.vtl_nodes.specs.Trees.{NodeTree, structure_of}

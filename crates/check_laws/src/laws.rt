@@ -2,7 +2,7 @@
 ghost use Rattle.std.specs.Prelude.{◌≡◌, ℕ, None, List, Ok, IfOk, true};
 ghost use Rattle.std.specs.List.{AllByRecursion};
 ghost use Rattle.std.specs.Map.{keys_of};
-ghost use Rattle.vtl_decimal.specs.Settings.{Settings};
+ghost use Rattle.vtl_cell.specs.Settings.{Settings};
 ghost use Rattle.vtl_cell.specs.Kinds.{is_of};
 ghost use Rattle.vtl_cell.specs.Row.{Row};
 ghost use Rattle.vtl_syntax.specs.Trees.{Exp, ScriptTree};
@@ -18,7 +18,7 @@ ghost use Rattle.check_operators.specs.Typed.{TypedTree, value};
 ghost use Rattle.check_operators.specs.declared.places.Inside.{Inside};
 ghost use Rattle.check_operators.specs.declared.places.Place.{Place};
 ghost use Rattle.check_operators.specs.declared.places.Place.TheVariants as place;
-ghost use Rattle.check_expressions.specs.Typing.{typed};
+ghost use Rattle.vtl_check.specs.Typing.{typed};
 ghost use Rattle.vtl_check.specs.Checked.{IsTyped, TypedScript, env_over, nodes_of, tree_of};
 ghost use Rattle.vtl_check.specs.Names.{names_in};
 ghost use Rattle.vtl_check.specs.Script.{script_typed};

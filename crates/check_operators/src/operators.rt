@@ -15,12 +15,10 @@ use check_faults::{Rule, TypeErr, broken};
 use check_shapes::{Choice, Outcome, any_unmet, choose_by, measured, pair};
 use check_values::{call, kinds_in, set as set_members};
 use std::alloc::{AllocError, Global};
-use vtl_cell::{Cell, ScalarOp};
-use vtl_decimal::Profile;
+use vtl_cell::{Cell, List, Profile, ScalarOp};
 use vtl_kinds::counted_kinds;
 use vtl_nodes::{MeasureOp, Node, NodeForm};
 use vtl_syntax::Literal;
-use vtl_text::List;
 use vtl_tree::{CompExpr, Structure};
 
 // What an operator gives of the measures of a structure, by the kinds that it gives of them.

@@ -13,10 +13,9 @@ use check_shapes::is_among;
 use check_values::{column, name as name_of};
 use indexmap::IndexMap;
 use std::alloc::Global;
-use vtl_decimal::Profile;
+use vtl_cell::{List, Profile, Txt};
 use vtl_nodes::NodeForm;
 use vtl_syntax::Comp;
-use vtl_text::{List, Txt};
 use vtl_tree::{CompExpr, Structure, share_structure};
 
 /// How numbers are read, and the data sets that are known: the declared ones, and then the results so far.

@@ -8,7 +8,7 @@ use Rattle.vtl_tree.specs.declared.structure.Structure.{Structure}
 use Rattle.check_shapes.specs.Choices.{is_identifier}
 use Rattle.check_shapes.specs.Measures.{Gives, any_unmet, bool_var, given_measures, is_miscounted, made, measures}
 use Rattle.check_shapes.specs.Operands.{agree, agreed_identifiers, all_agree, all_meet, has_one_measure, is_there, is_within}
-use Rattle.vtl_lists.specs.Results.{◌>>=◌}
+use Rattle.vtl_cell.specs.Results.{◌>>=◌}
 use Rattle.check_faults.specs.Rules.{ruled, Tests}
 use Rattle.check_faults.specs.declared.rules.Rule.{Rule}
 use Rattle.check_faults.specs.declared.rules.Rule.TheVariants as rule

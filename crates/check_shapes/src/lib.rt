@@ -19,7 +19,6 @@ mod shape;
 mod targets;
 
 pub use choices::{Choice, choose, choose_known, is_chosen, is_identifier, is_identifier_name};
-pub use counting::count_role;
 pub use measures::{Operator, Outcome, any_unmet, measured};
 pub use names::{Wanted, check_names, check_new_name, component_of, is_among, known};
 pub use operands::{Compared, agree, push_identifiers};

@@ -11,8 +11,7 @@ use crate::names::component_of;
 use crate::{Choice, shaped};
 use check_faults::{Rule, TypeErr, broken};
 use std::alloc::{AllocError, Global};
-use vtl_cell::Kind;
-use vtl_text::Txt;
+use vtl_cell::{Kind, Txt};
 use vtl_tree::{Component, Role, Structure, is_same_role, share_component};
 
 /// An operator on measures, by the kinds that it takes and gives.

@@ -13,8 +13,7 @@ use crate::shape::names_of;
 use crate::{Choice, Wanted, shaped};
 use check_faults::{Rule, TypeErr, broken};
 use std::alloc::{AllocError, Global};
-use vtl_cell::{Kind, is_same_kind};
-use vtl_text::{Shared, Txt, is_component_name};
+use vtl_cell::{Kind, Shared, Txt, is_component_name, is_same_kind};
 use vtl_tree::{Component, Role, Structure};
 
 fn has_no_name(texts: &[Txt]) -> bool

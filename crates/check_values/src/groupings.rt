@@ -10,8 +10,8 @@ use crate::name;
 use check_faults::TypeErr;
 use check_shapes::{Choice, Wanted, check_names, is_chosen};
 use std::alloc::{AllocError, Global};
+use vtl_cell::{List, Txt};
 use vtl_syntax::{Comp, GroupKind, GroupPart};
-use vtl_text::{List, Txt};
 use vtl_tree::Component;
 
 fn choice_of(kind: GroupKind) -> Choice
@@ -83,7 +83,7 @@ pub fn grouping_of(
     Ok(List::of(chosen))
 }
 
-/// The identifiers by which groups are formed, in the operand's order. A name breaks rules 4, 5 and 6.
+/// The identifiers by which groups are formed, in the operand's order. A name breaks `UnknownComponent`, `RepeatedName` and `WrongRole`.
 pub fn grouping(
     alloc: Global,
     components: &[Component],

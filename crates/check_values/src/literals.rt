@@ -9,14 +9,12 @@ ghost use Rattle.vtl_kinds.specs.Literals.{integer_written, is_null_kind};
 
 use check_faults::{Rule, TypeErr};
 use std::alloc::{AllocError, Global};
-use vtl_cell::{Cell, Kind};
-use vtl_decimal::Profile;
+use vtl_cell::{Cell, Kind, List, Profile};
 use vtl_kinds::{
     LARGEST_PLACE, integer_cell, integer_written, is_null_kind, lies_between, meets, number_cell,
     shared_kind, with_sign, written,
 };
 use vtl_syntax::{CastKind, Constant, Expr, FunctionName, Literal, Numeral, UnaryOp};
-use vtl_text::List;
 use vtl_tree::CompExpr;
 
 fn numeral_kind(numeral: &Numeral) -> Kind

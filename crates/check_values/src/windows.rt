@@ -9,11 +9,10 @@ ghost use Rattle.check_values.specs.Windows.{bound_typed, frame_typed, is_fallin
 use crate::name;
 use check_faults::{Rule, TypeErr};
 use std::alloc::{AllocError, Global};
-use vtl_decimal::Profile;
+use vtl_cell::{List, Profile, Txt};
 use vtl_kinds::{LONGEST_REACH, integer_written};
 use vtl_nodes::{Bound, Frame, OrderKey, Window};
 use vtl_syntax::{Comp, DataPoints, Direction, Limit, OrderPart, OverPart, Side};
-use vtl_text::{List, Txt};
 use vtl_tree::Component;
 
 fn is_known(name: &Txt, columns: &[Component]) -> bool

@@ -6,7 +6,7 @@ ghost use Rattle.sql_check.specs.Answers.{given_view};
 use indexmap::IndexSet;
 use sql_check_parts::Tables;
 use std::alloc::Global;
-use vtl_text::Txt;
+use vtl_cell::Txt;
 
 /// The tables that statements have given, and the names of those that they have exported.
 #[derive(Drop)]

@@ -4,7 +4,7 @@ ghost use Rattle.std.specs.Map.{keys_of};
 ghost use Rattle.std.specs.Option.{is_none};
 ghost use Rattle.std.specs.Prelude.{◌≡◌, ◌||◌, ℕ, List, length, nat_lt, not, IfOk, map};
 ghost use Rattle.vtl_cell.specs.declared.kind.Kind.{Kind};
-ghost use Rattle.vtl_text.specs.Words.{is_word};
+ghost use Rattle.vtl_cell.specs.Words.{is_word};
 ghost use Rattle.sql_check_parts.specs.Rules.{least};
 ghost use Rattle.sql_check_parts.specs.Scopes.{is_among, is_empty, kind_among, repeats};
 ghost use Rattle.sql_check_parts.specs.Statements.{codes_fit, column_entry, input_breaks, input_columns, is_taken, is_text, most_input_columns, names_fit};
@@ -13,8 +13,7 @@ ghost use Rattle.sql_check_parts.specs.Typed.{distinct_columns};
 use sql_check_parts::{Columns, SqlRule, Tables, Test, least_broken, repeats};
 use sql_tree::{InputColumn, SqlInput};
 use std::alloc::{AllocError, Global};
-use vtl_cell::Kind;
-use vtl_text::{Txt, is_word};
+use vtl_cell::{Kind, Txt, is_word};
 
 fn names_of(alloc: Global, columns: &[InputColumn]) -> Result<Vec<Txt>, AllocError>
     ensures { IfOk result (λ names. names.items ≡ map (λ c. c.name) columns.now) }

@@ -1,7 +1,7 @@
 // Laws of queries and scripts that are typed.
 ghost use Rattle.std.specs.Prelude.{◌≡◌, ◌∷◌, ◌++◌, List, None, IsSome};
-ghost use Rattle.vtl_decimal.specs.Settings.{Settings};
-ghost use Rattle.vtl_decimal.specs.declared.settings.Rounding.{Rounding};
+ghost use Rattle.vtl_cell.specs.Settings.{Settings};
+ghost use Rattle.vtl_cell.specs.settings.Rounding.{Rounding};
 ghost use Rattle.sql_tree.specs.Formed.{IsQuery};
 ghost use Rattle.sql_tree.specs.Grammar.{most_levels};
 ghost use Rattle.sql_tree.specs.Trees as tree;

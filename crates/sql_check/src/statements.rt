@@ -12,8 +12,7 @@ use sql_check_parts::{Columns, SqlRule, Test, least_broken, lesser};
 use sql_check_queries::query;
 use sql_tree::{SqlCreate, SqlExport, SqlInput, Statement};
 use std::alloc::{AllocError, Global};
-use vtl_decimal::Profile;
-use vtl_text::Txt;
+use vtl_cell::{Profile, Txt};
 
 // Puts the table of a statement behind the others. It fails only for want of memory.
 fn put(given: &mut SoFar, name: &Txt, columns: Option<Columns>) -> Result<(), AllocError>

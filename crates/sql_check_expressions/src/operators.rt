@@ -18,8 +18,7 @@ use sql_check_parts::{
 };
 use sql_tree::{Equality, Source};
 use std::alloc::{AllocError, Global};
-use vtl_cell::{Kind, ScalarOp};
-use vtl_text::List;
+use vtl_cell::{Kind, List, ScalarOp};
 
 // What is told behind parts with a fault.
 pub(crate) fn behind(before: Option<SqlRule>, own: Typed) -> Typed

@@ -8,9 +8,9 @@ use Rattle.std.proofs.lemmas.List.{take_more}
 use Rattle.std.proofs.lemmas.List.Sums.{fold-append}
 use Rattle.std.proofs.lemmas.Map.Made.{lookup-map_values}
 use Rattle.indexmap.specs.IndexMap.{insert_entry}
-use Rattle.vtl_lists.specs.Apart.{all_apart}
+use Rattle.vtl_cell.specs.Apart.{all_apart}
 use Rattle.vtl_tree.proofs.StructuresLemmas.{repeated}
-use Rattle.vtl_text.specs.Texts.{same_text}
+use Rattle.vtl_cell.specs.Texts.{same_text}
 use Rattle.sql_check_parts.specs.Scopes.{is_among}
 
 pub among_lookup : {V : Type 0} (name : List ℕ) (es : List (List ℕ × V)) → is_some (lookup (same_text name) es) ≡ is_among name (keys_of es)

@@ -5,10 +5,10 @@ use Rattle.std.specs.Map.{keys_of}
 use Rattle.std.specs.Option.{is_none}
 use Rattle.indexmap.specs.IndexSet.{insert_key}
 use Rattle.vtl_kinds.specs.Literals.{integer_written, lies_between}
-use Rattle.vtl_decimal.specs.Settings.{Settings}
-use Rattle.vtl_decimal.specs.declared.settings.Rounding.{Rounding}
-use Rattle.vtl_decimal.specs.declared.settings.Rounding.TheVariants as rounding
-use Rattle.vtl_text.specs.Words.{is_word}
+use Rattle.vtl_cell.specs.Settings.{Settings}
+use Rattle.vtl_cell.specs.settings.Rounding.{Rounding}
+use Rattle.vtl_cell.specs.settings.Rounding.TheVariants as rounding
+use Rattle.vtl_cell.specs.Words.{is_word}
 use Rattle.vtl_cell.specs.declared.kind.Kind.{Kind}
 use Rattle.vtl_cell.specs.declared.kind.Kind.TheVariants as k
 use Rattle.sql_tree.specs.Trees as tree
@@ -18,7 +18,7 @@ use Rattle.sql_tree.specs.declared.statements.SqlExport.{SqlExport}
 use Rattle.sql_tree.specs.declared.statements.SqlInput.{SqlInput}
 use Rattle.sql_check_parts.specs.Queries.{query_breaks, query_columns}
 use Rattle.sql_check_parts.specs.Rules.{broken, least}
-use Rattle.vtl_text.specs.Texts.{same_text}
+use Rattle.vtl_cell.specs.Texts.{same_text}
 use Rattle.sql_check_parts.specs.Scopes.{Columns, Tables, columns_of, is_among, is_empty, kind_among, repeats}
 use Rattle.sql_check_parts.specs.declared.rules.SqlRule.{SqlRule}
 use Rattle.sql_check_parts.specs.declared.rules.SqlRule.TheVariants as rule

@@ -8,8 +8,7 @@ ghost use Rattle.sql_check_parts.specs.Typed.{distinct_columns};
 use indexmap::IndexMap;
 use std::alloc::{AllocError, Global};
 use std::marker::Model;
-use vtl_cell::Kind;
-use vtl_text::{Txt, are_distinct};
+use vtl_cell::{Kind, Txt, are_distinct};
 
 /// The columns of a table. A contract sees the list of their names with their kinds.
 #[derive(Drop)]

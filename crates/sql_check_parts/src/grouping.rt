@@ -6,7 +6,7 @@ use indexmap::IndexSet;
 use sql_tree::Column;
 use std::alloc::{AllocError, Global};
 use std::marker::Model;
-use vtl_text::Txt;
+use vtl_cell::Txt;
 
 /// The columns of GROUP BY, each once. A contract sees the list of their aliases with their names.
 #[derive(Drop)]

@@ -12,8 +12,7 @@ use crate::operators::operator_kind;
 use crate::{SqlRule, Test, Typed, least_broken};
 use sql_tree::{Constant, Literal, Numeral, SqlExpr};
 use std::alloc::{AllocError, Global};
-use vtl_cell::{Cell, Kind, ScalarOp};
-use vtl_decimal::Profile;
+use vtl_cell::{Cell, Kind, Profile, ScalarOp};
 use vtl_kinds::{
     LARGEST_PLACE, integer_cell, integer_written, lies_between, number_cell, with_sign, written,
 };

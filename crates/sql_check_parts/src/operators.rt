@@ -13,8 +13,7 @@ ghost use Rattle.sql_check_parts.specs.Typed.{IsTyped};
 use crate::{Grouping, SqlRule, Test, Typed, least_broken, literals_fit, or_null};
 use sql_tree::SqlExpr;
 use std::alloc::{AllocError, Global};
-use vtl_cell::{AggKind, Kind, ScalarOp};
-use vtl_decimal::Profile;
+use vtl_cell::{AggKind, Kind, Profile, ScalarOp};
 use vtl_kinds::{aggregate_kind, common_kind, kind_by_operands, meets};
 
 /// The kind that an operator gives of operands of these kinds, where they meet it.

@@ -2,7 +2,7 @@
 ghost use Rattle.std.specs.Map.{keys_of, lookup};
 ghost use Rattle.std.specs.Option.{option_copied};
 ghost use Rattle.std.specs.Prelude.{◌≡◌, [], IfOk, OnOk};
-ghost use Rattle.vtl_text.specs.Texts.{same_text};
+ghost use Rattle.vtl_cell.specs.Texts.{same_text};
 ghost use Rattle.sql_check_parts.specs.Scopes.{add_source, column_in, column_kind, is_among};
 ghost use Rattle.sql_check_parts.specs.Typed.{IsTyped};
 ghost use Rattle.sql_check_parts.specs.Windows.{column_breaks, is_ungrouped};
@@ -12,8 +12,7 @@ use indexmap::IndexMap;
 use sql_tree::Column;
 use std::alloc::{AllocError, Global};
 use std::marker::Model;
-use vtl_cell::Kind;
-use vtl_text::Txt;
+use vtl_cell::{Kind, Txt};
 
 /// The sources of a select from the left, by alias. A contract sees the list of the aliases with the columns of the tables.
 #[derive(Drop)]

@@ -8,7 +8,7 @@ use crate::Columns;
 use indexmap::IndexMap;
 use std::alloc::{AllocError, Global};
 use std::marker::Model;
-use vtl_text::Txt;
+use vtl_cell::Txt;
 
 /// The tables that statements give. A contract sees the list of their names with their columns.
 #[derive(Drop)]

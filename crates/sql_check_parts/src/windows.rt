@@ -10,10 +10,8 @@ use crate::literals::{has_no_value, literal_kind};
 use crate::{Grouping, Scope, SqlRule, Test, Typed, column, least_broken, lesser, or_null};
 use sql_tree::{Bound, Column, Frame, Literal, ValueFunction, Window, WindowCall, WindowKey};
 use std::alloc::{AllocError, Global};
-use vtl_cell::Kind;
-use vtl_decimal::Profile;
+use vtl_cell::{Kind, Profile, Txt};
 use vtl_kinds::{LONGEST_REACH, aggregate_kind, integer_written, lies_between, meets, number_of};
-use vtl_text::Txt;
 
 // ---- columns
 

@@ -9,8 +9,7 @@ use sql_check_expressions::{Site, expression};
 use sql_check_parts::{Grouping, SqlRule, Typed, lesser, window};
 use sql_tree::{Item, ItemValue};
 use std::alloc::{AllocError, Global};
-use vtl_cell::Kind;
-use vtl_text::{List, Txt};
+use vtl_cell::{Kind, List, Txt};
 
 /// The kinds of items, and the least of the rules that they break.
 #[derive(Drop)]

@@ -18,8 +18,7 @@ use crate::parts::{column, constant};
 use crate::words::{key, word};
 use sql_lexer::Word;
 use sql_tree::{Branch, Literal, SqlExpr};
-use vtl_cell::{AggKind, ScalarOp};
-use vtl_text::List;
+use vtl_cell::{AggKind, List, ScalarOp};
 
 // What may follow an operand.
 #[derive(Drop)]

@@ -16,8 +16,7 @@ use sql_tree::{
     WindowKey,
 };
 use std::alloc::Global;
-use vtl_cell::AggKind;
-use vtl_text::List;
+use vtl_cell::{AggKind, List};
 
 // `"(" column ")"`
 fn bracketed_column(tokens: Tokens<'_>) -> Result<Front<'_, Column>, Unread>

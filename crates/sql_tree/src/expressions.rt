@@ -1,8 +1,7 @@
 // Expressions.
 
 use crate::{Column, Constant, Equality, Literal, Source};
-use vtl_cell::{AggKind, ScalarOp};
-use vtl_text::List;
+use vtl_cell::{AggKind, List, ScalarOp};
 
 /// An expression.
 #[cycle(expressions)]

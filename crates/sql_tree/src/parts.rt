@@ -1,6 +1,6 @@
 // Columns, sources and constants.
 
-use vtl_text::Txt;
+use vtl_cell::Txt;
 
 /// `"source"."name"`
 #[derive(Drop)]

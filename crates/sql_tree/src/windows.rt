@@ -1,8 +1,7 @@
 // Windows.
 
 use crate::{Column, Direction, Literal, ShiftFunction, Side, ValueFunction};
-use vtl_cell::AggKind;
-use vtl_text::{List, Txt};
+use vtl_cell::{AggKind, List, Txt};
 
 /// `call OVER (over)`
 #[derive(Drop)]

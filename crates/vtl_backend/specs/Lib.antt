@@ -1,3 +1,9 @@
+pub use Rattle.vtl_check.specs.Checked
+pub use Rattle.vtl_check.specs.Count
+pub use Rattle.vtl_check.specs.Names
+pub use Rattle.vtl_check.specs.Places
+pub use Rattle.vtl_check.specs.Script
+pub use Rattle.vtl_check.specs.Uses
 pub mod Agree
 pub mod Inputs
 pub mod Runs

@@ -16,3 +16,4 @@ pub use backend::Backend;
 pub use built::is_built;
 pub use error::RunErr;
 pub use laws::answers_agree;
+pub use vtl_check::{CheckErr, Checked, check, defines_rulesets, read_names};

@@ -6,6 +6,7 @@
 //! operators.
 //! It knows no columns, no structures and no files: what an empty field means is for `vtl_csv` to say.
 //! Begin with specs/Kinds.antt, Order.antt and Scalars.antt.
+//! It passes on the words of what cells are made of (texts, numbers, lists), so that a crate above names it alone.
 #![tactic(auto)]
 
 mod cell;
@@ -26,4 +27,6 @@ pub use logic::{and3, not3, or3, xor3};
 pub use operator::{AggKind, ScalarOp};
 pub use reading::read_cell;
 pub use row::{is_same_key, is_same_row};
+pub use vtl_decimal::{Profile, Rounding};
+pub use vtl_text::{List, Shared, Txt, are_distinct, is_component_name, is_word};
 pub use writing::write_cell;

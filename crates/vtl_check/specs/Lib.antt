@@ -1,3 +1,12 @@
+pub use Rattle.check_expressions.specs.Aggregates
+pub use Rattle.check_expressions.specs.Clauses
+pub use Rattle.check_expressions.specs.JoinOperands
+pub use Rattle.check_expressions.specs.Targets
+pub use Rattle.check_expressions.specs.Typing
+pub use Rattle.check_expressions.specs.Windowed
+pub use Rattle.check_expressions.specs.calls
+pub use Rattle.check_expressions.specs.targets
+pub use Rattle.check_operators.specs.Places
 pub mod Checked
 pub mod Count
 pub mod Names

@@ -12,14 +12,12 @@ ghost use Rattle.vtl_meaning.specs.Operators.{calculated_exp, calculated_of, tar
 ghost use Rattle.vtl_sets.specs.TableOf.{IsTableOf};
 
 use std::alloc::{AllocError, Global};
-use vtl_cell::Cell;
-use vtl_decimal::Profile;
+use vtl_cell::{Cell, Profile, Txt};
 use vtl_expr::{copied, each_point, push_column};
 use vtl_nodes::{CalcItem, CalcValue};
 use vtl_rows::Table;
 use vtl_scalar::ScalarErr;
 use vtl_sets::DataSet;
-use vtl_text::Txt;
 use vtl_tree::{CompExpr, Component, Structure};
 
 // The target of a name.

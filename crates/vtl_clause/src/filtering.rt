@@ -13,8 +13,7 @@ ghost use Rattle.vtl_expr.specs.Seen.{seen_of};
 
 use crate::rows::copied_row;
 use std::alloc::Global;
-use vtl_cell::Cell;
-use vtl_decimal::Profile;
+use vtl_cell::{Cell, Profile};
 use vtl_expr::{Seen, eval};
 use vtl_rows::Table;
 use vtl_scalar::ScalarErr;

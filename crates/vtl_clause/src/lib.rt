@@ -17,3 +17,4 @@ pub use calculation::calc;
 pub use filtering::filter;
 pub use renaming::rename;
 pub use subspace::sub;
+pub use vtl_expr::{choose, keep_columns, map_measures, pair_measures};

@@ -2,8 +2,8 @@
 use Rattle.std.proofs.Common.{◌≡◌, ℕ, ◌+◌, List, [], ◌∷◌, ◌++◌, Bool, true, false, cond, not, ◌&&◌, ◌||◌, Result, Ok, Err, length, map, take, refl, sym, ap, ◌∙◌, subst}
 use Rattle.std.specs.List.{list_any}
 use Rattle.std.proofs.lemmas.List.{take-map}
-use Rattle.vtl_decimal.specs.Settings.{Settings}
-use Rattle.vtl_lists.specs.Apart.{all_apart}
+use Rattle.vtl_cell.specs.Settings.{Settings}
+use Rattle.vtl_cell.specs.Apart.{all_apart}
 use Rattle.vtl_cell.specs.Row.{Row, column_of, same_key, same_row}
 use Rattle.vtl_rows.specs.Keys.{agree, apart}
 use Rattle.vtl_rows.specs.Tables.{Listed, cells_at}

@@ -5,9 +5,9 @@ use Rattle.std.specs.Cmp.Lexicographic.{nat_list_eq_equiv}
 use Rattle.std.specs.Prelude.{encode_utf8_all}
 use Rattle.std.proofs.lemmas.List.{get_or-map}
 use Rattle.std.proofs.lemmas.List.Elements.{All-take}
-use Rattle.vtl_lists.specs.Apart.{all_apart}
-use Rattle.vtl_lists.specs.Each.{cons_if, each_some}
-use Rattle.vtl_lists.proofs.Aparts.{apart_parts}
+use Rattle.vtl_cell.specs.Apart.{all_apart}
+use Rattle.vtl_cell.specs.Each.{cons_if, each_some}
+use Rattle.vtl_cell.proofs.Aparts.{apart_parts}
 use Rattle.vtl_cell.specs.declared.kind.Kind.TheVariants as k
 use Rattle.vtl_cell.specs.Row.{Row, column_of}
 use Rattle.vtl_cell.proofs.Rows.{split_and}

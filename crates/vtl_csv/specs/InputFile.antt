@@ -2,8 +2,8 @@
 -- the column, and what is wrong there.
 use Rattle.std.specs.Prelude.{ℕ, ◌+◌, ◌≡◌, Bool, List, [], ◌∷◌, ◌++◌, map, take, length, encode_utf8_all, Option, None, Some, Result, Ok, Err, if◌then◌else◌}
 use Rattle.std.specs.List.{list_any}
-use Rattle.vtl_decimal.specs.Settings.{Settings}
-use Rattle.vtl_lists.specs.Each.{each_some}
+use Rattle.vtl_cell.specs.Settings.{Settings}
+use Rattle.vtl_cell.specs.Each.{each_some}
 use Rattle.vtl_cell.specs.Row.{Row}
 use Rattle.vtl_rows.specs.Keys.{agree}
 use Rattle.vtl_rows.specs.Tables.{Listed, cells_at}

@@ -2,8 +2,8 @@
 use Rattle.std.specs.Prelude.{ℕ, List, ◌∷◌, ◌++◌, map, flat_map, length, encode_utf8_all}
 use Rattle.std.specs.List.{range_with_len}
 use Rattle.csv.specs.Writing.{default_writer, row_text}
-use Rattle.vtl_decimal.specs.Settings.{Settings}
-use Rattle.vtl_lists.specs.Sorting.{le_by, sorted_by}
+use Rattle.vtl_cell.specs.Settings.{Settings}
+use Rattle.vtl_cell.specs.Sorting.{le_by, sorted_by}
 use Rattle.vtl_cell.specs.Row.{Row}
 use Rattle.vtl_cell.specs.Sorted.{by_keys, rising}
 use Rattle.vtl_cell.specs.Writing.{text_of}

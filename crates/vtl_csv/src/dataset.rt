@@ -16,7 +16,7 @@ use crate::records::RecordReader;
 use crate::text_pool::pools;
 use csv::ByteRecord;
 use std::alloc::{AllocError, Global};
-use vtl_decimal::Profile;
+use vtl_cell::Profile;
 use vtl_rows::Table;
 use vtl_sets::table_column;
 use vtl_tree::Structure;

@@ -13,8 +13,7 @@ use crate::text_pool::TextPool;
 use csv::ByteRecord;
 use std::alloc::{AllocError, Global};
 use std::str;
-use vtl_cell::{Cell, Kind, read_cell};
-use vtl_decimal::Profile;
+use vtl_cell::{Cell, Kind, Profile, read_cell};
 use vtl_tree::Role;
 
 // The most points that a file may hold.

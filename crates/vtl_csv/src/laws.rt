@@ -1,7 +1,7 @@
 // Laws of the definitions of CSV texts.
 ghost use Rattle.std.specs.Prelude.{◌≡◌, ℕ, List, Ok};
-ghost use Rattle.vtl_decimal.specs.Settings.{Settings};
-ghost use Rattle.vtl_lists.specs.Sorting.{Rises, le_by, sorted_by};
+ghost use Rattle.vtl_cell.specs.Settings.{Settings};
+ghost use Rattle.vtl_cell.specs.Sorting.{Rises, le_by, sorted_by};
 ghost use Rattle.vtl_cell.specs.Row.{Row, row_cmp};
 ghost use Rattle.vtl_tree.specs.DataSet.{IsDataSet};
 ghost use Rattle.vtl_tree.specs.declared.structure.Structure.{Structure};

@@ -8,7 +8,7 @@ use Rattle.vtl_cell.specs.Outcome.{Fault, DivZero, Range, Outcome, after}
 use Rattle.vtl_scalar.specs.Answers.{Answers}
 use Rattle.vtl_scalar.specs.declared.error.ScalarErr.TheVariants as err
 use Rattle.vtl_scalar.specs.declared.error.ScalarErr.{ScalarErr}
-use Rattle.vtl_decimal.specs.Settings.{Settings}
+use Rattle.vtl_cell.specs.Settings.{Settings}
 use Rattle.vtl_tree.specs.Value.{all_of, branch, called, first_chosen, is_choice, result_of, value, values}
 use Rattle.vtl_cell.specs.declared.kind.Kind.{Kind}
 use Rattle.vtl_cell.specs.declared.operator.ScalarOp.{ScalarOp}

@@ -5,8 +5,7 @@ ghost use Rattle.vtl_tree.specs.Structure.{same_role};
 ghost use Rattle.vtl_meaning.specs.Columns.{kind_named, measures_of, place_of};
 
 use std::alloc::{AllocError, Global};
-use vtl_cell::Kind;
-use vtl_text::Txt;
+use vtl_cell::{Kind, Txt};
 use vtl_tree::{Component, Role, Structure};
 
 /// The place of the column of this name, or their number where there is none.

@@ -7,8 +7,7 @@ ghost use Rattle.vtl_tree.specs.Value.{first_chosen, is_choice, value};
 ghost use Rattle.vtl_tree.specs.View.{comp_exp_of};
 
 use std::alloc::Global;
-use vtl_cell::{Cell, Kind, ScalarOp, clone_cell};
-use vtl_decimal::Profile;
+use vtl_cell::{Cell, Kind, Profile, ScalarOp, clone_cell};
 use vtl_scalar::{ScalarErr, apply, to_kind};
 use vtl_tree::CompExpr;
 

@@ -7,8 +7,7 @@ ghost use Rattle.vtl_meaning.specs.Columns.{column_behind, column_named, columns
 
 use crate::columns::{kind_named, place_of};
 use std::alloc::{AllocError, Global};
-use vtl_cell::clone_cell;
-use vtl_text::Txt;
+use vtl_cell::{Txt, clone_cell};
 use vtl_tree::{AggCall, CompExpr, Component, Structure};
 
 fn copied_name(name: &Option<Txt>) -> Result<Option<Txt>, AllocError>

@@ -14,7 +14,7 @@ use crate::columns::measures;
 use crate::expressions::{columns_named, push_column, push_copies};
 use crate::points::each_point;
 use std::alloc::{AllocError, Global};
-use vtl_decimal::Profile;
+use vtl_cell::Profile;
 use vtl_nodes::MeasureOp;
 use vtl_rows::Table;
 use vtl_scalar::ScalarErr;

@@ -10,8 +10,7 @@ ghost use Rattle.vtl_expr.specs.Sides.{side_column};
 use crate::columns::measures;
 use crate::expressions::{column_behind, columns_named};
 use std::alloc::{AllocError, Global};
-use vtl_cell::ScalarOp;
-use vtl_text::Txt;
+use vtl_cell::{ScalarOp, Txt};
 use vtl_tree::{CompExpr, Component, Structure};
 
 // The columns of an operand, and those that stand before them.

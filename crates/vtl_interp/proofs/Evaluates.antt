@@ -1,6 +1,6 @@
 -- What an expression evaluates to, from what its operands do.
 use Rattle.std.proofs.Common.{◌≡◌, List, Result, Ok, Err, sym, ap, ◌∙◌}
-use Rattle.vtl_decimal.specs.Settings.{Settings}
+use Rattle.vtl_cell.specs.Settings.{Settings}
 use Rattle.vtl_cell.specs.Outcome.{DivZero, Fault, Outcome, Range, after}
 use Rattle.vtl_cell.specs.Row.{Row}
 use Rattle.vtl_scalar.specs.Answers.{AnswersBy}

@@ -6,7 +6,7 @@ use Rattle.std.specs.Cmp.Lexicographic.{bytes_decides, nat_list_eq_equiv}
 use Rattle.std.proofs.lemmas.Bool.{and_parts}
 use Rattle.std.proofs.lemmas.List.{map-append, take-map, take_more}
 use Rattle.std.proofs.lemmas.Option.{get_or_from_slice_get, slice_get_within}
-use Rattle.vtl_lists.specs.Apart.{all_apart}
+use Rattle.vtl_cell.specs.Apart.{all_apart}
 use Rattle.vtl_cell.specs.Row.{Row}
 use Rattle.vtl_rows.specs.Named.{NamedTables, table_of}
 use Rattle.vtl_syntax.specs.Trees as tree
@@ -17,8 +17,8 @@ use Rattle.vtl_tree.specs.Structures.{Named, has_name}
 use Rattle.vtl_tree.specs.declared.structure.Structure.{Structure}
 use Rattle.vtl_tree.proofs.StructuresLemmas.{repeated}
 use Rattle.vtl_nodes.specs.Trees.{NodeTree, structure_of}
-use Rattle.vtl_check.specs.Checked.{TypedScript, known_of, nodes_of, tree_of}
-use Rattle.vtl_check.specs.Uses.{results_behind, with_new}
+use Rattle.vtl_backend.specs.Checked.{TypedScript, known_of, nodes_of, tree_of}
+use Rattle.vtl_backend.specs.Uses.{results_behind, with_new}
 use Rattle.vtl_meaning.specs.Meaning.{known_in}
 use Rattle.vtl_backend.specs.Inputs.{AreInputs, Holds, input_of, inputs_of, rows_named}
 use Rattle.vtl_interp.specs.Loaded.{IsInput}

@@ -1,11 +1,11 @@
 -- Each expression of a typed script is made over what is known where it stands.
 use Rattle.std.proofs.Common.{List, [], ◌∷◌}
-use Rattle.vtl_decimal.specs.Settings.{Settings}
+use Rattle.vtl_cell.specs.Settings.{Settings}
 use Rattle.vtl_syntax.specs.Trees as tree
 use Rattle.vtl_syntax.specs.Trees.{ScriptTree}
 use Rattle.vtl_tree.specs.Structures.{AreStructures, Named}
 use Rattle.vtl_nodes.specs.Trees.{NodeTree, structure_of}
-use Rattle.vtl_check.specs.Checked.{IsTyped, TypedScript, nodes_of, tree_of}
+use Rattle.vtl_backend.specs.Checked.{IsTyped, TypedScript, nodes_of, tree_of}
 use Rattle.vtl_meaning.specs.Made.{AreMadeStatements}
 use Rattle.check_laws.specs.Scripts.{AreMadeFrom}
 use Rattle.check_laws.proofs.Scripts.{script-made}

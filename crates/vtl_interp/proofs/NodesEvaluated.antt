@@ -4,8 +4,8 @@ use Rattle.std.specs.Prelude.{Box, option_map}
 use Rattle.std.specs.declared.alloc.Global.{Global}
 use Rattle.std.specs.Option.{option_map_or}
 use Rattle.std.specs.Map.{lookup}
-use Rattle.vtl_decimal.specs.Settings.{Settings}
-use Rattle.vtl_text.specs.declared.shared_text.Txt.{Txt}
+use Rattle.vtl_cell.specs.Settings.{Settings}
+use Rattle.vtl_cell.specs.shared_text.Txt.{Txt}
 use Rattle.vtl_cell.specs.declared.operator.ScalarOp.{ScalarOp}
 use Rattle.vtl_cell.specs.Outcome.{Outcome, after}
 use Rattle.vtl_cell.specs.Row.{Row}

@@ -2,7 +2,7 @@
 use Rattle.std.proofs.Common.{◌≡◌, ℕ, ◌+◌, ◌<◌, false, List, ◌∷◌, drop, get_or, length, map, Result, Err, sym, ap, subst, ◌∙◌}
 use Rattle.std.proofs.lemmas.List.{drop_more}
 use Rattle.std.specs.Map.{keys_of}
-use Rattle.vtl_decimal.specs.Settings.{Settings}
+use Rattle.vtl_cell.specs.Settings.{Settings}
 use Rattle.vtl_cell.specs.Outcome.{DivZero, Fault, Range}
 use Rattle.vtl_rows.specs.Named.{NamedTables}
 use Rattle.vtl_syntax.specs.View.{statement_tree}
@@ -15,7 +15,7 @@ use Rattle.vtl_nodes.specs.View.{node_tree}
 use Rattle.vtl_nodes.specs.declared.nodes.Node.{Node}
 use Rattle.vtl_meaning.specs.Meaning as meant
 use Rattle.vtl_meaning.specs.Meaning.{Outputs, meaning}
-use Rattle.vtl_check.specs.Script.{has_definitions}
+use Rattle.vtl_backend.specs.Script.{has_definitions}
 use Rattle.vtl_backend.specs.Statements.{with_nodes}
 use Rattle.vtl_backend.specs.declared.error.RunErr.{RunErr}
 use Rattle.vtl_backend.specs.declared.error.RunErr.TheVariants as run

@@ -10,7 +10,7 @@ use crate::held::Known;
 use crate::operators::{calc, choose, columns, filter, measures, pair, rename, sub};
 use crate::value::Value;
 use std::alloc::Global;
-use vtl_decimal::Profile;
+use vtl_cell::Profile;
 use vtl_nodes::{Node, NodeForm};
 use vtl_scalar::ScalarErr;
 

@@ -17,3 +17,4 @@ mod statements;
 mod value;
 
 pub use interp::Interp;
+pub use vtl_backend::{Backend, CheckErr, Checked, RunErr, check, defines_rulesets, is_built};

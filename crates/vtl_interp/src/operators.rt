@@ -11,8 +11,7 @@ ghost use Rattle.vtl_interp.specs.Values.{value_view};
 
 use crate::value::Value;
 use std::alloc::Global;
-use vtl_cell::ScalarOp;
-use vtl_decimal::Profile;
+use vtl_cell::{Profile, ScalarOp};
 use vtl_nodes::{CalcItem, MeasureOp, SubItem};
 use vtl_scalar::ScalarErr;
 use vtl_tree::{CompExpr, Structure, share_structure};
@@ -29,7 +28,7 @@ pub fn measures<'a>(
     ensures { AnswersBy value_view result (with_structure made.now (measured_of p.now (measure_tree op.now) (value_view a.entry).structure made.now (value_view a.entry).points)) }
 {
     let made = share_structure(alloc, made)?;
-    Ok(Value::Made(vtl_expr::map_measures(alloc, op, a.data(), made, p)?))
+    Ok(Value::Made(vtl_clause::map_measures(alloc, op, a.data(), made, p)?))
 }
 
 /// An operator on the measures of two data sets.
@@ -45,7 +44,7 @@ pub fn pair<'a>(
     ensures { AnswersBy value_view result (with_structure made.now (pair_of p.now op (value_view a.entry).structure (value_view b.entry).structure made.now (value_view a.entry).points (value_view b.entry).points)) }
 {
     let made = share_structure(alloc, made)?;
-    Ok(Value::Made(vtl_expr::pair_measures(alloc, op, a.data(), b.data(), made, p)?))
+    Ok(Value::Made(vtl_clause::pair_measures(alloc, op, a.data(), b.data(), made, p)?))
 }
 
 /// `if`
@@ -60,7 +59,7 @@ pub fn choose<'a>(
     ensures { AnswersBy value_view result (Ok (data_set made.now (choice_of (value_view condition.entry).structure (value_view a.entry).structure (value_view b.entry).structure made.now (value_view condition.entry).points (value_view a.entry).points (value_view b.entry).points))) }
 {
     let made = share_structure(alloc, made)?;
-    Ok(Value::Made(vtl_expr::choose(alloc, condition.data(), a.data(), b.data(), made)?))
+    Ok(Value::Made(vtl_clause::choose(alloc, condition.data(), a.data(), b.data(), made)?))
 }
 
 /// Some of the columns: `keep`, `drop` and `a#m`.
@@ -69,7 +68,7 @@ pub fn columns<'a>(alloc: Global, a: Value<'a>, made: &Structure) -> Result<Valu
     ensures { AnswersBy value_view result (Ok (data_set made.now (left_of (value_view a.entry).structure made.now (value_view a.entry).points))) }
 {
     let made = share_structure(alloc, made)?;
-    Ok(Value::Made(vtl_expr::keep_columns(alloc, a.data(), made)?))
+    Ok(Value::Made(vtl_clause::keep_columns(alloc, a.data(), made)?))
 }
 
 /// `filter`

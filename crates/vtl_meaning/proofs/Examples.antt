@@ -1,8 +1,8 @@
 -- What the definitions give for single data sets.
 use Rattle.std.proofs.Common.{◌≡◌, ℕ, pos, negsuc, true, false, List, [], ◌∷◌, None, Ok, Err, refl}
 use Rattle.std.specs.Prelude.{codes}
-use Rattle.vtl_decimal.specs.Settings.{Settings}
-use Rattle.vtl_decimal.specs.declared.settings.Rounding.TheVariants.{HalfUp}
+use Rattle.vtl_cell.specs.Settings.{Settings}
+use Rattle.vtl_cell.specs.settings.Rounding.TheVariants.{HalfUp}
 use Rattle.vtl_cell.specs.declared.cell.Cell.{Cell}
 use Rattle.vtl_cell.specs.declared.cell.Cell.TheVariants.{Null, Int, Text}
 use Rattle.vtl_cell.specs.declared.cell.Cell.TheVariants as c

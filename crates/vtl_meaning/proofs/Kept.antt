@@ -5,9 +5,9 @@ use Rattle.std.specs.Map.{lookup}
 use Rattle.std.specs.Option.{option_map_or}
 use Rattle.std.proofs.lemmas.Bool.{and_parts}
 use Rattle.std.proofs.lemmas.List.{length-map, map-append, take-append-le}
-use Rattle.vtl_decimal.specs.Settings.{Settings}
-use Rattle.vtl_lists.proofs.Aparts.{all_apart-filter}
-use Rattle.vtl_lists.proofs.Sorts.{AllByRecursion-filter}
+use Rattle.vtl_cell.specs.Settings.{Settings}
+use Rattle.vtl_cell.proofs.Aparts.{all_apart-filter}
+use Rattle.vtl_cell.proofs.Sorts.{AllByRecursion-filter}
 use Rattle.vtl_cell.specs.Kinds.{is_null}
 use Rattle.vtl_cell.specs.Order.{same_cell}
 use Rattle.vtl_cell.specs.Outcome.{Fault, Outcome, after, faults_by, unless}

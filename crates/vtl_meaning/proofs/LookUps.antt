@@ -5,8 +5,8 @@ use Rattle.std.specs.List.{AllByRecursion, filter, flat_map, list_all, list_any}
 use Rattle.std.specs.Option.{option_and_then, option_map_or, option_to_list}
 use Rattle.std.proofs.lemmas.Bool.{and_parts, cases_lt}
 use Rattle.std.proofs.lemmas.List.{get_or-append-add, get_or_append_left, get_or_past, append-nil, get_or-take, length-map, length-take-le, map-append, take-append-le, take_all}
-use Rattle.vtl_decimal.specs.Settings.{Settings}
-use Rattle.vtl_lists.proofs.Sorts.{AllByRecursion-filter}
+use Rattle.vtl_cell.specs.Settings.{Settings}
+use Rattle.vtl_cell.proofs.Sorts.{AllByRecursion-filter}
 use Rattle.vtl_cell.specs.Kinds.{is_of, same_kind}
 use Rattle.vtl_cell.specs.Order.{same_cell}
 use Rattle.vtl_cell.specs.Outcome.{faults_by}

@@ -4,9 +4,9 @@ use Rattle.std.specs.Prelude.{option_map}
 use Rattle.std.specs.List.{filter, list_all}
 use Rattle.std.specs.Option.{option_map_or, option_to_list}
 use Rattle.std.proofs.lemmas.Bool.{and_parts}
-use Rattle.vtl_decimal.specs.Settings.{Settings}
-use Rattle.vtl_lists.specs.Perm.{Perm, empty, chain}
-use Rattle.vtl_lists.proofs.Perms.{Perm-filter, Perm-flat_map, Perm-flat_map_each, Perm-map, Perm-same}
+use Rattle.vtl_cell.specs.Settings.{Settings}
+use Rattle.vtl_cell.specs.Perm.{Perm, empty, chain}
+use Rattle.vtl_cell.proofs.Perms.{Perm-filter, Perm-flat_map, Perm-flat_map_each, Perm-map, Perm-same}
 use Rattle.vtl_cell.specs.Outcome.{Fault, Outcome, after, fault_in, faults_by}
 use Rattle.vtl_cell.specs.Row.{Row}
 use Rattle.vtl_cell.specs.declared.operator.ScalarOp.{ScalarOp}

@@ -2,7 +2,7 @@
 use Rattle.std.specs.Prelude.{Ok, Err, List, ◌++◌, map, Option, option_map}
 use Rattle.std.specs.List.{flat_map}
 use Rattle.std.specs.Option.{option_to_list}
-use Rattle.vtl_decimal.specs.Settings.{Settings}
+use Rattle.vtl_cell.specs.Settings.{Settings}
 use Rattle.vtl_cell.specs.declared.cell.Cell.{Cell}
 use Rattle.vtl_cell.specs.declared.cell.Cell.TheVariants as c
 use Rattle.vtl_cell.specs.Outcome.{Fault, Outcome, fault_in, faults_by, unless}

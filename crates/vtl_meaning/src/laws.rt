@@ -2,8 +2,8 @@
 ghost use Rattle.std.specs.Prelude.{◌≡◌, [], ◌∷◌, ◌++◌, IfOk, List, Ok, Some, cond, false, length, map, option_map, true};
 ghost use Rattle.std.specs.List.{list_all};
 ghost use Rattle.std.specs.Option.{option_and_then};
-ghost use Rattle.vtl_decimal.specs.Settings.{Settings};
-ghost use Rattle.vtl_lists.specs.Perm.{Perm};
+ghost use Rattle.vtl_cell.specs.Settings.{Settings};
+ghost use Rattle.vtl_cell.specs.Perm.{Perm};
 ghost use Rattle.vtl_cell.specs.Kinds.{is_of};
 ghost use Rattle.vtl_cell.specs.Row.{Row};
 ghost use Rattle.vtl_cell.specs.declared.operator.ScalarOp.{ScalarOp};

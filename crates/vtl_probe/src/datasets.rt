@@ -45,10 +45,16 @@ fn read(
 {
     match read_dataset(alloc, text, structure, profile) {
         Ok(table) => written(alloc, &table, structure, profile),
-        Err(InputErr::Fault { line, column, kind }) => Ok(format!(in alloc;
+        Err(error) => fault(alloc, error),
+    }
+}
+
+fn fault(alloc: Global, error: InputErr) -> Result<String, CaseErr> {
+    match error {
+        InputErr::Fault { line, column, kind } => Ok(format!(in alloc;
             "line {line} column {column} {kind:?}"
         )?),
-        Err(InputErr::OutOfMemory) => Err(CaseErr::OutOfMemory),
+        InputErr::OutOfMemory => Err(CaseErr::OutOfMemory),
     }
 }
 
@@ -60,14 +66,25 @@ fn written(
 ) -> Result<String, CaseErr>
     requires { IsTableOf structure.now table.now }
 {
-    let text = text_of(write_dataset(alloc, table, structure, profile)?)?;
-    Ok(escaped(alloc, &text)?)
+    escaped(alloc, file(alloc, table, structure, profile)?)
+}
+
+// The bytes that are written, without what is promised of them.
+fn file(
+    alloc: Global,
+    table: &Table,
+    structure: &Structure,
+    profile: &Profile,
+) -> Result<Vec<u8>, AllocError>
+    requires { IsTableOf structure.now table.now }
+{
+    write_dataset(alloc, table, structure, profile)
 }
 
 // A carriage return and a `\` are escaped, as in the answers of the table.
-fn escaped(alloc: Global, text: &str) -> Result<String, AllocError> {
+fn escaped(alloc: Global, bytes: Vec<u8>) -> Result<String, CaseErr> {
     let mut out = String::new(alloc);
-    for c in text.chars() {
+    for c in text_of(bytes)?.chars() {
         match c {
             '\r' => out.push_str("\\x0D")?,
             '\\' => out.push_str("\\x5C")?,
@@ -83,17 +100,17 @@ fn bytes(alloc: Global, text: &str) -> Result<Vec<u8>, CaseErr> {
     let mut parts = text.split("\\");
     out.extend_from_slice(parts.next().unwrap_or("").as_bytes())?;
     for part in parts {
-        let Some((byte, rest)) = escaped_byte(part) else {
+        let Some(byte) = escaped_byte(part) else {
             return Err(CaseErr::Escape);
         };
         out.push(byte)?;
-        out.extend_from_slice(rest.as_bytes())?;
+        out.extend_from_slice(part.as_bytes().get(3..).unwrap_or(&[]))?;
     }
     Ok(out)
 }
 
-// The byte that stands behind a `\`, and what follows.
-fn escaped_byte(part: &str) -> Option<(u8, &str)> {
-    let (digits, rest) = part.strip_prefix("x")?.split_at_checked(2)?;
-    Some((u8::from_str_radix(digits, 16).ok()?, rest))
+// The byte that `xHH` at the front stands for.
+fn escaped_byte(part: &str) -> Option<u8> {
+    let digits = part.strip_prefix("x")?.get(..2)?;
+    u8::from_str_radix(digits, 16).ok()
 }

@@ -12,6 +12,7 @@ mod notation;
 mod operands;
 mod order;
 mod parts;
+mod refusals;
 mod report;
 mod rows;
 mod runs;

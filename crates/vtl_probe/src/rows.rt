@@ -27,12 +27,10 @@ impl<'a> Row<'a> {
 
     // The fields from a place on, with commas between them.
     pub(crate) fn from(&self, alloc: Global, place: usize) -> Result<String, AllocError> {
-        let mut out = String::new(alloc);
-        for (at, field) in self.fields.iter().skip(place).enumerate() {
-            if at > 0 {
-                out.push_str(",")?;
-            }
-            out.push_str(field)?;
+        let mut out = String::from_str(alloc, self.field(place))?;
+        for other in place.saturating_add(1)..self.fields.len() {
+            out.push_str(",")?;
+            out.push_str(self.field(other))?;
         }
         Ok(out)
     }

@@ -2,9 +2,9 @@
 use crate::lines::Lines;
 use crate::report::Report;
 use crate::rows::Row;
-use crate::sql;
 use crate::tree::script;
 use crate::trouble::CaseErr;
+use crate::{refusals, sql};
 use std::alloc::{AllocError, Global};
 use vtl_parser::{ParseErr, parse};
 use vtl_syntax::Script;
@@ -40,7 +40,7 @@ enum Answer {
     Fault { done: usize, byte: usize },
 }
 
-// The one owner of trees. The script is told by its tree, or by the number of its statements.
+// The one owner of trees. The script is told by its tree, or by the number of its statements and a comma.
 fn read(alloc: Global, text: &str, with_tree: bool) -> Result<Answer, AllocError> {
     match parse(alloc, text) {
         Ok(found) => Ok(Answer::Script(told(alloc, &found, with_tree)?)),
@@ -50,12 +50,16 @@ fn read(alloc: Global, text: &str, with_tree: bool) -> Result<Answer, AllocError
 }
 
 fn told(alloc: Global, found: &Script, with_tree: bool) -> Result<String, AllocError> {
-    let mut lines = Lines::new(alloc);
     if with_tree {
-        script(&mut lines, found);
+        tree(alloc, found)
     } else {
-        lines.word(&found.statements.as_slice().len());
+        format!(in alloc; "{},", found.statements.as_slice().len())
     }
+}
+
+fn tree(alloc: Global, found: &Script) -> Result<String, AllocError> {
+    let mut lines = Lines::new(alloc);
+    script(&mut lines, found);
     lines.into_text()
 }
 
@@ -64,7 +68,8 @@ pub(crate) fn printed(alloc: Global, text: &str) -> Result<Report, AllocError> {
     match read(alloc, text, true)? {
         Answer::Script(text) => Ok(Report { text, code: 0 }),
         Answer::Fault { done, byte } => {
-            let text = format!(in alloc; "error: syntax after {done} statements at byte {byte}\n")?;
+            let mut text = refusals::syntax(alloc, done, byte)?;
+            text.push('\n')?;
             Ok(Report { text, code: 1 })
         }
     }
@@ -72,10 +77,10 @@ pub(crate) fn printed(alloc: Global, text: &str) -> Result<Report, AllocError> {
 
 // The number of statements, a comma, and the byte of the fault where there is one.
 fn outcome(alloc: Global, text: &str) -> Result<String, AllocError> {
-    Ok(match read(alloc, text, false)? {
-        Answer::Script(count) => format!(in alloc; "{},", count.trim_end())?,
-        Answer::Fault { done, byte } => format!(in alloc; "{done},{byte}")?,
-    })
+    match read(alloc, text, false)? {
+        Answer::Script(count) => Ok(count),
+        Answer::Fault { done, byte } => format!(in alloc; "{done},{byte}"),
+    }
 }
 
 // Nothing where the nest is a statement at the most levels, and a fault of its first byte beyond.
@@ -85,27 +90,49 @@ pub(crate) fn nested(alloc: Global, language: Language, row: &Row) -> Result<Str
     let mut out = String::new(alloc);
     for more in [0, 1, 2, 1000] {
         let wanted = if more == 0 { whole } else { broken };
-        let text = nest(alloc, row, most.saturating_add(more))?;
-        let found = language.outcome(alloc, &text)?;
-        if found.as_str() != wanted {
-            write!(out, "{found} at {more} more levels ")?;
-        }
+        judge_nest(
+            alloc,
+            language,
+            row,
+            most.saturating_add(more),
+            wanted,
+            &mut out,
+        )?;
     }
     Ok(out)
+}
+
+// Tells what a nest comes out as, where that is not what is wanted.
+fn judge_nest(
+    alloc: Global,
+    language: Language,
+    row: &Row,
+    levels: usize,
+    wanted: &str,
+    out: &mut String,
+) -> Result<(), AllocError> {
+    let found = language.outcome(alloc, &nest(alloc, row, levels)?)?;
+    if found.as_str() == wanted {
+        return Ok(());
+    }
+    write!(out, "{found} at {levels} levels ")
 }
 
 // A head, what opens a level, the middle, what closes a level, a tail.
 fn nest(alloc: Global, row: &Row, levels: usize) -> Result<String, AllocError> {
     let mut out = String::from_str(alloc, row.field(0))?;
-    for _ in 0..levels {
-        out.push_str(row.field(1))?;
-    }
+    push_times(&mut out, row.field(1), levels)?;
     out.push_str(row.field(2))?;
-    for _ in 0..levels {
-        out.push_str(row.field(3))?;
-    }
+    push_times(&mut out, row.field(3), levels)?;
     out.push_str(row.field(4))?;
     Ok(out)
+}
+
+fn push_times(out: &mut String, text: &str, times: usize) -> Result<(), AllocError> {
+    for _ in 0..times {
+        out.push_str(text)?;
+    }
+    Ok(())
 }
 
 // What the fronts of the script have in common whose sizes are in the row's range, ends included. No front ends within
@@ -116,18 +143,35 @@ pub(crate) fn fronts(
     script: &str,
     row: &Row,
 ) -> Result<String, CaseErr> {
-    let mut common: Option<String> = None;
+    let mut common = String::new(alloc);
     for size in row.size(0)?..=row.size(1)? {
         let Some(front) = script.get(..size) else {
             continue;
         };
-        let found = language.outcome(alloc, front)?;
-        match common {
-            Some(before) if before != found => {
-                return Ok(format!(in alloc; "{before} and then {found} at {size}")?);
-            }
-            _ => common = Some(found),
+        if !goes_on(alloc, language, front, &mut common)? {
+            break;
         }
     }
-    common.ok_or(CaseErr::Front)
+    if common.is_empty() {
+        return Err(CaseErr::Front);
+    }
+    Ok(common)
+}
+
+// Whether a front comes out as the ones before it; where it does not, that is told behind what they came out as.
+fn goes_on(
+    alloc: Global,
+    language: Language,
+    front: &str,
+    common: &mut String,
+) -> Result<bool, AllocError> {
+    let found = language.outcome(alloc, front)?;
+    if common.is_empty() {
+        common.push_str(&found)?;
+    }
+    if *common == found {
+        return Ok(true);
+    }
+    write!(common, " and then {found} at {}", front.len())?;
+    Ok(false)
 }

@@ -1,14 +1,15 @@
 // The typing of scripts.
 use crate::notation::{kind_word, profile};
+use crate::refusals;
 use crate::report::Report;
 use crate::rows::Row;
 use crate::structures::{push_codes, role_word};
 use crate::trouble::CaseErr;
 use std::alloc::{AllocError, Global};
-use vtl_check::{CheckErr, Checked, check, defines_rulesets};
-use vtl_csv::{StructErr, read_structures};
+use vtl_check::{Checked, check, defines_rulesets};
+use vtl_csv::read_structures;
 use vtl_decimal::Profile;
-use vtl_parser::{ParseErr, parse};
+use vtl_parser::parse;
 use vtl_syntax::Script;
 use vtl_tree::{Component, Structures};
 
@@ -21,11 +22,7 @@ fn answered(
 ) -> Result<Report, AllocError> {
     match parse(alloc, text) {
         Ok(script) => over_structures(alloc, &script, structures, profile),
-        Err(ParseErr::Syntax { done, byte }) => Ok(Report {
-            text: format!(in alloc; "error: syntax after {done} statements at byte {byte}")?,
-            code: 2,
-        }),
-        Err(ParseErr::OutOfMemory) => Err(AllocError),
+        Err(error) => refusals::of_text(alloc, error),
     }
 }
 
@@ -36,12 +33,21 @@ fn over_structures(
     profile: &Profile,
 ) -> Result<Report, AllocError> {
     match read_structures(alloc, structures.as_bytes()) {
-        Ok(structures) => typed(alloc, script, &structures, profile),
-        Err(StructErr::Structure { line, rule }) => Ok(Report {
-            text: format!(in alloc; "error: structures line {line} rule {rule}")?,
-            code: 2,
-        }),
-        Err(StructErr::OutOfMemory) => Err(AllocError),
+        Ok(structures) => with_structures(alloc, script, &structures, profile),
+        Err(error) => refusals::of_structures(alloc, error),
+    }
+}
+
+fn with_structures(
+    alloc: Global,
+    script: &Script,
+    structures: &Structures,
+    profile: &Profile,
+) -> Result<Report, AllocError> {
+    if defines_rulesets(script) {
+        refusals::of_rulesets(alloc)
+    } else {
+        typed(alloc, script, structures, profile)
     }
 }
 
@@ -51,34 +57,21 @@ fn typed(
     structures: &Structures,
     profile: &Profile,
 ) -> Result<Report, AllocError> {
-    if defines_rulesets(script) {
-        return Ok(Report {
-            text: String::from_str(alloc, "error: unbuilt: rulesets")?,
-            code: 8,
-        });
-    }
     match check(alloc, script, structures, profile) {
-        Ok(checked) => Ok(Report {
-            text: last_structure(alloc, &checked)?,
-            code: 0,
-        }),
-        Err(CheckErr::Mistyped { statement, rule }) => Ok(Report {
-            text: format!(in alloc; "error: type in statement {statement} rule {rule}")?,
-            code: 3,
-        }),
-        Err(CheckErr::OutOfMemory) => Err(AllocError),
+        Ok(checked) => last_structure(alloc, &checked),
+        Err(error) => refusals::of_types(alloc, error),
     }
 }
 
 // The structure of the last result, a component behind the other.
-fn last_structure(alloc: Global, checked: &Checked) -> Result<String, AllocError> {
-    let mut out = String::from_str(alloc, "typed")?;
+fn last_structure(alloc: Global, checked: &Checked) -> Result<Report, AllocError> {
+    let mut text = String::from_str(alloc, "typed")?;
     if let Some(node) = checked.nodes().last() {
         for component in node.structure.components.as_slice() {
-            push_component(alloc, &mut out, component)?;
+            push_component(alloc, &mut text, component)?;
         }
     }
-    Ok(out)
+    Ok(Report { text, code: 0 })
 }
 
 fn push_component(
@@ -113,15 +106,10 @@ pub(crate) fn printed(
     scale: &str,
 ) -> Result<Report, CaseErr> {
     let profile = profile(scale, "half_up")?;
-    let answer = answered(alloc, text, structures, &profile)?;
+    let mut answer = answered(alloc, text, structures, &profile)?;
     if answer.code == 0 {
-        return Ok(Report {
-            text: String::from_str(alloc, "typed\n")?,
-            code: 0,
-        });
+        answer.text = String::from_str(alloc, "typed")?;
     }
-    Ok(Report {
-        text: format!(in alloc; "{}\n", answer.text)?,
-        code: answer.code,
-    })
+    answer.text.push('\n')?;
+    Ok(answer)
 }

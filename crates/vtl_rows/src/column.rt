@@ -1,7 +1,6 @@
 // Columns, and the columns that rows are sorted by.
 
-use vtl_cell::Kind;
-use vtl_text::Txt;
+use vtl_cell::{Kind, Txt};
 
 /// A column of a table: its name, and the kind of its cells.
 #[derive(Debug)]

@@ -14,14 +14,14 @@ use Rattle.vtl_csv.specs.InputFile.{Fault, dataset_rows}
 use Rattle.vtl_csv.specs.StructuresFile.{Fault as StructuresFault, structures_of_file}
 use Rattle.vtl_nodes.specs.Trees.{NodeTree}
 use Rattle.vtl_meaning.specs.Meaning.{Outputs, is_built}
-use Rattle.vtl_check.specs.Checked.{env_over}
-use Rattle.vtl_check.specs.Script.{has_definitions, script_typed}
-use Rattle.vtl_check.specs.Uses.{reads}
+use Rattle.vtl_interp.specs.Checked.{env_over}
+use Rattle.vtl_interp.specs.Script.{has_definitions, script_typed}
+use Rattle.vtl_interp.specs.Uses.{reads}
 use Rattle.vtl_top.specs.Expected.{Typed, csv_limit, dataset_step, fault_status, input_path, inputs_step, meant, one_more_step, outputs_of, points_or_fault, read, run_step, script_in, script_limit, script_of, script_step, sized, structures_limit, structures_step, typed_by, typed_or_fault, typed_step, typing_of, unbuilt, with_points}
 use Rattle.vtl_top.specs.Meant.{IsFaulted, IsMistyped, IsRead, IsReady}
 use Rattle.std.specs.Option.{IfSome}
 use Rattle.vtl_files.specs.declared.files.Files.{Ghosts}
-use Rattle.vtl_check.specs.Checked.{TypedScript}
+use Rattle.vtl_interp.specs.Checked.{TypedScript}
 use Rattle.vtl_top.specs.Answered.{Takes}
 use Rattle.vtl_top.specs.Informed.{HasRun, IsTold, TellsRun}
 use Rattle.vtl_top.proofs.StepLemmas.{if_some_map}
@@ -29,8 +29,8 @@ use Rattle.vtl_top.specs.ScriptFile.{Parsed, faulty, no_text, whole}
 use Rattle.vtl_top.specs.Steps.{Behind, Held, Step, ◌>>=◌, refused_if, settled}
 use Rattle.vtl_top.specs.Structures.{declared, structures_in}
 use Rattle.vtl_top.specs.Words.{Run, Source}
-use Rattle.vtl_top.specs.declared.status.Status.{Status}
-use Rattle.vtl_top.specs.declared.status.Status.TheVariants as st
+use Rattle.vtl_status.specs.declared.status.Status.{Status}
+use Rattle.vtl_status.specs.declared.status.Status.TheVariants as st
 use Rattle.vtl_top.proofs.MeantLemmas.{after_built, after_plain, after_script, after_structures, after_typing, passes, ready_from, ready_gives, script_there, source_from}
 
 -- where a status comes from: typing, evaluation, or the files and the form of the script

@@ -10,9 +10,9 @@ use Rattle.vtl_csv.specs.InputFile.{Fault, Reads}
 use Rattle.vtl_csv.specs.declared.input.InputErr.{InputErr}
 use Rattle.vtl_csv.specs.declared.input.InputErr.TheVariants as input
 use Rattle.vtl_meaning.specs.Meaning.{Outputs, is_built, meaning}
-use Rattle.vtl_backend.specs.Runs.{Tells}
-use Rattle.vtl_backend.specs.declared.error.RunErr.{RunErr}
-use Rattle.vtl_backend.specs.declared.error.RunErr.TheVariants as run
+use Rattle.vtl_interp.specs.Runs.{Tells}
+use Rattle.vtl_interp.specs.error.RunErr.{RunErr}
+use Rattle.vtl_interp.specs.error.RunErr.TheVariants as run
 use Rattle.vtl_top.specs.Answered.{Came, Takes}
 use Rattle.std.specs.Prelude.{IfOk, IsErrAnd, map}
 use Rattle.vtl_syntax.specs.declared.statements.Statement.{Statement}
@@ -22,11 +22,11 @@ use Rattle.vtl_syntax.specs.Trees.{ScriptTree}
 use Rattle.vtl_syntax.specs.View.{script_tree, statement_tree}
 use Rattle.vtl_syntax.specs.declared.statements.Script.{Script}
 use Rattle.vtl_tree.specs.Structures.{Named}
-use Rattle.vtl_check.specs.Checked.{TypedScript, nodes_of, tree_of}
-use Rattle.vtl_check.specs.Script.{has_definitions}
-use Rattle.vtl_backend.specs.Inputs.{environment_of, inputs_of}
-use Rattle.vtl_backend.specs.Runs.{script_meaning}
-use Rattle.vtl_backend.specs.Statements.{statements_of}
+use Rattle.vtl_interp.specs.Checked.{TypedScript, nodes_of, tree_of}
+use Rattle.vtl_interp.specs.Script.{has_definitions}
+use Rattle.vtl_interp.specs.Inputs.{environment_of, inputs_of}
+use Rattle.vtl_interp.specs.Runs.{script_meaning}
+use Rattle.vtl_interp.specs.Statements.{statements_of}
 use Rattle.vtl_top.specs.Expected.{Typed, fault_status, inputs_step, meant, outputs_of, points_or_fault, run_step, script_step, structures_step, typed_by, typed_step, typing_of, unbuilt}
 use Rattle.vtl_top.specs.InputsRead.{rows_in}
 use Rattle.vtl_top.specs.Kinds.{refused, told_by}
@@ -34,8 +34,8 @@ use Rattle.vtl_top.specs.Refusal.{IsOrMemory, IsTableRead, SettlesBy, faulted, i
 use Rattle.vtl_top.specs.Steps.{File, Made, Step, ◌>>=◌, refused_if, settled}
 use Rattle.vtl_top.specs.Informed.{HasRun, typed_view}
 use Rattle.vtl_top.specs.Words.{Run, Source}
-use Rattle.vtl_top.specs.declared.status.Status.{Status}
-use Rattle.vtl_top.specs.declared.status.Status.TheVariants as st
+use Rattle.vtl_status.specs.declared.status.Status.{Status}
+use Rattle.vtl_status.specs.declared.status.Status.TheVariants as st
 use Rattle.vtl_top.proofs.ReadScripts.{if_some_all, settled_given, typing_given}
 use Rattle.vtl_top.proofs.StepLemmas.{nothing_read, takes_onward, takes_stopped}
 use Rattle.vtl_top.proofs.MeantLemmas.{after_built, after_plain, after_script, after_structures, after_typing}

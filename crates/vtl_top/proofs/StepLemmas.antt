@@ -3,12 +3,12 @@ use Rattle.std.proofs.Common.{◌≡◌, ◌≤◌, inl, inr, ℕ, false, List, 
 use Rattle.std.specs.Option.{IfSome}
 use Rattle.vtl_files.specs.Outside.{Rose}
 use Rattle.vtl_files.specs.declared.files.Files.{Ghosts}
-use Rattle.vtl_top.specs.declared.status.Status.{Status}
-use Rattle.vtl_top.specs.declared.status.Status.TheVariants as st
+use Rattle.vtl_status.specs.declared.status.Status.{Status}
+use Rattle.vtl_status.specs.declared.status.Status.TheVariants as st
 use Rattle.vtl_top.specs.Kinds.{Told, done, no_command, refused, absent, read_fault, write_fault, no_memory, told_by}
 use Rattle.vtl_top.specs.Steps.{File, Made, Step, ◌>>=◌}
 use Rattle.vtl_files.specs.declared.sink.Sink.{Ghosts as Sinks}
-use Rattle.vtl_check.specs.Checked.{TypedScript}
+use Rattle.vtl_interp.specs.Checked.{TypedScript}
 use Rattle.vtl_top.specs.Answered.{Adds, AddsUpTo, Came, EndsAs, Faulted, Gives, GivesOut, IsMadeBy, OnlyReads, Stops, Takes, Unsaid, WritesAs}
 use Rattle.vtl_top.specs.Expected.{asked_step, typed_step}
 use Rattle.vtl_top.specs.Informed.{HasRun, Informs, IsTold, TellsRun, typed_view}

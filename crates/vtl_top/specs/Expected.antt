@@ -8,20 +8,20 @@ use Rattle.vtl_tree.specs.Environment.{DataSet, Environment}
 use Rattle.vtl_tree.specs.Structures.{Named}
 use Rattle.vtl_nodes.specs.Trees.{NodeTree}
 use Rattle.vtl_meaning.specs.Meaning.{Outputs, is_built, meaning}
-use Rattle.vtl_backend.specs.Statements.{with_nodes}
+use Rattle.vtl_interp.specs.Statements.{with_nodes}
 use Rattle.std.specs.List.{list_all}
 use Rattle.vtl_tree.specs.declared.structure.Structure.{Structure}
 use Rattle.vtl_csv.specs.CsvText.{csv_of}
 use Rattle.vtl_csv.specs.InputFile.{Fault, dataset_rows}
-use Rattle.vtl_check.specs.Checked.{env_over}
-use Rattle.vtl_check.specs.Script.{has_definitions, script_typed}
-use Rattle.vtl_check.specs.Uses.{reads}
+use Rattle.vtl_interp.specs.Checked.{env_over}
+use Rattle.vtl_interp.specs.Script.{has_definitions, script_typed}
+use Rattle.vtl_interp.specs.Uses.{reads}
 use Rattle.vtl_top.specs.ScriptFile.{IsParsed, Parsed, faulty, no_text, whole}
 use Rattle.vtl_top.specs.Steps.{File, Held, Made, Name, Path, Step, Text, ◌>>=◌, only_files, refused_if, settled}
 use Rattle.vtl_top.specs.Structures.{structures_in}
 use Rattle.vtl_top.specs.Words.{Command, Run, Source, run}
-use Rattle.vtl_top.specs.declared.status.Status.{Status}
-use Rattle.vtl_top.specs.declared.status.Status.TheVariants as st
+use Rattle.vtl_status.specs.declared.status.Status.{Status}
+use Rattle.vtl_status.specs.declared.status.Status.TheVariants as st
 
 -- the file of a data set in a folder
 abbrev pub file_in : Path → Name → Path

@@ -1,12 +1,12 @@
 -- What a back end was told of the script that is run.
 use Rattle.std.specs.Prelude.{◌≡◌, ⊤, Option, None, Some, Ok, IfSome}
 use Rattle.vtl_files.specs.declared.files.Files.{Ghosts}
-use Rattle.vtl_check.specs.Checked.{TypedScript, nodes_of, tree_of}
+use Rattle.vtl_interp.specs.Checked.{TypedScript, nodes_of, tree_of}
 use Rattle.vtl_top.specs.Expected.{Typed, typed_by, typed_step}
 use Rattle.vtl_top.specs.Steps.{Held}
 use Rattle.vtl_top.specs.Words.{Command, Source, run}
-use Rattle.vtl_top.specs.declared.status.Status.{Status}
-use Rattle.vtl_top.specs.declared.status.Status.TheVariants as st
+use Rattle.vtl_status.specs.declared.status.Status.{Status}
+use Rattle.vtl_status.specs.declared.status.Status.TheVariants as st
 
 -- a status that comes of evaluating the script: it was carried out, or has a fault
 abbrev pub HasRun : Status → Type 0

@@ -4,7 +4,7 @@ ghost use Rattle.vtl_rows.specs.Named.{table_of};
 ghost use Rattle.vtl_tree.specs.Structures.{is_declarable};
 ghost use Rattle.vtl_sets.specs.TableOf.{IsTableOf};
 ghost use Rattle.vtl_csv.specs.InputFile.{dataset_rows};
-ghost use Rattle.vtl_backend.specs.Inputs.{AreInputs, environment_of, inputs_of, rows_named};
+ghost use Rattle.vtl_interp.specs.Inputs.{AreInputs, environment_of, inputs_of, rows_named};
 ghost use Rattle.vtl_top.specs.Answered.{Takes};
 ghost use Rattle.vtl_top.specs.Expected.{dataset_step, inputs_step};
 ghost use Rattle.vtl_top.specs.InputsRead.{Adds, rows_in};
@@ -13,14 +13,14 @@ ghost use Rattle.vtl_top.specs.RunView.{run_view};
 
 use crate::reading::{file_in, read_file};
 use crate::refusal::input_refusal;
-use crate::status::Status;
 use crate::words::Run;
 use std::alloc::Global;
-use vtl_check::Checked;
 use vtl_csv::read_dataset;
 use vtl_decimal::Profile;
 use vtl_files::Files;
+use vtl_interp::Checked;
 use vtl_rows::{Table, Tables};
+use vtl_status::Status;
 use vtl_text::Txt;
 use vtl_tree::Structure;
 

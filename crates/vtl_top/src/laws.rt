@@ -12,7 +12,7 @@ ghost use Rattle.vtl_top.specs.Expected.{asked_step, fault_status, run_step};
 ghost use Rattle.vtl_top.specs.Meant.{IsFaulted, IsMeant, IsMistyped};
 ghost use Rattle.vtl_top.specs.Steps.{File, Held, Made, Name, Text, status_of};
 ghost use Rattle.vtl_top.specs.Words.{Command, Run, run};
-ghost use Rattle.vtl_top.specs.declared.status.Status.{Status};
+ghost use Rattle.vtl_status.specs.declared.status.Status.{Status};
 
 use vtl_files::{Files, Sink};
 

@@ -12,7 +12,7 @@ use Rattle.std.specs.Cmp.Lexicographic.{nat_list_eq_equiv}
 use Rattle.indexmap.specs.IndexMap.{insert_entry}
 use Rattle.indexmap.specs.IndexSet.{insert_key}
 use Rattle.std.proofs.lemmas.List.{take_more}
-use Rattle.vtl_lists.specs.Apart.{all_apart}
+use Rattle.vtl_cell.specs.Apart.{all_apart}
 use Rattle.vtl_tree.specs.declared.structure.Component.{Component}
 use Rattle.vtl_tree.specs.declared.structure.Structure.{Structure}
 use Rattle.vtl_text.proofs.Apart.{apart_push}

@@ -1,6 +1,6 @@
 -- The clauses on data sets, as functions on lists of points.
 use Rattle.std.specs.Prelude.{Bool, false, Ok, List, filter}
-use Rattle.vtl_decimal.specs.Settings.{Settings}
+use Rattle.vtl_cell.specs.Settings.{Settings}
 use Rattle.vtl_cell.specs.declared.cell.Cell.{Cell}
 use Rattle.vtl_cell.specs.declared.cell.Cell.TheVariants as c
 use Rattle.vtl_cell.specs.Row.{Row}

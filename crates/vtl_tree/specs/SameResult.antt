@@ -1,6 +1,6 @@
 -- Results up to order.
 use Rattle.std.specs.Prelude.{◌≡◌, Ok, Err, List}
-use Rattle.vtl_lists.specs.Perm.{Perm}
+use Rattle.vtl_cell.specs.Perm.{Perm}
 use Rattle.vtl_cell.specs.Outcome.{Outcome}
 
 -- the same points up to order, or the same fault

@@ -1,6 +1,6 @@
 use Rattle.std.proofs.Common.{length, map, sym, ap, subst, ◌∙◌}
 use Rattle.vtl_syntax.specs.View.{statement_tree}
-use Rattle.vtl_check.specs.Script.{has_definitions}
+use Rattle.vtl_backend.specs.Script.{has_definitions}
 use Rattle.vtl_interp.specs.Results.{ShownBy}
 use Rattle.vtl_interp.proofs.MadeStatements.{statements_made}
 use Rattle.vtl_interp.proofs.Scripts.{all_assignments}

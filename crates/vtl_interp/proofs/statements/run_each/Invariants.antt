@@ -3,7 +3,7 @@ use Rattle.std.specs.Map.{keys_of}
 use Rattle.vtl_syntax.specs.View.{statement_tree}
 use Rattle.vtl_nodes.specs.View.{node_tree}
 use Rattle.vtl_meaning.specs.Meaning.{meaning}
-use Rattle.vtl_check.specs.Script.{has_definitions}
+use Rattle.vtl_backend.specs.Script.{has_definitions}
 use Rattle.vtl_backend.specs.Statements.{with_nodes}
 use Rattle.vtl_interp.specs.Reads.{AreRead}
 use Rattle.vtl_interp.specs.Results.{AreReady, Remain}

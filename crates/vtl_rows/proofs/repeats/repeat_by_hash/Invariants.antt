@@ -1,5 +1,5 @@
 use Rattle.std.proofs.Common.{◌≡◌, true, take}
-use Rattle.vtl_lists.specs.Apart.{all_apart}
+use Rattle.vtl_cell.specs.Apart.{all_apart}
 use Rattle.vtl_rows.specs.Keys.{tie_by}
 use Rattle.vtl_rows.specs.Seen.{Covers}
 use Rattle.vtl_rows.proofs.repeats.repeat_by_hash.Given as goal

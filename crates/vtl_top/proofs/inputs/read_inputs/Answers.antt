@@ -2,8 +2,8 @@ use Rattle.std.proofs.Common.{◌+◌, ℕ, List, drop, map, take, Ok, Err, arit
 use Rattle.std.proofs.lemmas.List.{drop_all, take_all}
 use Rattle.vtl_tree.specs.Structures.{Named}
 use Rattle.vtl_tree.specs.declared.structure.Structure.{Structure}
-use Rattle.vtl_check.specs.Checked.{nodes_of}
-use Rattle.vtl_backend.specs.Inputs.{environment_of, input_of, inputs_of, rows_named}
+use Rattle.vtl_interp.specs.Checked.{nodes_of}
+use Rattle.vtl_interp.specs.Inputs.{environment_of, input_of, inputs_of, rows_named}
 use Rattle.vtl_top.specs.Answered.{Takes}
 use Rattle.vtl_top.specs.Expected.{dataset_step, inputs_step, one_more_step, with_points}
 use Rattle.vtl_top.specs.RunView.{run_view}

@@ -1,8 +1,8 @@
 use Rattle.std.proofs.Common.{ap, ◌∙◌, sym, if◌then◌else◌, None, Some}
 use Rattle.std.specs.Map.{keys_of}
 use Rattle.std.specs.Prelude.{zip}
-use Rattle.vtl_lists.specs.Apart.{all_apart}
-use Rattle.vtl_text.specs.Texts.{same_text}
+use Rattle.vtl_cell.specs.Apart.{all_apart}
+use Rattle.vtl_cell.specs.Texts.{same_text}
 use Rattle.sql_check_parts.specs.Scopes.{is_among, repeats}
 use Rattle.sql_check_parts.proofs.Maps.{entries_whole, entry_taken, keys_all, new_name, not_repeated}
 use Rattle.sql_check_parts.proofs.columns.Columns.of.Goals as goal

@@ -1,7 +1,7 @@
 use Rattle.std.proofs.Common.{◌++◌, ◌∷◌, [], ap, ◌∙◌}
 use Rattle.std.specs.Map.{keys_of}
 use Rattle.indexmap.specs.IndexMap.{insert_entry}
-use Rattle.vtl_text.specs.Texts.{same_text}
+use Rattle.vtl_cell.specs.Texts.{same_text}
 use Rattle.sql_check_parts.specs.Scopes.{is_among}
 use Rattle.sql_check_parts.proofs.Maps.{insert_new}
 use Rattle.sql_check_parts.proofs.columns.Columns.put.Goals as goal

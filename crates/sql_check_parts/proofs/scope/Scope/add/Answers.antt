@@ -2,7 +2,7 @@ use Rattle.std.proofs.Common.{◌++◌, ◌∷◌, [], map, if◌then◌else◌,
 use Rattle.std.specs.Option.{option_copied}
 use Rattle.std.specs.Map.{keys_of}
 use Rattle.indexmap.specs.IndexMap.{insert_entry}
-use Rattle.vtl_text.specs.Texts.{same_text}
+use Rattle.vtl_cell.specs.Texts.{same_text}
 use Rattle.sql_check_parts.specs.Scopes.{add_source, is_among}
 use Rattle.sql_check_parts.proofs.Maps.{insert_mapped, with_value}
 use Rattle.sql_check_parts.proofs.scope.Scope.add.Goals as goal
