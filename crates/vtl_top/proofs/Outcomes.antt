@@ -8,21 +8,21 @@ use Rattle.vtl_tree.specs.Environment.{Environment}
 use Rattle.vtl_tree.specs.Structures.{Named}
 use Rattle.vtl_tree.specs.declared.structure.Structure.{Structure}
 use Rattle.vtl_csv.specs.InputFile.{dataset_rows}
-use Rattle.vtl_check.specs.Script.{has_definitions}
-use Rattle.vtl_check.specs.Uses.{reads}
+use Rattle.vtl_interp.specs.Script.{has_definitions}
+use Rattle.vtl_interp.specs.Uses.{reads}
 use Rattle.vtl_meaning.specs.Meaning.{is_built}
 use Rattle.vtl_top.specs.Expected.{asked_step, content, csv_limit, dataset_step, input_path, inputs_step, meant, one_more_step, outputs_of, points_or_fault, read, run_step, script_limit, script_of, script_step, structures_limit, structures_step, typed_by, typed_step, typing_of, unbuilt, with_points}
 use Rattle.vtl_top.specs.ScriptFile.{faulty, no_text, whole}
 use Rattle.vtl_top.specs.Steps.{Behind, Held, Made, Step, ◌>>=◌, only_files, refused_if, settled}
 use Rattle.vtl_top.specs.Structures.{structures_in}
 use Rattle.vtl_top.specs.Words.{Command, Run, Source, run}
-use Rattle.vtl_top.specs.declared.status.Status.{Status}
-use Rattle.vtl_top.specs.declared.status.Status.TheVariants as st
+use Rattle.vtl_status.specs.declared.status.Status.{Status}
+use Rattle.vtl_status.specs.declared.status.Status.TheVariants as st
 use Rattle.vtl_top.proofs.MeantLemmas.{after_built, after_plain, after_script, after_structures, after_typing}
 use Rattle.vtl_top.proofs.TextsRead.{Read, either_way, read_somehow, then_too, there_is}
 
 -- nothing refutes each outcome of a step
-abbrev pub Total : {A : Type 0} → Step A → Held → Type 0
+abbrev Total : {A : Type 0} → Step A → Held → Type 0
 Total {A} step held = ¬ ¬ ((given : Result A Status) × step.gives held given)
 
 settled_total : {A : Type 0} (given : Result A Status) (held : Held) → Total (settled given) held
