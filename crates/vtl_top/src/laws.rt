@@ -42,6 +42,11 @@ pub fn expected_is_determined()
     ensures { (command : Option Command) (held : Held) (given other : Result Made Status) → (asked_step command).gives held given → (asked_step command).gives held other → given ≡ other }
 {}
 
+/// No files that are held leave a command without an outcome; so with `expected_is_determined` it has one.
+pub fn expected_is_there()
+    ensures { (command : Option Command) (held : Held) → ¬ ((given : Result Made Status) → ¬ (asked_step command).gives held given) }
+{}
+
 /// A call in which no count of faults rose answers what the words and the held files give, or want of memory. So where a script
 /// means results over its inputs, its run is done, and where it has a fault, this is told.
 pub fn calm_calls_are_complete<F: Files, O: Sink>()
