@@ -44,7 +44,7 @@ pub(crate) fn truth(fault: Option<SqlRule>) -> Typed
 
 // `COUNT(*)`
 pub(crate) fn count_all(group: &Option<Grouping>) -> Typed
-    ensures { IsTyped k.Int (broken ((8, is_none group.now) ∷ [])) result }
+    ensures { IsTyped k.Int (broken ((SqlRule.OutsideGroup, is_none group.now) ∷ [])) result }
 {
     Typed {
         kind: Kind::Int,
