@@ -1,2 +1,3 @@
+mod ClauseErrors
 pub mod ListLemmas
 pub mod OperandLemmas

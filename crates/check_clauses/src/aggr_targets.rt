@@ -53,12 +53,25 @@ fn is_aggregate(e: &Expr) -> bool
     }
 }
 
-// The call that a target is, where it is written as one.
-fn call_in(is_call: bool, e: CompExpr) -> Result<(AggCall, Kind), TypeErr>
-    ensures { Answers (λ call. call) result (call_in is_call (comp_exp_of e)) }
+fn share_call(call: &AggCall) -> Result<AggCall, AllocError>
+    ensures { IfOk result (λ c. c ≡ call.now) }
 {
-    match e.aggregate() {
-        Some(call) if is_call => Ok(call),
+    let component = match &call.component {
+        Some(name) => Some(name.share()?),
+        None => None,
+    };
+    Ok(AggCall {
+        kind: call.kind,
+        component,
+    })
+}
+
+// The call that a target is, where it is written as one.
+fn call_in(is_call: bool, e: &CompExpr) -> Result<(AggCall, Kind), TypeErr>
+    ensures { Answers (λ call. call) result (call_in is_call (comp_exp_of e.now)) }
+{
+    match e {
+        CompExpr::Aggregate { call, kind } if is_call => Ok((share_call(call)?, *kind)),
         _ => Err(TypeErr::Broken(Rule::AggregateMisuse)),
     }
 }
@@ -92,7 +105,8 @@ pub fn push_made(
 ) -> Result<(), TypeErr>
     ensures { AnswersLeft (λ v. v.items) result done.new (with_made role component.now (expr_tree call.now) done.old.items (typed_tree value)) }
 {
-    let call = call_in(is_aggregate(call), value.value()?)?;
+    let value = value.value()?;
+    let call = call_in(is_aggregate(call), &value)?;
     done.push(made_as(role, component, call)?)?;
     Ok(())
 }

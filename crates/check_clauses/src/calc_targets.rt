@@ -168,10 +168,12 @@ fn made_calc(
 }
 
 /// `calc`, behind its targets. It breaks `ComponentCount` and `NullKind`.
-#[tactic(auto, unfolding(crate::specs::Targets::calc_clause))]
+#[tactic(auto, using(crate::proofs::ClauseErrors::refused), unfolding(crate::specs::Targets::calc_clause))]
 pub fn calc(alloc: Global, operand: Box<Node>, items: Vec<CalcItem>) -> Result<Box<Node>, TypeErr>
     ensures { Answers boxed_tree result (calc_clause (boxed_tree operand) (items_view items)) }
 {
-    let structure = calc_structure(alloc, &operand.structure, &items)?;
-    made_calc(alloc, structure, operand, items)
+    match calc_structure(alloc, &operand.structure, &items) {
+        Ok(structure) => made_calc(alloc, structure, operand, items),
+        Err(error) => Err(error),
+    }
 }
