@@ -35,7 +35,7 @@ fn kinds_of(alloc: Global, columns: &[InputColumn]) -> Result<Vec<Kind>, AllocEr
     Ok(kinds)
 }
 
-/// The columns of an input; none where a name stands twice. It fails only for want of memory.
+/// The columns of an input; none where a name stands twice. It fails only if memory runs out.
 pub fn input_columns(alloc: Global, input: &SqlInput) -> Result<Option<Columns>, AllocError>
     ensures { IfOk result (λ columns. columns ≡ distinct_columns (input_columns input.now)) }
 {
@@ -56,7 +56,7 @@ fn any_unknown(columns: &Columns, names: &[Txt]) -> bool
     false
 }
 
-/// Whether names are columns, and none stands twice. It fails only for want of memory.
+/// Whether names are columns, and none stands twice. It fails only if memory runs out.
 pub fn names_fit(alloc: Global, columns: &Columns, names: &[Txt]) -> Result<bool, AllocError>
     ensures { IfOk result (λ b. b ≡ names_fit columns.now names.now) }
 {
@@ -157,7 +157,7 @@ fn is_misnamed(tables: &Tables, name: &Txt) -> bool
     tables.has(name) || !is_word(name.as_str())
 }
 
-/// The least of the rules that an input with these columns breaks. It fails only for want of memory.
+/// The least of the rules that an input with these columns breaks. It fails only if memory runs out.
 pub fn input_fault(
     alloc: Global,
     tables: &Tables,

@@ -144,7 +144,7 @@ fn equalities_fault(
     Ok(least)
 }
 
-/// EXISTS: the least of the rules that it breaks. It fails only for want of memory.
+/// EXISTS: the least of the rules that it breaks. It fails only if memory runs out.
 #[tactic(auto, using(crate::proofs::Least::least_append))]
 pub fn exists(
     tables: &Tables,

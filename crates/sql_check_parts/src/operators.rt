@@ -30,7 +30,7 @@ pub(crate) fn operator_kind(
     }
 }
 
-/// An operator on operands of these kinds. It fails only for want of memory.
+/// An operator on operands of these kinds. It fails only if memory runs out.
 pub fn operator(alloc: Global, op: ScalarOp, kinds: &[Kind]) -> Result<Typed, AllocError>
     ensures { IfOk result (IsTyped (given_kind op kinds.now) (operator_breaks op kinds.now)) }
 {
@@ -44,7 +44,7 @@ pub fn operator(alloc: Global, op: ScalarOp, kinds: &[Kind]) -> Result<Typed, Al
     })
 }
 
-/// A function on operands of these kinds. It fails only for want of memory.
+/// A function on operands of these kinds. It fails only if memory runs out.
 pub fn call(
     alloc: Global,
     profile: &Profile,

@@ -110,7 +110,7 @@ fn add_joins<'a>(
     Ok(fault)
 }
 
-/// The sources of a select. It fails only for want of memory.
+/// The sources of a select. It fails only if memory runs out.
 #[tactic(auto, using(sql_check_parts::proofs::Least::least_append))]
 pub(crate) fn sources<'a>(
     alloc: Global,

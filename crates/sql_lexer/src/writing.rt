@@ -9,7 +9,7 @@ use crate::quotes::Quotes;
 use crate::{Token, TokenKind};
 use std::alloc::AllocError;
 
-/// Appends the spelling of a token, with no gap. It fails only when out of memory.
+/// Appends the spelling of a token, with no gap. It fails only if memory runs out.
 pub fn write_token(kind: &TokenKind, out: &mut String) -> Result<(), AllocError>
     ensures { IfOk result (λ done. chars (string_bytes out.new) ≡ chars (string_bytes out.old) ++ spelled kind.now) }
 {

@@ -55,8 +55,8 @@ impl Model for Checked {
 }
 
 impl Checked {
-    /// A script that is typed over these structures with these nodes, one for each statement. The script is shared. It fails only
-    /// for want of memory.
+    /// A script that is typed over these structures with these nodes, one for each statement. The script is shared. It
+    /// fails only if memory runs out.
     #[tactic(auto, using(crate::proofs::ScriptLemmas::as_many_nodes, crate::proofs::ScriptLemmas::typed_parts))]
     pub fn of(
         alloc: Global,

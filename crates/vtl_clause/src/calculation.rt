@@ -92,9 +92,9 @@ fn calculated_table(
     each_point(alloc, &exps, a, made, p)
 }
 
-/// The points with the values of the targets, each computed from the point as it was, as a data set of the structure that
-/// typing gives. No target is an analytic call. The answer is DivZero where any value divides by zero, else Range where
-/// any is out of range, else it fails only for want of memory.
+/// The points with the values of the targets, each computed from the point as it was, as a data set of the structure
+/// that typing gives. No target is an analytic call. The answer is DivZero where any value divides by zero, else Range
+/// where any is out of range, else it fails only if memory runs out.
 pub fn calc(
     alloc: Global,
     a: &DataSet,

@@ -66,8 +66,8 @@ fn kept_table(
 }
 
 /// The points at which the condition is true, as a data set of the same structure. The answer is DivZero where the
-/// condition divides by zero at any point, else Range where it is out of range at any, else it fails only for want of
-/// memory.
+/// condition divides by zero at any point, else Range where it is out of range at any, else it fails only if memory
+/// runs out.
 pub fn filter(
     alloc: Global,
     a: &DataSet,

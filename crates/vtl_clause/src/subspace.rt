@@ -108,8 +108,8 @@ fn sub_table(
     Ok(out)
 }
 
-/// The points at which each listed identifier has the listed value, without these identifiers. It fails only for want of
-/// memory.
+/// The points at which each listed identifier has the listed value, without these identifiers. It fails only if memory
+/// runs out.
 pub fn sub(
     alloc: Global,
     a: &DataSet,

@@ -207,9 +207,9 @@ fn read_text(
 }
 
 /// The data set of the structure that a CSV file holds: a table of its points in the order of the file, with the
-/// components as columns, identifiers first, then measures, then attributes. Or the first fault by line, and within a line
-/// too many rows, a wrong width, the fields by column, and last a repeat of identifiers. It fails otherwise only for want
-/// of memory.
+/// components as columns, identifiers first, then measures, then attributes. Or the first fault by line, and within a
+/// line too many rows, a wrong width, the fields by column, and last a repeat of identifiers. It otherwise fails only
+/// if memory runs out.
 pub fn read_dataset(
     alloc: Global,
     text: &[u8],

@@ -53,7 +53,7 @@ fn is_among(codes: &[Txt], text: &Txt) -> bool
 }
 
 impl<'a> FileColumn<'a> {
-    /// The column of a component. It fails only for want of memory.
+    /// The column of a component. It fails only if memory runs out.
     pub fn new(alloc: Global, component: &'a Component) -> Result<FileColumn<'a>, AllocError>
         ensures { IfOk result (λ c. c ≡ component.now) }
     {

@@ -21,7 +21,7 @@ use vtl_tree::Structure;
 
 /// The CSV text of a table: a header of the names of its columns, and a record for each row. The rows stand in order by
 /// the columns at the places in `order`, and where these tie by all columns from the left. Null and the empty text are
-/// empty fields. It fails only for want of memory.
+/// empty fields. It fails only if memory runs out.
 pub fn write_table(
     alloc: Global,
     table: &Table,
@@ -36,7 +36,7 @@ pub fn write_table(
 }
 
 /// The CSV text of a data set, of which the table holds the points: a header of the names of its components in column
-/// order, and a record for each point, in order of the identifiers. It fails only for want of memory.
+/// order, and a record for each point, in order of the identifiers. It fails only if memory runs out.
 pub fn write_dataset(
     alloc: Global,
     table: &Table,

@@ -32,7 +32,7 @@ impl TextPool {
         }
     }
 
-    /// A text with these characters, shared with an equal one that the pool holds. It fails only for want of memory.
+    /// A text with these characters, shared with an equal one that the pool holds. It fails only if memory runs out.
     pub fn text(&mut self, alloc: Global, text: &str) -> Result<Txt, AllocError>
         ensures { IfOk result (λ t. t ≡ chars text.now) }
     {
@@ -93,7 +93,7 @@ fn no_texts(alloc: Global) -> Result<Vec<Option<Txt>>, AllocError> {
     Ok(slots)
 }
 
-/// A pool for each of so many columns. It fails only for want of memory.
+/// A pool for each of so many columns. It fails only if memory runs out.
 pub fn pools(alloc: Global, count: usize) -> Result<Vec<TextPool>, AllocError>
     ensures { IfOk result (λ pools. vec_len pools ≡ count) }
 {

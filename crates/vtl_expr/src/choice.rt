@@ -163,7 +163,7 @@ fn choice_table<L: Ledger>(
 
 /// At each point of the condition the measures of the first operand's point where the condition is true, else of the
 /// second's, where that operand has a point of these identifiers; as a data set of the structure that typing gives. It
-/// fails only for want of memory.
+/// fails only if memory runs out.
 pub fn choose(
     alloc: Global,
     condition: &DataSet,

@@ -192,9 +192,9 @@ fn pair_table(
     }
 }
 
-/// The operator's value at each measure and its namesake, for each two points that agree on the common identifiers, as a
-/// data set of the structure that typing gives. One operand has all identifiers of the other. The answer is DivZero where
-/// any value divides by zero, else Range where any is out of range, else it fails only for want of memory.
+/// The operator's value at each measure and its namesake, for each two points that agree on the common identifiers, as
+/// a data set of the structure that typing gives. One operand has all identifiers of the other. The answer is DivZero
+/// where any value divides by zero, else Range where any is out of range, else it fails only if memory runs out.
 pub fn pair_measures(
     alloc: Global,
     op: ScalarOp,

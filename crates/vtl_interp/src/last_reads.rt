@@ -31,7 +31,7 @@ fn note_reads(alloc: Global, last: &mut LastReads, node: &Node, i: usize) -> Res
     Ok(())
 }
 
-/// The last statement that reads each name, from the expressions of all statements. It fails only for want of memory.
+/// The last statement that reads each name, from the expressions of all statements. It fails only if memory runs out.
 pub fn last_reads(alloc: Global, nodes: &[Node]) -> Result<LastReads, AllocError>
     ensures read { IfOk result (λ last. AreRead last.entries 0 (map node_tree nodes.now)) }
     ensures only { IfOk result (λ last. AreReadThere last.entries (map node_tree nodes.now)) }
@@ -75,7 +75,7 @@ fn let_go_each(known: &mut Known, last: &LastReads, i: usize, names: &[Txt])
     }
 }
 
-/// Lets go of what a statement made and read, where no statement behind it reads it. It fails only for want of memory.
+/// Lets go of what a statement made and read, where no statement behind it reads it. It fails only if memory runs out.
 pub fn let_go(
     alloc: Global,
     known: &mut Known,

@@ -40,7 +40,7 @@ fn more_signed(
     })
 }
 
-// The items at the right of a rule, each with its sign but for the first, which may have none.
+// The items at the right of a rule, each with its sign except the first, which may have none.
 #[tactic(auto, unfolding(vtl_grammar::specs::ReadStatements::right_side))]
 fn right_side(
     alloc: Global,

@@ -70,7 +70,7 @@ pub fn length(t: &str) -> usize
     t.chars().count()
 }
 
-/// The characters of `a` and then those of `b`. It fails only when out of memory.
+/// The characters of `a` and then those of `b`. It fails only if memory runs out.
 pub fn concat(alloc: Global, a: &str, b: &str) -> Result<Txt, AllocError>
     ensures { IfOk result (λ t. t ≡ chars a.now ++ chars b.now) }
 {

@@ -23,7 +23,7 @@ pub fn instr(t: &str, pattern: &str) -> usize
 }
 
 /// The text with `by` for each occurrence of `pattern`, from the left and without overlap.
-/// An empty pattern leaves it as it is. It fails only when out of memory.
+/// An empty pattern leaves it as it is. It fails only if memory runs out.
 pub fn replace(alloc: Global, t: &str, pattern: &str, by: &str) -> Result<Txt, AllocError>
     ensures { IfOk result (λ r. r ≡ replace_of (chars t.now) (chars pattern.now) (chars by.now)) }
 {

@@ -109,7 +109,7 @@ fn make_day(year: u16, month: u16, day: u16) -> Option<Day>
     }
 }
 
-/// Appends the day to `out` as `YYYY-MM-DD`. It fails only when out of memory, and then leaves `out` as it was.
+/// Appends the day to `out` as `YYYY-MM-DD`. It fails only if memory runs out, and then leaves `out` as it was.
 pub fn write_day(d: Day, out: &mut Vec<u8>) -> Result<(), AllocError>
     ensures ok { OnOk result (out.new.items ≡ out.old.items ++ day_text d) }
     ensures err { OnErr result (out.new.items ≡ out.old.items) }

@@ -233,7 +233,8 @@ pub fn shift(p: Period, n: i64) -> Option<Period>
     }
 }
 
-/// Appends the period to `out`, as `YYYY-A1`, `YYYY-S1`, `YYYY-Q1` or `YYYY-M01`. It fails only when out of memory, and then leaves `out` as it was.
+/// Appends the period to `out`, as `YYYY-A1`, `YYYY-S1`, `YYYY-Q1` or `YYYY-M01`. It fails only if memory runs out, and
+/// then leaves `out` as it was.
 pub fn write_period(p: Period, out: &mut Vec<u8>) -> Result<(), AllocError>
     ensures ok { OnOk result (out.new.items ≡ out.old.items ++ period_text p) }
     ensures err { OnErr result (out.new.items ≡ out.old.items) }
