@@ -197,9 +197,9 @@ pub(crate) fn push_given<F: Operator>(
     }
 }
 
-/// An operator on the measures of one data set: the identifiers that are chosen, then the measures that it gives. It breaks
-/// `WrongKind` where a measure does not meet the operator's row, `WrongLiteral` where operands that have to be literals are not,
-/// and `MeasuresDisagree` where the number of measures is not the one it asks for.
+/// An operator on the measures of one data set: the identifiers that are chosen, then the measures that it gives. It
+/// breaks `WrongKind` where a measure does not meet the operator's row, `WrongLiteral` where operands that have to be
+/// literals are not, and `MeasuresDisagree` where the number of measures is not the one it asks for.
 pub fn measured<F: Operator>(
     alloc: Global,
     outcome: Outcome,

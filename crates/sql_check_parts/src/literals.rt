@@ -140,7 +140,7 @@ fn any_has_no_value(
     Ok(false)
 }
 
-// The kind of an operand, and those of literals behind it.
+// The kind of an operand, and those of literals after it.
 fn member_kinds(alloc: Global, operand: Kind, literals: &[Literal]) -> Result<Vec<Kind>, AllocError>
     ensures { IfOk result (λ kinds. kinds.items ≡ operand ∷ map literal_kind literals.now) }
 {
@@ -152,7 +152,7 @@ fn member_kinds(alloc: Global, operand: Kind, literals: &[Literal]) -> Result<Ve
     Ok(kinds)
 }
 
-/// The literals of IN behind an operand of this kind. It fails only if memory runs out.
+/// The literals of IN after an operand of this kind. It fails only if memory runs out.
 pub fn list_fault(
     alloc: Global,
     profile: &Profile,

@@ -16,7 +16,7 @@ use std::alloc::{AllocError, Global};
 use vtl_cell::{AggKind, Kind, Profile, ScalarOp};
 use vtl_kinds::{aggregate_kind, common_kind, kind_by_operands, meets};
 
-/// The kind that an operator gives of operands of these kinds, where they meet it.
+/// The kind that an operator gives for operands of these kinds, where they meet it.
 pub(crate) fn operator_kind(
     alloc: Global,
     op: ScalarOp,

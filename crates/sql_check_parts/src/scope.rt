@@ -14,7 +14,8 @@ use std::alloc::{AllocError, Global};
 use std::marker::Model;
 use vtl_cell::{Kind, Txt};
 
-/// The sources of a select from the left, by alias. A contract sees the list of the aliases with the columns of the tables.
+/// The sources of a select from the left, by alias. A contract sees the list of the aliases with the columns of the
+/// tables.
 #[derive(Drop)]
 pub struct Scope<'a> {
     sources: IndexMap<Txt, &'a Columns>,
@@ -77,7 +78,7 @@ impl<'a> Scope<'a> {
     }
 }
 
-/// Whether a column stands in a group, but is none of GROUP BY. It fails only if memory runs out.
+/// Whether a column stands in a group, but is not one of GROUP BY. It fails only if memory runs out.
 pub(crate) fn is_ungrouped(group: &Option<Grouping>, column: &Column) -> Result<bool, AllocError>
     ensures { IfOk result (λ b. b ≡ is_ungrouped group.now column.now) }
 {

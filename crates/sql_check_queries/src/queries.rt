@@ -21,7 +21,7 @@ pub struct QueryTyped {
     pub fault: Option<SqlRule>,
 }
 
-// The selects behind those before them.
+// More selects, after those already typed.
 fn add_selects(
     alloc: Global,
     profile: &Profile,

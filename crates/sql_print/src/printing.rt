@@ -12,7 +12,8 @@ use crate::statements::tokens_of;
 use sql_tree::SqlScript;
 use std::alloc::{AllocError, Global};
 
-/// The text of the script. Where the script is printable, the text is this script and no other, and its brackets are those that the script needs.
+/// The text of the script. Where the script is printable, the text is this script and no other, and its brackets are
+/// those that the script needs.
 ///
 /// Each statement stands on a line, each clause of a query on a line of its own after two spaces, and a list is filled
 /// to 100 characters a line. It fails only if memory runs out.

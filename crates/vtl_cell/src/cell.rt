@@ -69,8 +69,8 @@ pub fn compare(a: &Cell, b: &Cell) -> Ordering
     a.cmp(b)
 }
 
-/// The order of cells and of rows is total, ties are equal, and equality is equality. The order by listed keys is total,
-/// and rows may tie; with whole rows last they do not.
+/// The order of cells and of rows is total, ties are equal, and equality is equality. The order by listed keys is
+/// total, and rows may tie; with whole rows last they do not.
 pub fn order_is_lawful()
     ensures cells { IsTotalOrder cell_cmp }
     ensures ties { (a b : Cell) → cell_cmp a b ≡ Ordering.Equal → a ≡ b }

@@ -17,7 +17,7 @@ use vtl_tree::Component;
 #[derive(Drop)]
 pub struct FileColumn<'a> {
     component: &'a Component,
-    // the codes of the component in order, so that a text is looked up and not searched
+    // the codes of the component in order, so that a text is found by look-up and not by going through all codes
     codes: Vec<Txt>,
 }
 

@@ -47,7 +47,7 @@ fn input(
     }
 }
 
-// Puts a data set behind the others, under a name that none has yet.
+// Puts a data set after the others, under a name that none has yet.
 fn put(known: &mut Known, name: &Txt, set: DataSet) -> Result<(), AllocError>
     requires { list_any (same_name name.now) (keys_of known.old.entries) ≡ false }
     ensures { OnOk result (known.new.entries ≡ known.old.entries ++ (name.now, set) ∷ []) }

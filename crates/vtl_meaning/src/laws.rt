@@ -48,7 +48,8 @@ pub fn operators_keep_data_sets()
     ensures sub { (items : List SubItem) (a s : Structure) (d : List Row) → IsSub items a s → IsDataSet a d → IsDataSet s (sub_of items a s d) }
 {}
 
-/// Over data sets, a typed expression that is evaluated gives a data set of its structure, and so is each output of a script.
+/// Over data sets, a typed expression that is evaluated gives a data set of its structure, and so is each output of a
+/// script.
 pub fn scripts_keep_data_sets()
     ensures expression { (p : Settings) (env : Environment) (n : NodeTree) (out : List Row) → is_built n ≡ true → IsMade p (known_in env) n → AreDataSets env → node_value p env n ≡ Ok out → IsDataSet (structure_of n) out }
     ensures outputs { (p : Settings) (ss : List Statement) (env : Environment) (out : Outputs) → list_all (λ s. is_built s.node) ss ≡ true → AreMadeStatements p (known_in env) ss → AreDataSets env → meaning p ss env ≡ Ok out → AreDataSets out }
@@ -96,8 +97,9 @@ pub fn operators_do_not_see_order()
     ensures sub { (items : List SubItem) (a s : Structure) (d e : List Row) → Perm d e → Perm (sub_of items a s d) (sub_of items a s e) }
 {}
 
-/// What a script means does not depend on the order of points: over data sets with the same points, an expression has the
-/// same points or the same fault, and a script the same outputs up to order or the same fault at the same statement.
+/// What a script means does not depend on the order of points: over data sets with the same points, an expression has
+/// the same points or the same fault, and a script the same outputs up to order or the same fault at the same
+/// statement.
 pub fn meaning_does_not_see_order()
     ensures expression { (p : Settings) (env other : Environment) (n : NodeTree) → AreDataSets env → SameData env other → is_built n ≡ true → IsMade p (known_in env) n → Same (node_value p env n) (node_value p other n) }
     ensures script { (p : Settings) (ss : List Statement) (env other : Environment) → AreDataSets env → SameData env other → list_all (λ s. is_built s.node) ss ≡ true → AreMadeStatements p (known_in env) ss → SameMeaning (meaning p ss env) (meaning p ss other) }

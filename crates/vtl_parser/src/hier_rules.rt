@@ -57,7 +57,8 @@ fn right_side(
     })
 }
 
-// Whether a rule is no deeper than a statement may be: it has two levels, and one more for each sign, a leading one too.
+// Whether a rule is no deeper than a statement may be: it has two levels, and one more for each sign, a leading one
+// too.
 fn is_shallow(rule: &HierRule) -> bool
     ensures { result ≡ nat_le (hier_rule_depth rule.now) depth_limit }
 {

@@ -26,8 +26,8 @@ pub fn other_operators_have_no_fault()
     ensures { (p : Settings) (op : ScalarOp) (args : List Cell) → p.scale ≤ 9 → may_fault op ≡ false → AllByRecursion (IsOfProfile p) args → IsOk (scalar_of p op args) }
 {}
 
-/// A value is of the kind that the operator gives for the kinds of its operands, where each operand is of its kind: null,
-/// a value of the kind, or an integer where the kind is number.
+/// A value is of the kind that the operator gives for the kinds of its operands, where each operand is of its kind:
+/// null, a value of the kind, or an integer where the kind is number.
 #[tactic(auto, using(crate::proofs::ValueKindLemmas::value_is_of_kind))]
 pub fn values_are_of_their_kind()
     ensures { (p : Settings) (op : ScalarOp) (kinds : List Kind) (args : List Cell) (kind : Kind) → kinds_of op kinds ≡ Some kind → meet kinds (map kind_of args) ≡ true → HasKind kind (scalar_of p op args) }

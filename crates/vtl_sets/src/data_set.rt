@@ -91,8 +91,7 @@ impl DataSet {
         self.table.share()
     }
 
-    /// The table of the points, with no other owner: it is copied where it has other owners. It fails only if memory
-    /// runs out.
+    /// The table of the points itself: it is copied where it has other owners. It fails only if memory runs out.
     pub fn into_table(self, alloc: Global) -> Result<Table, AllocError>
         ensures points { IfOk result (λ t. t.rows ≡ self.points) }
         ensures table { IfOk result (IsTableOf self.structure) }
@@ -100,7 +99,7 @@ impl DataSet {
         self.table.into_table(alloc)
     }
 
-    /// One more owner of the data set, whose table and texts are shared. It fails only if memory runs out.
+    /// A copy of the data set, whose table and texts are shared. It fails only if memory runs out.
     pub fn copy(&self, alloc: Global) -> Result<DataSet, AllocError>
         ensures { IfOk result (λ d. d ≡ self.now) }
     {

@@ -26,7 +26,8 @@ pub fn trim(t: &str) -> &str
     ltrim(rtrim(t))
 }
 
-/// The characters from the `start`-th on, counted from 1: all of them, or at most `length`. What lies past the end is missing.
+/// The characters from the `start`-th on, counted from 1: all of them, or at most `length`. What lies past the end is
+/// missing.
 pub fn substr(t: &str, start: usize, length: Option<usize>) -> &str
     requires { 1 ≤ start }
     ensures { chars result.now ≡ substr_of (chars t.now) start length }

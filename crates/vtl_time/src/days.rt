@@ -72,7 +72,8 @@ impl Ord for Day {
 
 ghost use Rattle.vtl_time.specs.Days.{day_of, day_cmp, day_text, is_calendar_day, read_day_of};
 
-/// The day that `t` spells as `YYYY-MM-DD`: exactly ten bytes, and a day that the calendar has. `None` for any other text.
+/// The day that `t` spells as `YYYY-MM-DD`: exactly ten bytes, and a day that the calendar has. `None` for any other
+/// text.
 pub fn read_day(t: &str) -> Option<Day>
     ensures value { result ≡ read_day_of (chars t.now) }
     ensures text { IfSome result (λ d. chars t.now ≡ day_text d) }
