@@ -187,8 +187,8 @@ fn any_at_odds(other: &Structure, components: &[Component]) -> bool
     false
 }
 
-/// `exists_in`. It breaks `IdentifiersDisagree` where the operands have no identifier in common, or one of different
-/// kinds.
+/// `exists_in`. It breaks `IdentifiersDisagree` where the operands have no identifier in common, or a common one has
+/// different kinds.
 pub fn exists_in(alloc: Global, left: &Structure, right: &Structure) -> Result<Structure, TypeErr>
     ensures { Answers (λ s. s) result (exists_form left.now right.now) }
 {

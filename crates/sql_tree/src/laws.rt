@@ -16,7 +16,7 @@ pub fn statements_are_unique()
     ensures all { (i : ℕ) (ts rest : Tokens) (a : StatementTree) → (statement_at i).spells ts a → (statement_at i).reads (ts ++ rest) ≡ Some (a, rest) }
 {}
 
-/// Tokens either are at most one script or have at most one fault, not both.
+/// Tokens are at most one script or have at most one fault, and never both.
 pub fn scripts_are_unique()
     ensures one { (ts : Tokens) (a b : ScriptTree) → ScriptSpells statement_at 0 ts a → ScriptSpells statement_at 0 ts b → a ≡ b }
     ensures faults { (ts : List Token) (bad : Option ℕ) (end done byte other at : ℕ) → SyntaxFault kind start statement_at 1 ts bad end done byte → SyntaxFault kind start statement_at 1 ts bad end other at → (done ≡ other) × (byte ≡ at) }

@@ -17,7 +17,7 @@ pub fn statements_do_not_begin_each_other()
     ensures { (ts more : Tokens) (a b : StatementTree) → SpellsScript ts (a ∷ []) → SpellsScript (ts ++ more) (b ∷ []) → more ≡ [] }
 {}
 
-/// A text either is a script or has a fault, not both, and it has at most one fault.
+/// A text is a script or has a fault, never both, and it has at most one fault.
 pub fn faults_are_determined()
     ensures one { (ts : List Token) (bad : Option ℕ) (done byte other at : ℕ) → SyntaxFault ts bad done byte → SyntaxFault ts bad other at → (done ≡ other) × (byte ≡ at) }
     ensures apart { (ts : List Token) (bad : Option ℕ) (script : ScriptTree) (done byte : ℕ) → WholeScript ts bad script → SyntaxFault ts bad done byte → ⊥ }
