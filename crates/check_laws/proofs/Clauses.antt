@@ -23,7 +23,7 @@ use Rattle.vtl_syntax.specs.declared.word_groups.WrittenRole.{WrittenRole}
 use Rattle.vtl_syntax.specs.declared.word_groups.WrittenRole.TheVariants as written
 use Rattle.vtl_tree.specs.CompExp.{CompExp}
 use Rattle.vtl_tree.specs.Structure.{same_name}
-use Rattle.vtl_tree.proofs.StructuresLemmas.{apart_push}
+use Rattle.vtl_text.proofs.Apart.{apart_push}
 use Rattle.vtl_tree.specs.declared.structure.Component.{Component}
 use Rattle.vtl_tree.specs.declared.structure.Role.{Role}
 use Rattle.vtl_tree.specs.declared.structure.Role.TheVariants as role

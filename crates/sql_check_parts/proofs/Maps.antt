@@ -9,7 +9,7 @@ use Rattle.std.proofs.lemmas.List.Sums.{fold-append}
 use Rattle.std.proofs.lemmas.Map.Made.{lookup-map_values}
 use Rattle.indexmap.specs.IndexMap.{insert_entry}
 use Rattle.vtl_cell.specs.Apart.{all_apart}
-use Rattle.vtl_tree.proofs.StructuresLemmas.{repeated}
+use Rattle.vtl_text.proofs.Apart.{repeated}
 use Rattle.vtl_cell.specs.Texts.{same_text}
 use Rattle.sql_check_parts.specs.Scopes.{is_among}
 

@@ -8,7 +8,7 @@ use Rattle.vtl_lists.specs.Apart.{all_apart}
 use Rattle.vtl_tree.specs.Structure.{same_name}
 use Rattle.vtl_tree.specs.Structures.{AreStructures, Named, has_name}
 use Rattle.vtl_tree.specs.declared.structure.Structure.{Structure}
-use Rattle.vtl_tree.proofs.StructuresLemmas.{repeated}
+use Rattle.vtl_text.proofs.Apart.{repeated}
 
 pub has_name-lookup : (name : List ℕ) (xs : Named) → has_name name xs ≡ is_some (lookup (same_name name) xs)
 has_name-lookup name [] = refl

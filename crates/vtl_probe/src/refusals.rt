@@ -1,47 +1,58 @@
 // The lines of `vtl` for a script that is refused before any data is read, without their line feed, and their codes.
 use crate::report::Report;
 use std::alloc::{AllocError, Global};
+use std::str;
 use vtl_check::CheckErr;
 use vtl_csv::StructErr;
+use vtl_files::MemSink;
 use vtl_parser::ParseErr;
+use vtl_status::{Status, tell};
+use vtl_text::Txt;
 
 pub(crate) fn of_text(alloc: Global, error: ParseErr) -> Result<Report, AllocError> {
     match error {
-        ParseErr::Syntax { done, byte } => Ok(Report {
-            text: syntax(alloc, done, byte)?,
-            code: 2,
-        }),
+        ParseErr::Syntax { done, byte } => answered(alloc, &Status::Syntax { done, byte }),
         ParseErr::OutOfMemory => Err(AllocError),
     }
 }
 
 pub(crate) fn syntax(alloc: Global, done: usize, byte: usize) -> Result<String, AllocError> {
-    format!(in alloc; "error: syntax after {done} statements at byte {byte}")
+    line(alloc, &Status::Syntax { done, byte })
 }
 
 pub(crate) fn of_structures(alloc: Global, error: StructErr) -> Result<Report, AllocError> {
     match error {
-        StructErr::Structure { line, rule } => Ok(Report {
-            text: format!(in alloc; "error: structures line {line} rule {rule}")?,
-            code: 2,
-        }),
+        StructErr::Structure { line, rule } => answered(alloc, &Status::Structure { line, rule }),
         StructErr::OutOfMemory => Err(AllocError),
     }
 }
 
 pub(crate) fn of_types(alloc: Global, error: CheckErr) -> Result<Report, AllocError> {
     match error {
-        CheckErr::Mistyped { statement, rule } => Ok(Report {
-            text: format!(in alloc; "error: type in statement {statement} rule {rule}")?,
-            code: 3,
-        }),
+        CheckErr::Mistyped { statement, rule } => {
+            answered(alloc, &Status::Mistyped { statement, rule })
+        }
         CheckErr::OutOfMemory => Err(AllocError),
     }
 }
 
 pub(crate) fn of_rulesets(alloc: Global) -> Result<Report, AllocError> {
+    answered(alloc, &Status::Unbuilt(Txt::new(alloc, "rulesets")?))
+}
+
+fn answered(alloc: Global, status: &Status) -> Result<Report, AllocError> {
     Ok(Report {
-        text: String::from_str(alloc, "error: unbuilt: rulesets")?,
-        code: 8,
+        text: line(alloc, status)?,
+        code: status.code(),
     })
+}
+
+// The line of a status, without its line feed.
+fn line(alloc: Global, status: &Status) -> Result<String, AllocError> {
+    let mut sink = MemSink::new(alloc, 4096, Vec::new(alloc));
+    tell(status, &mut sink);
+    match str::from_utf8(sink.taken()) {
+        Ok(line) => String::from_str(alloc, line.trim_end()),
+        Err(_) => Ok(String::new(alloc)),
+    }
 }

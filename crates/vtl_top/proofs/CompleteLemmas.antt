@@ -13,8 +13,8 @@ use Rattle.vtl_top.specs.Meant.{IsFaulted, IsMeant}
 use Rattle.vtl_top.specs.Said.{Says}
 use Rattle.vtl_top.specs.Steps.{File, Held, Made, only_files, status_of}
 use Rattle.vtl_top.specs.Words.{Command, Run, run}
-use Rattle.vtl_top.specs.declared.status.Status.{Status}
-use Rattle.vtl_top.specs.declared.status.Status.TheVariants as st
+use Rattle.vtl_status.specs.declared.status.Status.{Status}
+use Rattle.vtl_status.specs.declared.status.Status.TheVariants as st
 use Rattle.vtl_top.proofs.MeantLemmas.{meant_always}
 use Rattle.vtl_top.proofs.Once.{determined}
 use Rattle.vtl_top.proofs.RefusedLemmas.{faulted_always}

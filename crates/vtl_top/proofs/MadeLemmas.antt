@@ -8,7 +8,7 @@ use Rattle.vtl_top.specs.Refusal.{SettlesBy}
 use Rattle.vtl_top.specs.Steps.{File, Made}
 use Rattle.vtl_top.specs.declared.made.Made.{Made as Program}
 use Rattle.vtl_top.specs.declared.output.Output.{Output}
-use Rattle.vtl_top.specs.declared.status.Status.{Status}
+use Rattle.vtl_status.specs.declared.status.Status.{Status}
 
 abbrev made_by : List File → List ℕ → Made
 made_by files text = record { files = files; text = text }

@@ -12,8 +12,8 @@ use Rattle.vtl_top.specs.Structures.{structures_in}
 use Rattle.vtl_top.specs.Expected.{asked_step, csv_limit, dataset_step, input_path, inputs_step, meant, one_more_step, outputs_of, points_or_fault, read, run_step, script_in, script_limit, script_of, script_step, structures_limit, structures_step, typed_by, typed_step, typing_of, unbuilt, with_points}
 use Rattle.vtl_top.specs.Steps.{Behind, Held, Step, ◌>>=◌, only_files, refused_if, settled}
 use Rattle.vtl_top.specs.Words.{Command, Run, Source, run}
-use Rattle.vtl_top.specs.declared.status.Status.{Status}
-use Rattle.vtl_top.specs.declared.status.Status.TheVariants as st
+use Rattle.vtl_status.specs.declared.status.Status.{Status}
+use Rattle.vtl_status.specs.declared.status.Status.TheVariants as st
 use Rattle.vtl_top.proofs.MeantLemmas.{after_built, after_plain, after_script, after_structures, after_typing}
 use Rattle.vtl_top.proofs.ReadScripts.{parsed_once}
 

@@ -29,8 +29,8 @@ use Rattle.vtl_top.specs.ScriptFile.{Parsed, faulty, no_text, whole}
 use Rattle.vtl_top.specs.Steps.{Behind, Held, Step, ◌>>=◌, refused_if, settled}
 use Rattle.vtl_top.specs.Structures.{declared, structures_in}
 use Rattle.vtl_top.specs.Words.{Run, Source}
-use Rattle.vtl_top.specs.declared.status.Status.{Status}
-use Rattle.vtl_top.specs.declared.status.Status.TheVariants as st
+use Rattle.vtl_status.specs.declared.status.Status.{Status}
+use Rattle.vtl_status.specs.declared.status.Status.TheVariants as st
 use Rattle.vtl_top.proofs.MeantLemmas.{after_built, after_plain, after_script, after_structures, after_typing, passes, ready_from, ready_gives, script_there, source_from}
 
 -- where a status comes from: typing, evaluation, or the files and the form of the script

@@ -34,8 +34,8 @@ use Rattle.vtl_top.specs.Refusal.{IsOrMemory, IsTableRead, SettlesBy, faulted, i
 use Rattle.vtl_top.specs.Steps.{File, Made, Step, ◌>>=◌, refused_if, settled}
 use Rattle.vtl_top.specs.Informed.{HasRun, typed_view}
 use Rattle.vtl_top.specs.Words.{Run, Source}
-use Rattle.vtl_top.specs.declared.status.Status.{Status}
-use Rattle.vtl_top.specs.declared.status.Status.TheVariants as st
+use Rattle.vtl_status.specs.declared.status.Status.{Status}
+use Rattle.vtl_status.specs.declared.status.Status.TheVariants as st
 use Rattle.vtl_top.proofs.ReadScripts.{if_some_all, settled_given, typing_given}
 use Rattle.vtl_top.proofs.StepLemmas.{nothing_read, takes_onward, takes_stopped}
 use Rattle.vtl_top.proofs.MeantLemmas.{after_built, after_plain, after_script, after_structures, after_typing}

@@ -3,8 +3,8 @@ use Rattle.std.proofs.Common.{◌≡◌, ◌≤◌, inl, inr, ℕ, false, List, 
 use Rattle.std.specs.Option.{IfSome}
 use Rattle.vtl_files.specs.Outside.{Rose}
 use Rattle.vtl_files.specs.declared.files.Files.{Ghosts}
-use Rattle.vtl_top.specs.declared.status.Status.{Status}
-use Rattle.vtl_top.specs.declared.status.Status.TheVariants as st
+use Rattle.vtl_status.specs.declared.status.Status.{Status}
+use Rattle.vtl_status.specs.declared.status.Status.TheVariants as st
 use Rattle.vtl_top.specs.Kinds.{Told, done, no_command, refused, absent, read_fault, write_fault, no_memory, told_by}
 use Rattle.vtl_top.specs.Steps.{File, Made, Step, ◌>>=◌}
 use Rattle.vtl_files.specs.declared.sink.Sink.{Ghosts as Sinks}

@@ -10,7 +10,7 @@ use Rattle.vtl_top.specs.Expected.{asked_step}
 use Rattle.vtl_top.specs.Said.{Hears, Says}
 use Rattle.vtl_top.specs.Steps.{File, Made, Name, Step, Text}
 use Rattle.vtl_top.specs.Words.{Command, run}
-use Rattle.vtl_top.specs.declared.status.Status.{Status}
+use Rattle.vtl_status.specs.declared.status.Status.{Status}
 
 -- Nothing but counts, place and mark has changed.
 pub record OnlyReads {F : Type 0} (g : Ghosts F) (before now : F) : Type 0 where

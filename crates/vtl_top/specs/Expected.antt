@@ -20,8 +20,8 @@ use Rattle.vtl_top.specs.ScriptFile.{IsParsed, Parsed, faulty, no_text, whole}
 use Rattle.vtl_top.specs.Steps.{File, Held, Made, Name, Path, Step, Text, ◌>>=◌, only_files, refused_if, settled}
 use Rattle.vtl_top.specs.Structures.{structures_in}
 use Rattle.vtl_top.specs.Words.{Command, Run, Source, run}
-use Rattle.vtl_top.specs.declared.status.Status.{Status}
-use Rattle.vtl_top.specs.declared.status.Status.TheVariants as st
+use Rattle.vtl_status.specs.declared.status.Status.{Status}
+use Rattle.vtl_status.specs.declared.status.Status.TheVariants as st
 
 -- the file of a data set in a folder
 abbrev pub file_in : Path → Name → Path

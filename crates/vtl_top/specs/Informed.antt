@@ -5,8 +5,8 @@ use Rattle.vtl_interp.specs.Checked.{TypedScript, nodes_of, tree_of}
 use Rattle.vtl_top.specs.Expected.{Typed, typed_by, typed_step}
 use Rattle.vtl_top.specs.Steps.{Held}
 use Rattle.vtl_top.specs.Words.{Command, Source, run}
-use Rattle.vtl_top.specs.declared.status.Status.{Status}
-use Rattle.vtl_top.specs.declared.status.Status.TheVariants as st
+use Rattle.vtl_status.specs.declared.status.Status.{Status}
+use Rattle.vtl_status.specs.declared.status.Status.TheVariants as st
 
 -- a status that comes of evaluating the script: it was carried out, or has a fault
 abbrev pub HasRun : Status → Type 0

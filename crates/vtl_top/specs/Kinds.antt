@@ -1,7 +1,7 @@
 -- What kind of answer a status is. All that a status tells of files and causes goes by its kind.
 use Rattle.std.specs.Prelude.{ℕ, List}
-use Rattle.vtl_top.specs.declared.status.Status.{Status}
-use Rattle.vtl_top.specs.declared.status.Status.TheVariants as st
+use Rattle.vtl_status.specs.declared.status.Status.{Status}
+use Rattle.vtl_status.specs.declared.status.Status.TheVariants as st
 
 -- all was done; words that are no command; a refusal by held bytes; no file at a path; a fault of reading, of writing, at a path; want of memory
 pub data Told : Type 0 where

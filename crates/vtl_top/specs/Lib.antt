@@ -7,13 +7,11 @@ pub mod Kinds
 pub mod MadeView
 pub mod Meant
 pub mod OutputView
-pub mod PartView
 pub mod Refusal
 pub mod ResultTables
 pub mod RunView
 pub mod Said
 pub mod ScriptFile
-pub mod StatusLine
 pub mod Steps
 pub mod Structures
 pub mod Words

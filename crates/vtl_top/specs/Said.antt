@@ -3,10 +3,10 @@ use Rattle.std.specs.Prelude.{◌≡◌, ◌≤◌, []}
 use Rattle.vtl_files.specs.Outside.{Rose, TakesAll}
 use Rattle.vtl_files.specs.Whole.{TakesFront}
 use Rattle.vtl_files.specs.declared.sink.Sink.{Ghosts}
-use Rattle.vtl_top.specs.StatusLine.{line_of}
+use Rattle.vtl_status.specs.StatusLine.{line_of}
 use Rattle.vtl_top.specs.Steps.{Text}
-use Rattle.vtl_top.specs.declared.status.Status.{Status}
-use Rattle.vtl_top.specs.declared.status.Status.TheVariants as st
+use Rattle.vtl_status.specs.declared.status.Status.{Status}
+use Rattle.vtl_status.specs.declared.status.Status.TheVariants as st
 
 -- The sink took this text whole; where there is none, it is as before.
 pub record Hears {S : Type 0} (g : Ghosts S) (before now : S) (text : Text) : Type 0 where

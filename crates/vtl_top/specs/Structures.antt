@@ -4,8 +4,8 @@ use Rattle.std.specs.Str.{is_utf8}
 use Rattle.vtl_tree.specs.Structures.{Named}
 use Rattle.vtl_csv.specs.StructuresFile.{Fault, structures_of_file}
 use Rattle.vtl_top.specs.Steps.{Path, Text}
-use Rattle.vtl_top.specs.declared.status.Status.{Status}
-use Rattle.vtl_top.specs.declared.status.Status.TheVariants as st
+use Rattle.vtl_status.specs.declared.status.Status.{Status}
+use Rattle.vtl_status.specs.declared.status.Status.TheVariants as st
 
 -- what a text declares, or the status of its first fault
 abbrev pub declared : Result Named Fault → Result Named Status

@@ -13,7 +13,6 @@ ghost use Rattle.vtl_top.specs.RunView.{run_view};
 
 use crate::reading::{file_in, read_file};
 use crate::refusal::input_refusal;
-use crate::status::Status;
 use crate::words::Run;
 use std::alloc::Global;
 use vtl_csv::read_dataset;
@@ -21,6 +20,7 @@ use vtl_decimal::Profile;
 use vtl_files::Files;
 use vtl_interp::Checked;
 use vtl_rows::{Table, Tables};
+use vtl_status::Status;
 use vtl_text::Txt;
 use vtl_tree::Structure;
 

@@ -12,7 +12,7 @@ ghost use Rattle.vtl_top.specs.Expected.{asked_step, fault_status, run_step};
 ghost use Rattle.vtl_top.specs.Meant.{IsFaulted, IsMeant, IsMistyped};
 ghost use Rattle.vtl_top.specs.Steps.{File, Held, Made, Name, Text, status_of};
 ghost use Rattle.vtl_top.specs.Words.{Command, Run, run};
-ghost use Rattle.vtl_top.specs.declared.status.Status.{Status};
+ghost use Rattle.vtl_status.specs.declared.status.Status.{Status};
 
 use vtl_files::{Files, Sink};
 
@@ -40,6 +40,11 @@ pub fn faults_are_meant()
 /// What a command gives is one: two outcomes over the same held bytes are equal.
 pub fn expected_is_determined()
     ensures { (command : Option Command) (held : Held) (given other : Result Made Status) → (asked_step command).gives held given → (asked_step command).gives held other → given ≡ other }
+{}
+
+/// No files that are held leave a command without an outcome; so with `expected_is_determined` it has one.
+pub fn expected_is_there()
+    ensures { (command : Option Command) (held : Held) → ¬ ((given : Result Made Status) → ¬ (asked_step command).gives held given) }
 {}
 
 /// A call in which no count of faults rose answers what the words and the held files give, or want of memory. So where a script

@@ -16,7 +16,6 @@ mod reading;
 mod refusal;
 mod results;
 mod run;
-mod status;
 mod structures;
 #[cfg(test)]
 mod tests;
@@ -25,8 +24,8 @@ mod typing;
 mod words;
 
 pub use laws::{
-    calm_calls_are_complete, expected_is_determined, faults_are_meant, mistyped_is_first_fault,
-    output_is_meant, runs_are_quiet, structures_have_identifiers,
+    calm_calls_are_complete, expected_is_determined, expected_is_there, faults_are_meant,
+    mistyped_is_first_fault, output_is_meant, runs_are_quiet, structures_have_identifiers,
 };
-pub use status::{Status, tell};
 pub use top::{vtl, vtl_by};
+pub use vtl_status::{Status, tell};

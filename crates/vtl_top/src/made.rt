@@ -12,11 +12,11 @@ ghost use Rattle.vtl_top.specs.Words.{run};
 
 use crate::output::Output;
 use crate::run::prepare;
-use crate::status::Status;
 use crate::words::{Command, Run};
 use std::alloc::Global;
 use vtl_files::Files;
 use vtl_interp::Backend;
+use vtl_status::Status;
 use vtl_text::Txt;
 
 /// What a command gives out: files, and behind them a text for the sink.

@@ -6,8 +6,8 @@ ghost use Rattle.vtl_top.specs.Answered.{Adds, AddsFront, OnlyWrites, WritesAs};
 ghost use Rattle.vtl_top.specs.Kinds.{told_by};
 ghost use Rattle.vtl_top.specs.OutputView.{NamesPath, outputs_view};
 
-use crate::status::Status;
 use vtl_files::{Failed, Files, write_all};
+use vtl_status::Status;
 use vtl_text::Txt;
 
 /// What a run writes. All of it is made before anything is created.

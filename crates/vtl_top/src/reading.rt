@@ -4,9 +4,9 @@ ghost use Rattle.vtl_top.specs.Answered.{Takes};
 ghost use Rattle.vtl_top.specs.Expected.{file_in, read};
 
 use crate::refusal::refusal;
-use crate::status::Status;
 use std::alloc::{AllocError, Global};
 use vtl_files::{Files, read_all};
+use vtl_status::Status;
 use vtl_text::Txt;
 
 /// The file of a data set in a folder.

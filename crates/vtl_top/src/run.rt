@@ -15,7 +15,6 @@ use crate::output::Output;
 use crate::reading::read_file;
 use crate::refusal::{not_text, unbuilt};
 use crate::results::results;
-use crate::status::Status;
 use crate::structures::structures_of;
 use crate::typing::typed;
 use crate::words::{Run, Source};
@@ -24,6 +23,7 @@ use std::str;
 use vtl_files::Files;
 use vtl_interp::{Backend, Checked, defines_rulesets, is_built};
 use vtl_parser::{ParseErr, parse};
+use vtl_status::Status;
 use vtl_syntax::Script;
 use vtl_tree::Structures;
 

@@ -12,11 +12,11 @@ ghost use Rattle.vtl_top.specs.Informed.{Informs};
 
 use crate::made::{Made, make};
 use crate::output::write_outputs;
-use crate::status::{Status, tell};
 use crate::words::{Command, command_of};
 use std::alloc::Global;
 use vtl_files::{Failed, Files, Sink, sink_all};
 use vtl_interp::{Backend, Interp};
+use vtl_status::{Status, tell};
 
 /// Carries out the words of a command line over the files and the sink that are handed in, and answers how it went.
 ///

@@ -6,10 +6,10 @@ ghost use Rattle.vtl_interp.specs.Script.{has_definitions, script_typed};
 ghost use Rattle.vtl_top.specs.Expected.{typed_or_fault};
 ghost use Rattle.vtl_top.specs.Refusal.{SettlesBy};
 
-use crate::status::Status;
 use std::alloc::Global;
 use vtl_decimal::Profile;
 use vtl_interp::{CheckErr, Checked, check};
+use vtl_status::Status;
 use vtl_syntax::Script;
 use vtl_tree::Structures;
 

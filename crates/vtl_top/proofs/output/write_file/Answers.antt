@@ -1,5 +1,5 @@
 use Rattle.std.proofs.Common.{◌∙◌}
-use Rattle.vtl_top.proofs.SinkLemmas.{err_always, ok_always}
+use Rattle.vtl_status.proofs.LineLemmas.{err_always, ok_always}
 use Rattle.vtl_top.proofs.OutputLemmas.{whole_file, front_of_file, whole_as_front}
 use Rattle.vtl_top.proofs.output.write_file.Goals as goal
 

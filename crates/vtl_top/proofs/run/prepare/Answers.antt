@@ -6,7 +6,7 @@ use Rattle.vtl_top.specs.RunView.{run_view, source_view}
 use Rattle.vtl_top.specs.Informed.{TellsRun}
 use Rattle.vtl_top.specs.Steps.{status_of}
 use Rattle.vtl_top.specs.declared.output.Output.{Output}
-use Rattle.vtl_top.specs.declared.status.Status.{Status}
+use Rattle.vtl_status.specs.declared.status.Status.{Status}
 use Rattle.vtl_interp.specs.Inputs.{environment_of, inputs_of}
 use Rattle.vtl_top.proofs.RefusedLemmas.{inputs_tell}
 use Rattle.vtl_top.proofs.RunLemmas.{inputs_refused, passed_on, then_results}

@@ -5,7 +5,7 @@ use Rattle.vtl_top.specs.Answered.{Takes}
 use Rattle.vtl_top.specs.Expected.{typed_step}
 use Rattle.vtl_top.specs.RunView.{source_view}
 use Rattle.vtl_top.specs.Informed.{typed_view}
-use Rattle.vtl_top.specs.declared.status.Status.{Status}
+use Rattle.vtl_status.specs.declared.status.Status.{Status}
 use Rattle.vtl_top.proofs.RunLemmas.{passed_on, same_tree, structures_refused, then_typed, typed_takes}
 use Rattle.vtl_top.proofs.run.read_typed.Goals as goal
 

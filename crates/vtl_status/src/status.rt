@@ -2,8 +2,8 @@
 ghost use Rattle.std.specs.Prelude.{◌≡◌, ◌≤◌, ◌<◌, ◌+◌, ◌∷◌, [], OnErr, OnOk, decimal, flat_map};
 ghost use Rattle.vtl_files.specs.Outside.{Rose, TakesAll};
 ghost use Rattle.vtl_files.specs.Whole.{TakesFront};
-ghost use Rattle.vtl_top.specs.PartView.{all_said, said_bytes};
-ghost use Rattle.vtl_top.specs.StatusLine.{at, bytes_of, code_of, line_of, name_of_kind};
+ghost use Rattle.vtl_status.specs.PartView.{all_said, said_bytes};
+ghost use Rattle.vtl_status.specs.StatusLine.{at, bytes_of, code_of, line_of, name_of_kind};
 
 use std::alloc::AllocError;
 use vtl_csv::InputKind;
@@ -196,7 +196,7 @@ fn naming<'a>(lead: &'a str, name: &'a Txt) -> [Part<'a>; 9]
 
 impl From<AllocError> for Status {
     ghost use Rattle.std.specs.Prelude.{◌≡◌};
-    ghost use Rattle.vtl_top.specs.declared.status.Status.TheVariants.{Memory};
+    ghost use Rattle.vtl_status.specs.declared.status.Status.TheVariants.{Memory};
 
     ghost from_gives = { λ _ status. status ≡ Memory };
 

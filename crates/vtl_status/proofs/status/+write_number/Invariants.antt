@@ -1,4 +1,4 @@
-use Rattle.vtl_top.proofs.status.+write_number.Given as goal
+use Rattle.vtl_status.proofs.status.+write_number.Given as goal
 
 abbrev pub decreases-write_number : goal.decreases-write_number
 decreases-write_number g l = l.number

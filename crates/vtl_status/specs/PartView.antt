@@ -1,8 +1,8 @@
 -- The parts of a line, without where their texts lie in memory.
 use Rattle.std.specs.Prelude.{ℕ, List, flat_map}
-use Rattle.vtl_top.specs.StatusLine.{Part, bytes_of, text, number}
-use Rattle.vtl_top.specs.declared.status.Part.{Part as Said}
-use Rattle.vtl_top.specs.declared.status.Part.TheVariants as said
+use Rattle.vtl_status.specs.StatusLine.{Part, bytes_of, text, number}
+use Rattle.vtl_status.specs.declared.status.Part.{Part as Said}
+use Rattle.vtl_status.specs.declared.status.Part.TheVariants as said
 
 abbrev pub part_view : Said → Part
 part_view (said.Text t) = text t.now

@@ -1,8 +1,8 @@
 use Rattle.std.proofs.Common.{subst}
 use Rattle.vtl_files.specs.Whole.{TakesFront}
-use Rattle.vtl_top.specs.PartView.{all_said}
-use Rattle.vtl_top.proofs.SinkLemmas.{front_anyway}
-use Rattle.vtl_top.proofs.status.tell.Goals as goal
+use Rattle.vtl_status.specs.PartView.{all_said}
+use Rattle.vtl_status.proofs.LineLemmas.{front_anyway}
+use Rattle.vtl_status.proofs.status.tell.Goals as goal
 
 pub returns-clause-front : goal.returns-clause-front
 returns-clause-front g c =

@@ -4,7 +4,7 @@ use Rattle.std.proofs.lemmas.Fmt.{decimal_digit, decimal_step}
 use Rattle.std.specs.Result.{OnOk, OnErr}
 use Rattle.vtl_files.specs.Outside.{TakesAll}
 use Rattle.vtl_files.specs.Whole.{TakesFront}
-use Rattle.vtl_top.proofs.SinkLemmas.{all_after, front_after, front_before, err_leads, ok_leads}
+use Rattle.vtl_status.proofs.LineLemmas.{all_after, front_after, front_before, err_leads, ok_leads}
 
 -- one digit
 pub digit_whole : {T E : Type 0} (r : Result T E) (t u : Option (List ℕ)) (n : ℕ) → n < 10 → OnOk r (TakesAll t u ((48 + n) ∷ [])) → OnOk r (TakesAll t u (decimal n))

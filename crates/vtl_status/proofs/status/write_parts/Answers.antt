@@ -1,6 +1,6 @@
 use Rattle.std.proofs.Common.{arith}
-use Rattle.vtl_top.proofs.SinkLemmas.{err_always, part_front, part_taken}
-use Rattle.vtl_top.proofs.status.write_parts.Goals as goal
+use Rattle.vtl_status.proofs.LineLemmas.{err_always, part_front, part_taken}
+use Rattle.vtl_status.proofs.status.write_parts.Goals as goal
 
 pub returns-in_err-write_part-clause-front : goal.returns-in_err-write_part-clause-front
 returns-in_err-write_part-clause-front g c =

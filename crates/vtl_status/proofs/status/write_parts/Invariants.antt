@@ -1,7 +1,7 @@
 use Rattle.std.proofs.Common.{◌≤◌, ◌++◌, drop}
 use Rattle.vtl_files.specs.Whole.{AddsUpTo}
-use Rattle.vtl_top.specs.PartView.{all_said}
-use Rattle.vtl_top.proofs.status.write_parts.Given as goal
+use Rattle.vtl_status.specs.PartView.{all_said}
+use Rattle.vtl_status.proofs.status.write_parts.Given as goal
 
 abbrev pub invariant-loop-part : goal.invariant-loop-part
 invariant-loop-part g l = record {

@@ -1,6 +1,6 @@
-use Rattle.vtl_top.proofs.NumberText.{digit_front, digit_whole, digits_front, digits_start, digits_whole}
-use Rattle.vtl_top.proofs.SinkLemmas.{err_always}
-use Rattle.vtl_top.proofs.status.+write_number.Goals as goal
+use Rattle.vtl_status.proofs.NumberText.{digit_front, digit_whole, digits_front, digits_start, digits_whole}
+use Rattle.vtl_status.proofs.LineLemmas.{err_always}
+use Rattle.vtl_status.proofs.status.+write_number.Goals as goal
 
 pub returns-then-number-lt10-clause-whole : goal.returns-then-number-lt10-clause-whole
 returns-then-number-lt10-clause-whole g t c =

@@ -1,0 +1,87 @@
+-- No files that are held leave a command without an outcome.
+use Rattle.std.proofs.Common.{◌≡◌, ◌⊎◌, inl, inr, ℕ, Bool, cond, not, List, [], ◌∷◌, Option, Some, None, Result, Ok, Err, refl}
+use Rattle.std.specs.Prelude.{IsUtf8, chars}
+use Rattle.std.specs.List.{list_all}
+use Rattle.vtl_syntax.specs.Trees.{ScriptTree}
+use Rattle.vtl_grammar.specs.Faults.{SyntaxFault, WholeScript}
+use Rattle.vtl_tree.specs.Environment.{Environment}
+use Rattle.vtl_tree.specs.Structures.{Named}
+use Rattle.vtl_tree.specs.declared.structure.Structure.{Structure}
+use Rattle.vtl_csv.specs.InputFile.{dataset_rows}
+use Rattle.vtl_interp.specs.Script.{has_definitions}
+use Rattle.vtl_interp.specs.Uses.{reads}
+use Rattle.vtl_meaning.specs.Meaning.{is_built}
+use Rattle.vtl_top.specs.Expected.{asked_step, content, csv_limit, dataset_step, input_path, inputs_step, meant, one_more_step, outputs_of, points_or_fault, read, run_step, script_limit, script_of, script_step, structures_limit, structures_step, typed_by, typed_step, typing_of, unbuilt, with_points}
+use Rattle.vtl_top.specs.ScriptFile.{faulty, no_text, whole}
+use Rattle.vtl_top.specs.Steps.{Behind, Held, Made, Step, ◌>>=◌, only_files, refused_if, settled}
+use Rattle.vtl_top.specs.Structures.{structures_in}
+use Rattle.vtl_top.specs.Words.{Command, Run, Source, run}
+use Rattle.vtl_status.specs.declared.status.Status.{Status}
+use Rattle.vtl_status.specs.declared.status.Status.TheVariants as st
+use Rattle.vtl_top.proofs.MeantLemmas.{after_built, after_plain, after_script, after_structures, after_typing}
+use Rattle.vtl_top.proofs.TextsRead.{Read, either_way, read_somehow, then_too, there_is}
+
+-- nothing refutes each outcome of a step
+abbrev Total : {A : Type 0} → Step A → Held → Type 0
+Total {A} step held = ¬ ¬ ((given : Result A Status) × step.gives held given)
+
+settled_total : {A : Type 0} (given : Result A Status) (held : Held) → Total (settled given) held
+settled_total given held = there_is (given, refl)
+
+onward_total : {A B : Type 0} (step : Step A) (next : A → Step B) (held : Held) → Total step held → ((x : A) → Total (next x) held) → Total (step >>= next) held
+onward_total {A} {B} step next held first each = then_too first (λ p. by_first p.0 p.1)
+  where
+    by_first : (m : Result A Status) → step.gives held m → Total (step >>= next) held
+    by_first (Ok x) is = then_too (each x) (λ q. there_is (q.0, (Ok x, is, q.1)))
+    by_first (Err status) is = there_is (Err status, (Err status, is, refl))
+
+read_total : (path : List ℕ) (limit : ℕ) (held : Held) → Total (read path limit) held
+read_total path limit held = there_is (content path limit held, refl)
+
+script_total : (path bytes : List ℕ) (held : Held) → Total (script_of path bytes) held
+script_total path bytes held = either_way {X = IsUtf8 bytes} (λ utf8. then_too (read_somehow bytes) (λ r. by_tokens utf8 r r.spelled)) (λ none. there_is (Err (st.NotText (chars path)), (no_text, none, refl)))
+  where
+    by_tokens : IsUtf8 bytes → (r : Read bytes) → ((script : ScriptTree) × WholeScript r.tokens r.bad script) ⊎ ((done : ℕ) × (byte : ℕ) × SyntaxFault r.tokens r.bad done byte) → Total (script_of path bytes) held
+    by_tokens utf8 r (inl (script, w)) = there_is (Ok script, (whole script, (utf8, record { tokens = r.tokens; bad = r.bad; lexed = r.lexed; whole = w }), refl))
+    by_tokens utf8 r (inr (done, byte, f)) = there_is (Err (st.Syntax done byte), (faulty done byte, (utf8, record { tokens = r.tokens; bad = r.bad; lexed = r.lexed; fault = f }), refl))
+
+structures_total : (path : List ℕ) (held : Held) → Total (structures_step path) held
+structures_total path held =
+    onward_total (read path structures_limit) (λ bytes. settled (structures_in path bytes)) held (read_total path structures_limit held) (λ bytes. settled_total (structures_in path bytes) held)
+
+refused_total : (b : Bool) (status : Status) (held : Held) → Total (refused_if b status) held
+refused_total b status held = settled_total (cond b (Err status) (Ok tt)) held
+
+dataset_total : (r : Run) (e : List ℕ × Structure) (held : Held) → Total (dataset_step r e) held
+dataset_total r e held =
+    onward_total (read (input_path r e.0) csv_limit) (λ bytes. settled (points_or_fault e.0 (dataset_rows r.source.settings e.1 bytes))) held (read_total (input_path r e.0) csv_limit held)
+    (λ bytes. settled_total (points_or_fault e.0 (dataset_rows r.source.settings e.1 bytes)) held)
+
+inputs_total : (r : Run) (before : Environment) (inputs : Named) (held : Held) → Total (inputs_step r before inputs) held
+inputs_total r before [] held = settled_total (Ok before) held
+inputs_total r before (e ∷ rest) held =
+    onward_total (one_more_step r before e) (λ more. inputs_step r more rest) held
+    (onward_total (dataset_step r e) (λ points. settled (Ok (with_points before e points))) held (dataset_total r e held) (λ points. settled_total (Ok (with_points before e points)) held))
+    (λ more. inputs_total r more rest held)
+
+typed_total : (s : Source) (held : Held) → Total (typed_step s) held
+typed_total s held =
+    onward_total (script_step s.script) (after_script s) held (onward_total (read s.script script_limit) (script_of s.script) held (read_total s.script script_limit held) (λ bytes. script_total s.script bytes held)) (λ tree.
+    onward_total (refused_if (has_definitions tree) (unbuilt s)) (λ plain. after_plain s tree) held (refused_total (has_definitions tree) (unbuilt s) held) (λ plain.
+    onward_total (structures_step s.structures) (after_structures s tree) held (structures_total s.structures held) (λ structures.
+    onward_total (settled (typing_of s tree structures)) (λ nodes. settled (Ok (typed_by tree structures nodes))) held (settled_total (typing_of s tree structures) held) (λ nodes.
+    settled_total (Ok (typed_by tree structures nodes)) held))))
+
+run_total : (r : Run) (held : Held) → Total (run_step r) held
+run_total r held =
+    onward_total (typed_step r.source) (after_typing r) held (typed_total r.source held) (λ t.
+    onward_total (refused_if (not (list_all is_built t.nodes)) (unbuilt r.source)) (λ built. after_built r t) held (refused_total (not (list_all is_built t.nodes)) (unbuilt r.source) held) (λ built.
+    onward_total (inputs_step r [] (reads t.structures t.nodes)) (λ env. settled (outputs_of r (meant r t env))) held (inputs_total r [] (reads t.structures t.nodes) held) (λ env.
+    settled_total (outputs_of r (meant r t env)) held)))
+
+total : (command : Option Command) (held : Held) → Total (asked_step command) held
+total None held = settled_total (Err st.Usage) held
+total (Some (run r)) held = onward_total (run_step r) (λ files. settled (Ok (only_files files))) held (run_total r held) (λ files. settled_total (Ok (only_files files)) held)
+
+pub not_without : (command : Option Command) (held : Held) → ¬ ((given : Result Made Status) → ¬ (asked_step command).gives held given)
+not_without command held none = total command held (λ p. none p.0 p.1)
