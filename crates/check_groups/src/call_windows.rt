@@ -1,4 +1,4 @@
-// The windows of analytic calls, and the calls without their operands.
+// The windows of analytic calls, and the parts of calls after their operands.
 ghost use Rattle.std.specs.Option.{option_copied, option_map};
 ghost use Rattle.std.specs.Prelude.{◌≡◌, unwrap_or};
 ghost use Rattle.check_faults.specs.Answers.{Answers};

@@ -11,8 +11,8 @@ use std::alloc::{AllocError, Global};
 /// How many bytes are asked for at a time.
 const BLOCK: usize = 65536;
 
-/// Reads the file `name` whole, if it has at most `limit` bytes. It stops at the first read that goes
-/// beyond the limit; each read takes at least one byte.
+/// Reads the file `name` whole, if it has at most `limit` bytes. It stops at the first read that goes beyond the limit;
+/// each read takes at least one byte.
 ///
 /// # Errors
 ///

@@ -1,5 +1,5 @@
-//! The grammar of scripts: which tokens spell which tree, what the fault of tokens that spell none is, and the laws
-//! of both.
+//! The grammar of scripts: which tokens spell which tree, what the fault of tokens that spell none is, and the laws of
+//! both.
 //!
 //! The definition stands in specs/Grammar.antt, Levels.antt and Fits.antt; specs/Read*.antt mirror the reader,
 //! function for function, and the laws tie the mirror to the grammar. The two enums in src are what the mirror and
