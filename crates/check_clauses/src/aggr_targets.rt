@@ -1,4 +1,4 @@
-// The targets of `aggr`, behind their values.
+// The targets of `aggr`, once their values are typed.
 ghost use Rattle.std.specs.Option.{option_map};
 ghost use Rattle.std.specs.Prelude.{◌≡◌, IfOk, map};
 ghost use Rattle.vtl_nodes.specs.Trees as tree;
@@ -37,7 +37,7 @@ fn is_target(name: &Txt, done: &[Made]) -> bool
     false
 }
 
-/// The name of a target of `aggr` behind others: it breaks `RepeatedName` where it stands there.
+/// The name of a target of `aggr` after others: it breaks `RepeatedName` where it stands there already.
 pub fn aggr_name(done: &[Made], component: &Comp) -> Result<(), TypeErr>
     ensures { Answers (λ done. done) result (aggr_name done.now component.now) }
 {
@@ -93,8 +93,8 @@ fn made_as(
     Ok(Made { target, kind })
 }
 
-/// One more target of `aggr` behind others: it breaks `DatasetOrValue` where it is a data set, and `AggregateMisuse` where it is
-/// no aggregate call.
+/// One more target of `aggr` after others: it breaks `DatasetOrValue` where it is a data set, and `AggregateMisuse`
+/// where it is no aggregate call.
 #[tactic(auto, unfolding(crate::specs::Targets::with_made))]
 pub fn push_made(
     done: &mut Vec<Made>,
@@ -210,7 +210,8 @@ fn grouped(
     Ok((structure, names))
 }
 
-/// `aggr`, behind its targets, its grouping and the condition of groups. It breaks `RepeatedComponent`, `ComponentCount` and `NullKind`.
+/// `aggr`, once its targets, its grouping and the condition of groups are typed. It breaks `RepeatedComponent`,
+/// `ComponentCount` and `NullKind`.
 #[tactic(auto, unfolding(crate::specs::Targets::aggr_clause))]
 pub fn aggr(
     alloc: Global,

@@ -1,4 +1,4 @@
-// The targets of `calc`, behind their values.
+// The targets of `calc`, once their values are typed.
 ghost use Rattle.std.specs.List.{list_any};
 ghost use Rattle.std.specs.Prelude.{◌≡◌, IfOk, map};
 ghost use Rattle.vtl_nodes.specs.View.{form_tree, item_tree, node_tree, value_tree};
@@ -32,8 +32,8 @@ fn is_target(name: &Txt, done: &[CalcItem]) -> bool
     false
 }
 
-/// The name of a target of `calc` behind others: it breaks `RepeatedName` where it stands there, and `WrongRole` where it is that
-/// of an identifier.
+/// The name of a target of `calc` after others: it breaks `RepeatedName` where it stands there already, and `WrongRole`
+/// where it is that of an identifier.
 pub fn calc_name(operand: &Node, done: &[CalcItem], component: &Comp) -> Result<(), TypeErr>
     ensures { Answers (λ done. done) result (calc_name (node_tree operand.now) (map item_tree done.now) component.now) }
 {
@@ -45,7 +45,7 @@ pub fn calc_name(operand: &Node, done: &[CalcItem], component: &Comp) -> Result<
     )
 }
 
-/// One more target of `calc` behind others.
+/// One more target of `calc` after others.
 pub fn push_item(
     done: &mut Vec<CalcItem>,
     role: Option<WrittenRole>,
@@ -167,7 +167,7 @@ fn made_calc(
     made_node(alloc, structure, form_of(operand, items))
 }
 
-/// `calc`, behind its targets. It breaks `ComponentCount` and `NullKind`.
+/// `calc`, once its targets are typed. It breaks `ComponentCount` and `NullKind`.
 #[tactic(auto, using(crate::proofs::ClauseErrors::refused), unfolding(crate::specs::Targets::calc_clause))]
 pub fn calc(alloc: Global, operand: Box<Node>, items: Vec<CalcItem>) -> Result<Box<Node>, TypeErr>
     ensures { Answers boxed_tree result (calc_clause (boxed_tree operand) (items_view items)) }

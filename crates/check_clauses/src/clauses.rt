@@ -26,7 +26,7 @@ pub fn filter(alloc: Global, operand: Box<Node>, condition: Typed) -> Result<Box
     made_node(alloc, structure, NodeForm::Filter { a: operand, c })
 }
 
-// The name that a reference is, where it stands for a component of the wanted role behind other names.
+// The name that a reference is, where it stands for a component of the wanted role after other names.
 #[tactic(auto, unfolding(crate::specs::Clauses::name_known))]
 pub(crate) fn name_known(
     alloc: Global,
@@ -86,8 +86,8 @@ fn form(keeping: &Keeping, operand: Box<Node>, names: Vec<Txt>) -> NodeForm
     }
 }
 
-/// `keep` or `drop`. A name breaks `UnknownComponent`, `RepeatedName` and `WrongRole`, and the clause `ComponentCount` where
-/// nothing is left.
+/// `keep` or `drop`. A name breaks `UnknownComponent`, `RepeatedName` and `WrongRole`, and the clause `ComponentCount`
+/// where nothing is left.
 #[tactic(auto, unfolding(crate::specs::Clauses::keeping_form))]
 pub fn keeping(
     alloc: Global,

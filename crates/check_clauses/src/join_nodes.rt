@@ -1,4 +1,4 @@
-// Joined sets, what the body of a join sees of them, and their last naming.
+// Joined sets, what the body of a join sees of them, and their final naming.
 ghost use Rattle.std.specs.Option.{option_copied};
 ghost use Rattle.std.specs.Prelude.{◌≡◌, IfOk, map};
 ghost use Rattle.vtl_nodes.specs.Trees as tree;
@@ -108,8 +108,8 @@ fn made_join(
     made_node(alloc, structure, NodeForm::Join { operands, spec })
 }
 
-/// The joined set. The names behind `using` break `UnknownComponent`, `RepeatedName`, `WrongRole` and `JoinMisuse`, the operands
-/// `IdentifiersDisagree`, and the result `RepeatedComponent` and `ComponentCount`.
+/// The joined set. The names after `using` break `UnknownComponent`, `RepeatedName`, `WrongRole` and `JoinMisuse`, the
+/// operands `IdentifiersDisagree`, and the result `RepeatedComponent` and `ComponentCount`.
 #[tactic(auto, unfolding(crate::specs::JoinOperands::joined_node))]
 pub fn joined_node(
     alloc: Global,
@@ -155,7 +155,8 @@ fn left_names(
     Ok(renamings)
 }
 
-/// The last naming of a join, which each has: what is still named behind an alias is named without. It breaks `RepeatedComponent`.
+/// The final naming of a join, which every join has: each name that still has an alias loses it. It breaks
+/// `RepeatedComponent`.
 #[tactic(auto, unfolding(crate::specs::JoinOperands::last_naming))]
 pub fn last_naming(alloc: Global, joined: &Joined, operand: Box<Node>) -> Result<Box<Node>, TypeErr>
     ensures { Answers boxed_tree result (last_naming joined.now (boxed_tree operand)) }

@@ -1,4 +1,4 @@
-// The operands of a join, behind each other.
+// The operands of a join, one after another.
 ghost use Rattle.std.specs.Prelude.{◌≡◌, map};
 ghost use Rattle.vtl_nodes.specs.View.{operand_tree};
 ghost use Rattle.check_faults.specs.Answers.{Answers};
@@ -54,7 +54,7 @@ fn is_alias(alias: &Txt, done: &[Part]) -> bool
     false
 }
 
-// The alias of one more operand behind others.
+// The alias of one more operand after others.
 fn new_alias(done: &[Part], written: &Expr, alias: &Option<Txt>) -> Result<Txt, TypeErr>
     ensures { Answers (λ alias. alias) result (new_alias (map part_view done.now) (expr_tree written.now) alias.now) }
 {
@@ -63,8 +63,8 @@ fn new_alias(done: &[Part], written: &Expr, alias: &Option<Txt>) -> Result<Txt, 
     Ok(alias.share()?)
 }
 
-/// One more operand behind others. It breaks `JoinMisuse` where it has no alias and is no plain name, and `RepeatedName` where an
-/// operand before it has its alias.
+/// One more operand after others. It breaks `JoinMisuse` where it has no alias and is no plain name, and `RepeatedName`
+/// where an operand before it has its alias.
 #[tactic(auto, unfolding(crate::specs::JoinOperands::with_part))]
 pub fn push_part(
     done: &mut Vec<Part>,

@@ -3,8 +3,8 @@
 //!
 //! The structures come from `check_shapes` and `check_joins`; this crate puts the tests of a clause's parts before
 //! them, in written order, and makes the node.
-//! It goes down no tree (`check_expressions` does, and hands in each value typed), and it evaluates nothing:
-//! `vtl_clause` does that, on points.
+//! It walks no tree (`check_expressions` does, and passes in each value typed), and it evaluates nothing: `vtl_clause`
+//! does that, on points.
 //! Begin with specs/Clauses.antt, then Targets.antt and JoinOperands.antt.
 #![tactic(auto)]
 

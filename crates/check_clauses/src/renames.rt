@@ -28,7 +28,7 @@ pub(crate) fn renamed(
     made_node(alloc, structure, NodeForm::Rename { a: operand, pairs })
 }
 
-// A renaming behind others, whose old names these are.
+// A renaming after others with these old names.
 #[tactic(auto, unfolding(crate::specs::Clauses::renaming_known))]
 fn renaming_known(
     alloc: Global,
@@ -62,8 +62,8 @@ fn renamings_typed(
     Ok(renamings)
 }
 
-/// `rename`. An old name breaks `UnknownComponent` and `RepeatedName`, and the clause `RepeatedComponent` where a name would
-/// stand twice.
+/// `rename`. An old name breaks `UnknownComponent` and `RepeatedName`, and the clause `RepeatedComponent` where a name
+/// would stand twice.
 #[tactic(auto, unfolding(crate::specs::Clauses::renaming_form))]
 pub fn renaming(
     alloc: Global,

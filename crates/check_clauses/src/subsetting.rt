@@ -46,7 +46,7 @@ fn sub_value(
     literal_as(alloc, profile, kind, written)
 }
 
-// An identifier with its value, behind others of these names.
+// An identifier with its value, after others with these names.
 #[tactic(auto, unfolding(crate::specs::Clauses::sub_known))]
 fn sub_known(
     alloc: Global,
@@ -115,8 +115,8 @@ fn subset(alloc: Global, operand: Box<Node>, items: Vec<SubItem>) -> Result<Box<
     made_node(alloc, structure, NodeForm::Sub { a: operand, values })
 }
 
-/// `sub`. A name breaks `UnknownComponent`, `RepeatedName` and `WrongRole`, a literal `WrongKind` and `WrongLiteral`, and the
-/// clause `ComponentCount` where nothing is left.
+/// `sub`. A name breaks `UnknownComponent`, `RepeatedName` and `WrongRole`, a literal `WrongKind` and `WrongLiteral`,
+/// and the clause `ComponentCount` where nothing is left.
 #[tactic(auto, unfolding(crate::specs::Clauses::sub_form))]
 pub fn sub(
     alloc: Global,

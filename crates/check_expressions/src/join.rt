@@ -62,7 +62,7 @@ fn last_step(alloc: Global, joined: &Option<Joined>, node: Box<Node>) -> Result<
     }
 }
 
-/// What follows the parts of a join's body that hold expressions.
+/// What comes after the parts of a join's body that hold expressions.
 pub fn body_end(
     alloc: Global,
     joined: &Option<Joined>,

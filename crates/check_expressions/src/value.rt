@@ -1,4 +1,4 @@
-// The values of targets, and functions, behind their operands.
+// The values of targets, and functions, once their operands are typed.
 ghost use Rattle.std.specs.Prelude.{◌≡◌, ◌++◌, ◌∷◌, [], IfOk, map};
 ghost use Rattle.std.specs.Option.{option_map};
 ghost use Rattle.vtl_nodes.specs.View.{value_tree};
@@ -19,7 +19,7 @@ use vtl_cell::Profile;
 use vtl_nodes::CalcValue;
 use vtl_syntax::{Expr, FunctionName};
 
-/// One more operand behind others.
+/// One more operand after others.
 pub fn with_operand(operands: Vec<Typed>, operand: Typed) -> Result<Vec<Typed>, AllocError>
     ensures { IfOk result (λ v. typed_trees v ≡ typed_trees operands ++ typed_tree operand ∷ []) }
 {

@@ -37,7 +37,7 @@ use vtl_syntax::{
 };
 use vtl_tree::CompExpr;
 
-// One more operand behind others.
+// One more operand after others.
 #[cycle(typing)]
 fn next(
     alloc: Global,
@@ -89,7 +89,7 @@ fn outside(alloc: Global, scope: &Scope, e: &Expr) -> Result<Typed, TypeErr>
     typing(alloc, scope, &place, e)
 }
 
-// `setdiff` and `symdiff` behind their first operand.
+// `setdiff` and `symdiff` after their first operand.
 #[cycle(typing)]
 fn difference_behind(
     alloc: Global,
@@ -104,7 +104,7 @@ fn difference_behind(
     difference(alloc, operator, first, second)
 }
 
-// `exists_in` behind its first operand.
+// `exists_in` after its first operand.
 #[cycle(typing)]
 fn exists_behind(
     alloc: Global,
@@ -350,7 +350,7 @@ fn filtered_join(
     filter_part(alloc, scope, condition, joined, node)
 }
 
-// The body of a join behind its filter.
+// The body of a join after its filter.
 #[cycle(typing)]
 fn join_end(
     alloc: Global,
@@ -384,7 +384,7 @@ fn targets_part(
     }
 }
 
-// `check` behind its operand.
+// `check` after its operand.
 #[cycle(typing)]
 fn check_behind(
     alloc: Global,
@@ -402,8 +402,8 @@ fn check_behind(
     check(alloc, spec, operand, imbalance)
 }
 
-/// The typing of an expression at a place: its parts in written order, operands before operators. The first part that breaks a
-/// rule is the fault, with the smallest rule that it breaks.
+/// The typing of an expression at a place: its parts in written order, operands before operators. The first part that
+/// breaks a rule is the fault, with the least rule that it breaks.
 #[cycle(typing)]
 pub fn typing(alloc: Global, scope: &Scope, place: &Place, e: &Expr) -> Result<Typed, TypeErr>
     ensures { Answers typed_tree result (typed (env_of scope.now) place.now (expr_tree e.now)) }

@@ -33,9 +33,9 @@ pub enum Rule {
     NoCodes = 13,
     /// A data set stands where a scalar or a component is needed, or the other way round.
     DatasetOrValue = 14,
-    /// An aggregate or a component stands where aggregates do not let it.
+    /// An aggregate or a component stands where aggregates do not allow it.
     AggregateMisuse = 15,
-    /// An analytic call stands where none may, or its order or frame is against its form.
+    /// An analytic call stands where none may, or its order or frame does not fit its form.
     AnalyticMisuse = 16,
     /// Two rules of a ruleset have the same identifier, or an item occurs twice in one.
     RepeatedRule = 17,

@@ -86,8 +86,8 @@ fn component_call(
     group_call_by(function, Some(name), grouped, given)
 }
 
-/// An aggregate of a component over groups, in a target of `aggr` or in `having`. It breaks `UnknownComponent`, `WrongKind` where
-/// the component's kind does not fit, and `AggregateMisuse` where it has groups of its own.
+/// An aggregate of a component over groups, in a target of `aggr` or in `having`. It breaks `UnknownComponent`,
+/// `WrongKind` where the component's kind does not fit, and `AggregateMisuse` where it has groups of its own.
 #[tactic(auto, unfolding(crate::specs::Aggregates::written_call))]
 pub fn written_call(
     alloc: Global,
@@ -206,8 +206,8 @@ fn misuse_rule(place: &Place, unfit: bool, grouped: bool) -> Rule
     }
 }
 
-/// An aggregate of no data set: over groups `count()` is the number of points; all else breaks `WrongKind`, `DatasetOrValue` or
-/// `AggregateMisuse`.
+/// An aggregate that is not of a data set: over groups `count()` is the number of points; anything else breaks
+/// `WrongKind`, `DatasetOrValue` or `AggregateMisuse`.
 pub fn no_dataset(
     place: &Place,
     function: AggregateName,

@@ -83,7 +83,7 @@ fn call_of(call: Call, component: Option<&Txt>, window: Window) -> Result<CalcVa
     }
 }
 
-// A call behind an operand that is a value.
+// A call whose operand, already typed, is a value.
 fn value_call(
     e: &Expr,
     operand: &CompExpr,
@@ -107,7 +107,7 @@ fn rank_call(call: &Call, window: Window) -> Result<CalcValue, TypeErr>
     }))
 }
 
-// Where a value is needed an operator on a data set is typed, and then breaks `DatasetOrValue`.
+// Where a value is needed, an operator on a data set is typed first, and then breaks `DatasetOrValue`.
 #[tactic(auto, unfolding(crate::specs::Windowed::over_node))]
 fn target_form(
     alloc: Global,
@@ -129,7 +129,7 @@ fn target_form(
     }
 }
 
-/// An analytic call that is the whole of a target of `calc`, behind its operand.
+/// An analytic call that is the whole of a target of `calc`, once its operand is typed.
 #[tactic(auto, unfolding(crate::specs::Windowed::target_typed))]
 pub fn target(
     alloc: Global,

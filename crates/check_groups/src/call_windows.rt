@@ -1,4 +1,4 @@
-// The windows of analytic calls, and the calls before their operands.
+// The windows of analytic calls, and the parts of calls after their operands.
 ghost use Rattle.std.specs.Option.{option_copied, option_map};
 ghost use Rattle.std.specs.Prelude.{◌≡◌, unwrap_or};
 ghost use Rattle.check_faults.specs.Answers.{Answers};
@@ -81,7 +81,7 @@ fn kind_beside(operand: &Option<Typed>) -> Kind
     }
 }
 
-/// The parts of a call behind its operand, and its window.
+/// The parts of a call after its operand, and its window.
 #[tactic(auto, unfolding(crate::specs::Windowed::over_parts))]
 pub(crate) fn over_parts(
     alloc: Global,

@@ -26,7 +26,7 @@ pub enum Needed {
 /// An analytic call without its operand and its window.
 #[derive(Drop)]
 pub struct Call {
-    /// The operator; a median is none.
+    /// The operator; a median is not one.
     pub op: Option<AnalyticOp>,
     /// What it asks of its window.
     pub needed: Needed,
@@ -110,7 +110,7 @@ fn shift_call(
     })
 }
 
-/// The parts of a call between its operand, beside which this kind is wanted, and its window.
+/// The parts of a call between its operand, with which this kind is wanted, and its window.
 pub(crate) fn call_typed(
     alloc: Global,
     profile: &Profile,

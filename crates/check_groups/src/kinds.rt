@@ -18,14 +18,14 @@ pub(crate) fn agg_kind(function: AggregateName) -> AggKind
     }
 }
 
-/// The kind that an aggregate gives of values of a kind, where it takes them.
+/// The kind that an aggregate gives for values of a kind, where it takes them.
 pub(crate) fn aggregate_kind(function: AggregateName, kind: Kind) -> Option<Kind>
     ensures { result ≡ aggregate_kind function kind }
 {
     vtl_kinds::aggregate_kind(agg_kind(function), kind)
 }
 
-/// The same of an operand that has this kind or is missing: without one there is the number of points alone.
+/// The same for an operand that has this kind or is missing: without one there is only the number of points.
 pub(crate) fn call_kind(function: AggregateName, kind: Option<Kind>) -> Option<Kind>
     ensures { result ≡ call_kind function kind }
 {

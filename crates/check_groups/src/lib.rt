@@ -1,9 +1,9 @@
 //! Aggregates and analytic calls on typed operands: of the measures of a data set, of a component over groups, over
 //! windows.
 //!
-//! It decides which of them may stand where (`AggregateMisuse` and `AnalyticMisuse`), what they ask of measures, and what
-//! they give. It stands beside `check_clauses`, and neither calls the other; what they share is further down. It goes down no
-//! tree and computes no aggregate.
+//! It decides which of them may stand where (`AggregateMisuse` and `AnalyticMisuse`), what they ask of measures, and
+//! what they give. It is independent of `check_clauses`: neither calls the other, and what they share is in the crates
+//! below. It walks no tree and computes no aggregate.
 //! Begin with specs/Aggregates.antt, then Windowed.antt.
 #![tactic(auto)]
 

@@ -37,7 +37,7 @@ fn shift_kind(default: &Option<Literal>, kind: Kind) -> Option<Kind>
     }
 }
 
-/// The kind that an analytic call gives of values of a kind, where it takes them.
+/// The kind that an analytic call gives for values of a kind, where it takes them.
 pub(crate) fn over_kind(call: &Expr, kind: Kind) -> Option<Kind>
     ensures { result ≡ over_kind (expr_tree call.now) kind }
 {
@@ -49,7 +49,7 @@ pub(crate) fn over_kind(call: &Expr, kind: Kind) -> Option<Kind>
     }
 }
 
-/// Whether a call is of `rank`, which alone has no operand.
+/// Whether a call is of `rank`, the only one without an operand.
 pub(crate) fn is_rank(call: &Expr) -> bool
     ensures { result ≡ is_rank (expr_tree call.now) }
 {

@@ -46,8 +46,9 @@ fn is_misplaced(op: &Option<AnalyticOp>) -> bool
     }
 }
 
-/// The structure of a call of each measure. It breaks `WrongKind` where the kind of a measure does not fit, `ComponentCount`
-/// where nothing is left, and `AnalyticMisuse` where the call is no operator on data sets or does not suit its window.
+/// The structure of a call of each measure. It breaks `WrongKind` where the kind of a measure does not fit,
+/// `ComponentCount` where nothing is left, and `AnalyticMisuse` where the call is no operator on data sets or does not
+/// suit its window.
 #[tactic(auto, unfolding(crate::specs::Windowed::over_structure))]
 pub(crate) fn over_structure(
     alloc: Global,

@@ -54,8 +54,8 @@ fn over_form(
     }
 }
 
-/// An analytic call that is no whole target of `calc`, behind its operand: a data set has its measures, anything else breaks
-/// `WrongKind`, `DatasetOrValue` or `AnalyticMisuse`.
+/// An analytic call that is no whole target of `calc`, once its operand is typed: a data set has its measures, anything
+/// else breaks `WrongKind`, `DatasetOrValue` or `AnalyticMisuse`.
 #[tactic(auto, unfolding(crate::specs::Windowed::over_typed))]
 pub fn over(
     alloc: Global,

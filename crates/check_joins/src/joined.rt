@@ -32,8 +32,8 @@ fn push_held(out: &mut Vec<Txt>, kind: JoinKind, components: &[Component]) -> Re
     Ok(())
 }
 
-/// The names of the components that operands hold, operand by operand: a shared identifier is held by the reference alone and is
-/// not among them, but in a cross join each operand holds its own.
+/// The names of the components that operands hold, operand by operand: a shared identifier is held by the reference
+/// alone and is not among them, but in a cross join each operand holds its own.
 pub fn held_names(
     alloc: Global,
     kind: JoinKind,
@@ -189,9 +189,10 @@ fn joined_components(
     Ok(out)
 }
 
-/// The joined set of a join: the identifiers of the reference, in a cross join those of all operands, and then the other
-/// components operand by operand. A name that several operands hold is `alias'name` in it. Beside what the names behind `using`
-/// break, the join breaks `IdentifiersDisagree` where the identifiers of its operands do not agree as it requires.
+/// The joined set of a join: the identifiers of the reference, in a cross join those of all operands, and then the
+/// other components operand by operand. A name that several operands hold is `alias'name` in it. Besides what the names
+/// after `using` break, the join breaks `IdentifiersDisagree` where the identifiers of its operands do not agree as it
+/// requires.
 pub fn join(
     alloc: Global,
     kind: JoinKind,
@@ -240,8 +241,8 @@ fn is_reference(kind: JoinKind, operands: &[Operand], alias: &Txt) -> bool
     }
 }
 
-/// The name in the joined set that `alias#name` stands for, by the names that the operands hold (`held_names`). It breaks
-/// `UnknownComponent` where no operand has the alias or that operand does not hold the name.
+/// The name in the joined set that `alias#name` stands for, by the names that the operands hold (`held_names`). It
+/// breaks `UnknownComponent` where no operand has the alias or that operand does not hold the name.
 pub fn member(
     alloc: Global,
     kind: JoinKind,
@@ -301,7 +302,7 @@ fn push_own_renamings(
     Ok(())
 }
 
-/// The last naming of a join: each `alias'name` of the joined set becomes `name`.
+/// The final naming of a join: each `alias'name` of the joined set becomes `name`.
 pub fn last_renamings(
     alloc: Global,
     kind: JoinKind,

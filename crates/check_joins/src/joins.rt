@@ -47,8 +47,8 @@ fn contains_all(operand: &Operand, operands: &[Operand]) -> bool
     true
 }
 
-// The first operand whose identifiers contain those of every other one. One that does not contain another gives way to it: if any
-// contains all, the first of them is the one that is left.
+// The first operand whose identifiers contain those of every other one. An operand that does not contain another gives
+// way to it: if any contains all, the first such operand is the one that is left.
 fn containing(operands: &[Operand]) -> Option<&Operand>
     ensures { option_copied result ≡ containing operands.now }
 {
@@ -165,7 +165,7 @@ fn all_go_with(
     true
 }
 
-/// Whether there is a reference, and each other operand goes with it; in a cross join all go together.
+/// Whether there is a reference, and every other operand goes with it; in a cross join all go together.
 pub(crate) fn go_together(kind: JoinKind, listed: Option<&[Txt]>, operands: &[Operand]) -> bool
     ensures { result ≡ go_together kind (option_copied listed.entry) operands.now }
 {
@@ -223,8 +223,9 @@ fn takes_using(kind: JoinKind) -> bool
     }
 }
 
-/// The names behind `using`: one breaks `UnknownComponent` where no operand has it, `RepeatedName` where it stands there already,
-/// and `WrongRole` where it is never an identifier. Behind them a join that takes no `using` breaks `JoinMisuse`.
+/// The names after `using`: a name breaks `UnknownComponent` where no operand has it, `RepeatedName` where it stands
+/// there already, and `WrongRole` where it is never an identifier. After the names, a join that takes no `using` breaks
+/// `JoinMisuse`.
 pub(crate) fn check_using(
     kind: JoinKind,
     operands: &[Operand],

@@ -28,8 +28,8 @@ ghost use Rattle.check_laws.specs.Reads.{is_inside, names_read, script_names};
 ghost use Rattle.check_laws.specs.Scripts.{AreKnownAlike, AreMadeFrom, AreReadFrom};
 ghost use Rattle.check_laws.specs.WellTyped.{AreShaped, IsWellTyped};
 
-/// What an expression is typed as is typed over the columns of its place, or is made over the data sets that are known: each
-/// node has a structure that fits its operands. Over groups nothing is said of values.
+/// What typing gives for an expression is typed over the columns of its place, or is made over the data sets that are
+/// known: each node has a structure that fits its operands. Over groups nothing is said about values.
 pub fn typing_is_sound()
     ensures { (env : Env) (at : Place) (e : Exp) (x : TypedTree) → AreShaped env.known → typed env at e ≡ Ok x → IsWellTyped env at x }
 {}
@@ -39,24 +39,24 @@ pub fn typed_values_are_of_their_kind()
     ensures { (env : Env) (i : Inside) (e : Exp) (x : CompExp) (r : Row) → AreShaped env.known → i.grouping ≡ None → typed env (place.Inside i) e ≡ Ok (value x) → is_point i.components r ≡ true → IfOk (value_of env.settings x r) (λ v. is_of (exp_kind x) v ≡ true) }
 {}
 
-/// The nodes of a typed script: one for each statement, whose result has a new name, and each made over what is known where its
-/// statement stands. All nodes within them have structures of 1 to 64 components with distinct names, and each name that is
-/// read is that of a declared data set or of an earlier result.
+/// The nodes of a typed script: one for each statement, whose result has a new name, and each made over what is known
+/// where its statement stands. All nodes within them have structures of 1 to 64 components with distinct names, and
+/// each name that is read is that of a declared data set or of an earlier result.
 pub fn typed_scripts_are_made()
     ensures made { (t : TypedScript) → AreStructures t.declared → IsTyped t → AreMadeFrom t.settings t.declared (tree_of t) (nodes_of t) }
     ensures structures { (t : TypedScript) → AreStructures t.declared → IsTyped t → AllByRecursion (λ n. AllByRecursion (λ m. IsStructure (structure_of m)) (nodes_in n)) (nodes_of t) }
     ensures names { (t : TypedScript) → AreStructures t.declared → IsTyped t → AreReadFrom (keys_of t.declared) (tree_of t) (nodes_of t) }
 {}
 
-/// A node that is made over some data sets reads names that are known there, and is made over all others in which these names
-/// stand for the same structures.
+/// A node that is made over some data sets reads names that are known there, and is made over all others in which these
+/// names stand for the same structures.
 pub fn nodes_are_made_over_what_they_read()
     ensures known { (p : Settings) (known : Named) (n : NodeTree) → IsMade p known n → AllByRecursion (λ name. has_name name known ≡ true) (names_in n) }
     ensures over { (p : Settings) (known other : Named) (n : NodeTree) → AreKnownAlike known other (names_in n) → IsMade p known n → IsMade p other n }
 {}
 
-/// Typing depends only on the structures of the names that are read: of an expression, and of a script, in which the names of
-/// results have to be new.
+/// Typing depends only on the structures of the names that are read: of an expression, and of a script, in which the
+/// names of results have to be new.
 pub fn typing_depends_on_what_is_read()
     ensures expression { (p : Settings) (known other : Named) (at : Place) (e : Exp) → AreKnownAlike known other (names_read (is_inside at) e) → typed (env_over p known) at e ≡ typed (env_over p other) at e }
     ensures script { (p : Settings) (known other : Named) (ss : ScriptTree) → AreKnownAlike known other (script_names ss) → script_typed (env_over p known) ss ≡ script_typed (env_over p other) ss }

@@ -2,8 +2,8 @@
 //! typed scripts read what is known, and typing depends on nothing else. It has no code.
 //!
 //! It is the one bridge from typing (`vtl_check`) to meaning (`vtl_meaning`): the conditions of the laws there hold
-//! of what is typed.
-//! Neither side names the other; what evaluates (`vtl_interp`) cites this.
+//! for what is typed.
+//! Neither side names the other; `vtl_interp`, which evaluates, cites this.
 //! Begin with specs/WellTyped.antt and src/laws.rt.
 #![tactic(auto)]
 

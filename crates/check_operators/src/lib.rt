@@ -1,9 +1,9 @@
 //! Typed expressions, the places where they stand, and what operators make of typed operands.
 //!
-//! A typed expression is a value or a data set (`Typed`), and the place tells what its names stand for: data sets
-//! outside of brackets, inside the components of points, of groups, of a joined set. Operators, `#`, set operators,
+//! A typed expression is a value or a data set (`Typed`), and the place says what its names stand for: data sets
+//! outside of brackets; inside, the components of points, of groups or of a joined set. Operators, `#`, set operators,
 //! `exists_in` and `check` are typed here.
-//! It goes down no tree: operands come typed. It knows no statements and no points.
+//! It walks no tree: operands come typed. It knows no statements and no points.
 //! Begin with specs/Places.antt and Typed.antt, then Operators.antt.
 #![tactic(auto)]
 

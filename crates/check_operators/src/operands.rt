@@ -1,4 +1,4 @@
-// The operands of an operator, parted into data sets and values.
+// The operands of an operator, separated into data sets and values.
 ghost use Rattle.std.specs.Prelude.{◌≡◌, ◌++◌, ◌∷◌, [], IfOk, OnOk};
 ghost use Rattle.vtl_tree.specs.View.{comp_exp_of};
 ghost use Rattle.check_operators.specs.Operators.{no_operands, parted, parted_view, with_operand};
@@ -9,14 +9,14 @@ use std::alloc::{AllocError, Global};
 use vtl_nodes::Node;
 use vtl_tree::CompExpr;
 
-/// Operands: the data sets, and the values before and behind the first of them.
+/// Operands: the data sets, and the values before and after the first of them.
 #[derive(Drop)]
 pub(crate) struct Parted {
     /// The values before the first data set.
     pub(crate) before: Vec<CompExpr>,
     /// The data sets.
     pub(crate) datasets: Vec<Box<Node>>,
-    /// The values behind the first data set.
+    /// The values after the first data set.
     pub(crate) after: Vec<CompExpr>,
 }
 
@@ -48,7 +48,7 @@ fn no_operands(alloc: Global) -> Parted
     }
 }
 
-/// The data sets among operands, and the values before and behind the first of them.
+/// The data sets among operands, and the values before and after the first of them.
 pub(crate) fn part(alloc: Global, operands: Vec<Typed>) -> Result<Parted, AllocError>
     ensures { IfOk result (λ p. parted_view p ≡ parted no_operands (typed_trees operands)) }
 {

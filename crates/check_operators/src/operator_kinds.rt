@@ -8,7 +8,7 @@ use std::alloc::{AllocError, Global};
 use vtl_cell::{Kind, ScalarOp};
 use vtl_kinds::operator_kind;
 
-/// The kinds that an operator between values gives of a measure, for each kind that the measure may have.
+/// The kinds that an operator between values gives for a measure, for each kind that the measure may have.
 #[derive(Clone, Copy)]
 pub(crate) struct GivenKinds {
     null: Option<Kind>,
@@ -38,7 +38,7 @@ impl Operator for GivenKinds {
     }
 }
 
-// The kind that an operator gives of a measure of one kind between values of these kinds.
+// The kind that an operator gives for a measure of one kind between values of these kinds.
 fn given_kind(
     alloc: Global,
     op: ScalarOp,
@@ -55,7 +55,7 @@ fn given_kind(
     Ok(operator_kind(op, &kinds))
 }
 
-/// The kinds that an operator gives of measures between values of these kinds.
+/// The kinds that an operator gives for measures between values of these kinds.
 pub(crate) fn between_kinds(
     alloc: Global,
     op: ScalarOp,

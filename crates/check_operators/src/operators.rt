@@ -21,7 +21,7 @@ use vtl_nodes::{MeasureOp, Node, NodeForm};
 use vtl_syntax::Literal;
 use vtl_tree::{CompExpr, Structure};
 
-// What an operator gives of the measures of a structure, by the kinds that it gives of them.
+// What an operator gives for the measures of a structure, by the kinds that it gives for them.
 fn structure_by(
     alloc: Global,
     outcome: Outcome,
@@ -169,7 +169,7 @@ fn on_three(
     }
 }
 
-// Data sets alone, of which there are more than two.
+// More than two data sets alone.
 #[tactic(auto, using(crate::proofs::OperatorLemmas::many_datasets))]
 fn on_many(
     alloc: Global,
@@ -187,7 +187,7 @@ fn on_many(
     }
 }
 
-// Data sets alone, of which there are several.
+// Several data sets alone.
 fn on_several(
     alloc: Global,
     op: ScalarOp,
@@ -203,7 +203,7 @@ fn on_several(
     }
 }
 
-// Several data sets, maybe among values.
+// Several data sets, possibly among values.
 #[tactic(auto, using(crate::proofs::OperatorLemmas::beside_values))]
 fn on_several_among(
     alloc: Global,
@@ -223,7 +223,7 @@ fn on_several_among(
     }
 }
 
-// An operator on operands of which some are data sets.
+// An operator on operands, some of them data sets.
 fn on_datasets(
     alloc: Global,
     op: ScalarOp,
@@ -273,8 +273,8 @@ fn on_operands(
     }
 }
 
-/// An operator on its operands. Whether their number is right, and whether those that have to be literals are, is told by the
-/// caller, who sees how they are written.
+/// An operator on its operands. Whether their number is right, and whether those that have to be literals are literals,
+/// is given by the caller, which sees how they are written.
 #[tactic(auto, unfolding(crate::specs::Operators::operator_form))]
 pub fn operator(
     alloc: Global,
@@ -309,7 +309,7 @@ fn push_members(operands: &mut Vec<Typed>, cells: Vec<Cell>) -> Result<(), Alloc
     Ok(())
 }
 
-// An operand and the members of a set behind it.
+// An operand and the members of a set after it.
 fn with_members(alloc: Global, operand: Typed, cells: Vec<Cell>) -> Result<Vec<Typed>, AllocError>
     ensures { IfOk result (λ v. typed_trees v ≡ typed_tree operand ∷ map (λ c. value (const c)) cells.items) }
 {

@@ -30,7 +30,7 @@ fn takes_first(op: ScalarOp) -> bool
     }
 }
 
-/// Whether an operator takes a data set behind so many values.
+/// Whether an operator takes a data set after this many values.
 pub(crate) fn takes_dataset(op: ScalarOp, values: usize) -> bool
     ensures { result ≡ takes_dataset op values }
 {
@@ -61,7 +61,7 @@ pub(crate) fn outcome_of(op: ScalarOp) -> Outcome
     }
 }
 
-/// The rule that is broken where an operator takes no data set and one stands.
+/// The rule that is broken where a data set stands and the operator takes none.
 pub(crate) fn misplaced_rule(number: bool, literals: bool) -> Rule
     ensures { result ≡ misplaced_rule number literals }
 {

@@ -71,9 +71,9 @@ pub(crate) fn component_typed(inside: &Inside, name: &Txt) -> Result<Typed, Type
     alone(&inside.grouping, name, e)
 }
 
-/// What a name stands for at a place: a data set, or a component. An unknown data set breaks `UnknownDataset`, an unknown
-/// component `UnknownComponent`, a quoted name where a data set is needed `DatasetOrValue`, and a component that is no grouping
-/// identifier, over groups, `AggregateMisuse`.
+/// What a name stands for at a place: a data set, or a component. An unknown data set breaks `UnknownDataset`, an
+/// unknown component `UnknownComponent`, a quoted name where a data set is needed `DatasetOrValue`, and a component
+/// that is no grouping identifier, over groups, `AggregateMisuse`.
 pub fn name(alloc: Global, scope: &Scope, place: &Place, component: &Comp) -> Result<Typed, TypeErr>
     ensures { Answers typed_tree result (name_typed (env_of scope.now) place.now component.now) }
 {

@@ -49,7 +49,7 @@ impl Typed {
         }
     }
 
-    /// The kind that literals beside an operand have to meet: that of the value, or of the first measure.
+    /// The kind that literals given with an operand have to meet: that of the value, or of the first measure.
     pub fn beside_kind(&self) -> Kind
         ensures { result ≡ beside_kind (typed_tree self.now) }
     {
@@ -80,14 +80,14 @@ fn first_measure_kind(components: &[Component]) -> Kind
     Kind::Null
 }
 
-/// The node of a data set of this structure, made so.
+/// The node of a data set of this structure, made in this form.
 pub fn made_node(alloc: Global, structure: Structure, form: NodeForm) -> Result<Box<Node>, TypeErr>
     ensures { Answers boxed_tree result (Ok (node structure (form_tree form))) }
 {
     Ok(Box::new(alloc, Node { structure, form })?)
 }
 
-/// A data set of this structure, made so.
+/// A data set of this structure, made in this form.
 pub fn made_of(alloc: Global, structure: Structure, form: NodeForm) -> Result<Typed, TypeErr>
     ensures { Answers typed_tree result (made_of (form_tree form) structure) }
 {

@@ -41,7 +41,7 @@ fn with_alias<'a>(alias: &'a Txt, component: &'a Comp) -> WrittenName<'a>
     }
 }
 
-// A name behind an alias, where the operand is one.
+// A name after an alias, where the operand is one.
 fn member_written<'a>(operand: &'a Expr, component: &'a Comp) -> Option<WrittenName<'a>>
     ensures { option_map written_view result ≡ member_written (expr_tree operand.now) component.now }
 {
@@ -51,7 +51,7 @@ fn member_written<'a>(operand: &'a Expr, component: &'a Comp) -> Option<WrittenN
     }
 }
 
-/// The component that an expression is: a name, or a name behind an alias.
+/// The component that an expression is: a name, or a name after an alias.
 pub fn written_in(e: &Expr) -> Option<WrittenName<'_>>
     ensures { option_map written_view result ≡ written_in (expr_tree e.now) }
 {
@@ -93,7 +93,8 @@ fn member_name(
     }
 }
 
-/// The name of a component. `alias#name` stands for a name of the joined set; outside of a join's body it breaks `UnknownComponent`.
+/// The name of a component. `alias#name` stands for a name of the joined set; outside of a join's body it breaks
+/// `UnknownComponent`.
 pub fn name_written(
     alloc: Global,
     joined: &Option<Joined>,

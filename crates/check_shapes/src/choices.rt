@@ -84,8 +84,8 @@ pub fn choose(
     shaped(alloc, out)
 }
 
-/// The structure of the components that are chosen by names of the wanted role, as `known` says of each. So `keep` and `drop` are
-/// over measures and attributes, `sub` drops identifiers, and `#` keeps one measure.
+/// The structure of the components that are chosen by names of the wanted role, as `known` says of each. So `keep` and
+/// `drop` are over measures and attributes, `sub` drops identifiers, and `#` keeps one measure.
 pub fn choose_known(
     alloc: Global,
     wanted: Wanted,

@@ -19,10 +19,11 @@ pub trait Operator {
     ghost use Rattle.std.specs.Prelude.{Option};
     ghost use Rattle.vtl_cell.specs.declared.kind.Kind.{Kind as KindOf};
 
-    /// Of the kinds of a measure and of its namesake, the kind that is given, or none.
+    /// From the kinds of a measure and of its namesake, the kind that is given, or none.
     ghost gives: { Self → KindOf → KindOf → Option KindOf };
 
-    /// The kind that is given of the kinds of a measure and of its namesake, or none where they do not meet the operator's row.
+    /// The kind that is given for the kinds of a measure and of its namesake, or none where they do not meet the
+    /// operator's row.
     fn gives(&self, measure: Kind, namesake: Kind) -> Option<Kind>
         ensures { result ≡ gives self.now measure namesake };
 }
@@ -88,7 +89,8 @@ fn is_unmet<F: Operator>(operator: &F, others: Option<&[Component]>, component: 
     is_measure(component) && paired(operator, component.kind, namesake(others, component)).is_none()
 }
 
-/// Whether a measure does not meet the operator's row, beside its namesake among others, or alone where there are no others.
+/// Whether a measure does not meet the operator's row, together with its namesake among others, or alone where there
+/// are no others.
 pub fn any_unmet<F: Operator>(
     operator: &F,
     others: Option<&[Component]>,
@@ -195,9 +197,9 @@ pub(crate) fn push_given<F: Operator>(
     }
 }
 
-/// An operator on the measures of one data set: the identifiers that are chosen, then the measures that it gives. It breaks
-/// `WrongKind` where a measure does not meet the operator's row, `WrongLiteral` where operands that have to be literals are not,
-/// and `MeasuresDisagree` where the number of measures is not the one it asks for.
+/// An operator on the measures of one data set: the identifiers that are chosen, then the measures that it gives. It
+/// breaks `WrongKind` where a measure does not meet the operator's row, `WrongLiteral` where operands that have to be
+/// literals are not, and `MeasuresDisagree` where the number of measures is not the one it asks for.
 pub fn measured<F: Operator>(
     alloc: Global,
     outcome: Outcome,

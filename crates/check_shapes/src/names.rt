@@ -52,16 +52,17 @@ fn serves(wanted: Wanted, role: Role) -> bool
     }
 }
 
-/// A new name behind other names, as that of a target of `aggr` or an alias. It breaks `RepeatedName` where it stands there
-/// already.
+/// A new name after other names, such as that of a target of `aggr` or an alias. It breaks `RepeatedName` where it
+/// stands there already.
 pub fn check_new_name(before: &[Txt], name: &Txt) -> Result<(), TypeErr>
     ensures { Answers (λ done. done) result (ruled ((Rule.RepeatedName, is_among name.now before.now) ∷ []) tt) }
 {
     broken(Rule::RepeatedName, is_among(name, before))
 }
 
-/// The component that a name stands for behind other names. The name breaks `UnknownComponent` where there is no such component,
-/// `RepeatedName` where it stands there already, and `WrongRole` where the component's role is not the wanted one.
+/// The component that a name stands for after other names. The name breaks `UnknownComponent` where there is no such
+/// component, `RepeatedName` where it stands there already, and `WrongRole` where the component's role is not the
+/// wanted one.
 pub fn known<'a>(
     wanted: Wanted,
     components: &'a [Component],

@@ -47,8 +47,8 @@ fn push_pair_identifiers(
 }
 
 /// An operator on the measures of two data sets. It breaks `WrongKind` where a measure and its namesake do not meet the
-/// operator's row, `IdentifiersDisagree` where neither operand's identifiers contain the other's, and `MeasuresDisagree` where
-/// the names of the measures differ or their number is not the one that the operator asks for.
+/// operator's row, `IdentifiersDisagree` where neither operand's identifiers contain the other's, and
+/// `MeasuresDisagree` where the names of the measures differ or their number is not the one that the operator asks for.
 pub fn pair<F: Operator>(
     alloc: Global,
     outcome: Outcome,
@@ -105,9 +105,9 @@ fn are_choices(condition: &Structure, then: &Structure, other: &Structure) -> bo
         )
 }
 
-/// `if` on data sets. It breaks `WrongKind` where the measure of the condition is not boolean, `IdentifiersDisagree` where the
-/// identifiers are not those of the condition, and `MeasuresDisagree` where the condition has not one measure, or the choices
-/// have none or not the same ones.
+/// `if` on data sets. It breaks `WrongKind` where the measure of the condition is not boolean, `IdentifiersDisagree`
+/// where the identifiers are not those of the condition, and `MeasuresDisagree` where the condition does not have
+/// exactly one measure, or the choices have none or not the same ones.
 pub fn choose_by(
     alloc: Global,
     condition: &Structure,
@@ -131,8 +131,8 @@ pub fn choose_by(
     with_measures(alloc, condition, &[then, other], then)
 }
 
-/// `union`, `intersect`, `setdiff` or `symdiff` of an operand and others. It breaks `IdentifiersDisagree` where the identifiers
-/// are not the same, and `MeasuresDisagree` where the measures are not.
+/// `union`, `intersect`, `setdiff` or `symdiff` of an operand and others. It breaks `IdentifiersDisagree` where the
+/// identifiers are not the same, and `MeasuresDisagree` where the measures are not.
 pub fn set_operator(
     alloc: Global,
     first: &Structure,
@@ -187,7 +187,8 @@ fn any_at_odds(other: &Structure, components: &[Component]) -> bool
     false
 }
 
-/// `exists_in`. It breaks `IdentifiersDisagree` where the operands have no identifier in common, or one under different kinds.
+/// `exists_in`. It breaks `IdentifiersDisagree` where the operands have no identifier in common, or a common one has
+/// different kinds.
 pub fn exists_in(alloc: Global, left: &Structure, right: &Structure) -> Result<Structure, TypeErr>
     ensures { Answers (λ s. s) result (exists_form left.now right.now) }
 {
@@ -274,7 +275,8 @@ fn check_beside(
 }
 
 /// `check`, with an imbalance or without. It breaks `IdentifiersDisagree` where the identifiers are not the same, and
-/// `MeasuresDisagree` where the operand has not one boolean measure, or the imbalance not one that is a number.
+/// `MeasuresDisagree` where the operand does not have exactly one boolean measure, or the imbalance not exactly one
+/// that is a number.
 pub fn check(
     alloc: Global,
     structure: &Structure,

@@ -60,9 +60,9 @@ fn pivot_components(
     Ok(out)
 }
 
-/// What `pivot` gives: the other identifiers, and a measure for each code of the identifier, of the kind of the measure. Beside
-/// what their names break, the identifier breaks `NoCodes` where it has no codes, and a code that is no name of a component
-/// breaks `RepeatedComponent`.
+/// What `pivot` gives: the other identifiers, and a measure for each code of the identifier, of the kind of the
+/// measure. Besides what their names break, the identifier breaks `NoCodes` where it has no codes, and a code that is
+/// no name of a component breaks `RepeatedComponent`.
 pub fn pivot(
     alloc: Global,
     structure: &Structure,
@@ -116,8 +116,8 @@ fn names_column(alloc: Global, name: &Txt, measures: &[Component]) -> Result<Com
     })
 }
 
-/// What `unpivot` gives: the identifiers, an identifier whose codes are the names of the measures, and one measure of their kind.
-/// It breaks `MeasuresDisagree` where there is no measure or they have several kinds.
+/// What `unpivot` gives: the identifiers, an identifier whose codes are the names of the measures, and one measure of
+/// their kind. It breaks `MeasuresDisagree` where there is no measure or they have several kinds.
 pub fn unpivot(
     alloc: Global,
     structure: &Structure,

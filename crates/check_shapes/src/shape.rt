@@ -43,8 +43,8 @@ pub(crate) fn names_of(alloc: Global, components: &[Component]) -> Result<Vec<Tx
     Ok(names)
 }
 
-/// The structure of these components, which are the result of an operator. They break `RepeatedComponent` where a name stands
-/// twice, `ComponentCount` where there is none or too many, and `NullKind` where one has the kind of null.
+/// The structure of these components, which are the result of an operator. They break `RepeatedComponent` where a name
+/// stands twice, `ComponentCount` where there is none or too many, and `NullKind` where one has the kind of null.
 pub fn shaped(alloc: Global, components: Vec<Component>) -> Result<Structure, TypeErr>
     ensures { Answers (λ s. s) result (shaped components.items) }
 {
@@ -60,7 +60,7 @@ pub fn shaped(alloc: Global, components: Vec<Component>) -> Result<Structure, Ty
     })
 }
 
-/// What breaks no rule of results is a structure: 1 to 64 components with distinct names.
+/// Components that break no rule of results are a structure: 1 to 64 components with distinct names.
 pub fn results_are_structures()
     ensures { (xs : List Column) (s : Columns) → shaped xs ≡ Ok s → IsStructure s }
 {}

@@ -25,8 +25,8 @@ pub struct Target {
     pub kind: Kind,
 }
 
-/// The name of a target of `calc`, behind the names of other targets. It breaks `RepeatedName` where it stands there already, and
-/// `WrongRole` where it is that of an identifier.
+/// The name of a target of `calc`, after the names of other targets. It breaks `RepeatedName` where it stands there
+/// already, and `WrongRole` where it is that of an identifier.
 pub fn check_target(structure: &Structure, before: &[Txt], name: &Txt) -> Result<(), TypeErr>
     ensures { Answers (λ done. done) result (ruled (target_tests structure.now.components before.now name.now) tt) }
 {
@@ -108,8 +108,8 @@ fn push_targets(out: &mut Vec<Component>, targets: &[Target]) -> Result<(), Allo
     Ok(())
 }
 
-/// What `calc` gives with targets that `check_target` passed: a target that there is keeps its place, and its role where none
-/// is written; a new one goes last.
+/// What `calc` gives with targets that `check_target` passed: a target that exists already keeps its place, and its
+/// role where none is written; a new one goes last.
 pub fn calc(alloc: Global, structure: &Structure, targets: &[Target]) -> Result<Structure, TypeErr>
     ensures { Answers (λ s. s) result (calc_form targets.now structure.now.components) }
 {

@@ -1,4 +1,4 @@
-// What operators give of operands that are typed.
+// What operators give for typed operands.
 ghost use Rattle.std.specs.Prelude.{◌≡◌, IfOk, is_some, map};
 ghost use Rattle.vtl_tree.specs.View.{comp_exp_of};
 ghost use Rattle.check_faults.specs.Answers.{Answers};
@@ -57,7 +57,8 @@ fn call_of_kind(
     }
 }
 
-/// An operator on values. Whether those that have to be literals are is told by the caller, who sees how they are written.
+/// An operator on values. Whether those that have to be literals are literals is given by the caller, which sees how
+/// they are written.
 pub fn call(
     alloc: Global,
     op: ScalarOp,

@@ -83,7 +83,8 @@ pub fn grouping_of(
     Ok(List::of(chosen))
 }
 
-/// The identifiers by which groups are formed, in the operand's order. A name breaks `UnknownComponent`, `RepeatedName` and `WrongRole`.
+/// The identifiers by which groups are formed, in the operand's order. A name breaks `UnknownComponent`, `RepeatedName`
+/// and `WrongRole`.
 pub fn grouping(
     alloc: Global,
     components: &[Component],

@@ -35,7 +35,7 @@ pub fn kind(e: &CompExpr) -> Kind
     }
 }
 
-/// The kind that an analytic operator gives of values of a kind that it takes.
+/// The kind that an analytic operator gives for values of a kind that it takes.
 pub fn given_kind(op: &AnalyticOp, kind: Kind) -> Kind
     ensures { result ≡ given_kind op.now kind }
 {

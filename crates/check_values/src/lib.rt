@@ -2,7 +2,7 @@
 //!
 //! Each function takes parts that are typed and gives a component expression with its kind, or the rule that is
 //! broken. Literals get their values here, at the scale of the run.
-//! It knows no data sets as operands and goes down no tree (`check_operators`, `check_expressions`).
+//! It knows no data sets as operands and walks no tree (`check_operators`, `check_expressions`).
 //! Begin with specs/Calls.antt and specs/Literals.antt.
 #![tactic(auto)]
 

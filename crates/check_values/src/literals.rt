@@ -137,7 +137,7 @@ pub fn wanted_or(kind: Option<Kind>) -> Result<Kind, TypeErr>
     }
 }
 
-/// The members of a set behind an operand of this kind.
+/// The members of a set after an operand of this kind.
 pub fn set(
     alloc: Global,
     profile: &Profile,

@@ -1,4 +1,4 @@
-// The scalar operators that signs and functions are.
+// The scalar operators that signs and functions stand for.
 ghost use Rattle.std.specs.Prelude.{◌≡◌};
 ghost use Rattle.check_values.specs.Operators.{of_binary, of_function, of_unary, takes};
 
@@ -62,7 +62,7 @@ pub fn function_operator(function: FunctionName) -> ScalarOp
     }
 }
 
-/// Whether a function takes so many operands.
+/// Whether a function takes this many operands.
 pub fn takes(function: FunctionName, operands: usize) -> bool
     ensures { result ≡ takes function operands }
 {

@@ -93,7 +93,7 @@ fn key_of(part: &OrderPart) -> Result<OrderKey, AllocError>
     })
 }
 
-// A key behind others.
+// A key after others.
 fn key(columns: &[Component], keys: &[OrderKey], part: &OrderPart) -> Result<OrderKey, TypeErr>
     ensures { Answers (λ key. key) result (key_typed columns.now keys.now part.now) }
 {

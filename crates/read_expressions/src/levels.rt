@@ -73,7 +73,7 @@ impl<F: Fn(Level, &[Token]) -> Result<Read<'_, Box<Expr>>, Unread>> Grammar<F> {
         }
     }
 
-    // What stands behind an opening bracket
+    // What stands after an opening bracket
     #[tactic(auto, using(crate::proofs::Views::views), unfolding(vtl_grammar::specs::ReadExpressions::bracketed))]
     fn bracketed<'t>(&self, tokens: &'t [Token]) -> Result<Read<'t, Box<Expr>>, Unread>
         requires { Nests self.now.budget (F.pre self.now.read) (F.post self.now.read) }
@@ -135,7 +135,7 @@ impl<F: Fn(Level, &[Token]) -> Result<Read<'_, Box<Expr>>, Unread>> Grammar<F> {
         node(self.alloc, tree, spare, other.rest)
     }
 
-    // An operand with clauses and members behind it
+    // An operand with clauses and members after it
     #[tactic(auto, unfolding(vtl_grammar::specs::ReadExpressions::postfix))]
     fn postfix<'t>(&self, tokens: &'t [Token]) -> Result<Read<'t, Box<Expr>>, Unread>
         requires { Nests self.now.budget (F.pre self.now.read) (F.post self.now.read) }

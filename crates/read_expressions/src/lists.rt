@@ -146,7 +146,7 @@ impl Nested for JoinPart {
 }
 
 impl<F: Fn(Level, &[Token]) -> Result<Read<'_, Box<Expr>>, Unread>> Grammar<F> {
-    // One part, and those that follow it behind commas.
+    // One part, and those that follow it after commas.
     pub(crate) fn list<'t, P: Nested>(
         &self,
         tokens: &'t [Token],
@@ -160,7 +160,7 @@ impl<F: Fn(Level, &[Token]) -> Result<Read<'_, Box<Expr>>, Unread>> Grammar<F> {
         self.more(items, first.spare, first.rest)
     }
 
-    // The parts after these, each behind a comma.
+    // The parts after these, each after a comma.
     fn more<'t, P: Nested>(
         &self,
         mut items: Vec<P>,

@@ -36,8 +36,8 @@ fn read(
     grammar.level(level, tokens)
 }
 
-/// The expression at the front of the tokens, the longest that is no deeper than a statement may be; in its box, since a tree that is moved
-/// by value is dear to check.
+/// The expression at the front of the tokens, the longest that is no deeper than a statement may be; in its box, since
+/// a tree that is moved by value is costly to prove.
 #[tactic(auto, unfolding(vtl_grammar::specs::ReadStatements::whole_exp))]
 pub fn whole_expression(alloc: Global, tokens: &[Token]) -> Result<Front<'_, Box<Expr>>, Unread>
     ensures { ReadsBy box_tree (whole_exp (kinds tokens.now)) result }

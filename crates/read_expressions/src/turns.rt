@@ -17,14 +17,14 @@ use vtl_grammar::Level;
 use vtl_lexer::{Keyword, Sign, Token, TokenKind};
 use vtl_syntax::{BinaryOp, Expr};
 
-// What a turn gives: what was read with one thing more, or as it was.
+// What a turn gives: what was read with one more thing, or the same as before.
 #[derive(Drop)]
 pub(crate) enum Turn<'t> {
     More(Read<'t, Box<Expr>>),
     End(Read<'t, Box<Expr>>),
 }
 
-// The budget of what is around.
+// The budget of what is around it.
 fn around(spare: usize) -> Result<usize, Unread>
     ensures { MatchResult result (λ s. spare ≡ suc s) (λ e. (spare ≡ 0) × (e ≡ Unread.Absent)) }
 {
@@ -106,7 +106,7 @@ fn membership(level: Level, tokens: &[Token]) -> Option<Front<'_, bool>>
     Some(Front { part, rest })
 }
 
-// `in` or `not_in` and the literals behind an operand.
+// `in` or `not_in` and the literals after an operand.
 #[tactic(auto, using(crate::proofs::Views::views), unfolding(vtl_grammar::specs::ReadExpressions::set_behind))]
 fn set_behind<'t>(
     alloc: Global,
@@ -126,7 +126,7 @@ fn set_behind<'t>(
     node(alloc, tree, spare, literals.rest)
 }
 
-// `#component` behind an operand.
+// `#component` after an operand.
 #[tactic(auto, using(crate::proofs::Views::views), unfolding(vtl_grammar::specs::ReadExpressions::member_behind))]
 fn member_behind<'t>(
     alloc: Global,
@@ -145,7 +145,7 @@ fn member_behind<'t>(
 }
 
 impl<F: Fn(Level, &[Token]) -> Result<Read<'_, Box<Expr>>, Unread>> Grammar<F> {
-    // `[clause]` behind an operand.
+    // `[clause]` after an operand.
     #[tactic(auto, using(crate::proofs::Views::views), unfolding(vtl_grammar::specs::ReadExpressions::clause_behind))]
     fn clause_behind<'t>(
         &self,
@@ -179,7 +179,7 @@ impl<F: Fn(Level, &[Token]) -> Result<Read<'_, Box<Expr>>, Unread>> Grammar<F> {
         Ok(Turn::End(operand))
     }
 
-    // The clauses and members behind an operand.
+    // The clauses and members after an operand.
     pub(crate) fn more_postfix<'t>(
         &self,
         operand: Read<'t, Box<Expr>>,
@@ -198,7 +198,7 @@ impl<F: Fn(Level, &[Token]) -> Result<Read<'_, Box<Expr>>, Unread>> Grammar<F> {
         Ok(read)
     }
 
-    // An operator and its right operand behind a left one.
+    // An operator and its right operand after a left one.
     #[tactic(auto, using(crate::proofs::Views::views), unfolding(vtl_grammar::specs::ReadExpressions::operand_behind))]
     fn operand_behind<'t>(
         &self,
@@ -239,7 +239,7 @@ impl<F: Fn(Level, &[Token]) -> Result<Read<'_, Box<Expr>>, Unread>> Grammar<F> {
         Ok(Turn::End(left))
     }
 
-    // The operators of a level behind an operand, each with a right operand.
+    // The operators of a level after an operand, each with a right operand.
     pub(crate) fn more_operands<'t>(
         &self,
         level: Level,

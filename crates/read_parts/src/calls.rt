@@ -52,8 +52,8 @@ pub fn ruleset_part(tokens: &[Token]) -> Result<Front<'_, Txt>, Unread>
     name(after)
 }
 
-/// `rule component`, if it stands there; the word alone is left, since it may be an input. It fails only when out of
-/// memory.
+/// `rule component`, if it stands there; the word alone is left, since it may be an input. It fails only if memory runs
+/// out.
 #[tactic(auto, unfolding(vtl_grammar::specs::ReadParts::rule_part))]
 pub fn rule_part(tokens: &[Token]) -> Result<Front<'_, Option<Comp>>, Unread>
     ensures { ReadsAs (Some (rule_part (kinds tokens.now))) result }

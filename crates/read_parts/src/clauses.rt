@@ -17,7 +17,7 @@ use vtl_lexer::{Keyword, Sign, Token};
 use vtl_syntax::{Comp, ErrorPart, GroupPart, Keeping, Reference, RenamePart, SubPart};
 use vtl_text::{List, Txt};
 
-/// `errorcode code errorlevel level`, where each may be left out.
+/// `errorcode code errorlevel level`, where each part may be left out.
 #[tactic(auto, unfolding(vtl_grammar::specs::ReadParts::error_part))]
 pub fn error_part(tokens: &[Token]) -> Result<Front<'_, ErrorPart>, Unread>
     ensures { ReadsAs (error_part (kinds tokens.now)) result }

@@ -20,7 +20,7 @@ pub struct Front<'t, T> {
 pub enum Unread {
     /// It does not stand there.
     Absent,
-    /// No memory was found.
+    /// There was not enough memory.
     OutOfMemory,
 }
 

@@ -1,8 +1,8 @@
 //! Reads the parts of statements that hold no expression from the front of some tokens: names, constants, literals
 //! and their sets, references, groupings, windows, error parts, words of a group.
 //!
-//! Each function answers what the grammar reads there and the tokens that are left, or that the part does not stand
-//! there. A crate of its own, so that the circle of expressions is proved over finished parts.
+//! Each function gives what the grammar reads there and the tokens that are left, or answers that the part does not
+//! stand there. A crate of its own, so that the circle of expressions is proved over finished parts.
 //! It looks at tokens from the left and at nothing else: it knows no expression, no statement, no place in the
 //! text, and nothing of structures or kinds.
 //! Begin with specs/Fronts.antt, then src/front.rt.

@@ -36,7 +36,7 @@ pub fn listed<I: Item>(alloc: Global, tokens: &[Token]) -> Result<Front<'_, List
     more(alloc, items, first.rest)
 }
 
-// The parts after these, each behind a comma.
+// The parts after these, each after a comma.
 fn more<I: Item>(
     alloc: Global,
     mut items: Vec<I>,

@@ -70,8 +70,8 @@ impl SqlChecked {
     }
 }
 
-/// A script that is formed, typed. It fails exactly where a statement breaks a rule, with the first such statement and the least
-/// rule that it breaks; and for want of memory. The script is given up then.
+/// A script that is formed, typed. It fails exactly where a statement breaks a rule, with the first such statement and
+/// the least rule that it breaks, and if memory runs out. The script is dropped then.
 pub fn check(alloc: Global, script: SqlScript) -> Result<SqlChecked, SqlTypeErr>
     requires { FormedScript (script_tree script) }
     ensures checks { Checks script result }

@@ -29,7 +29,7 @@ fn is_misnamed(exported: &IndexSet<Txt>, name: &Txt) -> bool
     exported.contains(name) || !is_word(name.as_str())
 }
 
-/// The least of the rules that an export breaks. It fails only for want of memory.
+/// The least of the rules that an export breaks. It fails only if memory runs out.
 pub fn export_fault(
     alloc: Global,
     given: &SoFar,

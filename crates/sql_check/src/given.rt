@@ -16,7 +16,7 @@ pub struct SoFar {
 }
 
 impl SoFar {
-    /// What no statement gives.
+    /// What is given before any statement.
     pub fn new(alloc: Global) -> SoFar
         ensures { given_view result ≡ nothing }
     {

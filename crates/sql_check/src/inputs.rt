@@ -35,7 +35,7 @@ fn kinds_of(alloc: Global, columns: &[InputColumn]) -> Result<Vec<Kind>, AllocEr
     Ok(kinds)
 }
 
-/// The columns of an input; none where a name stands twice. It fails only for want of memory.
+/// The columns of an input; none where a name stands twice. It fails only if memory runs out.
 pub fn input_columns(alloc: Global, input: &SqlInput) -> Result<Option<Columns>, AllocError>
     ensures { IfOk result (λ columns. columns ≡ distinct_columns (input_columns input.now)) }
 {
@@ -56,7 +56,7 @@ fn any_unknown(columns: &Columns, names: &[Txt]) -> bool
     false
 }
 
-/// Whether names are columns, and none stands twice. It fails only for want of memory.
+/// Whether names are columns, and none stands twice. It fails only if memory runs out.
 pub fn names_fit(alloc: Global, columns: &Columns, names: &[Txt]) -> Result<bool, AllocError>
     ensures { IfOk result (λ b. b ≡ names_fit columns.now names.now) }
 {
@@ -64,7 +64,7 @@ pub fn names_fit(alloc: Global, columns: &Columns, names: &[Txt]) -> Result<bool
     Ok(!twice && !any_unknown(columns, names))
 }
 
-// Whether a column's name stands twice, or the key is not of the columns.
+// Whether a column's name stands twice, or the key is not made of the columns.
 fn key_misplaced(alloc: Global, columns: &Option<Columns>, key: &[Txt]) -> Result<bool, AllocError>
     ensures { (all : List (List ℕ × Kind)) → columns.now ≡ distinct_columns all → IfOk result (λ b. b ≡ (repeats (keys_of all) || not (names_fit all key.now))) }
 {
@@ -111,7 +111,7 @@ fn is_text(kind: Kind) -> bool
     }
 }
 
-// Whether the codes of a column are of a text in the key, none of them empty or twice.
+// Whether the codes of a column belong to a text in the key, and none of them is empty or stands twice.
 fn codes_fit(alloc: Global, key: &[Txt], column: &InputColumn) -> Result<bool, AllocError>
     ensures { IfOk result (λ b. b ≡ codes_fit key.now column.now) }
 {
@@ -139,7 +139,8 @@ fn any_misplaced(alloc: Global, key: &[Txt], columns: &[InputColumn]) -> Result<
 
 const MOST_INPUT_COLUMNS: usize = 64;
 
-// Whether codes stand where they may not, or there are too many columns; the codes of too many are not looked at.
+// Whether codes stand where they may not, or there are too many columns; where there are too many, their codes are not
+// looked at.
 fn codes_misplaced(alloc: Global, input: &SqlInput) -> Result<bool, AllocError>
     ensures { IfOk result (λ b. b ≡ (list_any (λ c. not (codes_fit input.now.key c)) input.now.columns || nat_lt most_input_columns (length input.now.columns))) }
 {
@@ -157,7 +158,7 @@ fn is_misnamed(tables: &Tables, name: &Txt) -> bool
     tables.has(name) || !is_word(name.as_str())
 }
 
-/// The least of the rules that an input with these columns breaks. It fails only for want of memory.
+/// The least of the rules that an input with these columns breaks. It fails only if memory runs out.
 pub fn input_fault(
     alloc: Global,
     tables: &Tables,

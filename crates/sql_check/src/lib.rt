@@ -1,4 +1,4 @@
-//! The typing of scripts of the SQL dialect: `check` hands a formed script back as one that is typed, or tells its
+//! The typing of scripts of the SQL dialect: `check` gives a formed script back as one that is typed, or gives its
 //! fault.
 //!
 //! Statements in order: what they give to later ones, exports, and the profile of SET. The laws of typed scripts

@@ -4,7 +4,7 @@ ghost use Rattle.std.specs.Prelude.{◌≡◌};
 use sql_tree::Query;
 use std::marker::Model;
 
-/// A join that goes by an index.
+/// A join that uses an index.
 #[derive(Clone, Copy, Debug, PartialEq, Eq)]
 pub struct Indexed {
     /// The place of its select in the query, from 0.
@@ -18,13 +18,13 @@ pub struct Indexed {
 pub struct Early {
     /// The place of its select in the query, from 0.
     pub select: usize,
-    /// The place of the part among those that AND joins, from 0.
+    /// The place of the part among those that AND connects, from 0.
     pub conjunct: usize,
     /// The place of the join in the select, from 0.
     pub join: usize,
 }
 
-/// A query, the joins of it that go by an index, and the parts of its conditions that are tried early.
+/// A query, those of its joins that use an index, and the parts of its conditions that are tried early.
 #[derive(Drop)]
 pub struct Plan {
     query: Query,
@@ -65,7 +65,7 @@ impl Plan {
         &self.query
     }
 
-    /// The joins that go by an index.
+    /// The joins that use an index.
     pub fn indexed(&self) -> &[Indexed]
         ensures { result.now ≡ self.now.indexed }
     {

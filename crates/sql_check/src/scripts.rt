@@ -27,8 +27,8 @@ fn statements_fault(
     Ok(None)
 }
 
-/// The fault of a script: its first faulty statement, counted from 1 with SET, and the least rule that it breaks. It fails only
-/// for want of memory.
+/// The fault of a script: its first faulty statement, counted from 1 with SET, and the least rule that it breaks. It
+/// fails only if memory runs out.
 pub fn script_fault(
     alloc: Global,
     script: &SqlScript,

@@ -14,7 +14,7 @@ use sql_tree::{SqlCreate, SqlExport, SqlInput, Statement};
 use std::alloc::{AllocError, Global};
 use vtl_cell::{Profile, Txt};
 
-// Puts the table of a statement behind the others. It fails only for want of memory.
+// Puts the table of a statement after the others. It fails only if memory runs out.
 fn put(given: &mut SoFar, name: &Txt, columns: Option<Columns>) -> Result<(), AllocError>
     requires { MayPut given.old.tables name.now columns }
     ensures { OnOk result (given_view given.new ≡ with_table (given_view given.old) name.now (some_columns columns)) }
@@ -25,7 +25,7 @@ fn put(given: &mut SoFar, name: &Txt, columns: Option<Columns>) -> Result<(), Al
     }
 }
 
-// The fault of a statement; where it has none, its table is put behind the others. It fails only for want of memory.
+// The fault of a statement; where it has none, its table is put after the others. It fails only if memory runs out.
 fn settle(
     given: &mut SoFar,
     name: &Txt,
@@ -89,8 +89,8 @@ fn export(
     Ok(fault)
 }
 
-/// A statement: the least of the rules that it breaks; where it breaks none, what it gives is there. It fails only for want of
-/// memory.
+/// A statement: the least of the rules that it breaks; where it breaks none, what it gives is added. It fails only if
+/// memory runs out.
 pub fn statement(
     alloc: Global,
     profile: &Profile,

@@ -1,4 +1,4 @@
-// Operators behind their operands.
+// Operators, once their operands are typed.
 ghost use Rattle.std.specs.Option.{is_none};
 ghost use Rattle.std.specs.Prelude.{◌≡◌, ◌++◌, ◌∷◌, [], IfOk};
 ghost use Rattle.vtl_cell.specs.ScalarKinds.{common_kind};
@@ -20,7 +20,7 @@ use sql_tree::{Equality, Source};
 use std::alloc::{AllocError, Global};
 use vtl_cell::{Kind, List, ScalarOp};
 
-// What is told behind parts with a fault.
+// What is known after parts with a fault.
 pub(crate) fn behind(before: Option<SqlRule>, own: Typed) -> Typed
     ensures kind { result.kind ≡ own.kind }
     ensures fault { result.fault ≡ lesser before own.fault }
@@ -81,7 +81,7 @@ pub(crate) fn binary(
     Ok(behind(lesser(left.fault, right.fault), own))
 }
 
-// CASE with branches and the value where none is taken.
+// CASE with branches and the value for the case that none is taken.
 pub(crate) fn case(branches: Parts, other: Typed) -> Result<Typed, AllocError>
     ensures { IfOk result (IsBehind (lesser branches.fault other.fault) (or_null (common_kind (branches.kinds.items ++ other.kind ∷ []))) (case_breaks (branches.kinds.items ++ other.kind ∷ []))) }
 {

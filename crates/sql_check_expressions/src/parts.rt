@@ -25,7 +25,7 @@ impl Parts {
         }
     }
 
-    /// Puts a part behind the others.
+    /// Puts a part after the others.
     pub(crate) fn put(&mut self, part: Typed) -> Result<(), AllocError>
         ensures kinds { OnOk result (self.new.kinds.items ≡ self.old.kinds.items ++ part.kind ∷ []) }
         ensures fault { OnOk result (self.new.fault ≡ lesser self.old.fault part.fault) }

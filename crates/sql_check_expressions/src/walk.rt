@@ -21,7 +21,7 @@ use sql_tree::{Branch, Literal, SqlExpr};
 use std::alloc::{AllocError, Global};
 use vtl_cell::{AggKind, ScalarOp};
 
-/// An expression: its kind, and the least of the rules that it breaks. It fails only for want of memory.
+/// An expression: its kind, and the least of the rules that it breaks. It fails only if memory runs out.
 #[cycle(expressions)]
 #[tactic(auto, using(crate::proofs::Steps::steps))]
 pub fn expression(
@@ -148,7 +148,7 @@ fn all(
     Ok(parts)
 }
 
-/// A condition: the least of the rules that it breaks. It fails only for want of memory.
+/// A condition: the least of the rules that it breaks. It fails only if memory runs out.
 #[cycle(expressions)]
 #[tactic(auto, using(crate::proofs::Steps::steps))]
 pub fn condition(

@@ -34,7 +34,7 @@ impl Columns {
         }
     }
 
-    // Puts a column behind the others.
+    // Puts a column after the others.
     fn put(&mut self, name: &Txt, kind: Kind) -> Result<(), AllocError>
         requires { is_among name.now (keys_of self.old) ≡ false }
         ensures { OnOk result (self.new ≡ self.old ++ (name.now, kind) ∷ []) }
@@ -43,8 +43,8 @@ impl Columns {
         Ok(())
     }
 
-    /// The columns of these names and kinds, of which there are as many; none where a name stands twice. It fails only for
-    /// want of memory.
+    /// The columns of these names and kinds, as many of the one as of the other; none where a name stands twice. It
+    /// fails only if memory runs out.
     pub fn of(alloc: Global, names: &[Txt], kinds: &[Kind]) -> Result<Option<Columns>, AllocError>
         requires { length kinds.now ≡ length names.now }
         ensures { IfOk result (λ columns. columns ≡ distinct_columns (zip names.now kinds.now)) }
@@ -67,7 +67,7 @@ impl Columns {
     }
 }
 
-/// Whether a name stands twice. It fails only for want of memory.
+/// Whether a name stands twice. It fails only if memory runs out.
 pub fn repeats(alloc: Global, names: &[Txt]) -> Result<bool, AllocError>
     ensures { IfOk result (λ b. b ≡ repeats names.now) }
 {

@@ -63,7 +63,7 @@ fn kind_inside(scope: &Scope, inner: &InnerSource, column: &Column) -> Option<Ki
     }
 }
 
-// Whether a column of an outer source stands in a group, but is none of GROUP BY.
+// Whether a column of an outer source stands in a group, but is not one of GROUP BY.
 fn is_outer_ungrouped(
     group: &Option<Grouping>,
     inner: &InnerSource,
@@ -100,7 +100,7 @@ fn side_fault(
     ]))
 }
 
-// Whether an equality is of one column of the inner source and one of an outer source, and of one kind.
+// Whether an equality is between a column of the inner source and one of an outer source, of the same kind.
 fn is_tie(scope: &Scope, inner: &InnerSource, equality: &Equality) -> bool
     ensures { result ≡ is_tie scope.now inner.now equality.now }
 {
@@ -144,7 +144,7 @@ fn equalities_fault(
     Ok(least)
 }
 
-/// EXISTS: the least of the rules that it breaks. It fails only for want of memory.
+/// EXISTS: the least of the rules that it breaks. It fails only if memory runs out.
 #[tactic(auto, using(crate::proofs::Least::least_append))]
 pub fn exists(
     tables: &Tables,

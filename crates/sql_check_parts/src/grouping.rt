@@ -30,7 +30,7 @@ fn column_name(column: &Column) -> Result<(Txt, Txt), AllocError>
 }
 
 impl Grouping {
-    /// The columns, each once. It fails only for want of memory.
+    /// The columns, each once. It fails only if memory runs out.
     #[tactic(auto, using(crate::proofs::Maps::fold_taken))]
     pub fn of(alloc: Global, columns: &[Column]) -> Result<Grouping, AllocError>
         ensures { IfOk result (λ group. group ≡ grouping_of columns.now) }
@@ -42,7 +42,7 @@ impl Grouping {
         Ok(Grouping { columns: group })
     }
 
-    /// Whether a column is one of them. It fails only for want of memory.
+    /// Whether a column is one of them. It fails only if memory runs out.
     pub fn has(&self, column: &Column) -> Result<bool, AllocError>
         ensures { IfOk result (λ b. b ≡ is_grouped_by self.now column.now) }
     {

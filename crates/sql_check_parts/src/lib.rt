@@ -1,9 +1,9 @@
 //! The typing of the SQL dialect as one definition, and the parts of it that look at no expression's operands:
 //! names, literals, windows, EXISTS.
 //!
-//! Of each part the definition gives the rules that it breaks, each a test of its own; the fault is the least of
-//! them. What has no kind counts as null. Tables, columns and sources by name stand here for the crates above.
-//! It goes down no expression, and knows nothing of VTL's structures: the kinds of both languages are in
+//! For each part the definition gives the rules that it breaks, each a test of its own; the fault is the least of them.
+//! Whatever has no kind counts as null. Tables, columns and sources by name stand here for the crates above.
+//! It walks no expression, and knows nothing of VTL's structures: the kinds of both languages are in
 //! `vtl_kinds`.
 //! Begin with specs/Rules.antt, then Expressions.antt, Queries.antt and Statements.antt.
 #![tactic(auto)]

@@ -48,7 +48,7 @@ fn constant_kind(constant: &Constant) -> Kind
     }
 }
 
-/// The value of a constant, where it has one. It fails only for want of memory.
+/// The value of a constant, where it has one. It fails only if memory runs out.
 pub fn constant_value(
     alloc: Global,
     profile: &Profile,
@@ -67,7 +67,7 @@ pub fn constant_value(
     }
 }
 
-/// A constant. It fails only for want of memory.
+/// A constant. It fails only if memory runs out.
 pub fn constant(alloc: Global, profile: &Profile, constant: &Constant) -> Result<Typed, AllocError>
     ensures { IfOk result (IsTyped (constant_kind constant.now) (constant_breaks profile.now constant.now)) }
 {
@@ -94,7 +94,7 @@ pub(crate) fn literal_kind(literal: &Literal) -> Kind
     }
 }
 
-/// The value of a literal, where it has one. It fails only for want of memory.
+/// The value of a literal, where it has one. It fails only if memory runs out.
 pub fn literal_value(
     alloc: Global,
     profile: &Profile,
@@ -114,7 +114,7 @@ pub fn literal_value(
     }
 }
 
-/// Whether a literal has no value. It fails only for want of memory.
+/// Whether a literal has no value. It fails only if memory runs out.
 pub(crate) fn has_no_value(
     alloc: Global,
     profile: &Profile,
@@ -140,7 +140,7 @@ fn any_has_no_value(
     Ok(false)
 }
 
-// The kind of an operand, and those of literals behind it.
+// The kind of an operand, and those of literals after it.
 fn member_kinds(alloc: Global, operand: Kind, literals: &[Literal]) -> Result<Vec<Kind>, AllocError>
     ensures { IfOk result (λ kinds. kinds.items ≡ operand ∷ map literal_kind literals.now) }
 {
@@ -152,7 +152,7 @@ fn member_kinds(alloc: Global, operand: Kind, literals: &[Literal]) -> Result<Ve
     Ok(kinds)
 }
 
-/// The literals of IN behind an operand of this kind. It fails only for want of memory.
+/// The literals of IN after an operand of this kind. It fails only if memory runs out.
 pub fn list_fault(
     alloc: Global,
     profile: &Profile,

@@ -16,7 +16,7 @@ use std::alloc::{AllocError, Global};
 use vtl_cell::{AggKind, Kind, Profile, ScalarOp};
 use vtl_kinds::{aggregate_kind, common_kind, kind_by_operands, meets};
 
-/// The kind that an operator gives of operands of these kinds, where they meet it.
+/// The kind that an operator gives for operands of these kinds, where they meet it.
 pub(crate) fn operator_kind(
     alloc: Global,
     op: ScalarOp,
@@ -30,7 +30,7 @@ pub(crate) fn operator_kind(
     }
 }
 
-/// An operator on operands of these kinds. It fails only for want of memory.
+/// An operator on operands of these kinds. It fails only if memory runs out.
 pub fn operator(alloc: Global, op: ScalarOp, kinds: &[Kind]) -> Result<Typed, AllocError>
     ensures { IfOk result (IsTyped (given_kind op kinds.now) (operator_breaks op kinds.now)) }
 {
@@ -44,7 +44,7 @@ pub fn operator(alloc: Global, op: ScalarOp, kinds: &[Kind]) -> Result<Typed, Al
     })
 }
 
-/// A function on operands of these kinds. It fails only for want of memory.
+/// A function on operands of these kinds. It fails only if memory runs out.
 pub fn call(
     alloc: Global,
     profile: &Profile,

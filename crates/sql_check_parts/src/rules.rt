@@ -7,7 +7,7 @@ use std::marker::Model;
 /// A rule of typing, named by what breaks it.
 #[derive(Clone, Copy, Debug, PartialEq, Eq)]
 pub enum SqlRule {
-    /// A query has a source, or an EXPORT a table, that no statement further up gives.
+    /// A query has a source, or an EXPORT a table, that no earlier statement gives.
     UnknownTable = 1,
     /// A table has a name that is taken, a source has the alias of another, or the name of a file is no word.
     MisnamedTable = 2,
@@ -21,7 +21,7 @@ pub enum SqlRule {
     UnfitLiteral = 6,
     /// The selects of a UNION ALL have different names, or kinds that do not go together.
     UnlikeSelects = 7,
-    /// An aggregate stands in no group, or a column of a group is none of GROUP BY.
+    /// An aggregate stands in no group, or a column in a group is not one of GROUP BY.
     OutsideGroup = 8,
     /// A window stands in a group, or without the frame and the order of its call.
     MisplacedWindow = 9,
@@ -34,14 +34,14 @@ pub enum SqlRule {
 }
 
 impl SqlRule {
-    /// The number that is told of it.
+    /// The number by which it is reported.
     pub fn number(self) -> u8
         ensures { result ≡ number_of self }
     {
         self as u8
     }
 
-    // The rule of the lesser number.
+    // The rule with the lesser number.
     fn lesser(self, other: SqlRule) -> SqlRule
         ensures { result ≡ lesser_rule self other }
     {
@@ -94,7 +94,7 @@ fn if_broken(test: &Test) -> Option<SqlRule>
     }
 }
 
-/// The least of the rules that are broken, each given with whether it is.
+/// The least of the broken rules; each rule is given with whether it is broken.
 pub fn least_broken(tests: &[Test]) -> Option<SqlRule>
     ensures { result ≡ least (broken tests.now) }
 {

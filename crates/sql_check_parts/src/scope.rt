@@ -14,7 +14,8 @@ use std::alloc::{AllocError, Global};
 use std::marker::Model;
 use vtl_cell::{Kind, Txt};
 
-/// The sources of a select from the left, by alias. A contract sees the list of the aliases with the columns of the tables.
+/// The sources of a select from the left, by alias. A contract sees the list of the aliases with the columns of the
+/// tables.
 #[derive(Drop)]
 pub struct Scope<'a> {
     sources: IndexMap<Txt, &'a Columns>,
@@ -46,7 +47,7 @@ impl<'a> Scope<'a> {
         self.sources.contains_key(alias)
     }
 
-    /// Adds a source, unless it has no columns or its alias is there already. It fails only for want of memory.
+    /// Adds a source, unless it has no columns or its alias is there already. It fails only if memory runs out.
     pub fn add(&mut self, alias: &Txt, columns: Option<&'a Columns>) -> Result<(), AllocError>
         ensures { OnOk result (self.new ≡ add_source self.old alias.now (option_copied columns.entry)) }
     {
@@ -77,7 +78,7 @@ impl<'a> Scope<'a> {
     }
 }
 
-/// Whether a column stands in a group, but is none of GROUP BY. It fails only for want of memory.
+/// Whether a column stands in a group, but is not one of GROUP BY. It fails only if memory runs out.
 pub(crate) fn is_ungrouped(group: &Option<Grouping>, column: &Column) -> Result<bool, AllocError>
     ensures { IfOk result (λ b. b ≡ is_ungrouped group.now column.now) }
 {
@@ -87,7 +88,7 @@ pub(crate) fn is_ungrouped(group: &Option<Grouping>, column: &Column) -> Result<
     }
 }
 
-/// A column. It fails only for want of memory.
+/// A column. It fails only if memory runs out.
 pub fn column(scope: &Scope, group: &Option<Grouping>, column: &Column) -> Result<Typed, AllocError>
     ensures { IfOk result (IsTyped (column_kind scope.now column.now) (column_breaks scope.now group.now column.now)) }
 {

@@ -48,7 +48,7 @@ impl Tables {
         self.named.contains_key(name)
     }
 
-    /// Puts a table behind the others, under a name that none has yet. It fails only for want of memory.
+    /// Puts a table after the others, under a name that none has yet. It fails only if memory runs out.
     pub fn put(&mut self, name: &Txt, columns: Columns) -> Result<(), AllocError>
         requires { is_among name.now (keys_of self.old) ≡ false }
         ensures { OnOk result (self.new ≡ self.old ++ (name.now, columns) ∷ []) }

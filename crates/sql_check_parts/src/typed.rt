@@ -1,4 +1,4 @@
-// What is told of an expression.
+// What is known about an expression.
 ghost use Rattle.std.specs.Prelude.{◌≡◌};
 ghost use Rattle.sql_check_parts.specs.Scopes.{or_null};
 

@@ -25,7 +25,7 @@ fn column_fault(
     Ok(column(scope, group, name)?.fault)
 }
 
-/// The least of the rules that columns break. It fails only for want of memory.
+/// The least of the rules that columns break. It fails only if memory runs out.
 #[tactic(auto, using(crate::proofs::Least::part_taken))]
 pub fn columns_fault(
     scope: &Scope,
@@ -237,7 +237,7 @@ fn is_misplaced(group: &Option<Grouping>, window: &Window) -> bool
         || order_misplaced(&window.call, window.over.order.as_slice())
 }
 
-/// A window. It fails only for want of memory.
+/// A window. It fails only if memory runs out.
 #[tactic(auto, using(crate::proofs::Least::least_append))]
 pub fn window(
     alloc: Global,

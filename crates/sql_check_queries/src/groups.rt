@@ -37,7 +37,7 @@ fn is_grouped(select: &Select) -> bool
         || any_aggregates(select.items.as_slice())
 }
 
-/// The columns of GROUP BY, where the select is grouped. It fails only for want of memory.
+/// The columns of GROUP BY, where the select is grouped. It fails only if memory runs out.
 pub(crate) fn groups_of(alloc: Global, select: &Select) -> Result<Option<Grouping>, AllocError>
     ensures { IfOk result (λ group. group ≡ groups_of (select_tree select.now)) }
 {

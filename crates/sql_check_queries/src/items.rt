@@ -32,7 +32,7 @@ fn value(
     }
 }
 
-/// The items of a select. It fails only for want of memory.
+/// The items of a select. It fails only if memory runs out.
 pub(crate) fn items(
     alloc: Global,
     at: &Site,
@@ -54,7 +54,7 @@ pub(crate) fn items(
     })
 }
 
-/// The names of items. It fails only for want of memory.
+/// The names of items. It fails only if memory runs out.
 pub(crate) fn names(alloc: Global, items: &[Item]) -> Result<List<Txt>, AllocError>
     ensures { IfOk result (λ names. names ≡ map item_name (map item_tree items.now)) }
 {

@@ -21,7 +21,7 @@ pub struct QueryTyped {
     pub fault: Option<SqlRule>,
 }
 
-// The selects behind those before them.
+// More selects, after those already typed.
 fn add_selects(
     alloc: Global,
     profile: &Profile,
@@ -63,7 +63,7 @@ fn no_columns(alloc: Global) -> QueryTyped
     }
 }
 
-/// A query: its columns, and the least of the rules that it breaks. It fails only for want of memory.
+/// A query: its columns, and the least of the rules that it breaks. It fails only if memory runs out.
 pub fn query(
     alloc: Global,
     profile: &Profile,

@@ -81,7 +81,7 @@ fn parts(
     })
 }
 
-/// A select. It fails only for want of memory.
+/// A select. It fails only if memory runs out.
 #[tactic(auto, using(sql_check_parts::proofs::Least::least_append))]
 pub(crate) fn select(
     alloc: Global,

@@ -20,7 +20,7 @@ pub(crate) struct SourcesTyped<'a> {
     pub(crate) fault: Option<SqlRule>,
 }
 
-// The rules of a source behind others.
+// The rules of a source after others.
 fn source_fault(tables: &Tables, before: &Scope, source: &Source) -> Option<SqlRule>
     ensures { result ≡ least (source_breaks tables.now before.now source.now) }
 {
@@ -92,7 +92,7 @@ fn add_join<'a>(
     Ok(lesser(own, condition))
 }
 
-// The joins behind the sources before them.
+// The joins, after the sources before them.
 fn add_joins<'a>(
     alloc: Global,
     profile: &Profile,
@@ -110,7 +110,7 @@ fn add_joins<'a>(
     Ok(fault)
 }
 
-/// The sources of a select. It fails only for want of memory.
+/// The sources of a select. It fails only if memory runs out.
 #[tactic(auto, using(sql_check_parts::proofs::Least::least_append))]
 pub(crate) fn sources<'a>(
     alloc: Global,

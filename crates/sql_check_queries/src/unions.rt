@@ -71,7 +71,7 @@ fn any_lacks_kind(shared: &[Option<Kind>]) -> bool
 }
 
 impl Union {
-    /// A first select. It fails only for want of memory.
+    /// A first select. It fails only if memory runs out.
     pub(crate) fn of(alloc: Global, first: SelectTyped) -> Result<Union, AllocError>
         ensures { IfOk result (IsFirst first) }
     {
@@ -117,7 +117,7 @@ impl Union {
         lesser(self.fault, own)
     }
 
-    /// The kinds of the columns. It fails only for want of memory.
+    /// The kinds of the columns. It fails only if memory runs out.
     pub(crate) fn kinds(&self, alloc: Global) -> Result<List<Kind>, AllocError>
         ensures { IfOk result (λ kinds. kinds ≡ map or_null self.now.shared.items) }
     {

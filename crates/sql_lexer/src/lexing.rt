@@ -17,7 +17,8 @@ pub struct Lexed {
     pub fault: Option<usize>,
 }
 
-/// The tokens of `text` before the first byte from which none starts, and that byte. It fails only when out of memory. Its time grows with the length of the text.
+/// The tokens of `text` before the first byte from which none starts, and that byte. It fails only if memory runs out.
+/// Its time grows with the length of the text.
 pub fn lex(alloc: Global, text: &str) -> Result<Lexed, AllocError>
     ensures { IfOk result (λ lexed. IsLexed text.now lexed.tokens lexed.fault) }
 {

@@ -2,7 +2,7 @@
 //! text.
 //!
 //! One function says how a token is spelled, and reading and writing cite it, so that written tokens read back.
-//! Each token is the longest: no word ends a keyword.
+//! Each token is the longest one possible; a keyword needs no word boundary after it.
 //! It knows no grammar and no types.
 //! Begin with specs/Spelling.antt and specs/Lexed.antt.
 

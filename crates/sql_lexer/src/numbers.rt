@@ -7,7 +7,7 @@ use crate::runs::split_digits;
 use std::alloc::{AllocError, Global};
 use vtl_text::Txt;
 
-// What stands before `rest`, with which `text` ends.
+// What stands before `rest`, which `text` ends with.
 fn before<'a>(text: &'a str, rest: &str) -> &'a str
     requires { EndsIn (chars text.now) (chars rest.now) }
     ensures { (front : List ℕ) → chars text.now ≡ front ++ chars rest.now → chars result.now ≡ front }

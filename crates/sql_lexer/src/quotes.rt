@@ -51,7 +51,8 @@ impl Quotes {
     }
 }
 
-// What the content goes on with where its closing quote begins a doubled one, and what follows the next quote. The content and `behind` stand on either side of that closing quote.
+// What the content continues with where its closing quote begins a doubled one, and what follows the next quote. The
+// content and `behind` stand on either side of that closing quote.
 fn next_part<'a>(quotes: Quotes, content: &str, behind: &'a str) -> Option<(&'a str, &'a str)>
     ensures { IsNextPart quotes (chars content.now) (chars behind.now) result }
 {

@@ -9,7 +9,7 @@ use crate::quotes::Quotes;
 use crate::{Token, TokenKind};
 use std::alloc::AllocError;
 
-/// Appends the spelling of a token, with no gap. It fails only when out of memory.
+/// Appends the spelling of a token, with no gap. It fails only if memory runs out.
 pub fn write_token(kind: &TokenKind, out: &mut String) -> Result<(), AllocError>
     ensures { IfOk result (λ done. chars (string_bytes out.new) ≡ chars (string_bytes out.old) ++ spelled kind.now) }
 {
@@ -37,7 +37,7 @@ fn write_quoted(quotes: Quotes, text: &str, out: &mut String) -> Result<(), Allo
     out.push(quotes.mark())
 }
 
-/// A text that is written of tokens, separated where they need it, has these tokens and no others.
+/// A text that is written from tokens, separated where they need it, has these tokens and no others.
 pub fn written_tokens_are_read()
     ensures { (text : Items ℕ) (kinds : Items TokenKind) (front gap : Items ℕ) → Written kinds front → IsGap gap → chars text ≡ front ++ gap
         → (tokens : Items Token) × IsLexed text tokens None × (kinds_of tokens ≡ kinds) }

@@ -48,7 +48,7 @@ pub(crate) fn membership(
     })
 }
 
-// A source, and equalities behind `WHERE`
+// A source, and equalities after `WHERE`
 #[tactic(auto, unfolding(sql_tree::specs::Grammar::matched))]
 fn matched(alloc: Global, tokens: Tokens<'_>) -> Result<Front<'_, (Source, Vec<Equality>)>, Unread>
     ensures { AnswersBy with_items (matched.reads (kinds tokens.now)) result }

@@ -10,7 +10,7 @@ use crate::words::key;
 use sql_lexer::Word;
 use sql_tree::{Branch, SqlExpr};
 
-// A kind of list with depths: how its first item is read at a budget of parts, and how each item behind it is, with the
+// A kind of list with depths: how its first item is read at a budget of parts, and how each item after it is, with the
 // mark before it.
 pub(crate) trait DeepKind {
     ghost use Rattle.std.specs.Prelude.{ℕ};

@@ -48,7 +48,7 @@ impl<F: Fn(Place, Tokens<'_>) -> Result<Node<'_>, Unread>> Grammar<F> {
         before(part, Word::Close)
     }
 
-    // An expression behind a word
+    // An expression after a word
     fn behind<'t>(&self, mark: Word, tokens: Tokens<'t>) -> Result<Node<'t>, Unread>
         requires { Nests self.now.budget (F.pre self.now.read) (F.post self.now.read) }
         ensures { AnswersBy (deep_view box_tree) ((after (key mark) (expr_at self.now.budget Whole)).reads (kinds tokens.now)) result }
@@ -241,7 +241,7 @@ impl<F: Fn(Place, Tokens<'_>) -> Result<Node<'_>, Unread>> Grammar<F> {
         node(self.alloc, self.budget, tree, 2, found.rest)
     }
 
-    // What is no sign
+    // What is not a sign
     #[tactic(auto, using(crate::proofs::Views::views), unfolding(sql_tree::specs::Grammar::prim))]
     fn prim<'t>(&self, tokens: Tokens<'t>) -> Result<Node<'t>, Unread>
         requires { Nests self.now.budget (F.pre self.now.read) (F.post self.now.read) }

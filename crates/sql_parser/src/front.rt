@@ -22,7 +22,7 @@ pub(crate) struct Front<'t, T> {
 pub(crate) enum Unread {
     // It does not stand there.
     Absent,
-    // No memory was found.
+    // There was not enough memory.
     OutOfMemory,
 }
 
@@ -70,7 +70,7 @@ pub(crate) fn optional<T>(
     }
 }
 
-// What was read, where the word stands behind it.
+// What was read, where the word stands after it.
 pub(crate) fn before<T: Drop>(read: Front<'_, T>, word: Word) -> Result<Front<'_, T>, Unread>
     ensures { MatchResult result (λ front. (front.part ≡ read.entry.part) × ((key word).reads (kinds read.entry.rest.now) ≡ Some (marked (kinds front.rest.now)))) (λ e. ((key word).reads (kinds read.entry.rest.now) ≡ None) × (e ≡ unread.Absent)) }
 {
@@ -81,7 +81,7 @@ pub(crate) fn before<T: Drop>(read: Front<'_, T>, word: Word) -> Result<Front<'_
     })
 }
 
-// A part that was read, and the one behind it.
+// A part that was read, and the one after it.
 pub(crate) fn both<A: Drop, B>(
     first: A,
     second: Result<Front<'_, B>, Unread>,

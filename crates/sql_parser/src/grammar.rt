@@ -51,7 +51,7 @@ impl<F: Fn(Place, Tokens<'_>) -> Result<Node<'_>, Unread>> Grammar<F> {
     }
 }
 
-// A tree in a box, one deeper than its parts.
+// A tree in a box, one level deeper than its parts.
 pub(crate) fn node<'t>(
     alloc: Global,
     budget: usize,
@@ -87,7 +87,7 @@ pub(crate) fn leaf<'t>(alloc: Global, tree: SqlExpr, rest: Tokens<'t>) -> Result
     })
 }
 
-// The same tree, written one deeper.
+// The same tree, written one level deeper.
 pub(crate) fn deeper<'t>(
     budget: usize,
     part: Deep<Box<SqlExpr>>,

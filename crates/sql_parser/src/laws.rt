@@ -3,7 +3,7 @@ ghost use Rattle.std.specs.Prelude.{◌≡◌, ℕ, List};
 ghost use Rattle.sql_tree.specs.Texts.{IsFaulty, IsScript};
 ghost use Rattle.sql_tree.specs.Trees.{ScriptTree};
 
-/// A text is one script at most, or has one fault at most, and not both.
+/// A text is at most one script or has at most one fault, and never both.
 pub fn texts_are_read_once()
     ensures one { (text : List ℕ) (a b : ScriptTree) → IsScript text a → IsScript text b → a ≡ b }
     ensures apart { (text : List ℕ) (script : ScriptTree) (done byte : ℕ) → IsScript text script → IsFaulty text done byte → ⊥ }

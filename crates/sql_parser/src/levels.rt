@@ -40,7 +40,7 @@ pub(crate) trait Level {
         ensures { AnswersBy (deep_view box_tree) (operand grammar.now.budget (kinds tokens.now)) result };
 }
 
-// What a turn gives: what was read with one operator more, or as it was.
+// What a turn gives: what was read with one more operator, or the same as before.
 #[derive(Drop)]
 pub(crate) enum Turn<'t> {
     More(Node<'t>),
@@ -64,7 +64,7 @@ impl<F: Fn(Place, Tokens<'_>) -> Result<Node<'_>, Unread>> Grammar<F> {
         })
     }
 
-    // One step more behind what was read, if one stands there.
+    // One more step after what was read, if one stands there.
     fn turn<'t, L: Level>(&self, left: Node<'t>) -> Result<Turn<'t>, Unread>
         requires { Nests self.now.budget (F.pre self.now.read) (F.post self.now.read) }
         ensures { AnswersTurn (turn_reads (then_reads (of_table L.ops).reads (L.operand self.now.budget)) (joined_by (suc self.now.budget)) (deep (box_tree left.entry.part.tree) left.entry.part.depth) (kinds left.entry.rest.now)) (front_view (deep_view box_tree) left.entry) result }
@@ -83,7 +83,7 @@ impl<F: Fn(Place, Tokens<'_>) -> Result<Node<'_>, Unread>> Grammar<F> {
         Ok(Turn::More(node(self.alloc, self.budget, tree, depth, step.rest)?))
     }
 
-    // The steps behind an operand.
+    // The steps after an operand.
     fn more<'t, L: Level>(&self, left: Node<'t>) -> Result<Node<'t>, Unread>
         requires { Nests self.now.budget (F.pre self.now.read) (F.post self.now.read) }
         ensures { AnswersBy (deep_view box_tree) (turns (then_reads (of_table L.ops).reads (L.operand self.now.budget)) (joined_by (suc self.now.budget)) (length (kinds left.entry.rest.now)) (deep (box_tree left.entry.part.tree) left.entry.part.depth) (kinds left.entry.rest.now)) result }
@@ -99,7 +99,7 @@ impl<F: Fn(Place, Tokens<'_>) -> Result<Node<'_>, Unread>> Grammar<F> {
         Ok(read)
     }
 
-    // An operand and the steps behind it.
+    // An operand and the steps after it.
     pub(crate) fn grouped<'t, L: Level>(&self, tokens: Tokens<'t>) -> Result<Node<'t>, Unread>
         requires { Nests self.now.budget (F.pre self.now.read) (F.post self.now.read) }
         ensures { AnswersBy (deep_view box_tree) (chain_reads (L.operand self.now.budget) (then_reads (of_table L.ops).reads (L.operand self.now.budget)) (joined_by (suc self.now.budget)) (kinds tokens.now)) result }

@@ -8,7 +8,7 @@ use crate::words::key;
 use sql_lexer::Word;
 use std::alloc::Global;
 
-// A kind of list: how its first item is read, and how each item behind it is, with the mark before it.
+// A kind of list: how its first item is read, and how each item after it is, with the mark before it.
 pub(crate) trait ListKind {
     ghost use Rattle.grammar_forms.specs.Forms.{Reads};
     ghost use Rattle.sql_lexer.specs.declared.token.TokenKind.{TokenKind};

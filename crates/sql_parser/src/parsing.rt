@@ -24,7 +24,7 @@ pub enum SqlErr {
         /// The byte, from 0, at which what follows them starts; the length of a text without tokens.
         byte: usize,
     },
-    /// No memory was found.
+    /// There was not enough memory.
     OutOfMemory,
 }
 
@@ -39,7 +39,8 @@ impl From<AllocError> for SqlErr {
     }
 }
 
-/// The script that `text` is. It fails exactly where the text is no script, with its fault; and when out of memory. Its time grows with the length of the text.
+/// The script that `text` is. It fails exactly where the text is no script, with its fault, and if memory runs out. Its
+/// time grows with the length of the text.
 pub fn parse(alloc: Global, text: &str) -> Result<SqlScript, SqlErr>
     ensures answer { MatchResult result (λ script. IsScript text.now (script_tree script)) (λ error. IsFault text.now error) }
     ensures scripts { (script : ScriptTree) → IsScript text.now script → MatchResult result (λ read. script_tree read ≡ script) (λ error. IsMemory error) }
@@ -50,7 +51,7 @@ pub fn parse(alloc: Global, text: &str) -> Result<SqlScript, SqlErr>
     script_of(alloc, lexed.tokens.as_slice(), lexed.fault, text.len())
 }
 
-// The script that all of the tokens are, where no byte follows them that starts none.
+// The script that all of the tokens are, unless a byte follows them from which no token starts.
 fn script_of(
     alloc: Global,
     tokens: Tokens<'_>,

@@ -126,7 +126,7 @@ fn number(tokens: Tokens<'_>) -> Result<Front<'_, Numeral>, Unread>
     })
 }
 
-// A text behind a word.
+// A text after a word.
 fn text_after(tokens: Tokens<'_>, mark: Word) -> Result<Front<'_, Txt>, Unread>
     ensures { Answers ((after (key mark) text).reads (kinds tokens.now)) result }
 {
@@ -347,7 +347,7 @@ impl Part for ColumnPart {
     }
 }
 
-// Columns behind two words, or none
+// Columns after two words, or none
 #[tactic(auto, using(crate::proofs::Tables::same_items), unfolding(sql_tree::specs::Grammar::columns))]
 pub(crate) fn columns_after(
     alloc: Global,
@@ -430,7 +430,7 @@ impl ListKind for EqualityList {
     }
 }
 
-// Equalities behind `WHERE`, or none
+// Equalities after `WHERE`, or none
 #[tactic(auto, using(crate::proofs::Tables::same_items))]
 pub(crate) fn equalities(
     alloc: Global,

@@ -40,7 +40,7 @@ fn value(alloc: Global, tokens: Tokens<'_>) -> Result<Front<'_, ItemValue>, Unre
     })
 }
 
-// A name behind `AS`
+// A name after `AS`
 fn name_after(tokens: Tokens<'_>) -> Result<Front<'_, Txt>, Unread>
     ensures { Answers ((after (key word.As) name).reads (kinds tokens.now)) result }
 {
@@ -82,7 +82,7 @@ impl Part for ItemPart {
     }
 }
 
-// A source behind two words
+// A source after two words
 fn source_after(tokens: Tokens<'_>, first: Word, second: Word) -> Result<Front<'_, Source>, Unread>
     ensures { Answers ((after (two_keys first second) source).reads (kinds tokens.now)) result }
 {
@@ -165,7 +165,7 @@ fn sources(alloc: Global, tokens: Tokens<'_>) -> Result<Front<'_, (Source, Vec<J
     })
 }
 
-// A condition behind a word, if the word stands there
+// A condition after a word, if the word stands there
 fn condition_after(
     alloc: Global,
     tokens: Tokens<'_>,
@@ -212,7 +212,7 @@ fn limits(alloc: Global, tokens: Tokens<'_>) -> Result<Front<'_, Limits>, Unread
     both(condition.part, group_limits(alloc, rest))
 }
 
-// What stands behind the items
+// What stands after the items
 fn body(
     alloc: Global,
     tokens: Tokens<'_>,

@@ -1,4 +1,4 @@
-// Scripts: SET, and the statements behind it.
+// Scripts: SET, and the statements after it.
 ghost use Rattle.std.specs.Prelude.{Some, length};
 ghost use Rattle.grammar_forms.specs.Scripts.{script_reads};
 ghost use Rattle.sql_parser.specs.Answers.{AnswersBy, item_views, kinds};
@@ -32,7 +32,7 @@ fn statements<'t>(
     Ok(Front { part: found, rest })
 }
 
-// SET and as many statements as there are behind it.
+// SET and as many statements as there are after it.
 #[tactic(auto, using(crate::proofs::Told::no_script))]
 pub(crate) fn script<'t>(alloc: Global, tokens: Tokens<'t>) -> Result<Front<'t, SqlScript>, Unread>
     ensures { AnswersScript (script_reads statement_at (length (kinds tokens.now)) 0 (kinds tokens.now)) (kinds tokens.now) result }

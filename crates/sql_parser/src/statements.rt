@@ -16,14 +16,14 @@ use sql_tree::{InputColumn, Query, Select, SqlCreate, SqlExport, SqlInput, State
 use std::alloc::Global;
 use vtl_cell::{Kind, List, Rounding, Txt};
 
-// A name behind a word
+// A name after a word
 fn name_after(tokens: Tokens<'_>, mark: Word) -> Result<Front<'_, Txt>, Unread>
     ensures { Answers ((after (key mark) name).reads (kinds tokens.now)) result }
 {
     name(key(tokens, mark)?)
 }
 
-// Codes behind `CODES`, or none
+// Codes after `CODES`, or none
 fn codes(alloc: Global, tokens: Tokens<'_>) -> Result<Front<'_, Vec<Txt>>, Unread>
     ensures { AnswersBy vec_items ((items_after (key word.Codes) (in_brackets texts)).reads (kinds tokens.now)) result }
 {
@@ -165,7 +165,7 @@ fn create(alloc: Global, tokens: Tokens<'_>) -> Result<Front<'_, Statement>, Unr
     })
 }
 
-// Names behind `ORDER BY`, or none
+// Names after `ORDER BY`, or none
 fn order(alloc: Global, tokens: Tokens<'_>) -> Result<Front<'_, Vec<Txt>>, Unread>
     ensures { AnswersBy vec_items ((items_after (two_keys word.Order word.By) names).reads (kinds tokens.now)) result }
 {
@@ -213,7 +213,7 @@ pub(crate) fn setting(tokens: Tokens<'_>) -> Result<Front<'_, (Txt, Rounding)>, 
     })
 }
 
-// A statement behind SET
+// A statement after SET
 #[tactic(auto, unfolding(sql_tree::specs::Grammar::statement))]
 pub(crate) fn statement(alloc: Global, tokens: Tokens<'_>) -> Result<Front<'_, Statement>, Unread>
     ensures { AnswersBy statement_tree (statement.reads (kinds tokens.now)) result }

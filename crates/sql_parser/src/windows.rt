@@ -316,7 +316,7 @@ fn rows_over(alloc: Global, tokens: Tokens<'_>) -> Result<Front<'_, Over>, Unrea
     })
 }
 
-// A call with `OVER` behind it
+// A call with `OVER` after it
 pub(crate) fn call_over(tokens: Tokens<'_>) -> Result<Front<'_, WindowCall>, Unread>
     ensures { Answers ((before wcall (key word.Over)).reads (kinds tokens.now)) result }
 {
@@ -328,7 +328,7 @@ pub(crate) fn call_over(tokens: Tokens<'_>) -> Result<Front<'_, WindowCall>, Unr
     })
 }
 
-// What stands in brackets behind `OVER`
+// What stands in brackets after `OVER`
 pub(crate) fn bracketed_over(alloc: Global, tokens: Tokens<'_>) -> Result<Front<'_, Over>, Unread>
     ensures { Answers ((in_brackets over).reads (kinds tokens.now)) result }
 {

@@ -112,7 +112,7 @@ fn arguments(out: &mut Vec<TokenKind>, operands: &[SqlExpr]) -> Printed
     word(out, Word::Close)
 }
 
-// An operand, behind a comma where another stands before it.
+// An operand, after a comma where another stands before it.
 #[cycle(printing)]
 fn argument(out: &mut Vec<TokenKind>, operand: &SqlExpr, behind: bool) -> Printed
     ensures { OnOk result (out.new.items ≡ onto (expr_tree operand.now) (parted behind out.old.items)) }

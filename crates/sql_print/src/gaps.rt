@@ -66,7 +66,7 @@ fn ends_operand(kind: &TokenKind) -> bool {
     }
 }
 
-// Whether the token is a function, whose bracket stands right behind it.
+// Whether the token is a function, whose bracket stands right after it.
 fn is_function(kind: &TokenKind) -> bool {
     match kind {
         TokenKind::Word(word) => is_function_word(*word),
@@ -119,14 +119,15 @@ fn is_sign(kind: &TokenKind) -> bool {
     matches!(kind, TokenKind::Word(Word::Plus | Word::Minus))
 }
 
-// Whether a token stands right behind another, as a closing bracket does; `prefix` tells that the first is a sign before its operand.
+// Whether a token stands right after another, as a closing bracket does; `prefix` says that the first is a sign before
+// its operand.
 pub(crate) fn is_tight(before: &TokenKind, kind: &TokenKind, prefix: bool) -> bool
     ensures { result ≡ true → (kinds : List TokenKind) → IsApart (kinds ++ before.now ∷ []) (spelled kind.now) }
 {
     is_quiet_behind(before, kind) || is_open_ended(before, prefix) || is_column(before, kind)
 }
 
-// Whether the token is a mark that goes on none, and stands right behind the one before it.
+// Whether the token is a mark that continues no token, and stands right after the one before it.
 #[tactic(auto, using(crate::proofs::GapLaws::aparts))]
 fn is_quiet_behind(before: &TokenKind, kind: &TokenKind) -> bool
     ensures { result ≡ true → (kinds : List TokenKind) → IsApart kinds (spelled kind.now) }
@@ -140,7 +141,7 @@ fn is_quiet_behind(before: &TokenKind, kind: &TokenKind) -> bool
     }
 }
 
-// Whether no token goes on the one before, and the next stands right behind it.
+// Whether no token continues the one before, and the next stands right after it.
 #[tactic(auto, using(crate::proofs::GapLaws::aparts))]
 fn is_open_ended(before: &TokenKind, prefix: bool) -> bool
     ensures { result ≡ true → (kinds : List TokenKind) (text : List ℕ) → IsApart (kinds ++ before.now ∷ []) text }
@@ -152,7 +153,7 @@ fn is_open_ended(before: &TokenKind, prefix: bool) -> bool
     }
 }
 
-// Whether they are a name and the point behind it.
+// Whether they are a name and the point after it.
 #[tactic(auto, using(crate::proofs::GapLaws::aparts))]
 fn is_column(before: &TokenKind, kind: &TokenKind) -> bool
     ensures { result ≡ true → (kinds : List TokenKind) → IsApart (kinds ++ before.now ∷ []) (spelled kind.now) }

@@ -1,4 +1,5 @@
-// Tokens as text: each statement on a line, each clause of a query on a line of its own, and lists filled to a line's width.
+// Tokens as text: each statement on a line, each clause of a query on a line of its own, and lists filled to a line's
+// width.
 ghost use Rattle.std.specs.Prelude.{◌≡◌, ◌+◌, ◌<◌, ◌++◌, ℕ, List, length, take, chars, string_bytes, IfOk};
 ghost use Rattle.sql_print.specs.Gaps.{Fits, WrittenAs, gap_text};
 ghost use Rattle.sql_print.specs.declared.gaps.Gap.TheVariants as gap;
@@ -21,7 +22,7 @@ struct Place {
 }
 
 impl Place {
-    // The place behind the token.
+    // The place after the token.
     fn behind(self, gap: Gap, kind: &TokenKind) -> Place {
         let start = match gap {
             Gap::Nothing => self.width,
@@ -56,7 +57,7 @@ fn lists_behind(lists: usize, kind: &TokenKind) -> usize {
     }
 }
 
-// The characters of the token, but for doubled quotes.
+// The characters of the token, not counting doubled quotes.
 fn width_of(kind: &TokenKind) -> usize {
     match kind {
         TokenKind::Word(word) => word.spelling().len(),
@@ -100,7 +101,7 @@ fn space_behind(front: Option<&TokenKind>, before: Option<&TokenKind>, kind: &To
     }
 }
 
-// Whether the next item of a list has room on the line, with the comma behind it.
+// Whether the next item of a list has room on the line, with the comma after it.
 fn has_room(place: Place, ahead: &[TokenKind]) -> bool {
     place
         .width
@@ -109,7 +110,7 @@ fn has_room(place: Place, ahead: &[TokenKind]) -> bool {
         <= WIDTH
 }
 
-// What stands before the token, behind those that are done.
+// What stands before the token, after those that are done.
 #[tactic(auto, using(crate::proofs::GapLaws::fits))]
 fn gap_behind(done: &[TokenKind], kind: &TokenKind, ahead: &[TokenKind], place: Place) -> Gap
     ensures { Fits done.now result kind.now }
@@ -139,7 +140,7 @@ fn is_word(kind: &TokenKind, word: Word) -> bool {
     }
 }
 
-// Appends the token at a place of the list, and gives the place behind it.
+// Appends the token at a place of the list, and gives the place after it.
 fn turn(tokens: &[TokenKind], i: usize, place: Place, out: &mut String) -> Result<Place, AllocError>
     requires { i < length tokens.now }
     ensures { IfOk result (λ next. WrittenAs tokens.now (take i tokens.now) (chars (string_bytes out.old)) → WrittenAs tokens.now (take (i + 1) tokens.now) (chars (string_bytes out.new))) }
@@ -152,7 +153,7 @@ fn turn(tokens: &[TokenKind], i: usize, place: Place, out: &mut String) -> Resul
     Ok(place.behind(gap, kind))
 }
 
-// The text of the tokens, with the end of a line behind them.
+// The text of the tokens, with the end of a line after them.
 pub(crate) fn lay_out(alloc: Global, tokens: &[TokenKind]) -> Result<String, AllocError>
     ensures { IfOk result (λ text. (front : List ℕ) × (chars (string_bytes text) ≡ front ++ gap_text gap.Statement) × WrittenAs tokens.now tokens.now front) }
 {

@@ -1,8 +1,8 @@
 //! Scripts of the SQL dialect as text that reads back as the same script and no other.
 //!
 //! Where brackets stand is decided on trees, where lines end on tokens, and neither proof speaks of the other. The
-//! layout itself is no promise.
-//! It knows no types; it stands beside `sql_parser` and neither calls the other.
+//! layout itself is not promised.
+//! It knows no types; it is independent of `sql_parser`: neither calls the other.
 //! Begin with specs/Printed.antt, and sql_tree/specs/Printing.antt for the tokens.
 #![tactic(auto)]
 

@@ -12,9 +12,11 @@ use crate::statements::tokens_of;
 use sql_tree::SqlScript;
 use std::alloc::{AllocError, Global};
 
-/// The text of the script. Where the script is printable, the text is this script and no other, and its brackets are those that the script needs.
+/// The text of the script. Where the script is printable, the text is this script and no other, and its brackets are
+/// those that the script needs.
 ///
-/// Each statement stands on a line, each clause of a query on a line of its own after two spaces, and a list is filled to 100 characters a line. It fails only when out of memory.
+/// Each statement stands on a line, each clause of a query on a line of its own after two spaces, and a list is filled
+/// to 100 characters a line. It fails only if memory runs out.
 pub fn print(alloc: Global, script: &SqlScript) -> Result<String, AllocError>
     ensures script { IfOk result (λ text. PrintableScript (script_tree script.now) → IsScript (string_bytes text) (script_tree script.now)) }
     ensures alone { IfOk result (λ text. PrintableScript (script_tree script.now) → (other : ScriptTree) → IsScript (string_bytes text) other → other ≡ script_tree script.now) }

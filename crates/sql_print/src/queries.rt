@@ -61,7 +61,7 @@ impl Written for Join {
     }
 }
 
-// A condition behind its word, where there is one.
+// A condition after its word, where there is one.
 fn condition(out: &mut Vec<TokenKind>, mark: Word, condition: &Option<SqlExpr>) -> Printed
     ensures { OnOk result (out.new.items ≡ out.old.items ++ maybe_written (behind_word mark written) (option_map expr_tree condition.now)) }
 {
@@ -120,7 +120,7 @@ pub(crate) fn query(out: &mut Vec<TokenKind>, query: &Query) -> Printed
     more_selects(out, rest)
 }
 
-// The selects, each behind UNION ALL.
+// The selects, each after UNION ALL.
 fn more_selects(out: &mut Vec<TokenKind>, selects: &[Select]) -> Printed
     ensures { OnOk result (out.new.items ≡ out.old.items ++ behind (two_words w.Union w.All) written_select (map select_tree selects.now)) }
 {

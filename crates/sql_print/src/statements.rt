@@ -27,7 +27,7 @@ fn names(out: &mut Vec<TokenKind>, items: &[Txt]) -> Printed
     more_names(out, rest)
 }
 
-// The names, each behind a comma.
+// The names, each after a comma.
 fn more_names(out: &mut Vec<TokenKind>, items: &[Txt]) -> Printed
     ensures { OnOk result (out.new.items ≡ out.old.items ++ behind (just w.Comma) written_name items.now) }
 {
@@ -38,7 +38,7 @@ fn more_names(out: &mut Vec<TokenKind>, items: &[Txt]) -> Printed
     Ok(())
 }
 
-// Texts in brackets behind CODES, where there are any.
+// Texts in brackets after CODES, where there are any.
 fn codes(out: &mut Vec<TokenKind>, items: &[Txt]) -> Printed
     ensures { OnOk result (out.new.items ≡ out.old.items ++ items_after (just w.Codes) (λ xs. bracketed (commas written_text xs)) items.now) }
 {
@@ -51,7 +51,7 @@ fn codes(out: &mut Vec<TokenKind>, items: &[Txt]) -> Printed
     word(out, Word::Close)
 }
 
-// The texts, each behind a comma.
+// The texts, each after a comma.
 fn more_texts(out: &mut Vec<TokenKind>, items: &[Txt]) -> Printed
     ensures { OnOk result (out.new.items ≡ out.old.items ++ behind (just w.Comma) written_text items.now) }
 {

@@ -10,7 +10,7 @@ use crate::writing::{Printed, Written, parted, two_words, word};
 use sql_lexer::{TokenKind, Word};
 use sql_tree::{Bound, Column, Frame, Literal, Over, Window, WindowCall, WindowKey};
 
-// The columns behind two words, where there are any.
+// The columns after two words, where there are any.
 pub(crate) fn columns_after(
     out: &mut Vec<TokenKind>,
     first: Word,

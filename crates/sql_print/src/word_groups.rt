@@ -1,4 +1,4 @@
-// Words that stand for one thing each, and the levels of operators.
+// Words that each stand for one thing, and the levels of operators.
 ghost use Rattle.std.specs.Prelude.{◌≡◌};
 ghost use Rattle.sql_tree.specs.Printing.{aggregate_word, direction_word, join_word, kind_word, left_level, op_level, op_word, right_level, rounding_word, shift_word, side_word, unary_level, value_word};
 

@@ -1,4 +1,4 @@
-// What is written as tokens, and lists of it.
+// What is written as tokens, and lists of such things.
 ghost use Rattle.std.specs.Prelude.{◌≡◌, ◌++◌, ◌∷◌, [], map, OnOk};
 ghost use Rattle.grammar_forms.specs.Written.{behind, between, run};
 ghost use Rattle.sql_lexer.specs.declared.token.TokenKind.TheVariants as t;
@@ -45,7 +45,7 @@ pub(crate) fn parted<T: Written>(out: &mut Vec<TokenKind>, mark: Word, items: &[
     behind_marks(out, mark, rest)
 }
 
-// The items, each behind a word.
+// The items, each after a word.
 fn behind_marks<T: Written>(out: &mut Vec<TokenKind>, mark: Word, items: &[T]) -> Printed
     ensures { OnOk result (out.new.items ≡ out.old.items ++ behind (t.Word mark ∷ []) T.tokens items.now) }
 {

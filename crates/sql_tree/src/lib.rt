@@ -3,7 +3,7 @@
 //!
 //! The grammar is a page of forms, each with its production above it; brackets leave no trace in a tree. Printer,
 //! reader and checker all cite these definitions.
-//! It knows no types and no meaning, and nothing of VTL but its values and operators, which the dialect shares.
+//! It knows no types and no meaning, and nothing of VTL except its values and operators, which the dialect shares.
 //! Begin with specs/Grammar.antt (docs/SQL.md has the same productions), then Formed.antt and Texts.antt.
 #![tactic(auto)]
 

@@ -1,4 +1,4 @@
-// Words of which one stands at a place.
+// Groups of words, one of which stands at a place.
 
 /// Which rows a join with a condition keeps.
 #[derive(Clone, Copy, Debug, PartialEq, Eq)]
@@ -40,7 +40,7 @@ pub enum ValueFunction {
     RatioToReport,
 }
 
-/// A function that gives the value of a row that stands apart.
+/// A function that gives the value of another row.
 #[derive(Clone, Copy, Debug, PartialEq, Eq)]
 pub enum ShiftFunction {
     /// `LAG`: of a row before

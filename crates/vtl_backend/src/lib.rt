@@ -1,8 +1,8 @@
-//! What every back end that runs scripts keeps to: the trait `Backend`.
+//! What every back end that runs scripts must keep to: the trait `Backend`.
 //!
 //! It speaks of the checked script, of tables that stand for data sets, and of the meaning alone, so that a back
 //! end which runs SQL can meet it word for word. Two that do give the same answers up to the order of rows
-//! (`answers_agree`). Which scripts are run so far is asked here (`is_built`).
+//! (`answers_agree`). Which scripts can be run so far is decided here (`is_built`).
 //! It knows no way of evaluating and no file.
 //! Begin with specs/Runs.antt, then src/backend.rt.
 #![tactic(auto)]

@@ -40,7 +40,7 @@ pub enum Cell {
 // Most of the memory that is taken is rows of cells.
 const _: () = prove!(size_of::<Cell>() <= 32);
 
-/// An equal cell, which shares its text. It fails only when out of memory.
+/// An equal cell, which shares its text. It fails only if memory runs out.
 pub fn clone_cell(c: &Cell) -> Result<Cell, AllocError>
     ensures { IfOk result (λ copy. copy ≡ c.now) }
 {
@@ -69,8 +69,8 @@ pub fn compare(a: &Cell, b: &Cell) -> Ordering
     a.cmp(b)
 }
 
-/// The order of cells and of rows is total, ties are equal, and equality is equality. The order by listed keys is total,
-/// and rows may tie; with whole rows last they do not.
+/// The order of cells and of rows is total, ties are equal, and equality is equality. The order by listed keys is
+/// total, and rows may tie; with whole rows last they do not.
 pub fn order_is_lawful()
     ensures cells { IsTotalOrder cell_cmp }
     ensures ties { (a b : Cell) → cell_cmp a b ≡ Ordering.Equal → a ≡ b }
@@ -81,7 +81,7 @@ pub fn order_is_lawful()
     ensures windows { (listed : List Key) (places : List ℕ) → IsOrder (le_by (window_cmp listed places)) }
 {}
 
-/// Cells that feed a hasher alike are equal, so that the integer 1 and the number 1 are told apart.
+/// Cells that feed a hasher alike are equal, so the integer 1 and the number 1 do not feed it alike.
 pub fn hashes_tell_apart()
     ensures { (a b : Cell) → IsHeld a → IsHeld b → ⟦<Cell as Hash>⟧.hash_input a ≡ ⟦<Cell as Hash>⟧.hash_input b → a ≡ b }
 {}

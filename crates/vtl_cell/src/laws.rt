@@ -19,7 +19,8 @@ pub fn groups_have_no_order()
     ensures ratios { (p : Settings) (x : Cell) (xs ys : List Cell) → Perm xs ys → ratio_of p x xs ≡ ratio_of p x ys }
 {}
 
-/// The least and the greatest of some cells are among them, and no cell is less than the least or above the greatest.
+/// The least and the greatest of some cells are among them, and no cell is less than the least or greater than the
+/// greatest.
 pub fn least_and_greatest_are_bounds()
     ensures least_is_one { (xs : List Cell) → 0 < length xs → Contains xs (least xs) }
     ensures none_is_less { (xs : List Cell) → AllByRecursion (λ x. is_le (cell_cmp (least xs) x) ≡ true) xs }

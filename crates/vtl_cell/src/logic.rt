@@ -9,7 +9,7 @@ pub fn not3(a: Option<bool>) -> Option<bool>
     a.map(|b| !b)
 }
 
-/// Whether both hold: false where one is false, also beside null; otherwise null where one is null.
+/// Whether both hold: false where one is false, even with null; otherwise null where one is null.
 pub fn and3(a: Option<bool>, b: Option<bool>) -> Option<bool>
     ensures { result ≡ and_of a b }
 {
@@ -20,7 +20,7 @@ pub fn and3(a: Option<bool>, b: Option<bool>) -> Option<bool>
     }
 }
 
-/// Whether one holds: true where one is true, also beside null; otherwise null where one is null.
+/// Whether one holds: true where one is true, even with null; otherwise null where one is null.
 pub fn or3(a: Option<bool>, b: Option<bool>) -> Option<bool>
     ensures { result ≡ or_of a b }
 {

@@ -7,7 +7,7 @@ ghost use Rattle.vtl_cell.specs.ScalarSpelling.{vtl_spelling, sql_spelling};
 pub enum ScalarOp {
     /// `+a`: the operand
     Identity,
-    /// `-a`: the operand with its sign turned
+    /// `-a`: the operand with its sign changed
     Negate,
     /// `a + b`
     Add,

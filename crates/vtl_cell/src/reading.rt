@@ -12,7 +12,7 @@ use vtl_time::{read_day, read_period};
 ///
 /// `true` and `false` are booleans, in letters of either case; a numeral is a number, rounded once to the profile's
 /// scale, and an integer where its value is whole; `YYYY-MM-DD` is a day; a period is spelled as `read_period` says.
-/// Each text, the empty one too, is a text. No text is null. It fails only when out of memory.
+/// Each text, the empty one too, is a text. No text is null. It fails only if memory runs out.
 pub fn read_cell(
     alloc: Global,
     kind: Kind,

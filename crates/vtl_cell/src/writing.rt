@@ -12,8 +12,8 @@ use vtl_time::{write_day, write_period};
 /// digits of an integer, a number as `vtl_decimal::write` writes it, a text as it is, a day as `YYYY-MM-DD` and a
 /// period as `write_period` writes it.
 ///
-/// It fails only when out of memory, and then leaves `out` as it was. The clause `held` says which cells there are: those
-/// whose parts are in the range of their types.
+/// It fails only if memory runs out, and then leaves `out` as it was. The clause `held` says which cells there are:
+/// those whose parts are in the range of their types.
 pub fn write_cell(c: &Cell, p: &Profile, out: &mut Vec<u8>) -> Result<(), AllocError>
     ensures ok { OnOk result (out.new.items ≡ out.old.items ++ text_of p.now c.now) }
     ensures err { OnErr result (out.new.items ≡ out.old.items) }

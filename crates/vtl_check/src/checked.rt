@@ -55,8 +55,8 @@ impl Model for Checked {
 }
 
 impl Checked {
-    /// A script that is typed over these structures with these nodes, one for each statement. The script is shared. It fails only
-    /// for want of memory.
+    /// A script that is typed over these structures with these nodes, one for each statement. The script is shared. It
+    /// fails only if memory runs out.
     #[tactic(auto, using(crate::proofs::ScriptLemmas::as_many_nodes, crate::proofs::ScriptLemmas::typed_parts))]
     pub fn of(
         alloc: Global,
@@ -161,7 +161,7 @@ pub fn defines_rulesets(script: &Script) -> bool
     false
 }
 
-// What a typed script holds beside its nodes.
+// What a typed script holds besides its nodes.
 #[derive(Drop)]
 struct Parts {
     script: Script,
@@ -169,7 +169,7 @@ struct Parts {
     uses: Uses,
 }
 
-// What a script holds beside its nodes. They are borrowed, so that nothing here has to drop them.
+// What a script holds besides its nodes. The nodes are borrowed, so that nothing here has to drop them.
 fn parts_of(
     alloc: Global,
     script: &Script,
@@ -194,8 +194,9 @@ fn parts_of(
     })
 }
 
-/// The typing of a script over declared structures (VTL 2.0; docs/TYPES.md): the script with its nodes, or the first statement that
-/// breaks a rule, and the smallest rule that its first wrong part breaks. It takes a script without rulesets, and shares it.
+/// The typing of a script over declared structures (VTL 2.0; docs/TYPES.md): the script with its nodes, or the first
+/// statement that breaks a rule, and the least rule that its first wrong part breaks. It takes a script without
+/// rulesets, and shares it.
 pub fn check(
     alloc: Global,
     script: &Script,

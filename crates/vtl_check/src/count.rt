@@ -27,7 +27,7 @@ fn one_less(left: usize) -> Option<usize>
     if 1 <= left { Some(left - 1) } else { None }
 }
 
-// What is left of so many nodes behind an expression, or none where it has more. So no sum can overflow.
+// How many of this many nodes are left after an expression, or none where it has more. So no sum can overflow.
 #[cycle(count)]
 fn spend(node: &Node, left: usize) -> Option<usize>
     ensures { result ≡ spent (node_tree node.now) left }

@@ -14,7 +14,7 @@ pub fn is_known(known: &IndexMap<Txt, Structure>, name: &Txt) -> bool
     known.contains_key(name)
 }
 
-/// Puts a structure behind the others, under a name that none has yet.
+/// Puts a structure after the others, under a name that none has yet.
 pub fn put(
     known: &mut IndexMap<Txt, Structure>,
     name: &Txt,
@@ -27,7 +27,7 @@ pub fn put(
     Ok(())
 }
 
-// Puts one more of the declared structures behind those before it.
+// Puts one more of the declared structures after those before it.
 fn put_at(
     alloc: Global,
     known: &mut IndexMap<Txt, Structure>,

@@ -2,8 +2,8 @@
 //! rule.
 //!
 //! Statements in order, each over the declared data sets and the results before it; names of results, and the limit
-//! of 4,096 nodes. A `Checked` keeps as its invariant that it is this typing, and tells which data sets the script
-//! reads and gives.
+//! of 4,096 nodes. A `Checked` keeps as its invariant that it is this typing, and says which data sets the script reads
+//! and gives.
 //! It decides no rule of an expression (`check_expressions`), reads no files and runs nothing. Scripts that define
 //! rulesets are not typed yet.
 //! Begin with specs/Script.antt, then specs/Uses.antt and src/checked.rt.

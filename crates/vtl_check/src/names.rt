@@ -9,7 +9,7 @@ use std::alloc::{AllocError, Global};
 use vtl_nodes::{JoinOperand, Node, NodeForm};
 use vtl_text::Txt;
 
-/// The names of the data sets that expressions read, as often as they stand.
+/// The names of the data sets that expressions read, each as often as it occurs.
 pub fn read_names(alloc: Global, nodes: &[Node]) -> Result<Vec<Txt>, AllocError>
     ensures { IfOk result (λ v. v.items ≡ names_of (map node_tree nodes.now)) }
 {

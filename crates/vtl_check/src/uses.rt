@@ -26,7 +26,7 @@ pub struct Uses {
     pub outputs: Vec<Txt>,
 }
 
-// Puts a structure behind others, where none has the name yet.
+// Puts a structure after others, where none has the name yet.
 fn put_new(
     alloc: Global,
     known: &mut IndexMap<Txt, Structure>,
@@ -42,7 +42,7 @@ fn put_new(
     put(known, name, shared)
 }
 
-// Puts a data set that is read behind others, where it is declared and new.
+// Puts a data set that is read after others, where it is declared and new.
 fn put_read(
     alloc: Global,
     declared: &IndexMap<Txt, Structure>,
@@ -57,7 +57,7 @@ fn put_read(
     }
 }
 
-// Puts the declared data sets of some names behind others.
+// Puts the declared data sets of some names after others.
 fn put_reads(
     alloc: Global,
     declared: &IndexMap<Txt, Structure>,
@@ -105,7 +105,7 @@ fn names_by_place(alloc: Global, known: &IndexMap<Txt, Structure>) -> Result<Vec
     Ok(names)
 }
 
-// Puts the results of statements behind other data sets.
+// Puts the results of statements after other data sets.
 fn put_results(
     alloc: Global,
     known: &mut IndexMap<Txt, Structure>,

@@ -59,7 +59,7 @@ fn push_calculated(
     Ok(())
 }
 
-// What columns are made of that have these names.
+// What the columns with these names are made of.
 fn calculated_exps(
     alloc: Global,
     items: &[CalcItem],
@@ -92,9 +92,9 @@ fn calculated_table(
     each_point(alloc, &exps, a, made, p)
 }
 
-/// The points with the values of the targets, each computed from the point as it was, as a data set of the structure that
-/// typing gives. No target is an analytic call. The answer is DivZero where any value divides by zero, else Range where
-/// any is out of range, else it fails only for want of memory.
+/// The points with the values of the targets, each computed from the point as it was, as a data set of the structure
+/// that typing gives. No target is an analytic call. The answer is DivZero where any value divides by zero, otherwise
+/// Range where any is out of range; otherwise it fails only if memory runs out.
 pub fn calc(
     alloc: Global,
     a: &DataSet,

@@ -20,7 +20,7 @@ use vtl_scalar::ScalarErr;
 use vtl_sets::{DataSet, new_table};
 use vtl_tree::{CompExpr, Structure};
 
-// Puts a row behind those that are kept, where the condition is true, and sees its fault.
+// Puts a row after those that are kept, where the condition is true, and records the condition's fault.
 fn keep(
     alloc: Global,
     kept: &mut Table,
@@ -66,8 +66,8 @@ fn kept_table(
 }
 
 /// The points at which the condition is true, as a data set of the same structure. The answer is DivZero where the
-/// condition divides by zero at any point, else Range where it is out of range at any, else it fails only for want of
-/// memory.
+/// condition divides by zero at any point, otherwise Range where it is out of range at any; otherwise it fails only if
+/// memory runs out.
 pub fn filter(
     alloc: Global,
     a: &DataSet,

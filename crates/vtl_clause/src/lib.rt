@@ -1,8 +1,8 @@
 //! Clauses on data sets: `filter`, `calc`, `rename` and `sub`. `keep` and `drop` leave some of the columns, as
 //! `vtl_expr::keep_columns` does.
 //!
-//! It decides which points a clause leaves and what their cells are made of. The values of expressions come from vtl_expr,
-//! and the structure of each result is handed in as the check of the script found it.
+//! It decides which points a clause keeps and what their cells are made of. The values of expressions come from
+//! `vtl_expr`, and the structure of each result is passed in as typing found it.
 //! It knows no script, no statement, no file and no text format.
 //! Begin with `filtering.rt`.
 #![tactic(auto)]

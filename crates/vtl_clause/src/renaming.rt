@@ -19,8 +19,8 @@ fn renamed_table(alloc: Global, a: DataSet, made: &Structure) -> Result<Table, A
     Ok(table.with_columns(columns))
 }
 
-/// The same points below other names: no cell is copied, unless the table has other owners. It fails only for want of
-/// memory.
+/// The same points under other names: no cell is copied, unless the table has other owners. It fails only if memory
+/// runs out.
 pub fn rename(alloc: Global, a: DataSet, made: Structure) -> Result<DataSet, AllocError>
     requires { IsRenamed a.structure made }
     ensures { IfOk result (λ d. d ≡ data_set made a.points) }

@@ -44,7 +44,7 @@ fn pinned<'a>(
     Ok(pins)
 }
 
-// Whether the cell at a place is the value; there is null past the last one.
+// Whether the cell at a place is the value; after the last cell there is null.
 fn is_at(row: &[Cell], place: usize, value: &Cell) -> bool
     ensures { result ≡ same_cell (column_of place row.now) value.now }
 {
@@ -108,8 +108,8 @@ fn sub_table(
     Ok(out)
 }
 
-/// The points at which each listed identifier has the listed value, without these identifiers. It fails only for want of
-/// memory.
+/// The points at which each listed identifier has the listed value, without these identifiers. It fails only if memory
+/// runs out.
 pub fn sub(
     alloc: Global,
     a: &DataSet,

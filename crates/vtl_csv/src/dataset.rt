@@ -34,7 +34,7 @@ fn table_of(alloc: Global, file: &[FileColumn]) -> Result<Table, AllocError>
     Ok(Table::new(alloc, columns))
 }
 
-// Adds the rows of the records that are left up to the first flaw, which is the answer.
+// Adds the rows of the records that are left, up to the first flaw, which is the answer.
 fn add_rows(
     alloc: Global,
     table: &mut Table,
@@ -57,7 +57,8 @@ fn add_rows(
     Ok(None)
 }
 
-// The first fault of a file with the rows of a table: the first repeat of identifiers, or else the flaw behind the rows.
+// The first fault of a file with the rows of a table: the first repeat of identifiers, otherwise the flaw after the
+// rows.
 fn first_fault(table: &Table, repeat: Option<usize>, flaw: Option<Flaw>) -> Option<Fault>
     requires { IfSome repeat (λ place. place < length table.now.rows) }
     ensures { option_map fault_of result ≡ fault_among (length table.now.rows) repeat (option_map flaw_of flaw) }
@@ -156,7 +157,7 @@ fn key_places<'a>(
     Ok(&places[..count])
 }
 
-// The data set whose records are left behind a header with this layout.
+// The data set whose records are left after a header with this layout.
 fn read_table(
     alloc: Global,
     structure: &Structure,
@@ -207,9 +208,9 @@ fn read_text(
 }
 
 /// The data set of the structure that a CSV file holds: a table of its points in the order of the file, with the
-/// components as columns, identifiers first, then measures, then attributes. Or the first fault by line, and within a line
-/// too many rows, a wrong width, the fields by column, and last a repeat of identifiers. It fails otherwise only for want
-/// of memory.
+/// components as columns, identifiers first, then measures, then attributes. Otherwise the first fault by line, and
+/// within a line in the order: too many rows, a wrong width, the fields by column, a repeat of identifiers. It
+/// otherwise fails only if memory runs out.
 pub fn read_dataset(
     alloc: Global,
     text: &[u8],

@@ -17,7 +17,7 @@ use vtl_cell::Kind;
 use vtl_text::{Shared, Txt, are_distinct, is_component_name, is_name};
 use vtl_tree::{Component, MAX_COMPONENTS, Role, Structures};
 
-// The fields of a record, as they stand in its text.
+// The fields of a record, as written in its text.
 #[derive(Clone, Copy)]
 pub struct Declaration<'a> {
     dataset: &'a [u8],
@@ -206,7 +206,7 @@ fn is_string_identifier(role: Role, kind: Kind) -> bool
     }
 }
 
-// The codes of a component with this role and kind; the inner none is that of an empty field.
+// The codes of a component with this role and kind; the inner none stands for an empty field.
 fn codes_of(
     alloc: Global,
     role: Role,

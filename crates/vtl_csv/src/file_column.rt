@@ -17,7 +17,7 @@ use vtl_tree::Component;
 #[derive(Drop)]
 pub struct FileColumn<'a> {
     component: &'a Component,
-    // the codes of the component in order, so that a text is looked up and not searched
+    // the codes of the component in order, so that a text is found by look-up and not by going through all codes
     codes: Vec<Txt>,
 }
 
@@ -53,7 +53,7 @@ fn is_among(codes: &[Txt], text: &Txt) -> bool
 }
 
 impl<'a> FileColumn<'a> {
-    /// The column of a component. It fails only for want of memory.
+    /// The column of a component. It fails only if memory runs out.
     pub fn new(alloc: Global, component: &'a Component) -> Result<FileColumn<'a>, AllocError>
         ensures { IfOk result (λ c. c ≡ component.now) }
     {

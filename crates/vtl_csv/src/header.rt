@@ -20,7 +20,7 @@ pub struct Layout<'a> {
     pub places: Vec<usize>,
 }
 
-// The component of which a field is the name.
+// The component whose name a field is.
 fn named_by<'a>(components: &'a [Component], field: &[u8]) -> Option<&'a Component>
     ensures { option_map (λ x. x.now) result ≡ named_by components.now field.now }
 {
@@ -44,7 +44,7 @@ fn is_named(columns: &[FileColumn], field: &[u8]) -> bool
     false
 }
 
-// The component that a field names, which none of the fields of these columns does.
+// The component that a field names, if no field of these columns names it.
 fn newly_named<'a>(
     components: &'a [Component],
     before: &[FileColumn],
@@ -59,7 +59,8 @@ fn newly_named<'a>(
     }
 }
 
-// The components that the fields of a header name, or the column of the first field that names none, or one again.
+// The components that the fields of a header name, or the column of the first field that names none, or names one a
+// second time.
 fn columns<'a>(
     alloc: Global,
     components: &'a [Component],

@@ -6,7 +6,7 @@ use thiserror::Error;
 /// What is wrong at a place of a CSV file.
 #[derive(Clone, Copy, Debug, PartialEq, Eq)]
 pub enum InputKind {
-    /// A field of the header names no component or one again, or a component is missing.
+    /// A field of the header names no component, or one that is named already, or a component is missing.
     BadHeader,
     /// There are more than 1,000,000 records after the header.
     TooManyRows,

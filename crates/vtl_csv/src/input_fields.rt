@@ -99,7 +99,7 @@ fn row(
     Ok(Ok(row))
 }
 
-/// The row of a record behind `count` rows, or the first flaw of the record. The pools are those of the columns.
+/// The row of a record after `count` rows, or the first flaw of the record. The pools are those of the columns.
 pub fn record_row(
     alloc: Global,
     columns: &[FileColumn],

@@ -15,7 +15,7 @@ pub fn read_rows_are_a_data_set()
     ensures { (p : Settings) (s : Structure) (text : List ℕ) (rows : List Row) → IsStructure s → dataset_rows p s text ≡ Ok rows → IsDataSet s rows }
 {}
 
-/// A file gives one answer: two that are not want of memory are the same.
+/// A file gives one answer: two answers are the same, unless one says that memory ran out.
 pub fn reading_is_determined()
     ensures { (s : Structure) (what : Result (List Row) Fault) (a b : Result Listed InputErr) → a ≢ Err OutOfMemory → b ≢ Err OutOfMemory → Reads s a what → Reads s b what → a ≡ b }
 {}

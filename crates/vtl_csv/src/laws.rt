@@ -14,7 +14,7 @@ pub fn output_rises_by_identifiers()
     ensures { (count : ℕ) (rows : List Row) → Rises (le_key count) (sorted_by (le_by row_cmp) rows) }
 {}
 
-/// The text of a data set is read again as its points, in order of their cells from the left.
+/// The text of a data set is read back as its points, in order of their cells from the left.
 pub fn data_sets_are_read_again()
     ensures { (p : Settings) (s : Structure) (points : List Row) → IsDataSet s points → IsReadable p s points → dataset_rows p s (csv_of p s points) ≡ Ok (sorted_by (le_by row_cmp) points) }
 {}

@@ -1,9 +1,9 @@
-//! CSV texts: the structures that a structures file declares, the data set that a file holds, and the texts of data sets
-//! and tables.
+//! CSV texts: the structures that a structures file declares, the data set that a file holds, and the texts of data
+//! sets and tables.
 //!
-//! Of all that lies below the program it alone knows a text format of data sets. It decides which bytes hold a data set of a
-//! structure, which fault of a file is told, and in which order and with which bytes points are written. Where files lie,
-//! and what is done with data sets, is left to others.
+//! Of all the crates below the program it alone knows a text format of data sets. It decides which bytes hold a data
+//! set of a structure, which fault of a file is reported, and in which order and with which bytes points are written.
+//! Where files lie, and what is done with data sets, is left to others.
 //! It knows no operator, no expression and no script.
 //! Begin with specs/InputFile and specs/CsvText, then `dataset.rt` and `table_text.rt`.
 #![tactic(auto)]

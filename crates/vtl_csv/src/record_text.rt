@@ -1,4 +1,4 @@
-// The CSV text of a row, put behind other text.
+// The CSV text of a row, appended to other text.
 ghost use Rattle.std.specs.Prelude.{◌==◌, ◌&&◌, ◌≡◌, ◌≤◌, ◌<◌, ◌++◌, ◌∷◌, [], length, map, take, drop, OnOk, if◌then◌else◌};
 ghost use Rattle.csv.specs.Quoting.{needs_byte};
 ghost use Rattle.csv.specs.Writing.{default_writer, escaped, field_text, needs_quotes, next_sep, quoted, row_body, row_text};
@@ -7,7 +7,7 @@ ghost use Rattle.vtl_cell.specs.Writing.{text_of};
 use std::alloc::AllocError;
 use vtl_cell::{Cell, Profile, write_cell};
 
-/// Puts the record of a row's cells behind a text, as `csv` writes it: fields between commas, in quotes where they need
+/// Appends the record of a row's cells to a text, as `csv` writes it: fields between commas, in quotes where they need
 /// them, and a line feed.
 pub fn push_record(text: &mut Vec<u8>, row: &[Cell], profile: &Profile) -> Result<(), AllocError>
     requires { 0 < length row.now }
@@ -19,14 +19,14 @@ pub fn push_record(text: &mut Vec<u8>, row: &[Cell], profile: &Profile) -> Resul
     Ok(())
 }
 
-// Whether a record of so many fields shows no byte between these places.
+// Whether a record of this many fields has no byte between these places.
 fn is_blank(count: usize, start: usize, end: usize) -> bool
     ensures { result ≡ ((count == 1) && (end == start)) }
 {
     count == 1 && end == start
 }
 
-// Puts the end of a record behind a text; a record that shows no byte gets two quotes.
+// Appends the end of a record to a text; a record without any byte gets two quotes.
 fn push_end(text: &mut Vec<u8>, is_blank: bool) -> Result<(), AllocError>
     ensures { OnOk result (text.new.items ≡ text.old.items ++ ((if is_blank then 34 ∷ 34 ∷ [] else []) ++ 10 ∷ [])) }
 {
@@ -38,7 +38,7 @@ fn push_end(text: &mut Vec<u8>, is_blank: bool) -> Result<(), AllocError>
     Ok(())
 }
 
-// Puts the fields of cells behind a text, with commas between them.
+// Appends the fields of cells to a text, with commas between them.
 fn push_body(text: &mut Vec<u8>, row: &[Cell], profile: &Profile) -> Result<(), AllocError>
     ensures { OnOk result (text.new.items ≡ text.old.items ++ row_body default_writer (map (text_of profile.now) row.now)) }
 {
@@ -49,7 +49,7 @@ fn push_body(text: &mut Vec<u8>, row: &[Cell], profile: &Profile) -> Result<(), 
     Ok(())
 }
 
-// Puts a comma behind a text, if a field stands before.
+// Appends a comma to a text, if a field stands before it.
 fn push_separator(text: &mut Vec<u8>, i: usize) -> Result<(), AllocError>
     ensures { OnOk result (text.new.items ≡ text.old.items ++ next_sep default_writer i) }
 {
@@ -59,7 +59,7 @@ fn push_separator(text: &mut Vec<u8>, i: usize) -> Result<(), AllocError>
     Ok(())
 }
 
-// Puts the field of a cell behind a text.
+// Appends the field of a cell to a text.
 fn push_cell_text(text: &mut Vec<u8>, cell: &Cell, profile: &Profile) -> Result<(), AllocError>
     ensures { OnOk result (text.new.items ≡ text.old.items ++ field_text default_writer (text_of profile.now cell.now)) }
 {
@@ -71,7 +71,7 @@ fn push_cell_text(text: &mut Vec<u8>, cell: &Cell, profile: &Profile) -> Result<
     Ok(())
 }
 
-// Puts what stands from a place on between quotes.
+// Puts quotes around what stands from a place on.
 fn quote_from(text: &mut Vec<u8>, start: usize) -> Result<(), AllocError>
     requires { start ≤ length text.old.items }
     ensures { OnOk result (text.new.items ≡ take start text.old.items ++ quoted default_writer (drop start text.old.items)) }
@@ -89,7 +89,7 @@ fn push_quoted(text: &mut Vec<u8>, field: &[u8]) -> Result<(), AllocError>
     Ok(())
 }
 
-// Puts bytes behind a text, each quote twice.
+// Appends bytes to a text, each quote twice.
 fn push_escaped(text: &mut Vec<u8>, field: &[u8]) -> Result<(), AllocError>
     ensures { OnOk result (text.new.items ≡ text.old.items ++ escaped default_writer field.now) }
 {
@@ -99,7 +99,7 @@ fn push_escaped(text: &mut Vec<u8>, field: &[u8]) -> Result<(), AllocError>
     Ok(())
 }
 
-// Puts a byte behind a text, and a quote twice.
+// Appends a byte to a text, a quote twice.
 #[tactic(auto, unfolding(csv::specs::Writing::escaped))]
 fn push_doubled(text: &mut Vec<u8>, byte: u8) -> Result<(), AllocError>
     ensures { OnOk result (text.new.items ≡ text.old.items ++ escaped default_writer (byte ∷ [])) }

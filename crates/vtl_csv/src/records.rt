@@ -29,7 +29,7 @@ impl<'a> Model for RecordReader<'a> {
     ghost invariant = { λ r. ReadsUntilEnd r.has_ended r.reader };
 }
 
-// What stops the reading of a slice, which has every byte at hand, is want of memory.
+// The reading of a slice, which has every byte at hand, stops only if memory runs out.
 fn want_of_memory(error: Error) -> AllocError
     requires { stops_reader (error_kind error) ≡ true }
 {

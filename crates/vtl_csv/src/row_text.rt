@@ -9,7 +9,7 @@ use std::marker::Model;
 
 /// A writer of CSV text into memory. A contract sees the bytes that are written so far.
 ///
-/// It fails only for want of memory, and after that each call fails.
+/// It fails only if memory runs out, and after that each call fails.
 #[derive(Drop)]
 pub struct RowWriter {
     writer: Writer<Vec<u8>>,

@@ -121,7 +121,7 @@ fn add_record(
     }
 }
 
-// Adds what the records declare that are left, and answers the first fault, if there is one.
+// Adds what the remaining records declare, and answers the first fault, if there is one.
 fn add_records(
     alloc: Global,
     structures: &mut Structures,
@@ -189,7 +189,8 @@ fn read_text(alloc: Global, text: &[u8]) -> Result<Result<Structures, Fault>, Al
 }
 
 /// The structures that a structures file declares, or its first fault by line and then by rule; that a data set has no
-/// identifier, rule 10, is looked at once no line breaks another rule. It fails otherwise only for want of memory.
+/// identifier, rule 10, is looked at only where no line breaks another rule. It otherwise fails only if memory runs
+/// out.
 pub fn read_structures(alloc: Global, text: &[u8]) -> Result<Structures, StructErr>
     ensures { Gives result (structures_of_file text.now) }
 {

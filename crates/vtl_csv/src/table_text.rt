@@ -20,8 +20,8 @@ use vtl_rows::{Column, SortKey, Table};
 use vtl_tree::Structure;
 
 /// The CSV text of a table: a header of the names of its columns, and a record for each row. The rows stand in order by
-/// the columns at the places in `order`, and where these tie by all columns from the left. Null and the empty text are
-/// empty fields. It fails only for want of memory.
+/// the columns at the places in `order`, and, where these tie, by all columns from the left. Null and the empty text
+/// are empty fields. It fails only if memory runs out.
 pub fn write_table(
     alloc: Global,
     table: &Table,
@@ -35,8 +35,8 @@ pub fn write_table(
     sorted_text(alloc, table, &keys, profile)
 }
 
-/// The CSV text of a data set, of which the table holds the points: a header of the names of its components in column
-/// order, and a record for each point, in order of the identifiers. It fails only for want of memory.
+/// The CSV text of a data set whose points the table holds: a header of the names of its components in column order,
+/// and a record for each point, in order of the identifiers. It fails only if memory runs out.
 pub fn write_dataset(
     alloc: Global,
     table: &Table,

@@ -5,13 +5,13 @@ use std::alloc::{AllocError, Global};
 use std::hash::{FoldHasher, Hash, Hasher};
 use vtl_text::Txt;
 
-// A column with fewer texts shares none.
+// A column with fewer texts than this shares none.
 const FEW: usize = 64;
 
-// A text is kept in one of so many slots, by its hash, until another one takes the slot.
+// A text is kept in one of this many slots, by its hash, until another one takes the slot.
 const SLOTS: usize = 16_384;
 
-// After so many texts it shows whether most are new, and then no more are kept.
+// After more texts than this, no more are kept where most of them were new.
 const TRIAL: usize = 65_536;
 
 /// Texts of a column that were met lately. What it costs to look for one does not depend on the others.
@@ -32,7 +32,7 @@ impl TextPool {
         }
     }
 
-    /// A text with these characters, shared with an equal one that the pool holds. It fails only for want of memory.
+    /// A text with these characters, shared with an equal one that the pool holds. It fails only if memory runs out.
     pub fn text(&mut self, alloc: Global, text: &str) -> Result<Txt, AllocError>
         ensures { IfOk result (λ t. t ≡ chars text.now) }
     {
@@ -93,7 +93,7 @@ fn no_texts(alloc: Global) -> Result<Vec<Option<Txt>>, AllocError> {
     Ok(slots)
 }
 
-/// A pool for each of so many columns. It fails only for want of memory.
+/// A pool for each of this many columns. It fails only if memory runs out.
 pub fn pools(alloc: Global, count: usize) -> Result<Vec<TextPool>, AllocError>
     ensures { IfOk result (λ pools. vec_len pools ≡ count) }
 {

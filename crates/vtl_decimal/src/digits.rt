@@ -4,7 +4,7 @@ ghost use Rattle.std.specs.Str.{all_ascii_digits};
 
 use crate::number::LIMIT;
 
-// The number that the digits write behind those of `start`, where it has at most 18 digits.
+// The number that the digits write after those of `start`, where it has at most 18 digits.
 #[tactic(auto, using(crate::proofs::DigitLemmas::digit_facts))]
 pub(crate) fn value_onto(start: u64, digits: &[u8]) -> Option<u64>
     requires start_fits { start < 10 ^ 18 }

@@ -1,6 +1,6 @@
 //! Exact decimal numbers of at most 18 digits, with a declared scale and rounding.
 //!
-//! A number is a whole count of units of the last place, so a value means something within one profile alone. Each
+//! A number is a whole count of units of the last place, so a value has a meaning only within one profile. Each
 //! operation is rounded once, by the profile's rule, or answers `Range` or `DivZero`; sums are exact whatever the
 //! partial sums were.
 //! It decides nothing about null, kinds or which operators there are (`vtl_cell`, `vtl_scalar`).

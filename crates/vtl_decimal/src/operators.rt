@@ -26,7 +26,7 @@ pub fn sub(a: Dec, b: Dec) -> Result<Dec, Fault>
     fit(i128::from(a.k()) - i128::from(b.k()))
 }
 
-/// The number with its sign turned.
+/// The number with its sign changed.
 pub fn neg(a: Dec) -> Dec
     ensures { result ≡ neg_ℤ a }
 {

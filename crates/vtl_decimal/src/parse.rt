@@ -31,7 +31,7 @@ fn each_is_digit(text: &[u8]) -> bool
     text.iter().all(|byte| byte.is_ascii_digit())
 }
 
-// The sign, and what stands behind it.
+// The sign, and what stands after it.
 fn split_sign(text: &[u8]) -> (bool, &[u8])
     ensures sign { result.0 ≡ starts_with_minus text.now }
     ensures rest { result.1.now ≡ without_leading_sign text.now }
@@ -86,7 +86,7 @@ fn small_value(digits: &[u8]) -> i16
     value_onto(0, digits).map_or(0, |value| value as i16)
 }
 
-// The power of ten behind the mark of an exponent, where one to three digits spell it.
+// The power of ten after the mark of an exponent, where one to three digits spell it.
 fn power(text: &[u8]) -> Option<i16>
     ensures { result ≡ power_of text.now }
 {
@@ -98,7 +98,7 @@ fn power(text: &[u8]) -> Option<i16>
     Some(if negative { -size } else { size })
 }
 
-// The exponent behind the digits, or 0 where there is none.
+// The exponent after the digits, or 0 where there is none.
 fn exponent(text: &[u8]) -> Option<i16>
     ensures { result ≡ exponent_of text.now }
 {
@@ -129,7 +129,7 @@ fn with_digits<'a>(
     })
 }
 
-// What stands behind the point, if it is there.
+// What stands after the point, if it is there.
 fn behind_point(text: &[u8]) -> &[u8]
     ensures { result.now ≡ drop 1 text.now }
 {

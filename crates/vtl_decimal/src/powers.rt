@@ -1,6 +1,6 @@
 ghost use Rattle.std.specs.Prelude.{◌≡◌, ◌^◌, ◌<◌, ◌≤◌, ◌*ℤ◌, pos, unsigned_abs};
 
-// Ten to a power that fits 64 bits.
+// A power of ten that fits in 64 bits.
 #[tactic(auto, using(crate::proofs::PowerLemmas::power_of_ten_fits))]
 pub(crate) fn power_of_ten(exponent: u8) -> i64
     requires { exponent ≤ 18 }
@@ -11,7 +11,7 @@ pub(crate) fn power_of_ten(exponent: u8) -> i64
     10_u64.pow(u32::from(exponent)) as i64
 }
 
-// The product of any two numbers of 64 bits fits 128.
+// The product of any two 64-bit numbers fits in 128 bits.
 pub(crate) fn exact_product(a: i64, b: i64) -> i128
     ensures value { result ≡ a *ℤ b }
     ensures bound { unsigned_abs result ≤ 2 ^ 126 }

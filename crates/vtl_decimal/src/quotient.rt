@@ -4,7 +4,7 @@ ghost use Rattle.vtl_decimal.specs.Divided.{place_of_rest};
 
 use crate::settings::Rounding;
 
-// Where the rest of a division stands between zero and the divisor.
+// Where the remainder of a division stands between zero and the divisor.
 #[derive(Clone, Copy)]
 pub(crate) enum Rest {
     Zero,
@@ -13,14 +13,14 @@ pub(crate) enum Rest {
     AboveHalf,
 }
 
-// The units of a quotient, and the rest that it leaves.
+// The units of a quotient, and the remainder that it leaves.
 #[derive(Clone, Copy)]
 pub(crate) struct Divided {
     pub units: u64,
     pub rest: Rest,
 }
 
-// Where a rest stands.
+// Where a remainder stands.
 fn classify(rest: u128, divisor: u128) -> Rest
     requires { rest < 2 ^ 127 }
     ensures { result ≡ place_of_rest rest divisor }
@@ -36,7 +36,7 @@ fn classify(rest: u128, divisor: u128) -> Rest
     }
 }
 
-// Whether the rounding adds one to a quotient with this rest.
+// Whether the rounding adds one to a quotient with this remainder.
 #[tactic(auto, using(crate::proofs::RoundingLemmas::rounds_up_by_rest))]
 pub(crate) fn goes_up(rounding: Rounding, is_odd: bool, rest: Rest) -> bool
     ensures { (z r q : ℕ) → 0 < q → is_odd ≡ (z % 2 == 1) → rest ≡ place_of_rest r q → result ≡ rounds_up rounding z r q }

@@ -25,7 +25,7 @@ fn any_nonzero_of(first: &[u8], second: &[u8]) -> bool
     any_nonzero(first) || any_nonzero(second)
 }
 
-// Where the rest stands that a digit and what follows it write, against one before that digit.
+// Where the remainder stands that a digit and what follows it write, against one before that digit.
 #[tactic(auto, using(crate::proofs::RestLemmas::rest_by_lead))]
 fn rest_from_lead(lead: u8, more: bool) -> Rest
     requires digit_from { 48 ≤ lead }
@@ -40,7 +40,7 @@ fn rest_from_lead(lead: u8, more: bool) -> Rest
     }
 }
 
-// Where the rest stands that the digits write, and those behind them, of which one is not `0`
+// Where the remainder stands that the digits write, and those after them, of which one is not `0`
 // where `more` says so.
 fn rest_with_tail(digits: &[u8], more: bool) -> Rest
     requires digits { IsTrue (all_ascii_digits digits.now) }
@@ -51,7 +51,7 @@ fn rest_with_tail(digits: &[u8], more: bool) -> Rest
     rest_from_lead(digits[0], more)
 }
 
-// Where the rest stands that the digits of two texts write, against one before them.
+// Where the remainder stands that the digits of two texts write, against one before them.
 fn rest_of_digits(first: &[u8], second: &[u8]) -> Rest
     requires first_digits { IsTrue (all_ascii_digits first.now) }
     requires second_digits { IsTrue (all_ascii_digits second.now) }
@@ -77,7 +77,7 @@ fn joined_value(first: &[u8], second: &[u8]) -> Option<u64>
     value_onto(value_onto(0, first)?, second)
 }
 
-// The digits of the first two texts divided by the power of ten that makes those of the others its rest.
+// The digits of the first two texts divided by the power of ten that makes those of the others its remainder.
 fn cut(kept: &[u8], more_kept: &[u8], dropped: &[u8], more_dropped: &[u8]) -> Option<Divided>
     requires kept_digits { IsTrue (all_ascii_digits kept.now) }
     requires more_kept_digits { IsTrue (all_ascii_digits more_kept.now) }
@@ -90,7 +90,7 @@ fn cut(kept: &[u8], more_kept: &[u8], dropped: &[u8], more_dropped: &[u8]) -> Op
     Some(Divided { units, rest })
 }
 
-// The digits divided by a power of ten that has more places than they.
+// The digits divided by a power of ten that has more places than they have.
 fn cut_all(whole: &[u8], fraction: &[u8], dropped: u128) -> Divided
     requires whole_digits { IsTrue (all_ascii_digits whole.now) }
     requires fraction_digits { IsTrue (all_ascii_digits fraction.now) }
@@ -159,7 +159,7 @@ fn places_to_left(n: &Numeral, scale: u8) -> i128
     i128::from(scale) + i128::from(n.exponent) - n.fraction.len() as i128
 }
 
-// The numeral in units of the scale, with the rest behind them.
+// The numeral in units of the scale, with the remainder after them.
 pub(crate) fn scaled(n: &Numeral, scale: u8) -> Option<Divided>
     requires scale_in_range { scale ≤ 9 }
     requires parsed { IsTakenApart (numeral_view n.now) }

@@ -36,7 +36,7 @@ impl Sum {
         Sum { total: 0, count: 0 }
     }
 
-    /// Adds a number. The total keeps every digit, also where no number of 18 digits could hold it.
+    /// Adds a number. The total keeps every digit, even where no number of 18 digits could hold it.
     /// A sum takes 2^63 numbers and no more.
     pub fn add(&mut self, d: Dec)
         requires { self.old.count < 2 ^ 63 }

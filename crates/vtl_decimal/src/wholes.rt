@@ -72,7 +72,8 @@ pub fn whole(n: i128, p: &Profile) -> Result<i64, Fault>
 
 /// The number that is equal to the integer `n`.
 ///
-/// Range where it has more than 18 digits. An integer of the profile, as `whole` and `read_whole` give it, always has such a number.
+/// Range where it has more than 18 digits. An integer of the profile, as `whole` and `read_whole` give it, always has
+/// such a number.
 pub fn from_whole(n: i64, p: &Profile) -> Result<Dec, Fault>
     ensures { result ≡ fit_number (n *ℤ pos (10 ^ p.now.scale)) }
 {

@@ -23,7 +23,7 @@ fn push_digits(line: &mut Line, n: u64, width: u8)
     }
 }
 
-// Writes the digits behind the point, and the point, where any digit is left.
+// Writes the digits after the point, and the point, where any digit is left.
 #[tactic(auto, using(crate::proofs::WritingLemmas::written_digits))]
 fn push_fraction(line: &mut Line, fraction: u64, scale: u8)
     requires empty { line.old ≡ [] }
@@ -81,7 +81,7 @@ fn text_of(d: Dec, p: &Profile) -> Line
 /// Appends the text of the number: `-` where it is negative, no leading zeros, no zeros at the end
 /// after the point, and no point where nothing follows it.
 ///
-/// When out of memory, `out` is as before.
+/// If memory runs out, `out` is as before.
 pub fn write(d: Dec, p: &Profile, out: &mut Vec<u8>) -> Result<(), AllocError>
     ensures ok { OnOk result (out.new.items ≡ out.old.items ++ number_text p.now.scale d) }
     ensures reads_back { number_read p.now (number_text p.now.scale d) ≡ Some d }
@@ -93,7 +93,7 @@ pub fn write(d: Dec, p: &Profile, out: &mut Vec<u8>) -> Result<(), AllocError>
 
 /// Appends the digits of a whole number, with `-` before them where it is negative.
 ///
-/// When out of memory, `out` is as before.
+/// If memory runs out, `out` is as before.
 pub fn write_whole(n: i64, out: &mut Vec<u8>) -> Result<(), AllocError>
     ensures ok { OnOk result (out.new.items ≡ out.old.items ++ signed_decimal n) }
     ensures err { OnErr result (out.new.items ≡ out.old.items) }

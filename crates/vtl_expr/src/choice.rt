@@ -21,7 +21,7 @@ use vtl_rows::Table;
 use vtl_sets::{DataSet, new_table};
 use vtl_tree::Structure;
 
-// Where the condition's points find those of an operand, and the places of the measures that are taken.
+// How the condition's points find those of an operand, and the places of the measures that are taken.
 #[derive(Drop)]
 pub(crate) struct Alternative<'a> {
     pub(crate) partners: Partners<'a>,
@@ -51,7 +51,7 @@ fn is_true_at(row: &[Cell], place: usize) -> bool
     matches!(row.get(place), Some(Cell::Bool(true)))
 }
 
-// The cells at places of a row, and behind them those at places of another.
+// The cells at places of a row, followed by those at places of another.
 fn joined(
     alloc: Global,
     row: &[Cell],
@@ -161,9 +161,9 @@ fn choice_table<L: Ledger>(
     Ok(out)
 }
 
-/// At each point of the condition the measures of the first operand's point where the condition is true, else of the
-/// second's, where that operand has a point of these identifiers; as a data set of the structure that typing gives. It
-/// fails only for want of memory.
+/// At each point of the condition the measures of the first operand's point where the condition is true, otherwise
+/// those of the second's, where that operand has a point with these identifiers; as a data set of the structure that
+/// typing gives. It fails only if memory runs out.
 pub fn choose(
     alloc: Global,
     condition: &DataSet,

@@ -12,8 +12,8 @@ use vtl_scalar::{ScalarErr, apply, to_kind};
 use vtl_tree::CompExpr;
 
 /// The value of an expression at a point, whose cells stand in column order: the operands are evaluated from left to
-/// right, and the first fault is the answer; of `if` the condition and the branch that it chooses, and not the other
-/// one. A column past the last cell is null, and so is an aggregate, which has a value over a group alone.
+/// right, and the first fault is the answer; for `if` only the condition and the branch that it chooses are evaluated.
+/// A column after the last cell is null, and so is an aggregate, which has a value only over a group.
 #[tactic(auto, using(crate::proofs::Values::choice_has_three))]
 pub fn eval(alloc: Global, e: &CompExpr, row: &[Cell], p: &Profile) -> Result<Cell, ScalarErr>
     ensures { Answers result (value p.now (comp_exp_of e.now) row.now) }
@@ -61,7 +61,7 @@ fn first_chosen(test: Cell) -> Option<bool>
     }
 }
 
-// What was answered, as a value of the kind.
+// The answer, as a value of the kind.
 fn converted(answer: Result<Cell, ScalarErr>, kind: Kind, p: &Profile) -> Result<Cell, ScalarErr>
     ensures { (m : Outcome Cell) → Answers answer m → Answers result (after m (as_kind p.now kind)) }
 {

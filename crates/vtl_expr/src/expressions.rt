@@ -57,7 +57,7 @@ pub fn copied(alloc: Global, e: &CompExpr) -> Result<CompExpr, AllocError>
     }
 }
 
-// Puts equal expressions behind others.
+// Puts equal expressions after others.
 pub(crate) fn push_copies(
     alloc: Global,
     out: &mut Vec<CompExpr>,
@@ -71,7 +71,7 @@ pub(crate) fn push_copies(
     Ok(())
 }
 
-// The column of a name as an expression, where so many others stand before these.
+// The column of a name as an expression, where this many others stand before these.
 pub(crate) fn column_behind(
     before: &[&Component],
     columns: &[&Component],
@@ -86,7 +86,7 @@ pub(crate) fn column_behind(
     })
 }
 
-/// Puts the column of a name, as an expression, behind others.
+/// Puts the column of a name, as an expression, after others.
 pub fn push_column(
     out: &mut Vec<CompExpr>,
     columns: &[&Component],

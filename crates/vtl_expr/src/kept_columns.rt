@@ -21,8 +21,8 @@ fn kept_table(alloc: Global, a: &DataSet, made: &Structure) -> Result<Table, All
     a.table().project(alloc, &places)
 }
 
-/// The points with the columns of this structure alone, which has all identifiers: `keep`, `drop` and `a#m`. It fails only
-/// for want of memory.
+/// The points with the columns of this structure alone, which has all identifiers: `keep`, `drop` and `a#m`. It fails
+/// only if memory runs out.
 pub fn keep_columns(alloc: Global, a: &DataSet, made: Structure) -> Result<DataSet, AllocError>
     requires { IsLeft a.now.structure made }
     ensures { IfOk result (λ d. d ≡ data_set made (left_of a.now.structure made a.now.points)) }

@@ -1,8 +1,9 @@
 //! The value of an expression at a point, and the operators that work on every measure of one or two data sets.
 //!
-//! It decides how these values are computed, how the points of two data sets find one another, and which fault of many is
-//! the answer. Which value is meant stands in vtl_tree for an expression and in vtl_meaning for an operator; which structure
-//! a result has is decided where scripts are checked, and handed in. Clauses on data sets are left to vtl_clause.
+//! It decides how these values are computed, how the points of two data sets find one another, and which of several
+//! faults is the answer. The value that is meant is defined in `vtl_tree` for an expression and in `vtl_meaning` for an
+//! operator; the structure of a result is decided where scripts are checked, and passed in. Clauses on data sets are
+//! left to `vtl_clause`.
 //! It knows no script, no statement, no file and no text format.
 //! Begin with `evaluation.rt`, then `points.rt` and `measures.rt`.
 #![tactic(auto)]

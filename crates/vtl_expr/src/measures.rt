@@ -21,7 +21,7 @@ use vtl_scalar::ScalarErr;
 use vtl_sets::DataSet;
 use vtl_tree::{CompExpr, Component, Structure};
 
-// The operator at a measure, which becomes another one.
+// The operator at a measure, which becomes another measure.
 fn with_measure(
     alloc: Global,
     op: &MeasureOp,
@@ -91,9 +91,9 @@ fn measured_table(
     each_point(alloc, &exps, a, made, p)
 }
 
-/// The operator's value at each measure of each point, as a data set of the structure that typing gives: its identifiers,
-/// and no attributes. The other operands are evaluated at each point. The answer is DivZero where any value divides by
-/// zero, else Range where any is out of range, else it fails only for want of memory.
+/// The operator's value at each measure of each point, as a data set of the structure that typing gives: its
+/// identifiers, and no attributes. The other operands are evaluated at each point. The answer is DivZero where any
+/// value divides by zero, otherwise Range where any is out of range; otherwise it fails only if memory runs out.
 pub fn map_measures(
     alloc: Global,
     op: &MeasureOp,

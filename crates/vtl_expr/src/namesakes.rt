@@ -1,4 +1,4 @@
-// An operator at the measures of two operands, over the cells of one behind which stand those of the other.
+// An operator at the measures of two operands, over the cells of one followed by those of the other.
 ghost use Rattle.std.specs.Prelude.{◌≡◌, ◌++◌, ◌∷◌, [], map, length, IfOk, OnOk};
 ghost use Rattle.vtl_tree.specs.Shown.{shown};
 ghost use Rattle.vtl_tree.specs.Structure.{columns_of};
@@ -94,8 +94,8 @@ fn push_namesakes(
     Ok(())
 }
 
-// What the columns of the result are made of: the identifiers of the operand that leads, and the operator at the measures
-// of the left one and their namesakes.
+// What the columns of the result are made of: the identifiers of the operand that leads, and the operator at the
+// measures of the left one and their namesakes.
 pub(crate) fn namesake_exps(
     alloc: Global,
     op: ScalarOp,

@@ -32,7 +32,7 @@ use vtl_scalar::ScalarErr;
 use vtl_sets::DataSet;
 use vtl_tree::{CompExpr, Structure};
 
-// The cells of a row, and behind them those of its partner.
+// The cells of a row, followed by those of its partner.
 fn beside(alloc: Global, row: &[Cell], partner: &[Cell]) -> Result<Vec<Cell>, AllocError>
     ensures { IfOk result (λ v. v.items ≡ row.now ++ partner.now) }
 {
@@ -64,7 +64,7 @@ fn push_pair<L: Ledger>(
     }
 }
 
-// The table of the values of expressions at each point beside its partner.
+// The table of the values of expressions at each point with its partner.
 fn each_beside<L: Ledger>(
     alloc: Global,
     exps: &[CompExpr],
@@ -192,9 +192,10 @@ fn pair_table(
     }
 }
 
-/// The operator's value at each measure and its namesake, for each two points that agree on the common identifiers, as a
-/// data set of the structure that typing gives. One operand has all identifiers of the other. The answer is DivZero where
-/// any value divides by zero, else Range where any is out of range, else it fails only for want of memory.
+/// The operator's value at each measure and its namesake, for every two points that agree on the common identifiers, as
+/// a data set of the structure that typing gives. One operand has all identifiers of the other. The answer is DivZero
+/// where any value divides by zero, otherwise Range where any is out of range; otherwise it fails only if memory runs
+/// out.
 pub fn pair_measures(
     alloc: Global,
     op: ScalarOp,

@@ -15,7 +15,7 @@ use vtl_rows::Table;
 use vtl_sets::DataSet;
 use vtl_tree::Structure;
 
-// The points of a data set, which rows find that have its identifiers at these places.
+// The points of a data set, found by rows that have its identifiers at these places.
 #[derive(Drop)]
 pub(crate) struct Partners<'a> {
     table: &'a Table,

@@ -27,7 +27,7 @@ pub fn places_in(
     Ok(places)
 }
 
-// An equal cell to the one at a place, or null past the last one.
+// A cell equal to the one at a place, or null after the last one.
 fn copy_at(row: &[Cell], place: usize) -> Result<Cell, AllocError>
     ensures { IfOk result (λ copy. copy ≡ column_of place row.now) }
 {
@@ -37,7 +37,7 @@ fn copy_at(row: &[Cell], place: usize) -> Result<Cell, AllocError>
     }
 }
 
-/// Puts the cells at places of a row behind others. Texts are shared.
+/// Puts the cells at places of a row after others. Texts are shared.
 pub fn push_cells(cells: &mut Vec<Cell>, row: &[Cell], places: &[usize]) -> Result<(), AllocError>
     ensures { OnOk result (cells.new.items ≡ cells.old.items ++ cells_at places.now row.now) }
 {
@@ -47,7 +47,7 @@ pub fn push_cells(cells: &mut Vec<Cell>, row: &[Cell], places: &[usize]) -> Resu
     Ok(())
 }
 
-/// Puts the cells of a row behind others. Texts are shared.
+/// Puts the cells of a row after others. Texts are shared.
 pub fn push_row(cells: &mut Vec<Cell>, row: &[Cell]) -> Result<(), AllocError>
     ensures { OnOk result (cells.new.items ≡ cells.old.items ++ row.now) }
 {

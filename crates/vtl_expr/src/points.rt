@@ -27,7 +27,7 @@ pub(crate) struct Points {
     pub(crate) seen: Seen,
 }
 
-// Puts the value of an expression at a row behind others, or null where it has a fault.
+// Puts the value of an expression at a row after others, or null where it has a fault.
 fn push_value(
     alloc: Global,
     point: &mut Vec<Cell>,
@@ -99,8 +99,8 @@ impl Points {
     }
 }
 
-/// A table of the values of expressions at each point, or their fault: division by zero where one of them has it, else out
-/// of range where one has it.
+/// A table of the values of expressions at each point, or their fault: division by zero where one of them has it,
+/// otherwise out of range where one has it.
 pub fn each_point(
     alloc: Global,
     exps: &[CompExpr],

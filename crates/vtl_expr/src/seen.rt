@@ -5,7 +5,7 @@ ghost use Rattle.vtl_expr.specs.Seen.{seen_of, SeesAlso};
 
 use vtl_scalar::ScalarErr;
 
-/// The fault that was seen so far: a division by zero stands before a number out of range.
+/// The fault that was seen so far: a division by zero comes before a number out of range.
 #[derive(Clone, Copy, Debug, PartialEq, Eq)]
 pub enum Seen {
     /// No fault.
@@ -17,7 +17,7 @@ pub enum Seen {
 }
 
 impl Seen {
-    /// With one more fault. Want of memory is no fault and is handed on.
+    /// With one more fault. That memory ran out is no such fault, and is passed on.
     pub fn and(self, error: ScalarErr) -> Result<Seen, ScalarErr>
         ensures { SeesAlso result (seen_of self) error }
     {

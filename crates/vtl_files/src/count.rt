@@ -2,7 +2,7 @@ ghost use Rattle.std.specs.Prelude.{◌≡◌, ◌≤◌, ◌+◌, ◌-◌, ◌^
 
 use std::marker::Model;
 
-// A count of events. It stands still at its last value.
+// A count of events. It stays at its greatest value once it has reached it.
 #[derive(Clone, Copy)]
 pub(crate) struct Count {
     value: u64,

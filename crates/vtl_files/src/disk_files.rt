@@ -7,7 +7,7 @@ use std::alloc::Global;
 use std::io::{ErrorKind, Read, Write};
 use std::{fs, rt};
 
-/// The files of the system, under their paths. They tell nothing of what files hold.
+/// The files of the system, under their paths. They reveal nothing of what files hold.
 ///
 /// An error of the system is a fault. Only a path where nothing is found is an absence.
 #[derive(Drop)]

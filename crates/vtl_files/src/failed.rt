@@ -1,3 +1,3 @@
-/// A file or a sink did not do what it was asked. The object's count of faults tells of it.
+/// A file or a sink did not do what it was asked to do. The object's count of faults records it.
 #[derive(Clone, Copy, Debug, PartialEq, Eq)]
 pub struct Failed;

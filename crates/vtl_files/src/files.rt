@@ -6,12 +6,12 @@ use crate::failed::Failed;
 
 /// Files that are read, or created and written, one at a time.
 ///
-/// Some meanings are lists that an object may tell or not; no call changes whether it does.
+/// Some meanings are lists that an object may reveal or not; no call changes whether it does.
 pub trait Files {
-    /// The files that can be read, where they are told: names with bytes. No call changes them.
+    /// The files that can be read, where they are revealed: names with bytes. No call changes them.
     ghost held: { Self → Option (List (List ℕ × List ℕ)) };
 
-    /// The files that were created, where they are told: names with bytes, in order of creating.
+    /// The files that were created, where they are revealed: names with bytes, in order of creating.
     ghost written: { Self → Option (List (List ℕ × List ℕ)) };
 
     /// How often a call has failed. It never falls.
@@ -20,7 +20,7 @@ pub trait Files {
     /// How often a file was not found. It never falls.
     ghost absences: { Self → ℕ };
 
-    /// How often a call came where `creating` was not what it needs. It never falls.
+    /// How often a call came when `creating` was not as the call requires. It never falls.
     ghost misuses: { Self → ℕ };
 
     /// Whether a file is being created: between a `create` and a `finish` that answer Ok.
@@ -36,7 +36,7 @@ pub trait Files {
     /// `open` or `create`.
     ghost opened: { Self → Bool };
 
-    /// What is still to be read, told where the held files are.
+    /// What is still to be read, where the held files are revealed.
     ghost left: { Self → Option (List ℕ) };
 
     /// Opens the file of this name for reading, at its start. False: there is none.

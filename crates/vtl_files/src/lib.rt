@@ -1,8 +1,8 @@
 //! The outside: files that are read and written by name, and a sink for bytes, each as a trait whose contract names
 //! what they hold.
 //!
-//! Two pairs of adapters keep the contracts: `MemFiles` and `MemSink`, which tell all that they hold, and
-//! `DiskFiles` and `StdSink`, over the system, which tell nothing of bytes. `read_all`, `write_all` and `sink_all`
+//! Two pairs of adapters keep the contracts: `MemFiles` and `MemSink`, which reveal all that they hold, and
+//! `DiskFiles` and `StdSink`, over the system, which reveal nothing of bytes. `read_all`, `write_all` and `sink_all`
 //! handle whole texts. Every method is total: a call out of turn fails and is counted.
 //! It knows no format and no status; what a fault means to a user is for `vtl_top` to say.
 //! Begin with the trait in src/files.rt and specs/Outside.antt.

@@ -7,7 +7,7 @@ use crate::mem::{MemFile, append_to_last, place_of};
 use crate::plan::{FailAt, Method};
 use std::alloc::{AllocError, Global};
 
-// Where reading stands: a place among the held files, and a position in that file.
+// Where reading is: a place among the held files, and a position in that file.
 #[derive(Clone, Copy)]
 struct Opened {
     place: usize,
@@ -39,9 +39,9 @@ impl Calls {
     }
 }
 
-/// Files in memory. They tell all that they hold and all that was written.
+/// Files in memory. They reveal all that they hold and all that was written.
 ///
-/// A call that finds no memory fails, as one that is planned to fail does.
+/// A call that cannot get memory fails, as one that is planned to fail does.
 #[derive(Drop)]
 pub struct MemFiles {
     held: Vec<MemFile>,
@@ -63,8 +63,8 @@ pub struct MemFiles {
 impl MemFiles {
     ghost use Rattle.vtl_files.specs.Mem.{left_of};
 
-    /// Files that hold these, of which the first of a name counts. A call reads or writes at most `chunk`
-    /// bytes, and those calls fail that `fail` lists.
+    /// Files that hold these, of which the first with a name counts. A call reads or writes at most `chunk`
+    /// bytes, and the calls that `fail` lists fail.
     pub fn new(alloc: Global, held: Vec<MemFile>, chunk: usize, fail: Vec<FailAt>) -> MemFiles
         requires { 1 ≤ chunk }
         ensures held { ⟦<MemFiles as Files>⟧.held result ≡ Some held.items }
@@ -115,7 +115,7 @@ impl MemFiles {
         self.fail.contains(&FailAt { method, number })
     }
 
-    // Adds an empty file of the name that was handed in.
+    // Adds an empty file with the name that was given.
     fn add_file(&mut self) -> Result<(), AllocError>
         ensures same { let written = self.new.written in self.new ≡ record self.old { written = written } }
         ensures ok { OnOk result

@@ -12,7 +12,7 @@ pub enum ReadErr {
     TooLong,
     /// The file could not be opened or read.
     Failed,
-    /// No memory was found for the name or the bytes.
+    /// There was not enough memory for the name or the bytes.
     OutOfMemory,
 }
 

@@ -5,7 +5,7 @@ use crate::failed::Failed;
 
 /// A place that takes bytes, as standard output.
 pub trait Sink {
-    /// The bytes that were taken so far, where they are told.
+    /// The bytes that were taken so far, where they are revealed.
     ghost taken: { Self → Option (List ℕ) };
 
     /// How often the sink has failed. It never falls.

@@ -4,7 +4,7 @@ use crate::count::Count;
 use crate::failed::Failed;
 use crate::sink::Sink;
 
-/// Standard output. It tells nothing of what it has taken.
+/// Standard output. It reveals nothing of what it has taken.
 #[derive(Drop)]
 pub struct StdSink<'a, R: Print> {
     rt: &'a R,

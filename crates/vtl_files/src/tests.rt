@@ -14,7 +14,7 @@ fn file(alloc: Global, name: &str, bytes: &[u8]) -> Result<MemFile, AllocError> 
     Ok(MemFile { name, bytes })
 }
 
-// Of the two files with one name the first counts.
+// Of two files with one name the first counts.
 fn held(alloc: Global) -> Result<Vec<MemFile>, AllocError> {
     let mut files = Vec::new(alloc);
     files.push(file(alloc, "in/DS_1.csv", TEXT)?)?;

@@ -11,8 +11,8 @@ use std::alloc::{AllocError, Global};
 /// How many bytes are asked for at a time.
 const BLOCK: usize = 65536;
 
-/// ReadsFront the file `name` whole, if it has at most `limit` bytes. It stops at the first read that goes
-/// beyond the limit; each read takes at least one byte.
+/// Reads the file `name` whole, if it has at most `limit` bytes. It stops at the first read that goes beyond the limit;
+/// each read takes at least one byte.
 ///
 /// # Errors
 ///
@@ -44,11 +44,11 @@ pub fn read_all<F: Files>(
     read_rest(alloc, f, &mut room, limit)
 }
 
-/// WritesFront all bytes to the file that is being created.
+/// Writes all bytes to the file that is being created.
 ///
 /// # Errors
 ///
-/// A write failed. Some front of the bytes was written.
+/// A write failed. Some first part of the bytes was written.
 pub fn write_all<F: Files>(f: &mut F, bytes: &[u8]) -> Result<(), Failed>
     ensures held { F.held f.new ≡ F.held f.old }
     ensures creating { F.creating f.new ≡ F.creating f.old }
@@ -79,7 +79,7 @@ pub fn write_all<F: Files>(f: &mut F, bytes: &[u8]) -> Result<(), Failed>
 ///
 /// # Errors
 ///
-/// The sink failed. It has taken some front of the bytes.
+/// The sink failed. It has taken some first part of the bytes.
 pub fn sink_all<O: Sink>(o: &mut O, bytes: &[u8]) -> Result<(), Failed>
     ensures faults { O.faults o.old ≤ O.faults o.new }
     ensures failed { OnErr result (Rose (O.faults o.old) (O.faults o.new)) }
@@ -104,7 +104,7 @@ fn block(alloc: Global) -> Result<Vec<u8>, AllocError>
     vec![in alloc; 0u8; BLOCK]
 }
 
-// ReadsFront what is left of the opened file by way of `room`, if it has at most `limit` bytes.
+// Reads what is left of the opened file by way of `room`, if it has at most `limit` bytes.
 fn read_rest<F: Files>(
     alloc: Global,
     f: &mut F,

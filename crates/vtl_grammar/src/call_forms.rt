@@ -4,7 +4,7 @@ use vtl_syntax::{
     AggregateName, DifferenceName, FunctionName, JoinKind, SetOpName, ShiftName, ValueWindowName,
 };
 
-/// A word that brackets follow, by what may stand in them.
+/// A word that an opening bracket follows, by what may stand in the brackets.
 #[derive(Clone, Copy, Debug, PartialEq, Eq)]
 pub enum CallForm {
     /// A function.

@@ -1,11 +1,11 @@
 // Where an expression may stand.
 
-/// A place of the grammar, the tightest first. What stands at one place may stand at each later one.
+/// A place of the grammar, the one that binds tightest first. What may stand at one place may stand at each later one.
 #[derive(Clone, Copy, Debug, PartialEq, Eq)]
 pub enum Level {
     /// A name, a constant, brackets, a call or a join.
     Primary,
-    /// With clauses and members behind it.
+    /// With clauses and members after it.
     Postfix,
     /// With signs or `not` before it.
     Unary,
@@ -19,6 +19,6 @@ pub enum Level {
     And,
     /// `or` and `xor`
     Or,
-    /// Any expression, also a choice.
+    /// Any expression, including a choice.
     Expression,
 }

@@ -1,10 +1,10 @@
-//! The grammar of scripts: which tokens spell which tree, what the fault of tokens is that spell none, and the laws
-//! of both.
+//! The grammar of scripts: which tokens spell which tree, what the fault of tokens that spell none is, and the laws of
+//! both.
 //!
 //! The definition stands in specs/Grammar.antt, Levels.antt and Fits.antt; specs/Read*.antt mirror the reader,
 //! function for function, and the laws tie the mirror to the grammar. The two enums in src are what the mirror and
 //! the readers share; nothing here reads.
-//! It knows no program text but by its tokens; `read_parts`, `read_expressions` and `vtl_parser` do the reading.
+//! It knows the text of a program only by its tokens; `read_parts`, `read_expressions` and `vtl_parser` do the reading.
 //! Begin with specs/Grammar.antt; docs/LANGUAGE.md has the same productions in the same order.
 #![tactic(auto)]
 

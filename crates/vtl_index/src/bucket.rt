@@ -3,7 +3,7 @@ ghost use Rattle.std.specs.Prelude.{◌≡◌};
 ghost use Rattle.std.specs.List.{list_any};
 ghost use Rattle.vtl_index.specs.Buckets.{filled, is_free};
 
-// So many keys go by hash in a bucket; with more, cost would rest on luck.
+// This many keys go by hash in a bucket; with more, the cost would depend on luck.
 pub(crate) const SLOTS: usize = 8;
 
 // No place.

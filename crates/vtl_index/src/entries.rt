@@ -11,10 +11,10 @@ use std::alloc::{AllocError, Global};
 use std::collections::BTreeMap;
 use vtl_cell::Cell;
 
-// There are at most so many keys for each bucket, half as many as it has slots.
+// There are at most this many keys for each bucket, half as many as it has slots.
 const MAX_LOAD: usize = 4;
 
-// There are at least so many buckets, once there is a key.
+// There are at least this many buckets, once there is a key.
 const MIN_BUCKETS: usize = 8;
 
 // The cells of the keys, one after the other, and for each key its rows.
@@ -77,7 +77,7 @@ impl Entries {
         }
     }
 
-    // Adds a row behind the others of its key.
+    // Adds a row after the others of its key.
     pub(crate) fn add(&mut self, key: &[Cell], row: usize) -> Result<(), AllocError>
         requires indexed { IsIndexed self.old }
         requires width { length key.now ≡ self.old.width }

@@ -21,7 +21,7 @@ pub struct Index {
 impl Index {
     ghost use Rattle.vtl_index.specs.Index.{rows_by, width_of};
 
-    /// No rows, for keys of so many cells.
+    /// No rows, for keys of this many cells.
     pub fn new(alloc: Global, width: usize) -> Index
         ensures width { width_of result ≡ width }
         ensures rows { rows_by result ≡ rows_of [] }
@@ -31,7 +31,7 @@ impl Index {
         }
     }
 
-    /// Adds a row after the others of its key. It fails only when out of memory, and leaves the index as it was then.
+    /// Adds a row after the others of its key. It fails only if memory runs out, and then leaves the index as it was.
     pub fn add<L: Ledger>(
         &mut self,
         key: &[Cell],

@@ -41,7 +41,7 @@ fn part(cells: &[Cell], start: usize, count: usize) -> &[Cell]
     &cells[start..start + count]
 }
 
-// The hash of a key. Its seed is fixed, so nothing but time may rest on it, and not much of that.
+// The hash of a key. Its seed is fixed, so nothing but time may depend on it, and not much of that.
 pub(crate) fn hash_of(key: &[Cell]) -> u64
     ensures { result ≡ key_hash key.now }
 {

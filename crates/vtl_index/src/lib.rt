@@ -2,8 +2,8 @@
 //! adding.
 //!
 //! By hash first and by order where a bucket is full, so no choice of keys makes it slow. Null is a key like any
-//! other: who must not match nulls looks before probing. Each call counts one step, for callers that bound their
-//! work.
+//! other: a caller that must not match nulls looks before probing. Each call counts one step, for callers that bound
+//! their work.
 //! It knows no tables: a number is whatever the caller means by it.
 //! Begin with specs/Lookup.antt, then specs/Index.antt.
 #![tactic(auto)]

@@ -18,7 +18,7 @@ pub(crate) struct Places {
     pub(crate) others: BTreeMap<Vec<Cell>, usize>,
 }
 
-// The bucket of a hash among so many, of which the number is a power of two.
+// The bucket of a hash among this many, a power of two.
 fn bucket_at(hash: u64, count: usize) -> usize
     ensures { result ≡ bucket_at hash count }
 {
@@ -48,7 +48,7 @@ fn in_slots(slots: &[Slot], keys: &Keys, hash: u64, key: &[Cell]) -> Option<usiz
 }
 
 impl Places {
-    // No places, in so many buckets.
+    // No places, in this many buckets.
     pub(crate) fn new(alloc: Global, count: usize) -> Result<Places, AllocError>
         ensures buckets { IfOk result (λ places. length places.buckets.items ≡ count) }
         ensures backed { IfOk result (λ places. IsBacked places.buckets.items places.others) }
@@ -111,7 +111,7 @@ impl Places {
         }
     }
 
-    // Puts the place of a key. It fails only for want of memory, and leaves the places as they were then.
+    // Puts the place of a key. It fails only if memory runs out, and then leaves the places as they were.
     pub(crate) fn put(
         &mut self,
         alloc: Global,

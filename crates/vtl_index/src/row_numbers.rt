@@ -5,7 +5,7 @@ use std::alloc::{AllocError, Global};
 use std::marker::Model;
 use std::slice;
 
-// Numbers of rows, of which a single one takes no memory of its own.
+// Numbers of rows, where a single one takes no memory of its own.
 #[derive(Drop)]
 pub(crate) enum Numbers {
     One(usize),
@@ -47,7 +47,7 @@ impl RowNumbers {
         RowNumbers { numbers }
     }
 
-    // Puts a number behind the others.
+    // Puts a number after the others.
     pub(crate) fn push(&mut self, alloc: Global, row: usize) -> Result<(), AllocError>
         ensures ok { OnOk result (self.new ≡ self.old ++ row ∷ []) }
         ensures err { OnErr result (self.new ≡ self.old) }

@@ -14,8 +14,8 @@ use vtl_cell::Profile;
 use vtl_nodes::{Node, NodeForm};
 use vtl_scalar::ScalarErr;
 
-/// The data set of an expression, or the fault of the first of its parts that has one: operands before operators, from left to right.
-/// It is made over the data sets that are held.
+/// The data set of an expression, or the fault of the first of its parts that has one: operands before operators, from
+/// left to right. It is made over the data sets that are held.
 pub fn evaluate<'a>(
     alloc: Global,
     known: &'a Known,

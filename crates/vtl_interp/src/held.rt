@@ -4,7 +4,7 @@ use vtl_cell::Txt;
 use vtl_rows::Outputs;
 use vtl_sets::DataSet;
 
-/// The data sets that statements to come read, inputs and results so far, by name.
+/// The data sets that later statements read, inputs and results so far, by name.
 pub type Known = IndexMap<Txt, DataSet>;
 
 /// The data sets that a run holds, and the tables of the results so far that are written.

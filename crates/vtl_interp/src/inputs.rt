@@ -47,7 +47,7 @@ fn input(
     }
 }
 
-// Puts a data set behind the others, under a name that none has yet.
+// Puts a data set after the others, under a name that none has yet.
 fn put(known: &mut Known, name: &Txt, set: DataSet) -> Result<(), AllocError>
     requires { list_any (same_name name.now) (keys_of known.old.entries) ≡ false }
     ensures { OnOk result (known.new.entries ≡ known.old.entries ++ (name.now, set) ∷ []) }
@@ -56,7 +56,7 @@ fn put(known: &mut Known, name: &Txt, set: DataSet) -> Result<(), AllocError>
     Ok(())
 }
 
-/// The data sets that a script reads, whose tables are shared. It fails only for want of memory.
+/// The data sets that a script reads, whose tables are shared. It fails only if memory runs out.
 pub fn load(alloc: Global, script: &Checked, inputs: &Inputs) -> Result<Known, AllocError>
     requires { AreInputs script.now inputs.now }
     ensures { IfOk result (λ k. k.entries ≡ environment_of script.now inputs.now) }

@@ -1,4 +1,4 @@
-// Data sets are let go behind the last statement that reads them.
+// Data sets are released after the last statement that reads them.
 ghost use Rattle.std.specs.Prelude.{◌≡◌, ◌≤◌, ◌+◌, ◌∷◌, ℕ, List, map, None, IfOk, OnOk};
 ghost use Rattle.std.specs.Bool.{OnTrue, OnFalse};
 ghost use Rattle.std.specs.List.{AllByRecursion};
@@ -18,7 +18,7 @@ use vtl_nodes::Node;
 /// For each name that statements read, the place of the last one that reads it.
 pub type LastReads = IndexMap<Txt, usize>;
 
-// Notes the names that the expression of a statement reads. Those that are noted so far are read at no later place.
+// Notes the names that the expression of a statement reads. Names noted so far are read at no later place.
 fn note_reads(alloc: Global, last: &mut LastReads, node: &Node, i: usize) -> Result<(), AllocError>
     ensures new { OnOk result (AllByRecursion (IsReadFrom i last.new.entries) (names_in (node_tree node.now))) }
     ensures old { OnOk result ((j : ℕ) (name : List ℕ) → j ≤ i → IsReadFrom j last.old.entries name → IsReadFrom j last.new.entries name) }
@@ -31,7 +31,7 @@ fn note_reads(alloc: Global, last: &mut LastReads, node: &Node, i: usize) -> Res
     Ok(())
 }
 
-/// The last statement that reads each name, from the expressions of all statements. It fails only for want of memory.
+/// The last statement that reads each name, from the expressions of all statements. It fails only if memory runs out.
 pub fn last_reads(alloc: Global, nodes: &[Node]) -> Result<LastReads, AllocError>
     ensures read { IfOk result (λ last. AreRead last.entries 0 (map node_tree nodes.now)) }
     ensures only { IfOk result (λ last. AreReadThere last.entries (map node_tree nodes.now)) }
@@ -53,7 +53,7 @@ fn is_read_behind(last: &LastReads, i: usize, name: &Txt) -> bool
     }
 }
 
-// Lets go of the data set of a name, unless a statement behind a place reads it.
+// Releases the data set of a name, unless a statement after a place reads it.
 fn let_go_of(known: &mut Known, last: &LastReads, i: usize, name: &Txt)
     ensures kept { (other : List ℕ) → IsReadFrom (i + 1) last.now.entries other → data_of other known.new.entries ≡ data_of other known.old.entries }
     ensures gone { IsGone (i + 1) last.now.entries known.new.entries name.now }
@@ -64,7 +64,7 @@ fn let_go_of(known: &mut Known, last: &LastReads, i: usize, name: &Txt)
     }
 }
 
-// Lets go of the data sets of names that no statement behind a place reads.
+// Releases the data sets of names that no statement after a place reads.
 fn let_go_each(known: &mut Known, last: &LastReads, i: usize, names: &[Txt])
     ensures kept { (other : List ℕ) → IsReadFrom (i + 1) last.now.entries other → data_of other known.new.entries ≡ data_of other known.old.entries }
     ensures gone { AllByRecursion (IsGone (i + 1) last.now.entries known.new.entries) names.now }
@@ -75,7 +75,7 @@ fn let_go_each(known: &mut Known, last: &LastReads, i: usize, names: &[Txt])
     }
 }
 
-/// Lets go of what a statement made and read, where no statement behind it reads it. It fails only for want of memory.
+/// Releases what a statement made and read, where no statement after it reads it. It fails only if memory runs out.
 pub fn let_go(
     alloc: Global,
     known: &mut Known,

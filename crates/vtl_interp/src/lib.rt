@@ -1,9 +1,9 @@
 //! The interpreter: the back end that evaluates the operators of a script one after the other, over tables in
 //! memory.
 //!
-//! It holds data sets by name, lends them to the operators that read them, and lets each go after the last
-//! statement that does. What an operator gives is computed by `vtl_expr` and `vtl_clause`.
-//! It decides no type rule (the script is checked), reads and writes no file, and knows no status.
+//! It holds data sets by name, lends them to the operators that read them, and releases each after the last statement
+//! that reads it. What an operator gives is computed by `vtl_expr` and `vtl_clause`.
+//! It decides no type rule (the script is typed already), reads and writes no file, and knows no status.
 //! Begin with vtl_backend/specs/Runs.antt, which it meets, then src/statements.rt and src/evaluation.rt.
 #![tactic(auto)]
 

@@ -25,7 +25,7 @@ use vtl_scalar::ScalarErr;
 use vtl_sets::DataSet;
 use vtl_syntax::{AssignKind, Statement};
 
-// The data set of an expression for oneself.
+// The data set of an expression, owned.
 fn result_of(alloc: Global, known: &Known, node: &Node, p: &Profile) -> Result<DataSet, ScalarErr>
     requires made { IsMade p.now (known_in known.now.entries) (node_tree node.now) }
     requires built { is_built (node_tree node.now) ≡ true }
@@ -35,7 +35,7 @@ fn result_of(alloc: Global, known: &Known, node: &Node, p: &Profile) -> Result<D
     Ok(value.into_data(alloc)?)
 }
 
-// Puts the table of a result behind the others, where it is written.
+// Puts the table of a result after the others, where it is written.
 fn write(
     outputs: &mut Outputs,
     name: &Txt,
@@ -70,7 +70,7 @@ fn fault(name: &Txt, error: ScalarErr) -> RunErr
     }
 }
 
-// Holds the data set of a statement with the others, and puts its table behind the others where it is written.
+// Holds the data set of a statement with the others, and puts its table after the others where it is written.
 fn add_result(
     alloc: Global,
     held: &mut Held,
@@ -94,8 +94,7 @@ fn add_result(
     }
 }
 
-// The tables of the results that are written, or the first fault. Of the data sets that are held, those are let go that no
-// statement to come reads.
+// The tables of the results that are written, or the first fault. Data sets that no later statement reads are released.
 fn run_each(
     alloc: Global,
     known: Known,
@@ -127,7 +126,7 @@ fn run_each(
 }
 
 /// The tables of the results that are written, or the first fault. Each expression is made over what is held then: the
-/// data sets that are given and the results so far, as long as a statement to come reads them.
+/// data sets that are given and the results so far, as long as a later statement reads them.
 pub fn run_statements(
     alloc: Global,
     known: Known,

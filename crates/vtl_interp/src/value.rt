@@ -23,7 +23,7 @@ impl<'a> Value<'a> {
         }
     }
 
-    /// The data set for oneself: a lent one is copied. It fails only for want of memory.
+    /// The data set, owned: a lent one is copied. It fails only if memory runs out.
     pub fn into_data(self, alloc: Global) -> Result<DataSet, AllocError>
         ensures { IfOk result (λ d. d ≡ value_view self.entry) }
     {

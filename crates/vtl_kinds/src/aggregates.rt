@@ -33,7 +33,7 @@ pub fn number_of(kind: Kind) -> Option<Kind>
     }
 }
 
-/// The kind that an aggregate gives of values of a kind, where it takes them.
+/// The kind that an aggregate gives for values of a kind, where it takes them.
 pub fn aggregate_kind(function: AggKind, kind: Kind) -> Option<Kind>
     ensures { result ≡ aggregate_kind function kind }
 {

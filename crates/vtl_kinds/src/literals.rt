@@ -35,7 +35,7 @@ pub fn number_cell(profile: &Profile, digits: &Txt) -> Option<Cell>
     read_literal(digits.as_str(), profile).ok().map(Cell::Num)
 }
 
-/// The value of a kind that a text stands for. It fails only when out of memory.
+/// The value of a kind that a text stands for. It fails only if memory runs out.
 pub fn written(
     alloc: Global,
     profile: &Profile,

@@ -24,7 +24,7 @@ pub fn meets(wanted: Kind, given: Kind) -> bool
     }
 }
 
-/// The kind that two values share: null has each kind, and an integer beside a number is a number.
+/// The kind that two values share: null has each kind, and an integer with a number is a number.
 pub fn shared_kind(a: Kind, b: Kind) -> Option<Kind>
     ensures { result ≡ shared_kind a b }
 {
@@ -43,7 +43,7 @@ pub fn shared_kind(a: Kind, b: Kind) -> Option<Kind>
     }
 }
 
-// A kind beside the kind that others share.
+// A kind together with the kind that others share.
 fn with_common(kind: Kind, common: Option<Kind>) -> Option<Kind>
     ensures { result ≡ option_and_then (shared_kind kind) common }
 {
@@ -275,7 +275,7 @@ fn counted_kind(op: ScalarOp, kind: Kind) -> Kind
     if takes_literals(op) { Kind::Int } else { kind }
 }
 
-/// The kinds of operands after the first, where what stands for an integer literal counts as one.
+/// The kinds of operands after the first, where whatever stands for an integer literal counts as one.
 pub fn counted_kinds(alloc: Global, op: ScalarOp, kinds: &[Kind]) -> Result<Vec<Kind>, AllocError>
     ensures { IfOk result (λ v. v.items ≡ counted_kinds op kinds.now) }
 {

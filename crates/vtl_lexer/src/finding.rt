@@ -14,7 +14,7 @@ use std::alloc::{AllocError, Global};
 // What stands at the front of a text.
 #[derive(Drop)]
 pub(crate) enum Piece {
-    // White space or a comment, of so many bytes.
+    // White space or a comment, of this many bytes.
     Gap(usize),
     Token(Found),
     // Neither starts here.

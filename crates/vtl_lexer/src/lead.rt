@@ -2,7 +2,7 @@
 ghost use Rattle.std.specs.Prelude.{◌≡◌};
 ghost use Rattle.vtl_lexer.specs.Leads.{lead_byte_of, lead_of};
 
-// What the first byte of a text tells of the token that starts there.
+// What the first byte of a text says about the token that starts there.
 #[derive(Clone, Copy, Debug, PartialEq, Eq)]
 pub(crate) enum Lead {
     Nothing,

@@ -11,12 +11,12 @@ use vtl_text::List;
 /// Why a text was not read as tokens.
 #[derive(Debug, Drop)]
 pub enum LexErr {
-    /// No token starts at this byte of the text, and neither white space nor a comment.
+    /// At this byte of the text neither a token nor white space nor a comment starts.
     Bad {
         /// The place of the byte, from 0.
         byte: usize,
     },
-    /// No memory was found.
+    /// There was not enough memory.
     OutOfMemory,
 }
 
@@ -39,7 +39,8 @@ pub struct Lexed {
     pub bad: Option<usize>,
 }
 
-/// The tokens of `text`, each with the bytes where it starts and ends. It fails at the first byte from which no token starts, and when out of memory.
+/// The tokens of `text`, each with the bytes where it starts and ends. It fails at the first byte from which no token
+/// starts, and if memory runs out.
 pub fn lex(alloc: Global, text: &str) -> Result<Vec<Token>, LexErr>
     ensures answer { MatchResult result (λ tokens. IsLexed text.now tokens.items None) (λ error. IsFault text.now error) }
     ensures only { (tokens : Items Token) (bad : Option ℕ) → IsLexed text.now tokens bad
@@ -52,7 +53,7 @@ pub fn lex(alloc: Global, text: &str) -> Result<Vec<Token>, LexErr>
     }
 }
 
-/// The tokens of `text` before the first byte from which none starts, and that byte. It fails only when out of memory.
+/// The tokens of `text` before the first byte from which none starts, and that byte. It fails only if memory runs out.
 pub fn tokens_before_fault(alloc: Global, text: &str) -> Result<Lexed, AllocError>
     ensures { IfOk result (λ lexed. IsLexed text.now lexed.tokens lexed.bad) }
 {

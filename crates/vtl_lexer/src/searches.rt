@@ -44,7 +44,7 @@ pub(crate) fn digits_len(text: &[u8]) -> usize
     text.iter().take_while(|byte| byte.is_ascii_digit()).count()
 }
 
-// The byte at a place. The end of the text parts as a space does.
+// The byte at a place. The end of the text separates as a space does.
 pub(crate) fn byte_or_space(text: &[u8], place: usize) -> u8
     ensures { result ≡ unwrap_or (slice_get text.now place) 32 }
 {

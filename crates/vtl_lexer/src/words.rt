@@ -14,7 +14,7 @@ use vtl_text::Txt;
 // The most bytes of a word.
 const MAX_WORD_BYTES: usize = 64;
 
-// The word at the front. Of one that is too long no part is a token.
+// The word at the front. No part of one that is too long is a token.
 pub(crate) fn word(alloc: Global, text: &str) -> Result<Option<Found>, AllocError>
     requires { lead_of text.now ≡ Lead.Letter }
     ensures { IfOk result (λ found. IsFoundIn text.now found) }

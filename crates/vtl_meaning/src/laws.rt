@@ -48,23 +48,24 @@ pub fn operators_keep_data_sets()
     ensures sub { (items : List SubItem) (a s : Structure) (d : List Row) → IsSub items a s → IsDataSet a d → IsDataSet s (sub_of items a s d) }
 {}
 
-/// Over data sets, a typed expression that is evaluated gives a data set of its structure, and so is each output of a script.
+/// Over data sets, a typed expression that is evaluated gives a data set of its structure, and so is each output of a
+/// script.
 pub fn scripts_keep_data_sets()
     ensures expression { (p : Settings) (env : Environment) (n : NodeTree) (out : List Row) → is_built n ≡ true → IsMade p (known_in env) n → AreDataSets env → node_value p env n ≡ Ok out → IsDataSet (structure_of n) out }
     ensures outputs { (p : Settings) (ss : List Statement) (env : Environment) (out : Outputs) → list_all (λ s. is_built s.node) ss ≡ true → AreMadeStatements p (known_in env) ss → AreDataSets env → meaning p ss env ≡ Ok out → AreDataSets out }
 {}
 
-/// What each operator gives at a tuple `k` of the result's identifiers, without a fault. `++` puts the identifiers before the
-/// values of the other columns.
+/// What each operator gives for a tuple `k` of the result's identifiers, without a fault. `++` puts the identifiers
+/// before the values of the other columns.
 ///
 /// - An operator on the measures of one data set, and `calc`: a point where the operand has one, with the values of the
 ///   operator, or of the targets, at that point; all targets of `calc` see the operand's values.
 /// - An operator on two data sets: a point where both have one, the operand with fewer identifiers at its part of the
 ///   tuple, with the operator's value on each pair of measures of one name.
-/// - `if`: where the condition has a point, the measures of the first operand's point if the condition is true there, else
-///   of the second one's, and no point where that operand has none.
+/// - `if`: where the condition has a point, the measures of the first operand's point if the condition is true there,
+///   otherwise of the second one's, and no point where that operand has none.
 /// - `filter`: the operand's point where the condition is true.
-/// - `keep`, `drop`, `a#m`: the operand's point with the columns that are left. `rename`: the point as it is.
+/// - `keep`, `drop`, `a#m`: the operand's point with the columns that are left. `rename`: the point unchanged.
 /// - `sub`: at what is left of a tuple `j` that has the given values, the operand's point at `j`, and no other point.
 pub fn operators_by_look_up()
     ensures measures { (p : Settings) (m : MeasureTree) (a s : Structure) (d out : List Row) (k : Row) → IsMeasured p m a s → IsDataSet a d → measured_of p m a s d ≡ Ok out → look (key_width s) out k ≡ option_map (λ r. k ++ measured_at p m a s r) (look (key_width a) d k) }
@@ -79,8 +80,8 @@ pub fn operators_by_look_up()
     ensures sub_only { (items : List SubItem) (a s : Structure) (d : List Row) (k q : Row) → IsSub items a s → IsDataSet a d → look (key_width s) (sub_of items a s d) k ≡ Some q → (j : Row) × (length j ≡ key_width a) × (has_key_values a items j ≡ true) × (part_for a s j ≡ k) }
 {}
 
-/// The fault of an operator that evaluates expressions at each point is division by zero where any value has it, else out of
-/// range where any has it, in whatever order they stand; else there are points.
+/// The fault of an operator that evaluates expressions at each point is division by zero where any value has it,
+/// otherwise out of range where any has it, in whatever order they stand; otherwise there are points.
 pub fn faults_are_joined()
     ensures each { (p : Settings) (es : List CompExp) (d : List Row) → each_point p es d ≡ unless_any p es d (map (point_of p es) d) }
     ensures filter { (p : Settings) (e : CompExp) (d : List Row) → filter_of p e d ≡ unless_any p (e ∷ []) d (kept p e d) }
@@ -96,8 +97,9 @@ pub fn operators_do_not_see_order()
     ensures sub { (items : List SubItem) (a s : Structure) (d e : List Row) → Perm d e → Perm (sub_of items a s d) (sub_of items a s e) }
 {}
 
-/// What a script means does not depend on the order of points: over data sets with the same points, an expression has the
-/// same points or the same fault, and a script the same outputs up to order or the same fault at the same statement.
+/// What a script means does not depend on the order of points: over data sets with the same points, an expression has
+/// the same points or the same fault, and a script the same outputs up to order or the same fault at the same
+/// statement.
 pub fn meaning_does_not_see_order()
     ensures expression { (p : Settings) (env other : Environment) (n : NodeTree) → AreDataSets env → SameData env other → is_built n ≡ true → IsMade p (known_in env) n → Same (node_value p env n) (node_value p other n) }
     ensures script { (p : Settings) (ss : List Statement) (env other : Environment) → AreDataSets env → SameData env other → list_all (λ s. is_built s.node) ss ≡ true → AreMadeStatements p (known_in env) ss → SameMeaning (meaning p ss env) (meaning p ss other) }

@@ -1,10 +1,10 @@
 //! What typed expressions and scripts mean over data sets: definitions on lists of points, and their laws. It has
 //! no code.
 //!
-//! Every back end is held to `meaning`. The laws say that operators give data sets, do not depend on the order of
+//! Every back end must keep to `meaning`. The laws say that operators give data sets, do not depend on the order of
 //! points, and agree with look-up by identifiers; conditions say how a structure fits its operands, not how typing
 //! found it.
-//! It knows no tables, no files and no program: who computes this is `vtl_expr`, `vtl_clause`, `vtl_interp`.
+//! It knows no tables, no files and no program: `vtl_expr`, `vtl_clause` and `vtl_interp` compute this.
 //! Begin with specs/Operators.antt and Meaning.antt; LookUps.antt says the same in the words of the manual.
 #![tactic(auto)]
 

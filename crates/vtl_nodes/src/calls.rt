@@ -34,9 +34,9 @@ pub enum AnalyticOp {
     Rank,
     /// `ratio_to_report`
     RatioToReport,
-    /// `lag`: the value so many points before, or the default
+    /// `lag`: the value this many points before, or the default
     Lag { offset: u32, default: Cell },
-    /// `lead`: the value so many points after, or the default
+    /// `lead`: the value this many points after, or the default
     Lead { offset: u32, default: Cell },
 }
 
@@ -74,11 +74,11 @@ pub struct Frame {
 pub enum Bound {
     /// The place of the first point.
     UnboundedPreceding,
-    /// So many places before.
+    /// This many places before.
     Preceding(u32),
     /// The place of the point.
     Current,
-    /// So many places after.
+    /// This many places after.
     Following(u32),
     /// The place of the last point.
     UnboundedFollowing,

@@ -1,4 +1,4 @@
-// What the operators on data sets are told beside their operands.
+// What the operators on data sets are given besides their operands.
 
 use crate::{AnalyticOp, CalcItem, Window};
 use vtl_cell::{AggKind, List, Txt};

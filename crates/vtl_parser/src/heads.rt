@@ -8,7 +8,7 @@ use read_parts::{Front, Unread, after_keyword, after_sign, name};
 use vtl_lexer::{Keyword, Sign, Token};
 use vtl_text::Txt;
 
-/// `name :`, if it stands there. It fails only when out of memory.
+/// `name :`, if it stands there. It fails only if memory runs out.
 #[tactic(auto, unfolding(vtl_grammar::specs::ReadStatements::rule_name))]
 pub fn rule_name(tokens: &[Token]) -> Result<Front<'_, Option<Txt>>, Unread>
     ensures { ReadsAs (Some (rule_name (kinds tokens.now))) result }

@@ -40,7 +40,7 @@ fn more_signed(
     })
 }
 
-// The items at the right of a rule, each with its sign but for the first, which may have none.
+// The items at the right of a rule, each with its sign except the first, which may have none.
 #[tactic(auto, unfolding(vtl_grammar::specs::ReadStatements::right_side))]
 fn right_side(
     alloc: Global,
@@ -57,7 +57,8 @@ fn right_side(
     })
 }
 
-// Whether a rule is no deeper than a statement may be: it has two levels, and one more for each sign, a leading one too.
+// Whether a rule is no deeper than a statement may be: it has two levels, and one more for each sign, a leading one
+// too.
 fn is_shallow(rule: &HierRule) -> bool
     ensures { result ≡ nat_le (hier_rule_depth rule.now) depth_limit }
 {

@@ -4,14 +4,15 @@ ghost use Rattle.vtl_grammar.specs.Written.{Written};
 ghost use Rattle.vtl_parser.specs.Parsed.{IsFaulty, IsScript};
 ghost use Rattle.vtl_syntax.specs.Trees.{ScriptTree};
 
-/// A text is one script at most, or has one fault at most, and not both.
+/// A text is at most one script or has at most one fault, and never both.
 pub fn texts_are_read_once()
     ensures one { (text : List ℕ) (a b : ScriptTree) → IsScript text a → IsScript text b → a ≡ b }
     ensures apart { (text : List ℕ) (script : ScriptTree) (done byte : ℕ) → IsScript text script → IsFaulty text done byte → ⊥ }
     ensures faults { (text : List ℕ) (done byte other at : ℕ) → IsFaulty text done byte → IsFaulty text other at → (done ≡ other) × (byte ≡ at) }
 {}
 
-/// A script that a text is, is written: each statement is in the grammar, its names are names and its numbers digits.
+/// A script that a text spells is well formed: each statement is in the grammar, its names are names and its numbers
+/// digits.
 pub fn scripts_are_written()
     ensures { (text : List ℕ) (script : ScriptTree) → IsScript text script → Written script }
 {}

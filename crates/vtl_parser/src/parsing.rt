@@ -21,7 +21,7 @@ pub enum ParseErr {
         /// The byte, from 0, at which what follows them starts.
         byte: usize,
     },
-    /// No memory was found.
+    /// There was not enough memory.
     OutOfMemory,
 }
 
@@ -36,7 +36,7 @@ impl From<AllocError> for ParseErr {
     }
 }
 
-/// The script that `text` is. It fails exactly where the text is no script, with its fault; and when out of memory.
+/// The script that `text` is. It fails exactly where the text is no script, with its fault, and if memory runs out.
 pub fn parse(alloc: Global, text: &str) -> Result<Script, ParseErr>
     ensures answer { MatchResult result (λ script. IsScript text.now (script_tree script)) (λ error. IsFault text.now error) }
     ensures scripts { (script : ScriptTree) → IsScript text.now script → MatchResult result (λ read. script_tree read ≡ script) (λ error. IsMemory error) }
@@ -46,7 +46,7 @@ pub fn parse(alloc: Global, text: &str) -> Result<Script, ParseErr>
     script_of(alloc, lexed.tokens.as_slice(), lexed.bad)
 }
 
-// The script that all of the tokens are, where no byte follows them that starts none.
+// The script that all of the tokens are, unless a byte follows them from which no token starts.
 fn script_of(alloc: Global, tokens: &[Token], bad: Option<usize>) -> Result<Script, ParseErr>
     ensures { MatchResult result (λ script. WholeScript tokens.now bad (script_tree script)) (λ error. IsFaultOf tokens.now bad error) }
 {

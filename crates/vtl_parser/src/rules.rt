@@ -48,7 +48,7 @@ fn rules<R: Rule>(alloc: Global, tokens: &[Token]) -> Result<Front<'_, (List<R>,
     more_rules(alloc, found, first.rest)
 }
 
-// The rules after these, each behind a semicolon.
+// The rules after these, each after a semicolon.
 fn more_rules<R: Rule>(
     alloc: Global,
     mut found: Vec<R>,

@@ -15,7 +15,7 @@ use vtl_lexer::{Keyword, Sign, Token};
 use vtl_syntax::{Expr, Statement};
 use vtl_text::List;
 
-// An expression, with a semicolon behind it.
+// An expression, with a semicolon after it.
 #[tactic(auto, unfolding(vtl_grammar::specs::ReadStatements::value_read))]
 fn value(alloc: Global, tokens: &[Token]) -> Result<Front<'_, Box<Expr>>, Unread>
     ensures { ReadsBy box_tree (value_read (kinds tokens.now)) result }
@@ -97,7 +97,7 @@ fn statement(alloc: Global, tokens: &[Token]) -> Result<Front<'_, Statement>, Un
     hierarchical(alloc, after)
 }
 
-/// As many statements as there are at the front. It fails only when out of memory.
+/// As many statements as there are at the front. It fails only if memory runs out.
 pub fn statements(alloc: Global, tokens: &[Token]) -> Result<Front<'_, List<Statement>>, Unread>
     ensures { ReadsBy (map statement_tree) (Some (script_read (kinds tokens.now))) result }
 {

@@ -69,7 +69,7 @@ fn written(
     escaped(alloc, file(alloc, table, structure, profile)?)
 }
 
-// The bytes that are written, without what is promised of them.
+// The bytes that are written, without what is promised about them.
 fn file(
     alloc: Global,
     table: &Table,

@@ -1,8 +1,8 @@
-// Lines of a tree: each node on a line of its own, two blanks deeper than the node that it is a part of.
+// Lines of a tree: each node on a line of its own, two spaces deeper than the node that it is a part of.
 use std::alloc::{AllocError, Global};
 use std::fmt;
 
-// A text that is made line by line. Want of memory is remembered, and told when the text is asked for.
+// A text that is made line by line. That memory ran out is remembered, and reported when the text is asked for.
 #[derive(Drop)]
 pub(crate) struct Lines {
     text: String,

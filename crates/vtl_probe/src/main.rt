@@ -2,7 +2,8 @@
 //! operations that are timed. It is no part of `vtl`.
 //!
 //! A table is a CSV file, each line of it a case. What differs is printed, and then `N passed, M failed`; the exit code
-//! is 1 where a case failed. Other words, and a file that cannot be read, are told on standard error with the exit code 2.
+//! is 1 where a case failed. Other words, and a file that cannot be read, are reported on standard error with the exit
+//! code 2.
 #![tactic(auto)]
 
 mod datasets;

@@ -15,7 +15,7 @@ pub(crate) fn profile(scale: &str, rounding: &str) -> Result<Profile, CaseErr> {
     Profile::new(scale, rounding).ok_or(CaseErr::Scale)
 }
 
-// The scale, half away from zero, of tables that name none.
+// The scale of tables that name none, with a half rounded away from zero.
 pub(crate) fn default_profile() -> Result<Profile, CaseErr> {
     Profile::new(6, Rounding::HalfUp).ok_or(CaseErr::Scale)
 }
@@ -116,7 +116,8 @@ fn escape(text: &str, out: &mut String) -> Result<(), AllocError> {
     Ok(())
 }
 
-// The parts between `|`; of a text in which `\` stands before a `|` or `\` that is meant, and before nothing else.
+// The parts between `|`; of a text in which `\` stands before a `|` or `\` that is meant literally, and before nothing
+// else.
 pub(crate) fn parts(alloc: Global, text: &str) -> Result<Vec<String>, CaseErr> {
     let mut found = Vec::new(alloc);
     let mut part = String::new(alloc);

@@ -36,7 +36,7 @@ fn is_before(low: &Cell, high: &Cell) -> bool {
         && !is_same(low, high)
 }
 
-// The period so many periods later.
+// The period this many periods later.
 pub(crate) fn shifted(alloc: Global, row: &Row) -> Result<String, CaseErr> {
     let period = read_period(row.field(0)).ok_or(CaseErr::Period)?;
     let Some(later) = shift(period, row.whole(1)?) else {

@@ -226,7 +226,7 @@ fn ruleset(out: &mut Lines, name: &Txt, rule: &Option<Comp>, mode: &Option<Mode>
     maybe_word(out, mode);
 }
 
-// What stands behind the expressions that are parts of this one.
+// What stands after the expressions that are parts of this one.
 pub(crate) fn after(out: &mut Lines, e: &Expr) {
     match e {
         Expr::Member { component, .. } => comp(out, component),
@@ -266,7 +266,7 @@ pub(crate) fn after(out: &mut Lines, e: &Expr) {
     }
 }
 
-// What stands behind the operand of a check by a ruleset.
+// What stands after the operand of a check by a ruleset.
 fn by_ruleset(out: &mut Lines, e: &Expr) {
     match e {
         Expr::CheckDatapoint {

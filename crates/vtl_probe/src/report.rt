@@ -24,7 +24,7 @@ impl Tally {
         }
     }
 
-    // Counts a case, and tells it where what came is not what is wanted.
+    // Counts a case, and reports it where what came is not what is wanted.
     pub(crate) fn count(
         &mut self,
         case: usize,

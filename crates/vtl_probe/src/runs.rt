@@ -8,7 +8,7 @@ use crate::times::{Operation, Order};
 use std::alloc::{AllocError, Global};
 use vtl_decimal::{Dec, Profile, Rounding, add, div, mul, read, write};
 
-// Six digits after the point, a half away from zero.
+// Six digits after the point, with a half rounded away from zero.
 fn profile() -> Profile
     ensures scale { result.scale ≡ 6 }
     ensures rounding { result.rounding ≡ Rounding.HalfUp }

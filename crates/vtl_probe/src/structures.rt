@@ -44,7 +44,7 @@ fn records(alloc: Global, structures: &Structures) -> Result<String, AllocError>
     Ok(out)
 }
 
-// A record, but for its last field.
+// A record without its last field.
 fn push_record(out: &mut String, dataset: &Txt, component: &Component) -> Result<(), AllocError> {
     push_field(out, dataset.as_str())?;
     out.push(',')?;
@@ -107,7 +107,7 @@ fn needs_quotes(field: &str) -> bool {
     false
 }
 
-// How many data sets are read of a large structures file, so many times.
+// How many data sets are read from a large structures file, this many times.
 pub(crate) fn read_times(alloc: Global, filling: Filling, count: u64) -> Result<i64, AllocError> {
     let text = large(alloc, filling)?;
     let mut sum: i64 = 0;

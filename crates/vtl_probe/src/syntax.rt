@@ -25,7 +25,7 @@ impl Language {
         }
     }
 
-    // What a nest comes out as, and one with more levels. Those of SQL stand behind a SET of 30 bytes.
+    // What a nest comes out as, and one with more levels. Those of SQL stand after a SET of 30 bytes.
     fn of_nests(self) -> (&'static str, &'static str) {
         match self {
             Language::Vtl => ("1,", "0,0"),
@@ -34,13 +34,13 @@ impl Language {
     }
 }
 
-// What is read of a text: what is told of the script, or its fault.
+// What is read of a text: what is reported about the script, or its fault.
 enum Answer {
     Script(String),
     Fault { done: usize, byte: usize },
 }
 
-// The one owner of trees. The script is told by its tree, or by the number of its statements and a comma.
+// The one owner of trees. The script is given as its tree, or as the number of its statements and a comma.
 fn read(alloc: Global, text: &str, with_tree: bool) -> Result<Answer, AllocError> {
     match parse(alloc, text) {
         Ok(found) => Ok(Answer::Script(told(alloc, &found, with_tree)?)),
@@ -102,7 +102,7 @@ pub(crate) fn nested(alloc: Global, language: Language, row: &Row) -> Result<Str
     Ok(out)
 }
 
-// Tells what a nest comes out as, where that is not what is wanted.
+// Reports what a nest comes out as, where that is not what is wanted.
 fn judge_nest(
     alloc: Global,
     language: Language,
@@ -135,7 +135,7 @@ fn push_times(out: &mut String, text: &str, times: usize) -> Result<(), AllocErr
     Ok(())
 }
 
-// What the fronts of the script have in common whose sizes are in the row's range, ends included. No front ends within
+// What the fronts of the script whose sizes are in the row's range, ends included, have in common. No front ends within
 // a character.
 pub(crate) fn fronts(
     alloc: Global,
@@ -158,7 +158,7 @@ pub(crate) fn fronts(
     Ok(common)
 }
 
-// Whether a front comes out as the ones before it; where it does not, that is told behind what they came out as.
+// Whether a front comes out as the ones before it; where it does not, that is reported after what they came out as.
 fn goes_on(
     alloc: Global,
     language: Language,

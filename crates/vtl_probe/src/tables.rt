@@ -10,7 +10,7 @@ use std::alloc::{AllocError, Global};
 // What the cases of a table are about.
 #[derive(Clone, Copy)]
 pub(crate) enum Table {
-    // Scalar operators at their operands.
+    // Scalar operators on their operands.
     Scalars,
     // Texts of values.
     Values,
@@ -157,7 +157,7 @@ fn judge_all<'a>(
     Ok(())
 }
 
-// Whether there is a line. Fields of a text are texts, so that only memory can be lacking.
+// Whether there is a line. Fields of a text are texts, so that only memory can run out.
 fn is_read<'a>(reader: &mut Reader<&[u8]>, fields: &mut StringRecord) -> Result<bool, Trouble<'a>> {
     match reader.read_record(fields) {
         Ok(is_read) => Ok(is_read),

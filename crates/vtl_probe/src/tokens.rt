@@ -3,7 +3,7 @@ use crate::report::Report;
 use std::alloc::{AllocError, Global};
 use vtl_lexer::{LexErr, Token, lex, tokens_before_fault};
 
-// Each token with the bytes where it starts and ends, and the byte from which none starts; a separator behind each.
+// Each token with the bytes where it starts and ends, and the byte from which none starts; a separator after each.
 fn listed(
     alloc: Global,
     tokens: &[Token],

@@ -48,7 +48,7 @@ fn head(e: &Expr) -> &'static str {
     }
 }
 
-// An expression: what stands before its parts, the expressions that are its parts, and what stands behind them.
+// An expression: what stands before its parts, the expressions that are its parts, and what stands after them.
 #[cycle(show)]
 fn expr(out: &mut Lines, e: &Expr) {
     before(out, e);

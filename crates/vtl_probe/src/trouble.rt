@@ -24,7 +24,7 @@ pub(crate) enum Trouble<'a> {
 }
 
 impl<'a> Trouble<'a> {
-    // What is told of it.
+    // What is reported about it.
     pub(crate) fn text(&self, alloc: Global) -> Result<String, AllocError> {
         match *self {
             Trouble::Usage => String::from_str(alloc, USAGE),
@@ -50,7 +50,7 @@ impl<'a> From<AllocError> for Trouble<'a> {
     }
 }
 
-// Why nothing comes of a case: a part of it is not written as its table has it, or memory is lacking.
+// Why nothing comes of a case: a part of it is not written as its table requires, or memory ran out.
 #[derive(Clone, Copy)]
 pub(crate) enum CaseErr {
     Scale,

@@ -13,7 +13,7 @@ use vtl_parser::parse;
 use vtl_syntax::Script;
 use vtl_tree::{Component, Structures};
 
-// What is told of a script, with the exit code that `vtl` has for it.
+// What is reported about a script, with the exit code that `vtl` has for it.
 fn answered(
     alloc: Global,
     text: &str,
@@ -63,7 +63,7 @@ fn typed(
     }
 }
 
-// The structure of the last result, a component behind the other.
+// The structure of the last result, one component after another.
 fn last_structure(alloc: Global, checked: &Checked) -> Result<Report, AllocError> {
     let mut text = String::from_str(alloc, "typed")?;
     if let Some(node) = checked.nodes().last() {
@@ -92,7 +92,7 @@ fn push_component(
     push_codes(alloc, out, &component.codes)
 }
 
-// What comes of a script by the structures that its table has.
+// What comes of a script over the structures that its table has.
 pub(crate) fn outcome(alloc: Global, structures: &str, row: &Row) -> Result<String, CaseErr> {
     let profile = profile(row.field(0), "half_up")?;
     Ok(answered(alloc, row.field(1), structures, &profile)?.text)

@@ -17,7 +17,7 @@ pub(crate) fn rewritten(alloc: Global, row: &Row) -> Result<String, CaseErr> {
     }
 }
 
-// What an operator gives of its operands.
+// What an operator gives for its operands.
 pub(crate) fn scalar(alloc: Global, row: &Row) -> Result<String, CaseErr> {
     let profile = profile(row.field(0), row.field(1))?;
     let operands = operands(alloc, row.field(3), &profile)?;
@@ -42,7 +42,7 @@ fn operands(alloc: Global, text: &str, profile: &Profile) -> Result<Vec<Cell>, C
     Ok(operands)
 }
 
-// The operator that is spelled so in VTL, at so many operands.
+// The operator that is spelled in this way in VTL, with this many operands.
 fn operator(word: &str, operands: usize) -> Result<ScalarOp, CaseErr> {
     Ok(match word {
         "+" if operands == 1 => ScalarOp::Identity,

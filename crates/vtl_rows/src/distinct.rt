@@ -6,10 +6,11 @@ use std::alloc::{AllocError, Global};
 use std::hash::{FoldHasher, Hash, Hasher};
 use vtl_cell::Cell;
 
-// More distinct cells than this are not told apart.
+// No more distinct cells than this are told apart.
 const MAX_DISTINCT: usize = 65_536;
 
-// A cell is looked for in so many slots at most, so that cells of one hash cost no more than this many comparisons each.
+// A cell is looked for in at most this many slots, so that cells of one hash cost no more than this many comparisons
+// each.
 const MAX_PROBES: usize = 32;
 
 // The rows of the distinct cells that were found so far, and slots with their places, counted from 1, by hash.
@@ -40,7 +41,7 @@ impl Distinct {
         self.rows.as_slice()
     }
 
-    // The place of a row's cell among the distinct ones, the last where it is new. None where they are too many, or
+    // The place of a row's cell among the distinct ones, the last where it is new. None where there are too many, or
     // too many have one hash.
     pub(crate) fn place_of(
         &mut self,
@@ -74,7 +75,7 @@ impl Distinct {
         }
     }
 
-    // Puts a row's cell behind the others.
+    // Puts a row's cell after the others.
     fn put(&mut self, slot: usize, i: usize) -> Result<Option<usize>, AllocError> {
         let place = self.rows.len();
         if place >= MAX_DISTINCT {
@@ -94,7 +95,7 @@ fn hash_of(cell: &Cell) -> usize {
     state.finish() as usize
 }
 
-// So many zeros.
+// This many zeros.
 pub(crate) fn zeros(alloc: Global, count: usize) -> Result<Vec<usize>, AllocError> {
     let mut zeros = Vec::with_capacity(alloc, count)?;
     for _ in 0..count {

@@ -60,7 +60,7 @@ pub(crate) fn chosen_cells(
     Ok(cells)
 }
 
-// Puts the cells at places of a row behind others.
+// Puts the cells at places of a row after others.
 fn append_chosen(cells: &mut Vec<Cell>, row: &[Cell], places: &[usize]) -> Result<(), AllocError>
     ensures { OnOk result (cells.new.items ≡ cells.old.items ++ cells_at places.now row.now) }
 {
@@ -70,7 +70,7 @@ fn append_chosen(cells: &mut Vec<Cell>, row: &[Cell], places: &[usize]) -> Resul
     Ok(())
 }
 
-// An equal cell to the one at a place, or null past the last one.
+// A cell equal to the one at a place, or null after the last one.
 fn copy_at(row: &[Cell], place: usize) -> Result<Cell, AllocError>
     ensures { IfOk result (λ copy. copy ≡ column_of place row.now) }
 {

@@ -8,7 +8,7 @@ use crate::seen::{Meeting, Seen};
 use crate::{SortKey, Table};
 use std::alloc::{AllocError, Global};
 
-// The first row that ties with one before it, if there is one, found by hash. None where it is given up.
+// The first row that ties with one before it, if there is one, found by hash. None where the search is given up.
 fn repeat_by_hash(
     alloc: Global,
     table: &Table,
@@ -30,7 +30,7 @@ fn repeat_by_hash(
     Ok(Some(None))
 }
 
-// The lesser of two numbers, of which the first counts where the row at that place ties with one before it.
+// The lesser of two numbers; the first counts only where the row at that place ties with one before it.
 fn lesser(table: &Table, keys: &[SortKey], before: usize, place: usize, least: usize) -> usize
     ensures { result ≡ if nat_lt place least && ties_before keys.now table.now.rows before place then place else least }
 {
@@ -72,8 +72,8 @@ fn repeat_of(alloc: Global, table: &Table, keys: &[SortKey]) -> Result<Option<us
 }
 
 impl Table {
-    /// The place of the first row that agrees in the columns with a row before it, if there is one. It fails only when
-    /// out of memory.
+    /// The place of the first row that agrees in the columns with a row before it, if there is one. It fails only if
+    /// memory runs out.
     pub fn first_repeat(
         &self,
         alloc: Global,
@@ -86,7 +86,7 @@ impl Table {
         repeat_of(alloc, self, &keys)
     }
 
-    /// Whether no two rows agree in the columns. It fails only when out of memory.
+    /// Whether no two rows agree in the columns. It fails only if memory runs out.
     #[tactic(auto, using(crate::proofs::Firsts::found_or_apart))]
     pub fn is_key(&self, alloc: Global, columns: &[usize]) -> Result<bool, AllocError>
         requires { All (λ i. i < length self.now.columns) columns.now }

@@ -8,13 +8,13 @@ use std::alloc::{AllocError, Global};
 use std::hash::{FoldHasher, Hash, Hasher};
 use vtl_cell::Cell;
 
-// There are at least so many slots for each row.
+// There are at least this many slots for each row.
 const SLOTS_FOR_A_ROW: usize = 2;
 
-// So many slots follow those at which a row is first looked for.
+// This many slots follow those at which a row is first looked for.
 const MORE_SLOTS: usize = 256;
 
-// So many slots are looked at for each row on the average, and no more: with more, cost would rest on luck.
+// No more than this many slots are looked at for each row on average: with more, the cost would depend on luck.
 const MAX_STEPS: usize = 8;
 
 // A row, and a part of its hash. The number of a row that was not seen stands for none.
@@ -39,7 +39,7 @@ pub(crate) enum Place {
     Unknown,
 }
 
-// What a row is beside those before it: new, a repeat, or not told.
+// What a row is in relation to those before it: new, a repeat, or unknown.
 pub(crate) enum Meeting {
     New,
     Repeat,
@@ -54,7 +54,7 @@ pub(crate) struct Seen {
 }
 
 impl Seen {
-    // No row yet, of so many.
+    // No row yet, of this many.
     pub(crate) fn new(alloc: Global, count: usize) -> Result<Seen, AllocError> {
         let room = count
             .saturating_mul(SLOTS_FOR_A_ROW)
@@ -90,7 +90,7 @@ impl Seen {
     }
 }
 
-// So many slots of no row.
+// This many slots of no row.
 fn free_slots(alloc: Global, count: usize) -> Result<Vec<Slot>, AllocError> {
     let mut slots = Vec::with_capacity(alloc, count)?;
     for _ in 0..count {
@@ -102,7 +102,7 @@ fn free_slots(alloc: Global, count: usize) -> Result<Vec<Slot>, AllocError> {
     Ok(slots)
 }
 
-// The hash of a row's cells. Its seed is fixed, so nothing but time may rest on it, and not much of that.
+// The hash of a row's cells. Its seed is fixed, so nothing but time may depend on it, and not much of that.
 fn hash_of(row: &[Cell], keys: &[SortKey]) -> u64
     ensures { result ≡ row_hash keys.now row.now }
 {

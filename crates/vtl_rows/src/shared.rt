@@ -27,7 +27,7 @@ impl Model for SharedTable {
 }
 
 impl SharedTable {
-    /// A table with one owner. It fails only when out of memory.
+    /// A table with one owner. It fails only if memory runs out.
     pub fn of(alloc: Global, table: Table) -> Result<SharedTable, AllocError>
         ensures { IfOk result (λ t. t ≡ table) }
     {
@@ -35,7 +35,7 @@ impl SharedTable {
         Ok(SharedTable { shared })
     }
 
-    /// One more owner of the table. It fails only when out of memory.
+    /// One more owner of the table. It fails only if memory runs out.
     pub fn share(&self) -> Result<SharedTable, AllocError>
         ensures { IfOk result (λ t. t ≡ self.now) }
     {
@@ -50,7 +50,7 @@ impl SharedTable {
         Rc::as_ref(&self.shared)
     }
 
-    /// The table itself: it is copied where it has other owners. It fails only when out of memory.
+    /// The table itself: it is copied where it has other owners. It fails only if memory runs out.
     pub fn into_table(self, alloc: Global) -> Result<Table, AllocError>
         ensures { IfOk result (λ t. t ≡ self) }
     {

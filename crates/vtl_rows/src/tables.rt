@@ -39,7 +39,7 @@ impl Tables {
         }
     }
 
-    /// Puts a table after the others. It fails only when out of memory, and leaves the others as they were.
+    /// Puts a table after the others. It fails only if memory runs out, and then leaves the others as they were.
     pub fn put(&mut self, alloc: Global, name: Txt, table: Table) -> Result<(), AllocError>
         requires { table_of name self.old ≡ None }
         ensures put { OnOk result (self.new ≡ self.old ++ (name, table) ∷ []) }
@@ -48,8 +48,8 @@ impl Tables {
         self.put_shared(name, SharedTable::of(alloc, table)?)
     }
 
-    /// Puts a table that may have other owners after the others. It fails only when out of memory, and leaves the others
-    /// as they were.
+    /// Puts a table that may have other owners after the others. It fails only if memory runs out, and then leaves the
+    /// others as they were.
     pub fn put_shared(&mut self, name: Txt, table: SharedTable) -> Result<(), AllocError>
         requires { table_of name self.old ≡ None }
         ensures put { OnOk result (self.new ≡ self.old ++ (name, table) ∷ []) }

@@ -17,7 +17,7 @@ pub(crate) fn truth(b: Option<bool>) -> Cell
     }
 }
 
-// The order of two values of one kind, an integer beside a number by value. None with null or of two kinds.
+// The order of two values of one kind, or of an integer and a number by value. None with null or for two other kinds.
 pub(crate) fn order(a: &Cell, b: &Cell, p: &Profile) -> Option<Ordering>
     ensures { result ≡ order_of p.now a.now b.now }
 {

@@ -6,8 +6,8 @@ use crate::operands::as_number;
 use vtl_cell::{Cell, Kind};
 use vtl_decimal::{Fault, Profile};
 
-/// The value as one of an expression of this kind: an integer where the kind is that of numbers is the number that
-/// equals it, and every other value stays.
+/// The value as one of an expression of this kind: where the kind is number, an integer becomes the number that equals
+/// it; every other value stays.
 ///
 /// Range for an integer that is none of the profile.
 pub fn to_kind(kind: Kind, value: Cell, p: &Profile) -> Result<Cell, Fault>

@@ -11,7 +11,7 @@ pub enum ScalarErr {
     DivZero,
     /// A number out of its range.
     Range,
-    /// Want of memory.
+    /// There was not enough memory.
     OutOfMemory,
 }
 

@@ -19,20 +19,22 @@ pub fn integers_are_numbers()
     ensures { (p : Settings) (n : ℤ) → p.scale ≤ 9 → IsOfProfile p (Cell.Int n) → as_number p n ≡ Ok (units p n) }
 {}
 
-/// At operands of the profile only `+`, `-`, `*`, `/`, `floor`, `ceil`, `round`, `instr` and `length` may have a fault.
+/// For operands of the profile only `+`, `-`, `*`, `/`, `floor`, `ceil`, `round`, `instr` and `length` may have a
+/// fault.
 #[tactic(auto, using(crate::proofs::FaultLemmas::scalar_is_ok))]
 pub fn other_operators_have_no_fault()
     ensures { (p : Settings) (op : ScalarOp) (args : List Cell) → p.scale ≤ 9 → may_fault op ≡ false → AllByRecursion (IsOfProfile p) args → IsOk (scalar_of p op args) }
 {}
 
-/// A value is of the kind that the operator gives for the kinds of its operands, where each operand is of its kind: null,
-/// a value of the kind, or an integer where the kind is number.
+/// A value is of the kind that the operator gives for the kinds of its operands, where each operand is of its kind:
+/// null, a value of the kind, or an integer where the kind is number.
 #[tactic(auto, using(crate::proofs::ValueKindLemmas::value_is_of_kind))]
 pub fn values_are_of_their_kind()
     ensures { (p : Settings) (op : ScalarOp) (kinds : List Kind) (args : List Cell) (kind : Kind) → kinds_of op kinds ≡ Some kind → meet kinds (map kind_of args) ≡ true → HasKind kind (scalar_of p op args) }
 {}
 
-/// Where an operand is null the value is null, but for `and`, `or`, `isnull`, `nvl` and `if`: so `null / 0` has no fault.
+/// Where an operand is null the value is null, except for `and`, `or`, `isnull`, `nvl` and `if`: so `null / 0` has no
+/// fault.
 #[tactic(auto, using(crate::proofs::NullLemmas::null_gives_null))]
 pub fn null_gives_null()
     ensures { (p : Settings) (op : ScalarOp) (args : List Cell) → is_strict op ≡ true → list_any is_null args ≡ true → scalar_of p op args ≡ Ok Cell.Null }

@@ -6,7 +6,7 @@ ghost use Rattle.vtl_scalar.specs.Operands.{pair_outcome};
 use vtl_cell::Cell;
 use vtl_decimal::{Dec, Fault, Profile};
 
-// Two operands of an operator that takes integers or numbers: an integer beside a number is a number.
+// Two operands of an operator that takes integers or numbers: an integer with a number becomes a number.
 #[derive(Clone, Copy)]
 pub(crate) enum Pair {
     Integers(i64, i64),
@@ -50,7 +50,7 @@ pub(crate) fn digits_in(d: &Cell) -> Option<i8>
     }
 }
 
-// Two operands, an integer beside a number as the number that equals it.
+// Two operands; an integer with a number becomes the number that equals it.
 pub(crate) fn alike(a: &Cell, b: &Cell, p: &Profile) -> Result<Pair, Fault>
     ensures { pair_outcome result ≡ pair_of p.now a.now b.now }
 {

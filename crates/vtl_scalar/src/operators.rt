@@ -11,14 +11,14 @@ use std::alloc::Global;
 use vtl_cell::{Cell, ScalarOp, not3};
 use vtl_decimal::{Fault, Profile};
 
-/// The value of an operator at its operands, by the table of scalar operators.
+/// The value of an operator for its operands, by the table of scalar operators.
 ///
 /// `in` and `not_in` take a value and then the members of the set. `if` takes its condition and both branches; a caller
-/// that must evaluate the chosen branch alone chooses before it evaluates. An integer where a number is wanted stands for
-/// the number that equals it. The value is null where the operands do not meet the operator's row.
+/// that must evaluate only the chosen branch chooses before it evaluates. An integer where a number is wanted stands
+/// for the number that equals it. The value is null where the operands do not meet the operator's row.
 ///
 /// DivZero and Range as the row says; Range too for an integer that is none of the profile where a number is wanted.
-/// OutOfMemory only when there is no memory.
+/// OutOfMemory only if memory runs out.
 pub fn apply(alloc: Global, op: ScalarOp, args: &[Cell], p: &Profile) -> Result<Cell, ScalarErr>
     ensures { Answers result (scalar_of p.now op args.now) }
 {
@@ -45,7 +45,7 @@ fn by_number_of_operands(
     }
 }
 
-// What an operator answers that takes no memory.
+// The answer of an operator that takes no memory.
 fn answered(v: Result<Cell, Fault>) -> Result<Cell, ScalarErr>
     ensures { Answers result v }
 {

@@ -7,7 +7,7 @@ use std::alloc::{AllocError, Global};
 use vtl_rows::{Column, Table};
 use vtl_tree::{Component, Structure};
 
-/// The column of a component, whose name is shared. It fails only for want of memory.
+/// The column of a component, whose name is shared. It fails only if memory runs out.
 pub fn table_column(component: &Component) -> Result<Column, AllocError>
     ensures { IfOk result (λ column. column ≡ column_for component.now) }
 {
@@ -17,7 +17,7 @@ pub fn table_column(component: &Component) -> Result<Column, AllocError>
     })
 }
 
-/// The columns of the tables of a structure's data sets. It fails only for want of memory.
+/// The columns of the tables of a structure's data sets. It fails only if memory runs out.
 pub fn table_columns(alloc: Global, structure: &Structure) -> Result<Vec<Column>, AllocError>
     ensures { IfOk result (λ v. v.items ≡ table_columns structure.now) }
 {
@@ -29,7 +29,7 @@ pub fn table_columns(alloc: Global, structure: &Structure) -> Result<Vec<Column>
     Ok(table_columns)
 }
 
-/// A table of no rows below the columns of a structure. It fails only for want of memory.
+/// A table of no rows below the columns of a structure. It fails only if memory runs out.
 pub fn new_table(alloc: Global, structure: &Structure) -> Result<Table, AllocError>
     requires { IsStructure structure.now }
     ensures columns { IfOk result (λ t. t.columns ≡ table_columns structure.now) }

@@ -42,7 +42,7 @@ impl DataSet {
         DataSet { structure, table }
     }
 
-    /// The data set of a table that is one of this structure. It fails only for want of memory.
+    /// The data set of a table that is one of this structure. It fails only if memory runs out.
     pub fn of(alloc: Global, structure: Structure, table: Table) -> Result<DataSet, AllocError>
         requires { IsTableOf structure table }
         ensures { IfOk result (λ d. d ≡ data_set structure table.rows) }
@@ -51,7 +51,8 @@ impl DataSet {
         Ok(DataSet::shared(structure, table))
     }
 
-    /// The data set of a table that was answered, which is one of this structure; or want of memory.
+    /// The data set of the table that was answered, which is one of this structure; or the fault that was answered,
+    /// which may be that memory ran out.
     pub fn answered(
         alloc: Global,
         structure: Structure,
@@ -82,7 +83,7 @@ impl DataSet {
         self.table.table()
     }
 
-    /// One more owner of the table of the points. It fails only for want of memory.
+    /// One more owner of the table of the points. It fails only if memory runs out.
     pub fn share_table(&self) -> Result<SharedTable, AllocError>
         ensures points { IfOk result (λ t. t.rows ≡ self.now.points) }
         ensures table { IfOk result (IsTableOf self.now.structure) }
@@ -90,7 +91,7 @@ impl DataSet {
         self.table.share()
     }
 
-    /// The table of the points for oneself: it is copied where it has other owners. It fails only for want of memory.
+    /// The table of the points itself: it is copied where it has other owners. It fails only if memory runs out.
     pub fn into_table(self, alloc: Global) -> Result<Table, AllocError>
         ensures points { IfOk result (λ t. t.rows ≡ self.points) }
         ensures table { IfOk result (IsTableOf self.structure) }
@@ -98,7 +99,7 @@ impl DataSet {
         self.table.into_table(alloc)
     }
 
-    /// One more of the data set, whose table and texts are shared. It fails only for want of memory.
+    /// A copy of the data set, whose table and texts are shared. It fails only if memory runs out.
     pub fn copy(&self, alloc: Global) -> Result<DataSet, AllocError>
         ensures { IfOk result (λ d. d ≡ self.now) }
     {

@@ -17,7 +17,8 @@ pub enum Status {
     Done,
     /// The words have none of the forms.
     Usage,
-    /// The script is none: so many statements stand at its front, and what follows them starts at the byte, from 0.
+    /// The script file holds no script: this many statements stand at its front, and what follows them starts at this
+    /// byte, from 0.
     Syntax {
         /// How many statements stand at the front.
         done: usize,
@@ -38,7 +39,8 @@ pub enum Status {
         /// The number of the rule.
         rule: u8,
     },
-    /// The file of a data set that is read holds none of its structure: its first fault, by line and column from 1 on.
+    /// The file of a data set that is read holds no data set of its structure: its first fault, by line and column from
+    /// 1 on.
     Input {
         /// The name of the data set.
         dataset: Txt,
@@ -63,14 +65,15 @@ pub enum Status {
     ReadFault(Txt),
     /// The file at the path could not be written.
     WriteFault(Txt),
-    /// Want of memory.
+    /// There was not enough memory.
     Memory,
     /// The file at the path has a form that is not built yet.
     Unbuilt(Txt),
 }
 
 impl Status {
-    /// The exit code: 0 done, 1 usage, 2 no script, no structures or no text, 3 not typed, 4 no file, too long or no data set, 5 a fault of evaluation, 6 a fault of reading or writing, 7 memory, 8 not built.
+    /// The exit code: 0 done, 1 usage, 2 no script, no structures or no text, 3 not typed, 4 no file, too long or no
+    /// data set, 5 a fault of evaluation, 6 a fault of reading or writing, 7 memory, 8 not built.
     pub fn code(&self) -> u8
         ensures { result ≡ code_of self.now }
     {
@@ -173,7 +176,7 @@ const NOTHING: Part<'static> = Part::Text("");
 
 const END: Part<'static> = Part::Text("\n");
 
-// The parts, and nothing behind them.
+// The parts, and nothing after them.
 fn padded(parts: [Part<'_>; 5]) -> [Part<'_>; 9]
     ensures { all_said result ≡ all_said parts.entry }
 {
@@ -205,8 +208,8 @@ impl From<AllocError> for Status {
     }
 }
 
-/// Hands the line that names a status to the sink: whole, unless the sink fails, and then a front of it. Done has none.
-/// It takes no memory.
+/// Passes the line that names a status to the sink: whole, unless the sink fails, and then the first part of it. Done
+/// has none. It takes no memory.
 pub fn tell<O: Sink>(status: &Status, out: &mut O)
     ensures faults { O.faults out.old ≤ O.faults out.new }
     ensures whole { ¬ Rose (O.faults out.old) (O.faults out.new) → TakesAll (O.taken out.old) (O.taken out.new) (line_of status.now) }
@@ -215,7 +218,7 @@ pub fn tell<O: Sink>(status: &Status, out: &mut O)
     let _ = write_parts(&status.parts(), out);
 }
 
-// The parts, one after the other.
+// The parts, one after another.
 fn write_parts<O: Sink>(parts: &[Part<'_>], out: &mut O) -> Result<(), Failed>
     ensures faults { O.faults out.old ≤ O.faults out.new }
     ensures failed { OnErr result (Rose (O.faults out.old) (O.faults out.new)) }
@@ -240,7 +243,7 @@ fn write_part<O: Sink>(part: Part<'_>, out: &mut O) -> Result<(), Failed>
     }
 }
 
-// A number digit by digit, the highest first, since no memory is taken.
+// A number, digit by digit and the highest first, since no memory is taken.
 fn write_number<O: Sink>(number: u64, out: &mut O) -> Result<(), Failed>
     ensures faults { O.faults out.old ≤ O.faults out.new }
     ensures failed { OnErr result (Rose (O.faults out.old) (O.faults out.new)) }

@@ -1,4 +1,4 @@
-//! Syntax trees of scripts: what is written, with brackets and every word that may be left out.
+//! Syntax trees of scripts: what is written, including brackets and every word that may be left out.
 //!
 //! A tree keeps each word, so the tokens of a tree are a function of it and the grammar needs no trees of
 //! derivation. Scripts have several owners, and nobody copies one. Depth, which bounds every recursion over a tree,

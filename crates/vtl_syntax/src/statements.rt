@@ -21,7 +21,7 @@ impl Drop for Script {
 }
 
 impl Script {
-    /// One more owner of the same script. It fails only when out of memory.
+    /// One more owner of the same script. It fails only if memory runs out.
     pub fn share(&self) -> Result<Script, AllocError>
         ensures { IfOk result (λ script. script ≡ self.now) }
     {

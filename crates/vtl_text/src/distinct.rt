@@ -7,7 +7,7 @@ use crate::Txt;
 use indexmap::IndexSet;
 use std::alloc::{AllocError, Global};
 
-/// Whether no two texts are the same. It fails only for want of memory.
+/// Whether no two texts are the same. It fails only if memory runs out.
 pub fn are_distinct(alloc: Global, texts: &[Txt]) -> Result<bool, AllocError>
     ensures { IfOk result (λ b. b ≡ all_apart same_text texts.now) }
 {

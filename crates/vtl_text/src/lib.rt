@@ -1,9 +1,9 @@
 //! Texts: a shared text that contracts see as its characters, lists that they see as their items, the operators on
-//! texts, what a word, a reserved word and a name is, and whether texts are apart.
+//! texts, what a word, a reserved word and a name are, and whether texts are distinct.
 //!
 //! Everything that has a name holds a `Txt`, and everything that has parts a `List`, so contracts speak of
 //! characters and items and not of memory. Searches go by bytes, and are proved to find characters.
-//! It knows no values and no syntax; the reserved words stand here, since structures files are held to them too.
+//! It knows no values and no syntax; the reserved words stand here, since structures files must keep to them too.
 //! Begin with specs/Texts.antt and specs/Words.antt.
 #![tactic(auto)]
 

@@ -26,7 +26,8 @@ pub fn trim(t: &str) -> &str
     ltrim(rtrim(t))
 }
 
-/// The characters from the `start`-th on, counted from 1: all of them, or at most `length`. What lies past the end is missing.
+/// The characters from the `start`-th on, counted from 1: all of them, or at most `length`. What lies past the end is
+/// missing.
 pub fn substr(t: &str, start: usize, length: Option<usize>) -> &str
     requires { 1 ≤ start }
     ensures { chars result.now ≡ substr_of (chars t.now) start length }
@@ -70,7 +71,7 @@ pub fn length(t: &str) -> usize
     t.chars().count()
 }
 
-/// The characters of `a` and then those of `b`. It fails only when out of memory.
+/// The characters of `a` and then those of `b`. It fails only if memory runs out.
 pub fn concat(alloc: Global, a: &str, b: &str) -> Result<Txt, AllocError>
     ensures { IfOk result (λ t. t ≡ chars a.now ++ chars b.now) }
 {

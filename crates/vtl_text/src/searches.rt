@@ -1,4 +1,5 @@
-// The operators on texts that search for a pattern. The searches go by the bytes: in UTF-8 a pattern's bytes occur only where its characters do.
+// The operators on texts that search for a pattern. The searches go by the bytes: in UTF-8 a pattern's bytes occur only
+// where its characters do.
 ghost use Rattle.std.specs.Prelude.{◌≡◌, ◌↔◌, ℕ, false, IfOk, chars, drop};
 ghost use Rattle.vtl_text.specs.Texts.{begins, instr_of, replace_of};
 
@@ -7,7 +8,8 @@ use crate::shared_text::Txt;
 use memchr::memmem;
 use std::alloc::{AllocError, Global};
 
-/// The place of the first occurrence of `pattern`, in characters from 1, or 0 where there is none. An empty pattern occurs at 1.
+/// The place of the first occurrence of `pattern`, in characters from 1, or 0 where there is none. An empty pattern
+/// occurs at 1.
 pub fn instr(t: &str, pattern: &str) -> usize
     ensures value { result ≡ instr_of (chars t.now) (chars pattern.now) }
     ensures absent { (result ≡ 0)
@@ -23,7 +25,7 @@ pub fn instr(t: &str, pattern: &str) -> usize
 }
 
 /// The text with `by` for each occurrence of `pattern`, from the left and without overlap.
-/// An empty pattern leaves it as it is. It fails only when out of memory.
+/// An empty pattern leaves it as it is. It fails only if memory runs out.
 pub fn replace(alloc: Global, t: &str, pattern: &str, by: &str) -> Result<Txt, AllocError>
     ensures { IfOk result (λ r. r ≡ replace_of (chars t.now) (chars pattern.now) (chars by.now)) }
 {

@@ -34,7 +34,7 @@ impl Model for Txt {
 }
 
 impl Txt {
-    /// A new text with the characters of `text`. It fails only when out of memory.
+    /// A new text with the characters of `text`. It fails only if memory runs out.
     pub fn new(alloc: Global, text: &str) -> Result<Txt, AllocError>
         ensures { IfOk result (λ t. t ≡ chars text.now) }
     {
@@ -62,7 +62,7 @@ impl Txt {
         self.text.as_str()
     }
 
-    /// One more owner of the same text. It fails only when out of memory.
+    /// One more owner of the same text. It fails only if memory runs out.
     pub fn share(&self) -> Result<Txt, AllocError>
         ensures { IfOk result (λ t. t ≡ self.now) }
     {

@@ -155,7 +155,8 @@ pub fn is_reserved(text: &str) -> bool
     RESERVED_WORDS.iter().any(|word| *word == text)
 }
 
-/// The place of `text` among the words that the grammar gives a meaning, from 0 and in the order of their letters, if it is one.
+/// The place of `text` among the words that the grammar gives a meaning, from 0 and in the order of their letters, if
+/// it is one.
 pub fn reserved_place(text: &str) -> Option<usize>
     ensures { result ≡ reserved_place (chars text.now) }
 {

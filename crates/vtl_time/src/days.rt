@@ -72,7 +72,8 @@ impl Ord for Day {
 
 ghost use Rattle.vtl_time.specs.Days.{day_of, day_cmp, day_text, is_calendar_day, read_day_of};
 
-/// The day that `t` spells as `YYYY-MM-DD`: exactly ten bytes, and a day that the calendar has. `None` for any other text.
+/// The day that `t` spells as `YYYY-MM-DD`: exactly ten bytes, and a day that the calendar has. `None` for any other
+/// text.
 pub fn read_day(t: &str) -> Option<Day>
     ensures value { result ≡ read_day_of (chars t.now) }
     ensures text { IfSome result (λ d. chars t.now ≡ day_text d) }
@@ -109,7 +110,7 @@ fn make_day(year: u16, month: u16, day: u16) -> Option<Day>
     }
 }
 
-/// Appends the day to `out` as `YYYY-MM-DD`. It fails only when out of memory, and then leaves `out` as it was.
+/// Appends the day to `out` as `YYYY-MM-DD`. It fails only if memory runs out, and then leaves `out` as it was.
 pub fn write_day(d: Day, out: &mut Vec<u8>) -> Result<(), AllocError>
     ensures ok { OnOk result (out.new.items ≡ out.old.items ++ day_text d) }
     ensures err { OnErr result (out.new.items ≡ out.old.items) }

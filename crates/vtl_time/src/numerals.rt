@@ -2,7 +2,7 @@
 ghost use Rattle.std.specs.Prelude.{◌≡◌, ◌^◌, ◌+◌, ◌*◌, ◌/◌, ◌%◌, ◌<◌, ◌≤◌, length, IfSome};
 ghost use Rattle.vtl_time.specs.Numerals.{number_in_digits};
 
-// The number that up to four digits stand for, and `None` where something else is among them.
+// The number that up to four digits stand for, or `None` where anything else is among them.
 pub(crate) fn number(digits: &[u8]) -> Option<u16>
     requires { length digits.now ≤ 4 }
     ensures value { result ≡ number_in_digits digits.now }

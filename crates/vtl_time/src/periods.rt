@@ -57,7 +57,8 @@ impl Frequency {
     }
 }
 
-/// A period of a year from 0 to 9999. Periods are ordered by frequency (years, halves, quarters, months), then by year, then by part.
+/// A period of a year from 0 to 9999. Periods are ordered by frequency (years, halves, quarters, months), then by year,
+/// then by part.
 #[derive(Clone, Copy, Debug, PartialEq, Eq, Hash)]
 pub struct Period {
     frequency: Frequency,
@@ -118,8 +119,8 @@ impl Ord for Period {
 
 ghost use Rattle.vtl_time.specs.Periods.{SpellsPeriod, is_year_part, period_of, period_cmp, period_text, numbered_part_of, part_of, behind_year, read_period_of, shift_of};
 
-/// The period that `t` spells: `YYYY-A1`, `YYYY-S1` to `S2`, `YYYY-Q1` to `Q4`, `YYYY-M01` to `M12`, or as `YYYY` a year and as `YYYY-01` to `YYYY-12` a month.
-/// `None` for any other text.
+/// The period that `t` spells: `YYYY-A1`, `YYYY-S1` to `S2`, `YYYY-Q1` to `Q4`, `YYYY-M01` to `M12`, or as `YYYY` a
+/// year and as `YYYY-01` to `YYYY-12` a month. `None` for any other text.
 pub fn read_period(t: &str) -> Option<Period>
     ensures value { result ≡ read_period_of (chars t.now) }
     ensures text { IfSome result (SpellsPeriod (chars t.now)) }
@@ -204,7 +205,7 @@ impl Period {
         u64::from(self.year) * u64::from(self.frequency.parts()) + u64::from(self.part - 1)
     }
 
-    // The period that has so many of its frequency before it.
+    // The period that has this many of its frequency before it.
     fn at_index(frequency: Frequency, index: u64) -> Period
         requires { index < 10000 * parts_in_year frequency }
         ensures { result ≡ period_at frequency index }
@@ -218,7 +219,8 @@ impl Period {
     }
 }
 
-/// The `n`-th period of the same frequency after `p`, or before it for a negative `n`. `None` exactly where its year is not in 0 to 9999.
+/// The `n`-th period of the same frequency after `p`, or before it for a negative `n`. `None` exactly where its year is
+/// not in 0 to 9999.
 pub fn shift(p: Period, n: i64) -> Option<Period>
     ensures value { result ≡ shift_of p n }
     ensures back { IfSome result (λ q. shift_of q (neg_ℤ n) ≡ Some p) }
@@ -233,7 +235,8 @@ pub fn shift(p: Period, n: i64) -> Option<Period>
     }
 }
 
-/// Appends the period to `out`, as `YYYY-A1`, `YYYY-S1`, `YYYY-Q1` or `YYYY-M01`. It fails only when out of memory, and then leaves `out` as it was.
+/// Appends the period to `out`, as `YYYY-A1`, `YYYY-S1`, `YYYY-Q1` or `YYYY-M01`. It fails only if memory runs out, and
+/// then leaves `out` as it was.
 pub fn write_period(p: Period, out: &mut Vec<u8>) -> Result<(), AllocError>
     ensures ok { OnOk result (out.new.items ≡ out.old.items ++ period_text p) }
     ensures err { OnErr result (out.new.items ≡ out.old.items) }

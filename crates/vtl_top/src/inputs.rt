@@ -62,7 +62,7 @@ fn read_input<F: Files>(
     }
 }
 
-// Reads one more data set, and puts its table behind the others.
+// Reads one more data set, and puts its table after the others.
 #[tactic(auto, using(crate::proofs::InputLemmas::takes_added))]
 fn add_input<F: Files>(
     alloc: Global,

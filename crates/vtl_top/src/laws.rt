@@ -16,39 +16,40 @@ ghost use Rattle.vtl_status.specs.declared.status.Status.{Status};
 
 use vtl_files::{Files, Sink};
 
-/// The outputs that a run gives over the held files are what the script means: its text, over the data sets that the inputs
-/// hold, gives results, and each file is named after a result and holds its CSV text, in order.
+/// The outputs that a run gives over the held files are what the script means: its text, over the data sets that the
+/// inputs hold, gives results, and each file is named after a result and holds its CSV text, in order.
 pub fn output_is_meant()
     ensures only { (r : Run) (held : Held) (files : List File) → (run_step r).gives held (Ok files) → IsMeant r held files }
     ensures always { (r : Run) (held : Held) (files : List File) → IsMeant r held files → (run_step r).gives held (Ok files) }
 {}
 
-/// A run is `Mistyped` exactly where its script, without rulesets, breaks a rule over its structures: by the first statement
-/// that does, and by its rule. Neither the form of the statements nor the data sets are looked at before.
+/// A run is `Mistyped` exactly where its script, without rulesets, breaks a rule over its structures: by the first
+/// statement that does, and by its rule. Neither the form of the statements nor the data sets are looked at before.
 pub fn mistyped_is_first_fault()
     ensures only { (r : Run) (held : Held) (statement rule : ℕ) → (run_step r).gives held (Err (Status.Mistyped statement rule)) → IsMistyped r.source held statement rule }
     ensures always { (r : Run) (held : Held) (statement rule : ℕ) → IsMistyped r.source held statement rule → (run_step r).gives held (Err (Status.Mistyped statement rule)) }
 {}
 
-/// A run divides by zero, or a number leaves its range, exactly where what its script means over its inputs is this fault, in
+/// A run divides by zero, or a number leaves its range, exactly where its script means this fault over its inputs, in
 /// the statement with this result.
 pub fn faults_are_meant()
     ensures only { (r : Run) (held : Held) (fault : Fault) (name : Name) → (run_step r).gives held (Err (fault_status fault name)) → IsFaulted r held fault name }
     ensures always { (r : Run) (held : Held) (fault : Fault) (name : Name) → IsFaulted r held fault name → (run_step r).gives held (Err (fault_status fault name)) }
 {}
 
-/// What a command gives is one: two outcomes over the same held bytes are equal.
+/// A command has at most one outcome: two outcomes over the same held bytes are equal.
 pub fn expected_is_determined()
     ensures { (command : Option Command) (held : Held) (given other : Result Made Status) → (asked_step command).gives held given → (asked_step command).gives held other → given ≡ other }
 {}
 
-/// No files that are held leave a command without an outcome; so with `expected_is_determined` it has one.
+/// No held files leave a command without an outcome; so, with `expected_is_determined`, it has exactly one.
 pub fn expected_is_there()
     ensures { (command : Option Command) (held : Held) → ¬ ((given : Result Made Status) → ¬ (asked_step command).gives held given) }
 {}
 
-/// A call in which no count of faults rose answers what the words and the held files give, or want of memory. So where a script
-/// means results over its inputs, its run is done, and where it has a fault, this is told.
+/// A call in which no count of faults rose answers what the words and the held files give, or that memory ran out. So,
+/// unless memory runs out, where a script means results over its inputs, its run is done, and where it has a fault,
+/// that fault is reported.
 pub fn calm_calls_are_complete<F: Files, O: Sink>()
     ensures given { (a b : F) (u v : O) (command : Option Command) (status : Status) (held : Held) (given : Result Made Status) → Ends F.Files O.Sink a b u v command status → IsCalm F.Files O.Sink a b u v → F.held a ≡ Some held → (asked_step command).gives held given → (status ≡ Status.Memory) ⊎ (status ≡ status_of given) }
     ensures meant { (a b : F) (u v : O) (r : Run) (status : Status) (held : Held) (files : List File) → Ends F.Files O.Sink a b u v (Some (run r)) status → IsCalm F.Files O.Sink a b u v → F.held a ≡ Some held → IsMeant r held files → (status ≡ Status.Memory) ⊎ (status ≡ Status.Done) }
@@ -60,7 +61,7 @@ pub fn runs_are_quiet<F: Files, O: Sink>()
     ensures { (a b : F) (u v : O) (r : Run) → Ends F.Files O.Sink a b u v (Some (run r)) Status.Done → v ≡ u }
 {}
 
-/// The structure that a structures file declares under a name is one, with at least one identifier.
+/// What a structures file declares under a name is a structure with at least one identifier.
 pub fn structures_have_identifiers()
     ensures structure { (name : Name) (text : Text) (all : Named) (t : Structure) → structures_of_file text ≡ Ok all → lookup (same_name name) all ≡ Some t → IsStructure t }
     ensures identifier { (name : Name) (text : Text) (all : Named) (t : Structure) → structures_of_file text ≡ Ok all → lookup (same_name name) all ≡ Some t → 1 ≤ key_width t }

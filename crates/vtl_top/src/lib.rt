@@ -1,8 +1,8 @@
 //! The top call: carries out the words of a command line over files and a sink, and answers a status.
 //!
-//! The commands, the steps of a run in their order, and the statuses with their codes and lines are decided here,
-//! and here alone. A step says what it gives over held bytes and which paths it reads; a run is one chain of steps
-//! (`run_step`). Nothing is created before all is computed, and from then on no memory is taken.
+//! The commands and the steps of a run in their order are decided here, and here alone; the statuses with their codes
+//! and lines are those of `vtl_status`. A step says what it gives over held bytes and which paths it reads; a run is
+//! one chain of steps (`run_step`). Nothing is created before all is computed, and from then on no memory is taken.
 //! It sees the outside through the traits `Files` and `Sink`, and knows of reading, typing and evaluation only what
 //! they promise.
 //! Begin with specs/Expected.antt and specs/Answered.antt, then src/top.rt.

@@ -19,7 +19,7 @@ use vtl_interp::Backend;
 use vtl_status::Status;
 use vtl_text::Txt;
 
-/// What a command gives out: files, and behind them a text for the sink.
+/// What a command gives out: files, and after them a text for the sink.
 #[derive(Drop)]
 pub struct Made {
     /// The files, in order.

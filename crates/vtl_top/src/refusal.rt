@@ -26,7 +26,7 @@ pub fn refusal(alloc: Global, error: ReadErr, path: &str) -> Status
     }
 }
 
-/// The status of a file of a form that is not built.
+/// The status of a file with a form that is not built.
 pub fn unbuilt(alloc: Global, path: &str) -> Status
     ensures { IsOrMemory (Status.Unbuilt (chars path.now)) result }
 {

@@ -92,7 +92,7 @@ fn faulted(error: RunErr) -> Status
     }
 }
 
-/// The outputs that a script means over its inputs, or the status of its fault; or want of memory.
+/// The outputs that a script means over its inputs, or the status of its fault; or that memory ran out.
 pub fn results<B: Backend>(
     alloc: Global,
     back: &mut B,

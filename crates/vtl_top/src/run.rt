@@ -84,8 +84,8 @@ fn read_structures_file<F: Files>(
     }
 }
 
-/// The script of a source, typed over its structures; or the first refusal in the order script, structures file, types of the script
-/// over the structures; or want of memory at any place.
+/// The script of a source, typed over its structures; or the first refusal in the order script, structures file, types
+/// of the script over the structures; or, at any place, that memory ran out.
 pub fn read_typed<F: Files>(
     alloc: Global,
     files: &mut F,
@@ -102,8 +102,8 @@ pub fn read_typed<F: Files>(
     typed(alloc, &script, &structures, &source.profile)
 }
 
-/// Reads the files of a run, and makes its outputs: nothing is created. The answer is the outputs, or the first refusal: by the
-/// script, then by the inputs, then by what it means; or want of memory at any place.
+/// Reads the files of a run, and makes its outputs: nothing is created. The answer is the outputs, or the first
+/// refusal: by the script, then by the inputs, then by what it means; or, at any place, that memory ran out.
 pub fn prepare<B: Backend, F: Files>(
     alloc: Global,
     back: &mut B,

@@ -10,7 +10,8 @@ use vtl_csv::{StructErr, read_structures};
 use vtl_status::Status;
 use vtl_tree::Structures;
 
-/// The structures that the bytes of the file at a path declare, or the status of their first fault; or want of memory.
+/// The structures that the bytes of the file at a path declare, or the status of their first fault; or that memory ran
+/// out.
 pub fn structures_of(alloc: Global, path: &str, bytes: &[u8]) -> Result<Structures, Status>
     ensures { Settles (structures_in path.now bytes.now) result }
 {

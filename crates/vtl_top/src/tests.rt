@@ -44,7 +44,7 @@ fn held(alloc: Global) -> Result<Vec<MemFile>, AllocError> {
     Ok(files)
 }
 
-// A call with these words, over files that hand over so many bytes at a time.
+// A call with these words, over files that give this many bytes at a time.
 fn call(
     alloc: Global,
     words: &[&str],
@@ -81,8 +81,8 @@ fn reads_and_writes_in_pieces(rt: HostRuntime) -> Result<(), Fail> {
     Ok(())
 }
 
-// Each file is opened, and read twice in large pieces: its text, and that there is no more. In pieces of 8 bytes the
-// third of the output fails.
+// Each file is opened, and read twice in large pieces: first its text, then that there is no more. In pieces of 8 bytes
+// the third piece of the output fails.
 #[test]
 fn tells_where_a_file_fails(rt: HostRuntime) -> Result<(), Fail> {
     let alloc = rt.alloc();

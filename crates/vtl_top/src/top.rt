@@ -18,12 +18,13 @@ use vtl_files::{Failed, Files, Sink, sink_all};
 use vtl_interp::{Backend, Interp};
 use vtl_status::{Status, tell};
 
-/// Carries out the words of a command line over the files and the sink that are handed in, and answers how it went.
+/// Carries out the words of a command line over the given files and the given sink, and answers how it went.
 ///
-/// `run SCRIPT STRUCTURES IN OUT` reads the script and the structures file, and from the folder IN the CSV file of each data set that
-/// the script reads; into the folder OUT it writes the CSV file of each result that the script assigns by `<-`. Options may follow:
-/// `--scale D`, the digits of a number after its point (one digit, 6 by default), and `--round R`, how results are rounded to them
-/// (`half_up`, the default, `half_even` or `down`), each at most once. A status other than Done is named by a line on `out`.
+/// `run SCRIPT STRUCTURES IN OUT` reads the script and the structures file, and from the folder IN the CSV file of each
+/// data set that the script reads, however many there are; into the folder OUT it writes the CSV file of each result
+/// that the script assigns by `<-`, however many there are. Options may follow: `--scale D`, the digits of a number
+/// after its point (one digit, 6 by default), and `--round R`, how results are rounded to them (`half_up`, the default,
+/// `half_even` or `down`), each at most once. A status other than Done is named by a line on `out`.
 pub fn vtl<F: Files, O: Sink>(alloc: Global, words: &[String], files: &mut F, out: &mut O) -> Status
     requires { F.creating files.old ≡ false }
     ensures held { F.held files.new ≡ F.held files.old }
@@ -36,7 +37,7 @@ pub fn vtl<F: Files, O: Sink>(alloc: Global, words: &[String], files: &mut F, ou
     vtl_by(alloc, words, files, out, &mut Interp)
 }
 
-/// The same by a back end that is handed in.
+/// The same by a given back end.
 pub fn vtl_by<B: Backend, F: Files, O: Sink>(
     alloc: Global,
     words: &[String],
@@ -51,14 +52,14 @@ pub fn vtl_by<B: Backend, F: Files, O: Sink>(
     ensures faults { F.faults files.old ≤ F.faults files.new }
     ensures absences { F.absences files.old ≤ F.absences files.new }
 
-    // The words alone tell whether they have a form.
+    // The words alone decide whether they have a form.
     ensures usage { (result ≡ Status.Usage) ↔ (command_of (map string_bytes words.now) ≡ None) }
 
-    // How the call ended, by the kind of the status: what was written and said, what is closed, the cause, and where the held files
-    // are told, what the words and the held bytes give; and then the line of the status.
+    // How the call ended, by the kind of the status: what was written and said, what is closed, the cause, and, where
+    // the held files are revealed, what the words and the held bytes give; and then the line of the status.
     ensures ends { Ends F.Files O.Sink files.old files.new out.old out.new (command_of (map string_bytes words.now)) result }
 
-    // What the back end was told of the script that was run.
+    // What the back end shows of the script that was run.
     ensures told { Informs F.Files files.old B.told back.old back.new (command_of (map string_bytes words.now)) result }
 {
     let status = answer(alloc, back, words, files, out);
@@ -121,7 +122,7 @@ fn carry_out<B: Backend, F: Files, O: Sink>(
     }
 }
 
-// Writes the files, and then hands the text to the sink. It takes no memory.
+// Writes the files, and then passes the text to the sink. It takes no memory.
 fn give_out<F: Files, O: Sink>(files: &mut F, out: &mut O, made: Made) -> Status
     requires idle { F.creating files.old ≡ false }
     requires named { Names made }
@@ -143,7 +144,7 @@ fn give_out<F: Files, O: Sink>(files: &mut F, out: &mut O, made: Made) -> Status
     }
 }
 
-// Hands a text to the sink, if there is one.
+// Passes a text to the sink, if there is one.
 fn say<O: Sink>(out: &mut O, text: &[u8]) -> Result<(), Failed>
     ensures whole { OnOk result (Hears O.Sink out.old out.new text.now) }
     ensures failed { OnErr result (Rose (O.faults out.old) (O.faults out.new)) }

@@ -13,8 +13,8 @@ use vtl_status::Status;
 use vtl_syntax::Script;
 use vtl_tree::Structures;
 
-/// The script with its typing over the structures, or the status of the first statement that breaks a rule; or want of
-/// memory.
+/// The script with its typing over the structures, or the status of the first statement that breaks a rule; or that
+/// memory ran out.
 pub fn typed(
     alloc: Global,
     script: &Script,

@@ -43,8 +43,8 @@ fn is_path(word: &str) -> bool
     !word.is_empty()
 }
 
-/// The command that the words are, by its name: `run SCRIPT STRUCTURES IN OUT`, each a path that is not empty, and then the options
-/// `--scale D` and `--round R`, each at most once.
+/// The command that the words are, by its name: `run SCRIPT STRUCTURES IN OUT`, each a path that is not empty, and then
+/// the options `--scale D` and `--round R`, each at most once.
 pub fn command_of(words: &[String]) -> Option<Command<'_>>
     ensures { option_map command_view result ≡ command_of (map string_bytes words.now) }
 {
@@ -128,7 +128,7 @@ fn profile(scale: u8, rounding: Rounding) -> Option<Profile>
     Profile::new(scale, rounding)
 }
 
-// One option beside the default of the other.
+// One option, with the default of the other.
 fn one_set(setting: Setting) -> Option<Profile>
     ensures { result ≡ one_set (setting_view setting) }
 {

@@ -5,7 +5,7 @@ use crate::structure::{Component, Structure};
 use std::alloc::{AllocError, Global};
 use vtl_text::{List, Shared, Txt};
 
-/// One more of the codes of a component.
+/// One more copy of the codes of a component.
 pub fn share_codes(codes: &Option<Shared<Txt>>) -> Result<Option<Shared<Txt>>, AllocError>
     ensures { IfOk result (λ copy. copy ≡ codes.now) }
 {
@@ -15,7 +15,7 @@ pub fn share_codes(codes: &Option<Shared<Txt>>) -> Result<Option<Shared<Txt>>, A
     }
 }
 
-/// One more of a component.
+/// One more copy of a component.
 pub fn share_component(component: &Component) -> Result<Component, AllocError>
     ensures { IfOk result (λ copy. copy ≡ component.now) }
 {
@@ -27,7 +27,7 @@ pub fn share_component(component: &Component) -> Result<Component, AllocError>
     })
 }
 
-/// One more of a structure.
+/// One more copy of a structure.
 pub fn share_structure(alloc: Global, structure: &Structure) -> Result<Structure, AllocError>
     ensures { IfOk result (λ copy. copy ≡ structure.now) }
 {

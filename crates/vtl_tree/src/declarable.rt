@@ -101,9 +101,9 @@ fn names_are_apart(components: &[Component]) -> bool
     true
 }
 
-/// Whether a structure may be declared: it has 1 to 64 components with distinct names, each a component name, none of the
-/// kind of null; codes stand on string identifiers alone, at least one in a list, distinct and none empty. It fails only
-/// for want of memory.
+/// Whether a structure may be declared: it has 1 to 64 components with distinct names, each a component name, none of
+/// the kind of null; codes stand on string identifiers alone, at least one in a list, distinct and none empty. It fails
+/// only if memory runs out.
 pub fn is_declarable(alloc: Global, structure: &Structure) -> Result<bool, AllocError>
     ensures { IfOk result (λ b. b ≡ is_declarable structure.now) }
 {

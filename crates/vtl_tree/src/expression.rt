@@ -58,16 +58,6 @@ impl Drop for CompExpr {
     }
 }
 
-impl CompExpr {
-    /// The call and the kind of an aggregate, where the expression is one.
-    pub fn aggregate(self) -> Option<(AggCall, Kind)> {
-        match self {
-            CompExpr::Aggregate { call, kind } => Some((call, kind)),
-            _ => None,
-        }
-    }
-}
-
 /// An aggregate of the points of a group.
 pub struct AggCall {
     /// The operator.

@@ -19,7 +19,7 @@ pub fn points_are_a_map()
 {}
 
 /// `filter` gives a data set of the same structure, which at each tuple of identifiers has the operand's point where
-/// the condition is true there and none elsewhere; and it does not depend on the order of points.
+/// the condition is true there and none elsewhere; it does not depend on the order of points.
 pub fn filter_is_a_clause()
     ensures kept { (p : Settings) (s : Structure) (c : CompExp) (d : List Row) → IsDataSet s d → IsDataSet s (kept p c d) }
     ensures at { (p : Settings) (n : ℕ) (c : CompExp) (d : List Row) (k : Row) → Distinct n d → look n (kept p c d) k ≡ kept_row (λ r. is_true (value p c r)) (look n d k) }

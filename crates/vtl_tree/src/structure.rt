@@ -11,7 +11,7 @@ use vtl_text::{List, Shared, Txt};
 /// What a component is in its data set.
 #[derive(Clone, Copy, Debug, PartialEq, Eq)]
 pub enum Role {
-    /// It takes part in telling points apart, and is never null.
+    /// It takes part in distinguishing points, and is never null.
     Identifier,
     /// It is a value of the point.
     Measure,

@@ -63,7 +63,7 @@ impl Structures {
         self.by_name.len()
     }
 
-    /// Adds a structure under a name that none has yet. It fails only for want of memory.
+    /// Adds a structure under a name that none has yet. It fails only if memory runs out.
     pub fn put(&mut self, name: Txt, structure: Structure) -> Result<(), AllocError>
         requires new_name { has_name name self.old ≡ false }
         requires declarable { is_declarable structure ≡ true }
@@ -74,8 +74,8 @@ impl Structures {
         Ok(())
     }
 
-    /// Adds a component that fits its data set: the last of those that it has, or the first of a new data set, which goes
-    /// last. It fails only for want of memory.
+    /// Adds a component that fits its data set: the last of those that it has, or the first of a new data set, which
+    /// goes last. It fails only if memory runs out.
     pub fn add(&mut self, name: Txt, component: Component) -> Result<(), AllocError>
         requires { Fits component (components_of name self.old) }
         ensures added { OnOk result (self.new ≡ with_component name component self.old) }
@@ -108,7 +108,7 @@ impl Structures {
     }
 }
 
-// Adds a component behind the others.
+// Adds a component after the others.
 fn push_component(
     alloc: Global,
     structure: &mut Structure,
