@@ -1,4 +1,8 @@
 // The typing of scripts.
+ghost use Rattle.std.specs.Prelude.{◌≡◌, false};
+ghost use Rattle.vtl_check.specs.Script.{has_definitions};
+ghost use Rattle.vtl_syntax.specs.View.{script_tree};
+
 use crate::notation::{kind_word, profile};
 use crate::refusals;
 use crate::report::Report;
@@ -56,7 +60,9 @@ fn typed(
     script: &Script,
     structures: &Structures,
     profile: &Profile,
-) -> Result<Report, AllocError> {
+) -> Result<Report, AllocError>
+    requires { has_definitions (script_tree script.now) ≡ false }
+{
     match check(alloc, script, structures, profile) {
         Ok(checked) => last_structure(alloc, &checked),
         Err(error) => refusals::of_types(alloc, error),

@@ -8,7 +8,7 @@ use Rattle.vtl_files.specs.Whole.{TakesFront}
 use Rattle.vtl_files.specs.declared.sink.Sink.{Ghosts as Sinks}
 use Rattle.vtl_top.specs.Expected.{asked_step}
 use Rattle.vtl_top.specs.Said.{Hears, Says}
-use Rattle.vtl_top.specs.Steps.{File, Made, Name, Step, Text}
+use Rattle.vtl_top.specs.Steps.{File, Made, Name, Path, Step, Text}
 use Rattle.vtl_top.specs.Words.{Command, run}
 use Rattle.vtl_status.specs.declared.status.Status.{Status}
 
