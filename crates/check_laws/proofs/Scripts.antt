@@ -31,7 +31,7 @@ use Rattle.vtl_check.specs.Script.{assigned, at, is_too_much, statements_typed, 
 use Rattle.vtl_check.proofs.KnownLemmas.{has_name-lookup}
 use Rattle.vtl_meaning.specs.Made.{IsMade}
 use Rattle.check_laws.specs.Gives.{Gives, IsShaped}
-use Rattle.check_laws.specs.Nodes.{nodes_in}
+use Rattle.vtl_nodes.specs.Nodes.{nodes_in}
 use Rattle.check_laws.specs.Scripts.{AreMadeFrom, AreReadFrom}
 use Rattle.check_laws.specs.WellTyped.{AreShaped, IsNode, IsWellTyped}
 use Rattle.check_laws.proofs.Columns.{same-true}

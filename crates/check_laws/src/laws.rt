@@ -23,7 +23,7 @@ ghost use Rattle.vtl_check.specs.Checked.{IsTyped, TypedScript, env_over, nodes_
 ghost use Rattle.vtl_check.specs.Names.{names_in};
 ghost use Rattle.vtl_check.specs.Script.{script_typed};
 ghost use Rattle.vtl_meaning.specs.Made.{IsMade};
-ghost use Rattle.check_laws.specs.Nodes.{nodes_in};
+ghost use Rattle.vtl_nodes.specs.Nodes.{nodes_in};
 ghost use Rattle.check_laws.specs.Reads.{is_inside, names_read, script_names};
 ghost use Rattle.check_laws.specs.Scripts.{AreKnownAlike, AreMadeFrom, AreReadFrom};
 ghost use Rattle.check_laws.specs.WellTyped.{AreShaped, IsWellTyped};

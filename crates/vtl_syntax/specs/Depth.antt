@@ -105,3 +105,7 @@ abbrev pub statement_depth : StatementTree → ℕ
 statement_depth (assignment n k e) = exp_depth e
 statement_depth (datapoint n vs rs last) = deepest point_rule_depth rs
 statement_depth (hierarchical n i rs last) = deepest hier_rule_depth rs
+
+-- the depth that a statement may have
+abbrev pub depth_limit : ℕ
+depth_limit = 128

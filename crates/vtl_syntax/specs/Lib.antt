@@ -1,3 +1,4 @@
 pub mod Depth
 pub mod Trees
 pub mod View
+pub mod Written

@@ -4,7 +4,9 @@ use Rattle.std.specs.List.{AllByRecursion}
 use Rattle.vtl_cell.specs.Apart.{all_apart}
 use Rattle.vtl_cell.specs.Perm.{Perm}
 use Rattle.vtl_cell.specs.Kinds.{is_null, is_of}
+use Rattle.vtl_cell.specs.Profile.{IsOfProfile}
 use Rattle.vtl_cell.specs.Row.{Row, same_key, same_row}
+use Rattle.vtl_cell.specs.Settings.{Settings}
 use Rattle.vtl_tree.specs.declared.structure.Role.TheVariants as role
 use Rattle.vtl_tree.specs.declared.structure.Component.{Component}
 use Rattle.vtl_tree.specs.declared.structure.Structure.{Structure}
@@ -26,6 +28,10 @@ pub record IsDataSet (s : Structure) (points : List Row) : Type 0 where
   pub well_formed : IsStructure s
   pub typed : AllByRecursion (λ r. is_point (columns_of s) r ≡ true) points
   pub distinct : Distinct (key_width s) points
+
+-- each integer is one of the profile, as those of files and of results are
+abbrev pub AreOfProfile : Settings → List Row → Type 0
+AreOfProfile p points = AllByRecursion (λ r. AllByRecursion (IsOfProfile p) r) points
 
 -- a table's rows stand for a data set: they are its points, each once, in any order
 abbrev pub StandsFor : List Row → List Row → Type 0
