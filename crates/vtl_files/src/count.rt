@@ -36,4 +36,13 @@ impl Count {
     {
         self.value = self.value.saturating_add(1);
     }
+
+    // Counts one more, and gives the count.
+    pub(crate) fn next(&mut self) -> u64
+        ensures rose { self.new ≡ min (self.old + 1) (2 ^ 64 - 1) }
+        ensures count { result ≡ min (self.old + 1) (2 ^ 64 - 1) }
+    {
+        self.rise();
+        self.value()
+    }
 }

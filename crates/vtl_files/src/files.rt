@@ -1,6 +1,8 @@
-ghost use Rattle.std.specs.Prelude.{◌≡◌, ◌≤◌, ◌<◌, ℕ, List, Bool, true, false, Option, Ok, length, is_ok, IsErr, OnOk, OnErr, IfOk, IfSome, string_bytes, []};
+ghost use Rattle.std.specs.Prelude.{◌≡◌, ◌≤◌, ◌<◌, ℕ, List, Bool, true, false, Option, None, Ok, length, is_ok, IsErr, OnOk, OnErr, IfOk, IfSome, string_bytes, []};
 ghost use Rattle.std.specs.Result.{result_unwrap_or};
+ghost use Rattle.vtl_files.specs.Mem.{Follows, MovesFew, Plan, ReadFollows};
 ghost use Rattle.vtl_files.specs.Outside.{Rose, Opens, ReadsFront, Creates, WritesFront, LeavesNothing, CountsAbsence, CountsMisuse};
+ghost use Rattle.vtl_files.specs.declared.plan.Method.TheVariants as method;
 
 use crate::failed::Failed;
 
@@ -39,6 +41,9 @@ pub trait Files {
     /// What is still to be read, where the held files are revealed.
     ghost left: { Self → Option (List ℕ) };
 
+    /// How calls are planned, where that is revealed: which of them fail, and how many bytes one may move.
+    ghost plan: { Self → Option Plan } = { λ _. None };
+
     /// Opens the file of this name for reading, at its start. False: there is none.
     ///
     /// # Errors
@@ -56,7 +61,8 @@ pub trait Files {
         ensures place { place self.new ≡ string_bytes name }
         ensures mark { mark self.new ≡ faults self.old }
         ensures opened { opened self.new ≡ result_unwrap_or result false }
-        ensures left { Opens (held self.old) (string_bytes name) result (left self.new) };
+        ensures left { Opens (held self.old) (string_bytes name) result (left self.new) }
+        ensures plan { Follows method.Open (plan self.old) (plan self.new) result };
 
     /// Puts the next bytes of the opened file at the front of `buf`, and gives how many. None: `buf` is
     /// empty, the file's end is reached, or no file is opened.
@@ -78,7 +84,9 @@ pub trait Files {
         ensures not_opened { opened self.old ≡ false → result ≡ Ok 0 }
         ensures bound { IfOk result (λ count. count ≤ length buf.new) }
         ensures left { ReadsFront (left self.old) (left self.new) buf.new result }
-        ensures end { IfOk result (λ count. count ≡ 0 → 0 < length buf.new → IfSome (left self.old) (λ rest. rest ≡ [])) };
+        ensures end { IfOk result (λ count. count ≡ 0 → 0 < length buf.new → IfSome (left self.old) (λ rest. rest ≡ [])) }
+        ensures plan { ReadFollows (opened self.old) (plan self.old) (plan self.new) result }
+        ensures few { MovesFew (plan self.old) result };
 
     /// Creates an empty file of this name, to be written. The opened file is closed.
     ///
@@ -99,7 +107,8 @@ pub trait Files {
         ensures place { place self.new ≡ string_bytes name }
         ensures mark { mark self.new ≡ faults self.old }
         ensures opened { opened self.new ≡ false }
-        ensures left { LeavesNothing (held self.old) (left self.new) };
+        ensures left { LeavesNothing (held self.old) (left self.new) }
+        ensures plan { Follows method.Create (plan self.old) (plan self.new) result };
 
     /// Appends some first bytes of `piece` to the file that is being created, and gives how many.
     ///
@@ -121,7 +130,9 @@ pub trait Files {
         ensures opened { opened self.new ≡ opened self.old }
         ensures left { left self.new ≡ left self.old }
         ensures bound { IfOk result (λ count. count ≤ length piece.now) }
-        ensures stuck { IfOk result (λ count. count ≡ 0 → 0 < length piece.now → Rose (faults self.old) (faults self.new)) };
+        ensures stuck { IfOk result (λ count. count ≡ 0 → 0 < length piece.now → Rose (faults self.old) (faults self.new)) }
+        ensures plan { Follows method.Write (plan self.old) (plan self.new) result }
+        ensures few { MovesFew (plan self.old) result };
 
     /// Ends the file that is being created.
     ///
@@ -142,5 +153,6 @@ pub trait Files {
         ensures place { place self.new ≡ place self.old }
         ensures mark { mark self.new ≡ mark self.old }
         ensures opened { opened self.new ≡ opened self.old }
-        ensures left { left self.new ≡ left self.old };
+        ensures left { left self.new ≡ left self.old }
+        ensures plan { Follows method.Finish (plan self.old) (plan self.new) result };
 }

@@ -32,6 +32,3 @@ pub use read_err::ReadErr;
 pub use sink::Sink;
 pub use std_sink::StdSink;
 pub use whole::{read_all, sink_all, write_all};
-
-#[cfg(test)]
-mod tests;

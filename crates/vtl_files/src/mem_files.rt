@@ -1,4 +1,5 @@
-ghost use Rattle.std.specs.Prelude.{◌≡◌, ◌<◌, ◌≤◌, ◌+◌, ◌-◌, ◌^◌, ◌++◌, ◌∷◌, OnOk, OnErr, Some, false, min, length, is_some, [], string_bytes};
+ghost use Rattle.std.specs.Prelude.{◌≡◌, ◌<◌, ◌≤◌, ◌+◌, ◌-◌, ◌^◌, ◌++◌, ◌∷◌, OnOk, OnErr, Some, false, min, length, is_some, [], string_bytes, Contains, IsTrue};
+ghost use Rattle.vtl_files.specs.Mem.{calls_of, counted, one_more};
 
 use crate::count::Count;
 use crate::failed::Failed;
@@ -26,16 +27,17 @@ struct Calls {
 
 impl Calls {
     // Counts a call, and gives its number.
-    fn count(&mut self, method: Method) -> u64 {
-        let calls = match method {
-            Method::Open => &mut self.open,
-            Method::Read => &mut self.read,
-            Method::Create => &mut self.create,
-            Method::Write => &mut self.write,
-            Method::Finish => &mut self.finish,
-        };
-        calls.rise();
-        calls.value()
+    fn count(&mut self, method: Method) -> u64
+        ensures counted { self.new ≡ counted method self.old }
+        ensures number { result ≡ one_more (calls_of method self.old) }
+    {
+        match method {
+            Method::Open => self.open.next(),
+            Method::Read => self.read.next(),
+            Method::Create => self.create.next(),
+            Method::Write => self.write.next(),
+            Method::Finish => self.finish.next(),
+        }
     }
 }
 
@@ -77,6 +79,8 @@ impl MemFiles {
         ensures mark { ⟦<MemFiles as Files>⟧.mark result ≡ 0 }
         ensures opened { ⟦<MemFiles as Files>⟧.opened result ≡ false }
         ensures left { ⟦<MemFiles as Files>⟧.left result ≡ Some [] }
+        ensures plan { ⟦<MemFiles as Files>⟧.plan result
+            ≡ Some (record { chunk = chunk; fail = fail.items; calls = record { «open» = 0; read = 0; create = 0; write = 0; finish = 0 } }) }
     {
         MemFiles {
             held,
@@ -109,7 +113,8 @@ impl MemFiles {
 
     // Counts a call, and says whether it is to fail.
     fn is_to_fail(&mut self, method: Method) -> bool
-        ensures { let calls = self.new.calls in self.new ≡ record self.old { calls = calls } }
+        ensures counted { self.new ≡ record self.old { calls = counted method self.old.calls } }
+        ensures listed { Contains self.old.fail.items (record { method = method; number = one_more (calls_of method self.old.calls) }) → IsTrue result }
     {
         let number = self.calls.count(method);
         self.fail.contains(&FailAt { method, number })
@@ -162,6 +167,8 @@ impl Files for MemFiles {
     ghost opened = { λ files. is_some files.opened };
 
     ghost left = { λ files. Some (left_of files.held.items files.opened) };
+
+    ghost plan = { λ files. Some (record { chunk = files.chunk; fail = files.fail.items; calls = files.calls }) };
 
     fn open(&mut self, name: String) -> Result<bool, Failed> {
         self.place = name;

@@ -24,6 +24,7 @@ impl MemSink {
         requires { 1 ≤ chunk }
         ensures taken { ⟦<MemSink as Sink>⟧.taken result ≡ Some [] }
         ensures faults { ⟦<MemSink as Sink>⟧.faults result ≡ 0 }
+        ensures plan { ⟦<MemSink as Sink>⟧.plan result ≡ Some (record { chunk = chunk; fail = fail.items; calls = 0 }) }
     {
         MemSink {
             taken: Vec::new(alloc),
@@ -46,6 +47,8 @@ impl Sink for MemSink {
     ghost taken = { λ sink. Some sink.taken.items };
 
     ghost faults = { λ sink. sink.faults };
+
+    ghost plan = { λ sink. Some (record { chunk = sink.chunk; fail = sink.fail.items; calls = sink.calls }) };
 
     fn write(&mut self, piece: &[u8]) -> Result<usize, Failed> {
         self.calls.rise();

@@ -1,4 +1,5 @@
-ghost use Rattle.std.specs.Prelude.{◌≡◌, ◌≤◌, ◌<◌, ℕ, List, Option, length, OnErr, IfOk};
+ghost use Rattle.std.specs.Prelude.{◌≡◌, ◌≤◌, ◌<◌, ℕ, List, Option, None, length, OnErr, IfOk};
+ghost use Rattle.vtl_files.specs.Mem.{SinkPlan, TakesBy};
 ghost use Rattle.vtl_files.specs.Outside.{Rose, Takes};
 
 use crate::failed::Failed;
@@ -11,6 +12,9 @@ pub trait Sink {
     /// How often the sink has failed. It never falls.
     ghost faults: { Self → ℕ };
 
+    /// How calls are planned, where that is revealed: which of them fail, and how many bytes one may take.
+    ghost plan: { Self → Option SinkPlan } = { λ _. None };
+
     /// Takes some first bytes of `piece`, and gives how many.
     ///
     /// # Errors
@@ -21,5 +25,6 @@ pub trait Sink {
         ensures failed { OnErr result (Rose (faults self.old) (faults self.new)) }
         ensures bound { IfOk result (λ count. count ≤ length piece.now) }
         ensures stuck { IfOk result (λ count. count ≡ 0 → 0 < length piece.now → Rose (faults self.old) (faults self.new)) }
-        ensures taken { Takes (taken self.old) (taken self.new) piece.now result };
+        ensures taken { Takes (taken self.old) (taken self.new) piece.now result }
+        ensures plan { TakesBy (plan self.old) (plan self.new) result };
 }

@@ -15,8 +15,6 @@ mod keys;
 mod places;
 mod row_numbers;
 mod steps;
-#[cfg(test)]
-mod tests;
 
 pub use index::{Index, rows_are_those_added};
 pub use steps::Steps;

@@ -1,5 +1,6 @@
 -- Rows in a flat list of cells.
 use Rattle.std.proofs.Common.{◌≡◌, ℕ, zero, suc, ◌+◌, ◌*◌, ◌<◌, ◌≤◌, List, [], ◌∷◌, ◌++◌, Bool, true, false, ◌&&◌, length, length-append, get_or, take, drop, arith, refl, sym, ap, subst, ◌∙◌, true≢false}
+use Rattle.std.proofs.lemmas.List.Elements.{All-push, All-weaker}
 use Rattle.std.proofs.lemmas.List.{length-map, take-append-le, drop-append-le, take_all, length-take-le, length-drop, drop-drop}
 use Rattle.std.proofs.lemmas.Nat.{mul-le}
 use Rattle.std.proofs.Math.Nat.{le_refl}
@@ -9,7 +10,7 @@ use Rattle.vtl_cell.specs.declared.kind.Kind.{Kind}
 use Rattle.vtl_cell.specs.Row.{Row}
 use Rattle.vtl_rows.specs.declared.column.Column.{Column}
 use Rattle.vtl_rows.specs.Flat.{flat_rows, IsFlat}
-use Rattle.vtl_rows.specs.Tables.{fits, fits_kinds, column_kinds}
+use Rattle.vtl_rows.specs.Tables.{AllFit, fits, fits_kinds, column_kinds}
 
 pub length-flat_rows : (width n : ℕ) (cells : List Cell) → length (flat_rows width n cells) ≡ n
 length-flat_rows width zero cells = refl
@@ -56,8 +57,32 @@ fits_count (k ∷ ks) (x ∷ xs) e = let h = fits_count ks xs (fits_both (is_of 
 pub fits_wide : (columns : List Column) (row : Row) → fits columns row ≡ true → length row ≡ length columns
 fits_wide columns row e = let l : length (column_kinds columns) ≡ length columns = simp length-map refl in fits_count (column_kinds columns) row e ∙ l
 
-pub IsFlat-push : (columns : List Column) (n : ℕ) (cells row : List Cell) → IsFlat columns n cells → length row ≡ length columns → IsFlat columns (n + 1) (cells ++ row)
-IsFlat-push columns n cells row flat h = let l = length-append cells row in record { wide = flat.wide; whole = omega (arith, l, h, flat.whole) }
+pub IsFlat-none : (columns : List Column) (cells : List Cell) → 0 < length columns → cells ≡ [] → IsFlat columns 0 cells
+IsFlat-none columns cells some e = let l : length cells ≡ 0 = ap length e in record { wide = some; whole = omega (arith, l); fit = λ k d h. absurd (omega (arith, h)) }
+
+pub IsFlat-push : (columns : List Column) (n : ℕ) (cells row : List Cell) → IsFlat columns n cells → fits columns row ≡ true → IsFlat columns (n + 1) (cells ++ row)
+IsFlat-push columns n cells row flat h =
+    let l = length-append cells row in
+    let w = fits_wide columns row h in
+    record {
+      wide = flat.wide;
+      whole = omega (arith, l, w, flat.whole);
+      fit = subst (AllFit columns) (sym (flat_rows-push (length columns) n cells row flat.whole w)) (All-push (λ r. fits columns r ≡ true) (flat_rows (length columns) n cells) row flat.fit h);
+    }
+
+-- below other columns of the same kinds
+pub as_many_kinds : (columns other : List Column) → column_kinds other ≡ column_kinds columns → length other ≡ length columns
+as_many_kinds columns other e = sym (length-map other (λ c. c.kind)) ∙ ap length e ∙ length-map columns (λ c. c.kind)
+
+pub IsFlat-kinds : (columns other : List Column) (n : ℕ) (cells : List Cell) → IsFlat columns n cells → column_kinds other ≡ column_kinds columns → IsFlat other n cells
+IsFlat-kinds columns other n cells flat e =
+    let as_many = as_many_kinds columns other e in
+    record {
+      wide = omega (arith, as_many, flat.wide);
+      whole = flat.whole ∙ ap (λ w. n * w) (sym as_many);
+      fit = subst (λ w. AllFit other (flat_rows w n cells)) (sym as_many)
+          (All-weaker (λ r. fits columns r ≡ true) (λ r. fits other r ≡ true) (λ r h. ap (λ kinds. fits_kinds kinds r) e ∙ h) (flat_rows (length columns) n cells) flat.fit);
+    }
 
 -- a row's place among the cells of a table's rows
 module _ (columns : List Column) (n : ℕ) (cells : List Cell) (rows : List Row) (width : ℕ) (flat : IsFlat columns n cells) (seen : flat_rows (length columns) n cells ≡ rows) (wide : width ≡ length columns) where

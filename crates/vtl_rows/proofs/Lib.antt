@@ -1,3 +1,4 @@
+pub mod AllColumns
 pub mod Firsts
 pub mod Flats
 pub mod Gathers

@@ -16,7 +16,7 @@ row_at rows i = slice_index_or rows i []
 abbrev pub number_at : ℕ × ℕ → ℕ
 number_at pair = pair.1
 
--- the places of a table's rows, in the order of the keys
+-- the places of a table's rows, each once, in the order of the keys; those of rows that tie rise
 pub record IsOrderOf (keys : List SortKey) (rows : List Row) (places : List ℕ) : Type 0 where
   pub all : IsPermutation (range_with_len 0 (length rows)) places
   pub sorted : map (row_at rows) places ≡ ordered keys rows

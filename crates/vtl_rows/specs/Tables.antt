@@ -1,5 +1,5 @@
 -- A table as contracts see it: its columns, and the list of its rows.
-use Rattle.std.specs.Prelude.{ℕ, Bool, true, false, ◌&&◌, List, [], ◌∷◌, map, slice_index_or}
+use Rattle.std.specs.Prelude.{◌≡◌, ℕ, Bool, true, false, ◌&&◌, List, [], ◌∷◌, map, slice_index_or, All}
 use Rattle.vtl_cell.specs.Kinds.{is_of}
 use Rattle.vtl_cell.specs.declared.kind.Kind.{Kind}
 use Rattle.vtl_cell.specs.declared.kind.Kind.TheVariants as k
@@ -23,6 +23,10 @@ column_kinds columns = map (λ c. c.kind) columns
 -- one cell for each column, null or of its kind
 abbrev pub fits : List Column → Row → Bool
 fits columns row = fits_kinds (column_kinds columns) row
+
+-- and so has each row
+abbrev pub AllFit : List Column → List Row → Type 0
+AllFit columns rows = All (λ r. fits columns r ≡ true) rows
 
 -- the cells of a row at listed places
 abbrev pub cells_at : List ℕ → Row → Row

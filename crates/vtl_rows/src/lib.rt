@@ -11,6 +11,7 @@ mod alphabets;
 mod column;
 mod distinct;
 mod guess;
+mod laws;
 mod order;
 mod project;
 mod ranking;
@@ -21,6 +22,7 @@ mod table;
 mod tables;
 
 pub use column::{Column, SortKey};
+pub use laws::{all_columns_end_ties, all_columns_order_rows};
 pub use shared::SharedTable;
 pub use table::Table;
 pub use tables::{Inputs, Outputs, Tables};

@@ -1,5 +1,5 @@
 // Laws of the table of scalar operators.
-ghost use Rattle.std.specs.Prelude.{◌≡◌, ◌≤◌, ℤ, List, map, false, Ok, Some, true, IsOk};
+ghost use Rattle.std.specs.Prelude.{◌≡◌, ◌≤◌, ℤ, List, map, false, IfOk, Ok, Some, true, IsOk};
 ghost use Rattle.std.specs.List.{AllByRecursion, list_any};
 ghost use Rattle.vtl_cell.specs.Kinds.{is_null, kind_of};
 ghost use Rattle.vtl_cell.specs.Profile.{IsOfProfile};
@@ -38,4 +38,11 @@ pub fn values_are_of_their_kind()
 #[tactic(auto, using(crate::proofs::NullLemmas::null_gives_null))]
 pub fn null_gives_null()
     ensures { (p : Settings) (op : ScalarOp) (args : List Cell) → is_strict op ≡ true → list_any is_null args ≡ true → scalar_of p op args ≡ Ok Cell.Null }
+{}
+
+/// A value is of the profile where all operands are: an integer that an operator gives can be written into a field, and
+/// one that cannot is the fault of a number out of range.
+#[tactic(auto, using(crate::proofs::ProfileLemmas::value_is_of_profile))]
+pub fn values_are_of_the_profile()
+    ensures { (p : Settings) (op : ScalarOp) (args : List Cell) → AllByRecursion (IsOfProfile p) args → IfOk (scalar_of p op args) (IsOfProfile p) }
 {}
