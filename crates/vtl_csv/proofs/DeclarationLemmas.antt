@@ -8,12 +8,14 @@ use Rattle.std.proofs.lemmas.Bool.{and_from}
 use Rattle.std.proofs.lemmas.Bool.Decides.{nat_tests}
 use Rattle.std.proofs.lemmas.Str.{IsUtf8-from_is_utf8, is_utf8-from_IsUtf8}
 use Rattle.std.specs.Bool.{OnTrue}
+use Rattle.std.specs.Prelude.{ok_or}
 use Rattle.csv.specs.Machine.{Read, next_record}
 use Rattle.csv.specs.Reading.{default_config, is_bom, records, records_from, records_next, strip_bom}
 use Rattle.csv.specs.Records.{field_at}
 use Rattle.csv.specs.declared.parser.Config.{Config}
 use Rattle.csv.specs.declared.parser.State.{State}
 use Rattle.csv.specs.declared.parser.State.TheVariants as st
+use Rattle.vtl_lists.specs.Results.{◌>>=◌}
 use Rattle.vtl_cell.specs.Apart.{all_apart}
 use Rattle.vtl_cell.specs.Each.{cons_if, each_some, onto}
 use Rattle.vtl_cell.proofs.Eaches.{each_stops, each_takes}
@@ -24,7 +26,7 @@ use Rattle.vtl_tree.specs.declared.structure.Role.{Role}
 use Rattle.vtl_tree.specs.declared.structure.Component.{Component}
 use Rattle.vtl_tree.specs.Structure.{most_components, same_name}
 use Rattle.vtl_tree.specs.Structures.{Fits, Named, are_codes, codes_fit, components_of, is_declarable_component, is_filled, is_null_kind, is_string_identifier}
-use Rattle.vtl_csv.specs.Declarations.{Declaration, code_in, codes_in, codes_of, component_in, dataset_in, declaration_of, declared_by, distinct, has_component, is_bar, is_full, kind_in, onto_first, or_rule, parts, record_of, role_in, text_in, text_that, unless_rule}
+use Rattle.vtl_csv.specs.Declarations.{Declaration, code_in, codes_in, codes_of, component_in, dataset_in, declaration_of, declared_by, distinct, has_component, is_bar, is_full, kind_in, onto_first, parts, record_of, role_in, text_in, text_that}
 
 pub declaration_there : (fs : List (List ℕ)) (v w x y z : List ℕ) → length fs ≡ 5
     → field_at fs 0 ≡ Some v → field_at fs 1 ≡ Some w → field_at fs 2 ≡ Some x → field_at fs 3 ≡ Some y → field_at fs 4 ≡ Some z
@@ -99,11 +101,11 @@ module _ (front : List (List ℕ)) (whole : Option (List (List ℕ))) (xs part :
   code_takes code e = sym (ap (λ l. onto front (each_some code_in l)) first ∙ each_takes code_in part others code front e) ∙ before
 
 -- what a rule that is kept gives
-or_rule-kept : {X Y : Type 0} (n : ℕ) (o : Option X) (f : X → Result Y ℕ) (y : Y) → or_rule n o f ≡ Ok y → (v : X) × (o ≡ Some v) × (f v ≡ Ok y)
+or_rule-kept : {X Y : Type 0} (n : ℕ) (o : Option X) (f : X → Result Y ℕ) (y : Y) → (ok_or o n >>= f) ≡ Ok y → (v : X) × (o ≡ Some v) × (f v ≡ Ok y)
 or_rule-kept n None f y e = cc
 or_rule-kept n (Some v) f y e = (v, refl, e)
 
-unless_rule-kept : {Y : Type 0} (n : ℕ) (b : Bool) (r : Result Y ℕ) (y : Y) → unless_rule n b r ≡ Ok y → (b ≡ false) × (r ≡ Ok y)
+unless_rule-kept : {Y : Type 0} (n : ℕ) (b : Bool) (r : Result Y ℕ) (y : Y) → cond b (Err n) r ≡ Ok y → (b ≡ false) × (r ≡ Ok y)
 unless_rule-kept n true r y e = cc
 unless_rule-kept n false r y e = (refl, e)
 

@@ -2,9 +2,11 @@
 use Rattle.std.proofs.Common.{◌≡◌, ℕ, zero, suc, ◌+◌, ◌<◌, ◌≤◌, ◌⊎◌, inl, inr, List, [], ◌∷◌, ◌++◌, Bool, true, false, cond, ◌&&◌, Option, Some, None, Result, Ok, Err, length, map, take, get_or, arith, refl, sym, ap, ◌∙◌, subst, true≢false}
 use Rattle.std.specs.List.{filter, All, AllByRecursion}
 use Rattle.std.specs.Cmp.Lexicographic.{nat_list_eq_equiv}
-use Rattle.std.specs.Prelude.{encode_utf8_all}
+use Rattle.std.specs.Prelude.{encode_utf8_all, ok_or}
 use Rattle.std.proofs.lemmas.List.{get_or-map}
 use Rattle.std.proofs.lemmas.List.Elements.{All-take}
+use Rattle.std.specs.Option.{is_some}
+use Rattle.vtl_lists.specs.Results.{◌>>=◌}
 use Rattle.vtl_cell.specs.Apart.{all_apart}
 use Rattle.vtl_cell.specs.Each.{cons_if, each_some}
 use Rattle.vtl_cell.proofs.Aparts.{apart_parts}
@@ -20,7 +22,7 @@ use Rattle.vtl_tree.specs.Structure.{IsStructure, columns_of, key_width, names_o
 use Rattle.vtl_sets.specs.TableOf.{column_for, table_columns}
 use Rattle.vtl_sets.proofs.ColumnLemmas.{few_keys, some_columns}
 use Rattle.vtl_csv.proofs.InputPointLemmas.{is_good, ok_same}
-use Rattle.vtl_csv.specs.InputFile.{Layout, at_name, columns_with, laid_out, layout_of, named_by, newly_named, none_before, place_from, place_in, with_places}
+use Rattle.vtl_csv.specs.InputFile.{Layout, columns_with, layout_of, named_by, newly_named, place_from, place_in, places_in}
 use Rattle.vtl_csv.specs.InputSteps.{IsLayout}
 
 -- ---- components of a list
@@ -102,9 +104,9 @@ named_has (y ∷ ys) f x e = go (same_name f (encode_utf8_all y.name)) e (named_
     go true q ih = inl (some_same q)
     go false q ih = inr (ih q)
 
-newly_has : (xs : List Component) (before found : Option Component) (x : Component) → none_before before found ≡ Some x → found ≡ Some x
-newly_has xs None found x e = e
-newly_has xs (Some y) found x e = cc
+newly_has : (is_taken : Bool) (found : Option Component) (x : Component) → cond is_taken None found ≡ Some x → found ≡ Some x
+newly_has true found x e = cc
+newly_has false found x e = e
 
 columns_have : (xs : List Component) (fs : List (List ℕ)) (before columns : List Component) → AllByRecursion (Has xs) before → columns_with xs before fs ≡ Ok columns → AllByRecursion (Has xs) columns
 columns_have xs [] before columns all e = subst (AllByRecursion (Has xs)) (ok_same e) all
@@ -116,9 +118,9 @@ columns_have xs (f ∷ fs) before columns all e = go (newly_named xs before f) r
 
     go : (o : Option Component) → newly_named xs before f ≡ o
         → ((longer : List Component) → AllByRecursion (Has xs) longer → columns_with xs longer fs ≡ Ok columns → AllByRecursion (Has xs) columns)
-        → at_name before (λ longer. columns_with xs longer fs) o ≡ Ok columns → AllByRecursion (Has xs) columns
+        → (ok_or o (length before + 1) >>= λ x. columns_with xs (before ++ x ∷ []) fs) ≡ Ok columns → AllByRecursion (Has xs) columns
     go None t ih q = cc
-    go (Some x) t ih q = ih (before ++ x ∷ []) (one_more before x all (named_has xs f x (newly_has xs (named_by before f) (named_by xs f) x t))) q
+    go (Some x) t ih q = ih (before ++ x ∷ []) (one_more before x all (named_has xs f x (newly_has (is_some (named_by before f)) (named_by xs f) x t))) q
 
 -- ---- the places of the components
 -- a place within a list, where it has a component
@@ -171,13 +173,13 @@ layout_parts : (s : Structure) (fields : List (List ℕ)) (layout : Layout) → 
     → (columns_with s.components [] fields ≡ Ok layout.columns) × (each_some (place_in layout.columns) (columns_of s) ≡ Some layout.places)
 layout_parts s fields layout e = columns_go (columns_with s.components [] fields) e
   where
-    places_go : (columns : List Component) (m : Option (List ℕ)) → with_places columns m ≡ Ok layout → (columns ≡ layout.columns) × (m ≡ Some layout.places)
+    places_go : (columns : List Component) (m : Option (List ℕ)) → (ok_or m (length columns + 1) >>= λ places. Ok (record { columns = columns; places = places })) ≡ Ok layout → (columns ≡ layout.columns) × (m ≡ Some layout.places)
     places_go columns None q = cc
     places_go columns (Some places) q =
         let same : record { columns = columns; places = places } ≡ layout = ok_same q in
         (ap (λ l. l.columns) same, ap (λ l. Some l.places) same)
 
-    columns_go : (r : Result (List Component) ℕ) → laid_out s r ≡ Ok layout → (r ≡ Ok layout.columns) × (each_some (place_in layout.columns) (columns_of s) ≡ Some layout.places)
+    columns_go : (r : Result (List Component) ℕ) → (r >>= λ columns. places_in s columns >>= λ places. Ok (record { columns = columns; places = places })) ≡ Ok layout → (r ≡ Ok layout.columns) × (each_some (place_in layout.columns) (columns_of s) ≡ Some layout.places)
     columns_go (Err column) q = cc
     columns_go (Ok columns) q =
         let h = places_go columns (each_some (place_in columns) (columns_of s)) q in

@@ -1,7 +1,7 @@
 -- The rows that a CSV file gives are points of its columns.
 use Rattle.std.proofs.Common.{◌≡◌, ℕ, zero, suc, ◌+◌, List, [], ◌∷◌, ◌++◌, Bool, true, false, cond, not, ◌&&◌, nat_le, Option, Some, None, Result, Ok, Err, length, map, arith, refl, sym, ap, ◌∙◌, subst, append_assoc}
 use Rattle.std.specs.Prelude.{◌==◌, min}
-use Rattle.std.specs.List.{zip, All, AllByRecursion}
+use Rattle.std.specs.List.{zip, AllByRecursion}
 use Rattle.std.specs.Str.{is_utf8}
 use Rattle.std.proofs.lemmas.Bool.Decides.{nat_tests}
 use Rattle.std.proofs.lemmas.List.{append-nil}
@@ -25,7 +25,6 @@ use Rattle.vtl_sets.proofs.TableLemmas.{point_fits}
 use Rattle.vtl_csv.specs.declared.input.InputKind.{InputKind}
 use Rattle.vtl_csv.specs.declared.input.InputKind.TheVariants as i
 use Rattle.vtl_csv.specs.InputFields.{Flaw, at_column, coded_cell, field_cell, is_coded, most_points, record_row, row_with, text_cell}
-use Rattle.vtl_csv.specs.InputSteps.{on_row, taken, taken_with}
 use Rattle.vtl_csv.specs.StructuresFile.{is_identifier}
 
 abbrev ok_of : {X E : Type 0} → X → Result X E
@@ -35,11 +34,11 @@ pub ok_same : {X E : Type 0} {x y : X} → ok_of {X = X} {E = E} x ≡ ok_of y �
 ok_same e = cc
 
 -- an answer under a test
-ok_if : {X E : Type 0} (b : Bool) (m : Result X E) (e : E) (x : X) → cond b m (Err e) ≡ Ok x → (b ≡ true) × (m ≡ Ok x)
+pub ok_if : {X E : Type 0} (b : Bool) (m : Result X E) (e : E) (x : X) → cond b m (Err e) ≡ Ok x → (b ≡ true) × (m ≡ Ok x)
 ok_if true m e x q = (refl, q)
 ok_if false m e x q = cc
 
-ok_unless : {X E : Type 0} (b : Bool) (m : Result X E) (e : E) (x : X) → cond b (Err e) m ≡ Ok x → (b ≡ false) × (m ≡ Ok x)
+pub ok_unless : {X E : Type 0} (b : Bool) (m : Result X E) (e : E) (x : X) → cond b (Err e) m ≡ Ok x → (b ≡ false) × (m ≡ Ok x)
 ok_unless true m e x q = cc
 ok_unless false m e x q = (refl, q)
 
@@ -114,34 +113,14 @@ record_good p columns count fields row e =
     let g = row_good p (zip columns fields) [] row wide.1 in
     ap (is_point columns) g.1 ∙ ap (λ xs. is_point xs g.0) (sym (first_of_pairs columns fields same)) ∙ g.2
 
--- ---- the rows that are taken
+-- ---- the rows
 abbrev pub ArePoints : List Component → List Row → Type 0
 ArePoints columns rows = AllByRecursion (λ r. is_point columns r ≡ true) rows
 
-pub points_more : (columns : List Component) (rows : List Row) (row : Row) → ArePoints columns rows → is_point columns row ≡ true → ArePoints columns (rows ++ row ∷ [])
-points_more columns [] row all e = (e, tt)
-points_more columns (r ∷ rs) row all e = (all.0, points_more columns rs row all.1 e)
+pub all_more : {X : Type 0} (P : X → Type 0) (xs : List X) (x : X) → AllByRecursion P xs → P x → AllByRecursion P (xs ++ x ∷ [])
+all_more P [] x all h = (h, tt)
+all_more P (y ∷ ys) x all h = (all.0, all_more P ys x all.1 h)
 
-pub taken_points : (p : Settings) (columns : List Component) (rest : List (List (List ℕ))) (before : List Row) → ArePoints columns before → ArePoints columns (taken_with p columns before rest).rows
-taken_points p columns [] before all = all
-taken_points p columns (fields ∷ rest) before all = go (record_row p columns (length before) fields) refl (λ rows. taken_points p columns rest rows)
-  where
-    go : (r : Result Row Flaw) → record_row p columns (length before) fields ≡ r
-        → ((rows : List Row) → ArePoints columns rows → ArePoints columns (taken_with p columns rows rest).rows)
-        → ArePoints columns (on_row before (λ rows. taken_with p columns rows rest) r).rows
-    go (Err flaw) t ih = all
-    go (Ok row) t ih = ih (before ++ row ∷ []) (points_more columns before row all (record_good p columns (length before) fields row t))
-
--- ---- the rows fit a table of the columns
+-- ---- a row fits a table of the columns
 pub record_fits : (p : Settings) (columns : List Component) (count : ℕ) (fields : List (List ℕ)) (row : Row) (below : List Column) → below ≡ map column_for columns → record_row p columns count fields ≡ Ok row → fits below row ≡ true
 record_fits p columns count fields row below e h = ap (λ cs. fits cs row) e ∙ point_fits columns row (record_good p columns count fields row h)
-
-points_fit : (columns : List Component) (rows : List Row) → ArePoints columns rows → All (λ r. fits (map column_for columns) r ≡ true) rows
-points_fit columns [] all k d h = absurd (omega arith)
-points_fit columns (row ∷ rows) all zero d h = point_fits columns row all.0
-points_fit columns (row ∷ rows) all (suc k) d h = points_fit columns rows all.1 k d (omega arith)
-
-pub taken_fit : (p : Settings) (columns : List Component) (rest : List (List (List ℕ))) (rows : List Row) (flaw : Option Flaw) (below : List Column) → below ≡ map column_for columns → taken rows flaw ≡ taken_with p columns [] rest → All (λ r. fits below r ≡ true) rows
-taken_fit p columns rest rows flaw below e h =
-    let are = points_fit columns (taken_with p columns [] rest).rows (taken_points p columns rest [] tt) in
-    subst (λ cs. All (λ r. fits cs r ≡ true) rows) (sym e) (subst (λ l. All (λ r. fits (map column_for columns) r ≡ true) l) (ap (λ t. t.rows) (sym h)) are)

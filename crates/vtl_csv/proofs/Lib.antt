@@ -8,8 +8,10 @@ pub mod InputFieldLemmas
 pub mod InputLayoutLemmas
 pub mod InputPointLemmas
 pub mod KeyOrderLemmas
+pub mod PlainLemmas
 pub mod PointLemmas
 pub mod ReadAgainLemmas
+pub mod ProfileLemmas
 pub mod RecordTextLemmas
 pub mod RecordsLeftLemmas
 pub mod RepeatLemmas

@@ -1,15 +1,17 @@
 -- The text of a data set is read again as its points in order.
-use Rattle.std.proofs.Common.{◌≡◌, ℕ, zero, suc, ◌+◌, ◌<◌, ◌≤◌, ◌∷◌, ◌++◌, [], List, length, length-append, map, flat_map, take, Bool, true, false, cond, ◌&&◌, ◌||◌, not, Some, None, Ok, arith, refl, sym, ap, ◌∙◌, true≢false, append_assoc, encode_utf8_all, subst, zero-add, lit<, ◌==◌}
+use Rattle.std.proofs.Common.{◌≡◌, ℕ, zero, suc, ◌+◌, ◌<◌, ◌≤◌, ◌∷◌, ◌++◌, [], List, length, length-append, map, flat_map, take, Bool, true, false, cond, ◌&&◌, ◌||◌, not, Some, None, Result, Ok, arith, refl, sym, ap, ◌∙◌, true≢false, append_assoc, encode_utf8_all, subst, zero-add, lit<, ◌==◌}
 use Rattle.std.specs.List.{AllByRecursion, filter, list_any, range_with_len, zip}
 use Rattle.std.proofs.lemmas.Bool.{eq-eqb, lt-leb, ne_eqb}
 use Rattle.std.proofs.lemmas.List.{append-nil, length-map, take-map}
 use Rattle.std.proofs.lemmas.Str.{encodes_same}
 use Rattle.std.proofs.lemmas.Slice.Eq.{bytes_eq-Decides}
 use Rattle.std.specs.Cmp.Lexicographic.{nat_list_eq_equiv}
+use Rattle.std.specs.Prelude.{ok_or}
 use Rattle.csv.specs.Reading.{default_config, is_bom, records, records_from, strip_bom}
 use Rattle.csv.specs.Writing.{default_writer, escaped, field_text, fields_text, is_blank, needs_quotes, quoted, read_back, row_body, row_text}
 use Rattle.csv.specs.declared.parser.State.TheVariants as st
 use Rattle.csv.proofs.RoundTrip.{read-write}
+use Rattle.vtl_lists.specs.Results.{◌>>=◌}
 use Rattle.vtl_cell.specs.Settings.{Settings}
 use Rattle.vtl_cell.specs.Apart.{all_apart}
 use Rattle.vtl_cell.specs.Each.{each_some}
@@ -31,7 +33,7 @@ use Rattle.vtl_tree.specs.declared.structure.Structure.{Structure}
 use Rattle.vtl_tree.specs.declared.structure.Component.{Component}
 use Rattle.vtl_csv.specs.InputFields.{most_points, record_row, row_with}
 use Rattle.vtl_csv.specs.CsvText.{csv_of, header_of}
-use Rattle.vtl_csv.specs.InputFile.{columns_with, dataset_rows, in_column_order, is_repeat, laid_out, layout_of, named_by, place_from, place_in, rows_below, rows_in_records, rows_with, with_places}
+use Rattle.vtl_csv.specs.InputFile.{Layout, columns_with, dataset_rows, is_repeat, layout_of, named_by, of_header, place_from, place_in, places_in, rows_below, rows_in_records, rows_with}
 use Rattle.vtl_csv.specs.StructuresFile.{records_in}
 use Rattle.vtl_csv.specs.ReadAgain.{IsReadable, IsUnmarked}
 use Rattle.vtl_csv.proofs.FieldAgainLemmas.{AreReadAgain, points_again}
@@ -122,17 +124,17 @@ module _ (p : Settings) (columns : List Component) (k : ℕ) where
       ∙ ap Ok on)
 
 -- ---- the header
-abbrev name_text : Component → List ℕ
+abbrev pub name_text : Component → List ℕ
 name_text x = encode_utf8_all x.name
 
-abbrev same_names : Component → Component → Bool
+abbrev pub same_names : Component → Component → Bool
 same_names x y = same_name x.name y.name
 
-names_turn : (x y : Component) → same_names x y ≡ same_names y x
+pub names_turn : (x y : Component) → same_names x y ≡ same_names y x
 names_turn x y = nat_list_eq_equiv.symm x.name y.name
 
 -- names are told apart by their texts
-texts_differ : (x y : Component) → same_names x y ≡ false → same_name (name_text x) (name_text y) ≡ false
+pub texts_differ : (x y : Component) → same_names x y ≡ false → same_name (name_text x) (name_text y) ≡ false
 texts_differ x y differ = go (same_name (name_text x) (name_text y)) refl
   where
     go : (b : Bool) → same_name (name_text x) (name_text y) ≡ b → b ≡ false
@@ -191,7 +193,7 @@ role_takes x ids mes ats xs role.Identifier h = keep x h
 role_takes x ids mes ats xs role.Measure h = chain (Perm-append_back ats (Perm-middle ids x mes)) (keep x h)
 role_takes x ids mes ats xs role.Attribute h = chain (Perm-middle (ids ++ mes) x ats) (keep x h)
 
-by_role : (xs : List Component) → Perm (filter (λ x. same_role x.role role.Identifier) xs ++ filter (λ x. same_role x.role role.Measure) xs ++ filter (λ x. same_role x.role role.Attribute) xs) xs
+pub by_role : (xs : List Component) → Perm (filter (λ x. same_role x.role role.Identifier) xs ++ filter (λ x. same_role x.role role.Measure) xs ++ filter (λ x. same_role x.role role.Attribute) xs) xs
 by_role [] = empty
 by_role (x ∷ xs) =
     role_takes x (filter (λ y. same_role y.role role.Identifier) xs) (filter (λ y. same_role y.role role.Measure) xs) (filter (λ y. same_role y.role role.Attribute) xs) xs x.role (by_role xs)
@@ -208,7 +210,7 @@ module _ (s : Structure) (ok : IsStructure s) where
   components_apart : all_apart same_names s.components ≡ true
   components_apart = sym (names_apart s.components) ∙ ok.distinct
 
-  columns_apart : all_apart same_names (columns_of s) ≡ true
+  pub columns_apart : all_apart same_names (columns_of s) ≡ true
   columns_apart = all_apart-Perm same_names names_turn (by_role s.components) ∙ components_apart
 
   some_column : 1 ≤ length (columns_of s)
@@ -220,8 +222,14 @@ module _ (s : Structure) (ok : IsStructure s) where
   -- a header of the names of the columns lays them out in order
   layout_again : layout_of s (header_of (columns_of s)) ≡ Ok (record { columns = columns_of s; places = range_with_len 0 (length (columns_of s)) })
   layout_again =
-      ap (laid_out s) (columns_again s.components [] (columns_of s) named_columns columns_apart)
-      ∙ ap (with_places (columns_of s)) (places_again (columns_of s) [] (columns_of s) refl columns_apart)
+      ap (λ r. r >>= placed) (columns_again s.components [] (columns_of s) named_columns columns_apart)
+      ∙ ap (λ o. ok_or o (length (columns_of s) + 1) >>= laid (columns_of s)) (places_again (columns_of s) [] (columns_of s) refl columns_apart)
+    where
+      laid : List Component → List ℕ → Result Layout ℕ
+      laid columns places = Ok (record { columns = columns; places = places })
+
+      placed : List Component → Result Layout ℕ
+      placed columns = places_in s columns >>= laid columns
 
 -- ---- a text with no mark
 nonempty_back : (fields : List (List ℕ)) → 1 ≤ length fields → read_back fields ≡ fields
@@ -345,6 +353,6 @@ module _ (p : Settings) (s : Structure) (points : List Row) (is : IsDataSet s po
   pub read_again : dataset_rows p s (csv_of p s points) ≡ Ok rows
   read_again =
       ap (rows_in_records p s) (records_again written unmarked written_back)
-      ∙ ap (rows_below p s (map (map (text_of p)) rows)) (layout_again s is.well_formed)
-      ∙ ap (in_column_order (range_with_len 0 (length (columns_of s)))) (rows_again p (columns_of s) (key_width s) [] rows rows_read rows_apart rows_few)
+      ∙ ap (λ r. of_header r >>= λ layout. rows_below p s layout (map (map (text_of p)) rows)) (layout_again s is.well_formed)
+      ∙ ap (λ r. r >>= λ read. Ok (map (cells_at (range_with_len 0 (length (columns_of s)))) read)) (rows_again p (columns_of s) (key_width s) [] rows rows_read rows_apart rows_few)
       ∙ ap Ok whole_again

@@ -2,6 +2,7 @@
 use Rattle.std.proofs.Common.{◌≡◌, ℕ, zero, suc, ◌+◌, ◌<◌, ◌≤◌, inl, inr, List, [], ◌∷◌, ◌++◌, Bool, true, false, cond, not, ◌&&◌, ◌||◌, Option, Some, None, Result, Ok, Err, length, length-append, take, drop, arith, refl, sym, ap, ◌∙◌, subst, append_assoc, true≢false}
 use Rattle.std.proofs.lemmas.Bool.{cases_order}
 use Rattle.std.proofs.lemmas.List.{append-nil, take-append-drop, take-append-le, take_all}
+use Rattle.vtl_lists.specs.Results.{◌>>=◌}
 use Rattle.vtl_cell.specs.Settings.{Settings}
 use Rattle.vtl_cell.specs.Apart.{all_apart}
 use Rattle.vtl_cell.specs.Row.{Row}
@@ -10,8 +11,9 @@ use Rattle.vtl_rows.proofs.Firsts.{apart_front, apart_push}
 use Rattle.vtl_tree.specs.declared.structure.Component.{Component}
 use Rattle.vtl_csv.specs.declared.input.InputKind.TheVariants as i
 use Rattle.vtl_csv.specs.InputFields.{Flaw, record_row}
-use Rattle.vtl_csv.specs.InputFile.{Fault, at_line, is_repeat, joined, rows_with}
+use Rattle.vtl_csv.specs.InputFile.{Fault, is_repeat, rows_with, unless_repeated}
 use Rattle.vtl_csv.specs.InputSteps.{Taken, fault_among, on_row, rows_outcome, taken, taken_with}
+use Rattle.vtl_csv.specs.StructuresFile.{◌at_line◌}
 
 -- the item that is put behind repeats none, or one
 not_and : (a b : Bool) → (a && not b) ≡ true → b ≡ false
@@ -73,13 +75,13 @@ module _ (p : Settings) (columns : List Component) where
         go : (r : Result Row Flaw)
             → ((rows : List Row) → apart keys (taken_with p columns rows rest).rows ≡ true → IsOutcome (taken_with p columns rows rest) (rows_with p columns keys rows rest))
             → apart keys (on_row before (λ rows. taken_with p columns rows rest) r).rows ≡ true
-            → IsOutcome (on_row before (λ rows. taken_with p columns rows rest) r) (at_line (length before + 2) (λ rows. rows_with p columns keys rows rest) (joined keys before r))
+            → IsOutcome (on_row before (λ rows. taken_with p columns rows rest) r) ((r >>= unless_repeated keys before) at_line (length before + 2) >>= λ rows. rows_with p columns keys rows rest)
         go (Err flaw) ih e = refl
         go (Ok row) ih e =
             let longer = before ++ row ∷ [] in
             let g = grows rest longer in
             let new = new_row keys before row (apart_front (agree keys) longer g.0 (ap (apart keys) (sym g.1) ∙ e)) in
-            ap (λ b. at_line (length before + 2) (λ rows. rows_with p columns keys rows rest) (cond b (Err (1, i.DuplicateKey)) (Ok longer))) new ∙ ih longer e
+            ap (λ b. cond b (Err (1, i.DuplicateKey)) (Ok longer) at_line (length before + 2) >>= λ rows. rows_with p columns keys rows rest) new ∙ ih longer e
 
     -- the first row that repeats one before it stands at a place behind the rows before
     module _ (place : ℕ) where
@@ -88,7 +90,7 @@ module _ (p : Settings) (columns : List Component) where
 
       -- the row at the place
       at_row : (before : List Row) (row : Row) (k : List Row → Result (List Row) Fault) (rows more : List Row) → rows ≡ (before ++ row ∷ []) ++ more → length before ≡ place → IsFirstSame (agree keys) rows place
-          → Ends (at_line (length before + 2) k (joined keys before (Ok row)))
+          → Ends (unless_repeated keys before row at_line (length before + 2) >>= k)
       at_row before row k rows more e n r =
           let longer = before ++ row ∷ [] in
           let one : length longer ≡ suc (length before) = let l = length-append before (row ∷ []) in omega (arith, l) in
@@ -96,7 +98,7 @@ module _ (p : Settings) (columns : List Component) where
           let split : rows ≡ before ++ row ∷ more = e ∙ append_assoc before (row ∷ []) more in
           let front : take place rows ≡ before = ap (take place) split ∙ front_whole before (row ∷ more) place (sym n) in
           let again = repeated_row keys before row (ap (apart keys) (sym front) ∙ r.before) (ap (apart keys) (sym whole) ∙ r.there) in
-          ap (λ b. at_line (length before + 2) k (cond b (Err (1, i.DuplicateKey)) (Ok longer))) again ∙ ap (λ m. Err (m + 2, (1, i.DuplicateKey))) n
+          ap (λ b. cond b (Err (1, i.DuplicateKey)) (Ok longer) at_line (length before + 2) >>= k) again ∙ ap (λ m. Err (m + 2, (1, i.DuplicateKey))) n
 
       -- a row before the place
       before_row : (before : List Row) (row : Row) (rows more : List Row) → rows ≡ (before ++ row ∷ []) ++ more → length before < place → IsFirstSame (agree keys) rows place → is_repeat keys before row ≡ false
@@ -112,7 +114,7 @@ module _ (p : Settings) (columns : List Component) where
           go : (o : Result Row Flaw)
               → ((rows : List Row) → length rows ≤ place → IsFirstSame (agree keys) (taken_with p columns rows rest).rows place → Ends (rows_with p columns keys rows rest))
               → IsFirstSame (agree keys) (on_row before (λ rows. taken_with p columns rows rest) o).rows place
-              → Ends (at_line (length before + 2) (λ rows. rows_with p columns keys rows rest) (joined keys before o))
+              → Ends ((o >>= unless_repeated keys before) at_line (length before + 2) >>= λ rows. rows_with p columns keys rows rest)
           go (Err flaw) ih r = absurd (omega (arith, n, r.within))
           go (Ok row) ih r =
               let longer = before ++ row ∷ [] in
@@ -124,7 +126,7 @@ module _ (p : Settings) (columns : List Component) where
                 | inl same ↦ at_row before row next rows g.0 g.1 same r
                 | inr away ↦ elim away [
                   | inl less ↦
-                      ap (λ b. at_line (length before + 2) next (cond b (Err (1, i.DuplicateKey)) (Ok longer))) (before_row before row rows g.0 g.1 less r)
+                      ap (λ b. cond b (Err (1, i.DuplicateKey)) (Ok longer) at_line (length before + 2) >>= next) (before_row before row rows g.0 g.1 less r)
                       ∙ ih longer (omega (arith, one, less)) r
                   | inr more ↦ absurd (omega (arith, n, more))
                 ]

@@ -15,7 +15,6 @@ use Rattle.vtl_cell.proofs.Aparts.{apart_parts}
 use Rattle.vtl_cell.proofs.Perms.{AllByRecursion-Perm, Perm-sym}
 use Rattle.vtl_cell.proofs.Sorts.{Perm-sorted_by}
 use Rattle.vtl_cell.specs.declared.cell.Cell.TheVariants as c
-use Rattle.vtl_cell.specs.Order.{cell_cmp}
 use Rattle.vtl_cell.specs.Row.{Row, column_of, row_cmp, same_key, same_row}
 use Rattle.vtl_cell.specs.Sorted.{by_keys, rising}
 use Rattle.vtl_cell.proofs.Rows.{row_order, same_key-sym}
@@ -23,6 +22,7 @@ use Rattle.vtl_rows.specs.declared.column.Column.{Column}
 use Rattle.vtl_rows.specs.declared.column.SortKey.{SortKey}
 use Rattle.vtl_rows.specs.Keys.{agree, key_of, ordered}
 use Rattle.vtl_rows.specs.Tables.{Listed, cells_at}
+use Rattle.vtl_rows.proofs.AllColumns.{first_keys}
 use Rattle.vtl_rows.proofs.Ties.{ties_agree}
 use Rattle.vtl_csv.specs.TableText.{all_places, in_listed_order, rows_text, table_text, whole_rows}
 
@@ -79,28 +79,10 @@ table_text_is p listed t keys e wide =
     ∙ ap (λ rows. rows_text p t.columns (in_listed_order listed t.columns rows)) (sym (whole_is t.columns t.rows wide))
 
 -- ---- the first columns, and then the others
-then_assoc : (p q r : Ordering) → ordering_then p (ordering_then q r) ≡ ordering_then (ordering_then p q) r
-then_assoc Less q r = refl
-then_assoc Equal q r = refl
-then_assoc Greater q r = refl
-
 decided : (p q : Ordering) → is_eq p ≡ false → is_lt (ordering_then p q) ≡ is_lt p
 decided Less q e = refl
 decided Equal q e = absurd (true≢false e)
 decided Greater q e = refl
-
-first_keys : (a n : ℕ) (r s : Row) → a + n ≤ length r → a + n ≤ length s
-    → row_cmp (drop a r) (drop a s) ≡ ordering_then (by_keys (map rising (range_with_len a n)) r s) (row_cmp (drop (a + n) r) (drop (a + n) s))
-first_keys a zero r s h k = let z : a ≡ a + 0 = omega arith in ap (λ i. row_cmp (drop i r) (drop i s)) z
-first_keys a (suc n) r s h k =
-    let hr : a < length r = omega arith in
-    let hs : a < length s = omega arith in
-    let on : a + 1 + n ≡ a + suc n = omega arith in
-    let up : suc a ≡ a + 1 = omega arith in
-    ap (λ x. row_cmp x (drop a s)) (drop-cons r a c.Null hr) ∙ ap (λ y. row_cmp (column_of a r ∷ drop (suc a) r) y) (drop-cons s a c.Null hs)
-    ∙ ap (λ i. ordering_then (cell_cmp (column_of a r) (column_of a s)) (row_cmp (drop i r) (drop i s))) up
-    ∙ ap (ordering_then (cell_cmp (column_of a r) (column_of a s))) (first_keys (a + 1) n r s (omega (arith, h)) (omega (arith, k)) ∙ ap (λ i. ordering_then (by_keys (map rising (range_with_len (a + 1) n)) r s) (row_cmp (drop i r) (drop i s))) on)
-    ∙ then_assoc (cell_cmp (column_of a r) (column_of a s)) (by_keys (map rising (range_with_len (a + 1) n)) r s) (row_cmp (drop (a + suc n) r) (drop (a + suc n) s))
 
 front_from : (a n : ℕ) (r : Row) → a + n ≤ length r → cells_at (range_with_len a n) r ≡ take n (drop a r)
 front_from a zero r h = refl

@@ -1,8 +1,10 @@
 -- What a record of a structures file says, and the rules that it keeps.
-use Rattle.std.specs.Prelude.{ℕ, Bool, true, false, not, ◌&&◌, ◌==◌, List, [], ◌∷◌, length, nat_le, Option, Some, None, Result, Ok, Err, option_map, chars, codes, if◌then◌else◌}
+use Rattle.std.specs.Prelude.{ℕ, Bool, ◌&&◌, ◌==◌, List, [], ◌∷◌, length, nat_le, Option, Some, None, ok_or, Result, Ok, Err, option_map, chars, codes, if◌then◌else◌}
 use Rattle.std.specs.List.{list_any}
 use Rattle.std.specs.Option.{option_and_then}
 use Rattle.std.specs.Str.{is_utf8}
+use Rattle.vtl_lists.specs.Aliases.{Field, Name, Record, Text}
+use Rattle.vtl_lists.specs.Results.{◌>>=◌}
 use Rattle.vtl_cell.specs.Apart.{all_apart}
 use Rattle.vtl_cell.specs.Each.{each_some}
 use Rattle.vtl_text.specs.Words.{is_component_name, is_name}
@@ -16,13 +18,13 @@ use Rattle.vtl_tree.specs.Structures.{Named, components_of, is_filled, is_string
 
 -- the fields of a record that has five
 pub record Declaration : Type 0 where
-  pub dataset : List ℕ
-  pub component : List ℕ
-  pub role : List ℕ
-  pub kind : List ℕ
-  pub code_list : List ℕ
+  pub dataset : Field
+  pub component : Field
+  pub role : Field
+  pub kind : Field
+  pub code_list : Field
 
-abbrev pub declaration_of : List (List ℕ) → Option Declaration
+abbrev pub declaration_of : Record → Option Declaration
 declaration_of (a ∷ b ∷ c ∷ d ∷ e ∷ []) = Some (record { dataset = a; component = b; role = c; kind = d; code_list = e })
 declaration_of _ = None
 
@@ -32,29 +34,29 @@ is_heading d =
     && same_name d.kind (codes "type") && same_name d.code_list (codes "codes")
 
 -- the characters of a field that is a text
-abbrev pub text_in : List ℕ → Option (List ℕ)
+abbrev pub text_in : Field → Option Text
 text_in f = if is_utf8 f then Some (chars f) else None
 
-abbrev pub text_that : (List ℕ → Bool) → List ℕ → Option (List ℕ)
+abbrev pub text_that : (Text → Bool) → Field → Option Text
 text_that test f = option_and_then (λ t. if test t then Some t else None) (text_in f)
 
 -- the name of a data set, of a component, and a code
-abbrev pub dataset_in : List ℕ → Option (List ℕ)
+abbrev pub dataset_in : Field → Option Name
 dataset_in = text_that is_name
 
-abbrev pub component_in : List ℕ → Option (List ℕ)
+abbrev pub component_in : Field → Option Name
 component_in = text_that is_component_name
 
-abbrev pub code_in : List ℕ → Option (List ℕ)
+abbrev pub code_in : Field → Option Text
 code_in = text_that is_filled
 
-abbrev pub role_in : List ℕ → Option Role
+abbrev pub role_in : Field → Option Role
 role_in f =
     if same_name f (codes "identifier") then Some r.Identifier
     else (if same_name f (codes "measure") then Some r.Measure
     else (if same_name f (codes "attribute") then Some r.Attribute else None))
 
-abbrev pub kind_in : List ℕ → Option Kind
+abbrev pub kind_in : Field → Option Kind
 kind_in f =
     if same_name f (codes "integer") then Some k.Int
     else (if same_name f (codes "number") then Some k.Num
@@ -63,60 +65,51 @@ kind_in f =
     else (if same_name f (codes "date") then Some k.Day
     else (if same_name f (codes "time_period") then Some k.Period else None)))))
 
-abbrev pub onto_first : ℕ → List (List ℕ) → List (List ℕ)
+abbrev pub onto_first : ℕ → List Field → List Field
 onto_first b [] = (b ∷ []) ∷ []
 onto_first b (p ∷ ps) = (b ∷ p) ∷ ps
 
 abbrev pub is_bar : ℕ → Bool
 is_bar b = b == 124
 
--- the parts of a list between its `|`
-abbrev pub parts : List ℕ → List (List ℕ)
+-- the parts of a field between its `|`
+abbrev pub parts : Field → List Field
 parts [] = [] ∷ []
 parts (b ∷ bs) = if is_bar b then [] ∷ parts bs else onto_first b (parts bs)
 
 -- texts, no two of which are the same
-abbrev pub distinct : List (List ℕ) → Option (List (List ℕ))
+abbrev pub distinct : List Text → Option (List Text)
 distinct texts = if all_apart same_name texts then Some texts else None
 
 -- the codes of a list, none of them empty or repeated
-abbrev pub codes_in : List ℕ → Option (List (List ℕ))
+abbrev pub codes_in : Field → Option (List Text)
 codes_in list = option_and_then distinct (each_some code_in (parts list))
 
 -- the codes of a component with this role and kind: an empty field is no list, and a list stands on a string identifier alone
-abbrev pub codes_of : Role → Kind → List ℕ → Option (Option (List (List ℕ)))
+abbrev pub codes_of : Role → Kind → Field → Option (Option (List Text))
 codes_of role kind [] = Some None
 codes_of role kind (b ∷ bs) = if is_string_identifier role kind then option_map Some (codes_in (b ∷ bs)) else None
 
 -- the data set has a component of this name already
-abbrev pub has_component : Named → List ℕ → List ℕ → Bool
+abbrev pub has_component : Named → Name → Name → Bool
 has_component so_far dataset name = list_any (same_name name) (names_of (components_of dataset so_far))
 
 -- the data set has as many components as it may have
-abbrev pub is_full : Named → List ℕ → Bool
+abbrev pub is_full : Named → Name → Bool
 is_full so_far dataset = nat_le most_components (length (components_of dataset so_far))
-
--- a rule that is broken where there is no value, or where something holds
-abbrev pub or_rule : {X Y : Type 0} → ℕ → Option X → (X → Result Y ℕ) → Result Y ℕ
-or_rule n None go_on = Err n
-or_rule n (Some x) go_on = go_on x
-
-abbrev pub unless_rule : {Y : Type 0} → ℕ → Bool → Result Y ℕ → Result Y ℕ
-unless_rule n true go_on = Err n
-unless_rule n false go_on = go_on
 
 -- the component that a record declares and its data set, or the first rule that the record breaks; `so_far` is what the
 -- records before it declare
-abbrev pub declared_by : Named → Declaration → Result (List ℕ × Component) ℕ
+abbrev pub declared_by : Named → Declaration → Result (Name × Component) ℕ
 declared_by so_far d =
-    or_rule 3 (dataset_in d.dataset) (λ dataset.
-    or_rule 4 (component_in d.component) (λ name.
-    or_rule 5 (role_in d.role) (λ role.
-    or_rule 6 (kind_in d.kind) (λ kind.
-    unless_rule 7 (has_component so_far dataset name) (
-    or_rule 8 (codes_of role kind d.code_list) (λ texts.
-    unless_rule 9 (is_full so_far dataset)
-    (Ok (dataset, record { name = name; role = role; kind = kind; codes = texts }))))))))
+    ok_or (dataset_in d.dataset) 3 >>= λ dataset.
+    ok_or (component_in d.component) 4 >>= λ name.
+    ok_or (role_in d.role) 5 >>= λ role.
+    ok_or (kind_in d.kind) 6 >>= λ kind.
+    if has_component so_far dataset name then Err 7
+    else (ok_or (codes_of role kind d.code_list) 8 >>= λ texts.
+    if is_full so_far dataset then Err 9
+    else Ok (dataset, record { name = name; role = role; kind = kind; codes = texts }))
 
-abbrev pub record_of : Named → List (List ℕ) → Result (List ℕ × Component) ℕ
-record_of so_far fields = or_rule 2 (declaration_of fields) (declared_by so_far)
+abbrev pub record_of : Named → Record → Result (Name × Component) ℕ
+record_of so_far fields = ok_or (declaration_of fields) 2 >>= declared_by so_far

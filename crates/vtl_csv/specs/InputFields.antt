@@ -3,6 +3,7 @@ use Rattle.std.specs.Prelude.{ℕ, ◌+◌, Bool, true, ◌==◌, List, [], ◌�
 use Rattle.std.specs.List.{list_any, zip}
 use Rattle.std.specs.Option.{option_map_or}
 use Rattle.std.specs.Str.{is_utf8}
+use Rattle.vtl_lists.specs.Aliases.{Field, Record}
 use Rattle.vtl_cell.specs.Settings.{Settings}
 use Rattle.vtl_cell.specs.declared.cell.Cell.{Cell}
 use Rattle.vtl_cell.specs.declared.cell.Cell.TheVariants as c
@@ -24,11 +25,11 @@ coded_cell x None = Err i.BadValue
 coded_cell x (Some v) = if is_coded x v then Ok v else Err i.NotInCodes
 
 -- the cell of a field that is a text: null where it is empty, which no identifier is
-abbrev pub text_cell : Settings → Component → List ℕ → Result Cell InputKind
+abbrev pub text_cell : Settings → Component → Field → Result Cell InputKind
 text_cell p x [] = if is_identifier x then Err i.NullIdentifier else Ok c.Null
 text_cell p x (b ∷ bs) = coded_cell x (reads p x.kind (b ∷ bs))
 
-abbrev pub field_cell : Settings → Component → List ℕ → Result Cell InputKind
+abbrev pub field_cell : Settings → Component → Field → Result Cell InputKind
 field_cell p x f = if is_utf8 f then text_cell p x f else Err i.NotText
 
 -- a place in a line, from 1 on, and what is wrong there
@@ -41,7 +42,7 @@ at_column row go_on (Err kind) = Err (length row + 1, kind)
 at_column row go_on (Ok v) = go_on (row ++ v ∷ [])
 
 -- the row of cells and then of these fields, each in its column, or the first flaw of them
-abbrev pub row_with : Settings → Row → List (Component × List ℕ) → Result Row Flaw
+abbrev pub row_with : Settings → Row → List (Component × Field) → Result Row Flaw
 row_with p row [] = Ok row
 row_with p row (x ∷ xs) = at_column row (λ longer. row_with p longer xs) (field_cell p x.0 x.1)
 
@@ -50,7 +51,7 @@ abbrev pub most_points : ℕ
 most_points = 1000000
 
 -- the row of a record in these columns, behind a number of rows
-abbrev pub record_row : Settings → List Component → ℕ → List (List ℕ) → Result Row Flaw
+abbrev pub record_row : Settings → List Component → ℕ → Record → Result Row Flaw
 record_row p columns count fields =
     if nat_le most_points count then Err (1, i.TooManyRows)
     else if length fields == length columns then row_with p [] (zip columns fields)

@@ -1,6 +1,7 @@
 -- The steps by which a CSV file of a data set is read: what each leaves, and how its answer is seen.
 use Rattle.std.specs.Prelude.{ℕ, suc, ◌+◌, ◌<◌, ◌≡◌, true, false, List, [], ◌∷◌, ◌++◌, length, take, Option, Some, None, Result, Ok, Err}
 use Rattle.std.specs.Global.{Vec}
+use Rattle.vtl_lists.specs.Aliases.{Record}
 use Rattle.vtl_cell.specs.Settings.{Settings}
 use Rattle.vtl_cell.specs.declared.cell.Cell.{Cell}
 use Rattle.vtl_cell.specs.Row.{Row}
@@ -40,7 +41,7 @@ layout_answer (Err column) = Err column
 
 -- some header has this layout
 abbrev pub IsLayout : Structure → Layout → Type 0
-IsLayout s layout = (fields : List (List ℕ)) × (layout_of s fields ≡ Ok layout)
+IsLayout s layout = (fields : Record) × (layout_of s fields ≡ Ok layout)
 
 -- rows up to a flaw, if there is one
 pub record Taken : Type 0 where
@@ -56,7 +57,7 @@ on_row before go_on (Err flaw) = taken before (Some flaw)
 on_row before go_on (Ok row) = go_on (before ++ row ∷ [])
 
 -- the rows before and then those of these records up to the first flaw, whatever identifiers repeat
-abbrev pub taken_with : Settings → List Component → List Row → List (List (List ℕ)) → Taken
+abbrev pub taken_with : Settings → List Component → List Row → List Record → Taken
 taken_with p columns before [] = taken before None
 taken_with p columns before (fields ∷ rest) = on_row before (λ rows. taken_with p columns rows rest) (record_row p columns (length before) fields)
 

@@ -5,6 +5,7 @@ pub mod FaultFields
 pub mod InputFields
 pub mod InputFile
 pub mod InputSteps
+pub mod Plain
 pub mod ReadAgain
 pub mod RecordsLeft
 pub mod RowsWritten

@@ -2,6 +2,7 @@
 use Rattle.std.specs.Prelude.{ℕ, List, ◌∷◌, ◌++◌, map, flat_map, length, encode_utf8_all}
 use Rattle.std.specs.List.{range_with_len}
 use Rattle.csv.specs.Writing.{default_writer, row_text}
+use Rattle.vtl_lists.specs.Aliases.{Bytes, Record}
 use Rattle.vtl_cell.specs.Settings.{Settings}
 use Rattle.vtl_cell.specs.Sorting.{le_by, sorted_by}
 use Rattle.vtl_cell.specs.Row.{Row}
@@ -11,11 +12,11 @@ use Rattle.vtl_rows.specs.declared.column.Column.{Column}
 use Rattle.vtl_rows.specs.Tables.{Listed, cells_at}
 
 -- the fields of the header
-abbrev pub names_written : List Column → List (List ℕ)
+abbrev pub names_written : List Column → Record
 names_written columns = map (λ c. encode_utf8_all c.name) columns
 
 -- a header, and then a record for each row, as they stand
-abbrev pub rows_text : Settings → List Column → List Row → List ℕ
+abbrev pub rows_text : Settings → List Column → List Row → Bytes
 rows_text p columns rows = flat_map (row_text default_writer) (names_written columns ∷ map (map (text_of p)) rows)
 
 -- the places of all columns
@@ -31,5 +32,5 @@ abbrev pub in_listed_order : List ℕ → List Column → List Row → List Row
 in_listed_order listed columns rows = sorted_by (le_by (by_keys (map rising (listed ++ all_places columns)))) rows
 
 -- the text of a table, its rows by the listed columns and then by all
-abbrev pub table_text : Settings → List ℕ → Listed → List ℕ
+abbrev pub table_text : Settings → List ℕ → Listed → Bytes
 table_text p listed t = rows_text p t.columns (in_listed_order listed t.columns (whole_rows t.columns t.rows))

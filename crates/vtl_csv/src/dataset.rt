@@ -1,8 +1,9 @@
 // The data set that a CSV file holds.
-ghost use Rattle.std.specs.Prelude.{◌≡◌, ◌<◌, ◌≤◌, [], true, length, map, take, option_map, All, IfOk, IfSome, OnOk, Ok};
+ghost use Rattle.std.specs.Prelude.{◌≡◌, ◌<◌, ◌≤◌, [], length, map, take, option_map, All, IfOk, IfSome, Ok};
 ghost use Rattle.std.specs.List.{range_with_len};
 ghost use Rattle.std.specs.Bool.{OnTrue};
-ghost use Rattle.vtl_rows.specs.Tables.{cells_at, column_at, fits};
+ghost use Rattle.vtl_rows.specs.Tables.{cells_at, column_at};
+ghost use Rattle.vtl_tree.specs.DataSet.{AreOfProfile};
 ghost use Rattle.vtl_tree.specs.Structure.{IsStructure, key_width};
 ghost use Rattle.vtl_sets.specs.TableOf.{IsTableOf, column_for};
 ghost use Rattle.vtl_csv.specs.InputFile.{Reads, dataset_rows, rows_below, rows_with};
@@ -98,7 +99,6 @@ fn read_rows(
     requires keys { All (λ i. i < length table.old.columns) keys.now }
     ensures columns { table.new.columns ≡ table.old.columns }
     ensures rows { IfOk result (λ o. rows_outcome table.new.rows (option_map fault_of o) ≡ rows_with profile.now columns.now keys.now [] reader.old) }
-    ensures fit { OnOk result (All (λ r. fits table.new.columns r ≡ true) table.new.rows) }
 {
     let flaw = add_rows(alloc, table, columns, reader, fields, profile)?;
     let repeat = table.first_repeat(alloc, keys)?;
@@ -124,7 +124,6 @@ fn are_in_order(places: &[usize], count: usize) -> bool
 fn arranged(alloc: Global, table: Table, places: &[usize]) -> Result<Table, AllocError>
     requires some { 0 < length places.now }
     requires within { All (λ i. i < length table.columns) places.now }
-    requires fit { All (λ r. fits table.columns r ≡ true) table.rows }
     ensures columns { IfOk result (λ t. t.columns ≡ map (column_at table.columns) places.now) }
     ensures rows { IfOk result (λ t. t.rows ≡ map (cells_at places.now) table.rows) }
 {
@@ -168,7 +167,7 @@ fn read_table(
 ) -> Result<Result<Table, Fault>, AllocError>
     requires structure { IsStructure structure.now }
     requires layout { IsLayout structure.now (layout_seen layout.now) }
-    ensures { IfOk result (λ r. Answers structure.now r (rows_below profile.now structure.now reader.old (Ok (layout_seen layout.now)))) }
+    ensures { IfOk result (λ r. Answers structure.now r (rows_below profile.now structure.now (layout_seen layout.now) reader.old)) }
 {
     let mut table = table_of(alloc, &layout.columns)?;
     let keys = key_places(alloc, structure, &layout.places)?;
@@ -209,8 +208,8 @@ fn read_text(
 
 /// The data set of the structure that a CSV file holds: a table of its points in the order of the file, with the
 /// components as columns, identifiers first, then measures, then attributes. Otherwise the first fault by line, and
-/// within a line in the order: too many rows, a wrong width, the fields by column, a repeat of identifiers. It
-/// otherwise fails only if memory runs out.
+/// within a line in the order: too many rows, a wrong width, the fields by column, a repeat of identifiers. Integers
+/// are of the profile. It otherwise fails only if memory runs out.
 pub fn read_dataset(
     alloc: Global,
     text: &[u8],
@@ -220,6 +219,7 @@ pub fn read_dataset(
     requires { IsStructure structure.now }
     ensures rows { Reads structure.now result (dataset_rows profile.now structure.now text.now) }
     ensures points { IfOk result (λ t. IsTableOf structure.now t) }
+    ensures profile { IfOk result (λ t. AreOfProfile profile.now t.rows) }
 {
     match read_text(alloc, text, structure, profile) {
         Ok(Ok(table)) => Ok(table),

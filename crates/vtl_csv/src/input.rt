@@ -43,6 +43,11 @@ pub enum InputErr {
 }
 
 impl From<AllocError> for InputErr {
+    ghost use Rattle.std.specs.Prelude.{◌≡◌};
+    ghost use Rattle.vtl_csv.specs.declared.input.InputErr.TheVariants.{OutOfMemory};
+
+    ghost from_gives = { λ _ e. e ≡ OutOfMemory };
+
     fn from(_: AllocError) -> InputErr {
         InputErr::OutOfMemory
     }

@@ -26,8 +26,14 @@ mod text_pool;
 
 pub use dataset::read_dataset;
 pub use input::{InputErr, InputKind};
-pub use input_laws::{read_rows_are_a_data_set, reading_is_determined};
-pub use laws::{data_sets_are_read_again, output_rises_by_identifiers};
+pub use input_laws::{
+    read_rows_are_a_data_set, read_rows_are_of_the_profile, reading_asks_for_identifiers_alone,
+    reading_is_determined,
+};
+pub use laws::{
+    data_sets_are_read_again, output_rises_by_identifiers, points_are_written_in_one_order,
+    tables_by_identifiers_are_data_sets,
+};
 pub use reading::column;
 pub use records::RecordReader;
 pub use structures::{StructErr, read_structures};

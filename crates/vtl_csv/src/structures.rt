@@ -29,6 +29,17 @@ pub enum StructErr {
     OutOfMemory,
 }
 
+impl From<AllocError> for StructErr {
+    ghost use Rattle.std.specs.Prelude.{◌≡◌};
+    ghost use Rattle.vtl_csv.specs.declared.structures.StructErr.TheVariants.{OutOfMemory};
+
+    ghost from_gives = { λ _ e. e ≡ OutOfMemory };
+
+    fn from(_: AllocError) -> StructErr {
+        StructErr::OutOfMemory
+    }
+}
+
 // A line and the rule that it breaks.
 #[derive(Clone, Copy)]
 struct Fault {
@@ -194,12 +205,11 @@ fn read_text(alloc: Global, text: &[u8]) -> Result<Result<Structures, Fault>, Al
 pub fn read_structures(alloc: Global, text: &[u8]) -> Result<Structures, StructErr>
     ensures { Gives result (structures_of_file text.now) }
 {
-    match read_text(alloc, text) {
-        Ok(Ok(structures)) => Ok(structures),
-        Ok(Err(fault)) => Err(StructErr::Structure {
+    match read_text(alloc, text)? {
+        Ok(structures) => Ok(structures),
+        Err(fault) => Err(StructErr::Structure {
             line: fault.line,
             rule: fault.rule,
         }),
-        Err(_) => Err(StructErr::OutOfMemory),
     }
 }

@@ -12,4 +12,4 @@ returns-then-are_in_order-clause-columns c =
 pub returns-then-are_in_order-clause-rows : goal.returns-then-are_in_order-clause-rows
 returns-then-are_in_order-clause-rows c =
     let places = c.if-are_in_order.ensures ∙ ap (λ cs. range_with_len 0 (length cs)) c.columns.ensures.columns in
-    sym (ap (λ l. map (cells_at l) c.args.table.rows) places ∙ rows_stay c.args.table.columns c.args.table.rows c.requires.fit)
+    sym (ap (λ l. map (cells_at l) c.args.table.rows) places ∙ rows_stay c.args.table.columns c.args.table.rows c.columns.ensures.fit)
