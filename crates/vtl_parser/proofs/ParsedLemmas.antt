@@ -1,16 +1,19 @@
 -- The clauses of `parse`, from the answer for the tokens.
-use Rattle.std.proofs.Common.{◌≡◌, ℕ, List, Option, Result, Ok, Err, MatchResult, map, subst, sym}
+use Rattle.std.proofs.Common.{◌≡◌, ℕ, List, Option, Result, Ok, Err, IfOk, MatchResult, map, subst, sym}
 use Rattle.vtl_grammar.specs.Faults.{WholeScript}
 use Rattle.vtl_lexer.specs.Lexed.{IsLexed}
 use Rattle.vtl_lexer.specs.declared.token.Token.{Token}
 use Rattle.vtl_syntax.specs.Trees.{ScriptTree}
 use Rattle.vtl_syntax.specs.View.{script_tree, statement_tree}
+use Rattle.vtl_syntax.specs.Written.{AreWritten}
 use Rattle.vtl_syntax.specs.declared.statements.Script.{Script}
 use Rattle.vtl_syntax.specs.declared.statements.Statement.{Statement}
 use Rattle.vtl_parser.specs.Parsed.{IsSyntaxError, IsFault, IsFaultOf, IsFaulty, IsMemory, IsScript}
 use Rattle.vtl_parser.specs.declared.parsing.ParseErr.{ParseErr}
 use Rattle.vtl_parser.specs.declared.parsing.ParseErr.TheVariants as e
+use Rattle.vtl_parser.proofs.SpelledTrees.{trees_written}
 use Rattle.vtl_parser.proofs.Texts.{not_both, one_fault, one_script}
+use Rattle.vtl_parser.proofs.WrittenLemmas.{script_written}
 
 abbrev pub Answered : List ℕ → Result Script ParseErr → Type 0
 Answered text r = MatchResult r (λ script. IsScript text (script_tree script)) (λ error. IsFault text error)
@@ -39,3 +42,7 @@ pub answers_faults : (text : List ℕ) (r : Result Script ParseErr) → Answered
 answers_faults text (Ok read) a done byte is = not_both text (script_tree read) done byte a is
 answers_faults text (Err (e.Syntax d b)) a done byte is = one_fault text d b done byte a is
 answers_faults text (Err e.OutOfMemory) a done byte is = tt
+
+pub answers_written : (text : List ℕ) (r : Result Script ParseErr) → Answered text r → IfOk r (λ script. AreWritten (script_tree script))
+answers_written text (Ok read) a = trees_written (script_tree read) (script_written text (script_tree read) a)
+answers_written text (Err error) a = tt

@@ -3,6 +3,7 @@ ghost use Rattle.std.specs.Prelude.{◌≡◌, ℕ, List};
 ghost use Rattle.vtl_grammar.specs.Written.{Written};
 ghost use Rattle.vtl_parser.specs.Parsed.{IsFaulty, IsScript};
 ghost use Rattle.vtl_syntax.specs.Trees.{ScriptTree};
+ghost use Rattle.vtl_syntax.specs.Written.{AreWritten};
 
 /// A text is at most one script or has at most one fault, and never both.
 pub fn texts_are_read_once()
@@ -12,7 +13,9 @@ pub fn texts_are_read_once()
 {}
 
 /// A script that a text spells is well formed: each statement is in the grammar, its names are names and its numbers
-/// digits.
+/// digits. A well formed script is written as trees have it: names are names, no list is empty, and no statement is
+/// too deep.
 pub fn scripts_are_written()
-    ensures { (text : List ℕ) (script : ScriptTree) → IsScript text script → Written script }
+    ensures spelled { (text : List ℕ) (script : ScriptTree) → IsScript text script → Written script }
+    ensures written { (script : ScriptTree) → Written script → AreWritten script }
 {}

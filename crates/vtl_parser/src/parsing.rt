@@ -1,9 +1,10 @@
 // The script of a text.
-ghost use Rattle.std.specs.Prelude.{◌≡◌, ℕ, MatchResult};
+ghost use Rattle.std.specs.Prelude.{◌≡◌, ℕ, IfOk, MatchResult};
 ghost use Rattle.vtl_grammar.specs.Faults.{WholeScript, byte_of};
 ghost use Rattle.vtl_parser.specs.Parsed.{IsSyntaxError, IsFault, IsFaultOf, IsFaulty, IsMemory, IsScript};
 ghost use Rattle.vtl_syntax.specs.Trees.{ScriptTree};
 ghost use Rattle.vtl_syntax.specs.View.{script_tree};
+ghost use Rattle.vtl_syntax.specs.Written.{AreWritten};
 
 use crate::statements::statements;
 use std::alloc::{AllocError, Global};
@@ -41,6 +42,7 @@ pub fn parse(alloc: Global, text: &str) -> Result<Script, ParseErr>
     ensures answer { MatchResult result (λ script. IsScript text.now (script_tree script)) (λ error. IsFault text.now error) }
     ensures scripts { (script : ScriptTree) → IsScript text.now script → MatchResult result (λ read. script_tree read ≡ script) (λ error. IsMemory error) }
     ensures faults { (done byte : ℕ) → IsFaulty text.now done byte → MatchResult result (λ read. ⊥) (λ error. IsSyntaxError done byte error) }
+    ensures written { IfOk result (λ script. AreWritten (script_tree script)) }
 {
     let lexed = tokens_before_fault(alloc, text)?;
     script_of(alloc, lexed.tokens.as_slice(), lexed.bad)

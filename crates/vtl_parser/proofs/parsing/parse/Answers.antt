@@ -1,5 +1,5 @@
 use Rattle.std.proofs.Common.{subst}
-use Rattle.vtl_parser.proofs.ParsedLemmas.{Answered, TokensAnswered, answered, answers_faults, answers_scripts}
+use Rattle.vtl_parser.proofs.ParsedLemmas.{Answered, TokensAnswered, answered, answers_faults, answers_scripts, answers_written}
 use Rattle.vtl_parser.proofs.parsing.parse.Goals as goal
 
 answer : (c : goal.After-drop-lexed) → Answered c.args.text.now c.script_of.result
@@ -11,3 +11,6 @@ returns-clause-scripts c = answers_scripts c.args.text.now c.script_of.result (a
 
 pub returns-clause-faults : goal.returns-clause-faults
 returns-clause-faults c = answers_faults c.args.text.now c.script_of.result (answer c)
+
+pub returns-clause-written : goal.returns-clause-written
+returns-clause-written c = answers_written c.args.text.now c.script_of.result (answer c)
