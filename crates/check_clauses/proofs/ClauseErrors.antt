@@ -1,5 +1,5 @@
 -- An error of one step is the error of all.
-use Rattle.std.proofs.Common.{◌≡◌, ap, rules, refl, Result, Ok, Err, Box, Global}
+use Rattle.std.proofs.Common.{◌≡◌, ap, rules, Result, Err, Box, Global}
 use Rattle.vtl_nodes.specs.Trees.{structure_of}
 use Rattle.vtl_nodes.specs.View.{node_tree}
 use Rattle.vtl_nodes.specs.declared.nodes.Node.{Node}

@@ -1,5 +1,5 @@
 -- The clauses, behind the parts that are expressions. The clauses of a join's body see the operands of the join.
-use Rattle.std.specs.Prelude.{ℕ, false, List, [], ◌∷◌, ◌++◌, Option, option_and_then, Result, Ok, map}
+use Rattle.std.specs.Prelude.{ℕ, List, [], ◌∷◌, ◌++◌, Option, option_and_then, Result, Ok, map}
 use Rattle.std.specs.Result.{result_ok}
 use Rattle.vtl_cell.specs.Settings.{Settings}
 use Rattle.vtl_cell.specs.Conversion.{as_kind}
@@ -29,7 +29,7 @@ use Rattle.check_shapes.specs.declared.names.Wanted.{Wanted}
 use Rattle.check_shapes.specs.declared.names.Wanted.TheVariants as wanted
 use Rattle.check_shapes.specs.declared.renaming.Renaming.{Renaming}
 use Rattle.check_values.specs.Columns.{name_of}
-use Rattle.check_values.specs.Literals.{literal_cell, literal_kind, still_wanted, valued, wanted_or}
+use Rattle.check_values.specs.Literals.{kind_met, literal_cell, literal_kind, valued}
 use Rattle.check_operators.specs.Places.{name_written, written_by}
 use Rattle.check_operators.specs.Typed.{TypedTree, components_in, condition_in}
 use Rattle.check_operators.specs.declared.places.Joined.{Joined}
@@ -98,7 +98,7 @@ cell_as p kind cell = option_and_then (λ c. result_ok (as_kind p kind c)) cell
 
 -- an identifier's value: a literal of its kind that has a value
 abbrev pub sub_value : Settings → Kind → Literal → Result Cell Rule
-sub_value p kind l = wanted_or (still_wanted false kind (literal_kind l)) >>= λ wanted. valued (cell_as p kind (literal_cell p l))
+sub_value p kind l = kind_met kind (literal_kind l) >>= λ u. valued (cell_as p kind (literal_cell p l))
 
 abbrev pub sub_item : List ℕ → Cell → SubItem
 sub_item name cell = record { id = name; value = cell }
@@ -124,8 +124,15 @@ unfoldable pub sub_form : Settings → NodeTree → List SubPart → Result Node
 sub_form p n ss = subs_typed p (components_in n) [] ss >>= sub_of n
 
 -- ---- `pivot` and `unpivot`
+-- the two names of `pivot`: an identifier and a measure
+abbrev pub pivot_names : List ℕ → List ℕ → List Component → Result (Unit {0}) Rule
+pivot_names id m xs = known wanted.Identifier xs [] id >>= λ x. known wanted.Measure xs [] m >>= λ y. Ok tt
+
+-- both names, and then what the clause can break, `NoCodes` too
 unfoldable pub pivot_of : Comp → Comp → NodeTree → Result NodeTree Rule
-pivot_of id m n = pivot_form (name_of id) (name_of m) (components_in n) >>= made_of (nodes.pivot n (name_of id) (name_of m))
+pivot_of id m n =
+    pivot_names (name_of id) (name_of m) (components_in n) >>= λ u. pivot_form (name_of id) (name_of m) (components_in n)
+    >>= made_of (nodes.pivot n (name_of id) (name_of m))
 
 unfoldable pub unpivot_of : Comp → Comp → NodeTree → Result NodeTree Rule
 unpivot_of id m n = unpivot_form (name_of id) (name_of m) (components_in n) >>= made_of (nodes.unpivot n (name_of id) (name_of m))

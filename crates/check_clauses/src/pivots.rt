@@ -1,16 +1,29 @@
 // The clauses `pivot` and `unpivot`.
 ghost use Rattle.check_faults.specs.Answers.{Answers};
 ghost use Rattle.check_operators.specs.Typed.{boxed_tree};
-ghost use Rattle.check_clauses.specs.Clauses.{pivot_of, unpivot_of};
+ghost use Rattle.check_clauses.specs.Clauses.{pivot_names, pivot_of, unpivot_of};
 
 use check_faults::TypeErr;
 use check_operators::made_node;
+use check_shapes::{Wanted, known};
 use check_values::name;
 use std::alloc::Global;
+use vtl_cell::Txt;
 use vtl_nodes::{Node, NodeForm};
 use vtl_syntax::Comp;
+use vtl_tree::Component;
 
-/// `pivot`. It breaks `UnknownComponent`, `WrongRole`, `RepeatedComponent`, `ComponentCount` and `NoCodes`.
+// The two names of `pivot`: an identifier and a measure.
+fn check_pivot_names(id: &Txt, m: &Txt, components: &[Component]) -> Result<(), TypeErr>
+    ensures { Answers (λ done. done) result (pivot_names id.now m.now components.now) }
+{
+    known(Wanted::Identifier, components, &[], id)?;
+    known(Wanted::Measure, components, &[], m)?;
+    Ok(())
+}
+
+/// `pivot`. Its names break `UnknownComponent` and `WrongRole`, and then the clause `RepeatedComponent`,
+/// `ComponentCount` and `NoCodes`.
 #[tactic(auto, unfolding(crate::specs::Clauses::pivot_of))]
 pub fn pivot(
     alloc: Global,
@@ -22,6 +35,7 @@ pub fn pivot(
 {
     let id = name(identifier).share()?;
     let m = name(measure).share()?;
+    check_pivot_names(&id, &m, operand.structure.components.as_slice())?;
     let structure = check_shapes::pivot(alloc, &operand.structure, &id, &m)?;
     made_node(alloc, structure, NodeForm::Pivot { a: operand, id, m })
 }

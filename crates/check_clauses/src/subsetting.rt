@@ -10,7 +10,7 @@ ghost use Rattle.check_clauses.specs.Clauses.{cell_as, sub_form, sub_known, sub_
 use check_faults::{Rule, TypeErr};
 use check_operators::made_node;
 use check_shapes::{Choice, Wanted, choose, known};
-use check_values::{literal, literal_kind, name, still_wanted, wanted_or};
+use check_values::{kind_met, literal, literal_kind, name};
 use std::alloc::{AllocError, Global};
 use vtl_cell::{Cell, Kind, List, Profile, Txt};
 use vtl_nodes::{Node, NodeForm, SubItem};
@@ -42,7 +42,7 @@ fn sub_value(
 ) -> Result<Cell, TypeErr>
     ensures { Answers (λ cell. cell) result (sub_value profile.now kind written.now) }
 {
-    wanted_or(still_wanted(false, kind, literal_kind(written)))?;
+    kind_met(kind, literal_kind(written))?;
     literal_as(alloc, profile, kind, written)
 }
 

@@ -1,6 +1,6 @@
--- The typing of a join, part by part.
-use Rattle.std.proofs.Common.{rules, ◌≡◌, ◌∙◌, ap, sym, List, [], map, Option, None, Some, Result, Ok, Err, Box, Vec, Global}
-use Rattle.std.specs.Option.{option_map}
+-- The typing of joins and of aggregates, part by part.
+use Rattle.std.proofs.Common.{rules, ◌≡◌, ◌||◌, ◌∙◌, ap, sym, List, [], map, Option, None, Some, Result, Ok, Box, Vec, Global}
+use Rattle.std.specs.Option.{is_some, option_map}
 use Rattle.vtl_syntax.specs.Trees as tree
 use Rattle.vtl_syntax.specs.Trees.{maybe_targets, parts_of}
 use Rattle.vtl_syntax.specs.View.{expr_tree, part_tree, targets_tree}
@@ -13,17 +13,20 @@ use Rattle.vtl_syntax.specs.declared.expressions.CalcPart as calc
 use Rattle.vtl_syntax.specs.declared.expressions.JoinPart as join
 use Rattle.vtl_syntax.specs.declared.expressions.JoinPart.{JoinPart}
 use Rattle.vtl_syntax.specs.declared.parts.Comp.{Comp}
+use Rattle.vtl_syntax.specs.declared.parts.GroupPart.{GroupPart}
 use Rattle.vtl_syntax.specs.declared.parts.Keeping.{Keeping}
 use Rattle.vtl_syntax.specs.declared.parts.RenamePart.{RenamePart}
+use Rattle.vtl_syntax.specs.declared.word_groups.AggregateName.{AggregateName}
 use Rattle.vtl_syntax.specs.declared.word_groups.JoinKind.{JoinKind}
 use Rattle.vtl_nodes.specs.Trees.{NodeTree, OperandTree}
 use Rattle.vtl_cell.specs.Results.{◌>>=◌}
 use Rattle.check_faults.specs.declared.rules.Rule.{Rule}
-use Rattle.check_operators.specs.Places.{Env}
+use Rattle.check_operators.specs.Places.{Env, in_aggregate}
+use Rattle.check_operators.specs.Typed.{TypedTree}
 use Rattle.check_operators.specs.declared.places.Joined.{Joined}
 use Rattle.check_operators.specs.declared.places.Place.{Place}
 use Rattle.check_clauses.specs.JoinOperands.{PartTyped, joined_of, operands_in}
-use Rattle.check_expressions.specs.Typing.{filtered_join, join_end, parts_typed, typed}
+use Rattle.check_expressions.specs.Typing.{filtered_join, grouped_of, has_exp, having_typed, join_end, maybe_typed, parts_typed, typed}
 use Rattle.check_expressions.specs.WalkView.{maybe_tree}
 
 pub ruleset views = (expr.the_lemmas, clause.the_lemmas, targets.the_lemmas, calc.the_lemmas, join.the_lemmas)
@@ -45,3 +48,16 @@ join_typed env at e kind ops u f m k rs is items same parts os j a h1 h2 hj h3 =
     ∙ ap (typed env at) (join_tree kind ops u f m k rs)
     ∙ chain (parts_typed env [] (parts_of (map part_tree ops.items))) operands_in (λ os. filtered_join env (Some (joined_of kind os)) (maybe_tree f) kind u os) (λ os a. join_end env (Some (joined_of kind os)) (maybe_targets (option_map targets_tree m)) k rs a) parts os a (ap (λ l. parts_typed env [] (parts_of (map part_tree l))) (sym same) ∙ h1) h2 (ap (λ i. filtered_join env i (maybe_tree f) kind u os) (sym hj) ∙ h3)
     ∙ ap (λ i. join_end env i (maybe_targets (option_map targets_tree m)) k rs a) (sym hj)
+
+-- the tree of an aggregate
+aggregate_tree : (f : AggregateName) (e : Option (Box Expr Global)) (g : Option GroupPart) (h : Option (Box Expr Global)) → expr_tree (expr.Aggregate f e g h) ≡ tree.aggregate f (maybe_tree e) g (maybe_tree h)
+aggregate_tree f None g None = search (rules, views)
+aggregate_tree f None g (Some h) = search (rules, views)
+aggregate_tree f (Some e) g None = search (rules, views)
+aggregate_tree f (Some e) g (Some h) = search (rules, views)
+
+pub aggregate_typed : (env : Env) (at : Place) (e : Expr) (f : AggregateName) (operand : Option (Box Expr Global)) (group : Option GroupPart) (having : Option (Box Expr Global)) → e ≡ expr.Aggregate f operand group having → (x : Option TypedTree) → maybe_typed env (in_aggregate at) (maybe_tree operand) ≡ Ok x → typed env at (expr_tree e) ≡ grouped_of at f (maybe_tree operand) group (is_some group || has_exp (maybe_tree having)) (λ groups. having_typed env groups (maybe_tree having)) x
+aggregate_typed env at e f operand group having is x typed_so =
+    ap (λ x. typed env at (expr_tree x)) is
+    ∙ ap (typed env at) (aggregate_tree f operand group having)
+    ∙ ap (λ r. r >>= grouped_of at f (maybe_tree operand) group (is_some group || has_exp (maybe_tree having)) (λ groups. having_typed env groups (maybe_tree having))) typed_so

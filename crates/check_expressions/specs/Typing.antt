@@ -1,5 +1,5 @@
 -- The typing of expressions: parts in written order, operands before operators; the first part that breaks a rule is the fault.
-use Rattle.std.specs.Prelude.{ℕ, Bool, true, false, ◌||◌, List, [], ◌∷◌, ◌++◌, Option, Some, None, Result, Ok, Err}
+use Rattle.std.specs.Prelude.{Bool, true, false, ◌||◌, List, [], ◌∷◌, ◌++◌, Option, Some, None, Result, Ok, Err}
 use Rattle.std.specs.Option.{is_some}
 use Rattle.vtl_cell.specs.Settings.{Settings}
 use Rattle.vtl_cell.specs.declared.operator.ScalarOp.TheVariants as op
@@ -18,21 +18,20 @@ use Rattle.vtl_syntax.specs.declared.word_groups.JoinKind.{JoinKind}
 use Rattle.vtl_tree.specs.CompExp.{CompExp}
 use Rattle.vtl_nodes.specs.Trees.{ItemTree, NodeTree, OperandTree, ValueTree, scalar}
 use Rattle.vtl_cell.specs.Results.{◌>>=◌}
-use Rattle.check_values.specs.Groupings.{grouping_typed}
+use Rattle.check_values.specs.Groupings.{grouping_of, grouping_typed}
 use Rattle.check_faults.specs.declared.rules.Rule.{Rule}
 use Rattle.check_faults.specs.declared.rules.Rule.TheVariants as rule
-use Rattle.check_values.specs.Kinds.{exp_kind}
 use Rattle.check_values.specs.Literals.{literals_fit}
 use Rattle.check_values.specs.Operators.{exps_length, of_binary, of_function, of_unary, takes}
 use Rattle.check_operators.specs.Operators.{operator_form, set_form}
-use Rattle.check_operators.specs.Places.{Env, Written, at_groups, at_points, constant_form, member_inside, name_typed, written_typed}
+use Rattle.check_operators.specs.Places.{Env, Written, at_groups, at_points, constant_form, in_aggregate, member_inside, name_typed, regrouped, written_typed}
 use Rattle.check_operators.specs.Sets.{check_form, check_spec, difference_form, exists_form, member_of, sets_form}
 use Rattle.check_operators.specs.Typed.{TypedTree, value, dataset, components_in, condition_in, dataset_in, value_in}
 use Rattle.check_operators.specs.declared.places.Inside.{Inside}
 use Rattle.check_operators.specs.declared.places.Joined.{Joined}
 use Rattle.check_operators.specs.declared.places.Place.{Place}
 use Rattle.check_operators.specs.declared.places.Place.TheVariants as place
-use Rattle.check_groups.specs.Aggregates.{aggregate_node, group_operand, no_dataset, written_call}
+use Rattle.check_groups.specs.Aggregates.{aggregate_node, count_call, aggregate_value}
 use Rattle.check_groups.specs.Windowed.{over_typed, target_typed}
 use Rattle.check_clauses.specs.Clauses.{filter_form, keeping_form, pivot_of, renaming_form, sub_form, unpivot_of}
 use Rattle.check_clauses.specs.JoinOperands.{PartTyped, joined_node, joined_of, last_naming, operands_in, with_part}
@@ -67,20 +66,21 @@ abbrev pub or_component : Option (Inside × Written) → Result TypedTree Rule �
 or_component (Some w) rest = written_typed w.0 w.1
 or_component None rest = rest
 
--- an aggregate over groups of a component, or else of a data set
-abbrev pub or_call : Option (Inside × Written) → AggregateName → (grouped : Bool) → Result TypedTree Rule → Result TypedTree Rule
-or_call (Some w) f grouped rest = written_call w.0 f grouped w.1
-or_call None f grouped rest = rest
-
--- How the condition of groups is typed, over a data set and the names by which the groups are formed.
+-- How the condition of groups is typed at their place.
 abbrev pub Having : Type 0
-Having = NodeTree → List (List ℕ) → Result (Option CompExp) Rule
+Having = Place → Result (Option CompExp) Rule
 
--- an aggregate behind its operand
-abbrev pub grouped_of : Place → AggregateName → Option GroupPart → (grouped : Bool) → Having → Option TypedTree → Result TypedTree Rule
-grouped_of at f g grouped having (Some (dataset n)) = grouping_typed (components_in n) g >>= λ names. having n names >>= aggregate_node f g n
-grouped_of at f g grouped having (Some (value v)) = no_dataset at f grouped (Some (exp_kind v))
-grouped_of at f g grouped having None = no_dataset at f grouped None
+-- the groups that an aggregate of no data set has of its own: the names of the grouping, and the condition. They stand for
+-- components of the place; outside there are none, and nothing is looked up.
+abbrev pub own_groups : Place → Option GroupPart → Having → Result (Unit {0}) Rule
+own_groups place.Outside g having = Ok tt
+own_groups (place.Inside i) g having = grouping_typed i.components g >>= λ names. having (place.Inside (regrouped i names)) >>= λ c. Ok tt
+
+-- an aggregate behind its operand, which is written so: the names of the grouping, the condition, and then the call
+abbrev pub grouped_of : Place → AggregateName → MaybeExp → Option GroupPart → (grouped : Bool) → Having → Option TypedTree → Result TypedTree Rule
+grouped_of at f e g grouped having (Some (dataset n)) = grouping_typed (components_in n) g >>= λ names. having (place.Inside (at_groups None n names)) >>= aggregate_node f g n
+grouped_of at f e g grouped having (Some (value v)) = own_groups at g having >>= λ u. aggregate_value at f grouped e v
+grouped_of at f e g grouped having None = own_groups at g having >>= λ u. count_call at f grouped
 
 -- the value of a target of `calc`, by how it is typed, and how the operand of an analytic call is: such a call may be the whole
 abbrev pub calc_value : Settings → Place → Exp → Result TypedTree Rule → Result (Option TypedTree) Rule → Result ValueTree Rule
@@ -110,7 +110,7 @@ abbrev mutual
   typed env at (tree.constant c) = constant_form env.settings c
   typed env at (tree.brackets e) = typed env at e
   typed env at (tree.function f es) = operands_typed env at [] es >>= operator_form at (of_function f) (takes f (exps_length es)) (literals_fit env.settings f es)
-  typed env at (tree.aggregate f e g h) = or_call (group_operand at e) f (is_some g || has_exp h) (maybe_typed env at e >>= grouped_of at f g (is_some g || has_exp h) (λ n names. having_typed env None n names h))
+  typed env at (tree.aggregate f e g h) = maybe_typed env (in_aggregate at) e >>= grouped_of at f e g (is_some g || has_exp h) (λ groups. having_typed env groups h)
   typed env at (tree.aggregate_over f e o) = maybe_typed env at e >>= over_typed env.settings at (tree.aggregate_over f e o)
   typed env at (tree.value_window f e o) = typed env at e >>= λ x. over_typed env.settings at (tree.value_window f e o) (Some x)
   typed env at (tree.shift f e n l o) = typed env at e >>= λ x. over_typed env.settings at (tree.shift f e n l o) (Some x)
@@ -138,9 +138,9 @@ abbrev mutual
   maybe_typed env at (tree.some_exp e) = typed env at e >>= λ x. Ok (Some x)
 
   -- the condition of groups
-  pub having_typed : Env → Option Joined → NodeTree → List (List ℕ) → MaybeExp → Result (Option CompExp) Rule
-  having_typed env j n names tree.no_exp = Ok None
-  having_typed env j n names (tree.some_exp e) = typed env (place.Inside (at_groups j n names)) e >>= condition_in >>= λ c. Ok (Some c)
+  pub having_typed : Env → Place → MaybeExp → Result (Option CompExp) Rule
+  having_typed env at tree.no_exp = Ok None
+  having_typed env at (tree.some_exp e) = typed env at e >>= condition_in >>= λ c. Ok (Some c)
 
   pub clause_typed : Env → NodeTree → ClauseTree → Result NodeTree Rule
   clause_typed env n (tree.filter e) = typed env (place.Inside (at_points None n)) e >>= filter_form n
@@ -153,7 +153,9 @@ abbrev mutual
 
   pub targets_typed : Env → Option Joined → NodeTree → TargetsTree → Result NodeTree Rule
   targets_typed env j n (tree.calc cs) = calcs_typed env (place.Inside (at_points j n)) n [] cs >>= calc_clause n
-  targets_typed env j n (tree.aggr cs g h) = aggrs_typed env (place.Inside (at_groups j n [])) [] cs >>= λ made. grouping_typed (components_in n) g >>= λ names. having_typed env j n names h >>= aggr_clause g n made
+  targets_typed env j n (tree.aggr cs g h) =
+      aggrs_typed env (place.Inside (at_groups j n (grouping_of g (components_in n)))) [] cs >>= λ made. grouping_typed (components_in n) g
+      >>= λ names. having_typed env (place.Inside (at_groups j n names)) h >>= aggr_clause g n made
 
   -- targets of `calc` behind others: each name, then its value
   pub calcs_typed : Env → Place → NodeTree → List ItemTree → Calcs → Result (List ItemTree) Rule

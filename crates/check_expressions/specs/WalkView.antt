@@ -1,7 +1,6 @@
 -- What the walk holds, without where it lies in memory.
-use Rattle.std.specs.Prelude.{Box, List, Option, map}
+use Rattle.std.specs.Prelude.{Box, Option}
 use Rattle.std.specs.Option.{option_map}
-use Rattle.std.specs.Borrow.{Bor}
 use Rattle.std.specs.declared.alloc.Global.{Global}
 use Rattle.vtl_syntax.specs.Trees.{MaybeExp, maybe_exp}
 use Rattle.vtl_syntax.specs.View.{expr_tree}

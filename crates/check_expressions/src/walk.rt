@@ -6,13 +6,12 @@ ghost use Rattle.check_faults.specs.Answers.{Answers};
 ghost use Rattle.vtl_syntax.specs.Trees.{calcs_of, exps_of, maybe_targets, parts_of};
 ghost use Rattle.vtl_syntax.specs.View.{calc_tree, clause_tree, expr_tree, part_tree, targets_tree};
 ghost use Rattle.vtl_tree.specs.View.{comp_exp_of};
-ghost use Rattle.check_operators.specs.Places.{env_of};
+ghost use Rattle.check_operators.specs.Places.{at_groups, env_of, in_aggregate};
 ghost use Rattle.check_operators.specs.Typed.{boxed_tree, dataset_in, typed_tree, typed_trees};
 ghost use Rattle.check_operators.specs.declared.places.Place.TheVariants as at;
-ghost use Rattle.check_groups.specs.Aggregates.{group_operand};
 ghost use Rattle.check_clauses.specs.JoinView.{operands_view, parts_view};
 ghost use Rattle.check_clauses.specs.TargetsView.{items_view};
-ghost use Rattle.check_expressions.specs.Typing.{aggrs_typed, calc_value, calcs_typed, check_typed, clause_typed, difference_typed, exists_typed, filter_step, filter_typed, filtered_join, grouped_of, has_exp, having_typed, join_end, maybe_typed, next_typed, operands_typed, over_operand, parts_typed, targets_step, targets_typed, typed};
+ghost use Rattle.check_expressions.specs.Typing.{aggrs_typed, calc_value, calcs_typed, check_typed, clause_typed, difference_typed, exists_typed, filter_step, filter_typed, filtered_join, grouped_of, has_exp, having_typed, join_end, maybe_typed, next_typed, operands_typed, over_operand, own_groups, parts_typed, targets_step, targets_typed, typed};
 ghost use Rattle.check_expressions.specs.WalkView.{maybe_tree};
 
 use crate::join::{body_end, seen_by_body};
@@ -22,12 +21,13 @@ use check_clauses::{
     operands as joined_operands, pivot, push_item, push_made, push_part, renaming, sub, unpivot,
 };
 use check_faults::{Rule, TypeErr};
-use check_groups::{aggregate, group_operand, no_dataset, over, target, written_call};
+use check_groups::{aggregate, aggregate_value, count_call, over, target};
 use check_operators::{
     Joined, Place, Scope, Typed, check, check_spec, condition, constant, difference, exists,
-    groups, member, member_inside, name, operator, points, set, sets, written,
+    groups, in_aggregate, member, member_inside, name, operator, points, regrouped, set, sets,
+    written,
 };
-use check_values::{binary_operator, grouping, kind, unary_operator};
+use check_values::{binary_operator, grouping, grouping_of, unary_operator};
 use std::alloc::{AllocError, Global};
 use vtl_cell::{List, ScalarOp, Txt};
 use vtl_nodes::{CalcItem, CalcValue, JoinOperand, Node};
@@ -125,23 +125,72 @@ fn having(
     alloc: Global,
     scope: &Scope,
     having: &Option<Box<Expr>>,
-    joined: &Option<Joined>,
-    node: &Node,
-    names: List<Txt>,
+    place: &Place,
 ) -> Result<Option<CompExpr>, TypeErr>
-    ensures { Answers (option_map comp_exp_of) result (having_typed (env_of scope.now) joined.now (node_tree node.now) names (maybe_tree having.now)) }
+    ensures { Answers (option_map comp_exp_of) result (having_typed (env_of scope.now) place.now (maybe_tree having.now)) }
 {
     match having {
         Some(e) => {
-            let place = groups(alloc, joined, node, names)?;
-            let value = typing(alloc, scope, &place, e)?;
+            let value = typing(alloc, scope, place, e)?;
             Ok(Some(condition(value)?))
         }
         None => Ok(None),
     }
 }
 
-// An aggregate of a data set, or the fault of another operand.
+// The same over the groups of a data set.
+#[cycle(typing)]
+fn having_groups(
+    alloc: Global,
+    scope: &Scope,
+    condition: &Option<Box<Expr>>,
+    joined: &Option<Joined>,
+    node: &Node,
+    names: List<Txt>,
+) -> Result<Option<CompExpr>, TypeErr>
+    ensures { Answers (option_map comp_exp_of) result (having_typed (env_of scope.now) (at.Inside (at_groups joined.now (node_tree node.now) names)) (maybe_tree condition.now)) }
+{
+    let place = groups(alloc, joined, node, names)?;
+    having(alloc, scope, condition, &place)
+}
+
+// The operand of an aggregate, if there is one.
+#[cycle(typing)]
+fn aggregate_operand(
+    alloc: Global,
+    scope: &Scope,
+    place: &Place,
+    e: &Option<Box<Expr>>,
+) -> Result<Option<Typed>, TypeErr>
+    ensures { Answers (option_map typed_tree) result (maybe_typed (env_of scope.now) (in_aggregate place.now) (maybe_tree e.now)) }
+{
+    let place = in_aggregate(alloc, place)?;
+    maybe(alloc, scope, &place, e)
+}
+
+// The groups of its own of an aggregate that is of no data set: outside its names stand for nothing.
+#[cycle(typing)]
+fn own_groups(
+    alloc: Global,
+    scope: &Scope,
+    place: &Place,
+    condition: &Option<Box<Expr>>,
+    group: &Option<GroupPart>,
+) -> Result<(), TypeErr>
+    ensures { Answers (λ done. done) result (own_groups place.now group.now (λ groups. having_typed (env_of scope.now) groups (maybe_tree condition.now))) }
+{
+    match place {
+        Place::Outside => Ok(()),
+        Place::Inside(inside) => {
+            let names = grouping(alloc, inside.components.as_slice(), group)?;
+            let groups = regrouped(alloc, inside, names)?;
+            having(alloc, scope, condition, &groups)?;
+            Ok(())
+        }
+    }
+}
+
+// An aggregate after its operand: the names of the grouping, the condition, and then the call.
 #[cycle(typing)]
 fn grouped(
     alloc: Global,
@@ -149,21 +198,28 @@ fn grouped(
     place: &Place,
     condition: &Option<Box<Expr>>,
     function: AggregateName,
+    written: &Option<Box<Expr>>,
     group: &Option<GroupPart>,
     operand: Option<Typed>,
 ) -> Result<Typed, TypeErr>
-    ensures { Answers typed_tree result (grouped_of place.now function group.now (is_some group.now || has_exp (maybe_tree condition.now)) (λ n names. having_typed (env_of scope.now) None n names (maybe_tree condition.now)) (option_map typed_tree operand)) }
+    ensures { Answers typed_tree result (grouped_of place.now function (maybe_tree written.now) group.now (is_some group.now || has_exp (maybe_tree condition.now)) (λ groups. having_typed (env_of scope.now) groups (maybe_tree condition.now)) (option_map typed_tree operand)) }
 {
     let has_groups = group.is_some() || condition.is_some();
     match operand {
         Some(Typed::Dataset(node)) => {
             let names = grouping(alloc, node.structure.components.as_slice(), group)?;
             let joined = None;
-            let condition = having(alloc, scope, condition, &joined, &node, names)?;
+            let condition = having_groups(alloc, scope, condition, &joined, &node, names)?;
             aggregate(alloc, function, group, node, condition)
         }
-        Some(Typed::Value(value)) => no_dataset(place, function, has_groups, Some(kind(&value))),
-        None => no_dataset(place, function, has_groups, None),
+        Some(Typed::Value(value)) => {
+            own_groups(alloc, scope, place, condition, group)?;
+            aggregate_value(place, function, has_groups, opened(written), &value)
+        }
+        None => {
+            own_groups(alloc, scope, place, condition, group)?;
+            count_call(place, function, has_groups)
+        }
     }
 }
 
@@ -232,10 +288,11 @@ fn targets_typing(
             group,
             having: condition,
         } => {
-            let place = groups(alloc, joined, &node, List::of(Vec::new(alloc)))?;
+            let names = grouping_of(alloc, node.structure.components.as_slice(), group)?;
+            let place = groups(alloc, joined, &node, names)?;
             let made = made(alloc, scope, &place, parts)?;
             let names = grouping(alloc, node.structure.components.as_slice(), group)?;
-            let condition = having(alloc, scope, condition, joined, &node, names)?;
+            let condition = having_groups(alloc, scope, condition, joined, &node, names)?;
             aggr(alloc, group, node, made, condition)
         }
     }
@@ -469,16 +526,12 @@ pub fn typing(alloc: Global, scope: &Scope, place: &Place, e: &Expr) -> Result<T
             operand,
             group,
             having,
-        } => match group_operand(place, opened(operand)) {
-            Some((inside, name)) => {
-                let has_groups = group.is_some() || having.is_some();
-                written_call(alloc, inside, *function, has_groups, name)
-            }
-            None => {
-                let operand = maybe(alloc, scope, place, operand)?;
-                grouped(alloc, scope, place, having, *function, group, operand)
-            }
-        },
+        } => {
+            let typed = aggregate_operand(alloc, scope, place, operand)?;
+            grouped(
+                alloc, scope, place, having, *function, operand, group, typed,
+            )
+        }
         Expr::AggregateOver { operand, .. } => {
             let operand = maybe(alloc, scope, place, operand)?;
             over(alloc, &scope.profile, place, e, operand)

@@ -1,6 +1,6 @@
 -- Aggregates: of the measures of a data set, and of one component over groups.
-use Rattle.std.specs.Prelude.{ℕ, Bool, true, false, not, List, [], ◌∷◌, Option, Some, None, Result, Ok, Err, cond}
-use Rattle.std.specs.Option.{is_some, option_map}
+use Rattle.std.specs.Prelude.{ℕ, Bool, true, false, ◌||◌, List, [], ◌∷◌, Option, Some, None, Result, Err, cond}
+use Rattle.std.specs.Option.{is_none, is_some}
 use Rattle.vtl_kinds.specs.Aggregates as kinds
 use Rattle.vtl_cell.specs.declared.operator.AggKind.{AggKind}
 use Rattle.vtl_cell.specs.declared.operator.AggKind.TheVariants as agg
@@ -23,11 +23,10 @@ use Rattle.check_faults.specs.declared.rules.Rule.TheVariants as rule
 use Rattle.check_shapes.specs.Measures.{Gives, measured_form}
 use Rattle.check_shapes.specs.declared.measures.Outcome.{Outcome}
 use Rattle.check_shapes.specs.declared.measures.Outcome.TheVariants as outcome
-use Rattle.check_values.specs.Columns.{column_typed}
 use Rattle.check_values.specs.Groupings.{grouping_choice, grouping_names, grouping_of}
 use Rattle.check_values.specs.Kinds.{exp_kind}
-use Rattle.check_operators.specs.Typed.{TypedTree, value, dataset, components_in, made_of, of_value}
-use Rattle.check_operators.specs.Places.{Written, name_written, written_in}
+use Rattle.check_operators.specs.Typed.{TypedTree, components_in, made_of, of_value}
+use Rattle.check_operators.specs.Places.{written_in}
 use Rattle.check_operators.specs.declared.places.Inside.{Inside}
 use Rattle.check_operators.specs.declared.places.Place.{Place}
 use Rattle.check_operators.specs.declared.places.Place.TheVariants as place
@@ -45,16 +44,10 @@ agg_kind aggregate.Median = agg.Median
 abbrev pub aggregate_kind : AggregateName → Kind → Option Kind
 aggregate_kind f kind = kinds.aggregate_kind (agg_kind f) kind
 
--- of an operand that has this kind or is missing: without one there is the number of points alone
-abbrev pub call_kind : AggregateName → Option Kind → Option Kind
-call_kind f (Some kind) = aggregate_kind f kind
-call_kind aggregate.Count None = Some k.Int
-call_kind f None = None
-
--- an aggregate that stands where none may, or whose operand may not stand there: there is no operand, or its kind does not fit
-abbrev pub is_unfit : AggregateName → Option Kind → Bool
-is_unfit f None = true
-is_unfit f (Some kind) = not (is_some (aggregate_kind f kind))
+-- without an operand there is the number of points alone
+abbrev pub count_kind : AggregateName → Option Kind
+count_kind aggregate.Count = Some k.Int
+count_kind f = None
 
 -- ---- of each measure of a data set
 abbrev pub outcome_of : AggregateName → Outcome
@@ -80,43 +73,37 @@ abbrev pub group_call_by : AggregateName → Option (List ℕ) → (grouped : Bo
 group_call_by f component grouped None = Err rule.WrongKind
 group_call_by f component grouped (Some kind) = ruled ((rule.AggregateMisuse, grouped) ∷ []) (tt {0}) >>= λ u. group_call f component kind
 
--- an aggregate of a component, in a target of `aggr` or in `having`: there it has no groups of its own
-abbrev pub component_call : Inside → AggregateName → (grouped : Bool) → List ℕ → Result TypedTree Rule
-component_call i f grouped name = column_typed name i.components >>= λ e. group_call_by f (Some name) grouped (call_kind f (Some (exp_kind e)))
+-- the component that a typed operand is, where it is written as one and nothing else, with an alias or without
+abbrev pub is_component : MaybeExp → Bool
+is_component tree.no_exp = false
+is_component (tree.some_exp e) = is_some (written_in e)
 
--- the component is written with an alias or without
-unfoldable pub written_call : Inside → AggregateName → (grouped : Bool) → Written → Result TypedTree Rule
-written_call i f grouped w = name_written i.joined w >>= component_call i f grouped
+abbrev pub column_name : CompExp → Option (List ℕ)
+column_name (exp.column place name kind) = Some name
+column_name e = None
 
--- the component that an aggregate over groups is of, where it is of one
-abbrev pub group_operand : Place → MaybeExp → Option (Inside × Written)
-group_operand place.Outside e = None
-group_operand (place.Inside i) tree.no_exp = None
-group_operand (place.Inside i) (tree.some_exp e) = cond (is_some i.grouping) (option_map (λ w. (i, w)) (written_in e)) None
+abbrev pub operand_name : MaybeExp → CompExp → Option (List ℕ)
+operand_name e v = cond (is_component e) (column_name v) None
 
--- the number of points
-abbrev pub count_call : AggregateName → (grouped : Bool) → Result TypedTree Rule
-count_call f grouped = group_call_by f None grouped (call_kind f None)
+-- an aggregate of a value may not stand so: it has groups of its own, stands outside of `aggr` and `having`, or is of no component
+abbrev pub is_misused : Inside → (grouped : Bool) → Option (List ℕ) → Bool
+is_misused i grouped component = grouped || is_none i.grouping || is_none component
 
--- The rule of an aggregate that is no operator on a data set. Its operand does not fit. Outside, a value stands where a data set
--- is needed; inside, groups need one too, and an aggregate of a component stands in `aggr` and `having`.
-abbrev pub misuse_rule : Place → (unfit grouped : Bool) → Rule
-misuse_rule p true grouped = rule.WrongKind
-misuse_rule place.Outside false grouped = rule.DatasetOrValue
-misuse_rule (place.Inside i) false true = rule.DatasetOrValue
-misuse_rule (place.Inside i) false false = rule.AggregateMisuse
+-- where a data set is needed a value is none, whose kind may not even fit
+abbrev pub outside_rule : Option Kind → Rule
+outside_rule None = rule.WrongKind
+outside_rule (Some kind) = rule.DatasetOrValue
 
-abbrev pub operand_kind : Option TypedTree → Option Kind
-operand_kind None = None
-operand_kind (Some (value e)) = Some (exp_kind e)
-operand_kind (Some (dataset n)) = None
+-- an aggregate of a value
+abbrev pub aggregate_value : Place → AggregateName → (grouped : Bool) → MaybeExp → CompExp → Result TypedTree Rule
+aggregate_value place.Outside f grouped e v = Err (outside_rule (aggregate_kind f (exp_kind v)))
+aggregate_value (place.Inside i) f grouped e v = group_call_by f (operand_name e v) (is_misused i grouped (operand_name e v)) (aggregate_kind f (exp_kind v))
 
 -- whether a place is in a target of `aggr` or in `having`
 abbrev pub is_group : Place → Bool
 is_group place.Outside = false
 is_group (place.Inside i) = is_some i.grouping
 
--- an aggregate of no data set; over groups `count()` is the number of points
-abbrev pub no_dataset : Place → AggregateName → (grouped : Bool) → Option Kind → Result TypedTree Rule
-no_dataset p f grouped (Some kind) = Err (misuse_rule p (is_unfit f (Some kind)) grouped)
-no_dataset p f grouped None = cond (is_group p) (count_call f grouped) (Err rule.WrongKind)
+-- an aggregate without an operand: over groups `count()` is the number of points
+abbrev pub count_call : Place → AggregateName → (grouped : Bool) → Result TypedTree Rule
+count_call p f grouped = cond (is_group p) (group_call_by f None grouped (count_kind f)) (Err rule.WrongKind)

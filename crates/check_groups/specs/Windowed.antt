@@ -2,7 +2,6 @@
 use Rattle.std.specs.Prelude.{ℕ, ◌==◌, Bool, true, false, not, ◌&&◌, List, [], ◌∷◌, length, Option, Some, None, Result, Ok, Err, cond}
 use Rattle.std.specs.Option.{is_none, is_some}
 use Rattle.vtl_cell.specs.Settings.{Settings}
-use Rattle.vtl_cell.specs.ScalarKinds.{meets}
 use Rattle.vtl_cell.specs.declared.cell.Cell.{Cell}
 use Rattle.vtl_cell.specs.declared.cell.Cell.TheVariants as c
 use Rattle.vtl_cell.specs.declared.kind.Kind.{Kind}
@@ -19,7 +18,6 @@ use Rattle.vtl_syntax.specs.declared.word_groups.ValueWindowName.{ValueWindowNam
 use Rattle.vtl_syntax.specs.declared.word_groups.ValueWindowName.TheVariants as window
 use Rattle.vtl_tree.specs.declared.structure.Component.{Component}
 use Rattle.vtl_tree.specs.declared.structure.Structure.{Structure}
-use Rattle.vtl_tree.specs.CompExp as exp
 use Rattle.vtl_tree.specs.CompExp.{CompExp}
 use Rattle.vtl_nodes.specs.Trees as nodes
 use Rattle.vtl_nodes.specs.Trees.{NodeTree, ValueTree}
@@ -34,14 +32,13 @@ use Rattle.check_shapes.specs.Measures.{Gives, measured_form}
 use Rattle.check_shapes.specs.declared.choices.Choice.TheVariants as choice
 use Rattle.check_shapes.specs.declared.measures.Outcome.TheVariants as outcome
 use Rattle.check_values.specs.Kinds.{exp_kind}
-use Rattle.check_values.specs.Literals.{literal_cell, literal_kind, still_wanted, valued, wanted_or}
-use Rattle.vtl_kinds.specs.Literals.{is_null_kind}
-use Rattle.check_values.specs.Windows.{points_typed, window_typed}
-use Rattle.check_operators.specs.Places.{columns_at, columns_in, written_in}
-use Rattle.check_operators.specs.Typed.{TypedTree, value, dataset, beside_kind, components_in, made_of}
+use Rattle.check_values.specs.Literals.{literal_cell, literal_kind, met_beside, valued}
+use Rattle.check_values.specs.Windows.{frame_alone, points_typed, window_typed}
+use Rattle.check_operators.specs.Places.{columns_at, columns_in}
+use Rattle.check_operators.specs.Typed.{TypedTree, value, dataset, beside_kinds, components_in, made_of}
 use Rattle.check_operators.specs.declared.places.Place.{Place}
 use Rattle.check_operators.specs.declared.places.Place.TheVariants as place
-use Rattle.check_groups.specs.Aggregates.{aggregate_kind}
+use Rattle.check_groups.specs.Aggregates.{aggregate_kind, operand_name}
 use Rattle.vtl_kinds.specs.Aggregates.{number_of}
 use Rattle.check_groups.specs.declared.calls.Call.{Call}
 use Rattle.check_groups.specs.declared.calls.Needed.{Needed}
@@ -77,34 +74,27 @@ window_kind window.FirstValue kind = Some kind
 window_kind window.LastValue kind = Some kind
 window_kind window.RatioToReport kind = number_of kind
 
-abbrev pub meets_default : Option Literal → Kind → Bool
-meets_default None kind = true
-meets_default (Some l) kind = meets kind (literal_kind l)
-
-abbrev pub shift_kind : Option Literal → Kind → Option Kind
-shift_kind l kind = cond (meets_default l kind) (Some kind) None
-
--- the kind that an analytic call gives of values of a kind
+-- the kind that an analytic call gives of values of a kind; the default of `lag` and `lead` is a part of its own
 abbrev pub over_kind : Exp → Kind → Option Kind
 over_kind (tree.aggregate_over f e o) kind = aggregate_kind f kind
 over_kind (tree.value_window f e o) kind = window_kind f kind
-over_kind (tree.shift f e n l o) kind = shift_kind l kind
+over_kind (tree.shift f e n l o) kind = Some kind
 over_kind e kind = Some k.Int
 
--- the default of `lag` and `lead`: null, or a literal of the operand's kind with a value
-abbrev pub default_typed : Settings → Kind → Option Literal → Result Cell Rule
-default_typed p kind None = Ok c.Null
-default_typed p kind (Some l) = wanted_or (still_wanted (is_null_kind kind) kind (literal_kind l)) >>= λ wanted. valued (literal_cell p l)
+-- the default of `lag` and `lead`: null, or a literal of all kinds that the operand's values have, with a value
+abbrev pub default_typed : Settings → List Kind → Option Literal → Result Cell Rule
+default_typed p kinds None = Ok c.Null
+default_typed p kinds (Some l) = met_beside kinds (literal_kind l) >>= λ u. valued (literal_cell p l)
 
-unfoldable pub shift_call : Settings → ShiftName → List ℕ → Option Literal → Kind → Result Call Rule
-shift_call p f n l kind = points_typed p n >>= λ points. default_typed p kind l >>= λ cell. Ok (record { op = Some (of_shift f points cell); needed = needed.Ranked })
+unfoldable pub shift_call : Settings → ShiftName → List ℕ → Option Literal → List Kind → Result Call Rule
+shift_call p f n l kinds = points_typed p n >>= λ points. default_typed p kinds l >>= λ cell. Ok (record { op = Some (of_shift f points cell); needed = needed.Ranked })
 
--- the parts of a call between its operand, beside which this kind is wanted, and its window
-abbrev pub call_typed : Settings → Exp → Kind → Result Call Rule
-call_typed p (tree.aggregate_over f e o) kind = Ok (record { op = of_aggregate f; needed = needed.Nothing })
-call_typed p (tree.value_window f e o) kind = Ok (record { op = Some (of_window f); needed = window_needed f })
-call_typed p (tree.shift f e n l o) kind = shift_call p f n l kind
-call_typed p e kind = Ok (record { op = Some op.Rank; needed = needed.Ranked })
+-- the parts of a call between its operand, whose values have these kinds, and its window
+abbrev pub call_typed : Settings → Exp → List Kind → Result Call Rule
+call_typed p (tree.aggregate_over f e o) kinds = Ok (record { op = of_aggregate f; needed = needed.Nothing })
+call_typed p (tree.value_window f e o) kinds = Ok (record { op = Some (of_window f); needed = window_needed f })
+call_typed p (tree.shift f e n l o) kinds = shift_call p f n l kinds
+call_typed p e kinds = Ok (record { op = Some op.Rank; needed = needed.Ranked })
 
 -- the window of an analytic call
 abbrev pub no_window : OverPart
@@ -144,10 +134,14 @@ abbrev pub or_count : Option AnalyticOp → AnalyticOp
 or_count (Some o) = o
 or_count None = op.Count
 
--- the structure that a call gives, with a window that suits it
+-- the structure that a call gives of measures whose kinds it takes
+abbrev pub given_structure : Exp → List Component → Result Structure Rule
+given_structure e xs = measured_form outcome.All (of_measure e) true choice.Except [] xs
+
+-- the same with a window that suits it
 unfoldable pub over_structure : Exp → Call → Window → List Component → Result Structure Rule
 over_structure e call w xs =
-    measured_form outcome.All (of_measure e) true choice.Except [] xs
+    given_structure e xs
     >>= λ s. ruled ((rule.AnalyticMisuse, is_misplaced call.op) ∷ (rule.AnalyticMisuse, not (suits call.needed w)) ∷ []) s
 
 unfoldable pub over_node : Exp → Call → Window → NodeTree → Result TypedTree Rule
@@ -173,46 +167,48 @@ abbrev pub misuse_rule : Place → Exp → Option Kind → Rule
 misuse_rule p e kind = cond (is_unfit_over e kind) rule.WrongKind (elsewhere_rule p kind)
 
 -- ---- behind its operand
-abbrev pub kind_beside : Option TypedTree → Kind
-kind_beside None = k.Null
-kind_beside (Some x) = beside_kind x
+abbrev pub kinds_beside : Option TypedTree → List Kind
+kinds_beside None = []
+kinds_beside (Some x) = beside_kinds x
 
 -- the components that a window speaks of: those of the data set, or of the place
 abbrev pub over_columns : Place → Option TypedTree → List Component
 over_columns p (Some (dataset n)) = columns_in n
 over_columns p x = columns_at p
 
+-- the window of a call: where there is neither an operand nor a place with components, its names stand for nothing
+abbrev pub over_window : Settings → Place → Option TypedTree → OverPart → Result Window Rule
+over_window p place.Outside None o = frame_alone p o
+over_window p at x o = window_typed p (over_columns at x) o
+
+-- of a data set: in a component expression a value is needed, and `DatasetOrValue` is less than what the call asks of its window
+abbrev pub over_dataset : Place → Exp → NodeTree → Call → Window → Result TypedTree Rule
+over_dataset place.Outside e n call w = over_node e call w n
+over_dataset (place.Inside i) e n call w = given_structure e (components_in n) >>= λ s. Err rule.DatasetOrValue
+
 abbrev pub over_form : Place → Exp → Option TypedTree → Call → Window → Result TypedTree Rule
-over_form p e (Some (dataset n)) call w = over_node e call w n
+over_form p e (Some (dataset n)) call w = over_dataset p e n call w
 over_form p e (Some (value v)) call w = Err (misuse_rule p e (Some (exp_kind v)))
 over_form p e None call w = Err (misuse_rule p e None)
 
 -- the other parts of a call, behind its operand, and its window
 unfoldable pub over_parts : Settings → Place → Exp → Option TypedTree → Result (Call × Window) Rule
-over_parts p at e x = call_typed p e (kind_beside x) >>= λ call. window_typed p (over_columns at x) (over_of e) >>= λ w. Ok (call, w)
+over_parts p at e x = call_typed p e (kinds_beside x) >>= λ call. over_window p at x (over_of e) >>= λ w. Ok (call, w)
 
 -- an analytic call that is no whole target, behind its operand: the other parts, the window, and then the call
 unfoldable pub over_typed : Settings → Place → Exp → Option TypedTree → Result TypedTree Rule
 over_typed p at e x = over_parts p at e x >>= λ parts. over_form at e x parts.0 parts.1
 
 -- ---- as a target of `calc`
--- the operand is a component, with or without an alias, and nothing else
-abbrev pub operand_exp : Exp → Option Exp
-operand_exp (tree.aggregate_over f (tree.some_exp e) o) = Some e
-operand_exp (tree.value_window f e o) = Some e
-operand_exp (tree.shift f e n l o) = Some e
-operand_exp e = None
-
-abbrev pub is_component : Option Exp → Bool
-is_component None = false
-is_component (Some e) = is_some (written_in e)
-
-abbrev pub column_name : CompExp → Option (List ℕ)
-column_name (exp.column place name kind) = Some name
-column_name e = None
+-- the operand, which is a component and nothing else
+abbrev pub operand_exp : Exp → MaybeExp
+operand_exp (tree.aggregate_over f e o) = e
+operand_exp (tree.value_window f e o) = tree.some_exp e
+operand_exp (tree.shift f e n l o) = tree.some_exp e
+operand_exp e = tree.no_exp
 
 abbrev pub argument : Exp → CompExp → Option (List ℕ)
-argument e v = cond (is_component (operand_exp e)) (column_name v) None
+argument e v = operand_name (operand_exp e) v
 
 abbrev pub call_tree : AnalyticOp → Option (List ℕ) → Window → ValueTree
 call_tree o component w = nodes.analytic (record { op = o; component = component; window = w })
@@ -229,9 +225,8 @@ value_call e v call w = ruled ((rule.WrongKind, is_unfit_over e (Some (exp_kind 
 abbrev pub rank_call : Call → Window → Result ValueTree Rule
 rank_call call w = ruled ((rule.AnalyticMisuse, not (suits call.needed w)) ∷ []) (call_tree op.Rank None w)
 
--- where a value is needed an operator on a data set is typed, and then breaks `DatasetOrValue`
 abbrev pub target_form : Exp → Option TypedTree → Call → Window → Result ValueTree Rule
-target_form e (Some (dataset n)) call w = over_node e call w n >>= λ t. Err rule.DatasetOrValue
+target_form e (Some (dataset n)) call w = given_structure e (components_in n) >>= λ s. Err rule.DatasetOrValue
 target_form e (Some (value v)) call w = value_call e v call w
 target_form e None call w = cond (is_rank e) (rank_call call w) (Err rule.WrongKind)
 

@@ -1,6 +1,6 @@
 // Aggregates: of the measures of a data set, and of one component over groups.
-ghost use Rattle.std.specs.Option.{is_some, option_map};
-ghost use Rattle.std.specs.Prelude.{◌≡◌, None, Ok, cond, true};
+ghost use Rattle.std.specs.Option.{option_map};
+ghost use Rattle.std.specs.Prelude.{◌≡◌, Ok, true};
 ghost use Rattle.check_faults.specs.Answers.{Answers};
 ghost use Rattle.vtl_syntax.specs.Trees.{maybe_exp};
 ghost use Rattle.vtl_syntax.specs.View.{expr_tree};
@@ -8,43 +8,21 @@ ghost use Rattle.vtl_nodes.specs.Trees.{aggregate};
 ghost use Rattle.vtl_nodes.specs.View.{form_tree};
 ghost use Rattle.check_shapes.specs.Measures.{measured_form};
 ghost use Rattle.vtl_tree.specs.View.{comp_exp_of};
-ghost use Rattle.check_operators.specs.Places.{inside_view, written_in, written_view};
 ghost use Rattle.check_operators.specs.Typed.{boxed_tree, typed_tree};
 ghost use Rattle.check_values.specs.Groupings.{grouping_choice, grouping_names};
-ghost use Rattle.check_groups.specs.Aggregates.{agg_kind, aggregate_node, component_call, count_call, group_call, group_call_by, group_operand, is_group, misuse_rule, no_dataset, of_measure, outcome_of, written_call};
+ghost use Rattle.check_groups.specs.Aggregates.{agg_kind, aggregate_node, count_call, group_call, group_call_by, is_group, is_misused, of_measure, outcome_of, outside_rule, aggregate_value};
 
-use crate::kinds::{agg_kind, aggregate_kind, call_kind, is_unfit};
+use crate::arguments::{operand_name, share_name};
+use crate::kinds::{agg_kind, aggregate_kind, count_kind};
 use check_faults::{Rule, TypeErr, broken};
-use check_operators::{Inside, Place, Typed, WrittenName, made_of, name_written, written_in};
+use check_operators::{Inside, Place, Typed, made_of};
 use check_shapes::{Operator, Outcome, measured};
-use check_values::{column, grouping_choice, grouping_names, grouping_of, kind};
+use check_values::{grouping_choice, grouping_names, grouping_of, kind};
 use std::alloc::Global;
 use vtl_cell::{Kind, List, Txt};
 use vtl_nodes::{AggItems, AggSpec, Node, NodeForm};
 use vtl_syntax::{AggregateName, Expr, GroupPart};
 use vtl_tree::{AggCall, CompExpr, Structure};
-
-fn over_groups<'a>(inside: &'a Inside, e: &'a Expr) -> Option<(&'a Inside, WrittenName<'a>)>
-    ensures { option_map inside_view result ≡ cond (is_some inside.now.grouping) (option_map (λ w. (inside.now, w)) (written_in (expr_tree e.now))) None }
-{
-    match inside.grouping {
-        Some(_) => Some((inside, written_in(e)?)),
-        None => None,
-    }
-}
-
-/// The component that an aggregate over groups is of, where its operand is a component alone.
-pub fn group_operand<'a>(
-    place: &'a Place,
-    operand: Option<&'a Expr>,
-) -> Option<(&'a Inside, WrittenName<'a>)>
-    ensures { option_map inside_view result ≡ group_operand place.now (maybe_exp (option_map (λ e. expr_tree e.now) operand.entry)) }
-{
-    match (place, operand) {
-        (Place::Inside(inside), Some(e)) => over_groups(inside, e),
-        _ => None,
-    }
-}
 
 fn group_call(function: AggregateName, component: Option<Txt>, kind: Kind) -> Typed
     ensures { Ok (typed_tree result) ≡ group_call function component kind }
@@ -73,33 +51,41 @@ fn group_call_by(
     Ok(group_call(function, component, kind))
 }
 
-fn component_call(
-    inside: &Inside,
-    function: AggregateName,
-    grouped: bool,
-    name: Txt,
-) -> Result<Typed, TypeErr>
-    ensures { Answers typed_tree result (component_call inside.now function grouped name) }
+fn is_misused(inside: &Inside, grouped: bool, component: &Option<Txt>) -> bool
+    ensures { result ≡ is_misused inside.now grouped component.now }
 {
-    let component = column(&name, inside.components.as_slice())?;
-    let given = call_kind(function, Some(kind(&component)));
-    group_call_by(function, Some(name), grouped, given)
+    grouped || inside.grouping.is_none() || component.is_none()
 }
 
-/// An aggregate of a component over groups, in a target of `aggr` or in `having`. It breaks `UnknownComponent`,
-/// `WrongKind` where the component's kind does not fit, and `AggregateMisuse` where it has groups of its own.
-#[tactic(auto, unfolding(crate::specs::Aggregates::written_call))]
-pub fn written_call(
-    alloc: Global,
-    inside: &Inside,
+fn outside_rule(kind: Option<Kind>) -> Rule
+    ensures { result ≡ outside_rule kind }
+{
+    match kind {
+        Some(_) => Rule::DatasetOrValue,
+        None => Rule::WrongKind,
+    }
+}
+
+/// An aggregate of a value: in a target of `aggr` or in `having` it is of a component, and has no groups of its own.
+/// It breaks `WrongKind` where the kind does not fit, outside `DatasetOrValue`, and otherwise `AggregateMisuse`.
+pub fn aggregate_value(
+    place: &Place,
     function: AggregateName,
     grouped: bool,
-    written: WrittenName<'_>,
+    operand: Option<&Expr>,
+    value: &CompExpr,
 ) -> Result<Typed, TypeErr>
-    ensures { Answers typed_tree result (written_call inside.now function grouped (written_view written.entry)) }
+    ensures { Answers typed_tree result (aggregate_value place.now function grouped (maybe_exp (option_map (λ e. expr_tree e.now) operand.entry)) (comp_exp_of value.now)) }
 {
-    let name = name_written(alloc, &inside.joined, written)?;
-    component_call(inside, function, grouped, name)
+    let given = aggregate_kind(function, kind(value));
+    match place {
+        Place::Outside => Err(TypeErr::Broken(outside_rule(given))),
+        Place::Inside(inside) => {
+            let component = share_name(operand_name(operand, value))?;
+            let is_misused = is_misused(inside, grouped, &component);
+            group_call_by(function, component, is_misused, given)
+        }
+    }
 }
 
 // An aggregate of each measure, by the kinds that it takes and gives.
@@ -190,38 +176,14 @@ fn is_group(place: &Place) -> bool
     }
 }
 
-fn count_call(function: AggregateName, grouped: bool) -> Result<Typed, TypeErr>
-    ensures { Answers typed_tree result (count_call function grouped) }
+/// An aggregate without an operand: over groups `count()` is the number of points, where it has none of its own
+/// (`AggregateMisuse`); anything else breaks `WrongKind`.
+pub fn count_call(place: &Place, function: AggregateName, grouped: bool) -> Result<Typed, TypeErr>
+    ensures { Answers typed_tree result (count_call place.now function grouped) }
 {
-    group_call_by(function, None, grouped, call_kind(function, None))
-}
-
-fn misuse_rule(place: &Place, unfit: bool, grouped: bool) -> Rule
-    ensures { result ≡ misuse_rule place.now unfit grouped }
-{
-    match place {
-        _ if unfit => Rule::WrongKind,
-        Place::Inside(_) if !grouped => Rule::AggregateMisuse,
-        _ => Rule::DatasetOrValue,
-    }
-}
-
-/// An aggregate that is not of a data set: over groups `count()` is the number of points; anything else breaks
-/// `WrongKind`, `DatasetOrValue` or `AggregateMisuse`.
-pub fn no_dataset(
-    place: &Place,
-    function: AggregateName,
-    grouped: bool,
-    kind: Option<Kind>,
-) -> Result<Typed, TypeErr>
-    ensures { Answers typed_tree result (no_dataset place.now function grouped kind) }
-{
-    match kind {
-        Some(_) => {
-            let unfit = is_unfit(function, kind);
-            Err(TypeErr::Broken(misuse_rule(place, unfit, grouped)))
-        }
-        None if is_group(place) => count_call(function, grouped),
-        None => Err(TypeErr::Broken(Rule::WrongKind)),
+    if is_group(place) {
+        group_call_by(function, None, grouped, count_kind(function))
+    } else {
+        Err(TypeErr::Broken(Rule::WrongKind))
     }
 }

@@ -3,18 +3,20 @@ ghost use Rattle.std.specs.Option.{option_map};
 ghost use Rattle.std.specs.Prelude.{◌≡◌};
 ghost use Rattle.vtl_nodes.specs.View.{value_tree};
 ghost use Rattle.check_faults.specs.Answers.{Answers};
+ghost use Rattle.vtl_syntax.specs.Trees.{maybe_exp};
 ghost use Rattle.vtl_syntax.specs.View.{expr_tree};
 ghost use Rattle.vtl_tree.specs.View.{comp_exp_of};
 ghost use Rattle.check_operators.specs.Typed.{typed_tree};
-ghost use Rattle.check_groups.specs.Windowed.{argument, call_of, column_name, is_component, operand_exp, rank_call, target_form, target_typed, value_call};
+ghost use Rattle.check_groups.specs.Windowed.{argument, call_of, operand_exp, rank_call, target_form, target_typed, value_call};
 
 use crate::Call;
+use crate::arguments::operand_name;
 use crate::call_windows::over_parts;
 use crate::calls::suits;
 use crate::over_kinds::{is_rank, is_unfit_over};
-use crate::over_nodes::over_structure;
+use crate::over_nodes::given_structure;
 use check_faults::{Rule, TypeErr, broken};
-use check_operators::{Place, Typed, written_in};
+use check_operators::{Place, Typed};
 use check_values::kind;
 use std::alloc::Global;
 use vtl_cell::{Profile, Txt};
@@ -23,7 +25,7 @@ use vtl_syntax::Expr;
 use vtl_tree::CompExpr;
 
 fn operand_exp(call: &Expr) -> Option<&Expr>
-    ensures { option_map (λ e. expr_tree e.now) result ≡ operand_exp (expr_tree call.now) }
+    ensures { maybe_exp (option_map (λ e. expr_tree e.now) result) ≡ operand_exp (expr_tree call.now) }
 {
     match call {
         Expr::AggregateOver {
@@ -36,33 +38,10 @@ fn operand_exp(call: &Expr) -> Option<&Expr>
     }
 }
 
-// A component, with or without an alias, and nothing else.
-fn is_component(operand: Option<&Expr>) -> bool
-    ensures { result ≡ is_component (option_map (λ e. expr_tree e.now) operand.entry) }
-{
-    match operand {
-        Some(operand) => written_in(operand).is_some(),
-        None => false,
-    }
-}
-
-fn column_name(e: &CompExpr) -> Option<&Txt>
-    ensures { option_map (λ name. name.now) result ≡ column_name (comp_exp_of e.now) }
-{
-    match e {
-        CompExpr::Column { name, .. } => Some(name),
-        _ => None,
-    }
-}
-
 fn argument<'a>(call: &Expr, operand: &'a CompExpr) -> Option<&'a Txt>
     ensures { option_map (λ name. name.now) result ≡ argument (expr_tree call.now) (comp_exp_of operand.now) }
 {
-    if is_component(operand_exp(call)) {
-        column_name(operand)
-    } else {
-        None
-    }
+    operand_name(operand_exp(call), operand)
 }
 
 // A call of a component.
@@ -107,8 +86,6 @@ fn rank_call(call: &Call, window: Window) -> Result<CalcValue, TypeErr>
     }))
 }
 
-// Where a value is needed, an operator on a data set is typed first, and then breaks `DatasetOrValue`.
-#[tactic(auto, unfolding(crate::specs::Windowed::over_node))]
 fn target_form(
     alloc: Global,
     e: &Expr,
@@ -120,7 +97,7 @@ fn target_form(
 {
     match operand {
         Some(Typed::Dataset(node)) => {
-            over_structure(alloc, e, &call, &window, &node.structure)?;
+            given_structure(alloc, e, &node.structure)?;
             Err(TypeErr::Broken(Rule::DatasetOrValue))
         }
         Some(Typed::Value(value)) => value_call(e, value, call, window),

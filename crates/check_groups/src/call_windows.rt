@@ -1,18 +1,18 @@
 // The windows of analytic calls, and the parts of calls after their operands.
 ghost use Rattle.std.specs.Option.{option_copied, option_map};
-ghost use Rattle.std.specs.Prelude.{◌≡◌, unwrap_or};
+ghost use Rattle.std.specs.Prelude.{◌≡◌, IfOk, unwrap_or};
 ghost use Rattle.check_faults.specs.Answers.{Answers};
 ghost use Rattle.vtl_syntax.specs.View.{expr_tree};
-ghost use Rattle.check_values.specs.Windows.{window_typed};
+ghost use Rattle.check_values.specs.Windows.{frame_alone, window_typed};
 ghost use Rattle.check_operators.specs.Typed.{typed_tree};
-ghost use Rattle.check_groups.specs.Windowed.{kind_beside, no_window, over_columns, over_of, over_parts};
+ghost use Rattle.check_groups.specs.Windowed.{kinds_beside, no_window, over_of, over_parts, over_window};
 
 use crate::Call;
 use crate::calls::call_typed;
 use check_faults::TypeErr;
 use check_operators::{Place, Typed, columns_at, points};
-use check_values::window;
-use std::alloc::Global;
+use check_values::{frame_alone, window};
+use std::alloc::{AllocError, Global};
 use vtl_cell::{Kind, Profile};
 use vtl_nodes::Window;
 use vtl_syntax::{Expr, OverPart};
@@ -54,6 +54,16 @@ fn window_of(
     }
 }
 
+fn frame_of(alloc: Global, profile: &Profile, call: &Expr) -> Result<Window, TypeErr>
+    ensures { Answers (λ window. window) result (frame_alone profile.now (over_of (expr_tree call.now))) }
+{
+    match over_of(call) {
+        Some(over) => frame_alone(alloc, profile, over),
+        None => frame_alone(alloc, profile, &no_window()),
+    }
+}
+
+// The window of a call: where there is neither an operand nor a place with components, its names stand for nothing.
 fn over_window(
     alloc: Global,
     profile: &Profile,
@@ -61,23 +71,24 @@ fn over_window(
     call: &Expr,
     operand: &Option<Typed>,
 ) -> Result<Window, TypeErr>
-    ensures { Answers (λ window. window) result (window_typed profile.now (over_columns place.now (option_map typed_tree operand.now)) (over_of (expr_tree call.now))) }
+    ensures { Answers (λ window. window) result (over_window profile.now place.now (option_map typed_tree operand.now) (over_of (expr_tree call.now))) }
 {
-    match operand {
-        Some(Typed::Dataset(node)) => {
+    match (place, operand) {
+        (_, Some(Typed::Dataset(node))) => {
             let at = points(alloc, &None, node)?;
             window_of(alloc, profile, columns_at(&at), call)
         }
+        (Place::Outside, None) => frame_of(alloc, profile, call),
         _ => window_of(alloc, profile, columns_at(place), call),
     }
 }
 
-fn kind_beside(operand: &Option<Typed>) -> Kind
-    ensures { result ≡ kind_beside (option_map typed_tree operand.now) }
+fn kinds_beside(alloc: Global, operand: &Option<Typed>) -> Result<Vec<Kind>, AllocError>
+    ensures { IfOk result (λ kinds. kinds.items ≡ kinds_beside (option_map typed_tree operand.now)) }
 {
     match operand {
-        Some(operand) => operand.beside_kind(),
-        None => Kind::Null,
+        Some(operand) => operand.beside_kinds(alloc),
+        None => Ok(Vec::new(alloc)),
     }
 }
 
@@ -92,7 +103,8 @@ pub(crate) fn over_parts(
 ) -> Result<(Call, Window), TypeErr>
     ensures { Answers (λ parts. parts) result (over_parts profile.now place.now (expr_tree call.now) (option_map typed_tree operand.now)) }
 {
-    let parts = call_typed(alloc, profile, call, kind_beside(operand))?;
+    let kinds = kinds_beside(alloc, operand)?;
+    let parts = call_typed(alloc, profile, call, &kinds)?;
     let window = over_window(alloc, profile, place, call, operand)?;
     Ok((parts, window))
 }

@@ -5,10 +5,9 @@ ghost use Rattle.vtl_syntax.specs.View.{expr_tree};
 ghost use Rattle.check_groups.specs.Windowed.{call_typed, default_typed, is_ordered, is_unframed, of_aggregate, of_shift, of_window, shift_call, suits, window_needed};
 
 use check_faults::TypeErr;
-use check_values::{literal, literal_kind, points, still_wanted, wanted_or};
+use check_values::{literal, literal_kind, met_beside, points};
 use std::alloc::Global;
 use vtl_cell::{Cell, Kind, Profile, Txt};
-use vtl_kinds::is_null_kind;
 use vtl_nodes::{AnalyticOp, Window};
 use vtl_syntax::{AggregateName, Expr, Literal, ShiftName, ValueWindowName};
 
@@ -73,18 +72,18 @@ fn of_shift(function: ShiftName, offset: u32, default: Cell) -> AnalyticOp
     }
 }
 
-// The default of `lag` and `lead` on an operand of this kind: null where none is written.
+// The default of `lag` and `lead` on an operand whose values have these kinds: null where none is written.
 fn default(
     alloc: Global,
     profile: &Profile,
-    kind: Kind,
+    kinds: &[Kind],
     value: &Option<Literal>,
 ) -> Result<Cell, TypeErr>
-    ensures { Answers (λ cell. cell) result (default_typed profile.now kind value.now) }
+    ensures { Answers (λ cell. cell) result (default_typed profile.now kinds.now value.now) }
 {
     match value {
         Some(value) => {
-            wanted_or(still_wanted(is_null_kind(kind), kind, literal_kind(value)))?;
+            met_beside(kinds, literal_kind(value))?;
             literal(alloc, profile, value)
         }
         None => Ok(Cell::Null),
@@ -98,26 +97,26 @@ fn shift_call(
     function: ShiftName,
     digits: &Txt,
     value: &Option<Literal>,
-    kind: Kind,
+    kinds: &[Kind],
 ) -> Result<Call, TypeErr>
-    ensures { Answers (λ call. call) result (shift_call profile.now function digits.now value.now kind) }
+    ensures { Answers (λ call. call) result (shift_call profile.now function digits.now value.now kinds.now) }
 {
     let offset = points(profile, digits)?;
-    let default = default(alloc, profile, kind, value)?;
+    let default = default(alloc, profile, kinds, value)?;
     Ok(Call {
         op: Some(of_shift(function, offset, default)),
         needed: Needed::Ranked,
     })
 }
 
-/// The parts of a call between its operand, with which this kind is wanted, and its window.
+/// The parts of a call between its operand, whose values have these kinds, and its window.
 pub(crate) fn call_typed(
     alloc: Global,
     profile: &Profile,
     call: &Expr,
-    kind: Kind,
+    kinds: &[Kind],
 ) -> Result<Call, TypeErr>
-    ensures { Answers (λ call. call) result (call_typed profile.now (expr_tree call.now) kind) }
+    ensures { Answers (λ call. call) result (call_typed profile.now (expr_tree call.now) kinds.now) }
 {
     match call {
         Expr::AggregateOver { function, .. } => Ok(Call {
@@ -133,7 +132,7 @@ pub(crate) fn call_typed(
             points,
             default,
             ..
-        } => shift_call(alloc, profile, *function, points, default, kind),
+        } => shift_call(alloc, profile, *function, points, default, kinds),
         _ => Ok(Call {
             op: Some(AnalyticOp::Rank),
             needed: Needed::Ranked,

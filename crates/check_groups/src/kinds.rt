@@ -1,6 +1,6 @@
 // The kinds that aggregates take and give.
 ghost use Rattle.std.specs.Prelude.{◌≡◌};
-ghost use Rattle.check_groups.specs.Aggregates.{agg_kind, aggregate_kind, call_kind, is_unfit};
+ghost use Rattle.check_groups.specs.Aggregates.{agg_kind, aggregate_kind, count_kind};
 
 use vtl_cell::{AggKind, Kind};
 use vtl_syntax::AggregateName;
@@ -25,23 +25,12 @@ pub(crate) fn aggregate_kind(function: AggregateName, kind: Kind) -> Option<Kind
     vtl_kinds::aggregate_kind(agg_kind(function), kind)
 }
 
-/// The same for an operand that has this kind or is missing: without one there is only the number of points.
-pub(crate) fn call_kind(function: AggregateName, kind: Option<Kind>) -> Option<Kind>
-    ensures { result ≡ call_kind function kind }
+/// The kind that an aggregate without an operand gives: there is only the number of points.
+pub(crate) fn count_kind(function: AggregateName) -> Option<Kind>
+    ensures { result ≡ count_kind function }
 {
-    match (function, kind) {
-        (function, Some(kind)) => aggregate_kind(function, kind),
-        (AggregateName::Count, None) => Some(Kind::Int),
-        (_, None) => None,
-    }
-}
-
-/// Whether the operand of an aggregate is missing, or its kind does not fit.
-pub(crate) fn is_unfit(function: AggregateName, kind: Option<Kind>) -> bool
-    ensures { result ≡ is_unfit function kind }
-{
-    match kind {
-        Some(kind) => aggregate_kind(function, kind).is_none(),
-        None => true,
+    match function {
+        AggregateName::Count => Some(Kind::Int),
+        _ => None,
     }
 }

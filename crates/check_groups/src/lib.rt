@@ -8,6 +8,7 @@
 #![tactic(auto)]
 
 mod aggregates;
+mod arguments;
 mod calc_targets;
 mod call_windows;
 mod calls;
@@ -16,7 +17,7 @@ mod over_kinds;
 mod over_nodes;
 mod windowed;
 
-pub use aggregates::{aggregate, group_operand, no_dataset, written_call};
+pub use aggregates::{aggregate, aggregate_value, count_call};
 pub use calc_targets::target;
 pub use calls::{Call, Needed};
 pub use windowed::over;

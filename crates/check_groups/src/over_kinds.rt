@@ -1,13 +1,12 @@
 // The kinds that analytic calls take and give.
 ghost use Rattle.std.specs.Prelude.{◌≡◌};
 ghost use Rattle.vtl_syntax.specs.View.{expr_tree};
-ghost use Rattle.check_groups.specs.Windowed.{is_rank, is_unfit_over, meets_default, over_kind, shift_kind, window_kind};
+ghost use Rattle.check_groups.specs.Windowed.{is_rank, is_unfit_over, over_kind, window_kind};
 
 use crate::kinds::aggregate_kind;
-use check_values::literal_kind;
 use vtl_cell::Kind;
-use vtl_kinds::{meets, number_of};
-use vtl_syntax::{Expr, Literal, ValueWindowName};
+use vtl_kinds::number_of;
+use vtl_syntax::{Expr, ValueWindowName};
 
 fn window_kind(function: ValueWindowName, kind: Kind) -> Option<Kind>
     ensures { result ≡ window_kind function kind }
@@ -18,25 +17,6 @@ fn window_kind(function: ValueWindowName, kind: Kind) -> Option<Kind>
     }
 }
 
-fn meets_default(default: &Option<Literal>, kind: Kind) -> bool
-    ensures { result ≡ meets_default default.now kind }
-{
-    match default {
-        Some(default) => meets(kind, literal_kind(default)),
-        None => true,
-    }
-}
-
-fn shift_kind(default: &Option<Literal>, kind: Kind) -> Option<Kind>
-    ensures { result ≡ shift_kind default.now kind }
-{
-    if meets_default(default, kind) {
-        Some(kind)
-    } else {
-        None
-    }
-}
-
 /// The kind that an analytic call gives for values of a kind, where it takes them.
 pub(crate) fn over_kind(call: &Expr, kind: Kind) -> Option<Kind>
     ensures { result ≡ over_kind (expr_tree call.now) kind }
@@ -44,7 +24,7 @@ pub(crate) fn over_kind(call: &Expr, kind: Kind) -> Option<Kind>
     match call {
         Expr::AggregateOver { function, .. } => aggregate_kind(*function, kind),
         Expr::ValueWindow { function, .. } => window_kind(*function, kind),
-        Expr::Shift { default, .. } => shift_kind(default, kind),
+        Expr::Shift { .. } => Some(kind),
         _ => Some(Kind::Int),
     }
 }

@@ -5,7 +5,7 @@ ghost use Rattle.vtl_nodes.specs.View.{form_tree};
 ghost use Rattle.check_faults.specs.Answers.{Answers};
 ghost use Rattle.vtl_syntax.specs.View.{expr_tree};
 ghost use Rattle.check_operators.specs.Typed.{boxed_tree, typed_tree};
-ghost use Rattle.check_groups.specs.Windowed.{is_misplaced, or_count, over_node, over_structure};
+ghost use Rattle.check_groups.specs.Windowed.{given_structure, is_misplaced, or_count, over_node, over_structure};
 
 use crate::Call;
 use crate::calls::suits;
@@ -46,11 +46,30 @@ fn is_misplaced(op: &Option<AnalyticOp>) -> bool
     }
 }
 
-/// The structure of a call of each measure. It breaks `WrongKind` where the kind of a measure does not fit,
-/// `ComponentCount` where nothing is left, and `AnalyticMisuse` where the call is no operator on data sets or does not
-/// suit its window.
+/// The structure of a call of each measure. It breaks `WrongKind` where the kind of a measure does not fit, and
+/// `ComponentCount` where nothing is left.
+pub(crate) fn given_structure(
+    alloc: Global,
+    e: &Expr,
+    structure: &Structure,
+) -> Result<Structure, TypeErr>
+    ensures { Answers (λ s. s) result (given_structure (expr_tree e.now) structure.now.components) }
+{
+    let operator = OfMeasure { call: e };
+    measured(
+        alloc,
+        Outcome::All,
+        &operator,
+        true,
+        Choice::Except,
+        &[],
+        structure,
+    )
+}
+
+// The same, with `AnalyticMisuse` where the call is no operator on data sets or does not suit its window.
 #[tactic(auto, unfolding(crate::specs::Windowed::over_structure))]
-pub(crate) fn over_structure(
+fn over_structure(
     alloc: Global,
     e: &Expr,
     call: &Call,
@@ -59,16 +78,7 @@ pub(crate) fn over_structure(
 ) -> Result<Structure, TypeErr>
     ensures { Answers (λ s. s) result (over_structure (expr_tree e.now) call.now window.now structure.now.components) }
 {
-    let operator = OfMeasure { call: e };
-    let given = measured(
-        alloc,
-        Outcome::All,
-        &operator,
-        true,
-        Choice::Except,
-        &[],
-        structure,
-    )?;
+    let given = given_structure(alloc, e, structure)?;
     broken(Rule::AnalyticMisuse, is_misplaced(&call.op))?;
     broken(Rule::AnalyticMisuse, !suits(call.needed, window))?;
     Ok(given)

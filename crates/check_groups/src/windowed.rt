@@ -3,19 +3,19 @@ ghost use Rattle.std.specs.Option.{option_map};
 ghost use Rattle.std.specs.Prelude.{◌≡◌};
 ghost use Rattle.check_faults.specs.Answers.{Answers};
 ghost use Rattle.vtl_syntax.specs.View.{expr_tree};
-ghost use Rattle.check_operators.specs.Typed.{typed_tree};
-ghost use Rattle.check_groups.specs.Windowed.{elsewhere_rule, misuse_rule, over_form, over_typed};
+ghost use Rattle.check_operators.specs.Typed.{boxed_tree, typed_tree};
+ghost use Rattle.check_groups.specs.Windowed.{elsewhere_rule, misuse_rule, over_dataset, over_form, over_typed};
 
 use crate::Call;
 use crate::call_windows::over_parts;
 use crate::over_kinds::is_unfit_over;
-use crate::over_nodes::over_node;
+use crate::over_nodes::{given_structure, over_node};
 use check_faults::{Rule, TypeErr};
 use check_operators::{Place, Typed};
 use check_values::kind;
 use std::alloc::Global;
 use vtl_cell::{Kind, Profile};
-use vtl_nodes::Window;
+use vtl_nodes::{Node, Window};
 use vtl_syntax::Expr;
 
 fn elsewhere_rule(place: &Place, kind: Option<Kind>) -> Rule
@@ -37,6 +37,26 @@ fn misuse_rule(place: &Place, call: &Expr, kind: Option<Kind>) -> Rule
     }
 }
 
+// A call of a data set: in a component expression a value is needed.
+fn over_dataset(
+    alloc: Global,
+    place: &Place,
+    e: &Expr,
+    node: Box<Node>,
+    call: Call,
+    window: Window,
+) -> Result<Typed, TypeErr>
+    ensures { Answers typed_tree result (over_dataset place.now (expr_tree e.now) (boxed_tree node) call window) }
+{
+    match place {
+        Place::Outside => over_node(alloc, e, call, window, node),
+        Place::Inside(_) => {
+            given_structure(alloc, e, &node.structure)?;
+            Err(TypeErr::Broken(Rule::DatasetOrValue))
+        }
+    }
+}
+
 fn over_form(
     alloc: Global,
     place: &Place,
@@ -48,7 +68,7 @@ fn over_form(
     ensures { Answers typed_tree result (over_form place.now (expr_tree e.now) (option_map typed_tree operand) call window) }
 {
     match operand {
-        Some(Typed::Dataset(node)) => over_node(alloc, e, call, window, node),
+        Some(Typed::Dataset(node)) => over_dataset(alloc, place, e, node, call, window),
         Some(Typed::Value(v)) => Err(TypeErr::Broken(misuse_rule(place, e, Some(kind(&v))))),
         None => Err(TypeErr::Broken(misuse_rule(place, e, None))),
     }

@@ -140,23 +140,32 @@ takes_using join.Inner = true
 takes_using join.Left = true
 takes_using kind = false
 
--- the names behind `using`, and then that the join takes them
-abbrev pub using_form : JoinKind → List Operand → Option (List (List ℕ)) → Result (Unit {0}) Rule
-using_form kind os None = Ok tt
-using_form kind os (Some names) = using_behind os [] names >>= λ u. ruled ((rule.JoinMisuse, not (takes_using kind)) ∷ []) tt
+-- the names behind `using`
+abbrev pub using_form : List Operand → Option (List (List ℕ)) → Result (Unit {0}) Rule
+using_form os None = Ok tt
+using_form os (Some names) = using_behind os [] names
 
--- the rules that the join can break: the identifiers of its operands, and the size of the joined set
+-- the names by which operands go together: a join that takes no `using` goes by all identifiers
+abbrev pub taken : JoinKind → Option (List (List ℕ)) → Option (List (List ℕ))
+taken kind listed = if takes_using kind then listed else None
+
+abbrev pub is_misused : JoinKind → Option (List (List ℕ)) → Bool
+is_misused kind listed = is_some listed && not (takes_using kind)
+
+-- the rules that the join can break before its joined set is made: the identifiers of its operands, and the size of the set
 abbrev pub join_tests : JoinKind → Option (List (List ℕ)) → List Operand → Tests
 join_tests kind listed os =
     (rule.IdentifiersDisagree, not (go_together kind listed os))
     ∷ (rule.ComponentCount, nat_lt most_components (length (held_names kind os))) ∷ []
 
--- a join: the structure of the joined set
+-- a join: the names behind `using`, and then the structure of the joined set; that the join takes no `using` is the last of the
+-- rules that it can break
 abbrev pub join_form : JoinKind → Option (List (List ℕ)) → List Operand → Result Structure Rule
 join_form kind listed os =
-    using_form kind os listed
-    >>= λ u. ruled (join_tests kind listed os) (tt {0})
+    using_form os listed
+    >>= λ u. ruled (join_tests kind (taken kind listed) os) (tt {0})
     >>= λ v. shaped (joined_components kind (held_names kind os) os)
+    >>= λ s. ruled ((rule.JoinMisuse, is_misused kind listed) ∷ []) s
 
 -- the operand of this alias
 abbrev pub operand_of : List ℕ → List Operand → Option Operand

@@ -7,7 +7,7 @@ ghost use Rattle.check_faults.specs.Answers.{Answers};
 ghost use Rattle.check_joins.specs.Joins.{all_own, held_by, held_names, holds, is_held, is_marked, is_part, is_reference, is_shared, join_form, joined, joined_components, joined_identifiers, joined_name, last_renamings, marked, member_form, operand_of, own, own_renamings, plain, structures_of, with_mark};
 
 use crate::Operand;
-use crate::joins::{check_using, go_together, is_cross, reference};
+use crate::joins::{check_using, go_together, is_cross, is_misused, reference, taken};
 use check_faults::{Rule, TypeErr, broken};
 use check_shapes::{Renaming, component_of, is_identifier, push_identifiers, shaped};
 use std::alloc::{AllocError, Global};
@@ -192,7 +192,7 @@ fn joined_components(
 /// The joined set of a join: the identifiers of the reference, in a cross join those of all operands, and then the
 /// other components operand by operand. A name that several operands hold is `alias'name` in it. Besides what the names
 /// after `using` break, the join breaks `IdentifiersDisagree` where the identifiers of its operands do not agree as it
-/// requires.
+/// requires, `ComponentCount`, and `JoinMisuse` where it takes no `using`.
 pub fn join(
     alloc: Global,
     kind: JoinKind,
@@ -201,15 +201,17 @@ pub fn join(
 ) -> Result<Structure, TypeErr>
     ensures { Answers (λ s. s) result (join_form kind (option_copied listed.entry) operands.now) }
 {
-    check_using(kind, operands, listed)?;
+    check_using(operands, listed)?;
     broken(
         Rule::IdentifiersDisagree,
-        !go_together(kind, listed, operands),
+        !go_together(kind, taken(kind, listed), operands),
     )?;
     let held = held_names(alloc, kind, operands)?;
     broken(Rule::ComponentCount, MAX_COMPONENTS < held.len())?;
     let out = joined_components(alloc, kind, &held, operands)?;
-    shaped(alloc, out)
+    let structure = shaped(alloc, out)?;
+    broken(Rule::JoinMisuse, is_misused(kind, listed))?;
+    Ok(structure)
 }
 
 fn operand_of<'a>(alias: &Txt, operands: &'a [Operand]) -> Option<&'a Operand>

@@ -7,7 +7,7 @@ ghost use Rattle.check_faults.specs.Answers.{Answers};
 ghost use Rattle.check_faults.specs.Rules.{ruled};
 ghost use Rattle.check_shapes.specs.Choices.{is_identifier as is_id, is_identifier_name as is_id_name};
 ghost use Rattle.check_shapes.specs.Names.{component_of as component_named, is_among as among};
-ghost use Rattle.check_joins.specs.Joins.{agrees, all_go_with, clashes, containing, contains_all, go_together, goes_with, is_cross, is_exactly, reference, structures_of, takes_using, using_behind, using_form, using_tests};
+ghost use Rattle.check_joins.specs.Joins.{agrees, all_go_with, clashes, containing, contains_all, go_together, goes_with, is_cross, is_exactly, is_misused, reference, structures_of, taken, takes_using, using_behind, using_form, using_tests};
 
 use check_faults::{Rule, TypeErr, broken};
 use check_shapes::{
@@ -224,18 +224,26 @@ fn takes_using(kind: JoinKind) -> bool
 }
 
 /// The names after `using`: a name breaks `UnknownComponent` where no operand has it, `RepeatedName` where it stands
-/// there already, and `WrongRole` where it is never an identifier. After the names, a join that takes no `using` breaks
-/// `JoinMisuse`.
-pub(crate) fn check_using(
-    kind: JoinKind,
-    operands: &[Operand],
-    listed: Option<&[Txt]>,
-) -> Result<(), TypeErr>
-    ensures { Answers (λ done. done) result (using_form kind operands.now (option_copied listed.entry)) }
+/// there already, and `WrongRole` where it is never an identifier.
+pub(crate) fn check_using(operands: &[Operand], listed: Option<&[Txt]>) -> Result<(), TypeErr>
+    ensures { Answers (λ done. done) result (using_form operands.now (option_copied listed.entry)) }
 {
-    let Some(names) = listed else {
-        return Ok(());
-    };
-    check_using_names(operands, names)?;
-    broken(Rule::JoinMisuse, !takes_using(kind))
+    match listed {
+        Some(names) => check_using_names(operands, names),
+        None => Ok(()),
+    }
+}
+
+/// The names by which operands go together: a join that takes no `using` goes by all identifiers.
+pub(crate) fn taken(kind: JoinKind, listed: Option<&[Txt]>) -> Option<&[Txt]>
+    ensures { option_copied result ≡ taken kind (option_copied listed.entry) }
+{
+    if takes_using(kind) { listed } else { None }
+}
+
+/// Whether `using` stands on a join that takes none.
+pub(crate) fn is_misused(kind: JoinKind, listed: Option<&[Txt]>) -> bool
+    ensures { result ≡ is_misused kind (option_copied listed.entry) }
+{
+    listed.is_some() && !takes_using(kind)
 }

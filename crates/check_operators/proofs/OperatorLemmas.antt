@@ -1,5 +1,5 @@
 -- Data sets where an operator takes none.
-use Rattle.std.proofs.Common.{◌≡◌, ◌≢◌, ◌<◌, ◌+◌, List, [], ◌∷◌, Bool, true, length, refl, subst, arith}
+use Rattle.std.proofs.Common.{◌≡◌, ◌≢◌, ◌<◌, ◌+◌, List, [], ◌∷◌, Bool, true, not, ◌||◌, length, refl, subst, ap, sym, arith}
 use Rattle.std.specs.Prelude.{map, Result, Err}
 use Rattle.vtl_cell.specs.declared.kind.Kind.{Kind}
 use Rattle.vtl_cell.specs.declared.operator.ScalarOp.{ScalarOp}
@@ -12,8 +12,8 @@ use Rattle.check_shapes.specs.declared.measures.Outcome.{Outcome}
 use Rattle.vtl_tree.specs.declared.structure.Component.{Component}
 use Rattle.vtl_tree.specs.declared.structure.Structure.{Structure}
 use Rattle.check_values.specs.Kinds.{exp_kind}
-use Rattle.vtl_kinds.specs.Operators.{counted_kinds}
-use Rattle.check_operators.specs.Operators.{between_kinds, given_structure, misplaced_rule, on_datasets, outcome_of, structure_by}
+use Rattle.vtl_kinds.specs.Operators.{counted_kinds, takes_literals}
+use Rattle.check_operators.specs.Operators.{beside_literal, between_kinds, first_fits, given_structure, meets_first, misplaced_rule, on_datasets, outcome_of, structure_by}
 
 -- several data sets among values
 pub beside_values : {A B : Type 0} (o : ScalarOp) (literals : Bool) (exp : A → CompExp) (tree : B → NodeTree) (before : List A) (datasets : List B) (after : List A)
@@ -56,3 +56,7 @@ given_by_kinds o literals before after xs outcome front back counted by_counted 
     let by_after : F outcome front (map exp_kind after) (counted_kinds o (map exp_kind after)) = subst (λ b. F outcome front b (counted_kinds o b)) is_back by_back in
     let by_before : F outcome (map exp_kind before) (map exp_kind after) (counted_kinds o (map exp_kind after)) = subst (λ f. F outcome f (map exp_kind after) (counted_kinds o (map exp_kind after))) is_front by_after in
     subst (λ out. F out (map exp_kind before) (map exp_kind after) (counted_kinds o (map exp_kind after))) is_outcome by_before
+
+-- an operator with literals asks its first operand
+pub fits_first : (o : ScalarOp) (before : List CompExp) (datasets : List NodeTree) → takes_literals o ≡ true → meets_first (beside_literal o) before datasets ≡ first_fits o before datasets
+fits_first o before datasets e = ap (λ b. not b || meets_first (beside_literal o) before datasets) (sym e)

@@ -1,5 +1,6 @@
 -- Operators on typed operands: on values, and on each measure of data sets.
 use Rattle.std.specs.Prelude.{ℕ, Bool, true, false, not, ◌&&◌, ◌||◌, ◌==◌, List, [], ◌∷◌, ◌++◌, None, Result, Err, map, length}
+use Rattle.std.specs.Option.{is_some}
 use Rattle.vtl_cell.specs.ScalarKinds.{kinds_of}
 use Rattle.vtl_cell.specs.declared.kind.Kind.{Kind}
 use Rattle.vtl_cell.specs.declared.kind.Kind.TheVariants as k
@@ -23,9 +24,9 @@ use Rattle.check_shapes.specs.declared.measures.Outcome.{Outcome}
 use Rattle.check_shapes.specs.declared.measures.Outcome.TheVariants as outcome
 use Rattle.check_values.specs.Calls.{call_form}
 use Rattle.check_values.specs.Kinds.{exp_kind}
-use Rattle.vtl_kinds.specs.Operators.{counted_kinds}
+use Rattle.vtl_kinds.specs.Operators.{counted_kinds, takes_literals}
 use Rattle.check_values.specs.Literals.{set_typed}
-use Rattle.check_operators.specs.Typed.{TypedTree, value, dataset, beside_kind, boxed_tree, components_in, made_of, of_value}
+use Rattle.check_operators.specs.Typed.{TypedTree, value, dataset, beside_kinds, boxed_tree, components_in, made_of, of_value}
 use Rattle.check_operators.specs.declared.operands.Parted.{Parted}
 use Rattle.check_operators.specs.declared.operator_kinds.GivenKinds.{GivenKinds}
 use Rattle.check_operators.specs.declared.places.Place.{Place}
@@ -181,11 +182,28 @@ on_operands p o number literals before [] after = on_values o literals before
 on_operands (place.Inside i) o number literals before (n ∷ ns) after = Err (misplaced_rule number literals)
 on_operands place.Outside o number literals before (n ∷ ns) after = ruled ((rule.WrongKind, not number) ∷ []) (tt {0}) >>= λ u. on_datasets o literals before (n ∷ ns) after
 
+-- what `round`, `trunc` and `substr` give of their first operand, beside an integer literal
+abbrev pub beside_literal : ScalarOp → Gives
+beside_literal o = between_kinds o [] (k.Int ∷ [])
+
+-- the first operand meets the row, where a data set stands behind it
+abbrev pub meets_first : Gives → List CompExp → List NodeTree → Bool
+meets_first f before [] = true
+meets_first f (e ∷ es) (n ∷ ns) = is_some (f (exp_kind e) (exp_kind e))
+meets_first f [] (a ∷ []) = true
+meets_first f [] (a ∷ b ∷ ns) = not (any_unmet f None (components_in a))
+
+-- kinds are asked also where a data set stands in the place of a literal
+abbrev pub first_fits : ScalarOp → List CompExp → List NodeTree → Bool
+first_fits o before datasets = not (takes_literals o) || meets_first (beside_literal o) before datasets
+
 -- An operator on its operands. Whether their number is right, and whether those that have to be literals are, is told by the
 -- one who sees how they are written.
+abbrev pub on_parted : Place → ScalarOp → (number literals : Bool) → Operands → Result TypedTree Rule
+on_parted p o number literals operands = on_operands p o (number && first_fits o operands.before operands.datasets) literals operands.before operands.datasets operands.after
+
 unfoldable pub operator_form : Place → ScalarOp → (number literals : Bool) → List TypedTree → Result TypedTree Rule
-operator_form p o number literals xs =
-    on_operands p o number literals (parted no_operands xs).before (parted no_operands xs).datasets (parted no_operands xs).after
+operator_form p o number literals xs = on_parted p o number literals (parted no_operands xs)
 
 -- ---- `in` and `not_in`
 abbrev pub membership : (negated : Bool) → ScalarOp
@@ -194,4 +212,4 @@ membership false = op.In
 
 -- the members of a set, and then the operator
 unfoldable pub set_form : Settings → Place → (negated : Bool) → List Literal → TypedTree → Result TypedTree Rule
-set_form p at negated ls x = set_typed p (beside_kind x) ls >>= λ cells. operator_form at (membership negated) true true (x ∷ map (λ c. value (const c)) cells)
+set_form p at negated ls x = set_typed p (beside_kinds x) ls >>= λ cells. operator_form at (membership negated) true true (x ∷ map (λ c. value (const c)) cells)

@@ -11,7 +11,7 @@ use Rattle.vtl_syntax.specs.Trees as tree
 use Rattle.vtl_syntax.specs.Trees.{Exp}
 use Rattle.std.specs.Option.{option_map}
 use Rattle.vtl_tree.specs.CompExp.{CompExp}
-use Rattle.vtl_tree.specs.Structure.{columns_of, same_name}
+use Rattle.vtl_tree.specs.Structure.{columns_of, names_of, same_name}
 use Rattle.vtl_tree.specs.Structures.{Named}
 use Rattle.vtl_tree.specs.declared.structure.Component.{Component}
 use Rattle.vtl_tree.specs.declared.structure.Structure.{Structure}
@@ -51,7 +51,8 @@ abbrev pub dataset_named : Named → Comp → Result TypedTree Rule
 dataset_named known (comp.Name name) = known_by name (lookup (same_name name) known)
 dataset_named known (comp.Quoted name) = Err rule.DatasetOrValue
 
--- in the condition of groups, and in a target of `aggr`, a component stands alone only where it is a grouping identifier
+-- in the condition of groups, and in a target of `aggr`, a component stands alone only where it is a grouping identifier or in an
+-- aggregate
 abbrev pub alone : Option (List (List ℕ)) → List ℕ → CompExp → Result TypedTree Rule
 alone None name e = of_value e
 alone (Some names) name e = ruled ((rule.AggregateMisuse, not (is_among name names)) ∷ []) (tt {0}) >>= λ u. of_value e
@@ -125,6 +126,15 @@ at_points j n = record { components = columns_in n; grouping = None; joined = j 
 -- its groups, with the identifiers by which they are formed
 abbrev pub at_groups : Option Joined → NodeTree → List (List ℕ) → Inside
 at_groups j n names = record { components = columns_in n; grouping = Some names; joined = j }
+
+-- groups of the points, or of the groups, of a place
+abbrev pub regrouped : Inside → List (List ℕ) → Inside
+regrouped i names = record i { grouping = Some names }
+
+-- the operand of an aggregate over groups, where each component may stand
+abbrev pub in_aggregate : Place → Place
+in_aggregate place.Outside = place.Outside
+in_aggregate (place.Inside i) = place.Inside (record i { grouping = option_map (λ names. names_of i.components) i.grouping })
 
 -- the components that names stand for at a place, of which there are none outside
 abbrev pub columns_at : Place → List Component

@@ -15,7 +15,6 @@ use Rattle.vtl_cell.specs.Results.{◌>>=◌}
 use Rattle.check_faults.specs.Rules.{ruled}
 use Rattle.check_faults.specs.declared.rules.Rule.{Rule}
 use Rattle.check_faults.specs.declared.rules.Rule.TheVariants as rule
-use Rattle.check_shapes.specs.Clauses.{first_kind}
 use Rattle.check_shapes.specs.Measures.{measures}
 use Rattle.check_values.specs.Kinds.{exp_kind}
 use Rattle.check_operators.specs.declared.typed.Typed.{Typed}
@@ -52,11 +51,13 @@ dataset_in (dataset n) = Ok n
 abbrev pub condition_in : TypedTree → Result CompExp Rule
 condition_in x = value_in x >>= λ e. ruled ((rule.WrongKind, not (meets k.Bool (exp_kind e))) ∷ []) e
 
--- The kind that literals beside an operand have to meet: that of the value, or of the first measure. The operator itself asks
--- it of each measure.
-abbrev pub beside_kind : TypedTree → Kind
-beside_kind (value e) = exp_kind e
-beside_kind (dataset n) = first_kind (measures (components_in n))
+-- the kinds of which literals beside an operand have to be: that of the value, or those of all measures
+abbrev pub measure_kinds : List Component → List Kind
+measure_kinds xs = map (λ x. x.kind) (measures xs)
+
+abbrev pub beside_kinds : TypedTree → List Kind
+beside_kinds (value e) = exp_kind e ∷ []
+beside_kinds (dataset n) = measure_kinds (components_in n)
 
 -- a data set of this structure, made so
 abbrev pub made_of : FormTree → Structure → Result TypedTree Rule

@@ -18,7 +18,7 @@ mod typed;
 mod written_names;
 
 pub use operators::{operator, set};
-pub use places::{Inside, Joined, Place, columns_at, groups, points};
+pub use places::{Inside, Joined, Place, columns_at, groups, in_aggregate, points, regrouped};
 pub use scope::{Scope, name};
 pub use set_operators::{check, check_spec, difference, exists, member, sets};
 pub use typed::{Typed, condition, made_node, made_of};

@@ -3,19 +3,21 @@ ghost use Rattle.std.specs.Prelude.{◌≡◌, ◌≢◌, ◌++◌, ◌∷◌, [
 ghost use Rattle.check_faults.specs.Answers.{Answers};
 ghost use Rattle.vtl_tree.specs.CompExp.{const};
 ghost use Rattle.vtl_tree.specs.View.{comp_exp_of};
-ghost use Rattle.check_operators.specs.Operators.{given_by, given_structure, membership, on_choice, on_datasets, on_measures, on_operands, on_pair, on_values, operator_form, parted_view, set_form, structure_by};
+ghost use Rattle.check_operators.specs.Operators.{first_fits, given_by, given_structure, meets_first, membership, on_choice, on_datasets, on_measures, on_operands, on_pair, on_parted, on_values, operator_form, parted_view, set_form, structure_by};
 ghost use Rattle.check_operators.specs.Typed.{boxed_tree, typed_tree, typed_trees, value};
 
 use crate::operands::{Parted, part};
 use crate::operator_kinds::{GivenKinds, OfTwo, between_kinds};
-use crate::placing::{is_binary, is_choice, misplaced_rule, outcome_of, takes_dataset};
+use crate::placing::{
+    is_binary, is_choice, misplaced_rule, outcome_of, takes_dataset, takes_literals,
+};
 use crate::typed::made_of;
 use crate::{Place, Typed};
 use check_faults::{Rule, TypeErr, broken};
-use check_shapes::{Choice, Outcome, any_unmet, choose_by, measured, pair};
-use check_values::{call, kinds_in, set as set_members};
+use check_shapes::{Choice, Operator, Outcome, any_unmet, choose_by, measured, pair};
+use check_values::{call, kind, kinds_in, set as set_members};
 use std::alloc::{AllocError, Global};
-use vtl_cell::{Cell, List, Profile, ScalarOp};
+use vtl_cell::{Cell, Kind, List, Profile, ScalarOp};
 use vtl_kinds::counted_kinds;
 use vtl_nodes::{MeasureOp, Node, NodeForm};
 use vtl_syntax::Literal;
@@ -287,7 +289,44 @@ pub fn operator(
     ensures { Answers typed_tree result (operator_form place.now op number literals (typed_trees operands)) }
 {
     let operands = part(alloc, operands)?;
-    on_operands(alloc, place, op, number, literals, operands)
+    on_parted(alloc, place, op, number, literals, operands)
+}
+
+fn on_parted(
+    alloc: Global,
+    place: &Place,
+    op: ScalarOp,
+    number: bool,
+    literals: bool,
+    operands: Parted,
+) -> Result<Typed, TypeErr>
+    ensures { Answers typed_tree result (on_parted place.now op number literals (parted_view operands)) }
+{
+    let fits = first_fits(alloc, op, &operands)?;
+    on_operands(alloc, place, op, number && fits, literals, operands)
+}
+
+// Whether the first operand meets the row where a data set stands after it.
+fn meets_first(given: &GivenKinds, before: &[CompExpr], datasets: &[Box<Node>]) -> bool
+    ensures { result ≡ meets_first (given_by given.now) (map comp_exp_of before.now) (map boxed_tree datasets.now) }
+{
+    match (before, datasets) {
+        (_, []) => true,
+        ([first, ..], _) => given.gives(kind(first), kind(first)).is_some(),
+        ([], [first, _, ..]) => !any_unmet(given, None, first.structure.components.as_slice()),
+        ([], _) => true,
+    }
+}
+
+// Kinds are asked also where a data set stands in the place of a literal.
+fn first_fits(alloc: Global, op: ScalarOp, operands: &Parted) -> Result<bool, AllocError>
+    ensures { IfOk result (λ fits. fits ≡ first_fits op (parted_view operands.now).before (parted_view operands.now).datasets) }
+{
+    if !takes_literals(op) {
+        return Ok(true);
+    }
+    let given = between_kinds(alloc, op, &[], &[Kind::Int])?;
+    Ok(meets_first(&given, &operands.before, &operands.datasets))
 }
 
 fn membership(negated: bool) -> ScalarOp
@@ -331,7 +370,7 @@ pub fn set(
 ) -> Result<Typed, TypeErr>
     ensures { Answers typed_tree result (set_form profile.now place.now negated literals.now (typed_tree operand)) }
 {
-    let cells = set_members(alloc, profile, operand.beside_kind(), literals)?;
+    let cells = set_members(alloc, profile, &operand.beside_kinds(alloc)?, literals)?;
     let operands = with_members(alloc, operand, cells.into_vec())?;
     operator(alloc, place, membership(negated), true, true, operands)
 }

@@ -2,8 +2,9 @@
 ghost use Rattle.std.specs.Prelude.{◌≡◌, ◌++◌, IfOk, OnOk};
 ghost use Rattle.vtl_nodes.specs.View.{node_tree};
 ghost use Rattle.vtl_tree.specs.Shown.{shown};
-ghost use Rattle.vtl_tree.specs.Structure.{columns_of};
-ghost use Rattle.check_operators.specs.Places.{at_groups, at_points, columns_at};
+ghost use Rattle.std.specs.Option.{option_map};
+ghost use Rattle.vtl_tree.specs.Structure.{columns_of, names_of};
+ghost use Rattle.check_operators.specs.Places.{at_groups, at_points, columns_at, in_aggregate, regrouped};
 
 use check_joins::Operand;
 use std::alloc::{AllocError, Global};
@@ -26,7 +27,8 @@ pub enum Place {
 pub struct Inside {
     /// The components, in column order.
     pub components: List<Component>,
-    /// Over groups of points: the names by which the groups are formed.
+    /// Over groups of points: the names that may stand alone, which are those by which the groups are formed, and in
+    /// the operand of an aggregate all of them.
     pub grouping: Option<List<Txt>>,
     /// In the body of a join: its operands.
     pub joined: Option<Joined>,
@@ -121,4 +123,73 @@ pub fn groups(
         grouping: Some(names),
         joined,
     }))
+}
+
+fn share_components(alloc: Global, components: &[Component]) -> Result<List<Component>, AllocError>
+    ensures { IfOk result (λ copy. copy ≡ components.now) }
+{
+    let mut out = Vec::new(alloc);
+    for component in components {
+        out.push(share_component(component)?)?;
+    }
+    Ok(List::of(out))
+}
+
+fn names_of(alloc: Global, components: &[Component]) -> Result<List<Txt>, AllocError>
+    ensures { IfOk result (λ names. names ≡ names_of components.now) }
+{
+    let mut out = Vec::new(alloc);
+    for component in components {
+        out.push(component.name.share()?)?;
+    }
+    Ok(List::of(out))
+}
+
+fn all_names(
+    alloc: Global,
+    grouping: &Option<List<Txt>>,
+    components: &[Component],
+) -> Result<Option<List<Txt>>, AllocError>
+    ensures { IfOk result (λ all. all ≡ option_map (λ names. names_of components.now) grouping.now) }
+{
+    match grouping {
+        Some(_) => Ok(Some(names_of(alloc, components)?)),
+        None => Ok(None),
+    }
+}
+
+/// The place at each group of the points of a place, with the names by which the groups are formed.
+pub fn regrouped(alloc: Global, inside: &Inside, names: List<Txt>) -> Result<Place, AllocError>
+    ensures { IfOk result (λ at. at ≡ Place.Inside (regrouped inside.now names)) }
+{
+    let components = share_components(alloc, inside.components.as_slice())?;
+    let joined = share_any_joined(&inside.joined)?;
+    Ok(Place::Inside(Inside {
+        components,
+        grouping: Some(names),
+        joined,
+    }))
+}
+
+fn all_inside(alloc: Global, inside: &Inside) -> Result<Place, AllocError>
+    ensures { IfOk result (λ at. at ≡ in_aggregate (Place.Inside inside.now)) }
+{
+    let components = share_components(alloc, inside.components.as_slice())?;
+    let grouping = all_names(alloc, &inside.grouping, components.as_slice())?;
+    let joined = share_any_joined(&inside.joined)?;
+    Ok(Place::Inside(Inside {
+        components,
+        grouping,
+        joined,
+    }))
+}
+
+/// The place of the operand of an aggregate: over groups each component may stand there.
+pub fn in_aggregate(alloc: Global, place: &Place) -> Result<Place, AllocError>
+    ensures { IfOk result (λ at. at ≡ in_aggregate place.now) }
+{
+    match place {
+        Place::Outside => Ok(Place::Outside),
+        Place::Inside(inside) => all_inside(alloc, inside),
+    }
 }

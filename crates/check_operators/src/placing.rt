@@ -1,6 +1,7 @@
 // Which operators take data sets, and where.
 ghost use Rattle.std.specs.Prelude.{◌≡◌};
 ghost use Rattle.check_operators.specs.Operators.{is_binary, is_choice, misplaced_rule, outcome_of, takes_dataset, takes_first};
+ghost use Rattle.vtl_kinds.specs.Operators.{takes_literals};
 
 use check_faults::Rule;
 use check_shapes::Outcome;
@@ -17,6 +18,16 @@ pub(crate) fn is_binary(op: ScalarOp) -> bool
         ScalarOp::Less | ScalarOp::LessOrEqual => true,
         ScalarOp::Greater | ScalarOp::GreaterOrEqual => true,
         ScalarOp::And | ScalarOp::Or | ScalarOp::Xor => true,
+        _ => false,
+    }
+}
+
+/// Whether the operands of an operator after the first have to be integer literals.
+pub(crate) fn takes_literals(op: ScalarOp) -> bool
+    ensures { result ≡ takes_literals op }
+{
+    match op {
+        ScalarOp::Round | ScalarOp::Truncate | ScalarOp::Substring => true,
         _ => false,
     }
 }

@@ -1,19 +1,18 @@
 // Typed expressions: values and data sets.
-ghost use Rattle.std.specs.Prelude.{◌≡◌, ◌∷◌, [], not};
+ghost use Rattle.std.specs.Prelude.{◌≡◌, ◌∷◌, [], IfOk, not};
 ghost use Rattle.vtl_cell.specs.ScalarKinds.{meets};
 ghost use Rattle.vtl_nodes.specs.Trees.{node};
 ghost use Rattle.vtl_nodes.specs.View.{form_tree};
 ghost use Rattle.check_faults.specs.Answers.{Answers};
 ghost use Rattle.check_faults.specs.Rules.{ruled};
-ghost use Rattle.check_shapes.specs.Clauses.{first_kind};
-ghost use Rattle.check_shapes.specs.Measures.{is_measure, measures};
+ghost use Rattle.check_shapes.specs.Measures.{is_measure};
 ghost use Rattle.vtl_tree.specs.View.{comp_exp_of};
 ghost use Rattle.check_values.specs.Kinds.{exp_kind};
-ghost use Rattle.check_operators.specs.Typed.{beside_kind, boxed_tree, condition_in, dataset_in, made_of, typed_tree, value_in};
+ghost use Rattle.check_operators.specs.Typed.{beside_kinds, boxed_tree, condition_in, dataset_in, made_of, measure_kinds, typed_tree, value_in};
 
 use check_faults::{Rule, TypeErr};
 use check_values::kind;
-use std::alloc::Global;
+use std::alloc::{AllocError, Global};
 use vtl_cell::Kind;
 use vtl_kinds::meets;
 use vtl_nodes::{Node, NodeForm};
@@ -49,15 +48,23 @@ impl Typed {
         }
     }
 
-    /// The kind that literals given with an operand have to meet: that of the value, or of the first measure.
-    pub fn beside_kind(&self) -> Kind
-        ensures { result ≡ beside_kind (typed_tree self.now) }
+    /// The kinds of which literals beside an operand have to be: that of the value, or those of all measures.
+    pub fn beside_kinds(&self, alloc: Global) -> Result<Vec<Kind>, AllocError>
+        ensures { IfOk result (λ kinds. kinds.items ≡ beside_kinds (typed_tree self.now)) }
     {
         match self {
-            Typed::Value(e) => kind(e),
-            Typed::Dataset(node) => first_measure_kind(node.structure.components.as_slice()),
+            Typed::Value(e) => one_kind(alloc, kind(e)),
+            Typed::Dataset(node) => measure_kinds(alloc, node.structure.components.as_slice()),
         }
     }
+}
+
+fn one_kind(alloc: Global, kind: Kind) -> Result<Vec<Kind>, AllocError>
+    ensures { IfOk result (λ kinds. kinds.items ≡ kind ∷ []) }
+{
+    let mut kinds = Vec::new(alloc);
+    kinds.push(kind)?;
+    Ok(kinds)
 }
 
 fn is_measure(component: &Component) -> bool
@@ -69,15 +76,16 @@ fn is_measure(component: &Component) -> bool
     }
 }
 
-fn first_measure_kind(components: &[Component]) -> Kind
-    ensures { result ≡ first_kind (measures components.now) }
+fn measure_kinds(alloc: Global, components: &[Component]) -> Result<Vec<Kind>, AllocError>
+    ensures { IfOk result (λ kinds. kinds.items ≡ measure_kinds components.now) }
 {
+    let mut kinds = Vec::new(alloc);
     for component in components {
         if is_measure(component) {
-            return component.kind;
+            kinds.push(component.kind)?;
         }
     }
-    Kind::Null
+    Ok(kinds)
 }
 
 /// The node of a data set of this structure, made in this form.

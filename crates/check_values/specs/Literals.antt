@@ -1,5 +1,6 @@
 -- The values of literals, and their kinds.
-use Rattle.std.specs.Prelude.{ℤ, pos, Bool, true, false, ◌&&◌, List, [], ◌∷◌, ◌++◌, Option, Some, None, if◌then◌else◌, Result, Ok, Err}
+use Rattle.std.specs.Prelude.{ℤ, pos, Bool, true, not, ◌&&◌, ◌||◌, List, [], ◌∷◌, ◌++◌, Option, Some, None, if◌then◌else◌, Result, Ok, Err}
+use Rattle.std.specs.List.{list_all}
 use Rattle.vtl_cell.specs.Settings.{Settings}
 use Rattle.vtl_cell.specs.ScalarKinds.{meets, shared_kind}
 use Rattle.vtl_kinds.specs.Literals.{integer_cell, integer_written, is_null_kind, largest_place, lies_between, number_cell, with_sign, written}
@@ -22,6 +23,7 @@ use Rattle.vtl_syntax.specs.declared.word_groups.FunctionName.TheVariants as fun
 use Rattle.vtl_syntax.specs.declared.word_groups.UnaryOp.TheVariants as sign
 use Rattle.vtl_tree.specs.CompExp.{CompExp, const}
 use Rattle.vtl_cell.specs.Results.{◌>>=◌}
+use Rattle.check_faults.specs.Rules.{ruled}
 use Rattle.check_faults.specs.declared.rules.Rule.{Rule}
 use Rattle.check_faults.specs.declared.rules.Rule.TheVariants as rule
 
@@ -69,25 +71,39 @@ valued None = Err rule.WrongLiteral
 abbrev pub constant_typed : Settings → Constant → Result CompExp Rule
 constant_typed p c = valued (constant_cell p c) >>= λ cell. Ok (const cell)
 
--- the kind that the members of a set still have to meet, behind one of this kind: that of the operand, or beside an operand
--- of kind null the kind that the members share
-abbrev pub still_wanted : (is_free : Bool) (wanted given : Kind) → Option Kind
-still_wanted true wanted given = shared_kind wanted given
-still_wanted false wanted given = if meets wanted given then Some wanted else None
+-- a literal stands for a value of this kind
+abbrev pub kind_met : Kind → Kind → Result (Unit {0}) Rule
+kind_met wanted given = ruled ((rule.WrongKind, not (meets wanted given)) ∷ []) (tt {0})
 
-abbrev pub wanted_or : Option Kind → Result Kind Rule
-wanted_or (Some kind) = Ok kind
-wanted_or None = Err rule.WrongKind
+-- a literal may stand beside values of this kind: beside null any may
+abbrev pub stands_beside : Kind → Kind → Bool
+stands_beside given kind = is_null_kind kind || meets kind given
 
--- the members of a set in order, behind those that are done: each of a kind that is wanted, and with a value
-abbrev pub members_typed : Settings → (is_free : Bool) → Kind → List Cell → List Literal → Result (List Cell) Rule
-members_typed p is_free wanted done [] = Ok done
-members_typed p is_free wanted done (l ∷ ls) =
-    wanted_or (still_wanted is_free wanted (literal_kind l)) >>= λ kind. valued (literal_cell p l) >>= λ cell. members_typed p is_free kind (done ++ cell ∷ []) ls
+-- a literal beside an operand: of all kinds that the operand's values have
+abbrev pub beside_all : List Kind → Kind → Bool
+beside_all kinds given = list_all (stands_beside given) kinds
 
--- the members of a set behind an operand of this kind
-abbrev pub set_typed : Settings → Kind → List Literal → Result (List Cell) Rule
-set_typed p kind ls = members_typed p (is_null_kind kind) kind [] ls
+abbrev pub met_beside : List Kind → Kind → Result (Unit {0}) Rule
+met_beside kinds given = ruled ((rule.WrongKind, not (beside_all kinds given)) ∷ []) (tt {0})
+
+-- the kind that the members of a set share up to one that stands beside the operand
+abbrev pub shared_beside : List Kind → (shared given : Kind) → Option Kind
+shared_beside kinds shared given = if beside_all kinds given then shared_kind shared given else None
+
+abbrev pub shared_or : Option Kind → Result Kind Rule
+shared_or (Some kind) = Ok kind
+shared_or None = Err rule.WrongKind
+
+-- the members of a set in order, behind those that are done: each may stand beside the operand, shares a kind with those before
+-- it, and has a value
+abbrev pub members_typed : Settings → List Kind → (shared : Kind) → List Cell → List Literal → Result (List Cell) Rule
+members_typed p kinds shared done [] = Ok done
+members_typed p kinds shared done (l ∷ ls) =
+    shared_or (shared_beside kinds shared (literal_kind l)) >>= λ kind. valued (literal_cell p l) >>= λ cell. members_typed p kinds kind (done ++ cell ∷ []) ls
+
+-- the members of a set behind an operand whose values have these kinds
+abbrev pub set_typed : Settings → List Kind → List Literal → Result (List Cell) Rule
+set_typed p kinds ls = members_typed p kinds k.Null [] ls
 
 -- ---- literal operands
 

@@ -85,6 +85,10 @@ abbrev pub or_none : {A : Type 0} → Option (List A) → List A
 or_none (Some xs) = xs
 or_none None = []
 
+-- a window where there are no components that its names could stand for: its frame alone
+abbrev pub frame_alone : Settings → OverPart → Result Window Rule
+frame_alone p o = frame_typed p o.points >>= λ f. Ok (record { partition = []; order = []; frame = f })
+
 -- a window: its partition, its order and its frame
 abbrev pub window_typed : Settings → List Component → OverPart → Result Window Rule
 window_typed p columns o =

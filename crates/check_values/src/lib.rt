@@ -18,6 +18,6 @@ pub use calls::{call, kinds_in};
 pub use columns::{column, name};
 pub use groupings::{grouping, grouping_choice, grouping_names, grouping_of};
 pub use kinds::{given_kind, kind};
-pub use literals::{constant, literal, literal_kind, literals_fit, set, still_wanted, wanted_or};
+pub use literals::{constant, kind_met, literal, literal_kind, literals_fit, met_beside, set};
 pub use operators::{binary_operator, function_operator, takes, unary_operator};
-pub use windows::{points, window};
+pub use windows::{frame_alone, points, window};

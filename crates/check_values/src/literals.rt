@@ -4,10 +4,10 @@ ghost use Rattle.vtl_syntax.specs.Trees.{exps_of};
 ghost use Rattle.vtl_syntax.specs.View.{expr_tree};
 ghost use Rattle.vtl_tree.specs.View.{comp_exp_of};
 ghost use Rattle.check_faults.specs.Answers.{Answers};
-ghost use Rattle.check_values.specs.Literals.{are_digits, cast_kind, constant_cell, constant_typed, integer_in, lies_in, literal_cell, literal_kind, literals_fit, members_typed, numeral_cell, numeral_kind, second_passes, set_typed, still_wanted, third_passes, valued, wanted_or};
+ghost use Rattle.check_values.specs.Literals.{are_digits, beside_all, cast_kind, constant_cell, constant_typed, integer_in, kind_met, lies_in, literal_cell, literal_kind, literals_fit, members_typed, met_beside, numeral_cell, numeral_kind, second_passes, set_typed, shared_beside, shared_or, stands_beside, third_passes, valued};
 ghost use Rattle.vtl_kinds.specs.Literals.{integer_written, is_null_kind};
 
-use check_faults::{Rule, TypeErr};
+use check_faults::{Rule, TypeErr, broken};
 use std::alloc::{AllocError, Global};
 use vtl_cell::{Cell, Kind, List, Profile};
 use vtl_kinds::{
@@ -115,21 +115,50 @@ pub fn constant(alloc: Global, profile: &Profile, constant: &Constant) -> Result
     }
 }
 
-// The kind that the members of a set still have to meet.
-pub fn still_wanted(is_free: bool, wanted: Kind, given: Kind) -> Option<Kind>
-    ensures { result ≡ still_wanted is_free wanted given }
+/// A literal of one kind where a value of another is wanted: it breaks `WrongKind` where it cannot stand for one.
+pub fn kind_met(wanted: Kind, given: Kind) -> Result<(), TypeErr>
+    ensures { Answers (λ met. met) result (kind_met wanted given) }
 {
-    if is_free {
-        shared_kind(wanted, given)
-    } else if meets(wanted, given) {
-        Some(wanted)
+    broken(Rule::WrongKind, !meets(wanted, given))
+}
+
+fn stands_beside(given: Kind, kind: Kind) -> bool
+    ensures { result ≡ stands_beside given kind }
+{
+    is_null_kind(kind) || meets(kind, given)
+}
+
+fn beside_all(kinds: &[Kind], given: Kind) -> bool
+    ensures { result ≡ beside_all kinds.now given }
+{
+    for kind in kinds {
+        if !stands_beside(given, *kind) {
+            return false;
+        }
+    }
+    true
+}
+
+/// A literal beside an operand whose values have these kinds: it breaks `WrongKind` where it fits one of them not.
+pub fn met_beside(kinds: &[Kind], given: Kind) -> Result<(), TypeErr>
+    ensures { Answers (λ met. met) result (met_beside kinds.now given) }
+{
+    broken(Rule::WrongKind, !beside_all(kinds, given))
+}
+
+// The kind that the members of a set share up to one of this kind.
+fn shared_beside(kinds: &[Kind], shared: Kind, given: Kind) -> Option<Kind>
+    ensures { result ≡ shared_beside kinds.now shared given }
+{
+    if beside_all(kinds, given) {
+        shared_kind(shared, given)
     } else {
         None
     }
 }
 
-pub fn wanted_or(kind: Option<Kind>) -> Result<Kind, TypeErr>
-    ensures { Answers (λ kind. kind) result (wanted_or kind) }
+fn shared_or(kind: Option<Kind>) -> Result<Kind, TypeErr>
+    ensures { Answers (λ kind. kind) result (shared_or kind) }
 {
     match kind {
         Some(kind) => Ok(kind),
@@ -137,20 +166,19 @@ pub fn wanted_or(kind: Option<Kind>) -> Result<Kind, TypeErr>
     }
 }
 
-/// The members of a set after an operand of this kind.
+/// The members of a set after an operand whose values have these kinds.
 pub fn set(
     alloc: Global,
     profile: &Profile,
-    kind: Kind,
+    kinds: &[Kind],
     literals: &[Literal],
 ) -> Result<List<Cell>, TypeErr>
-    ensures { Answers (λ cells. cells) result (set_typed profile.now kind literals.now) }
+    ensures { Answers (λ cells. cells) result (set_typed profile.now kinds.now literals.now) }
 {
-    let is_free = is_null_kind(kind);
-    let mut wanted = kind;
+    let mut shared = Kind::Null;
     let mut cells = Vec::new(alloc);
     for member in literals {
-        wanted = wanted_or(still_wanted(is_free, wanted, literal_kind(member)))?;
+        shared = shared_or(shared_beside(kinds, shared, literal_kind(member)))?;
         cells.push(literal(alloc, profile, member)?)?;
     }
     Ok(List::of(cells))

@@ -4,7 +4,7 @@ ghost use Rattle.std.specs.List.{list_any};
 ghost use Rattle.vtl_tree.specs.Structure.{same_name};
 ghost use Rattle.check_faults.specs.Answers.{Answers};
 ghost use Rattle.check_values.specs.Columns.{name_of};
-ghost use Rattle.check_values.specs.Windows.{bound_typed, frame_typed, is_falling, is_known, key_of, key_typed, name_form, or_none, order_typed, partition_typed, points_at, points_typed, unbounded_at, window_typed};
+ghost use Rattle.check_values.specs.Windows.{bound_typed, frame_alone, frame_typed, is_falling, is_known, key_of, key_typed, name_form, or_none, order_typed, partition_typed, points_at, points_typed, unbounded_at, window_typed};
 
 use crate::name;
 use check_faults::{Rule, TypeErr};
@@ -193,6 +193,17 @@ pub fn window(
     Ok(Window {
         partition: partition(alloc, columns, or_none(&over.partition))?,
         order: order(alloc, columns, or_none(&over.order))?,
+        frame: frame(profile, &over.points)?,
+    })
+}
+
+/// A window where there are no components that its names could stand for: only its frame.
+pub fn frame_alone(alloc: Global, profile: &Profile, over: &OverPart) -> Result<Window, TypeErr>
+    ensures { Answers (λ window. window) result (frame_alone profile.now over.now) }
+{
+    Ok(Window {
+        partition: List::of(Vec::new(alloc)),
+        order: List::of(Vec::new(alloc)),
         frame: frame(profile, &over.points)?,
     })
 }

@@ -1,4 +1,4 @@
-use Rattle.std.proofs.Common.{◌≡◌, ◌∙◌, ap, sym, subst, refl}
+use Rattle.std.proofs.Common.{◌≡◌, ◌∙◌, ap, sym, subst}
 use Rattle.check_faults.specs.Answers.{Answers}
 use Rattle.check_operators.specs.Typed.{boxed_tree, components_in}
 use Rattle.check_clauses.specs.Clauses.{renamed_of}
