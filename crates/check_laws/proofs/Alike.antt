@@ -1,5 +1,5 @@
 -- Typing depends only on the structures of the names that are read.
-use Rattle.std.proofs.Common.{◌≡◌, ℕ, suc, ◌+◌, Bool, true, false, cond, ◌||◌, ◌&&◌, List, [], ◌∷◌, ◌++◌, Option, Some, None, is_some, option_map, Result, Ok, Err, refl, sym, ap, ◌∙◌}
+use Rattle.std.proofs.Common.{◌≡◌, ℕ, ◌+◌, Bool, true, false, cond, ◌||◌, ◌&&◌, List, [], ◌∷◌, ◌++◌, Option, Some, None, is_some, option_map, Result, Ok, Err, refl, sym, subst, ap, ◌∙◌}
 use Rattle.std.specs.Map.{lookup}
 use Rattle.vtl_cell.specs.Settings.{Settings}
 use Rattle.vtl_cell.specs.declared.operator.ScalarOp.TheVariants as op
@@ -17,28 +17,30 @@ use Rattle.vtl_tree.specs.Structure.{same_name}
 use Rattle.vtl_tree.specs.Structures.{Named, has_name}
 use Rattle.vtl_tree.specs.declared.structure.Structure.{Structure}
 use Rattle.vtl_nodes.specs.Trees.{ItemTree, NodeTree, structure_of}
-use Rattle.check_values.specs.Groupings.{grouping_typed}
+use Rattle.check_values.specs.Groupings.{grouping_of, grouping_typed}
 use Rattle.check_values.specs.Literals.{literals_fit}
 use Rattle.check_values.specs.Operators.{exps_length, of_binary, of_function, of_unary, takes}
 use Rattle.check_operators.specs.Operators.{operator_form, set_form}
-use Rattle.check_operators.specs.Places.{Env, Written, at_groups, at_points, known_by, member_inside, member_written, name_typed}
+use Rattle.check_operators.specs.Places.{Env, Written, at_groups, at_points, in_aggregate, known_by, member_inside, member_written, name_typed, regrouped}
 use Rattle.check_operators.specs.Sets.{check_form, check_spec, difference_form, exists_form, member_of, sets_form}
 use Rattle.check_operators.specs.Typed.{TypedTree, value, dataset, components_in, condition_in, dataset_in}
+use Rattle.check_operators.specs.declared.places.Inside.{Inside}
 use Rattle.check_operators.specs.declared.places.Joined.{Joined}
 use Rattle.check_operators.specs.declared.places.Place.{Place}
 use Rattle.check_operators.specs.declared.places.Place.TheVariants as place
-use Rattle.vtl_check.specs.Aggregates.{aggregate_node, group_operand}
+use Rattle.vtl_check.specs.Aggregates.{aggregate_node, count_call, aggregate_value}
 use Rattle.vtl_check.specs.Windowed.{over_typed}
 use Rattle.vtl_check.specs.Clauses.{filter_form}
 use Rattle.vtl_check.specs.JoinOperands.{PartTyped, joined_node, joined_of, operands_in, with_part}
 use Rattle.vtl_check.specs.Targets.{aggr_clause, aggr_name, calc_clause, calc_name, with_item, with_made}
 use Rattle.vtl_check.specs.targets.Made.{Made}
-use Rattle.vtl_check.specs.Typing.{Having, aggrs_typed, as_dataset, behind, body_end, calc_value, calcs_typed, clause_typed, filter_step, filtered_join, grouped_of, has_exp, having_typed, join_end, maybe_typed, operands_typed, or_call, or_component, over_operand, parts_typed, targets_step, targets_typed, typed}
+use Rattle.vtl_check.specs.Typing.{Having, aggrs_typed, as_dataset, behind, body_end, calc_value, calcs_typed, clause_typed, filter_step, filtered_join, grouped_of, has_exp, having_typed, join_end, maybe_typed, operands_typed, or_component, over_operand, own_groups, parts_typed, targets_step, targets_typed, typed}
 use Rattle.vtl_check.specs.Checked.{env_over}
 use Rattle.vtl_check.specs.Count.{count}
-use Rattle.vtl_check.specs.Script.{assigned, at, is_too_much, script_typed, statements_typed, value_typed, with_result}
+use Rattle.vtl_check.specs.Script.{assigned, at, is_too_much, script_typed, transformations_typed, value_typed, with_result}
+use Rattle.vtl_check.specs.Transformations.{Transformation, transformations}
 use Rattle.vtl_check.proofs.KnownLemmas.{has_name-lookup}
-use Rattle.check_laws.specs.Reads.{all_read, calcs_read, clause_reads, is_inside, maybe_read, name_read, names_read, parts_read, script_names, step_reads, targets_read}
+use Rattle.check_laws.specs.Reads.{all_read, calcs_read, clause_reads, is_inside, maybe_read, name_read, names_among, names_read, parts_read, script_names, step_reads, targets_read}
 use Rattle.check_laws.specs.Scripts.{AreKnownAlike}
 use Rattle.check_laws.proofs.Lists as lists
 
@@ -63,10 +65,23 @@ member-alike (place.Inside i) e c known other r s f h = go (member_written e c) 
     go None h = f h
     go (Some w) h = refl
 
-grouped-alike : (at : Place) (f : AggregateName) (g : Option GroupPart) (grouped : Bool) (u v : Having) → ((n : NodeTree) (names : List (List ℕ)) → u n names ≡ v n names) → (x : Option TypedTree) → grouped_of at f g grouped u x ≡ grouped_of at f g grouped v x
-grouped-alike at f g grouped u v e (Some (dataset n)) = same-rest (grouping_typed (components_in n) g) (λ names. u n names >>= aggregate_node f g n) (λ names. v n names >>= aggregate_node f g n) (λ names. same-first (u n names) (v n names) (aggregate_node f g n) (e n names))
-grouped-alike at f g grouped u v e (Some (value x)) = refl
-grouped-alike at f g grouped u v e None = refl
+own-alike : (at : Place) (g : Option GroupPart) (u v : Having) → ((i : Inside) → u (place.Inside i) ≡ v (place.Inside i)) → own_groups at g u ≡ own_groups at g v
+own-alike place.Outside g u v e = refl
+own-alike (place.Inside i) g u v e =
+    same-rest (grouping_typed i.components g) (λ names. u (place.Inside (regrouped i names)) >>= λ c. Ok tt) (λ names. v (place.Inside (regrouped i names)) >>= λ c. Ok tt)
+    (λ names. same-first (u (place.Inside (regrouped i names))) (v (place.Inside (regrouped i names))) (λ c. Ok tt) (e (regrouped i names)))
+
+grouped-alike : (at : Place) (f : AggregateName) (w : MaybeExp) (g : Option GroupPart) (grouped : Bool) (u v : Having) → ((i : Inside) → u (place.Inside i) ≡ v (place.Inside i)) → (x : Option TypedTree) → grouped_of at f w g grouped u x ≡ grouped_of at f w g grouped v x
+grouped-alike at f w g grouped u v e (Some (dataset n)) =
+    same-rest (grouping_typed (components_in n) g) (λ names. u (place.Inside (at_groups None n names)) >>= aggregate_node f g n) (λ names. v (place.Inside (at_groups None n names)) >>= aggregate_node f g n)
+    (λ names. same-first (u (place.Inside (at_groups None n names))) (v (place.Inside (at_groups None n names))) (aggregate_node f g n) (e (at_groups None n names)))
+grouped-alike at f w g grouped u v e (Some (value x)) = same-first (own_groups at g u) (own_groups at g v) (λ k. aggregate_value at f grouped w x) (own-alike at g u v e)
+grouped-alike at f w g grouped u v e None = same-first (own_groups at g u) (own_groups at g v) (λ k. count_call at f grouped) (own-alike at g u v e)
+
+-- the operand of an aggregate stands inside where the aggregate does
+same-inside : (at : Place) → is_inside at ≡ is_inside (in_aggregate at)
+same-inside place.Outside = refl
+same-inside (place.Inside i) = refl
 
 -- the typing over one list of structures is that over another one, where the names that are read stand for the same
 module _ (p : Settings) (known other : Named) where
@@ -118,10 +133,9 @@ module _ (p : Settings) (known other : Named) where
     typed-alike at (tree.brackets e) h = typed-alike at e h
     typed-alike at (tree.function f es) h = same-first (operands_typed one at [] es) (operands_typed two at [] es) (operator_form at (of_function f) (takes f (exps_length es)) (literals_fit p f es)) (operands-alike at [] es h)
     typed-alike at (tree.aggregate f e g x) h =
-        ap (or_call (group_operand at e) f (is_some g || has_exp x))
-        (same-then (maybe_typed one at e) (maybe_typed two at e) (grouped_of at f g (is_some g || has_exp x) (λ n names. having_typed one None n names x)) (grouped_of at f g (is_some g || has_exp x) (λ n names. having_typed two None n names x))
-        (maybe-alike at e (front (maybe_read (is_inside at) e) (maybe_read true x) h))
-        (grouped-alike at f g (is_some g || has_exp x) (λ n names. having_typed one None n names x) (λ n names. having_typed two None n names x) (λ n names. having-alike None n names x (back (maybe_read (is_inside at) e) (maybe_read true x) h))))
+        same-then (maybe_typed one (in_aggregate at) e) (maybe_typed two (in_aggregate at) e) (grouped_of at f e g (is_some g || has_exp x) (λ groups. having_typed one groups x)) (grouped_of at f e g (is_some g || has_exp x) (λ groups. having_typed two groups x))
+        (maybe-alike (in_aggregate at) e (subst (λ b. Alike (maybe_read b e)) (same-inside at) (front (maybe_read (is_inside at) e) (maybe_read true x) h)))
+        (grouped-alike at f e g (is_some g || has_exp x) (λ groups. having_typed one groups x) (λ groups. having_typed two groups x) (λ i. having-alike (place.Inside i) x (back (maybe_read (is_inside at) e) (maybe_read true x) h)))
     typed-alike at (tree.aggregate_over f e o) h = same-first (maybe_typed one at e) (maybe_typed two at e) (over_typed p at (tree.aggregate_over f e o)) (maybe-alike at e h)
     typed-alike at (tree.value_window f e o) h = same-first (typed one at e) (typed two at e) (λ x. over_typed p at (tree.value_window f e o) (Some x)) (typed-alike at e h)
     typed-alike at (tree.shift f e n l o) h = same-first (typed one at e) (typed two at e) (λ x. over_typed p at (tree.shift f e n l o) (Some x)) (typed-alike at e h)
@@ -156,9 +170,9 @@ module _ (p : Settings) (known other : Named) where
     maybe-alike at tree.no_exp h = refl
     maybe-alike at (tree.some_exp e) h = same-first (typed one at e) (typed two at e) (λ x. Ok (Some x)) (typed-alike at e h)
 
-    having-alike : (j : Option Joined) (n : NodeTree) (names : List (List ℕ)) (e : MaybeExp) → Alike (maybe_read true e) → having_typed one j n names e ≡ having_typed two j n names e
-    having-alike j n names tree.no_exp h = refl
-    having-alike j n names (tree.some_exp e) h = ap (λ t. t >>= condition_in >>= λ c. Ok (Some c)) (typed-alike (place.Inside (at_groups j n names)) e h)
+    having-alike : (at : Place) (e : MaybeExp) → Alike (maybe_read (is_inside at) e) → having_typed one at e ≡ having_typed two at e
+    having-alike at tree.no_exp h = refl
+    having-alike at (tree.some_exp e) h = ap (λ t. t >>= condition_in >>= λ c. Ok (Some c)) (typed-alike at e h)
 
     clause-alike : (n : NodeTree) (c : ClauseTree) → Alike (clause_reads c) → clause_typed one n c ≡ clause_typed two n c
     clause-alike n (tree.filter e) h = same-first (typed one (place.Inside (at_points None n)) e) (typed two (place.Inside (at_points None n)) e) (filter_form n) (typed-alike (place.Inside (at_points None n)) e h)
@@ -172,10 +186,11 @@ module _ (p : Settings) (known other : Named) where
     targets-alike : (j : Option Joined) (n : NodeTree) (m : TargetsTree) → Alike (targets_read m) → targets_typed one j n m ≡ targets_typed two j n m
     targets-alike j n (tree.calc cs) h = same-first (calcs_typed one (place.Inside (at_points j n)) n [] cs) (calcs_typed two (place.Inside (at_points j n)) n [] cs) (calc_clause n) (calcs-alike j n [] cs h)
     targets-alike j n (tree.aggr cs g x) h =
-        same-then (aggrs_typed one (place.Inside (at_groups j n [])) [] cs) (aggrs_typed two (place.Inside (at_groups j n [])) [] cs) (λ made. grouping_typed (components_in n) g >>= λ names. having_typed one j n names x >>= aggr_clause g n made) (λ made. grouping_typed (components_in n) g >>= λ names. having_typed two j n names x >>= aggr_clause g n made)
-        (aggrs-alike j n [] cs (front (calcs_read cs) (maybe_read true x) h))
-        (λ made. same-rest (grouping_typed (components_in n) g) (λ names. having_typed one j n names x >>= aggr_clause g n made) (λ names. having_typed two j n names x >>= aggr_clause g n made)
-        (λ names. same-first (having_typed one j n names x) (having_typed two j n names x) (aggr_clause g n made) (having-alike j n names x (back (calcs_read cs) (maybe_read true x) h))))
+        same-then (aggrs_typed one (place.Inside (at_groups j n (grouping_of g (components_in n)))) [] cs) (aggrs_typed two (place.Inside (at_groups j n (grouping_of g (components_in n)))) [] cs)
+        (λ made. grouping_typed (components_in n) g >>= λ names. having_typed one (place.Inside (at_groups j n names)) x >>= aggr_clause g n made) (λ made. grouping_typed (components_in n) g >>= λ names. having_typed two (place.Inside (at_groups j n names)) x >>= aggr_clause g n made)
+        (aggrs-alike (at_groups j n (grouping_of g (components_in n))) [] cs (front (calcs_read cs) (maybe_read true x) h))
+        (λ made. same-rest (grouping_typed (components_in n) g) (λ names. having_typed one (place.Inside (at_groups j n names)) x >>= aggr_clause g n made) (λ names. having_typed two (place.Inside (at_groups j n names)) x >>= aggr_clause g n made)
+        (λ names. same-first (having_typed one (place.Inside (at_groups j n names)) x) (having_typed two (place.Inside (at_groups j n names)) x) (aggr_clause g n made) (having-alike (place.Inside (at_groups j n names)) x (back (calcs_read cs) (maybe_read true x) h))))
 
     calcs-alike : (j : Option Joined) (n : NodeTree) (done : List ItemTree) (cs : Calcs) → Alike (calcs_read cs) → calcs_typed one (place.Inside (at_points j n)) n done cs ≡ calcs_typed two (place.Inside (at_points j n)) n done cs
     calcs-alike j n done tree.no_calcs h = refl
@@ -192,13 +207,13 @@ module _ (p : Settings) (known other : Named) where
     over-alike at (tree.shift f e n l o) h = same-first (typed one at e) (typed two at e) (λ x. Ok (Some x)) (typed-alike at e h)
     over-alike at e h = refl
 
-    aggrs-alike : (j : Option Joined) (n : NodeTree) (done : List Made) (cs : Calcs) → Alike (calcs_read cs) → aggrs_typed one (place.Inside (at_groups j n [])) done cs ≡ aggrs_typed two (place.Inside (at_groups j n [])) done cs
-    aggrs-alike j n done tree.no_calcs h = refl
-    aggrs-alike j n done (tree.calc_part r c e cs) h =
-        same-rest (aggr_name done c) (λ u. typed one (place.Inside (at_groups j n [])) e >>= with_made r c e done >>= λ made. aggrs_typed one (place.Inside (at_groups j n [])) made cs) (λ u. typed two (place.Inside (at_groups j n [])) e >>= with_made r c e done >>= λ made. aggrs_typed two (place.Inside (at_groups j n [])) made cs)
-        (λ u. same-then (typed one (place.Inside (at_groups j n [])) e >>= with_made r c e done) (typed two (place.Inside (at_groups j n [])) e >>= with_made r c e done) (λ made. aggrs_typed one (place.Inside (at_groups j n [])) made cs) (λ made. aggrs_typed two (place.Inside (at_groups j n [])) made cs)
-        (same-first (typed one (place.Inside (at_groups j n [])) e) (typed two (place.Inside (at_groups j n [])) e) (with_made r c e done) (typed-alike (place.Inside (at_groups j n [])) e (front (names_read true e) (calcs_read cs) h)))
-        (λ made. aggrs-alike j n made cs (back (names_read true e) (calcs_read cs) h)))
+    aggrs-alike : (i : Inside) (done : List Made) (cs : Calcs) → Alike (calcs_read cs) → aggrs_typed one (place.Inside i) done cs ≡ aggrs_typed two (place.Inside i) done cs
+    aggrs-alike i done tree.no_calcs h = refl
+    aggrs-alike i done (tree.calc_part r c e cs) h =
+        same-rest (aggr_name done c) (λ u. typed one (place.Inside i) e >>= with_made r c e done >>= λ made. aggrs_typed one (place.Inside i) made cs) (λ u. typed two (place.Inside i) e >>= with_made r c e done >>= λ made. aggrs_typed two (place.Inside i) made cs)
+        (λ u. same-then (typed one (place.Inside i) e >>= with_made r c e done) (typed two (place.Inside i) e >>= with_made r c e done) (λ made. aggrs_typed one (place.Inside i) made cs) (λ made. aggrs_typed two (place.Inside i) made cs)
+        (same-first (typed one (place.Inside i) e) (typed two (place.Inside i) e) (with_made r c e done) (typed-alike (place.Inside i) e (front (names_read true e) (calcs_read cs) h)))
+        (λ made. aggrs-alike i made cs (back (names_read true e) (calcs_read cs) h)))
 
     parts-alike : (done : List PartTyped) (ps : Parts) → Alike (parts_read ps) → parts_typed one done ps ≡ parts_typed two done ps
     parts-alike done tree.no_parts h = refl
@@ -246,14 +261,13 @@ at-each i (Err broken) f g h = refl
 at-same : {A B : Type 0} (i : ℕ) (r s : Result A Rule) (f g : A → Result B (ℕ × ℕ)) → r ≡ s → ((x : A) → f x ≡ g x) → at i r f ≡ at i s g
 at-same i r s f g e h = ap (λ r. at i r f) e ∙ at-each i s f g h
 
-statements-alike : (p : Settings) (known other : Named) (i before : ℕ) (done : List NodeTree) (ss : ScriptTree) → AreKnownAlike known other (script_names ss) → statements_typed (env_over p known) i before done ss ≡ statements_typed (env_over p other) i before done ss
-statements-alike p known other i before done [] h = refl
-statements-alike p known other i before done (tree.assignment name kind e ∷ ss) h =
-    at-same i (assigned (env_over p known) before name e) (assigned (env_over p other) before name e) (λ n. statements_typed (with_result (env_over p known) name n) (suc i) (before + count n) (done ++ n ∷ []) ss) (λ n. statements_typed (with_result (env_over p other) name n) (suc i) (before + count n) (done ++ n ∷ []) ss)
-    (assigned-alike p known other before name e h.0 (lists.front (λ q. lookup (same_name q) known ≡ lookup (same_name q) other) (names_read false e) (script_names ss) h.1))
-    (λ n. statements-alike p (known ++ (name, structure_of n) ∷ []) (other ++ (name, structure_of n) ∷ []) (suc i) (before + count n) (done ++ n ∷ []) ss (more-alike known other name (structure_of n) (script_names ss) (lists.back (λ q. lookup (same_name q) known ≡ lookup (same_name q) other) (names_read false e) (script_names ss) h.1)))
-statements-alike p known other i before done (tree.datapoint n vs rs b ∷ ss) h = refl
-statements-alike p known other i before done (tree.hierarchical n v rs b ∷ ss) h = refl
+transformations-alike : (p : Settings) (known other : Named) (before : ℕ) (done : List NodeTree) (ts : List Transformation) → AreKnownAlike known other (names_among ts) → transformations_typed (env_over p known) before done ts ≡ transformations_typed (env_over p other) before done ts
+transformations-alike p known other before done [] h = refl
+transformations-alike p known other before done (t ∷ ts) h =
+    at-same t.number (assigned (env_over p known) before t.name t.value) (assigned (env_over p other) before t.name t.value)
+    (λ n. transformations_typed (with_result (env_over p known) t.name n) (before + count n) (done ++ n ∷ []) ts) (λ n. transformations_typed (with_result (env_over p other) t.name n) (before + count n) (done ++ n ∷ []) ts)
+    (assigned-alike p known other before t.name t.value h.0 (lists.front (λ q. lookup (same_name q) known ≡ lookup (same_name q) other) (names_read false t.value) (names_among ts) h.1))
+    (λ n. transformations-alike p (known ++ (t.name, structure_of n) ∷ []) (other ++ (t.name, structure_of n) ∷ []) (before + count n) (done ++ n ∷ []) ts (more-alike known other t.name (structure_of n) (names_among ts) (lists.back (λ q. lookup (same_name q) known ≡ lookup (same_name q) other) (names_read false t.value) (names_among ts) h.1)))
 
 pub script-alike : (p : Settings) (known other : Named) (ss : ScriptTree) → AreKnownAlike known other (script_names ss) → script_typed (env_over p known) ss ≡ script_typed (env_over p other) ss
-script-alike p known other ss h = statements-alike p known other 1 0 [] ss h
+script-alike p known other ss h = transformations-alike p known other 0 [] (transformations ss) h

@@ -17,7 +17,8 @@ use Rattle.vtl_tree.specs.declared.structure.Role.TheVariants as role
 use Rattle.vtl_tree.specs.declared.structure.Structure.{Structure}
 use Rattle.vtl_nodes.specs.Trees.{ItemTree}
 use Rattle.check_shapes.specs.Choices.{is_identifier, is_identifier_name}
-use Rattle.check_shapes.specs.Clauses.{calc_form, calculated, is_new, retargeted, target_component, target_of}
+use Rattle.check_shapes.specs.Clauses.{calc_form, calculated, is_new, retargeted, target_component}
+use Rattle.check_shapes.specs.Clauses as clauses
 use Rattle.check_shapes.specs.Measures.{made}
 use Rattle.check_shapes.specs.Names.{component_of}
 use Rattle.check_shapes.specs.declared.targets.Target.{Target}
@@ -25,7 +26,8 @@ use Rattle.check_values.specs.Kinds.{exp_kind}
 use Rattle.vtl_meaning.specs.Columns.{column_named}
 use Rattle.vtl_meaning.specs.Made.{IsCalculated, IsTyped}
 use Rattle.vtl_meaning.specs.Operators.{calculated_exp, target_named, value_exp}
-use Rattle.check_laws.specs.Gives.{Gives, IsShaped}
+use Rattle.vtl_meaning.specs.Shapes.{IsShaped, calculated_components, target_of}
+use Rattle.check_laws.specs.Gives.{Gives}
 use Rattle.check_laws.proofs.Columns.{IsFound, all-found, of-columns, same-refl, same-true}
 use Rattle.check_laws.proofs.Expressions.{IsFor, for-map}
 use Rattle.check_laws.proofs.Lists as lists
@@ -63,11 +65,14 @@ items-found (i ∷ items) e = (
 -- ---- targets
 -- a value for a target, which is no identifier
 pub record IsItemFor (p : Settings) (a : Structure) (target : ItemTree → Target) (i : ItemTree) : Type 0 where
-  pub name : (target i).name ≡ i.target
+  pub same : target i ≡ target_of i
   pub role : (r : Role) → unwrap_or (target i).role r ≡ role.Identifier → r ≡ role.Identifier
-  pub kind : exp_kind (value_exp i.value) ≡ (target i).kind
   pub typed : IsTyped p (columns_of a) (value_exp i.value)
   pub free : is_identifier_name a.components i.target ≡ false
+
+map-same : {X Y : Type 0} (f g : X → Y) (xs : List X) → AllByRecursion (λ x. f x ≡ g x) xs → map f xs ≡ map g xs
+map-same f g [] h = refl
+map-same f g (x ∷ xs) h = ap (λ y. y ∷ map f xs) h.0 ∙ ap (λ l. g x ∷ l) (map-same f g xs h.1)
 
 find-same : {X : Type 0} (p q : X → Bool) (xs : List X) → ((x : X) → p x ≡ q x) → find p xs ≡ find q xs
 find-same p q [] e = refl
@@ -101,6 +106,8 @@ calculated-fits p items target a ia apart names h =
         columns = for-map p (columns_of a) (calculated_exp items (columns_of a)) (columns_of (structure_of (old ++ new))) (of-columns Good (structure_of (old ++ new)) (lists.appended Good old new
             (lists.mapped Good (calculated ts) xs (lists.weaker (λ x. IsFor p (columns_of a) (column_named (columns_of a) x.name) x) (λ x. Good (calculated ts x)) xs good-old (found-columns p a ia)))
             (lists.mapped Good target_component (filter (is_new xs) ts) (lists.filtered (λ t. Good (target_component t)) (is_new xs) ts (lists.mapped (λ t. Good (target_component t)) target items (lists.joined (IsItemFor p a target) (λ i. target_named items i.target ≡ Some i) (λ i. Good (target_component (target i))) items good-new h (items-found items apart)))))));
+        apart = apart;
+        shape = ap (λ l. calculated_components l xs) (map-same target target_of items (lists.weaker (IsItemFor p a target) (λ i. target i ≡ target_of i) items (λ i it. it.same) h));
       },
     ))
   where
@@ -119,7 +126,7 @@ calculated-fits p items target a ia apart names h =
     Good : Component → Type 0
     Good y = IsFor p (columns_of a) (calculated_exp items (columns_of a) y) y
 
-    targeted : (x : Component) → target_of x.name ts ≡ option_map target (target_named items x.name)
+    targeted : (x : Component) → clauses.target_of x.name ts ≡ option_map target (target_named items x.name)
     targeted x = find-map target (λ t. same_name t.name x.name) items ∙ ap (option_map target) (find-same (λ i. same_name (target i).name x.name) (λ i. same_name i.target x.name) items (λ i. ap (λ n. same_name n x.name) (names i)))
 
     stays : (x : Component) → target_named items x.name ≡ None → calculated ts x ≡ x
@@ -134,7 +141,7 @@ calculated-fits p items target a ia apart names h =
     valued : (y : Component) (i : ItemTree) → target_named items y.name ≡ Some i → IsItemFor p a target i → y.kind ≡ (target i).kind → Good y
     valued y i e it k =
         let v : calculated_exp items (columns_of a) y ≡ value_exp i.value = ap (λ o. option_map_or (λ i. value_exp i.value) o (column_named (columns_of a) y.name)) e in
-        (subst (IsTyped p (columns_of a)) (sym v) it.typed, ap exp_kind v ∙ it.kind ∙ sym k)
+        (subst (IsTyped p (columns_of a)) (sym v) it.typed, ap exp_kind v ∙ sym (ap (λ t. t.kind) it.same) ∙ sym k)
 
     good-old : (x : Component) → IsFor p (columns_of a) (column_named (columns_of a) x.name) x → Good (calculated ts x)
     good-old x f = go (target_named items x.name) refl

@@ -20,7 +20,8 @@ use Rattle.check_shapes.specs.Shape.{shaped}
 use Rattle.check_shapes.specs.declared.operands.Compared.TheVariants as compared
 use Rattle.vtl_meaning.specs.Columns.{identifiers_of, place_of}
 use Rattle.vtl_meaning.specs.Made.{AreAmong, IsChoice, IsColumnAt}
-use Rattle.check_laws.specs.Gives.{ArePassed, Gives, IsShaped}
+use Rattle.vtl_meaning.specs.Shapes.{IsShaped}
+use Rattle.check_laws.specs.Gives.{ArePassed, Gives}
 use Rattle.check_laws.proofs.Columns.{IsFound, at-place, found-filter, in-columns, into-columns}
 use Rattle.check_laws.proofs.Lists as lists
 use Rattle.check_laws.proofs.Measured.{has-identifiers}
@@ -102,5 +103,7 @@ chosen-fits t a b it ia ib =
           first = record { there = (agreeing a agreed.0).0; back = (agreeing a agreed.0).1; measures = subst (λ l. AreAmong l (columns_of a)) (sym (parts-measures ids ms are)) own };
           second = record { there = (agreeing b agreed.1.0).0; back = (agreeing b agreed.1.0).1; measures = subst (λ l. AreAmong l (columns_of b)) (sym (parts-measures ids ms are)) (same-measures a b ib within.0) };
           identifiers = has-identifiers ids ms (identifiers_of t) are (agreed-names (a ∷ b ∷ []) t.components) (agreed-kinds (a ∷ b ∷ []) t.components);
+          alike = one.1;
+          shape = refl;
           no_attributes = parts-columns ids ms are ∙ ap (λ l. l ++ ms) (sym (parts-identifiers ids ms are)) ∙ ap (λ l. identifiers_of (structure_of (ids ++ ms)) ++ l) (sym (parts-measures ids ms are));
         }

@@ -42,41 +42,44 @@ use Rattle.check_shapes.specs.declared.renaming.Renaming.{Renaming}
 use Rattle.check_values.specs.Columns.{name_of}
 use Rattle.check_values.specs.Groupings.{grouping_choice, grouping_names}
 use Rattle.check_values.specs.Kinds.{exp_kind}
-use Rattle.check_values.specs.Literals.{literal_cell, literal_kind, still_wanted, valued, wanted_or}
+use Rattle.check_values.specs.Literals.{kind_met, literal_cell, literal_kind, valued}
 use Rattle.check_operators.specs.Places.{Env, at_points, columns_in, name_written, written_by}
 use Rattle.check_operators.specs.Typed.{TypedTree, value, dataset, components_in, condition_in}
 use Rattle.check_operators.specs.declared.places.Joined.{Joined}
 use Rattle.check_operators.specs.declared.places.Place.TheVariants as place
-use Rattle.vtl_check.specs.Clauses.{cell_as, filter_form, kept_of, keeping_form, made_of, name_known, names_typed, pivot_of, references_in, renamed_of, renaming_form, renamings_typed, sub_form, sub_item, sub_known, sub_names, sub_of, sub_value, subs_typed, unpivot_of}
+use Rattle.vtl_check.specs.Clauses.{cell_as, filter_form, kept_of, keeping_form, made_of, name_known, names_typed, pivot_names, pivot_of, references_in, renamed_of, renaming_form, renamings_typed, sub_form, sub_item, sub_known, sub_names, sub_of, sub_value, subs_typed, unpivot_of}
 use Rattle.vtl_check.specs.Targets.{aggr_clause, aggr_tree, calc_clause, calc_name, is_analytic, is_analytic_value, item_names, item_of, made_target, role_of, target_of, value_kind}
 use Rattle.vtl_check.specs.targets.Made.{Made}
-use Rattle.vtl_meaning.specs.Made.{IsCalculated, IsFiltered, IsLeft, IsRenamed, IsSub, IsTyped}
+use Rattle.vtl_meaning.specs.Made.{IsCalculated, IsFiltered, IsLeft, IsMade, IsRenamed, IsSub, IsTyped}
 use Rattle.vtl_meaning.specs.Operators.{value_exp}
-use Rattle.check_laws.specs.Gives.{ArePassed, Gives, IsShaped}
-use Rattle.check_laws.specs.WellTyped.{IsNode, IsWellTyped}
+use Rattle.vtl_meaning.specs.Reaches.{IsNear, IsNearValue}
+use Rattle.vtl_meaning.specs.Shapes.{IsChosen, IsRenamedBy, IsShaped}
+use Rattle.check_laws.specs.Gives.{ArePassed, Gives}
+use Rattle.check_laws.specs.WellTyped.{IsWellTyped}
 use Rattle.check_laws.proofs.Calculated.{IsItemFor, calculated-fits}
 use Rattle.check_laws.proofs.Columns.{same-symm}
+use Rattle.check_laws.proofs.Inner.{made-shaped}
 use Rattle.check_laws.proofs.Left.{IsItem, IsName, IsNamed, drop-fits, keep-fits, known-gives, sub-fits}
 use Rattle.check_laws.proofs.Lists as lists
-use Rattle.check_laws.proofs.Literals.{literal-as, valued-gives, wanted-meets}
+use Rattle.check_laws.proofs.Literals.{literal-as, valued-gives, kind-met}
 use Rattle.check_laws.proofs.Operators.{IsMadeWith}
 use Rattle.check_laws.proofs.Renamed.{renamed-fits}
 use Rattle.check_laws.proofs.OtherForms.{aggr-shaped, calc-shaped, pivot-shaped, unpivot-shaped}
 use Rattle.check_laws.proofs.Steps.{after, tested, then, weaker}
 use Rattle.check_laws.proofs.Tests.{not-false}
 
-pub node-gives : (env : Env) (form : FormTree) (r : Result Structure Rule) → Gives (IsMadeWith env form) r → Gives (IsNode env.settings env.known) (r >>= made_of form)
-node-gives env form (Ok s) h = (h.0, (h.0.well_formed, h.1))
+pub node-gives : (env : Env) (form : FormTree) (r : Result Structure Rule) → Gives (IsMadeWith env form) r → Gives (IsMade env.settings env.known) (r >>= made_of form)
+node-gives env form (Ok s) h = h
 node-gives env form (Err broken) h = tt
 
 -- ---- `filter`
-pub filter-gives : (env : Env) (j : Option Joined) (n : NodeTree) (x : TypedTree) → IsNode env.settings env.known n → IsWellTyped env (place.Inside (at_points j n)) x → Gives (IsNode env.settings env.known) (filter_form n x)
+pub filter-gives : (env : Env) (j : Option Joined) (n : NodeTree) (x : TypedTree) → IsMade env.settings env.known n → IsWellTyped env (place.Inside (at_points j n)) x → Gives (IsMade env.settings env.known) (filter_form n x)
 unfolding filter_form
 filter-gives env j n (dataset m) is h = tt
 filter-gives env j n (value e) is h =
-    then (λ c. IsFiltered env.settings c (structure_of n) (structure_of n)) (IsNode env.settings env.known) (condition_in (value e)) (λ c. made_of (nodes.filter n c) (structure_of n))
+    then (λ c. IsFiltered env.settings c (structure_of n) (structure_of n)) (IsMade env.settings env.known) (condition_in (value e)) (λ c. made_of (nodes.filter n c) (structure_of n))
     (tested (λ c. IsFiltered env.settings c (structure_of n) (structure_of n)) ((rule.WrongKind, not (meets k.Bool (exp_kind e))) ∷ []) e (λ passed. record { same = refl; condition = h; boolean = not-false (meets k.Bool (exp_kind e)) passed.0 }))
-    (λ c fits. (is.0, (is.0.well_formed, (is.1, fits))))
+    (λ c fits. (made-shaped env.settings env.known n is, (is, fits)))
 
 -- ---- `keep` and `drop`
 name-gives : (j : Option Joined) (w : Wanted) (xs : List Component) (before : List (List ℕ)) (r : Reference) → Gives (IsName w xs) (name_known j w xs before r)
@@ -91,28 +94,31 @@ names-give j w xs before (r ∷ rs) h =
     then (IsName w xs) (AllByRecursion (IsName w xs)) (name_known j w xs before r) (λ name. names_typed j w xs (before ++ name ∷ []) rs) (name-gives j w xs before r)
     (λ name is. names-give j w xs (before ++ name ∷ []) rs (lists.appended (IsName w xs) before (name ∷ []) h (is, tt)))
 
-pub keeping-gives : (env : Env) (j : Option Joined) (n : NodeTree) (x : Keeping) → IsNode env.settings env.known n → Gives (IsNode env.settings env.known) (keeping_form j n x)
+pub keeping-gives : (env : Env) (j : Option Joined) (n : NodeTree) (x : Keeping) → IsMade env.settings env.known n → Gives (IsMade env.settings env.known) (keeping_form j n x)
 unfolding keeping_form
 keeping-gives env j n x is =
-    then (AllByRecursion (IsName wanted.Value (components_in n))) (IsNode env.settings env.known) (names_typed j wanted.Value (components_in n) [] (references_in x)) (kept_of x n) (names-give j wanted.Value (components_in n) [] (references_in x) tt) (go x)
+    then (AllByRecursion (IsName wanted.Value (components_in n))) (IsMade env.settings env.known) (names_typed j wanted.Value (components_in n) [] (references_in x)) (kept_of x n) (names-give j wanted.Value (components_in n) [] (references_in x) tt) (go x)
   where
-    go : (x : Keeping) (names : List (List ℕ)) → AllByRecursion (IsName wanted.Value (components_in n)) names → Gives (IsNode env.settings env.known) (kept_of x n names)
-    go (keeping.Keep rs) names h = node-gives env (nodes.keep n names) (shaped (chosen choice.Keep names (components_in n))) (weaker (λ s. IsShaped s × IsLeft (structure_of n) s) (IsMadeWith env (nodes.keep n names)) (shaped (chosen choice.Keep names (components_in n))) (λ s f. (f.0, (is.1, f.1))) (keep-fits names (structure_of n) is.0))
-    go (keeping.Drop rs) names h = node-gives env (nodes.drop_named n names) (shaped (chosen choice.Drop names (components_in n))) (weaker (λ s. IsShaped s × IsLeft (structure_of n) s) (IsMadeWith env (nodes.drop_named n names)) (shaped (chosen choice.Drop names (components_in n))) (λ s f. (f.0, (is.1, f.1))) (drop-fits names (structure_of n) is.0 h))
+    shaped-n : IsShaped (structure_of n)
+    shaped-n = made-shaped env.settings env.known n is
+
+    go : (x : Keeping) (names : List (List ℕ)) → AllByRecursion (IsName wanted.Value (components_in n)) names → Gives (IsMade env.settings env.known) (kept_of x n names)
+    go (keeping.Keep rs) names h = node-gives env (nodes.keep n names) (shaped (chosen choice.Keep names (components_in n))) (weaker (λ s. IsShaped s × IsLeft (structure_of n) s × IsChosen wanted.Value choice.Keep names (structure_of n) s) (IsMadeWith env (nodes.keep n names)) (shaped (chosen choice.Keep names (components_in n))) (λ s f. (f.0, (is, f.1, f.2))) (keep-fits wanted.Value names (structure_of n) shaped-n h))
+    go (keeping.Drop rs) names h = node-gives env (nodes.drop_named n names) (shaped (chosen choice.Drop names (components_in n))) (weaker (λ s. IsShaped s × IsLeft (structure_of n) s × IsChosen wanted.Value choice.Drop names (structure_of n) s) (IsMadeWith env (nodes.drop_named n names)) (shaped (chosen choice.Drop names (components_in n))) (λ s f. (f.0, (is, f.1, f.2))) (drop-fits names (structure_of n) shaped-n h))
 
 -- ---- `rename`
-pub renamed-gives : (env : Env) (n : NodeTree) (rs : List Renaming) → IsNode env.settings env.known n → Gives (IsNode env.settings env.known) (renamed_of n rs)
-renamed-gives env n rs is = node-gives env (nodes.rename n rs) (rename_form rs (components_in n)) (weaker (λ s. IsShaped s × IsRenamed (structure_of n) s) (IsMadeWith env (nodes.rename n rs)) (rename_form rs (components_in n)) (λ s f. (f.0, (is.1, f.1))) (renamed-fits rs (structure_of n)))
+pub renamed-gives : (env : Env) (n : NodeTree) (rs : List Renaming) → IsMade env.settings env.known n → Gives (IsMade env.settings env.known) (renamed_of n rs)
+renamed-gives env n rs is = node-gives env (nodes.rename n rs) (rename_form rs (components_in n)) (weaker (λ s. IsShaped s × IsRenamed (structure_of n) s × IsRenamedBy rs (structure_of n) s) (IsMadeWith env (nodes.rename n rs)) (rename_form rs (components_in n)) (λ s f. (f.0, (is, f.1, f.2))) (renamed-fits rs (structure_of n)))
 
-pub renaming-gives : (env : Env) (j : Option Joined) (n : NodeTree) (rs : List RenamePart) → IsNode env.settings env.known n → Gives (IsNode env.settings env.known) (renaming_form j n rs)
+pub renaming-gives : (env : Env) (j : Option Joined) (n : NodeTree) (rs : List RenamePart) → IsMade env.settings env.known n → Gives (IsMade env.settings env.known) (renaming_form j n rs)
 unfolding renaming_form
-renaming-gives env j n rs is = after (IsNode env.settings env.known) (renamings_typed j (components_in n) [] rs) (renamed_of n) (λ done. renamed-gives env n done is)
+renaming-gives env j n rs is = after (IsMade env.settings env.known) (renamings_typed j (components_in n) [] rs) (renamed_of n) (λ done. renamed-gives env n done is)
 
 -- ---- `sub`
 value-gives : (p : Settings) (kind : Kind) (l : Literal) → Gives (λ v. is_of kind v ≡ true) (sub_value p kind l)
 value-gives p kind l =
-    then (λ wanted. meets kind (literal_kind l) ≡ true) (λ v. is_of kind v ≡ true) (wanted_or (still_wanted false kind (literal_kind l))) (λ wanted. valued (cell_as p kind (literal_cell p l))) (wanted-meets kind (literal_kind l))
-    (λ wanted m. valued-gives (λ v. is_of kind v ≡ true) (cell_as p kind (literal_cell p l)) (literal-as p kind l m))
+    then (λ u. meets kind (literal_kind l) ≡ true) (λ v. is_of kind v ≡ true) (kind_met kind (literal_kind l)) (λ u. valued (cell_as p kind (literal_cell p l))) (kind-met kind (literal_kind l))
+    (λ u m. valued-gives (λ v. is_of kind v ≡ true) (cell_as p kind (literal_cell p l)) (literal-as p kind l m))
 
 item-gives : (p : Settings) (xs : List Component) (before : List (List ℕ)) (s : SubPart) → Gives (IsItem xs) (sub_known p xs before s)
 unfolding sub_known
@@ -126,29 +132,34 @@ items-give p xs done (s ∷ ss) h =
     then (IsItem xs) (AllByRecursion (IsItem xs)) (sub_known p xs (sub_names done) s) (λ item. subs_typed p xs (done ++ item ∷ []) ss) (item-gives p xs (sub_names done) s)
     (λ item is. items-give p xs (done ++ item ∷ []) ss (lists.appended (IsItem xs) done (item ∷ []) h (is, tt)))
 
-pub sub-gives : (env : Env) (n : NodeTree) (ss : List SubPart) → IsNode env.settings env.known n → Gives (IsNode env.settings env.known) (sub_form env.settings n ss)
+pub sub-gives : (env : Env) (n : NodeTree) (ss : List SubPart) → IsMade env.settings env.known n → Gives (IsMade env.settings env.known) (sub_form env.settings n ss)
 unfolding sub_form
 sub-gives env n ss is =
-    then (AllByRecursion (IsItem (components_in n))) (IsNode env.settings env.known) (subs_typed env.settings (components_in n) [] ss) (sub_of n) (items-give env.settings (components_in n) [] ss tt)
-    (λ items h. node-gives env (nodes.sub n items) (shaped (chosen choice.Drop (sub_names items) (components_in n))) (weaker (λ s. IsShaped s × IsSub items (structure_of n) s) (IsMadeWith env (nodes.sub n items)) (shaped (chosen choice.Drop (sub_names items) (components_in n))) (λ s f. (f.0, (is.1, f.1))) (sub-fits items (structure_of n) is.0 h)))
+    then (AllByRecursion (IsItem (components_in n))) (IsMade env.settings env.known) (subs_typed env.settings (components_in n) [] ss) (sub_of n) (items-give env.settings (components_in n) [] ss tt)
+    (λ items h. node-gives env (nodes.sub n items) (shaped (chosen choice.Drop (sub_names items) (components_in n))) (weaker (λ s. IsShaped s × IsSub items (structure_of n) s) (IsMadeWith env (nodes.sub n items)) (shaped (chosen choice.Drop (sub_names items) (components_in n))) (λ s f. (f.0, (is, f.1))) (sub-fits items (structure_of n) (made-shaped env.settings env.known n is) h)))
 
 -- ---- `pivot` and `unpivot`
-pub pivot-gives : (env : Env) (id m : Comp) (n : NodeTree) → IsNode env.settings env.known n → Gives (IsNode env.settings env.known) (pivot_of id m n)
+pub pivot-gives : (env : Env) (id m : Comp) (n : NodeTree) → IsMade env.settings env.known n → Gives (IsMade env.settings env.known) (pivot_of id m n)
 unfolding pivot_of
 pivot-gives env id m n is =
-    node-gives env (nodes.pivot n (name_of id) (name_of m)) (pivot_form (name_of id) (name_of m) (components_in n)) (weaker IsShaped (IsMadeWith env (nodes.pivot n (name_of id) (name_of m))) (pivot_form (name_of id) (name_of m) (components_in n)) (λ s f. (f, is.1))
-    (pivot-shaped (name_of id) (name_of m) (components_in n)))
+    after (IsMade env.settings env.known) (pivot_names (name_of id) (name_of m) (components_in n)) (λ u. pivot_form (name_of id) (name_of m) (components_in n) >>= made_of (nodes.pivot n (name_of id) (name_of m)))
+    (λ u. node-gives env (nodes.pivot n (name_of id) (name_of m)) (pivot_form (name_of id) (name_of m) (components_in n)) (weaker IsShaped (IsMadeWith env (nodes.pivot n (name_of id) (name_of m))) (pivot_form (name_of id) (name_of m) (components_in n)) (λ s f. (f, is))
+    (pivot-shaped (name_of id) (name_of m) (components_in n))))
 
-pub unpivot-gives : (env : Env) (id m : Comp) (n : NodeTree) → IsNode env.settings env.known n → Gives (IsNode env.settings env.known) (unpivot_of id m n)
+pub unpivot-gives : (env : Env) (id m : Comp) (n : NodeTree) → IsMade env.settings env.known n → Gives (IsMade env.settings env.known) (unpivot_of id m n)
 unfolding unpivot_of
 unpivot-gives env id m n is =
-    node-gives env (nodes.unpivot n (name_of id) (name_of m)) (unpivot_form (name_of id) (name_of m) (components_in n)) (weaker IsShaped (IsMadeWith env (nodes.unpivot n (name_of id) (name_of m))) (unpivot_form (name_of id) (name_of m) (components_in n)) (λ s f. (f, is.1)) (unpivot-shaped (name_of id) (name_of m) (components_in n)))
+    node-gives env (nodes.unpivot n (name_of id) (name_of m)) (unpivot_form (name_of id) (name_of m) (components_in n)) (weaker IsShaped (IsMadeWith env (nodes.unpivot n (name_of id) (name_of m))) (unpivot_form (name_of id) (name_of m) (components_in n)) (λ s f. (f, is)) (unpivot-shaped (name_of id) (name_of m) (components_in n)))
 
 -- ---- `calc`
--- a value of a target: an expression that is typed over the operand's columns, or an analytic call
+-- a value of a target: an expression that is typed over the operand's columns, or an analytic call that does not reach too far
 abbrev pub IsTargetValue : Settings → List Component → ValueTree → Type 0
 IsTargetValue p xs (nodes.scalar e) = IsTyped p xs e
-IsTargetValue p xs (nodes.analytic call) = Unit {0}
+IsTargetValue p xs (nodes.analytic call) = IsNear call.op call.window
+
+near-value : (p : Settings) (xs : List Component) (v : ValueTree) → IsTargetValue p xs v → IsNearValue v
+near-value p xs (nodes.scalar e) h = tt
+near-value p xs (nodes.analytic call) h = h
 
 pub record IsTarget (p : Settings) (n : NodeTree) (i : ItemTree) : Type 0 where
   pub value : IsTargetValue p (columns_in n) i.value
@@ -186,31 +197,30 @@ item-for p n i is plain = go i.value refl is.value plain
   where
     go : (v : ValueTree) → i.value ≡ v → IsTargetValue p (columns_in n) v → is_analytic_value v ≡ false → IsItemFor p (structure_of n) (target_of (components_in n)) i
     go (nodes.scalar e) s t plain = record {
-      name = refl;
+      same = ap (λ kind. record { name = i.target; role = i.role; kind = kind }) (ap (value_kind (components_in n)) s ∙ sym (ap (λ v. exp_kind (value_exp v)) s));
       role = is.role;
-      kind = ap (λ v. exp_kind (value_exp v)) s ∙ sym (ap (value_kind (components_in n)) s);
       typed = subst (λ v. IsTyped p (columns_in n) (value_exp v)) (sym s) t;
       free = is.free;
     }
     go (nodes.analytic call) s t plain = absurd (true≢false plain)
 
-pub calc-gives : (env : Env) (n : NodeTree) (items : List ItemTree) → IsNode env.settings env.known n → AreTargets env.settings n items → Gives (IsNode env.settings env.known) (calc_clause n items)
+pub calc-gives : (env : Env) (n : NodeTree) (items : List ItemTree) → IsMade env.settings env.known n → AreTargets env.settings n items → Gives (IsMade env.settings env.known) (calc_clause n items)
 unfolding calc_clause
 calc-gives env n items is are = go (list_any is_analytic items) refl
   where
     r : Result Structure Rule
     r = calc_form (map (target_of (components_in n)) items) (components_in n)
 
-    go : (b : Bool) → list_any is_analytic items ≡ b → Gives (IsNode env.settings env.known) (r >>= made_of (cond b (nodes.analytic_of n (nodes.of_items items)) (nodes.calc n items)))
-    go true e = node-gives env (nodes.analytic_of n (nodes.of_items items)) r (weaker IsShaped (IsMadeWith env (nodes.analytic_of n (nodes.of_items items))) r (λ s f. (f, is.1)) (calc-shaped (map (target_of (components_in n)) items) (components_in n)))
+    go : (b : Bool) → list_any is_analytic items ≡ b → Gives (IsMade env.settings env.known) (r >>= made_of (cond b (nodes.analytic_of n (nodes.of_items items)) (nodes.calc n items)))
+    go true e = node-gives env (nodes.analytic_of n (nodes.of_items items)) r (weaker IsShaped (IsMadeWith env (nodes.analytic_of n (nodes.of_items items))) r (λ s f. (f, (is, lists.weaker (IsTarget env.settings n) (λ i. IsNearValue i.value) items (λ i t. near-value env.settings (columns_in n) i.value t.value) are.each))) (calc-shaped (map (target_of (components_in n)) items) (components_in n)))
     go false e =
-        node-gives env (nodes.calc n items) r (weaker (λ s. IsShaped s × IsCalculated env.settings items (structure_of n) s) (IsMadeWith env (nodes.calc n items)) r (λ s f. (f.0, (is.1, f.1)))
-        (calculated-fits env.settings items (target_of (components_in n)) (structure_of n) is.0 are.apart (λ i. refl)
+        node-gives env (nodes.calc n items) r (weaker (λ s. IsShaped s × IsCalculated env.settings items (structure_of n) s) (IsMadeWith env (nodes.calc n items)) r (λ s f. (f.0, (is, f.1)))
+        (calculated-fits env.settings items (target_of (components_in n)) (structure_of n) (made-shaped env.settings env.known n is) are.apart (λ i. refl)
         (lists.joined (IsTarget env.settings n) (λ i. is_analytic i ≡ false) (IsItemFor env.settings (structure_of n) (target_of (components_in n))) items (item-for env.settings n) are.each (lists.any_fails is_analytic items e))))
 
 -- ---- `aggr`
-pub aggr-gives : (env : Env) (g : Option GroupPart) (n : NodeTree) (made : List Made) (having : Option CompExp) → IsNode env.settings env.known n → Gives (IsNode env.settings env.known) (aggr_clause g n made having)
+pub aggr-gives : (env : Env) (g : Option GroupPart) (n : NodeTree) (made : List Made) (having : Option CompExp) → IsMade env.settings env.known n → Gives (IsMade env.settings env.known) (aggr_clause g n made having)
 unfolding aggr_clause
 aggr-gives env g n made having is =
     node-gives env (nodes.aggregate n (aggr_tree g n made having)) (aggr_form (grouping_choice g) (grouping_names g) (map made_target made) (components_in n))
-    (weaker IsShaped (IsMadeWith env (nodes.aggregate n (aggr_tree g n made having))) (aggr_form (grouping_choice g) (grouping_names g) (map made_target made) (components_in n)) (λ s f. (f, is.1)) (aggr-shaped (grouping_choice g) (grouping_names g) (map made_target made) (components_in n)))
+    (weaker IsShaped (IsMadeWith env (nodes.aggregate n (aggr_tree g n made having))) (aggr_form (grouping_choice g) (grouping_names g) (map made_target made) (components_in n)) (λ s f. (f, is)) (aggr-shaped (grouping_choice g) (grouping_names g) (map made_target made) (components_in n)))

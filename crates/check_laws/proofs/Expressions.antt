@@ -11,6 +11,7 @@ use Rattle.vtl_tree.specs.declared.structure.Component.{Component}
 use Rattle.check_shapes.specs.Names.{component_of}
 use Rattle.check_values.specs.Kinds.{exp_kind}
 use Rattle.vtl_meaning.specs.Columns.{column_behind, column_named, kind_named, place_of}
+use Rattle.vtl_meaning.specs.Literals.{HasLiterals}
 use Rattle.vtl_meaning.specs.Made.{AreFor, AreTyped, IsColumnAt, IsTyped, kinds_in}
 use Rattle.check_laws.proofs.Columns.{at-place, kind-found}
 
@@ -23,8 +24,8 @@ pub listed-typed : (p : Settings) (xs : List Component) (es : List CompExp) → 
 listed-typed p xs [] h = tt
 listed-typed p xs (e ∷ es) h = (h.0, listed-typed p xs es h.1)
 
-pub call-typed : (p : Settings) (xs : List Component) (o : ScalarOp) (kind : Kind) (es : List CompExp) → kinds_of o (map exp_kind es) ≡ Some kind → AllByRecursion (IsTyped p xs) es → IsTyped p xs (call o kind (comp_exps_of es))
-call-typed p xs o kind es e h = (ap (kinds_of o) (kinds-listed es) ∙ e, listed-typed p xs es h)
+pub call-typed : (p : Settings) (xs : List Component) (o : ScalarOp) (kind : Kind) (es : List CompExp) → kinds_of o (map exp_kind es) ≡ Some kind → AllByRecursion (IsTyped p xs) es → HasLiterals o (comp_exps_of es) → IsTyped p xs (call o kind (comp_exps_of es))
+call-typed p xs o kind es e h l = (ap (kinds_of o) (kinds-listed es) ∙ e, listed-typed p xs es h, l)
 
 -- ---- more columns
 pub column-before : (xs more : List Component) (i : ℕ) (name : List ℕ) (kind : Kind) → IsColumnAt i name kind xs → IsColumnAt i name kind (xs ++ more)
@@ -43,7 +44,7 @@ mutual
   pub over-any : (p : Settings) (xs : List Component) (e : CompExp) → IsTyped p [] e → IsTyped p xs e
   over-any p xs (column place name kind) h = absurd h
   over-any p xs (const v) h = h
-  over-any p xs (call o kind args) h = (h.0, all-over-any p xs args h.1)
+  over-any p xs (call o kind args) h = (h.0, all-over-any p xs args h.1, h.2)
   over-any p xs (aggregate a kind) h = absurd h
 
   all-over-any : (p : Settings) (xs : List Component) (es : CompExps) → AreTyped p [] es → AreTyped p xs es

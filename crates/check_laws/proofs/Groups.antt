@@ -1,11 +1,11 @@
 -- Aggregates and analytic calls.
-use Rattle.std.proofs.Common.{◌≡◌, ℕ, Bool, true, false, cond, not, List, [], ◌∷◌, Option, Some, None, Result, Err, refl}
-use Rattle.std.specs.Option.{IfSome, is_some, option_map}
+use Rattle.std.proofs.Common.{◌≡◌, ℕ, Bool, true, false, cond, not, ◌||◌, List, [], ◌∷◌, Option, Some, None, Result, Err, refl, subst, sym}
+use Rattle.std.specs.Option.{IfSome, is_none, is_some}
+use Rattle.vtl_cell.specs.Results.{◌>>=◌}
 use Rattle.vtl_cell.specs.Settings.{Settings}
 use Rattle.check_faults.specs.Rules.{ruled, Tests}
 use Rattle.check_faults.specs.declared.rules.Rule.{Rule}
 use Rattle.check_faults.specs.declared.rules.Rule.TheVariants as rule
-use Rattle.vtl_syntax.specs.Trees as tree
 use Rattle.vtl_syntax.specs.Trees.{Exp, MaybeExp}
 use Rattle.vtl_syntax.specs.declared.parts.GroupPart.{GroupPart}
 use Rattle.vtl_syntax.specs.declared.word_groups.AggregateName.{AggregateName}
@@ -13,38 +13,39 @@ use Rattle.vtl_cell.specs.declared.kind.Kind.{Kind}
 use Rattle.vtl_tree.specs.CompExp.{CompExp}
 use Rattle.vtl_tree.specs.declared.structure.Component.{Component}
 use Rattle.vtl_nodes.specs.Trees as nodes
-use Rattle.vtl_nodes.specs.Trees.{NodeTree, ValueTree, structure_of}
+use Rattle.vtl_nodes.specs.Trees.{NodeTree, ValueTree}
 use Rattle.vtl_nodes.specs.declared.calls.AnalyticOp.{AnalyticOp}
 use Rattle.vtl_nodes.specs.declared.calls.AnalyticOp.TheVariants as analytic
 use Rattle.vtl_nodes.specs.declared.calls.Window.{Window}
 use Rattle.check_shapes.specs.Measures.{measured_form}
 use Rattle.check_shapes.specs.declared.choices.Choice.TheVariants as choice
 use Rattle.check_shapes.specs.declared.measures.Outcome.TheVariants as outcome
-use Rattle.check_values.specs.Columns.{column_typed}
 use Rattle.check_values.specs.Groupings.{grouping_choice, grouping_names}
 use Rattle.check_values.specs.Kinds.{exp_kind}
-use Rattle.check_operators.specs.Places.{Env, Written, name_written, written_in}
+use Rattle.check_operators.specs.Places.{Env}
 use Rattle.check_operators.specs.Typed.{TypedTree, value, dataset, components_in}
 use Rattle.check_operators.specs.declared.places.Inside.{Inside}
 use Rattle.check_operators.specs.declared.places.Place.{Place}
 use Rattle.check_operators.specs.declared.places.Place.TheVariants as place
-use Rattle.vtl_check.specs.Aggregates.{aggregate_node, aggregate_tree, call_kind, component_call, count_call, group_call, group_call_by, group_operand, no_dataset, of_measure, outcome_of, written_call}
+use Rattle.vtl_check.specs.Aggregates.{aggregate_kind, aggregate_node, aggregate_tree, aggregate_value, count_call, count_kind, group_call, group_call_by, of_measure, operand_name, outcome_of}
 use Rattle.vtl_check.specs.Windowed as windowed
-use Rattle.vtl_check.specs.Windowed.{argument, call_of, call_tree, is_misplaced, is_unfit_over, or_count, over_form, over_node, over_parts, over_structure, over_typed, rank_call, suits, target_form, target_typed, value_call}
+use Rattle.vtl_check.specs.Windowed.{argument, call_of, call_tree, is_misplaced, is_unfit_over, or_count, over_dataset, over_form, over_node, over_parts, over_structure, over_typed, rank_call, suits, target_form, target_typed}
 use Rattle.vtl_check.specs.calls.Call.{Call}
-use Rattle.vtl_meaning.specs.Made.{IsTyped}
-use Rattle.vtl_check.specs.Typing.{or_call}
-use Rattle.check_laws.specs.Gives.{Gives, IsShaped}
-use Rattle.check_laws.specs.WellTyped.{IfUngrouped, IsNode, IsWellTyped}
+use Rattle.vtl_meaning.specs.Made.{IsMade, IsTyped}
+use Rattle.vtl_meaning.specs.Reaches.{IsNear}
+use Rattle.vtl_meaning.specs.Shapes.{IsShaped}
+use Rattle.check_laws.specs.Gives.{Gives}
+use Rattle.check_laws.specs.WellTyped.{IfUngrouped, IsWellTyped}
+use Rattle.check_laws.proofs.Reaches.{AreNearParts, parts-near}
 use Rattle.check_laws.proofs.Sets.{shape-gives}
 use Rattle.check_laws.proofs.OtherForms.{measured-shaped}
 use Rattle.check_laws.proofs.Steps.{after, tested, then, weaker}
 
 -- ---- of a data set
-pub aggregate-gives : (env : Env) (at : Place) (f : AggregateName) (g : Option GroupPart) (a : NodeTree) (having : Option CompExp) → IsNode env.settings env.known a → Gives (IsWellTyped env at) (aggregate_node f g a having)
+pub aggregate-gives : (env : Env) (at : Place) (f : AggregateName) (g : Option GroupPart) (a : NodeTree) (having : Option CompExp) → IsMade env.settings env.known a → Gives (IsWellTyped env at) (aggregate_node f g a having)
 unfolding aggregate_node
 aggregate-gives env at f g a having is =
-    shape-gives env at (nodes.aggregate a (aggregate_tree f g a having)) (measured_form (outcome_of f) (of_measure f) true (grouping_choice g) (grouping_names g) (components_in a)) (measured-shaped (outcome_of f) (of_measure f) true (grouping_choice g) (grouping_names g) (components_in a)) (λ s shaped. (shaped, is.1))
+    shape-gives env at (nodes.aggregate a (aggregate_tree f g a having)) (measured_form (outcome_of f) (of_measure f) true (grouping_choice g) (grouping_names g) (components_in a)) (measured-shaped (outcome_of f) (of_measure f) true (grouping_choice g) (grouping_names g) (components_in a)) (λ s shaped. (shaped, is))
 
 -- ---- values over groups
 -- some value
@@ -55,12 +56,6 @@ IsSomeValue (dataset n) = ⊥
 call-by : (f : AggregateName) (component : Option (List ℕ)) (grouped : Bool) (kind : Option Kind) → Gives IsSomeValue (group_call_by f component grouped kind)
 call-by f component grouped None = tt
 call-by f component grouped (Some kind) = after IsSomeValue (ruled ((rule.AggregateMisuse, grouped) ∷ []) (tt {0})) (λ u. group_call f component kind) (λ u. tt)
-
-written-call : (i : Inside) (f : AggregateName) (grouped : Bool) (w : Written) → Gives IsSomeValue (written_call i f grouped w)
-unfolding written_call
-written-call i f grouped w =
-    after IsSomeValue (name_written i.joined w) (component_call i f grouped)
-    (λ name. after IsSomeValue (column_typed name i.components) (λ e. group_call_by f (Some name) grouped (call_kind f (Some (exp_kind e)))) (λ e. call-by f (Some name) grouped (call_kind f (Some (exp_kind e)))))
 
 -- at groups nothing is asked of a value
 at-groups : (env : Env) (i : Inside) (r : Result TypedTree Rule) → is_some i.grouping ≡ true → Gives IsSomeValue r → Gives (IsWellTyped env (place.Inside i)) r
@@ -74,25 +69,38 @@ at-groups env i r grouped h = weaker IsSomeValue (IsWellTyped env (place.Inside 
     one (value e) k = free i.grouping (IsTyped env.settings i.components e) grouped
     one (dataset n) k = absurd k
 
-pub no-dataset-gives : (env : Env) (at : Place) (f : AggregateName) (grouped : Bool) (kind : Option Kind) → Gives (IsWellTyped env at) (no_dataset at f grouped kind)
-no-dataset-gives env at f grouped (Some kind) = tt
-no-dataset-gives env place.Outside f grouped None = tt
-no-dataset-gives env (place.Inside i) f grouped None = go (is_some i.grouping) refl
-  where
-    go : (b : Bool) → is_some i.grouping ≡ b → Gives (IsWellTyped env (place.Inside i)) (cond b (count_call f grouped) (Err rule.WrongKind))
-    go true e = at-groups env i (count_call f grouped) e (call-by f None grouped (call_kind f None))
-    go false e = tt
+-- a call that is misused gives nothing
+misused-call : (P : TypedTree → Type 0) (f : AggregateName) (component : Option (List ℕ)) (misused : Bool) (kind : Option Kind) → misused ≡ true → Gives P (group_call_by f component misused kind)
+misused-call P f component misused None e = tt
+misused-call P f component misused (Some kind) e = subst (λ b. Gives P (ruled ((rule.AggregateMisuse, b) ∷ []) (tt {0}) >>= λ u. group_call f component kind)) (sym e) tt
 
--- an aggregate of a component over groups, or else the rest
-pub or-call-gives : (env : Env) (at : Place) (e : MaybeExp) (f : AggregateName) (grouped : Bool) (rest : Result TypedTree Rule) → Gives (IsWellTyped env at) rest → Gives (IsWellTyped env at) (or_call (group_operand at e) f grouped rest)
-or-call-gives env place.Outside e f grouped rest h = h
-or-call-gives env (place.Inside i) tree.no_exp f grouped rest h = h
-or-call-gives env (place.Inside i) (tree.some_exp e) f grouped rest h = go (is_some i.grouping) refl (written_in e)
+or-true : (a b : Bool) → ((a || true) || b) ≡ true
+or-true true b = refl
+or-true false b = refl
+
+-- an aggregate of a value: over groups, or nothing
+pub value-call-gives : (env : Env) (at : Place) (f : AggregateName) (grouped : Bool) (e : MaybeExp) (v : CompExp) → Gives (IsWellTyped env at) (aggregate_value at f grouped e v)
+value-call-gives env place.Outside f grouped e v = tt
+value-call-gives env (place.Inside i) f grouped e v = go (is_none i.grouping) refl
   where
-    go : (b : Bool) → is_some i.grouping ≡ b → (o : Option Written) → Gives (IsWellTyped env (place.Inside i)) (or_call (cond b (option_map (λ w. (i, w)) o) None) f grouped rest)
-    go true e None = h
-    go true e (Some w) = at-groups env i (written_call i f grouped w) e (written-call i f grouped w)
-    go false e o = h
+    component : Option (List ℕ)
+    component = operand_name e v
+
+    some : (g : Option (List (List ℕ))) → is_none g ≡ false → is_some g ≡ true
+    some None e = cc
+    some (Some names) e = refl
+
+    go : (b : Bool) → is_none i.grouping ≡ b → Gives (IsWellTyped env (place.Inside i)) (group_call_by f component (grouped || b || is_none component) (aggregate_kind f (exp_kind v)))
+    go true e = misused-call (IsWellTyped env (place.Inside i)) f component (grouped || true || is_none component) (aggregate_kind f (exp_kind v)) (or-true grouped (is_none component))
+    go false e = at-groups env i (group_call_by f component (grouped || false || is_none component) (aggregate_kind f (exp_kind v))) (some i.grouping e) (call-by f component (grouped || false || is_none component) (aggregate_kind f (exp_kind v)))
+
+pub count-call-gives : (env : Env) (at : Place) (f : AggregateName) (grouped : Bool) → Gives (IsWellTyped env at) (count_call at f grouped)
+count-call-gives env place.Outside f grouped = tt
+count-call-gives env (place.Inside i) f grouped = go (is_some i.grouping) refl
+  where
+    go : (b : Bool) → is_some i.grouping ≡ b → Gives (IsWellTyped env (place.Inside i)) (cond b (group_call_by f None grouped (count_kind f)) (Err rule.WrongKind))
+    go true e = at-groups env i (group_call_by f None grouped (count_kind f)) e (call-by f None grouped (count_kind f))
+    go false e = tt
 
 -- ---- analytic calls
 abbrev tests : Call → Window → Tests
@@ -102,39 +110,43 @@ over-structure : (e : Exp) (call : Call) (w : Window) (xs : List Component) → 
 unfolding over_structure
 over-structure e call w xs = then IsShaped IsShaped (measured_form outcome.All (windowed.of_measure e) true choice.Except [] xs) (λ s. ruled (tests call w) s) (measured-shaped outcome.All (windowed.of_measure e) true choice.Except [] xs) (λ s is. tested IsShaped (tests call w) s (λ passed. is))
 
-over-node : (env : Env) (at : Place) (e : Exp) (call : Call) (w : Window) (a : NodeTree) → IsNode env.settings env.known a → Gives (IsWellTyped env at) (over_node e call w a)
+over-node : (env : Env) (at : Place) (e : Exp) (call : Call) (w : Window) (a : NodeTree) → IsNear (or_count call.op) w → IsMade env.settings env.known a → Gives (IsWellTyped env at) (over_node e call w a)
 unfolding over_node
-over-node env at e call w a is = shape-gives env at (nodes.analytic_of a (nodes.of_measures (or_count call.op) w)) (over_structure e call w (components_in a)) (over-structure e call w (components_in a)) (λ s shaped. (shaped, is.1))
+over-node env at e call w a near is = shape-gives env at (nodes.analytic_of a (nodes.of_measures (or_count call.op) w)) (over_structure e call w (components_in a)) (over-structure e call w (components_in a)) (λ s shaped. (shaped, (is, near)))
+
+over-dataset : (env : Env) (at : Place) (e : Exp) (n : NodeTree) (call : Call) (w : Window) → IsNear (or_count call.op) w → IsMade env.settings env.known n → Gives (IsWellTyped env at) (over_dataset at e n call w)
+over-dataset env place.Outside e n call w near is = over-node env place.Outside e call w n near is
+over-dataset env (place.Inside i) e n call w near is = after (IsWellTyped env (place.Inside i)) (windowed.given_structure e (components_in n)) (λ s. Err rule.DatasetOrValue) (λ s. tt)
 
 pub over-gives : (env : Env) (at : Place) (e : Exp) (x : Option TypedTree) → IfSome x (IsWellTyped env at) → Gives (IsWellTyped env at) (over_typed env.settings at e x)
 unfolding over_typed
-over-gives env at e x h = after (IsWellTyped env at) (over_parts env.settings at e x) (λ parts. over_form at e x parts.0 parts.1) (λ parts. go x h parts.0 parts.1)
+over-gives env at e x h = then AreNearParts (IsWellTyped env at) (over_parts env.settings at e x) (λ parts. over_form at e x parts.0 parts.1) (parts-near env.settings at e x) (λ parts near. go x h parts.0 parts.1 near)
   where
-    go : (x : Option TypedTree) → IfSome x (IsWellTyped env at) → (call : Call) (w : Window) → Gives (IsWellTyped env at) (over_form at e x call w)
-    go (Some (dataset n)) h call w = over-node env at e call w n h
-    go (Some (value v)) h call w = tt
-    go None h call w = tt
+    go : (x : Option TypedTree) → IfSome x (IsWellTyped env at) → (call : Call) (w : Window) → IsNear (or_count call.op) w → Gives (IsWellTyped env at) (over_form at e x call w)
+    go (Some (dataset n)) h call w near = over-dataset env at e n call w near h
+    go (Some (value v)) h call w near = tt
+    go None h call w near = tt
 
 -- as a target of `calc`
 abbrev pub IsAnalytic : ValueTree → Type 0
 IsAnalytic (nodes.scalar e) = ⊥
-IsAnalytic (nodes.analytic call) = Unit {0}
+IsAnalytic (nodes.analytic call) = IsNear call.op call.window
 
-call-analytic : (call : Call) (named : Option (List ℕ)) (w : Window) (o : Option AnalyticOp) → Gives IsAnalytic (call_of call named w o)
-call-analytic call None w None = tt
-call-analytic call None w (Some o) = tt
-call-analytic call (Some name) w None = tt
-call-analytic call (Some name) w (Some o) = tested IsAnalytic ((rule.AnalyticMisuse, not (suits call.needed w)) ∷ []) (call_tree o (Some name) w) (λ passed. tt)
+call-analytic : (call : Call) (named : Option (List ℕ)) (w : Window) (o : Option AnalyticOp) → IsNear (or_count o) w → Gives IsAnalytic (call_of call named w o)
+call-analytic call None w None near = tt
+call-analytic call None w (Some o) near = tt
+call-analytic call (Some name) w None near = tt
+call-analytic call (Some name) w (Some o) near = tested IsAnalytic ((rule.AnalyticMisuse, not (suits call.needed w)) ∷ []) (call_tree o (Some name) w) (λ passed. near)
 
 pub target-analytic : (p : Settings) (at : Place) (e : Exp) (x : Option TypedTree) → Gives IsAnalytic (target_typed p at e x)
 unfolding target_typed
-target-analytic p at e x = after IsAnalytic (over_parts p at e x) (λ parts. target_form e x parts.0 parts.1) (λ parts. go x parts.0 parts.1)
+target-analytic p at e x = then AreNearParts IsAnalytic (over_parts p at e x) (λ parts. target_form e x parts.0 parts.1) (parts-near p at e x) (λ parts near. go x parts.0 parts.1 near)
   where
-    go : (x : Option TypedTree) (call : Call) (w : Window) → Gives IsAnalytic (target_form e x call w)
-    go (Some (dataset n)) call w = after IsAnalytic (over_node e call w n) (λ t. Err rule.DatasetOrValue) (λ t. tt)
-    go (Some (value v)) call w = after IsAnalytic (ruled ((rule.WrongKind, is_unfit_over e (Some (exp_kind v))) ∷ []) (tt {0})) (λ u. call_of call (argument e v) w call.op) (λ u. call-analytic call (argument e v) w call.op)
-    go None call w = rank (windowed.is_rank e)
+    go : (x : Option TypedTree) (call : Call) (w : Window) → IsNear (or_count call.op) w → Gives IsAnalytic (target_form e x call w)
+    go (Some (dataset n)) call w near = after IsAnalytic (windowed.given_structure e (components_in n)) (λ s. Err rule.DatasetOrValue) (λ s. tt)
+    go (Some (value v)) call w near = after IsAnalytic (ruled ((rule.WrongKind, is_unfit_over e (Some (exp_kind v))) ∷ []) (tt {0})) (λ u. call_of call (argument e v) w call.op) (λ u. call-analytic call (argument e v) w call.op near)
+    go None call w near = rank (windowed.is_rank e)
       where
         rank : (b : Bool) → Gives IsAnalytic (cond b (rank_call call w) (Err rule.WrongKind))
-        rank true = tested IsAnalytic ((rule.AnalyticMisuse, not (suits call.needed w)) ∷ []) (call_tree analytic.Rank None w) (λ passed. tt)
+        rank true = tested IsAnalytic ((rule.AnalyticMisuse, not (suits call.needed w)) ∷ []) (call_tree analytic.Rank None w) (λ passed. record { offset = refl; frame = near.frame })
         rank false = tt

@@ -2,12 +2,12 @@
 use Rattle.std.proofs.Common.{List, ◌++◌}
 use Rattle.std.specs.List.{AllByRecursion}
 use Rattle.vtl_cell.specs.Settings.{Settings}
-use Rattle.vtl_tree.specs.Structure.{IsStructure}
 use Rattle.vtl_tree.specs.Structures.{Named}
 use Rattle.vtl_tree.specs.declared.structure.Structure.{Structure}
 use Rattle.vtl_nodes.specs.Trees as nodes
 use Rattle.vtl_nodes.specs.Trees.{FormTree, MaybeNode, NodeTree, NodeTrees, OperandTrees, structure_of}
 use Rattle.vtl_meaning.specs.Made.{AreMade, AreMadeOperands, IsMade, IsMadeForm, IsMadeMaybe}
+use Rattle.vtl_meaning.specs.Shapes.{IsShaped}
 use Rattle.vtl_nodes.specs.Nodes.{all_nodes, form_nodes, maybe_nodes, nodes_in, operand_nodes}
 use Rattle.check_laws.proofs.Lists as lists
 
@@ -43,7 +43,7 @@ module _ (p : Settings) (known : Named) where
     form-made s (nodes.sym_diff a b) m = two (nodes_in a) (nodes_in b) (inner-made a m.0) (inner-made b m.1)
     form-made s (nodes.exists_in a b r) m = two (nodes_in a) (nodes_in b) (inner-made a m.0) (inner-made b m.1)
     form-made s (nodes.aggregate a spec) m = inner-made a m
-    form-made s (nodes.analytic_of a spec) m = inner-made a m
+    form-made s (nodes.analytic_of a spec) m = inner-made a m.0
     form-made s (nodes.check a i spec) m = two (nodes_in a) (maybe_nodes i) (inner-made a m.0) (maybe-made i m.1)
     form-made s (nodes.check_datapoint a rules out) m = inner-made a m
     form-made s (nodes.check_hierarchy a rules mode out) m = inner-made a m
@@ -61,8 +61,9 @@ module _ (p : Settings) (known : Named) where
     operands-made nodes.no_operands m = tt
     operands-made (nodes.operand n alias os) m = two (nodes_in n) (operand_nodes os) (inner-made n m.0) (operands-made os m.1)
 
-made-structure : (p : Settings) (known : Named) (n : NodeTree) → IsMade p known n → IsStructure (structure_of n)
-made-structure p known (nodes.node s form) m = m.0
+-- the structure of an expression that is made
+pub made-shaped : (p : Settings) (known : Named) (n : NodeTree) → IsMade p known n → IsShaped (structure_of n)
+made-shaped p known (nodes.node s form) m = m.0
 
-pub inner-structures : (p : Settings) (known : Named) (n : NodeTree) → IsMade p known n → AllByRecursion (λ m. IsStructure (structure_of m)) (nodes_in n)
-inner-structures p known n m = lists.weaker (IsMade p known) (λ m. IsStructure (structure_of m)) (nodes_in n) (made-structure p known) (inner-made p known n m)
+pub inner-shaped : (p : Settings) (known : Named) (n : NodeTree) → IsMade p known n → AllByRecursion (λ m. IsShaped (structure_of m)) (nodes_in n)
+inner-shaped p known n m = lists.weaker (IsMade p known) (λ m. IsShaped (structure_of m)) (nodes_in n) (made-shaped p known) (inner-made p known n m)

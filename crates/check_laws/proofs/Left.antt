@@ -1,7 +1,8 @@
 -- Clauses that leave some of the components: `keep`, `drop`, `sub`, and `a#m`.
-use Rattle.std.proofs.Common.{◌≡◌, ℕ, Bool, true, false, cond, ◌||◌, not, List, [], ◌∷◌, map, Option, Some, None, refl, sym, ap, ◌∙◌, subst}
+use Rattle.std.proofs.Common.{◌≡◌, ℕ, Bool, true, false, cond, ◌||◌, not, List, [], ◌∷◌, ◌++◌, map, Option, Some, None, refl, sym, ap, ◌∙◌, subst}
 use Rattle.std.proofs.lemmas.Bool.{false≢true}
 use Rattle.std.specs.List.{AllByRecursion, filter, list_any}
+use Rattle.std.specs.Option.{option_map_or}
 use Rattle.vtl_cell.specs.Kinds.{is_of}
 use Rattle.vtl_tree.specs.Structure.{columns_of, names_of, same_name}
 use Rattle.vtl_tree.specs.Structures.{structure_of}
@@ -9,19 +10,21 @@ use Rattle.vtl_tree.specs.declared.structure.Component.{Component}
 use Rattle.vtl_tree.specs.declared.structure.Structure.{Structure}
 use Rattle.vtl_nodes.specs.declared.clauses.SubItem.{SubItem}
 use Rattle.check_shapes.specs.Choices.{choice_form, chosen, is_chosen, is_identifier}
-use Rattle.check_shapes.specs.Names.{all_known, component_of, is_among, known, known_as, name_tests, serves}
+use Rattle.check_shapes.specs.Names.{all_known, component_of, is_among, known, known_as, name_tests, names_behind, serves}
 use Rattle.check_shapes.specs.Shape.{shaped}
+use Rattle.check_shapes.specs.declared.choices.Choice.{Choice}
 use Rattle.check_shapes.specs.declared.choices.Choice.TheVariants as choice
 use Rattle.check_shapes.specs.declared.names.Wanted.{Wanted}
 use Rattle.check_shapes.specs.declared.names.Wanted.TheVariants as wanted
 use Rattle.vtl_meaning.specs.Columns.{identifiers_of, kind_named, place_of}
 use Rattle.vtl_meaning.specs.Made.{AreAmong, IsColumnAt, IsLeft, IsSub}
-use Rattle.check_laws.specs.Gives.{Gives, IsShaped}
+use Rattle.vtl_meaning.specs.Shapes.{IsChosen, IsShaped, is_known}
+use Rattle.check_laws.specs.Gives.{Gives}
 use Rattle.check_laws.proofs.Chosen.{own-columns}
 use Rattle.check_laws.proofs.Columns.{HasName, IsFound, all-found, at-place, found-filter, has-itself, kind-found, of-columns, same-true}
 use Rattle.check_laws.proofs.Lists as lists
 use Rattle.check_laws.proofs.Shapes.{shaped-gives}
-use Rattle.check_laws.proofs.Steps.{after, tested}
+use Rattle.check_laws.proofs.Steps.{tested, then, weaker}
 use Rattle.check_laws.proofs.Tests.{not-false}
 
 -- ---- names of components
@@ -54,22 +57,28 @@ left-identifiers p (x ∷ xs) h = go (p x) refl (is_identifier x) refl (left-ide
 left-columns : (p : Component → Bool) (a : Structure) → IsShaped a → AreAmong (columns_of (structure_of (filter p a.components))) (columns_of a)
 left-columns p a ia = of-columns (λ x. IsColumnAt (place_of x.name (columns_of a)) x.name x.kind (columns_of a)) (structure_of (filter p a.components)) (lists.filtered (λ x. IsColumnAt (place_of x.name (columns_of a)) x.name x.kind (columns_of a)) p a.components (own-columns a ia))
 
-left-fits : (p : Component → Bool) (a : Structure) → IsShaped a → AllByRecursion (λ x. is_identifier x ≡ true → p x ≡ true) a.components → Gives (λ s. IsShaped s × IsLeft a s) (shaped (filter p a.components))
-left-fits p a ia all =
-    shaped-gives (λ s. IsShaped s × IsLeft a s) (filter p a.components) (λ s. (
+-- a name that stands for a component whose role serves
+name-known : (w : Wanted) (xs : List Component) (name : List ℕ) → IsName w xs name → is_known w xs name ≡ true
+name-known w xs name h = ap (λ o. option_map_or (λ x. serves w x.role) o false) h.1.0 ∙ h.1.1
+
+left-fits : (w : Wanted) (c : Choice) (names : List (List ℕ)) (a : Structure) → IsShaped a → AllByRecursion (λ x. is_identifier x ≡ true → is_chosen c names x ≡ true) a.components → AllByRecursion (IsName w a.components) names
+    → Gives (λ s. IsShaped s × IsLeft a s × IsChosen w c names a s) (shaped (chosen c names a.components))
+left-fits w c names a ia all are =
+    shaped-gives (λ s. IsShaped s × IsLeft a s × IsChosen w c names a s) (chosen c names a.components) (λ s. (
       s,
       record {
         well_formed = s.well_formed;
         identifiers = (ap names_of same, ap (map (λ x. x.kind)) same);
-        columns = left-columns p a ia;
+        columns = left-columns (is_chosen c names) a ia;
       },
+      record { known = lists.weaker (IsName w a.components) (λ name. is_known w a.components name ≡ true) names (name-known w a.components) are; shape = refl },
     ))
   where
-    same : filter is_identifier (filter p a.components) ≡ filter is_identifier a.components
-    same = left-identifiers p a.components all
+    same : filter is_identifier (chosen c names a.components) ≡ filter is_identifier a.components
+    same = left-identifiers (is_chosen c names) a.components all
 
-pub keep-fits : (names : List (List ℕ)) (a : Structure) → IsShaped a → Gives (λ s. IsShaped s × IsLeft a s) (shaped (chosen choice.Keep names a.components))
-keep-fits names a ia = left-fits (is_chosen choice.Keep names) a ia (lists.every (λ x. is_identifier x ≡ true → is_chosen choice.Keep names x ≡ true) a.components (λ x e. ap (λ b. b || is_among x.name names) e))
+pub keep-fits : (w : Wanted) (names : List (List ℕ)) (a : Structure) → IsShaped a → AllByRecursion (IsName w a.components) names → Gives (λ s. IsShaped s × IsLeft a s × IsChosen w choice.Keep names a s) (shaped (chosen choice.Keep names a.components))
+keep-fits w names a ia h = left-fits w choice.Keep names a ia (lists.every (λ x. is_identifier x ≡ true → is_chosen choice.Keep names x ≡ true) a.components (λ x e. ap (λ b. b || is_among x.name names) e)) h
 
 -- an identifier is none of the names of values
 not-among : (xs : List Component) (x : Component) → IsFound xs x → is_identifier x ≡ true → (names : List (List ℕ)) → AllByRecursion (IsName wanted.Value xs) names → is_among x.name names ≡ false
@@ -84,13 +93,21 @@ not-among xs x found is (name ∷ names) h = go (same_name name x.name) refl (no
         absurd (false≢true (ap not (sym (ap is_identifier (sym same) ∙ is)) ∙ h.0.1.1))
     go false e ih = ih
 
-pub drop-fits : (names : List (List ℕ)) (a : Structure) → IsShaped a → AllByRecursion (IsName wanted.Value a.components) names → Gives (λ s. IsShaped s × IsLeft a s) (shaped (chosen choice.Drop names a.components))
+pub drop-fits : (names : List (List ℕ)) (a : Structure) → IsShaped a → AllByRecursion (IsName wanted.Value a.components) names → Gives (λ s. IsShaped s × IsLeft a s × IsChosen wanted.Value choice.Drop names a s) (shaped (chosen choice.Drop names a.components))
 drop-fits names a ia h =
-    left-fits (is_chosen choice.Drop names) a ia
-    (lists.weaker (IsFound a.components) (λ x. is_identifier x ≡ true → is_chosen choice.Drop names x ≡ true) a.components (λ x found is. ap not (not-among a.components x found is names h)) (all-found a ia.well_formed))
+    left-fits wanted.Value choice.Drop names a ia
+    (lists.weaker (IsFound a.components) (λ x. is_identifier x ≡ true → is_chosen choice.Drop names x ≡ true) a.components (λ x found is. ap not (not-among a.components x found is names h)) (all-found a ia.well_formed)) h
 
-pub member-fits : (names : List (List ℕ)) (a : Structure) → IsShaped a → Gives (λ s. IsShaped s × IsLeft a s) (choice_form wanted.Measure choice.Keep names a.components)
-member-fits names a ia = after (λ s. IsShaped s × IsLeft a s) (all_known wanted.Measure a.components names) (λ u. shaped (chosen choice.Keep names a.components)) (λ u. keep-fits names a ia)
+names-known : (w : Wanted) (xs : List Component) (before names : List (List ℕ)) → Gives (λ u. AllByRecursion (IsName w xs) names) (names_behind w xs before names)
+names-known w xs before [] = tt
+names-known w xs before (name ∷ names) =
+    then (IsNamed w xs name) (λ u. AllByRecursion (IsName w xs) (name ∷ names)) (known w xs before name) (λ x. names_behind w xs (before ++ name ∷ []) names) (known-gives w xs before name)
+    (λ x is. weaker (λ u. AllByRecursion (IsName w xs) names) (λ u. AllByRecursion (IsName w xs) (name ∷ names)) (names_behind w xs (before ++ name ∷ []) names) (λ u h. ((x, is), h)) (names-known w xs (before ++ name ∷ []) names))
+
+pub member-fits : (names : List (List ℕ)) (a : Structure) → IsShaped a → Gives (λ s. IsShaped s × IsLeft a s × IsChosen wanted.Measure choice.Keep names a s) (choice_form wanted.Measure choice.Keep names a.components)
+member-fits names a ia =
+    then (λ u. AllByRecursion (IsName wanted.Measure a.components) names) (λ s. IsShaped s × IsLeft a s × IsChosen wanted.Measure choice.Keep names a s) (all_known wanted.Measure a.components names) (λ u. shaped (chosen choice.Keep names a.components))
+    (names-known wanted.Measure a.components [] names) (λ u h. keep-fits wanted.Measure names a ia h)
 
 -- ---- `sub`
 -- a value of an identifier
@@ -108,6 +125,7 @@ sub-fits items a ia h =
       record {
         well_formed = s.well_formed;
         columns = left-columns left a ia;
+        shape = refl;
         left = some;
         identifiers = lists.joined (λ x. left x ≡ true → is_identifier x ≡ true → HasName ids x) (λ x. is_identifier x ≡ true) (λ x. (list_any (λ y. same_name y.name x.name) ids || list_any (λ i. same_name i.id x.name) items) ≡ true) (filter is_identifier a.components)
             each (lists.filtered (λ x. left x ≡ true → is_identifier x ≡ true → HasName ids x) is_identifier a.components kept) (lists.passing is_identifier a.components);

@@ -12,6 +12,7 @@ use Rattle.vtl_cell.specs.declared.operator.ScalarOp.{ScalarOp}
 use Rattle.vtl_tree.specs.CompExp.{CompExp}
 use Rattle.vtl_tree.specs.Structure.{columns_of, names_of}
 use Rattle.vtl_tree.specs.Structures.{structure_of}
+use Rattle.vtl_tree.specs.View.{comp_exps_of}
 use Rattle.vtl_tree.specs.declared.structure.Component.{Component}
 use Rattle.vtl_tree.specs.declared.structure.Role.TheVariants as role
 use Rattle.vtl_tree.specs.declared.structure.Structure.{Structure}
@@ -24,9 +25,11 @@ use Rattle.check_shapes.specs.declared.measures.Outcome.{Outcome}
 use Rattle.check_shapes.specs.declared.measures.Outcome.TheVariants as outcome
 use Rattle.check_values.specs.Kinds.{exp_kind}
 use Rattle.vtl_meaning.specs.Columns.{column_named, columns_named, identifiers_of, measures_of}
+use Rattle.vtl_meaning.specs.Literals.{HasLiterals}
 use Rattle.vtl_meaning.specs.Made.{AreFor, HasIdentifiers, IsMeasured, IsTyped}
 use Rattle.vtl_meaning.specs.Operators.{for_measures, with_measure}
-use Rattle.check_laws.specs.Gives.{Gives, IsShaped}
+use Rattle.vtl_meaning.specs.Shapes.{IsShaped, given_between, outcome_of}
+use Rattle.check_laws.specs.Gives.{Gives}
 use Rattle.check_laws.proofs.Columns.{IsFound, in-columns}
 use Rattle.check_laws.proofs.Expressions.{IsFor, call-typed, for-append, for-map, named-for}
 use Rattle.check_laws.proofs.Lists as lists
@@ -118,10 +121,10 @@ found-columns p a is = lists.weaker (IsFound (columns_of a)) (λ y. IsFor p (col
 abbrev pub between : MeasureTree → Kind → List Kind
 between m x = map exp_kind m.before ++ x ∷ map exp_kind m.after
 
-pub measured-fits : (p : Settings) (m : MeasureTree) (a : Structure) (o : Outcome) (g : GivesKind) (literals : Bool)
-    → IsShaped a → IsGivenBy o m.op → ((x b : Kind) → g x b ≡ kinds_of m.op (between m x)) → AllByRecursion (IsTyped p (columns_of a)) m.before → AllByRecursion (IsTyped p (columns_of a)) m.after
-    → Gives (λ s. IsShaped s × IsMeasured p m a s) (measured_form o g literals choice.Except [] a.components)
-measured-fits p m a o g literals is by row before after =
+pub measured-fits : (p : Settings) (m : MeasureTree) (a : Structure) (o : Outcome) (literals : Bool)
+    → IsShaped a → IsGivenBy o m.op → o ≡ outcome_of m.op → (literals ≡ true → (e : CompExp) → HasLiterals m.op (comp_exps_of (m.before ++ e ∷ m.after))) → AllByRecursion (IsTyped p (columns_of a)) m.before → AllByRecursion (IsTyped p (columns_of a)) m.after
+    → Gives (λ s. IsShaped s × IsMeasured p m a s) (measured_form o (given_between m) literals choice.Except [] a.components)
+measured-fits p m a o literals is by same fit before after =
     tested-then Q (measured_tests o g literals a.components) (λ u. shaped (chosen choice.Except [] a.components ++ ms))
     (λ passed. subst (λ ids. Gives Q (shaped (ids ++ ms))) (sym (all-identifiers a.components))
     (shaped-gives Q (ids ++ ms) (λ s. (
@@ -130,12 +133,17 @@ measured-fits p m a o g literals is by row before after =
         well_formed = s.well_formed;
         identifiers = has-identifiers ids ms ids are refl refl;
         columns = for-parts p (columns_of a) ids ms (columns_of a) f (measures a.components) are (lists.filtered (λ y. IsFor p (columns_of a) (column_named (columns_of a) y.name) y) is_identifier a.components (found-columns p a is))
-            (for-given p (columns_of a) o m.op g None f a.components by passed.1.1.0 (lists.joined (λ x. is_none (paired g x.kind (namesake None x)) ≡ false) (IsFound (columns_of a)) Good (measures a.components) good (met-measures g None a.components passed.0) (lists.filtered (IsFound (columns_of a)) is_measure a.components (in-columns a is.well_formed))));
+            (for-given p (columns_of a) o m.op g None f a.components by passed.1.1.0 (lists.joined (λ x. is_none (paired g x.kind (namesake None x)) ≡ false) (IsFound (columns_of a)) Good (measures a.components) (good (fit (not-false literals passed.1.0))) (met-measures g None a.components passed.0) (lists.filtered (IsFound (columns_of a)) is_measure a.components (in-columns a is.well_formed))));
+        counted = subst (λ oc. is_miscounted oc (length (measures a.components)) ≡ false) same passed.1.1.0;
+        shape = ap (λ oc. ids ++ given_measures oc g None a.components) same;
       },
     ))))
   where
     Q : Structure → Type 0
     Q s = IsShaped s × IsMeasured p m a s
+
+    g : GivesKind
+    g = given_between m
 
     ids : List Component
     ids = filter is_identifier a.components
@@ -152,8 +160,8 @@ measured-fits p m a o g literals is by row before after =
     Good : Component → Type 0
     Good x = IsFor p (columns_of a) (f x (given_of o g None x)) (given_of o g None x)
 
-    good : (x : Component) → is_none (paired g x.kind (namesake None x)) ≡ false → IsFound (columns_of a) x → Good x
-    good x met found = (call-typed p (columns_of a) m.op (given_of o g None x).kind (m.before ++ column_named (columns_of a) x.name ∷ m.after) kinds typed, refl)
+    good : ((e : CompExp) → HasLiterals m.op (comp_exps_of (m.before ++ e ∷ m.after))) → (x : Component) → is_none (paired g x.kind (namesake None x)) ≡ false → IsFound (columns_of a) x → Good x
+    good literal x met found = (call-typed p (columns_of a) m.op (given_of o g None x).kind (m.before ++ column_named (columns_of a) x.name ∷ m.after) kinds typed (literal (column_named (columns_of a) x.name)), refl)
       where
         named : IsFor p (columns_of a) (column_named (columns_of a) x.name) x
         named = named-for p (columns_of a) x.name x found
@@ -161,7 +169,7 @@ measured-fits p m a o g literals is by row before after =
         kinds : kinds_of m.op (map exp_kind (m.before ++ column_named (columns_of a) x.name ∷ m.after)) ≡ Some (given_of o g None x).kind
         kinds =
             ap (kinds_of m.op) (map-append exp_kind m.before (column_named (columns_of a) x.name ∷ m.after) ∙ ap (λ kind. map exp_kind m.before ++ kind ∷ map exp_kind m.after) named.1)
-            ∙ given-kind o m.op g None x (between m x.kind) by (row x.kind x.kind) met
+            ∙ given-kind o m.op g None x (between m x.kind) by refl met
 
         typed : AllByRecursion (IsTyped p (columns_of a)) (m.before ++ column_named (columns_of a) x.name ∷ m.after)
         typed = lists.appended (IsTyped p (columns_of a)) m.before (column_named (columns_of a) x.name ∷ m.after) before (named.0, after)

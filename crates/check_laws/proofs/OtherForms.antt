@@ -8,7 +8,7 @@ use Rattle.vtl_syntax.specs.declared.word_groups.JoinKind.{JoinKind}
 use Rattle.vtl_tree.specs.declared.structure.Component.{Component}
 use Rattle.vtl_tree.specs.declared.structure.Structure.{Structure}
 use Rattle.vtl_tree.specs.declared.structure.Role.TheVariants as role
-use Rattle.check_joins.specs.Joins.{held_names, join_form, join_tests, joined_components, using_form}
+use Rattle.check_joins.specs.Joins.{held_names, is_misused, join_form, join_tests, joined_components, taken, using_form}
 use Rattle.check_joins.specs.declared.joins.Operand.{Operand}
 use Rattle.check_shapes.specs.Choices.{chosen}
 use Rattle.check_shapes.specs.Clauses.{aggr_form, are_unlike, calc_form, calculated, first_kind, has_no_name, is_new, names_column, pivot_codes, pivot_components, pivot_form, target_component, unpivot_form}
@@ -22,9 +22,10 @@ use Rattle.check_shapes.specs.declared.choices.Choice.TheVariants as choice
 use Rattle.check_shapes.specs.declared.measures.Outcome.{Outcome}
 use Rattle.check_shapes.specs.declared.names.Wanted.TheVariants as wanted
 use Rattle.check_shapes.specs.declared.targets.Target.{Target}
-use Rattle.check_laws.specs.Gives.{Gives, IsShaped}
+use Rattle.vtl_meaning.specs.Shapes.{IsShaped}
+use Rattle.check_laws.specs.Gives.{Gives}
 use Rattle.check_laws.proofs.Shapes.{any-shaped, shaped-gives}
-use Rattle.check_laws.proofs.Steps.{after}
+use Rattle.check_laws.proofs.Steps.{after, tested, then}
 
 some-shaped : (xs : List Component) → Gives IsShaped (shaped xs)
 some-shaped xs = shaped-gives IsShaped xs (λ is. is)
@@ -60,5 +61,7 @@ unpivot-shaped name measure xs =
 
 pub join-shaped : (kind : JoinKind) (listed : Option (List (List ℕ))) (os : List Operand) → Gives IsShaped (join_form kind listed os)
 join-shaped kind listed os =
-    after IsShaped (using_form kind os listed) (λ u. ruled (join_tests kind listed os) (tt {0}) >>= λ v. shaped (joined_components kind (held_names kind os) os))
-    (λ u. any-shaped (ruled (join_tests kind listed os) (tt {0})) (λ v. joined_components kind (held_names kind os) os))
+    after IsShaped (using_form os listed) (λ u. ruled (join_tests kind (taken kind listed) os) (tt {0}) >>= λ v. shaped (joined_components kind (held_names kind os) os) >>= λ s. ruled ((rule.JoinMisuse, is_misused kind listed) ∷ []) s)
+    (λ u. after IsShaped (ruled (join_tests kind (taken kind listed) os) (tt {0})) (λ v. shaped (joined_components kind (held_names kind os) os) >>= λ s. ruled ((rule.JoinMisuse, is_misused kind listed) ∷ []) s)
+    (λ v. then IsShaped IsShaped (shaped (joined_components kind (held_names kind os) os)) (λ s. ruled ((rule.JoinMisuse, is_misused kind listed) ∷ []) s) (some-shaped (joined_components kind (held_names kind os) os))
+    (λ s is. tested IsShaped ((rule.JoinMisuse, is_misused kind listed) ∷ []) s (λ passed. is))))

@@ -1,13 +1,14 @@
 -- Operators on the measures of two operands.
-use Rattle.std.proofs.Common.{◌≡◌, ℕ, Bool, true, false, cond, ◌||◌, not, List, [], ◌∷◌, ◌++◌, length, Some, None, is_none, refl, sym, ap, ◌∙◌}
+use Rattle.std.proofs.Common.{◌≡◌, ℕ, Bool, true, false, cond, ◌||◌, not, List, [], ◌∷◌, ◌++◌, length, Some, None, is_none, refl, sym, ap, ◌∙◌, subst}
 use Rattle.std.specs.List.{AllByRecursion, filter}
 use Rattle.vtl_cell.specs.Settings.{Settings}
 use Rattle.vtl_cell.specs.ScalarKinds.{kinds_of}
 use Rattle.vtl_cell.specs.declared.kind.Kind.{Kind}
 use Rattle.vtl_cell.specs.declared.operator.ScalarOp.{ScalarOp}
-use Rattle.vtl_tree.specs.CompExp.{CompExp}
+use Rattle.vtl_tree.specs.CompExp.{CompExp, CompExps}
 use Rattle.vtl_tree.specs.Structure.{columns_of, same_role}
 use Rattle.vtl_tree.specs.Structures.{structure_of}
+use Rattle.vtl_tree.specs.View.{comp_exps_of}
 use Rattle.vtl_tree.specs.declared.structure.Component.{Component}
 use Rattle.vtl_tree.specs.declared.structure.Role.TheVariants as role
 use Rattle.vtl_tree.specs.declared.structure.Structure.{Structure}
@@ -21,9 +22,11 @@ use Rattle.check_shapes.specs.declared.measures.Outcome.{Outcome}
 use Rattle.check_shapes.specs.declared.operands.Compared.TheVariants as compared
 use Rattle.check_values.specs.Kinds.{exp_kind}
 use Rattle.vtl_meaning.specs.Columns.{column_behind, column_named, columns_named, identifiers_of, measures_of}
+use Rattle.vtl_meaning.specs.Literals.{are_literals}
 use Rattle.vtl_meaning.specs.Made.{AreFor, HasIdentifiers, IsPaired}
 use Rattle.vtl_meaning.specs.Operators.{for_measures, with_namesake}
-use Rattle.check_laws.specs.Gives.{ArePassed, Gives, IsShaped}
+use Rattle.vtl_meaning.specs.Shapes.{IsShaped, given_of_two, outcome_of}
+use Rattle.check_laws.specs.Gives.{ArePassed, Gives}
 use Rattle.check_laws.proofs.Columns.{IsFound, in-columns, into-columns}
 use Rattle.check_laws.proofs.Expressions.{IsFor, call-typed, named-after, named-before}
 use Rattle.check_laws.proofs.Lists as lists
@@ -41,9 +44,9 @@ record IsMatched (o : ScalarOp) (a b : Structure) (x z : Component) : Type 0 whe
   right : component_of x.name (columns_of b) ≡ Some other
   kind : kinds_of o (x.kind ∷ other.kind ∷ []) ≡ Some z.kind
 
-matched-for : (p : Settings) (xs : List Component) (o : ScalarOp) (a b : Structure) (left right : List ℕ → CompExp) (x z : Component) → (m : IsMatched o a b x z) → IsFor p xs (left x.name) x → IsFor p xs (right x.name) m.other → IsFor p xs (with_namesake o left right x z) z
-matched-for p xs o a b left right x z m l r =
-    (call-typed p xs o z.kind (left x.name ∷ right x.name ∷ []) (ap (λ kind. kinds_of o (kind ∷ exp_kind (right x.name) ∷ [])) l.1 ∙ ap (λ kind. kinds_of o (x.kind ∷ kind ∷ [])) r.1 ∙ m.kind) (l.0, (r.0, tt)), refl)
+matched-for : (p : Settings) (xs : List Component) (o : ScalarOp) (a b : Structure) (left right : List ℕ → CompExp) (x z : Component) → ((es : CompExps) → are_literals o es ≡ true) → (m : IsMatched o a b x z) → IsFor p xs (left x.name) x → IsFor p xs (right x.name) m.other → IsFor p xs (with_namesake o left right x z) z
+matched-for p xs o a b left right x z fit m l r =
+    (call-typed p xs o z.kind (left x.name ∷ right x.name ∷ []) (ap (λ kind. kinds_of o (kind ∷ exp_kind (right x.name) ∷ [])) l.1 ∙ ap (λ kind. kinds_of o (x.kind ∷ kind ∷ [])) r.1 ∙ m.kind) (l.0, (r.0, tt)) (fit (comp_exps_of (right x.name ∷ []))), refl)
 
 -- the measures of two operands with the same ones
 matched : (oc : Outcome) (o : ScalarOp) (g : GivesKind) (a b : Structure) → IsShaped a → IsShaped b → IsGivenBy oc o → ((x y : Kind) → g x y ≡ kinds_of o (x ∷ y ∷ [])) → any_unmet g (Some b.components) a.components ≡ false → is_within compared.Names role.Measure a.components b.components ≡ true
@@ -90,9 +93,9 @@ ids-for p others a more is =
         let f = named-before p (columns_of a) more (agreed others y).name y (ap (λ name. component_of name (columns_of a)) (agreed-name others y) ∙ found) in
         (f.0, f.1 ∙ sym (agreed-kind others y))
 
-pub paired-fits : (p : Settings) (oc : Outcome) (o : ScalarOp) (g : GivesKind) (a b : Structure) → IsShaped a → IsShaped b → IsGivenBy oc o → ((x y : Kind) → g x y ≡ kinds_of o (x ∷ y ∷ []))
-    → Gives (λ s. IsShaped s × IsPaired p o a b s) (pair_form oc g a b)
-paired-fits p oc o g a b ia ib by row =
+pub paired-fits : (p : Settings) (oc : Outcome) (o : ScalarOp) (a b : Structure) → IsShaped a → IsShaped b → IsGivenBy oc o → oc ≡ outcome_of o → ((es : CompExps) → are_literals o es ≡ true)
+    → Gives (λ s. IsShaped s × IsPaired p o a b s) (pair_form oc (given_of_two o) a b)
+paired-fits p oc o a b ia ib by same fit =
     tested-then Q (pair_tests oc g a b) (λ u. shaped (pair_identifiers a b ++ ms))
     (λ passed. shaped-gives Q (pair_identifiers a b ++ ms) (λ s. (
       s,
@@ -101,11 +104,20 @@ paired-fits p oc o g a b ia ib by row =
         contained = not-false (contains a b || contains b a) passed.1.0;
         identifiers = ids-has (contains a b) a b ms (are (contains a b));
         columns = columns passed (contains a b);
+        counted = subst (λ oc. is_miscounted oc (length (measures a.components)) ≡ false) same (measure-tests passed).1;
+        alike = not-false (agree compared.Names role.Measure a.components b.components) (measure-tests passed).0;
+        shape = ap (λ oc. pair_identifiers a b ++ given_measures oc g (Some b.components) a.components) same;
       },
     )))
   where
     Q : Structure → Type 0
     Q s = IsShaped s × IsPaired p o a b s
+
+    g : GivesKind
+    g = given_of_two o
+
+    measure-tests : ArePassed (pair_tests oc g a b) → (not (agree compared.Names role.Measure a.components b.components) ≡ false) × (is_miscounted oc (length (measures a.components)) ≡ false)
+    measure-tests passed = or-false (not (agree compared.Names role.Measure a.components b.components)) (is_miscounted oc (length (measures a.components))) passed.1.1.0
 
     ms : List Component
     ms = given_measures oc g (Some b.components) a.components
@@ -119,12 +131,12 @@ paired-fits p oc o g a b ia ib by row =
     for-ms : ArePassed (pair_tests oc g a b) → (xs : List Component) (left right : List ℕ → CompExp) → ((x : Component) → component_of x.name (columns_of a) ≡ Some x → IsFor p xs (left x.name) x) → ((name : List ℕ) (y : Component) → component_of name (columns_of b) ≡ Some y → IsFor p xs (right name) y)
         → AreFor p xs (for_measures (with_namesake o left right) (measures a.components) ms) ms
     for-ms passed xs left right l r =
-        let tests = or-false (not (agree compared.Names role.Measure a.components b.components)) (is_miscounted oc (length (measures a.components))) passed.1.1.0 in
+        let tests = measure-tests passed in
         let within = and-true (is_within compared.Names role.Measure a.components b.components) (is_within compared.Names role.Measure b.components a.components) (not-false (agree compared.Names role.Measure a.components b.components) tests.0) in
         for-given p xs oc o g (Some b.components) (with_namesake o left right) a.components by tests.1
         (lists.weaker (λ x. IsMatched o a b x (z x)) (λ x. IsFor p xs (with_namesake o left right x (z x)) (z x)) (measures a.components)
-        (λ x m. matched-for p xs o a b left right x (z x) m (l x m.left) (r x.name m.other m.right))
-        (matched oc o g a b ia ib by row passed.0 within.0))
+        (λ x m. matched-for p xs o a b left right x (z x) fit m (l x m.left) (r x.name m.other m.right))
+        (matched oc o g a b ia ib by (λ x y. refl) passed.0 within.0))
 
     columns : ArePassed (pair_tests oc g a b) → (first : Bool)
         → AreFor p (cond first (columns_of a ++ columns_of b) (columns_of b ++ columns_of a))

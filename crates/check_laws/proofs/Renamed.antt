@@ -11,7 +11,8 @@ use Rattle.vtl_tree.specs.declared.structure.Structure.{Structure}
 use Rattle.check_shapes.specs.Clauses.{rename_form, renamed}
 use Rattle.check_shapes.specs.declared.renaming.Renaming.{Renaming}
 use Rattle.vtl_meaning.specs.Made.{IsRenamed}
-use Rattle.check_laws.specs.Gives.{Gives, IsShaped}
+use Rattle.vtl_meaning.specs.Shapes.{IsRenamedBy, IsShaped}
+use Rattle.check_laws.specs.Gives.{Gives}
 use Rattle.check_laws.proofs.Shapes.{shaped-gives}
 use Rattle.check_laws.proofs.Twins.{maps-same}
 
@@ -35,13 +36,14 @@ renamed-columns rs a =
     s : Structure
     s = structure_of (map (renamed rs) a.components)
 
-pub renamed-fits : (rs : List Renaming) (a : Structure) → Gives (λ s. IsShaped s × IsRenamed a s) (rename_form rs a.components)
+pub renamed-fits : (rs : List Renaming) (a : Structure) → Gives (λ s. IsShaped s × IsRenamed a s × IsRenamedBy rs a s) (rename_form rs a.components)
 renamed-fits rs a =
-    shaped-gives (λ s. IsShaped s × IsRenamed a s) (map (renamed rs) a.components) (λ s. (
+    shaped-gives (λ s. IsShaped s × IsRenamed a s × IsRenamedBy rs a s) (map (renamed rs) a.components) (λ s. (
       s,
       record {
         well_formed = s.well_formed;
         kinds = ap (map (λ x. x.kind)) (renamed-columns rs a) ∙ maps-same (renamed rs) (λ x. x.kind) (columns_of a) (λ x. refl);
         roles = ap (map (λ x. x.role)) (renamed-columns rs a) ∙ maps-same (renamed rs) (λ x. x.role) (columns_of a) (λ x. refl);
       },
+      refl,
     ))

@@ -1,5 +1,5 @@
 -- The nodes of typed scripts.
-use Rattle.std.proofs.Common.{◌≡◌, ℕ, suc, ◌+◌, Bool, true, false, cond, ◌&&◌, not, List, [], ◌∷◌, ◌++◌, length, Some, None, is_some, Result, Ok, Err, refl, sym, ap, ◌∙◌, subst, append_assoc}
+use Rattle.std.proofs.Common.{◌≡◌, ℕ, ◌+◌, Bool, true, false, cond, ◌&&◌, not, List, [], ◌∷◌, ◌++◌, length, Some, None, is_some, Result, Ok, Err, refl, sym, ap, ◌∙◌, subst, append_assoc}
 use Rattle.std.proofs.lemmas.Bool.{leb-true}
 use Rattle.std.proofs.lemmas.List.{append-nil}
 use Rattle.std.specs.List.{AllByRecursion, list_all}
@@ -12,9 +12,8 @@ use Rattle.vtl_cell.specs.Results.{◌>>=◌}
 use Rattle.check_faults.specs.Rules.{ruled}
 use Rattle.check_faults.specs.declared.rules.Rule.{Rule}
 use Rattle.check_faults.specs.declared.rules.Rule.TheVariants as rule
-use Rattle.vtl_syntax.specs.Trees as tree
-use Rattle.vtl_syntax.specs.Trees.{Exp, ScriptTree}
-use Rattle.vtl_tree.specs.Structure.{IsStructure, most_components, names_of, same_name}
+use Rattle.vtl_syntax.specs.Trees.{Exp}
+use Rattle.vtl_tree.specs.Structure.{most_components, names_of, same_name}
 use Rattle.vtl_tree.specs.Structures.{AreStructures, Named, codes_fit, has_name, is_declarable, is_declarable_component, is_declarable_entry, is_null_kind}
 use Rattle.vtl_tree.proofs.StructuresLemmas.{not_found}
 use Rattle.vtl_tree.specs.declared.structure.Component.{Component}
@@ -27,16 +26,18 @@ use Rattle.vtl_check.specs.Typing.{typed}
 use Rattle.vtl_check.specs.Checked.{IsTyped, TypedScript, env_over, nodes_of, tree_of}
 use Rattle.vtl_check.specs.Count.{count}
 use Rattle.vtl_check.specs.Names.{names_in}
-use Rattle.vtl_check.specs.Script.{assigned, at, is_too_much, statements_typed, value_typed, with_result}
+use Rattle.vtl_check.specs.Script.{assigned, at, is_too_much, transformations_typed, value_typed, with_result}
+use Rattle.vtl_check.specs.Transformations.{Transformation, transformations}
 use Rattle.vtl_check.proofs.KnownLemmas.{has_name-lookup}
 use Rattle.vtl_meaning.specs.Made.{IsMade}
-use Rattle.check_laws.specs.Gives.{Gives, IsShaped}
+use Rattle.vtl_meaning.specs.Shapes.{IsShaped}
+use Rattle.check_laws.specs.Gives.{Gives}
 use Rattle.vtl_nodes.specs.Nodes.{nodes_in}
 use Rattle.check_laws.specs.Scripts.{AreMadeFrom, AreReadFrom}
-use Rattle.check_laws.specs.WellTyped.{AreShaped, IsNode, IsWellTyped}
+use Rattle.check_laws.specs.WellTyped.{AreShaped, IsWellTyped}
 use Rattle.check_laws.proofs.Columns.{same-true}
 use Rattle.check_laws.proofs.Lists as lists
-use Rattle.check_laws.proofs.Inner.{inner-structures}
+use Rattle.check_laws.proofs.Inner.{inner-shaped, made-shaped}
 use Rattle.check_laws.proofs.Over.{made_over, names_known}
 use Rattle.check_laws.proofs.Sets.{dataset-gives}
 use Rattle.check_laws.proofs.Sound.{sound}
@@ -87,68 +88,60 @@ made-same : (p : Settings) (known other : Named) (n : NodeTree) → AreSame know
 made-same p known other n same m = made_over p known other n (lists.every (λ name. lookup (same_name name) known ≡ lookup (same_name name) other) (names_in n) same) m
 
 -- ---- statements
-assigned-gives : (env : Env) (before : ℕ) (name : List ℕ) (e : Exp) → AreShaped env.known → Gives (λ n. (has_name name env.known ≡ false) × IsNode env.settings env.known n) (assigned env before name e)
+assigned-gives : (env : Env) (before : ℕ) (name : List ℕ) (e : Exp) → AreShaped env.known → Gives (λ n. (has_name name env.known ≡ false) × IsMade env.settings env.known n) (assigned env before name e)
 unfolding assigned
 assigned-gives env before name e are =
     tested-then Q ((rule.NameTaken, has_name name env.known) ∷ []) (λ u. value_typed env e >>= λ n. ruled ((rule.TooManyNodes, is_too_much before n) ∷ []) n)
-    (λ passed. then (IsNode env.settings env.known) Q (value_typed env e) (λ n. ruled ((rule.TooManyNodes, is_too_much before n) ∷ []) n)
-    (then (IsWellTyped env place.Outside) (IsNode env.settings env.known) (typed env place.Outside e) dataset_in (sound env are place.Outside e) (dataset-gives env place.Outside))
+    (λ passed. then (IsMade env.settings env.known) Q (value_typed env e) (λ n. ruled ((rule.TooManyNodes, is_too_much before n) ∷ []) n)
+    (then (IsWellTyped env place.Outside) (IsMade env.settings env.known) (typed env place.Outside e) dataset_in (sound env are place.Outside e) (dataset-gives env place.Outside))
     (λ n is. tested Q ((rule.TooManyNodes, is_too_much before n) ∷ []) n (λ few. (passed.0, is))))
   where
     Q : NodeTree → Type 0
-    Q n = (has_name name env.known ≡ false) × IsNode env.settings env.known n
+    Q n = (has_name name env.known ≡ false) × IsMade env.settings env.known n
 
-at-then : {A B : Type 0} (P : A → Type 0) (Q : B → Type 0) (i : ℕ) (r : Result A Rule) (f : A → Result B (ℕ × ℕ)) → Gives P r → ((x : A) → P x → Gives Q (f x)) → Gives Q (at i r f)
+pub at-then : {A B : Type 0} (P : A → Type 0) (Q : B → Type 0) (i : ℕ) (r : Result A Rule) (f : A → Result B (ℕ × ℕ)) → Gives P r → ((x : A) → P x → Gives Q (f x)) → Gives Q (at i r f)
 at-then P Q i (Ok x) f h g = g x h
 at-then P Q i (Err broken) f h g = tt
 
-abbrev AreBehind : Settings → Named → ScriptTree → List NodeTree → List NodeTree → Type 0
-AreBehind p other ss done all = (ns : List NodeTree) × (all ≡ done ++ ns) × AreMadeFrom p other ss ns
+abbrev AreBehind : Settings → Named → List Transformation → List NodeTree → List NodeTree → Type 0
+AreBehind p other ts done all = (ns : List NodeTree) × (all ≡ done ++ ns) × AreMadeFrom p other ts ns
 
-statements-give : (env : Env) (other : Named) (i before : ℕ) (done : List NodeTree) (ss : ScriptTree) → AreShaped env.known → AreSame env.known other → Gives (AreBehind env.settings other ss done) (statements_typed env i before done ss)
-statements-give env other i before done [] are same = ([], sym (append-nil done), tt)
-statements-give env other i before done (tree.assignment name kind e ∷ ss) are same =
-    at-then (λ n. (has_name name env.known ≡ false) × IsNode env.settings env.known n) (AreBehind env.settings other (tree.assignment name kind e ∷ ss) done) i (assigned env before name e) (λ n. statements_typed (with_result env name n) (suc i) (before + count n) (done ++ n ∷ []) ss) (assigned-gives env before name e are)
-    (λ n h. weaken n h (statements_typed (with_result env name n) (suc i) (before + count n) (done ++ n ∷ []) ss) (statements-give (with_result env name n) ((name, structure_of n) ∷ other) (suc i) (before + count n) (done ++ n ∷ []) ss (lists.appended (λ e. IsShaped e.1) env.known ((name, structure_of n) ∷ []) are (h.1.0, tt)) (same-more env.known other name (structure_of n) h.0 same)))
+transformations-give : (env : Env) (other : Named) (before : ℕ) (done : List NodeTree) (ts : List Transformation) → AreShaped env.known → AreSame env.known other → Gives (AreBehind env.settings other ts done) (transformations_typed env before done ts)
+transformations-give env other before done [] are same = ([], sym (append-nil done), tt)
+transformations-give env other before done (t ∷ ts) are same =
+    at-then (λ n. (has_name t.name env.known ≡ false) × IsMade env.settings env.known n) (AreBehind env.settings other (t ∷ ts) done) t.number (assigned env before t.name t.value) (λ n. transformations_typed (with_result env t.name n) (before + count n) (done ++ n ∷ []) ts) (assigned-gives env before t.name t.value are)
+    (λ n h. weaken n h (transformations_typed (with_result env t.name n) (before + count n) (done ++ n ∷ []) ts) (transformations-give (with_result env t.name n) ((t.name, structure_of n) ∷ other) (before + count n) (done ++ n ∷ []) ts (lists.appended (λ e. IsShaped e.1) env.known ((t.name, structure_of n) ∷ []) are (made-shaped env.settings env.known n h.1, tt)) (same-more env.known other t.name (structure_of n) h.0 same)))
   where
-    new-there : has_name name env.known ≡ false → has_name name other ≡ false
-    new-there new = has_name-lookup name other ∙ ap is_some (sym (same name)) ∙ sym (has_name-lookup name env.known) ∙ new
+    new-there : has_name t.name env.known ≡ false → has_name t.name other ≡ false
+    new-there new = has_name-lookup t.name other ∙ ap is_some (sym (same t.name)) ∙ sym (has_name-lookup t.name env.known) ∙ new
 
-    weaken : (n : NodeTree) → (has_name name env.known ≡ false) × IsNode env.settings env.known n → (r : Result (List NodeTree) (ℕ × ℕ)) → Gives (AreBehind env.settings ((name, structure_of n) ∷ other) ss (done ++ n ∷ [])) r → Gives (AreBehind env.settings other (tree.assignment name kind e ∷ ss) done) r
-    weaken n h (Ok all) k = (n ∷ k.0, k.1 ∙ append_assoc done (n ∷ []) k.0, (new-there h.0, made-same env.settings env.known other n same h.1.1, k.2))
+    weaken : (n : NodeTree) → (has_name t.name env.known ≡ false) × IsMade env.settings env.known n → (r : Result (List NodeTree) (ℕ × ℕ)) → Gives (AreBehind env.settings ((t.name, structure_of n) ∷ other) ts (done ++ n ∷ [])) r → Gives (AreBehind env.settings other (t ∷ ts) done) r
+    weaken n h (Ok all) k = (n ∷ k.0, k.1 ∙ append_assoc done (n ∷ []) k.0, (new-there h.0, made-same env.settings env.known other n same h.1, k.2))
     weaken n h (Err fault) k = tt
-statements-give env other i before done (tree.datapoint n vs rs b ∷ ss) are same = tt
-statements-give env other i before done (tree.hierarchical n v rs b ∷ ss) are same = tt
 
-pub script-made : (t : TypedScript) → AreStructures t.declared → IsTyped t → AreMadeFrom t.settings t.declared (tree_of t) (nodes_of t)
-script-made t are is = go (subst (Gives (AreBehind t.settings t.declared (tree_of t) [])) is (statements-give (env_over t.settings t.declared) t.declared 1 0 [] (tree_of t) (structures-shaped t.declared are) (λ name. refl)))
+pub script-made : (t : TypedScript) → AreStructures t.declared → IsTyped t → AreMadeFrom t.settings t.declared (transformations (tree_of t)) (nodes_of t)
+script-made t are is = go (subst (Gives (AreBehind t.settings t.declared (transformations (tree_of t)) [])) is (transformations-give (env_over t.settings t.declared) t.declared 0 [] (transformations (tree_of t)) (structures-shaped t.declared are) (λ name. refl)))
   where
-    go : AreBehind t.settings t.declared (tree_of t) [] (nodes_of t) → AreMadeFrom t.settings t.declared (tree_of t) (nodes_of t)
-    go h = subst (AreMadeFrom t.settings t.declared (tree_of t)) (sym h.1) h.2
+    go : AreBehind t.settings t.declared (transformations (tree_of t)) [] (nodes_of t) → AreMadeFrom t.settings t.declared (transformations (tree_of t)) (nodes_of t)
+    go h = subst (AreMadeFrom t.settings t.declared (transformations (tree_of t))) (sym h.1) h.2
 
 -- ---- what follows of all nodes
-read-from : (p : Settings) (known : Named) (ss : ScriptTree) (ns : List NodeTree) → AreMadeFrom p known ss ns → AreReadFrom (keys_of known) ss ns
+read-from : (p : Settings) (known : Named) (ts : List Transformation) (ns : List NodeTree) → AreMadeFrom p known ts ns → AreReadFrom (keys_of known) ts ns
 read-from p known [] [] m = tt
 read-from p known [] (n ∷ ns) m = absurd m
-read-from p known (tree.assignment name kind e ∷ ss) [] m = absurd m
-read-from p known (tree.assignment name kind e ∷ ss) (n ∷ ns) m = (names_known p known n m.1, read-from p ((name, structure_of n) ∷ known) ss ns m.2)
-read-from p known (tree.datapoint n vs rs b ∷ ss) [] m = absurd m
-read-from p known (tree.datapoint n vs rs b ∷ ss) (x ∷ xs) m = absurd m
-read-from p known (tree.hierarchical n v rs b ∷ ss) [] m = absurd m
-read-from p known (tree.hierarchical n v rs b ∷ ss) (x ∷ xs) m = absurd m
+read-from p known (t ∷ ts) [] m = absurd m
+read-from p known (t ∷ ts) (n ∷ ns) m = (names_known p known n m.1, read-from p ((t.name, structure_of n) ∷ known) ts ns m.2)
 
-pub script-reads : (t : TypedScript) → AreStructures t.declared → IsTyped t → AreReadFrom (keys_of t.declared) (tree_of t) (nodes_of t)
-script-reads t are is = read-from t.settings t.declared (tree_of t) (nodes_of t) (script-made t are is)
+pub script-reads : (t : TypedScript) → AreStructures t.declared → IsTyped t → AreReadFrom (keys_of t.declared) (transformations (tree_of t)) (nodes_of t)
+script-reads t are is = read-from t.settings t.declared (transformations (tree_of t)) (nodes_of t) (script-made t are is)
 
 abbrev HasStructures : NodeTree → Type 0
-HasStructures n = AllByRecursion (λ m. IsStructure (structure_of m)) (nodes_in n)
+HasStructures n = AllByRecursion (λ m. IsShaped (structure_of m)) (nodes_in n)
 
-structures-from : (p : Settings) (known : Named) (ss : ScriptTree) (ns : List NodeTree) → AreMadeFrom p known ss ns → AllByRecursion HasStructures ns
-structures-from p known ss [] m = tt
+structures-from : (p : Settings) (known : Named) (ts : List Transformation) (ns : List NodeTree) → AreMadeFrom p known ts ns → AllByRecursion HasStructures ns
+structures-from p known ts [] m = tt
 structures-from p known [] (n ∷ ns) m = absurd m
-structures-from p known (tree.assignment name kind e ∷ ss) (n ∷ ns) m = (inner-structures p known n m.1, structures-from p ((name, structure_of n) ∷ known) ss ns m.2)
-structures-from p known (tree.datapoint n vs rs b ∷ ss) (x ∷ xs) m = absurd m
-structures-from p known (tree.hierarchical n v rs b ∷ ss) (x ∷ xs) m = absurd m
+structures-from p known (t ∷ ts) (n ∷ ns) m = (inner-shaped p known n m.1, structures-from p ((t.name, structure_of n) ∷ known) ts ns m.2)
 
 pub script-structures : (t : TypedScript) → AreStructures t.declared → IsTyped t → AllByRecursion HasStructures (nodes_of t)
-script-structures t are is = structures-from t.settings t.declared (tree_of t) (nodes_of t) (script-made t are is)
+script-structures t are is = structures-from t.settings t.declared (transformations (tree_of t)) (nodes_of t) (script-made t are is)

@@ -16,7 +16,7 @@ use Rattle.vtl_syntax.specs.declared.word_groups.SetOpName.TheVariants as set
 use Rattle.vtl_tree.specs.Structures.{Named}
 use Rattle.vtl_tree.specs.declared.structure.Structure.{Structure}
 use Rattle.vtl_nodes.specs.Trees as nodes
-use Rattle.vtl_nodes.specs.Trees.{NodeTree, ValueTree, maybe_node, nodes_of, structure_of}
+use Rattle.vtl_nodes.specs.Trees.{NodeTree, maybe_node, nodes_of, structure_of}
 use Rattle.vtl_nodes.specs.declared.specifications.CheckSpec.{CheckSpec}
 use Rattle.check_shapes.specs.Choices.{choice_form}
 use Rattle.check_shapes.specs.Pairs as pairs
@@ -28,9 +28,11 @@ use Rattle.check_operators.specs.Sets.{check_form, datasets_behind, datasets_in,
 use Rattle.check_operators.specs.Typed.{TypedTree, value, dataset, components_in, dataset_in, made_of}
 use Rattle.check_operators.specs.declared.places.Place.{Place}
 use Rattle.check_operators.specs.declared.places.Place.TheVariants as place
-use Rattle.vtl_meaning.specs.Made.{AreMade, IsLeft, IsMadeMaybe}
-use Rattle.check_laws.specs.Gives.{Gives, IsShaped}
-use Rattle.check_laws.specs.WellTyped.{IsNode, IsWellTyped}
+use Rattle.vtl_meaning.specs.Made.{AreMade, IsLeft, IsMade, IsMadeMaybe}
+use Rattle.vtl_meaning.specs.Shapes.{IsChosen, IsShaped}
+use Rattle.check_laws.specs.Gives.{Gives}
+use Rattle.check_laws.specs.WellTyped.{IsWellTyped}
+use Rattle.check_laws.proofs.Inner.{made-shaped}
 use Rattle.check_laws.proofs.Left.{member-fits}
 use Rattle.check_laws.proofs.Lists as lists
 use Rattle.check_laws.proofs.Operators.{IsMadeWith, made-gives}
@@ -38,7 +40,7 @@ use Rattle.check_laws.proofs.OtherForms.{check-shaped, exists-shaped, set-shaped
 use Rattle.check_laws.proofs.Steps.{then, weaker}
 
 -- where a data set is needed
-pub dataset-gives : (env : Env) (at : Place) (x : TypedTree) → IsWellTyped env at x → Gives (IsNode env.settings env.known) (dataset_in x)
+pub dataset-gives : (env : Env) (at : Place) (x : TypedTree) → IsWellTyped env at x → Gives (IsMade env.settings env.known) (dataset_in x)
 dataset-gives env at (value e) h = tt
 dataset-gives env at (dataset n) h = h
 
@@ -47,23 +49,23 @@ pub shape-gives : (env : Env) (at : Place) (form : nodes.FormTree) (r : Result S
 shape-gives env at form r h f = made-gives env at form r (weaker IsShaped (IsMadeWith env form) r f h)
 
 -- `a#m`
-pub member-gives : (env : Env) (at : Place) (c : Comp) (a : NodeTree) → IsNode env.settings env.known a → Gives (IsWellTyped env at) (member_of c a)
+pub member-gives : (env : Env) (at : Place) (c : Comp) (a : NodeTree) → IsMade env.settings env.known a → Gives (IsWellTyped env at) (member_of c a)
 unfolding member_of
 member-gives env at c a is =
     made-gives env at (nodes.member a (name_of c)) (choice_form wanted.Measure choice.Keep (name_of c ∷ []) (components_in a))
-    (weaker (λ s. IsShaped s × IsLeft (structure_of a) s) (IsMadeWith env (nodes.member a (name_of c))) (choice_form wanted.Measure choice.Keep (name_of c ∷ []) (components_in a)) (λ s h. (h.0, (is.1, h.1)))
-    (member-fits (name_of c ∷ []) (structure_of a) is.0))
+    (weaker (λ s. IsShaped s × IsLeft (structure_of a) s × IsChosen wanted.Measure choice.Keep (name_of c ∷ []) (structure_of a) s) (IsMadeWith env (nodes.member a (name_of c))) (choice_form wanted.Measure choice.Keep (name_of c ∷ []) (components_in a)) (λ s h. (h.0, (is, h.1, h.2)))
+    (member-fits (name_of c ∷ []) (structure_of a) (made-shaped env.settings env.known a is)))
 
 -- ---- set operators
-datasets-behind : (env : Env) (done : List NodeTree) (xs : List TypedTree) → AllByRecursion (IsNode env.settings env.known) done → AllByRecursion (IsWellTyped env place.Outside) xs → Gives (AllByRecursion (IsNode env.settings env.known)) (datasets_behind done xs)
+datasets-behind : (env : Env) (done : List NodeTree) (xs : List TypedTree) → AllByRecursion (IsMade env.settings env.known) done → AllByRecursion (IsWellTyped env place.Outside) xs → Gives (AllByRecursion (IsMade env.settings env.known)) (datasets_behind done xs)
 datasets-behind env done [] hd h = hd
 datasets-behind env done (x ∷ xs) hd h =
-    then (IsNode env.settings env.known) (AllByRecursion (IsNode env.settings env.known)) (dataset_in x) (λ n. datasets_behind (done ++ n ∷ []) xs) (dataset-gives env place.Outside x h.0)
-    (λ n is. datasets-behind env (done ++ n ∷ []) xs (lists.appended (IsNode env.settings env.known) done (n ∷ []) hd (is, tt)) h.1)
+    then (IsMade env.settings env.known) (AllByRecursion (IsMade env.settings env.known)) (dataset_in x) (λ n. datasets_behind (done ++ n ∷ []) xs) (dataset-gives env place.Outside x h.0)
+    (λ n is. datasets-behind env (done ++ n ∷ []) xs (lists.appended (IsMade env.settings env.known) done (n ∷ []) hd (is, tt)) h.1)
 
-all-made : (p : Settings) (known : Named) (ns : List NodeTree) → AllByRecursion (IsNode p known) ns → AreMade p known (nodes_of ns)
+all-made : (p : Settings) (known : Named) (ns : List NodeTree) → AllByRecursion (IsMade p known) ns → AreMade p known (nodes_of ns)
 all-made p known [] h = tt
-all-made p known (n ∷ ns) h = (h.0.1, all-made p known ns h.1)
+all-made p known (n ∷ ns) h = (h.0, all-made p known ns h.1)
 
 set-structure : (ns : List NodeTree) → Gives IsShaped (set_structure ns)
 set-structure [] = tt
@@ -72,43 +74,43 @@ set-structure (n ∷ ns) = set-shaped (structure_of n) (structures_in ns)
 pub sets-give : (env : Env) (at : Place) (f : SetOpName) (xs : List TypedTree) → AllByRecursion (IsWellTyped env place.Outside) xs → Gives (IsWellTyped env at) (sets_form f xs)
 unfolding sets_form
 sets-give env at f xs h =
-    then (AllByRecursion (IsNode env.settings env.known)) (IsWellTyped env at) (datasets_in xs) (set_of f) (datasets-behind env [] xs tt h)
+    then (AllByRecursion (IsMade env.settings env.known)) (IsWellTyped env at) (datasets_in xs) (set_of f) (datasets-behind env [] xs tt h)
     (λ ns all. shape-gives env at (set_tree f (nodes_of ns)) (set_structure ns) (set-structure ns) (made f ns all))
   where
-    made : (f : SetOpName) (ns : List NodeTree) → AllByRecursion (IsNode env.settings env.known) ns → (s : Structure) → IsShaped s → IsMadeWith env (set_tree f (nodes_of ns)) s
+    made : (f : SetOpName) (ns : List NodeTree) → AllByRecursion (IsMade env.settings env.known) ns → (s : Structure) → IsShaped s → IsMadeWith env (set_tree f (nodes_of ns)) s
     made set.Union ns all s is = (is, all-made env.settings env.known ns all)
     made set.Intersect ns all s is = (is, all-made env.settings env.known ns all)
 
 pub difference-gives : (env : Env) (at : Place) (f : DifferenceName) (x y : TypedTree) → IsWellTyped env place.Outside x → IsWellTyped env place.Outside y → Gives (IsWellTyped env at) (difference_form f x y)
 unfolding difference_form
 difference-gives env at f x y hx hy =
-    then (IsNode env.settings env.known) (IsWellTyped env at) (dataset_in x) (λ a. dataset_in y >>= λ b. pairs.set_form (structure_of a) (structure_of b ∷ []) >>= made_of (difference_tree f a b)) (dataset-gives env place.Outside x hx)
-    (λ a ia. then (IsNode env.settings env.known) (IsWellTyped env at) (dataset_in y) (λ b. pairs.set_form (structure_of a) (structure_of b ∷ []) >>= made_of (difference_tree f a b)) (dataset-gives env place.Outside y hy)
+    then (IsMade env.settings env.known) (IsWellTyped env at) (dataset_in x) (λ a. dataset_in y >>= λ b. pairs.set_form (structure_of a) (structure_of b ∷ []) >>= made_of (difference_tree f a b)) (dataset-gives env place.Outside x hx)
+    (λ a ia. then (IsMade env.settings env.known) (IsWellTyped env at) (dataset_in y) (λ b. pairs.set_form (structure_of a) (structure_of b ∷ []) >>= made_of (difference_tree f a b)) (dataset-gives env place.Outside y hy)
     (λ b ib. shape-gives env at (difference_tree f a b) (pairs.set_form (structure_of a) (structure_of b ∷ [])) (set-shaped (structure_of a) (structure_of b ∷ [])) (made f a b ia ib)))
   where
-    made : (f : DifferenceName) (a b : NodeTree) → IsNode env.settings env.known a → IsNode env.settings env.known b → (s : Structure) → IsShaped s → IsMadeWith env (difference_tree f a b) s
-    made difference.Setdiff a b ia ib s is = (is, (ia.1, ib.1))
-    made difference.Symdiff a b ia ib s is = (is, (ia.1, ib.1))
+    made : (f : DifferenceName) (a b : NodeTree) → IsMade env.settings env.known a → IsMade env.settings env.known b → (s : Structure) → IsShaped s → IsMadeWith env (difference_tree f a b) s
+    made difference.Setdiff a b ia ib s is = (is, (ia, ib))
+    made difference.Symdiff a b ia ib s is = (is, (ia, ib))
 
 pub exists-gives : (env : Env) (at : Place) (r : Option Retain) (x y : TypedTree) → IsWellTyped env place.Outside x → IsWellTyped env place.Outside y → Gives (IsWellTyped env at) (exists_form r x y)
 unfolding exists_form
 exists-gives env at r x y hx hy =
-    then (IsNode env.settings env.known) (IsWellTyped env at) (dataset_in x) (λ a. dataset_in y >>= λ b. pairs.exists_form (structure_of a) (structure_of b) >>= made_of (nodes.exists_in a b (unwrap_or r retain.All))) (dataset-gives env place.Outside x hx)
-    (λ a ia. then (IsNode env.settings env.known) (IsWellTyped env at) (dataset_in y) (λ b. pairs.exists_form (structure_of a) (structure_of b) >>= made_of (nodes.exists_in a b (unwrap_or r retain.All))) (dataset-gives env place.Outside y hy)
-    (λ b ib. shape-gives env at (nodes.exists_in a b (unwrap_or r retain.All)) (pairs.exists_form (structure_of a) (structure_of b)) (exists-shaped (structure_of a) (structure_of b)) (λ s is. (is, (ia.1, ib.1)))))
+    then (IsMade env.settings env.known) (IsWellTyped env at) (dataset_in x) (λ a. dataset_in y >>= λ b. pairs.exists_form (structure_of a) (structure_of b) >>= made_of (nodes.exists_in a b (unwrap_or r retain.All))) (dataset-gives env place.Outside x hx)
+    (λ a ia. then (IsMade env.settings env.known) (IsWellTyped env at) (dataset_in y) (λ b. pairs.exists_form (structure_of a) (structure_of b) >>= made_of (nodes.exists_in a b (unwrap_or r retain.All))) (dataset-gives env place.Outside y hy)
+    (λ b ib. shape-gives env at (nodes.exists_in a b (unwrap_or r retain.All)) (pairs.exists_form (structure_of a) (structure_of b)) (exists-shaped (structure_of a) (structure_of b)) (λ s is. (is, (ia, ib)))))
 
 -- ---- `check`
-imbalance-gives : (env : Env) (i : Option TypedTree) → IfSome i (IsWellTyped env place.Outside) → Gives (λ b. IfSome b (IsNode env.settings env.known)) (imbalance_in i)
+imbalance-gives : (env : Env) (i : Option TypedTree) → IfSome i (IsWellTyped env place.Outside) → Gives (λ b. IfSome b (IsMade env.settings env.known)) (imbalance_in i)
 imbalance-gives env None h = tt
-imbalance-gives env (Some x) h = then (IsNode env.settings env.known) (λ b. IfSome b (IsNode env.settings env.known)) (dataset_in x) (λ n. Ok (Some n)) (dataset-gives env place.Outside x h) (λ n is. is)
+imbalance-gives env (Some x) h = then (IsMade env.settings env.known) (λ b. IfSome b (IsMade env.settings env.known)) (dataset_in x) (λ n. Ok (Some n)) (dataset-gives env place.Outside x h) (λ n is. is)
 
-maybe-made : (p : Settings) (known : Named) (b : Option NodeTree) → IfSome b (IsNode p known) → IsMadeMaybe p known (maybe_node b)
+maybe-made : (p : Settings) (known : Named) (b : Option NodeTree) → IfSome b (IsMade p known) → IsMadeMaybe p known (maybe_node b)
 maybe-made p known None h = tt
-maybe-made p known (Some n) h = h.1
+maybe-made p known (Some n) h = h
 
 pub check-gives : (env : Env) (at : Place) (spec : CheckSpec) (x : TypedTree) (i : Option TypedTree) → IsWellTyped env place.Outside x → IfSome i (IsWellTyped env place.Outside) → Gives (IsWellTyped env at) (check_form spec x i)
 unfolding check_form
 check-gives env at spec x i hx hi =
-    then (IsNode env.settings env.known) (IsWellTyped env at) (dataset_in x) (λ a. imbalance_in i >>= λ b. pairs.check_form (structure_of a) (structures_in (option_to_list b)) >>= made_of (nodes.check a (maybe_node b) spec)) (dataset-gives env place.Outside x hx)
-    (λ a ia. then (λ b. IfSome b (IsNode env.settings env.known)) (IsWellTyped env at) (imbalance_in i) (λ b. pairs.check_form (structure_of a) (structures_in (option_to_list b)) >>= made_of (nodes.check a (maybe_node b) spec)) (imbalance-gives env i hi)
-    (λ b ib. shape-gives env at (nodes.check a (maybe_node b) spec) (pairs.check_form (structure_of a) (structures_in (option_to_list b))) (check-shaped (structure_of a) (structures_in (option_to_list b))) (λ s is. (is, (ia.1, maybe-made env.settings env.known b ib)))))
+    then (IsMade env.settings env.known) (IsWellTyped env at) (dataset_in x) (λ a. imbalance_in i >>= λ b. pairs.check_form (structure_of a) (structures_in (option_to_list b)) >>= made_of (nodes.check a (maybe_node b) spec)) (dataset-gives env place.Outside x hx)
+    (λ a ia. then (λ b. IfSome b (IsMade env.settings env.known)) (IsWellTyped env at) (imbalance_in i) (λ b. pairs.check_form (structure_of a) (structures_in (option_to_list b)) >>= made_of (nodes.check a (maybe_node b) spec)) (imbalance-gives env i hi)
+    (λ b ib. shape-gives env at (nodes.check a (maybe_node b) spec) (pairs.check_form (structure_of a) (structures_in (option_to_list b))) (check-shaped (structure_of a) (structures_in (option_to_list b))) (λ s is. (is, (ia, maybe-made env.settings env.known b ib)))))

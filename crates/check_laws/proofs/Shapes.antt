@@ -19,7 +19,8 @@ use Rattle.check_shapes.specs.Measures.{is_measure}
 use Rattle.check_shapes.specs.Shape.{result_tests, shaped}
 use Rattle.check_shapes.specs.declared.choices.Choice.TheVariants as choice
 use Rattle.vtl_meaning.specs.Columns.{identifiers_of, measures_of}
-use Rattle.check_laws.specs.Gives.{ArePassed, Gives, IsShaped}
+use Rattle.vtl_meaning.specs.Shapes.{IsShaped}
+use Rattle.check_laws.specs.Gives.{ArePassed, Gives}
 use Rattle.check_laws.proofs.Lists as lists
 use Rattle.check_laws.proofs.Steps.{after, tested}
 use Rattle.check_laws.proofs.Tests.{below, nonzero, not-false, or-false}

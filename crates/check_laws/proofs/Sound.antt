@@ -1,5 +1,5 @@
 -- What is typed is typed over the columns of its place, and its nodes are made.
-use Rattle.std.proofs.Common.{Bool, true, ◌||◌, List, [], ◌∷◌, Option, Some, None, option_map, Result, Ok, Err, refl}
+use Rattle.std.proofs.Common.{◌≡◌, Bool, true, ◌||◌, List, [], ◌∷◌, Option, Some, None, option_map, Result, Ok, Err, refl}
 use Rattle.std.specs.List.{AllByRecursion}
 use Rattle.std.specs.Option.{IfSome, is_some}
 use Rattle.vtl_cell.specs.declared.operator.ScalarOp.{ScalarOp}
@@ -14,51 +14,69 @@ use Rattle.vtl_syntax.specs.declared.parts.GroupPart.{GroupPart}
 use Rattle.vtl_syntax.specs.declared.parts.Keeping.{Keeping}
 use Rattle.vtl_syntax.specs.declared.parts.RenamePart.{RenamePart}
 use Rattle.vtl_syntax.specs.declared.word_groups.AggregateName.{AggregateName}
+use Rattle.vtl_syntax.specs.declared.word_groups.BinaryOp.{BinaryOp}
+use Rattle.vtl_syntax.specs.declared.word_groups.BinaryOp.TheVariants as sign
+use Rattle.vtl_syntax.specs.declared.word_groups.UnaryOp.{UnaryOp}
+use Rattle.vtl_syntax.specs.declared.word_groups.UnaryOp.TheVariants as one_sign
+use Rattle.vtl_tree.specs.CompExp.{CompExps}
 use Rattle.vtl_nodes.specs.Trees as nodes
 use Rattle.vtl_nodes.specs.Trees.{ItemTree, NodeTree, OperandTree, ValueTree}
-use Rattle.check_values.specs.Groupings.{grouping_typed}
-use Rattle.check_values.specs.Kinds.{exp_kind}
+use Rattle.check_values.specs.Groupings.{grouping_of, grouping_typed}
 use Rattle.check_values.specs.Operators.{exps_length, of_binary, of_function, of_unary, takes}
 use Rattle.check_values.specs.Literals.{literals_fit}
 use Rattle.check_shapes.specs.Clauses.{target_tests}
 use Rattle.check_values.specs.Columns.{name_of}
 use Rattle.check_operators.specs.Operators.{operator_form, set_form}
-use Rattle.check_operators.specs.Places.{Env, Written, at_groups, at_points, columns_in, member_inside, member_written}
+use Rattle.check_operators.specs.Places.{Env, Written, at_groups, at_points, columns_in, in_aggregate, member_inside, member_written}
 use Rattle.check_operators.specs.Sets.{check_form, check_spec, difference_form, exists_form, member_of, sets_form}
 use Rattle.check_operators.specs.Typed.{TypedTree, value, dataset, components_in, dataset_in}
 use Rattle.check_operators.specs.declared.places.Joined.{Joined}
 use Rattle.check_operators.specs.declared.places.Place.{Place}
 use Rattle.check_operators.specs.declared.places.Place.TheVariants as place
-use Rattle.vtl_check.specs.Aggregates.{aggregate_node}
+use Rattle.vtl_check.specs.Aggregates.{aggregate_node, count_call, aggregate_value}
 use Rattle.vtl_check.specs.Windowed.{over_typed, target_typed}
 use Rattle.vtl_check.specs.Clauses.{filter_form}
 use Rattle.vtl_check.specs.JoinOperands.{PartTyped, joined_node, joined_of, operands_in, with_part}
 use Rattle.vtl_check.specs.Targets.{aggr_clause, calc_clause, calc_name, item_names, with_item}
-use Rattle.vtl_check.specs.Typing.{Having, aggrs_typed, as_dataset, behind, body_end, calc_value, calcs_typed, clause_typed, filter_step, filtered_join, grouped_of, has_exp, having_typed, join_end, keeping_step, last_step, maybe_typed, operands_typed, or_component, over_operand, parts_typed, renaming_step, scalar_value, targets_step, targets_typed, typed}
+use Rattle.vtl_check.specs.Typing.{Having, aggrs_typed, as_dataset, behind, body_end, calc_value, calcs_typed, clause_typed, filter_step, filtered_join, grouped_of, has_exp, having_typed, join_end, keeping_step, last_step, maybe_typed, operands_typed, or_component, over_operand, own_groups, parts_typed, renaming_step, scalar_value, targets_step, targets_typed, typed}
+use Rattle.vtl_meaning.specs.Literals.{are_literals}
+use Rattle.vtl_meaning.specs.Made.{IsMade}
 use Rattle.check_laws.specs.Gives.{ArePassed, Gives}
-use Rattle.check_laws.specs.WellTyped.{AreShaped, IsNode, IsWellTyped}
+use Rattle.check_laws.specs.WellTyped.{AreShaped, IsWellTyped}
 use Rattle.check_laws.proofs.Clauses.{AreTargets, IsTargetValue, aggr-gives, calc-gives, filter-gives, item-more, keeping-gives, name-free, pivot-gives, renaming-gives, sub-gives, unpivot-gives}
-use Rattle.check_laws.proofs.Groups.{IsAnalytic, aggregate-gives, no-dataset-gives, or-call-gives, over-gives, target-analytic}
+use Rattle.check_laws.proofs.Groups.{IsAnalytic, aggregate-gives, count-call-gives, over-gives, target-analytic, value-call-gives}
 use Rattle.check_laws.proofs.Joins.{IsOperand, IsPart, joined-gives, last-gives, operands-give, part-gives}
 use Rattle.check_laws.proofs.Lists as lists
-use Rattle.check_laws.proofs.Operators.{operator-gives, set-form-gives}
+use Rattle.check_laws.proofs.LiteralOperands.{free-gives, functions-give}
+use Rattle.check_laws.proofs.Operators.{AreFit, operator-gives, set-form-gives}
 use Rattle.check_laws.proofs.Sets.{check-gives, dataset-gives, difference-gives, exists-gives, member-gives, sets-give}
-use Rattle.check_laws.proofs.Steps.{after, then, weaker}
+use Rattle.check_laws.proofs.Steps.{after, both, then, weaker}
 use Rattle.check_laws.proofs.Values.{constants-give, names-give, written-gives}
 
 -- ---- parts of the walk
-tree-gives : (env : Env) (at : Place) (r : Result NodeTree Rule) → Gives (IsNode env.settings env.known) r → Gives (IsWellTyped env at) (as_dataset r)
-tree-gives env at r h = then (IsNode env.settings env.known) (IsWellTyped env at) r (λ n. Ok (dataset n)) h (λ n is. is)
+tree-gives : (env : Env) (at : Place) (r : Result NodeTree Rule) → Gives (IsMade env.settings env.known) r → Gives (IsWellTyped env at) (as_dataset r)
+tree-gives env at r h = then (IsMade env.settings env.known) (IsWellTyped env at) r (λ n. Ok (dataset n)) h (λ n is. is)
 
 -- one more operand, behind others
 behind-gives : (env : Env) (at : Place) (done : List TypedTree) (r : Result TypedTree Rule) → AllByRecursion (IsWellTyped env at) done → Gives (IsWellTyped env at) r → Gives (AllByRecursion (IsWellTyped env at)) (r >>= behind done)
 behind-gives env at done r hd h = then (IsWellTyped env at) (AllByRecursion (IsWellTyped env at)) r (behind done) h (λ x is. lists.appended (IsWellTyped env at) done (x ∷ []) hd (is, tt))
 
-operator-step : (env : Env) (at : Place) (o : ScalarOp) (number literals : Bool) (r : Result (List TypedTree) Rule) → Gives (AllByRecursion (IsWellTyped env at)) r → Gives (IsWellTyped env at) (r >>= operator_form at o number literals)
-operator-step env at o number literals r h = then (AllByRecursion (IsWellTyped env at)) (IsWellTyped env at) r (operator_form at o number literals) h (operator-gives env at o number literals)
+operator-step : (env : Env) (at : Place) (o : ScalarOp) (number literals : Bool) (r : Result (List TypedTree) Rule) → Gives (λ xs. literals ≡ true → AreFit o xs) r → Gives (AllByRecursion (IsWellTyped env at)) r → Gives (IsWellTyped env at) (r >>= operator_form at o number literals)
+operator-step env at o number literals r fit h =
+    then (λ xs. (literals ≡ true → AreFit o xs) × AllByRecursion (IsWellTyped env at) xs) (IsWellTyped env at) r (operator_form at o number literals) (both (λ xs. literals ≡ true → AreFit o xs) (AllByRecursion (IsWellTyped env at)) r fit h)
+    (λ xs k. operator-gives env at o number literals xs k.0 k.1)
 
-dataset-step : (env : Env) (at : Place) (r : Result TypedTree Rule) → Gives (IsWellTyped env at) r → Gives (IsNode env.settings env.known) (r >>= dataset_in)
-dataset-step env at r h = then (IsWellTyped env at) (IsNode env.settings env.known) r dataset_in h (dataset-gives env at)
+-- operators that ask for no literals
+binary-free : (o : BinaryOp) (es : CompExps) → are_literals (of_binary o) es ≡ true
+binary-free sign.Or es = refl
+binary-free o es = refl
+
+unary-free : (o : UnaryOp) (es : CompExps) → are_literals (of_unary o) es ≡ true
+unary-free one_sign.Plus es = refl
+unary-free o es = refl
+
+dataset-step : (env : Env) (at : Place) (r : Result TypedTree Rule) → Gives (IsWellTyped env at) r → Gives (IsMade env.settings env.known) (r >>= dataset_in)
+dataset-step env at r h = then (IsWellTyped env at) (IsMade env.settings env.known) r dataset_in h (dataset-gives env at)
 
 component-gives : (env : Env) (at : Place) (e : Exp) (c : Comp) (rest : Result TypedTree Rule) → Gives (IsWellTyped env at) rest → Gives (IsWellTyped env at) (or_component (member_inside at e c) rest)
 component-gives env place.Outside e c rest h = h
@@ -68,27 +86,29 @@ component-gives env (place.Inside i) e c rest h = go (member_written e c)
     go None = h
     go (Some w) = written-gives env i w
 
-grouped-gives : (env : Env) (at : Place) (f : AggregateName) (g : Option GroupPart) (grouped : Bool) (having : Having) (x : Option TypedTree) → IfSome x (IsWellTyped env at) → Gives (IsWellTyped env at) (grouped_of at f g grouped having x)
-grouped-gives env at f g grouped having (Some (dataset n)) h = after (IsWellTyped env at) (grouping_typed (components_in n) g) (λ names. having n names >>= aggregate_node f g n) (λ names. after (IsWellTyped env at) (having n names) (aggregate_node f g n) (λ c. aggregate-gives env at f g n c h))
-grouped-gives env at f g grouped having (Some (value v)) h = no-dataset-gives env at f grouped (Some (exp_kind v))
-grouped-gives env at f g grouped having None h = no-dataset-gives env at f grouped None
+grouped-gives : (env : Env) (at : Place) (f : AggregateName) (e : MaybeExp) (g : Option GroupPart) (grouped : Bool) (having : Having) (x : Option TypedTree) → IfSome x (IsWellTyped env (in_aggregate at)) → Gives (IsWellTyped env at) (grouped_of at f e g grouped having x)
+grouped-gives env at f e g grouped having (Some (dataset n)) h =
+    after (IsWellTyped env at) (grouping_typed (components_in n) g) (λ names. having (place.Inside (at_groups None n names)) >>= aggregate_node f g n)
+    (λ names. after (IsWellTyped env at) (having (place.Inside (at_groups None n names))) (aggregate_node f g n) (λ c. aggregate-gives env at f g n c h))
+grouped-gives env at f e g grouped having (Some (value v)) h = after (IsWellTyped env at) (own_groups at g having) (λ u. aggregate_value at f grouped e v) (λ u. value-call-gives env at f grouped e v)
+grouped-gives env at f e g grouped having None h = after (IsWellTyped env at) (own_groups at g having) (λ u. count_call at f grouped) (λ u. count-call-gives env at f grouped)
 
-keeping-step : (env : Env) (j : Option Joined) (k : Option Keeping) (n : NodeTree) → IsNode env.settings env.known n → Gives (IsNode env.settings env.known) (keeping_step j k n)
+keeping-step : (env : Env) (j : Option Joined) (k : Option Keeping) (n : NodeTree) → IsMade env.settings env.known n → Gives (IsMade env.settings env.known) (keeping_step j k n)
 keeping-step env j None n is = is
 keeping-step env j (Some k) n is = keeping-gives env j n k is
 
-renaming-step : (env : Env) (j : Option Joined) (rs : Option (List RenamePart)) (n : NodeTree) → IsNode env.settings env.known n → Gives (IsNode env.settings env.known) (renaming_step j rs n)
+renaming-step : (env : Env) (j : Option Joined) (rs : Option (List RenamePart)) (n : NodeTree) → IsMade env.settings env.known n → Gives (IsMade env.settings env.known) (renaming_step j rs n)
 renaming-step env j None n is = is
 renaming-step env j (Some rs) n is = renaming-gives env j n rs is
 
-last-step : (env : Env) (j : Option Joined) (n : NodeTree) → IsNode env.settings env.known n → Gives (IsNode env.settings env.known) (last_step j n)
+last-step : (env : Env) (j : Option Joined) (n : NodeTree) → IsMade env.settings env.known n → Gives (IsMade env.settings env.known) (last_step j n)
 last-step env None n is = is
 last-step env (Some j) n is = last-gives env j n is
 
-end-gives : (env : Env) (at : Place) (j : Option Joined) (k : Option Keeping) (rs : Option (List RenamePart)) (n : NodeTree) → IsNode env.settings env.known n → Gives (IsWellTyped env at) (body_end j k rs n)
+end-gives : (env : Env) (at : Place) (j : Option Joined) (k : Option Keeping) (rs : Option (List RenamePart)) (n : NodeTree) → IsMade env.settings env.known n → Gives (IsWellTyped env at) (body_end j k rs n)
 end-gives env at j k rs n is =
-    then (IsNode env.settings env.known) (IsWellTyped env at) (keeping_step j k n >>= renaming_step j rs) (λ z. as_dataset (last_step j z))
-    (then (IsNode env.settings env.known) (IsNode env.settings env.known) (keeping_step j k n) (renaming_step j rs) (keeping-step env j k n is) (renaming-step env j rs))
+    then (IsMade env.settings env.known) (IsWellTyped env at) (keeping_step j k n >>= renaming_step j rs) (λ z. as_dataset (last_step j z))
+    (then (IsMade env.settings env.known) (IsMade env.settings env.known) (keeping_step j k n) (renaming_step j rs) (keeping-step env j k n is) (renaming-step env j rs))
     (λ z iz. tree-gives env at (last_step j z) (last-step env j z iz))
 
 -- the value of a target
@@ -110,7 +130,7 @@ target-gives env j n e plain operand h = go e
       where
         one : (v : ValueTree) → IsAnalytic v → IsTargetValue env.settings (columns_in n) v
         one (nodes.scalar e) k = absurd k
-        one (nodes.analytic call) k = tt
+        one (nodes.analytic call) k = k
 
     go : (e : Exp) → Gives (IsTargetValue env.settings (columns_in n)) (calc_value env.settings at e plain operand)
     go (tree.aggregate_over f x o) = analytic-gives (tree.aggregate_over f x o)
@@ -124,21 +144,21 @@ mutual
   sound env are at (tree.if_then c a b) =
       then (AllByRecursion (IsWellTyped env at)) (IsWellTyped env at) (typed env at c >>= behind []) (λ xs. typed env at a >>= behind xs >>= λ ys. typed env at b >>= behind ys >>= operator_form at op.If true true) (behind-gives env at [] (typed env at c) tt (sound env are at c))
       (λ xs hx. then (AllByRecursion (IsWellTyped env at)) (IsWellTyped env at) (typed env at a >>= behind xs) (λ ys. typed env at b >>= behind ys >>= operator_form at op.If true true) (behind-gives env at xs (typed env at a) hx (sound env are at a))
-      (λ ys hy. operator-step env at op.If true true (typed env at b >>= behind ys) (behind-gives env at ys (typed env at b) hy (sound env are at b))))
+      (λ ys hy. operator-step env at op.If true true (typed env at b >>= behind ys) (free-gives op.If true (λ es. refl) (typed env at b >>= behind ys)) (behind-gives env at ys (typed env at b) hy (sound env are at b))))
   sound env are at (tree.binary l o r) =
       then (AllByRecursion (IsWellTyped env at)) (IsWellTyped env at) (typed env at l >>= behind []) (λ xs. typed env at r >>= behind xs >>= operator_form at (of_binary o) true true) (behind-gives env at [] (typed env at l) tt (sound env are at l))
-      (λ xs hx. operator-step env at (of_binary o) true true (typed env at r >>= behind xs) (behind-gives env at xs (typed env at r) hx (sound env are at r)))
+      (λ xs hx. operator-step env at (of_binary o) true true (typed env at r >>= behind xs) (free-gives (of_binary o) true (binary-free o) (typed env at r >>= behind xs)) (behind-gives env at xs (typed env at r) hx (sound env are at r)))
   sound env are at (tree.in_set e negated ls) = then (IsWellTyped env at) (IsWellTyped env at) (typed env at e) (set_form env.settings at negated ls) (sound env are at e) (set-form-gives env at negated ls)
-  sound env are at (tree.unary o e) = operator-step env at (of_unary o) true true (typed env at e >>= behind []) (behind-gives env at [] (typed env at e) tt (sound env are at e))
-  sound env are at (tree.with_clause e c) = then (IsNode env.settings env.known) (IsWellTyped env at) (typed env place.Outside e >>= dataset_in) (λ n. as_dataset (clause_typed env n c)) (dataset-step env place.Outside (typed env place.Outside e) (sound env are place.Outside e)) (λ n is. tree-gives env at (clause_typed env n c) (sound-clause env are n c is))
-  sound env are at (tree.member e c) = component-gives env at e c (typed env place.Outside e >>= dataset_in >>= member_of c) (then (IsNode env.settings env.known) (IsWellTyped env at) (typed env place.Outside e >>= dataset_in) (member_of c) (dataset-step env place.Outside (typed env place.Outside e) (sound env are place.Outside e)) (member-gives env at c))
+  sound env are at (tree.unary o e) = operator-step env at (of_unary o) true true (typed env at e >>= behind []) (free-gives (of_unary o) true (unary-free o) (typed env at e >>= behind [])) (behind-gives env at [] (typed env at e) tt (sound env are at e))
+  sound env are at (tree.with_clause e c) = then (IsMade env.settings env.known) (IsWellTyped env at) (typed env place.Outside e >>= dataset_in) (λ n. as_dataset (clause_typed env n c)) (dataset-step env place.Outside (typed env place.Outside e) (sound env are place.Outside e)) (λ n is. tree-gives env at (clause_typed env n c) (sound-clause env are n c is))
+  sound env are at (tree.member e c) = component-gives env at e c (typed env place.Outside e >>= dataset_in >>= member_of c) (then (IsMade env.settings env.known) (IsWellTyped env at) (typed env place.Outside e >>= dataset_in) (member_of c) (dataset-step env place.Outside (typed env place.Outside e) (sound env are place.Outside e)) (member-gives env at c))
   sound env are at (tree.component c) = names-give env are at c
   sound env are at (tree.constant c) = constants-give env at c
   sound env are at (tree.brackets e) = sound env are at e
-  sound env are at (tree.function f es) = operator-step env at (of_function f) (takes f (exps_length es)) (literals_fit env.settings f es) (operands_typed env at [] es) (sound-operands env are at [] es tt)
+  sound env are at (tree.function f es) = operator-step env at (of_function f) (takes f (exps_length es)) (literals_fit env.settings f es) (operands_typed env at [] es) (functions-give env at f es) (sound-operands env are at [] es tt)
   sound env are at (tree.aggregate f e g h) =
-      or-call-gives env at e f (is_some g || has_exp h) (maybe_typed env at e >>= grouped_of at f g (is_some g || has_exp h) (λ n names. having_typed env None n names h))
-      (then (λ x. IfSome x (IsWellTyped env at)) (IsWellTyped env at) (maybe_typed env at e) (grouped_of at f g (is_some g || has_exp h) (λ n names. having_typed env None n names h)) (sound-maybe env are at e) (grouped-gives env at f g (is_some g || has_exp h) (λ n names. having_typed env None n names h)))
+      then (λ x. IfSome x (IsWellTyped env (in_aggregate at))) (IsWellTyped env at) (maybe_typed env (in_aggregate at) e) (grouped_of at f e g (is_some g || has_exp h) (λ groups. having_typed env groups h)) (sound-maybe env are (in_aggregate at) e)
+      (grouped-gives env at f e g (is_some g || has_exp h) (λ groups. having_typed env groups h))
   sound env are at (tree.aggregate_over f e o) = then (λ x. IfSome x (IsWellTyped env at)) (IsWellTyped env at) (maybe_typed env at e) (over_typed env.settings at (tree.aggregate_over f e o)) (sound-maybe env are at e) (over-gives env at (tree.aggregate_over f e o))
   sound env are at (tree.value_window f e o) = then (IsWellTyped env at) (IsWellTyped env at) (typed env at e) (λ x. over_typed env.settings at (tree.value_window f e o) (Some x)) (sound env are at e) (λ x h. over-gives env at (tree.value_window f e o) (Some x) h)
   sound env are at (tree.shift f e n l o) = then (IsWellTyped env at) (IsWellTyped env at) (typed env at e) (λ x. over_typed env.settings at (tree.shift f e n l o) (Some x)) (sound env are at e) (λ x h. over-gives env at (tree.shift f e n l o) (Some x) h)
@@ -160,9 +180,9 @@ mutual
   sound env are at (tree.join kind ps u f m k rs) =
       then (AllByRecursion (IsOperand env)) (IsWellTyped env at) (parts_typed env [] ps >>= operands_in) (λ os. filtered_join env (Some (joined_of kind os)) f kind u os >>= join_end env (Some (joined_of kind os)) m k rs)
       (then (AllByRecursion (IsPart env)) (AllByRecursion (IsOperand env)) (parts_typed env [] ps) operands_in (sound-parts env are [] ps tt) (operands-give env))
-      (λ os hos. then (IsNode env.settings env.known) (IsWellTyped env at) (filtered_join env (Some (joined_of kind os)) f kind u os) (join_end env (Some (joined_of kind os)) m k rs)
-      (then (IsNode env.settings env.known) (IsNode env.settings env.known) (joined_node kind u os) (λ n. filter_step env (Some (joined_of kind os)) n f) (joined-gives env kind u os hos) (λ n is. sound-filter env are (Some (joined_of kind os)) n f is))
-      (λ a ia. then (IsNode env.settings env.known) (IsWellTyped env at) (targets_step env (Some (joined_of kind os)) a m) (body_end (Some (joined_of kind os)) k rs) (sound-step env are (Some (joined_of kind os)) a m ia) (end-gives env at (Some (joined_of kind os)) k rs)))
+      (λ os hos. then (IsMade env.settings env.known) (IsWellTyped env at) (filtered_join env (Some (joined_of kind os)) f kind u os) (join_end env (Some (joined_of kind os)) m k rs)
+      (then (IsMade env.settings env.known) (IsMade env.settings env.known) (joined_node kind u os) (λ n. filter_step env (Some (joined_of kind os)) n f) (joined-gives env kind u os hos) (λ n is. sound-filter env are (Some (joined_of kind os)) n f is))
+      (λ a ia. then (IsMade env.settings env.known) (IsWellTyped env at) (targets_step env (Some (joined_of kind os)) a m) (body_end (Some (joined_of kind os)) k rs) (sound-step env are (Some (joined_of kind os)) a m ia) (end-gives env at (Some (joined_of kind os)) k rs)))
 
   sound-operands : (env : Env) → AreShaped env.known → (at : Place) (done : List TypedTree) (es : Exps) → AllByRecursion (IsWellTyped env at) done → Gives (AllByRecursion (IsWellTyped env at)) (operands_typed env at done es)
   sound-operands env are at done tree.no_exps hd = hd
@@ -172,8 +192,8 @@ mutual
   sound-maybe env are at tree.no_exp = tt
   sound-maybe env are at (tree.some_exp e) = then (IsWellTyped env at) (λ x. IfSome x (IsWellTyped env at)) (typed env at e) (λ x. Ok (Some x)) (sound env are at e) (λ x h. h)
 
-  sound-clause : (env : Env) → AreShaped env.known → (n : NodeTree) (c : ClauseTree) → IsNode env.settings env.known n → Gives (IsNode env.settings env.known) (clause_typed env n c)
-  sound-clause env are n (tree.filter e) is = then (IsWellTyped env (place.Inside (at_points None n))) (IsNode env.settings env.known) (typed env (place.Inside (at_points None n)) e) (filter_form n) (sound env are (place.Inside (at_points None n)) e) (λ x h. filter-gives env None n x is h)
+  sound-clause : (env : Env) → AreShaped env.known → (n : NodeTree) (c : ClauseTree) → IsMade env.settings env.known n → Gives (IsMade env.settings env.known) (clause_typed env n c)
+  sound-clause env are n (tree.filter e) is = then (IsWellTyped env (place.Inside (at_points None n))) (IsMade env.settings env.known) (typed env (place.Inside (at_points None n)) e) (filter_form n) (sound env are (place.Inside (at_points None n)) e) (λ x h. filter-gives env None n x is h)
   sound-clause env are n (tree.targets m) is = sound-targets env are None n m is
   sound-clause env are n (tree.keeping k) is = keeping-gives env None n k is
   sound-clause env are n (tree.rename rs) is = renaming-gives env None n rs is
@@ -181,12 +201,12 @@ mutual
   sound-clause env are n (tree.pivot id m) is = pivot-gives env id m n is
   sound-clause env are n (tree.unpivot id m) is = unpivot-gives env id m n is
 
-  sound-targets : (env : Env) → AreShaped env.known → (j : Option Joined) (n : NodeTree) (m : TargetsTree) → IsNode env.settings env.known n → Gives (IsNode env.settings env.known) (targets_typed env j n m)
-  sound-targets env are j n (tree.calc cs) is = then (AreTargets env.settings n) (IsNode env.settings env.known) (calcs_typed env (place.Inside (at_points j n)) n [] cs) (calc_clause n) (sound-calcs env are j n [] cs (record { each = tt; apart = refl })) (λ items h. calc-gives env n items is h)
+  sound-targets : (env : Env) → AreShaped env.known → (j : Option Joined) (n : NodeTree) (m : TargetsTree) → IsMade env.settings env.known n → Gives (IsMade env.settings env.known) (targets_typed env j n m)
+  sound-targets env are j n (tree.calc cs) is = then (AreTargets env.settings n) (IsMade env.settings env.known) (calcs_typed env (place.Inside (at_points j n)) n [] cs) (calc_clause n) (sound-calcs env are j n [] cs (record { each = tt; apart = refl })) (λ items h. calc-gives env n items is h)
   sound-targets env are j n (tree.aggr cs g h) is =
-      after (IsNode env.settings env.known) (aggrs_typed env (place.Inside (at_groups j n [])) [] cs) (λ made. grouping_typed (components_in n) g >>= λ names. having_typed env j n names h >>= aggr_clause g n made)
-      (λ made. after (IsNode env.settings env.known) (grouping_typed (components_in n) g) (λ names. having_typed env j n names h >>= aggr_clause g n made)
-      (λ names. after (IsNode env.settings env.known) (having_typed env j n names h) (aggr_clause g n made) (λ c. aggr-gives env g n made c is)))
+      after (IsMade env.settings env.known) (aggrs_typed env (place.Inside (at_groups j n (grouping_of g (components_in n)))) [] cs) (λ made. grouping_typed (components_in n) g >>= λ names. having_typed env (place.Inside (at_groups j n names)) h >>= aggr_clause g n made)
+      (λ made. after (IsMade env.settings env.known) (grouping_typed (components_in n) g) (λ names. having_typed env (place.Inside (at_groups j n names)) h >>= aggr_clause g n made)
+      (λ names. after (IsMade env.settings env.known) (having_typed env (place.Inside (at_groups j n names)) h) (aggr_clause g n made) (λ c. aggr-gives env g n made c is)))
 
   sound-calcs : (env : Env) → AreShaped env.known → (j : Option Joined) (n : NodeTree) (done : List ItemTree) (cs : Calcs) → AreTargets env.settings n done → Gives (AreTargets env.settings n) (calcs_typed env (place.Inside (at_points j n)) n done cs)
   sound-calcs env are j n done tree.no_calcs hd = hd
@@ -205,10 +225,10 @@ mutual
       (then (IsWellTyped env place.Outside) (AllByRecursion (IsPart env)) (typed env place.Outside e) (with_part done e alias) (sound env are place.Outside e) (λ x h. part-gives env done e alias x hd h))
       (λ xs h. sound-parts env are xs ps h)
 
-  sound-filter : (env : Env) → AreShaped env.known → (j : Option Joined) (n : NodeTree) (e : MaybeExp) → IsNode env.settings env.known n → Gives (IsNode env.settings env.known) (filter_step env j n e)
+  sound-filter : (env : Env) → AreShaped env.known → (j : Option Joined) (n : NodeTree) (e : MaybeExp) → IsMade env.settings env.known n → Gives (IsMade env.settings env.known) (filter_step env j n e)
   sound-filter env are j n tree.no_exp is = is
-  sound-filter env are j n (tree.some_exp e) is = then (IsWellTyped env (place.Inside (at_points j n))) (IsNode env.settings env.known) (typed env (place.Inside (at_points j n)) e) (filter_form n) (sound env are (place.Inside (at_points j n)) e) (λ x h. filter-gives env j n x is h)
+  sound-filter env are j n (tree.some_exp e) is = then (IsWellTyped env (place.Inside (at_points j n))) (IsMade env.settings env.known) (typed env (place.Inside (at_points j n)) e) (filter_form n) (sound env are (place.Inside (at_points j n)) e) (λ x h. filter-gives env j n x is h)
 
-  sound-step : (env : Env) → AreShaped env.known → (j : Option Joined) (n : NodeTree) (m : MaybeTargets) → IsNode env.settings env.known n → Gives (IsNode env.settings env.known) (targets_step env j n m)
+  sound-step : (env : Env) → AreShaped env.known → (j : Option Joined) (n : NodeTree) (m : MaybeTargets) → IsMade env.settings env.known n → Gives (IsMade env.settings env.known) (targets_step env j n m)
   sound-step env are j n tree.no_targets is = is
   sound-step env are j n (tree.some_targets m) is = sound-targets env are j n m is

@@ -36,6 +36,11 @@ after Q (Err rule) f g = tt
 pub tested-then : {B : Type 0} (Q : B → Type 0) (tests : Tests) (f : Unit {0} → Result B Rule) → (ArePassed tests → Gives Q (f tt)) → Gives Q (ruled tests (tt {0}) >>= f)
 tested-then Q tests f g = then (λ u. ArePassed tests) Q (ruled tests (tt {0})) f (tested (λ u. ArePassed tests) tests tt (λ k. k)) (λ u k. g k)
 
+-- two facts of what is given
+pub both : {A : Type 0} (P Q : A → Type 0) (r : Result A Rule) → Gives P r → Gives Q r → Gives (λ x. P x × Q x) r
+both P Q (Ok x) h k = (h, k)
+both P Q (Err rule) h k = tt
+
 pub anything : {A : Type 0} (r : Result A Rule) → Gives (λ x. Unit {0}) r
 anything (Ok x) = tt
 anything (Err rule) = tt

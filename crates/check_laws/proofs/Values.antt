@@ -29,12 +29,15 @@ use Rattle.check_operators.specs.Typed.{TypedTree, value, dataset, of_value}
 use Rattle.check_operators.specs.declared.places.Inside.{Inside}
 use Rattle.check_operators.specs.declared.places.Place.{Place}
 use Rattle.check_operators.specs.declared.places.Place.TheVariants as place
-use Rattle.vtl_meaning.specs.Made.{IsColumnAt, IsTyped}
-use Rattle.check_laws.specs.Gives.{Gives, IsShaped}
-use Rattle.check_laws.specs.WellTyped.{AreShaped, IfUngrouped, IsNode, IsValueAt, IsWellTyped}
+use Rattle.vtl_meaning.specs.Literals.{HasLiterals}
+use Rattle.vtl_meaning.specs.Made.{IsColumnAt, IsMade, IsTyped}
+use Rattle.vtl_meaning.specs.Shapes.{IsShaped}
+use Rattle.check_laws.specs.Gives.{Gives}
+use Rattle.check_laws.specs.WellTyped.{AreShaped, IfUngrouped, IsValueAt, IsWellTyped}
 use Rattle.check_laws.proofs.Expressions.{call-typed, column-after}
 use Rattle.check_laws.proofs.Literals.{constant-gives}
 use Rattle.check_laws.proofs.Steps.{after, anything, tested, then, weaker}
+use Rattle.check_laws.proofs.Tests.{not-false}
 
 -- a typing that only places without groups have to vouch for
 pub ungrouped : {A : Type 0} (g : Option (List (List ℕ))) (P : A → Type 0) (r : Result A Rule) → Gives P r → Gives (λ x. IfUngrouped g (P x)) r
@@ -51,20 +54,20 @@ value-tree env at (Ok e) h = h
 value-tree env at (Err broken) h = tt
 
 -- ---- operators on values
-call-form : (p : Settings) (xs : List Component) (o : ScalarOp) (literals : Bool) (args : List CompExp) → AllByRecursion (IsTyped p xs) args → Gives (IsTyped p xs) (call_form o literals args)
-call-form p xs o literals args h =
-    tested (IsTyped p xs) ((rule.WrongKind, is_none (kind_by_operands o (map exp_kind args))) ∷ (rule.WrongLiteral, is_none (call_kind o args)) ∷ (rule.WrongLiteral, not literals) ∷ []) (call o (or_null (call_kind o args)) (comp_exps_of args)) (λ passed. call-typed p xs o (or_null (call_kind o args)) args (kind (call_kind o args) passed.1.0) h)
+call-form : (p : Settings) (xs : List Component) (o : ScalarOp) (literals : Bool) (args : List CompExp) → (literals ≡ true → HasLiterals o (comp_exps_of args)) → AllByRecursion (IsTyped p xs) args → Gives (IsTyped p xs) (call_form o literals args)
+call-form p xs o literals args fit h =
+    tested (IsTyped p xs) ((rule.WrongKind, is_none (kind_by_operands o (map exp_kind args))) ∷ (rule.WrongLiteral, is_none (call_kind o args)) ∷ (rule.WrongLiteral, not literals) ∷ []) (call o (or_null (call_kind o args)) (comp_exps_of args)) (λ passed. call-typed p xs o (or_null (call_kind o args)) args (kind (call_kind o args) passed.1.0) h (fit (not-false literals passed.1.1.0)))
   where
     kind : (m : Option Kind) → is_none m ≡ false → m ≡ Some (or_null m)
     kind None e = absurd (true≢false e)
     kind (Some k) e = refl
 
-pub values-give : (p : Settings) (at : Place) (o : ScalarOp) (literals : Bool) (args : List CompExp) → AllByRecursion (IsValueAt p at) args → Gives (IsValueAt p at) (call_form o literals args)
-values-give p place.Outside o literals args h = call-form p [] o literals args h
-values-give p (place.Inside i) o literals args h = go i.grouping h
+pub values-give : (p : Settings) (at : Place) (o : ScalarOp) (literals : Bool) (args : List CompExp) → (literals ≡ true → HasLiterals o (comp_exps_of args)) → AllByRecursion (IsValueAt p at) args → Gives (IsValueAt p at) (call_form o literals args)
+values-give p place.Outside o literals args fit h = call-form p [] o literals args fit h
+values-give p (place.Inside i) o literals args fit h = go i.grouping h
   where
     go : (g : Option (List (List ℕ))) → AllByRecursion (λ e. IfUngrouped g (IsTyped p i.components e)) args → Gives (λ e. IfUngrouped g (IsTyped p i.components e)) (call_form o literals args)
-    go None h = call-form p i.components o literals args h
+    go None h = call-form p i.components o literals args fit h
     go (Some names) h = anything (call_form o literals args)
 
 -- ---- names
@@ -91,7 +94,7 @@ component-gives env i name = then (IsTyped env.settings i.components) (IsWellTyp
   where
     P : Option (List (List ℕ)) → TypedTree → Type 0
     P g (value e) = IfUngrouped g (IsTyped env.settings i.components e)
-    P g (dataset n) = IsNode env.settings env.known n
+    P g (dataset n) = IsMade env.settings env.known n
 
     same : (g : Option (List (List ℕ))) (e : CompExp) → IsTyped env.settings i.components e → Gives (P g) (alone g name e)
     same None e h = h
@@ -125,6 +128,6 @@ names-give env are place.Outside (comp.Name name) = go (lookup (same_name name) 
   where
     go : (o : Option Structure) → lookup (same_name name) env.known ≡ o → Gives (IsWellTyped env place.Outside) (known_by name o)
     go None e = tt
-    go (Some s) e = let is : IsShaped s = known-shaped name env.known s are e in (is, (is.well_formed, e))
+    go (Some s) e = (known-shaped name env.known s are e, e)
 names-give env are place.Outside (comp.Quoted name) = tt
 names-give env are (place.Inside i) c = component-gives env i (name_of c)

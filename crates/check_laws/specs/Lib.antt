@@ -1,3 +1,4 @@
+pub mod Depths
 pub mod Gives
 pub mod Reads
 pub mod Scripts

@@ -8,6 +8,7 @@ use Rattle.vtl_syntax.specs.declared.parts.Comp.TheVariants as comp
 use Rattle.check_operators.specs.Places.{member_written}
 use Rattle.check_operators.specs.declared.places.Place.{Place}
 use Rattle.check_operators.specs.declared.places.Place.TheVariants as place
+use Rattle.vtl_check.specs.Transformations.{Transformation, transformations}
 
 -- inside the brackets of a data set names stand for components
 abbrev pub is_inside : Place → Bool
@@ -79,7 +80,9 @@ abbrev mutual
   parts_read (tree.join_part e alias ps) = names_read false e ++ parts_read ps
 
 -- the names in a script: those of results, and those that expressions read
+abbrev pub names_among : List Transformation → List (List ℕ)
+names_among [] = []
+names_among (t ∷ ts) = t.name ∷ names_read false t.value ++ names_among ts
+
 abbrev pub script_names : ScriptTree → List (List ℕ)
-script_names [] = []
-script_names (tree.assignment name kind e ∷ ss) = name ∷ names_read false e ++ script_names ss
-script_names (s ∷ ss) = script_names ss
+script_names script = names_among (transformations script)

@@ -1,28 +1,27 @@
--- The nodes of a script: each is made over what is known where its statement stands.
+-- The nodes of a script: each is made over what is known where its transformation stands.
 use Rattle.std.specs.Prelude.{◌≡◌, ℕ, false, true, List, [], ◌∷◌}
 use Rattle.std.specs.List.{AllByRecursion, list_any}
 use Rattle.std.specs.Map.{lookup}
 use Rattle.vtl_cell.specs.Settings.{Settings}
-use Rattle.vtl_syntax.specs.Trees as tree
-use Rattle.vtl_syntax.specs.Trees.{ScriptTree}
 use Rattle.vtl_tree.specs.Structure.{same_name}
 use Rattle.vtl_tree.specs.Structures.{Named, has_name}
 use Rattle.vtl_nodes.specs.Trees.{NodeTree, structure_of}
 use Rattle.vtl_check.specs.Names.{names_in}
+use Rattle.vtl_check.specs.Transformations.{Transformation}
 use Rattle.vtl_meaning.specs.Made.{IsMade}
 
--- Each statement assigns a new name, and has a node that is made over what was known before and the results of earlier statements.
-abbrev pub AreMadeFrom : Settings → Named → ScriptTree → List NodeTree → Type 0
+-- Each transformation gives a new name, and has a node that is made over what was known before and the results of earlier ones.
+abbrev pub AreMadeFrom : Settings → Named → List Transformation → List NodeTree → Type 0
 AreMadeFrom p known [] [] = Unit {0}
-AreMadeFrom p known (tree.assignment name kind e ∷ ss) (n ∷ ns) = (has_name name known ≡ false) × IsMade p known n × AreMadeFrom p ((name, structure_of n) ∷ known) ss ns
-AreMadeFrom p known ss ns = ⊥
+AreMadeFrom p known (t ∷ ts) (n ∷ ns) = (has_name t.name known ≡ false) × IsMade p known n × AreMadeFrom p ((t.name, structure_of n) ∷ known) ts ns
+AreMadeFrom p known ts ns = ⊥
 
 -- these names stand for the same structures
 abbrev pub AreKnownAlike : Named → Named → List (List ℕ) → Type 0
 AreKnownAlike known other names = AllByRecursion (λ name. lookup (same_name name) known ≡ lookup (same_name name) other) names
 
--- each name that a statement reads is one of these, or the result of an earlier statement
-abbrev pub AreReadFrom : List (List ℕ) → ScriptTree → List NodeTree → Type 0
+-- each name that a transformation reads is one of these, or the result of an earlier one
+abbrev pub AreReadFrom : List (List ℕ) → List Transformation → List NodeTree → Type 0
 AreReadFrom names [] [] = Unit {0}
-AreReadFrom names (tree.assignment name kind e ∷ ss) (n ∷ ns) = AllByRecursion (λ q. list_any (same_name q) names ≡ true) (names_in n) × AreReadFrom (name ∷ names) ss ns
-AreReadFrom names ss ns = ⊥
+AreReadFrom names (t ∷ ts) (n ∷ ns) = AllByRecursion (λ q. list_any (same_name q) names ≡ true) (names_in n) × AreReadFrom (t.name ∷ names) ts ns
+AreReadFrom names ts ns = ⊥

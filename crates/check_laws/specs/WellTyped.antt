@@ -4,13 +4,12 @@ use Rattle.std.specs.List.{AllByRecursion}
 use Rattle.vtl_cell.specs.Settings.{Settings}
 use Rattle.vtl_tree.specs.CompExp.{CompExp}
 use Rattle.vtl_tree.specs.Structures.{Named}
-use Rattle.vtl_nodes.specs.Trees.{NodeTree, structure_of}
 use Rattle.check_operators.specs.Places.{Env}
 use Rattle.check_operators.specs.Typed.{TypedTree, value, dataset}
 use Rattle.check_operators.specs.declared.places.Place.{Place}
 use Rattle.check_operators.specs.declared.places.Place.TheVariants as place
 use Rattle.vtl_meaning.specs.Made.{IsMade, IsTyped}
-use Rattle.check_laws.specs.Gives.{IsShaped}
+use Rattle.vtl_meaning.specs.Shapes.{IsShaped}
 
 -- over groups nothing is said of values
 abbrev pub IfUngrouped : Option (List (List ℕ)) → Type 0 → Type 0
@@ -21,13 +20,9 @@ abbrev pub IsValueAt : Settings → Place → CompExp → Type 0
 IsValueAt p place.Outside e = IsTyped p [] e
 IsValueAt p (place.Inside i) e = IfUngrouped i.grouping (IsTyped p i.components e)
 
--- an expression on data sets: it is made, and each component of its structure has a kind
-abbrev pub IsNode : Settings → Named → NodeTree → Type 0
-IsNode p known n = IsShaped (structure_of n) × IsMade p known n
-
 abbrev pub IsWellTyped : Env → Place → TypedTree → Type 0
 IsWellTyped env at (value e) = IsValueAt env.settings at e
-IsWellTyped env at (dataset n) = IsNode env.settings env.known n
+IsWellTyped env at (dataset n) = IsMade env.settings env.known n
 
 -- the structures that are known
 abbrev pub AreShaped : Named → Type 0

@@ -1,20 +1,21 @@
 // Laws of typing.
-ghost use Rattle.std.specs.Prelude.{◌≡◌, ℕ, None, List, Ok, IfOk, true};
+ghost use Rattle.std.specs.Prelude.{◌≡◌, ◌≤◌, ℕ, None, List, Ok, IfOk, true};
 ghost use Rattle.std.specs.List.{AllByRecursion};
 ghost use Rattle.std.specs.Map.{keys_of};
 ghost use Rattle.vtl_cell.specs.Settings.{Settings};
 ghost use Rattle.vtl_cell.specs.Kinds.{is_of};
 ghost use Rattle.vtl_cell.specs.Row.{Row};
+ghost use Rattle.vtl_syntax.specs.Depth.{deepest, depth_limit, exp_depth, statement_depth};
 ghost use Rattle.vtl_syntax.specs.Trees.{Exp, ScriptTree};
+ghost use Rattle.vtl_syntax.specs.Written.{AreWritten};
 ghost use Rattle.vtl_tree.specs.CompExp.{CompExp};
 ghost use Rattle.vtl_tree.specs.DataSet.{is_point};
-ghost use Rattle.vtl_tree.specs.Structure.{IsStructure};
 ghost use Rattle.vtl_tree.specs.Structures.{AreStructures, Named, has_name};
 ghost use Rattle.vtl_tree.specs.Value.{value as value_of};
 ghost use Rattle.vtl_nodes.specs.Trees.{NodeTree, structure_of};
 ghost use Rattle.check_values.specs.Kinds.{exp_kind};
 ghost use Rattle.check_operators.specs.Places.{Env};
-ghost use Rattle.check_operators.specs.Typed.{TypedTree, value};
+ghost use Rattle.check_operators.specs.Typed.{TypedTree, dataset, value};
 ghost use Rattle.check_operators.specs.declared.places.Inside.{Inside};
 ghost use Rattle.check_operators.specs.declared.places.Place.{Place};
 ghost use Rattle.check_operators.specs.declared.places.Place.TheVariants as place;
@@ -22,14 +23,18 @@ ghost use Rattle.vtl_check.specs.Typing.{typed};
 ghost use Rattle.vtl_check.specs.Checked.{IsTyped, TypedScript, env_over, nodes_of, tree_of};
 ghost use Rattle.vtl_check.specs.Names.{names_in};
 ghost use Rattle.vtl_check.specs.Script.{script_typed};
+ghost use Rattle.vtl_check.specs.Transformations.{transformations};
 ghost use Rattle.vtl_meaning.specs.Made.{IsMade};
+ghost use Rattle.vtl_meaning.specs.Shapes.{IsShaped};
 ghost use Rattle.vtl_nodes.specs.Nodes.{nodes_in};
+ghost use Rattle.check_laws.specs.Depths.{comp_depth, node_depth};
 ghost use Rattle.check_laws.specs.Reads.{is_inside, names_read, script_names};
 ghost use Rattle.check_laws.specs.Scripts.{AreKnownAlike, AreMadeFrom, AreReadFrom};
 ghost use Rattle.check_laws.specs.WellTyped.{AreShaped, IsWellTyped};
 
-/// What typing gives for an expression is typed over the columns of its place, or is made over the data sets that are
-/// known: each node has a structure that fits its operands. Over groups nothing is said about values.
+/// What typing gives for an expression is typed over the columns of its place, with literals where operators ask for
+/// them, or is made over the data sets that are known: each node has the structure that its form gives of its operands.
+/// Over groups nothing is said about values.
 pub fn typing_is_sound()
     ensures { (env : Env) (at : Place) (e : Exp) (x : TypedTree) → AreShaped env.known → typed env at e ≡ Ok x → IsWellTyped env at x }
 {}
@@ -39,13 +44,13 @@ pub fn typed_values_are_of_their_kind()
     ensures { (env : Env) (i : Inside) (e : Exp) (x : CompExp) (r : Row) → AreShaped env.known → i.grouping ≡ None → typed env (place.Inside i) e ≡ Ok (value x) → is_point i.components r ≡ true → IfOk (value_of env.settings x r) (λ v. is_of (exp_kind x) v ≡ true) }
 {}
 
-/// The nodes of a typed script: one for each statement, whose result has a new name, and each made over what is known
-/// where its statement stands. All nodes within them have structures of 1 to 64 components with distinct names, and
-/// each name that is read is that of a declared data set or of an earlier result.
+/// The nodes of a typed script: one for each transformation, whose result has a new name, and each made over what is
+/// known where its statement stands. All nodes within them have structures of 1 to 64 components with distinct names, each
+/// of a kind, and each name that is read is that of a declared data set or of an earlier result.
 pub fn typed_scripts_are_made()
-    ensures made { (t : TypedScript) → AreStructures t.declared → IsTyped t → AreMadeFrom t.settings t.declared (tree_of t) (nodes_of t) }
-    ensures structures { (t : TypedScript) → AreStructures t.declared → IsTyped t → AllByRecursion (λ n. AllByRecursion (λ m. IsStructure (structure_of m)) (nodes_in n)) (nodes_of t) }
-    ensures names { (t : TypedScript) → AreStructures t.declared → IsTyped t → AreReadFrom (keys_of t.declared) (tree_of t) (nodes_of t) }
+    ensures made { (t : TypedScript) → AreStructures t.declared → IsTyped t → AreMadeFrom t.settings t.declared (transformations (tree_of t)) (nodes_of t) }
+    ensures structures { (t : TypedScript) → AreStructures t.declared → IsTyped t → AllByRecursion (λ n. AllByRecursion (λ m. IsShaped (structure_of m)) (nodes_in n)) (nodes_of t) }
+    ensures names { (t : TypedScript) → AreStructures t.declared → IsTyped t → AreReadFrom (keys_of t.declared) (transformations (tree_of t)) (nodes_of t) }
 {}
 
 /// A node that is made over some data sets reads names that are known there, and is made over all others in which these
@@ -60,4 +65,15 @@ pub fn nodes_are_made_over_what_they_read()
 pub fn typing_depends_on_what_is_read()
     ensures expression { (p : Settings) (known other : Named) (at : Place) (e : Exp) → AreKnownAlike known other (names_read (is_inside at) e) → typed (env_over p known) at e ≡ typed (env_over p other) at e }
     ensures script { (p : Settings) (known other : Named) (ss : ScriptTree) → AreKnownAlike known other (script_names ss) → script_typed (env_over p known) ss ≡ script_typed (env_over p other) ss }
+{}
+
+/// What is typed is no deeper than what was written. A value has at most the depth of the expression that it was read
+/// from, and so has each component expression of a node and of its operands: those that it holds, and the calls that an
+/// operator on data sets makes of measures. No expression in the nodes of a typed script is deeper than the script's
+/// deepest statement, so than 128 where the script is written.
+pub fn typed_trees_are_no_deeper()
+    ensures values { (env : Env) (at : Place) (e : Exp) (x : CompExp) → typed env at e ≡ Ok (value x) → comp_depth x ≤ exp_depth e }
+    ensures nodes { (env : Env) (at : Place) (e : Exp) (n : NodeTree) → typed env at e ≡ Ok (dataset n) → node_depth n ≤ exp_depth e }
+    ensures scripts { (t : TypedScript) → IsTyped t → AllByRecursion (λ n. node_depth n ≤ deepest statement_depth (tree_of t)) (nodes_of t) }
+    ensures written { (t : TypedScript) → IsTyped t → AreWritten (tree_of t) → AllByRecursion (λ n. node_depth n ≤ depth_limit) (nodes_of t) }
 {}

@@ -1,10 +1,13 @@
 -- What is left behind an expression is the number without its nodes.
-use Rattle.std.proofs.Common.{◌≡◌, ℕ, suc, ◌+◌, ◌-◌, ◌≤◌, ◌<◌, ◌⊎◌, inl, inr, true, false, cond, leb, Option, Some, None, option_and_then, refl, sym, ap, ◌∙◌, arith}
+use Rattle.std.proofs.Common.{◌≡◌, ℕ, suc, ◌+◌, ◌-◌, ◌≤◌, ◌<◌, ◌⊎◌, inl, inr, Bool, true, false, cond, leb, List, [], ◌∷◌, ◌++◌, length, Option, Some, None, option_and_then, refl, sym, ap, ◌∙◌, arith}
+use Rattle.std.specs.List.{filter}
 use Rattle.std.proofs.lemmas.Bool.{le-leb}
 use Rattle.std.proofs.lemmas.Bool.Decides.{leb_tells}
 use Rattle.vtl_nodes.specs.Trees as nodes
 use Rattle.vtl_nodes.specs.Trees.{FormTree, MaybeNode, NodeTree, NodeTrees, OperandTrees}
-use Rattle.vtl_check.specs.Count.{all_count, count, form_count, maybe_count, operands_count}
+use Rattle.vtl_nodes.specs.Nodes.{all_nodes, form_nodes, maybe_nodes, nodes_in, operand_nodes}
+use Rattle.vtl_tree.specs.declared.structure.Structure.{Structure}
+use Rattle.vtl_check.specs.Count.{count, counted, is_counted}
 use Rattle.vtl_check.specs.Script.{is_too_much, most_nodes}
 use Rattle.vtl_check.specs.Spent.{all_spent, form_spent, maybe_spent, operands_spent, spent, without}
 
@@ -49,48 +52,74 @@ two f g a b left e d = more g (option_and_then f (without 1 left)) (suc a) b (su
 three : (f g h : ℕ → Option ℕ) (a b c left : ℕ) → ((l : ℕ) → f l ≡ without a l) → ((l : ℕ) → g l ≡ without b l) → ((l : ℕ) → h l ≡ without c l) → option_and_then h (option_and_then g (option_and_then f (without 1 left))) ≡ without (suc (a + b + c)) left
 three f g h a b c left e d i = more h (option_and_then g (option_and_then f (without 1 left))) (suc (a + b)) c (suc (a + b + c)) left (omega arith) i (two f g a b left e d)
 
+-- how many of two lists count
+counted_append : (xs ys : List NodeTree) → counted (xs ++ ys) ≡ counted xs + counted ys
+counted_append [] ys = omega arith
+counted_append (x ∷ xs) ys = go (is_counted x) (counted_append xs ys)
+  where
+    go : (b : Bool) → counted (xs ++ ys) ≡ counted xs + counted ys → length (cond b (x ∷ filter is_counted (xs ++ ys)) (filter is_counted (xs ++ ys))) ≡ length (cond b (x ∷ filter is_counted xs) (filter is_counted xs)) + counted ys
+    go true e = omega (arith, e)
+    go false e = e
+
+three_counted : (xs ys zs : List NodeTree) → counted xs + counted ys + counted zs ≡ counted (xs ++ (ys ++ zs))
+three_counted xs ys zs = omega (arith, counted_append xs (ys ++ zs), counted_append ys zs)
+
 mutual
   pub spent-count : (n : NodeTree) (left : ℕ) → spent n left ≡ without (count n) left
-  spent-count (nodes.node s form) left = form_spent-count form left
+  spent-count (nodes.node s form) left = form_spent-count s form left
 
-  form_spent-count : (form : FormTree) (left : ℕ) → form_spent form left ≡ without (form_count form) left
-  form_spent-count (nodes.named name) left = sym (without-none left)
-  form_spent-count (nodes.measures m a) left = one (spent a) (count a) left (spent-count a)
-  form_spent-count (nodes.pair o a b) left = two (spent a) (spent b) (count a) (count b) left (spent-count a) (spent-count b)
-  form_spent-count (nodes.choose c a b) left = three (spent c) (spent a) (spent b) (count c) (count a) (count b) left (spent-count c) (spent-count a) (spent-count b)
-  form_spent-count (nodes.member a m) left = one (spent a) (count a) left (spent-count a)
-  form_spent-count (nodes.filter a c) left = one (spent a) (count a) left (spent-count a)
-  form_spent-count (nodes.calc a items) left = one (spent a) (count a) left (spent-count a)
-  form_spent-count (nodes.keep a names) left = one (spent a) (count a) left (spent-count a)
-  form_spent-count (nodes.drop_named a names) left = one (spent a) (count a) left (spent-count a)
-  form_spent-count (nodes.rename a pairs) left = one (spent a) (count a) left (spent-count a)
-  form_spent-count (nodes.sub a values) left = one (spent a) (count a) left (spent-count a)
-  form_spent-count (nodes.pivot a id m) left = one (spent a) (count a) left (spent-count a)
-  form_spent-count (nodes.unpivot a id m) left = one (spent a) (count a) left (spent-count a)
-  form_spent-count (nodes.join os spec) left = operands_spent-count os left
-  form_spent-count (nodes.union ns) left = one (all_spent ns) (all_count ns) left (all_spent-count ns)
-  form_spent-count (nodes.intersect ns) left = one (all_spent ns) (all_count ns) left (all_spent-count ns)
-  form_spent-count (nodes.set_diff a b) left = two (spent a) (spent b) (count a) (count b) left (spent-count a) (spent-count b)
-  form_spent-count (nodes.sym_diff a b) left = two (spent a) (spent b) (count a) (count b) left (spent-count a) (spent-count b)
-  form_spent-count (nodes.exists_in a b r) left = two (spent a) (spent b) (count a) (count b) left (spent-count a) (spent-count b)
-  form_spent-count (nodes.aggregate a spec) left = one (spent a) (count a) left (spent-count a)
-  form_spent-count (nodes.analytic_of a spec) left = one (spent a) (count a) left (spent-count a)
-  form_spent-count (nodes.check a i spec) left = two (spent a) (maybe_spent i) (count a) (maybe_count i) left (spent-count a) (maybe_spent-count i)
-  form_spent-count (nodes.check_datapoint a rules out) left = one (spent a) (count a) left (spent-count a)
-  form_spent-count (nodes.check_hierarchy a rules m out) left = one (spent a) (count a) left (spent-count a)
-  form_spent-count (nodes.hierarchy a rules m i out) left = one (spent a) (count a) left (spent-count a)
+  form_spent-count : (s : Structure) (form : FormTree) (left : ℕ) → form_spent form left ≡ without (counted (nodes.node s form ∷ form_nodes form)) left
+  form_spent-count s (nodes.named name) left = sym (without-none left)
+  form_spent-count s (nodes.measures m a) left = one (spent a) (count a) left (spent-count a)
+  form_spent-count s (nodes.pair o a b) left =
+      two (spent a) (spent b) (count a) (count b) left (spent-count a) (spent-count b)
+      ∙ ap (λ k. without (suc k) left) (sym (counted_append (nodes_in a) (nodes_in b)))
+  form_spent-count s (nodes.choose c a b) left =
+      three (spent c) (spent a) (spent b) (count c) (count a) (count b) left (spent-count c) (spent-count a) (spent-count b)
+      ∙ ap (λ k. without (suc k) left) (three_counted (nodes_in c) (nodes_in a) (nodes_in b))
+  form_spent-count s (nodes.member a m) left = one (spent a) (count a) left (spent-count a)
+  form_spent-count s (nodes.filter a c) left = one (spent a) (count a) left (spent-count a)
+  form_spent-count s (nodes.calc a items) left = one (spent a) (count a) left (spent-count a)
+  form_spent-count s (nodes.keep a names) left = one (spent a) (count a) left (spent-count a)
+  form_spent-count s (nodes.drop_named a names) left = one (spent a) (count a) left (spent-count a)
+  form_spent-count s (nodes.rename a pairs) left = one (spent a) (count a) left (spent-count a)
+  form_spent-count s (nodes.sub a values) left = one (spent a) (count a) left (spent-count a)
+  form_spent-count s (nodes.pivot a id m) left = one (spent a) (count a) left (spent-count a)
+  form_spent-count s (nodes.unpivot a id m) left = one (spent a) (count a) left (spent-count a)
+  form_spent-count s (nodes.join os spec) left = operands_spent-count os left
+  form_spent-count s (nodes.union ns) left = one (all_spent ns) (counted (all_nodes ns)) left (all_spent-count ns)
+  form_spent-count s (nodes.intersect ns) left = one (all_spent ns) (counted (all_nodes ns)) left (all_spent-count ns)
+  form_spent-count s (nodes.set_diff a b) left =
+      two (spent a) (spent b) (count a) (count b) left (spent-count a) (spent-count b)
+      ∙ ap (λ k. without (suc k) left) (sym (counted_append (nodes_in a) (nodes_in b)))
+  form_spent-count s (nodes.sym_diff a b) left =
+      two (spent a) (spent b) (count a) (count b) left (spent-count a) (spent-count b)
+      ∙ ap (λ k. without (suc k) left) (sym (counted_append (nodes_in a) (nodes_in b)))
+  form_spent-count s (nodes.exists_in a b r) left =
+      two (spent a) (spent b) (count a) (count b) left (spent-count a) (spent-count b)
+      ∙ ap (λ k. without (suc k) left) (sym (counted_append (nodes_in a) (nodes_in b)))
+  form_spent-count s (nodes.aggregate a spec) left = one (spent a) (count a) left (spent-count a)
+  form_spent-count s (nodes.analytic_of a spec) left = one (spent a) (count a) left (spent-count a)
+  form_spent-count s (nodes.check a i spec) left =
+      two (spent a) (maybe_spent i) (count a) (counted (maybe_nodes i)) left (spent-count a) (maybe_spent-count i)
+      ∙ ap (λ k. without (suc k) left) (sym (counted_append (nodes_in a) (maybe_nodes i)))
+  form_spent-count s (nodes.check_datapoint a rules out) left = one (spent a) (count a) left (spent-count a)
+  form_spent-count s (nodes.check_hierarchy a rules m out) left = one (spent a) (count a) left (spent-count a)
+  form_spent-count s (nodes.hierarchy a rules m i out) left = one (spent a) (count a) left (spent-count a)
 
-  all_spent-count : (ns : NodeTrees) (left : ℕ) → all_spent ns left ≡ without (all_count ns) left
+  all_spent-count : (ns : NodeTrees) (left : ℕ) → all_spent ns left ≡ without (counted (all_nodes ns)) left
   all_spent-count nodes.no_nodes left = sym (without-none left)
-  all_spent-count (nodes.and_node n ns) left = more (all_spent ns) (spent n left) (count n) (all_count ns) (count n + all_count ns) left refl (all_spent-count ns) (spent-count n left)
+  all_spent-count (nodes.and_node n ns) left =
+      more (all_spent ns) (spent n left) (count n) (counted (all_nodes ns)) (counted (nodes_in n ++ all_nodes ns)) left (sym (counted_append (nodes_in n) (all_nodes ns))) (all_spent-count ns) (spent-count n left)
 
-  maybe_spent-count : (m : MaybeNode) (left : ℕ) → maybe_spent m left ≡ without (maybe_count m) left
+  maybe_spent-count : (m : MaybeNode) (left : ℕ) → maybe_spent m left ≡ without (counted (maybe_nodes m)) left
   maybe_spent-count nodes.no_node left = sym (without-none left)
   maybe_spent-count (nodes.some_node n) left = spent-count n left
 
-  operands_spent-count : (os : OperandTrees) (left : ℕ) → operands_spent os left ≡ without (operands_count os) left
+  operands_spent-count : (os : OperandTrees) (left : ℕ) → operands_spent os left ≡ without (counted (operand_nodes os)) left
   operands_spent-count nodes.no_operands left = sym (without-none left)
-  operands_spent-count (nodes.operand n alias os) left = more (operands_spent os) (spent n left) (count n) (operands_count os) (count n + operands_count os) left refl (operands_spent-count os) (spent-count n left)
+  operands_spent-count (nodes.operand n alias os) left =
+      more (operands_spent os) (spent n left) (count n) (counted (operand_nodes os)) (counted (nodes_in n ++ operand_nodes os)) left (sym (counted_append (nodes_in n) (operand_nodes os))) (operands_spent-count os) (spent-count n left)
 
 -- what is left of a number, where some is
 without-some : (taken left rest : ℕ) → without taken left ≡ Some rest → rest + taken ≡ left

@@ -1,3 +1,5 @@
 pub mod CountLemmas
 pub mod KnownLemmas
+pub mod LeftLemmas
+pub mod NameLemmas
 pub mod ScriptLemmas

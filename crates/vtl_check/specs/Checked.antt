@@ -12,10 +12,11 @@ use Rattle.vtl_nodes.specs.View.{node_tree}
 use Rattle.vtl_nodes.specs.declared.nodes.Node.{Node}
 use Rattle.check_operators.specs.Places.{Env}
 use Rattle.vtl_check.specs.Script.{script_typed}
+use Rattle.vtl_check.specs.Transformations.{transformations}
 use Rattle.vtl_check.specs.Uses.{outputs_in, reads, results_behind}
 use Rattle.vtl_check.specs.declared.uses.Uses.{Uses}
 
--- a script with the structures and the settings that it is typed over, and its nodes, one for each statement
+-- a script with the structures and the settings that it is typed over, and its nodes, one for each transformation
 pub record TypedScript : Type 0 where
   pub script : List Statement
   pub declared : Named
@@ -44,11 +45,11 @@ inputs_of t = keys_of (reads t.declared (nodes_of t))
 
 -- the names of the results that the script writes with `<-`, in order
 abbrev pub outputs_of : TypedScript → List (List ℕ)
-outputs_of t = outputs_in (tree_of t)
+outputs_of t = outputs_in (transformations (tree_of t))
 
 -- the data sets that the script reads, and then all its results, with their structures
 abbrev pub known_of : TypedScript → Named
-known_of t = results_behind (reads t.declared (nodes_of t)) (tree_of t) (nodes_of t)
+known_of t = results_behind (reads t.declared (nodes_of t)) (transformations (tree_of t)) (nodes_of t)
 
 -- these are the data sets that the script reads and gives
 pub record AreUses (t : TypedScript) (u : Uses) : Type 0 where

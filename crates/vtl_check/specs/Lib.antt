@@ -12,4 +12,5 @@ pub mod Count
 pub mod Names
 pub mod Script
 pub mod Spent
+pub mod Transformations
 pub mod Uses

@@ -1,5 +1,5 @@
--- The typing of scripts: statements in order, each over the declared data sets and the results before it.
-use Rattle.std.specs.Prelude.{◌≡◌, ℕ, suc, nat_lt, ◌+◌, Bool, true, false, List, [], ◌∷◌, ◌++◌, Result, Ok, Err}
+-- The typing of scripts: transformations in order, each over the declared data sets and the results before it.
+use Rattle.std.specs.Prelude.{◌≡◌, ℕ, nat_lt, ◌+◌, Bool, true, false, List, [], ◌∷◌, ◌++◌, Result, Ok, Err}
 use Rattle.std.specs.List.{list_any}
 use Rattle.vtl_syntax.specs.Trees as tree
 use Rattle.vtl_syntax.specs.Trees.{Exp, ScriptTree, StatementTree}
@@ -16,6 +16,7 @@ use Rattle.check_operators.specs.Typed.{dataset_in}
 use Rattle.check_operators.specs.declared.places.Place.TheVariants as place
 use Rattle.check_expressions.specs.Typing.{typed}
 use Rattle.vtl_check.specs.Count.{count}
+use Rattle.vtl_check.specs.Transformations.{Transformation, transformations}
 use Rattle.vtl_check.specs.declared.error.CheckErr.{CheckErr}
 use Rattle.vtl_check.specs.declared.error.CheckErr.TheVariants as err
 
@@ -46,16 +47,15 @@ abbrev pub at : {A B : Type 0} → ℕ → Result A Rule → (A → Result B (�
 at i (Ok x) f = f x
 at i (Err broken) f = Err (i, number_of broken)
 
--- The nodes so far with those of the statements that are left, or the first fault: the numbers of its statement and of the rule. All
--- statements are counted, from 1 on. Rulesets are not typed yet, so that none is known; no script that is checked defines one.
-abbrev pub statements_typed : Env → (i before : ℕ) → List NodeTree → ScriptTree → Result (List NodeTree) (ℕ × ℕ)
-statements_typed env i before done [] = Ok done
-statements_typed env i before done (tree.assignment name kind e ∷ ss) = at i (assigned env before name e) (λ n. statements_typed (with_result env name n) (suc i) (before + count n) (done ++ n ∷ []) ss)
-statements_typed env i before done (s ∷ ss) = Err (i, number_of rule.UnknownRuleset)
+-- the nodes so far with those of the transformations that are left, or the first fault: the numbers of its statement and of the rule
+abbrev pub transformations_typed : Env → (before : ℕ) → List NodeTree → List Transformation → Result (List NodeTree) (ℕ × ℕ)
+transformations_typed env before done [] = Ok done
+transformations_typed env before done (t ∷ ts) = at t.number (assigned env before t.name t.value) (λ n. transformations_typed (with_result env t.name n) (before + count n) (done ++ n ∷ []) ts)
 
--- the nodes of a script over the declared structures, or its first fault
+-- The nodes of a script over the declared structures, one for each transformation, or its first fault. Rulesets are not typed yet, so
+-- that none is known; no script that is checked defines one.
 abbrev pub script_typed : Env → ScriptTree → Result (List NodeTree) (ℕ × ℕ)
-script_typed env script = statements_typed env 1 0 [] script
+script_typed env script = transformations_typed env 0 [] (transformations script)
 
 -- whether a statement defines a ruleset
 abbrev pub is_definition : StatementTree → Bool

@@ -2,14 +2,14 @@
 use Rattle.std.specs.Prelude.{ℕ, List, [], ◌∷◌, ◌++◌, Option, None, Some, if◌then◌else◌}
 use Rattle.std.specs.List.{flat_map}
 use Rattle.std.specs.Map.{lookup}
-use Rattle.vtl_syntax.specs.Trees as tree
-use Rattle.vtl_syntax.specs.Trees.{ScriptTree, StatementTree}
+use Rattle.vtl_syntax.specs.declared.word_groups.AssignKind.{AssignKind}
 use Rattle.vtl_syntax.specs.declared.word_groups.AssignKind.TheVariants as assigned
 use Rattle.vtl_tree.specs.Structure.{same_name}
 use Rattle.vtl_tree.specs.Structures.{Named, has_name}
 use Rattle.vtl_tree.specs.declared.structure.Structure.{Structure}
 use Rattle.vtl_nodes.specs.Trees.{NodeTree, structure_of}
 use Rattle.vtl_check.specs.Names.{names_of}
+use Rattle.vtl_check.specs.Transformations.{Transformation}
 
 -- one more data set, where none has its name yet
 abbrev pub with_new : Named → List ℕ → Structure → Named
@@ -28,16 +28,16 @@ read_behind declared known (name ∷ names) = read_behind declared (with_declare
 abbrev pub reads : Named → List NodeTree → Named
 reads declared ns = read_behind declared [] (names_of ns)
 
--- the results of statements behind other data sets: each with the structure of its statement's node
-abbrev pub results_behind : Named → ScriptTree → List NodeTree → Named
-results_behind known (tree.assignment name kind e ∷ ss) (n ∷ ns) = results_behind (with_new known name (structure_of n)) ss ns
-results_behind known ss ns = known
+-- the results of transformations behind other data sets, each with the structure of its node
+abbrev pub results_behind : Named → List Transformation → List NodeTree → Named
+results_behind known (t ∷ ts) (n ∷ ns) = results_behind (with_new known t.name (structure_of n)) ts ns
+results_behind known ts ns = known
 
 -- the name of a result that is written with `<-`
-abbrev pub output_in : StatementTree → List (List ℕ)
-output_in (tree.assignment name assigned.Persistent e) = name ∷ []
-output_in s = []
+abbrev pub output_named : List ℕ → AssignKind → List (List ℕ)
+output_named name assigned.Persistent = name ∷ []
+output_named name assigned.Temporary = []
 
 -- the names of the results that are written with `<-`, in order
-abbrev pub outputs_in : ScriptTree → List (List ℕ)
-outputs_in ss = flat_map output_in ss
+abbrev pub outputs_in : List Transformation → List (List ℕ)
+outputs_in ts = flat_map (λ t. output_named t.name t.kind) ts

@@ -3,10 +3,12 @@ ghost use Rattle.std.specs.Map.{keys_of, lookup};
 ghost use Rattle.std.specs.Option.{option_copied};
 ghost use Rattle.std.specs.Prelude.{◌≡◌, IfOk, Ok, false, length, map};
 ghost use Rattle.vtl_syntax.specs.View.{script_tree, statement_tree};
+ghost use Rattle.vtl_syntax.specs.Written.{AreWritten};
 ghost use Rattle.vtl_nodes.specs.View.{node_tree};
 ghost use Rattle.vtl_tree.specs.Structure.{same_name};
 ghost use Rattle.vtl_tree.specs.Structures.{AreStructures};
-ghost use Rattle.vtl_check.specs.Checked.{AreUses, IsTyped, TypedScript, env_over, inputs_of, known_of, nodes_of, outputs_of, typed_script};
+ghost use Rattle.vtl_check.specs.Checked.{AreUses, IsTyped, TypedScript, env_over, inputs_of, known_of, nodes_of, outputs_of, tree_of, typed_script};
+ghost use Rattle.vtl_check.specs.Transformations.{transformations};
 ghost use Rattle.vtl_check.specs.Uses.{outputs_in, reads, results_behind};
 ghost use Rattle.vtl_check.specs.Script.{Checks, has_definitions, is_definition, script_typed};
 
@@ -24,7 +26,7 @@ use vtl_syntax::{Script, Statement};
 use vtl_text::Txt;
 use vtl_tree::{Structure, Structures};
 
-/// A script that is typed over declared structures, with its nodes. The script is shared.
+/// A script that is written and typed over declared structures, with its nodes. The script is shared.
 #[derive(Drop)]
 pub struct Checked {
     script: Script,
@@ -36,9 +38,12 @@ pub struct Checked {
 
 impl Model for Checked {
     ghost use Rattle.std.specs.Coded.{codes};
-    ghost use Rattle.std.specs.Prelude.{◌≡◌};
+    ghost use Rattle.std.specs.Prelude.{◌≡◌, length, map};
     ghost use Rattle.vtl_tree.specs.Structures.{AreStructures};
     ghost use Rattle.vtl_check.specs.Checked.{AreUses, IsTyped, TypedScript};
+    ghost use Rattle.vtl_check.specs.Transformations.{transformations};
+    ghost use Rattle.vtl_syntax.specs.View.{statement_tree};
+    ghost use Rattle.vtl_syntax.specs.Written.{AreWritten};
     ghost use Rattle.vtl_syntax.specs.contracts.statements.Statement as s;
     ghost use Rattle.vtl_nodes.specs.contracts.nodes.Node as n;
 
@@ -51,13 +56,15 @@ impl Model for Checked {
     ghost invariant = { λ c.
         IsTyped (record { script = c.script.statements; declared = c.declared.entries; settings = c.profile; nodes = c.nodes.items })
         × AreUses (record { script = c.script.statements; declared = c.declared.entries; settings = c.profile; nodes = c.nodes.items }) c.uses
-        × AreStructures c.declared.entries };
+        × AreStructures c.declared.entries
+        × AreWritten (map statement_tree c.script.statements)
+        × (length c.nodes.items ≡ length (transformations (map statement_tree c.script.statements))) };
 }
 
 impl Checked {
-    /// A script that is typed over these structures with these nodes, one for each statement. The script is shared. It
-    /// fails only if memory runs out.
-    #[tactic(auto, using(crate::proofs::ScriptLemmas::as_many_nodes, crate::proofs::ScriptLemmas::typed_parts))]
+    /// A written script that is typed over these structures with these nodes, one for each transformation. The script
+    /// is shared. It fails only if memory runs out.
+    #[tactic(auto, using(crate::proofs::ScriptLemmas::as_many_nodes, crate::proofs::ScriptLemmas::typed_parts, crate::proofs::ScriptLemmas::written_shared))]
     pub fn of(
         alloc: Global,
         script: &Script,
@@ -65,7 +72,8 @@ impl Checked {
         nodes: Vec<Node>,
         profile: &Profile,
     ) -> Result<Checked, AllocError>
-        requires { IsTyped (typed_script script.now structures.now profile.now nodes.items) }
+        requires written { AreWritten (script_tree script.now) }
+        requires typed { IsTyped (typed_script script.now structures.now profile.now nodes.items) }
         ensures { IfOk result (λ c. c ≡ typed_script script.now structures.now profile.now nodes.items) }
     {
         match parts_of(alloc, script, structures, &nodes) {
@@ -100,13 +108,13 @@ impl Checked {
         self.script.statements.as_slice()
     }
 
-    /// The nodes of the statements, in order.
-    #[tactic(auto, using(crate::proofs::ScriptLemmas::as_many_nodes))]
+    /// The nodes of the transformations, in order.
     pub fn nodes(&self) -> &[Node]
         ensures nodes { result.now ≡ self.now.nodes }
         ensures typed { IsTyped self.now }
+        ensures written { AreWritten (tree_of self.now) }
         ensures declared { AreStructures self.now.declared }
-        ensures as_many { length result.now ≡ length self.now.script }
+        ensures as_many { length result.now ≡ length (transformations (tree_of self.now)) }
     {
         self.nodes.as_slice()
     }
@@ -176,13 +184,13 @@ fn parts_of(
     structures: &Structures,
     nodes: &[Node],
 ) -> Result<Parts, AllocError>
-    requires { length nodes.now ≡ length script.now.statements }
+    requires { length nodes.now ≡ length (transformations (map statement_tree script.now.statements)) }
     ensures script { IfOk result (λ p. p.script.statements ≡ script.now.statements) }
     ensures declared { IfOk result (λ p. p.declared.entries ≡ structures.now) }
     ensures structures { IfOk result (λ p. AreStructures p.declared.entries) }
-    ensures known { IfOk result (λ p. p.uses.known.entries ≡ results_behind (reads structures.now (map node_tree nodes.now)) (map statement_tree script.now.statements) (map node_tree nodes.now)) }
+    ensures known { IfOk result (λ p. p.uses.known.entries ≡ results_behind (reads structures.now (map node_tree nodes.now)) (transformations (map statement_tree script.now.statements)) (map node_tree nodes.now)) }
     ensures inputs { IfOk result (λ p. p.uses.inputs.items ≡ keys_of (reads structures.now (map node_tree nodes.now))) }
-    ensures outputs { IfOk result (λ p. p.uses.outputs.items ≡ outputs_in (map statement_tree script.now.statements)) }
+    ensures outputs { IfOk result (λ p. p.uses.outputs.items ≡ outputs_in (transformations (map statement_tree script.now.statements))) }
 {
     let declared = share_structures(alloc, structures)?;
     let uses = uses_of(alloc, &declared, script.statements.as_slice(), nodes)?;
@@ -195,7 +203,7 @@ fn parts_of(
 }
 
 /// The typing of a script over declared structures (VTL 2.0; docs/TYPES.md): the script with its nodes, or the first
-/// statement that breaks a rule, and the least rule that its first wrong part breaks. It takes a script without
+/// statement that breaks a rule, and the least rule that its first wrong part breaks. It takes a written script without
 /// rulesets, and shares it.
 pub fn check(
     alloc: Global,
@@ -203,7 +211,8 @@ pub fn check(
     structures: &Structures,
     profile: &Profile,
 ) -> Result<Checked, CheckErr>
-    requires { has_definitions (script_tree script.now) ≡ false }
+    requires written { AreWritten (script_tree script.now) }
+    requires plain { has_definitions (script_tree script.now) ≡ false }
     ensures typing { Checks nodes_of result (script_typed (env_over profile.now structures.now) (script_tree script.now)) }
     ensures script { IfOk result (λ c. c.script ≡ script.now.statements) }
     ensures declared { IfOk result (λ c. c.declared ≡ structures.now) }

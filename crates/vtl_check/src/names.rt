@@ -1,9 +1,10 @@
 // The names of the data sets that expressions read.
 ghost use Rattle.std.specs.Option.{option_map};
 ghost use Rattle.std.specs.Prelude.{◌≡◌, ◌++◌, IfOk, OnOk, map};
+ghost use Rattle.vtl_nodes.specs.Nodes.{all_nodes, maybe_nodes, operand_nodes};
 ghost use Rattle.vtl_nodes.specs.Trees.{maybe_node, nodes_of, operands_of};
 ghost use Rattle.vtl_nodes.specs.View.{node_tree, operand_tree};
-ghost use Rattle.vtl_check.specs.Names.{all_names, maybe_names, names_in, names_of, operands_names};
+ghost use Rattle.vtl_check.specs.Names.{names_at, names_in, names_of};
 
 use std::alloc::{AllocError, Global};
 use vtl_nodes::{JoinOperand, Node, NodeForm};
@@ -21,6 +22,7 @@ pub fn read_names(alloc: Global, nodes: &[Node]) -> Result<Vec<Txt>, AllocError>
 }
 
 #[cycle(names)]
+#[tactic(auto, using(crate::proofs::NameLemmas::names_append))]
 fn push_names(out: &mut Vec<Txt>, node: &Node) -> Result<(), AllocError>
     ensures { OnOk result (out.new.items ≡ out.old.items ++ names_in (node_tree node.now)) }
 {
@@ -63,8 +65,9 @@ fn push_names(out: &mut Vec<Txt>, node: &Node) -> Result<(), AllocError>
 }
 
 #[cycle(names)]
+#[tactic(auto, using(crate::proofs::NameLemmas::names_append))]
 fn push_all(out: &mut Vec<Txt>, nodes: &[Node]) -> Result<(), AllocError>
-    ensures { OnOk result (out.new.items ≡ out.old.items ++ all_names (nodes_of (map node_tree nodes.now))) }
+    ensures { OnOk result (out.new.items ≡ out.old.items ++ names_at (all_nodes (nodes_of (map node_tree nodes.now)))) }
 {
     for node in nodes {
         push_names(out, node)?;
@@ -73,8 +76,9 @@ fn push_all(out: &mut Vec<Txt>, nodes: &[Node]) -> Result<(), AllocError>
 }
 
 #[cycle(names)]
+#[tactic(auto, using(crate::proofs::NameLemmas::names_append))]
 fn push_maybe(out: &mut Vec<Txt>, node: &Option<Box<Node>>) -> Result<(), AllocError>
-    ensures { OnOk result (out.new.items ≡ out.old.items ++ maybe_names (maybe_node (option_map (λ b. node_tree b.value) node.now))) }
+    ensures { OnOk result (out.new.items ≡ out.old.items ++ names_at (maybe_nodes (maybe_node (option_map (λ b. node_tree b.value) node.now)))) }
 {
     match node {
         Some(node) => push_names(out, node),
@@ -83,8 +87,9 @@ fn push_maybe(out: &mut Vec<Txt>, node: &Option<Box<Node>>) -> Result<(), AllocE
 }
 
 #[cycle(names)]
+#[tactic(auto, using(crate::proofs::NameLemmas::names_append))]
 fn push_operands(out: &mut Vec<Txt>, operands: &[JoinOperand]) -> Result<(), AllocError>
-    ensures { OnOk result (out.new.items ≡ out.old.items ++ operands_names (operands_of (map operand_tree operands.now))) }
+    ensures { OnOk result (out.new.items ≡ out.old.items ++ names_at (operand_nodes (operands_of (map operand_tree operands.now)))) }
 {
     for operand in operands {
         push_names(out, &operand.node)?;

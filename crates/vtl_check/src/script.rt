@@ -1,4 +1,4 @@
-// The typing of statements, each over the declared data sets and the results before it.
+// The typing of transformations, each over the declared data sets and the results before it.
 ghost use Rattle.std.specs.Prelude.{◌≡◌, ◌≤◌, ◌+◌, ◌++◌, [], ◌∷◌, false, map, IfOk, OnOk};
 ghost use Rattle.vtl_syntax.specs.View.{expr_tree, statement_tree};
 ghost use Rattle.vtl_tree.specs.Structures.{has_name};
@@ -7,7 +7,8 @@ ghost use Rattle.check_faults.specs.Answers.{Answers};
 ghost use Rattle.check_operators.specs.Places.{env_of};
 ghost use Rattle.check_operators.specs.Typed.{boxed_tree};
 ghost use Rattle.vtl_check.specs.Count.{count};
-ghost use Rattle.vtl_check.specs.Script.{Checks, assigned, fault_at, most_nodes, statements_typed, value_typed, with_result};
+ghost use Rattle.vtl_check.specs.Script.{Checks, assigned, fault_at, most_nodes, transformations_typed, value_typed, with_result};
+ghost use Rattle.vtl_check.specs.Transformations.{transformations};
 
 use crate::CheckErr;
 use crate::count::counted;
@@ -75,29 +76,27 @@ fn fault(statement: usize, error: TypeErr) -> CheckErr
     }
 }
 
-/// The nodes of statements.
+/// The nodes of the transformations among statements, or the first fault, with the number of its statement.
 pub fn typed_statements(
     alloc: Global,
     mut scope: Scope,
     statements: &[Statement],
 ) -> Result<Vec<Node>, CheckErr>
-    ensures { Checks (λ v. map node_tree v.items) result (statements_typed (env_of scope) 1 0 [] (map statement_tree statements.now)) }
+    ensures { Checks (λ v. map node_tree v.items) result (transformations_typed (env_of scope) 0 [] (transformations (map statement_tree statements.now))) }
 {
     let mut nodes = Vec::new(alloc);
     let mut before = 0;
     for i in 0..statements.len() {
-        match &statements[i] {
-            Statement::Assignment { name, value, .. } => {
-                match assigned(alloc, &scope, before, name, value) {
-                    Ok((node, all)) => {
-                        add_result(alloc, &mut scope, name, &node)?;
-                        nodes.push(Box::into_inner(node))?;
-                        before = all;
-                    }
-                    Err(error) => return Err(fault(i + 1, error)),
-                }
+        let Statement::Assignment { name, value, .. } = &statements[i] else {
+            continue;
+        };
+        match assigned(alloc, &scope, before, name, value) {
+            Ok((node, all)) => {
+                add_result(alloc, &mut scope, name, &node)?;
+                nodes.push(Box::into_inner(node))?;
+                before = all;
             }
-            _ => return Err(fault(i + 1, TypeErr::Broken(Rule::UnknownRuleset))),
+            Err(error) => return Err(fault(i + 1, error)),
         }
     }
     Ok(nodes)

@@ -4,7 +4,8 @@ ghost use Rattle.std.specs.Prelude.{◌≡◌, ◌<◌, ◌++◌, IfOk, OnOk, So
 ghost use Rattle.vtl_nodes.specs.View.{node_tree};
 ghost use Rattle.vtl_syntax.specs.View.{statement_tree};
 ghost use Rattle.vtl_tree.specs.Structure.{same_name};
-ghost use Rattle.vtl_check.specs.Uses.{output_in, outputs_in, read_behind, reads, results_behind, with_declared, with_new};
+ghost use Rattle.vtl_check.specs.Transformations.{transformations};
+ghost use Rattle.vtl_check.specs.Uses.{output_named, outputs_in, read_behind, reads, results_behind, with_declared, with_new};
 
 use crate::known::{is_known, put};
 use crate::names::read_names;
@@ -105,47 +106,46 @@ fn names_by_place(alloc: Global, known: &IndexMap<Txt, Structure>) -> Result<Vec
     Ok(names)
 }
 
-// Puts the results of statements after other data sets.
+// Puts the results of statements after other data sets. A definition has no node.
 fn put_results(
     alloc: Global,
     known: &mut IndexMap<Txt, Structure>,
     statements: &[Statement],
     nodes: &[Node],
 ) -> Result<(), AllocError>
-    requires { length nodes.now ≡ length statements.now }
-    ensures { OnOk result (known.new.entries ≡ results_behind known.old.entries (map statement_tree statements.now) (map node_tree nodes.now)) }
+    requires { length nodes.now ≡ length (transformations (map statement_tree statements.now)) }
+    ensures { OnOk result (known.new.entries ≡ results_behind known.old.entries (transformations (map statement_tree statements.now)) (map node_tree nodes.now)) }
 {
-    for i in 0..statements.len() {
-        match &statements[i] {
-            Statement::Assignment { name, .. } => {
-                put_new(alloc, known, name, &nodes[i].structure)?;
-            }
-            _ => return Ok(()),
-        }
+    let mut place = 0;
+    for statement in statements {
+        let Statement::Assignment { name, .. } = statement else {
+            continue;
+        };
+        put_new(alloc, known, name, &nodes[place].structure)?;
+        place += 1;
     }
     Ok(())
 }
 
-fn push_output(out: &mut Vec<Txt>, statement: &Statement) -> Result<(), AllocError>
-    ensures { OnOk result (out.new.items ≡ out.old.items ++ output_in (statement_tree statement.now)) }
+fn push_output(out: &mut Vec<Txt>, name: &Txt, kind: AssignKind) -> Result<(), AllocError>
+    ensures { OnOk result (out.new.items ≡ out.old.items ++ output_named name.now kind) }
 {
-    match statement {
-        Statement::Assignment {
-            name,
-            kind: AssignKind::Persistent,
-            ..
-        } => Ok(out.push(name.share()?)?),
-        _ => Ok(()),
+    match kind {
+        AssignKind::Persistent => Ok(out.push(name.share()?)?),
+        AssignKind::Temporary => Ok(()),
     }
 }
 
 // The names of the results that are written with `<-`.
 fn outputs(alloc: Global, statements: &[Statement]) -> Result<Vec<Txt>, AllocError>
-    ensures { IfOk result (λ v. v.items ≡ outputs_in (map statement_tree statements.now)) }
+    ensures { IfOk result (λ v. v.items ≡ outputs_in (transformations (map statement_tree statements.now))) }
 {
     let mut names = Vec::new(alloc);
     for statement in statements {
-        push_output(&mut names, statement)?;
+        let Statement::Assignment { name, kind, .. } = statement else {
+            continue;
+        };
+        push_output(&mut names, name, *kind)?;
     }
     Ok(names)
 }
@@ -157,10 +157,10 @@ pub fn uses_of(
     statements: &[Statement],
     nodes: &[Node],
 ) -> Result<Uses, AllocError>
-    requires { length nodes.now ≡ length statements.now }
-    ensures known { IfOk result (λ u. u.known.entries ≡ results_behind (reads declared.now.entries (map node_tree nodes.now)) (map statement_tree statements.now) (map node_tree nodes.now)) }
+    requires { length nodes.now ≡ length (transformations (map statement_tree statements.now)) }
+    ensures known { IfOk result (λ u. u.known.entries ≡ results_behind (reads declared.now.entries (map node_tree nodes.now)) (transformations (map statement_tree statements.now)) (map node_tree nodes.now)) }
     ensures inputs { IfOk result (λ u. u.inputs.items ≡ keys_of (reads declared.now.entries (map node_tree nodes.now))) }
-    ensures outputs { IfOk result (λ u. u.outputs.items ≡ outputs_in (map statement_tree statements.now)) }
+    ensures outputs { IfOk result (λ u. u.outputs.items ≡ outputs_in (transformations (map statement_tree statements.now))) }
 {
     let mut known = reads(alloc, declared, nodes)?;
     let inputs = names_by_place(alloc, &known)?;

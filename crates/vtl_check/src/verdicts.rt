@@ -1,6 +1,7 @@
 // Whether a script is typed.
 ghost use Rattle.std.specs.Prelude.{◌≡◌, false};
 ghost use Rattle.vtl_syntax.specs.View.{script_tree};
+ghost use Rattle.vtl_syntax.specs.Written.{AreWritten};
 ghost use Rattle.vtl_check.specs.Checked.{env_over};
 ghost use Rattle.vtl_check.specs.Script.{Checks, has_definitions, script_typed, verdict};
 
@@ -17,7 +18,8 @@ pub fn verdict(
     structures: &Structures,
     profile: &Profile,
 ) -> Result<(), CheckErr>
-    requires { has_definitions (script_tree script.now) ≡ false }
+    requires written { AreWritten (script_tree script.now) }
+    requires plain { has_definitions (script_tree script.now) ≡ false }
     ensures { Checks (λ u. u) result (verdict (script_typed (env_over profile.now structures.now) (script_tree script.now))) }
 {
     match check(alloc, script, structures, profile) {

@@ -9,7 +9,6 @@ use Rattle.vtl_cell.specs.declared.cell.Cell.TheVariants as c
 use Rattle.vtl_cell.specs.declared.kind.Kind.TheVariants as k
 use Rattle.vtl_cell.specs.declared.operator.ScalarOp.TheVariants as op
 use Rattle.vtl_cell.specs.Outcome.{DivZero, Range}
-use Rattle.vtl_cell.specs.Row.{Row}
 use Rattle.vtl_tree.specs.CompExp.{column, const}
 use Rattle.vtl_tree.specs.declared.structure.Component.{Component}
 use Rattle.vtl_tree.specs.declared.structure.Role.TheVariants as role
@@ -17,9 +16,10 @@ use Rattle.vtl_tree.specs.declared.structure.Structure.{Structure}
 use Rattle.vtl_nodes.specs.Trees as nodes
 use Rattle.vtl_nodes.specs.Trees.{ItemTree, MeasureTree}
 use Rattle.check_shapes.specs.Measures.{made}
-use Rattle.vtl_tree.specs.Environment.{Environment}
+use Rattle.vtl_tree.specs.Environment.{DataSet, Environment}
 use Rattle.vtl_meaning.specs.Meaning.{Statement, meaning}
 use Rattle.vtl_meaning.specs.Operators.{calculated_of, choice_of, left_of, measured_of, pair_of, sub_of}
+use Rattle.vtl_meaning.specs.Points.{with_points}
 
 abbrev scale_six : Settings
 scale_six = record { scale = 6; rounding = HalfUp }
@@ -57,44 +57,45 @@ both_measures = with_components (place ∷ year ∷ sold ∷ left ∷ [])
 abbrev by_year : Structure
 by_year = with_components (left ∷ year ∷ sold ∷ [])
 
-abbrev sales : List Row
+abbrev sales : DataSet
 sales =
-    (int 1 ∷ int 10 ∷ int 5 ∷ int 50 ∷ Text (codes "a") ∷ [])
+    with_points by_place_and_year
+    ((int 1 ∷ int 10 ∷ int 5 ∷ int 50 ∷ Text (codes "a") ∷ [])
     ∷ (int 1 ∷ int 20 ∷ int 7 ∷ Null ∷ Null ∷ [])
-    ∷ (int 2 ∷ int 10 ∷ int 0 ∷ int 9 ∷ Null ∷ []) ∷ []
+    ∷ (int 2 ∷ int 10 ∷ int 0 ∷ int 9 ∷ Null ∷ []) ∷ [])
 
 -- year, left, sold
-abbrev yearly : List Row
-yearly = (int 10 ∷ int 1 ∷ int 2 ∷ []) ∷ (int 30 ∷ int 3 ∷ int 4 ∷ []) ∷ []
+abbrev yearly : DataSet
+yearly = with_points by_year ((int 10 ∷ int 1 ∷ int 2 ∷ []) ∷ (int 30 ∷ int 3 ∷ int 4 ∷ []) ∷ [])
 
 -- ---- `sales - yearly` and `yearly - sales`: pairs by the year, namesakes among the measures, no attribute, no year 20 or 30
-difference : pair_of scale_six op.Subtract by_place_and_year by_year both_measures sales yearly ≡ Ok ((int 1 ∷ int 10 ∷ int 3 ∷ int 49 ∷ []) ∷ (int 2 ∷ int 10 ∷ Int (negsuc 1) ∷ int 8 ∷ []) ∷ [])
+difference : pair_of scale_six op.Subtract sales yearly both_measures ≡ Ok ((int 1 ∷ int 10 ∷ int 3 ∷ int 49 ∷ []) ∷ (int 2 ∷ int 10 ∷ Int (negsuc 1) ∷ int 8 ∷ []) ∷ [])
 difference = refl
 
 abbrev turned_measures : Structure
 turned_measures = with_components (place ∷ year ∷ left ∷ sold ∷ [])
 
-turned : pair_of scale_six op.Subtract by_year by_place_and_year turned_measures yearly sales ≡ Ok ((int 1 ∷ int 10 ∷ Int (negsuc 48) ∷ Int (negsuc 2) ∷ []) ∷ (int 2 ∷ int 10 ∷ Int (negsuc 7) ∷ int 2 ∷ []) ∷ [])
+turned : pair_of scale_six op.Subtract yearly sales turned_measures ≡ Ok ((int 1 ∷ int 10 ∷ Int (negsuc 48) ∷ Int (negsuc 2) ∷ []) ∷ (int 2 ∷ int 10 ∷ Int (negsuc 7) ∷ int 2 ∷ []) ∷ [])
 turned = refl
 
 -- ---- `nvl(sales, 3)`: the measure stands before the value
-filled : measured_of scale_six (record { op = op.ValueOr; before = []; after = const (int 3) ∷ [] }) by_place_and_year both_measures sales ≡ Ok ((int 1 ∷ int 10 ∷ int 5 ∷ int 50 ∷ []) ∷ (int 1 ∷ int 20 ∷ int 7 ∷ int 3 ∷ []) ∷ (int 2 ∷ int 10 ∷ int 0 ∷ int 9 ∷ []) ∷ [])
+filled : measured_of scale_six (record { op = op.ValueOr; before = []; after = const (int 3) ∷ [] }) sales both_measures ≡ Ok ((int 1 ∷ int 10 ∷ int 5 ∷ int 50 ∷ []) ∷ (int 1 ∷ int 20 ∷ int 7 ∷ int 3 ∷ []) ∷ (int 2 ∷ int 10 ∷ int 0 ∷ int 9 ∷ []) ∷ [])
 filled = refl
 
 -- `999999999999 / shares` at 0.5 and 0: out of range at the first point, division by zero at the second one
 abbrev by_place : Structure
 by_place = with_components (place ∷ made (codes "share") role.Measure k.Num ∷ [])
 
-abbrev shares : List Row
-shares = (int 1 ∷ c.Num (pos 500000) ∷ []) ∷ (int 2 ∷ c.Num (pos 0) ∷ []) ∷ []
+abbrev shares : DataSet
+shares = with_points by_place ((int 1 ∷ c.Num (pos 500000) ∷ []) ∷ (int 2 ∷ c.Num (pos 0) ∷ []) ∷ [])
 
 abbrev divided : MeasureTree
 divided = record { op = op.Divide; before = const (int 999999999999) ∷ []; after = [] }
 
-first_fault : measured_of scale_six divided by_place by_place ((int 1 ∷ c.Num (pos 500000) ∷ []) ∷ []) ≡ Err Range
+first_fault : measured_of scale_six divided (with_points by_place ((int 1 ∷ c.Num (pos 500000) ∷ []) ∷ [])) by_place ≡ Err Range
 first_fault = refl
 
-worst_fault : measured_of scale_six divided by_place by_place shares ≡ Err DivZero
+worst_fault : measured_of scale_six divided shares by_place ≡ Err DivZero
 worst_fault = refl
 
 -- ---- `sales[calc sold := left, left := sold]`: both see the operand
@@ -103,15 +104,15 @@ swapped =
     record { role = None; target = codes "sold"; value = nodes.scalar (column 3 (codes "left") k.Int) }
     ∷ record { role = None; target = codes "left"; value = nodes.scalar (column 2 (codes "sold") k.Int) } ∷ []
 
-calculated : calculated_of scale_six swapped by_place_and_year by_place_and_year sales ≡ Ok ((int 1 ∷ int 10 ∷ int 50 ∷ int 5 ∷ Text (codes "a") ∷ []) ∷ (int 1 ∷ int 20 ∷ Null ∷ int 7 ∷ Null ∷ []) ∷ (int 2 ∷ int 10 ∷ int 9 ∷ int 0 ∷ Null ∷ []) ∷ [])
+calculated : calculated_of scale_six swapped sales by_place_and_year ≡ Ok ((int 1 ∷ int 10 ∷ int 50 ∷ int 5 ∷ Text (codes "a") ∷ []) ∷ (int 1 ∷ int 20 ∷ Null ∷ int 7 ∷ Null ∷ []) ∷ (int 2 ∷ int 10 ∷ int 9 ∷ int 0 ∷ Null ∷ []) ∷ [])
 calculated = refl
 
 -- ---- `sales[keep left, note]`
-shown_columns : left_of by_place_and_year (with_components (note ∷ place ∷ year ∷ left ∷ [])) sales ≡ ((int 1 ∷ int 10 ∷ int 50 ∷ Text (codes "a") ∷ []) ∷ (int 1 ∷ int 20 ∷ Null ∷ Null ∷ []) ∷ (int 2 ∷ int 10 ∷ int 9 ∷ Null ∷ []) ∷ [])
+shown_columns : left_of sales (with_components (note ∷ place ∷ year ∷ left ∷ [])) ≡ ((int 1 ∷ int 10 ∷ int 50 ∷ Text (codes "a") ∷ []) ∷ (int 1 ∷ int 20 ∷ Null ∷ Null ∷ []) ∷ (int 2 ∷ int 10 ∷ int 9 ∷ Null ∷ []) ∷ [])
 shown_columns = refl
 
 -- ---- `sales[sub year = 10]`
-taken : sub_of (record { id = codes "year"; value = int 10 } ∷ []) by_place_and_year (with_components (note ∷ place ∷ sold ∷ left ∷ [])) sales ≡ ((int 1 ∷ int 5 ∷ int 50 ∷ Text (codes "a") ∷ []) ∷ (int 2 ∷ int 0 ∷ int 9 ∷ Null ∷ []) ∷ [])
+taken : sub_of (record { id = codes "year"; value = int 10 } ∷ []) sales (with_components (note ∷ place ∷ sold ∷ left ∷ [])) ≡ ((int 1 ∷ int 5 ∷ int 50 ∷ Text (codes "a") ∷ []) ∷ (int 2 ∷ int 0 ∷ int 9 ∷ Null ∷ []) ∷ [])
 taken = refl
 
 -- ---- `if tests then sales#sold else others`: null and false choose the second operand, whose identifiers stand the other way
@@ -124,10 +125,11 @@ one_measure = with_components (place ∷ year ∷ sold ∷ [])
 abbrev turned_identifiers : Structure
 turned_identifiers = with_components (year ∷ place ∷ sold ∷ [])
 
-chosen : choice_of tested one_measure turned_identifiers one_measure
-    ((int 1 ∷ int 10 ∷ c.Bool true ∷ []) ∷ (int 1 ∷ int 20 ∷ Null ∷ []) ∷ (int 2 ∷ int 10 ∷ c.Bool false ∷ []) ∷ (int 3 ∷ int 10 ∷ c.Bool true ∷ []) ∷ [])
-    ((int 1 ∷ int 10 ∷ int 5 ∷ []) ∷ (int 1 ∷ int 20 ∷ int 7 ∷ []) ∷ [])
-    ((int 20 ∷ int 1 ∷ int 70 ∷ []) ∷ (int 10 ∷ int 2 ∷ int 90 ∷ []) ∷ (int 10 ∷ int 3 ∷ int 80 ∷ []) ∷ [])
+chosen : choice_of
+    (with_points tested ((int 1 ∷ int 10 ∷ c.Bool true ∷ []) ∷ (int 1 ∷ int 20 ∷ Null ∷ []) ∷ (int 2 ∷ int 10 ∷ c.Bool false ∷ []) ∷ (int 3 ∷ int 10 ∷ c.Bool true ∷ []) ∷ []))
+    (with_points one_measure ((int 1 ∷ int 10 ∷ int 5 ∷ []) ∷ (int 1 ∷ int 20 ∷ int 7 ∷ []) ∷ []))
+    (with_points turned_identifiers ((int 20 ∷ int 1 ∷ int 70 ∷ []) ∷ (int 10 ∷ int 2 ∷ int 90 ∷ []) ∷ (int 10 ∷ int 3 ∷ int 80 ∷ []) ∷ []))
+    one_measure
     ≡ ((int 1 ∷ int 10 ∷ int 5 ∷ []) ∷ (int 1 ∷ int 20 ∷ int 70 ∷ []) ∷ (int 2 ∷ int 10 ∷ int 90 ∷ []) ∷ [])
 chosen = refl
 
@@ -145,10 +147,10 @@ abbrev name_result : Statement
 name_result = record { result = codes "result"; persistent = true; node = nodes.node left_alone (nodes.named (codes "kept")) }
 
 abbrev held : Environment
-held = (codes "sales", record { structure = by_place_and_year; points = sales }) ∷ (codes "shares", record { structure = by_place; points = shares }) ∷ []
+held = (codes "sales", sales) ∷ (codes "shares", shares) ∷ []
 
 -- a `:=` is evaluated and not written
-written : meaning scale_six (keep_left ∷ name_result ∷ []) held ≡ Ok ((codes "result", record { structure = left_alone; points = (int 1 ∷ int 10 ∷ int 50 ∷ []) ∷ (int 1 ∷ int 20 ∷ Null ∷ []) ∷ (int 2 ∷ int 10 ∷ int 9 ∷ []) ∷ [] }) ∷ [])
+written : meaning scale_six (keep_left ∷ name_result ∷ []) held ≡ Ok ((codes "result", with_points left_alone ((int 1 ∷ int 10 ∷ int 50 ∷ []) ∷ (int 1 ∷ int 20 ∷ Null ∷ []) ∷ (int 2 ∷ int 10 ∷ int 9 ∷ []) ∷ [])) ∷ [])
 written = refl
 
 -- the first fault, with the name of its statement's result

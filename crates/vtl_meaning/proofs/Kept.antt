@@ -21,7 +21,7 @@ use Rattle.vtl_rows.specs.Tables.{cells_at, fits_kinds}
 use Rattle.vtl_tree.specs.Clauses.{filter_of, is_true, kept}
 use Rattle.vtl_tree.specs.CompExp.{CompExp}
 use Rattle.vtl_tree.specs.DataSet.{Distinct, IsDataSet, is_point, look}
-use Rattle.vtl_tree.specs.Environment.{Environment, data_of}
+use Rattle.vtl_tree.specs.Environment.{DataSet, Environment, data_of}
 use Rattle.vtl_tree.specs.Structure.{IsStructure, columns_of, key_width, names_of, same_name, same_role}
 use Rattle.vtl_tree.specs.Value.{value}
 use Rattle.vtl_tree.specs.declared.structure.Component.{Component}
@@ -35,9 +35,9 @@ use Rattle.check_shapes.specs.Pairs.{contains}
 use Rattle.check_values.specs.Kinds.{exp_kind}
 use Rattle.vtl_meaning.specs.Columns.{column_behind, column_named, columns_named, identifiers_of, measures_of, others_of, place_of, places_in}
 use Rattle.vtl_meaning.specs.Made.{AreAmong, AreFor, HasIdentifiers, IsAlternative, IsCalculated, IsChoice, IsColumnAt, IsFiltered, IsLeft, IsMade, IsMadeForm, IsMeasured, IsPaired, IsRenamed, IsSub}
-use Rattle.vtl_meaning.specs.Meaning.{AreDataSets, form_value, is_built, is_built_form, known_in, node_value, points_named}
+use Rattle.vtl_meaning.specs.Meaning.{AreDataSets, form_value, is_built, is_built_form, known_in, node_value, points_named, with_operand}
 use Rattle.vtl_meaning.specs.Operators.{calculated_exp, calculated_exps, calculated_of, choice_of, for_measures, has_values, is_first_chosen, joined_point, left_of, measured_of, pair_of, sub_of, taken_at, taken_from, target_named, value_exp, with_measure, with_namesake}
-use Rattle.vtl_meaning.specs.Points.{beside, cell_or_null, each_point, paired, partner, point_fault, point_of}
+use Rattle.vtl_meaning.specs.Points.{beside, cell_or_null, each_point, paired, partner, point_fault, point_of, with_points}
 use Rattle.vtl_meaning.proofs.Drawn.{AreDrawn, AtMostOne, Keeps, drawn_all, drawn_apart, drawn_kept, map_drawn, mapped_kept, one_of_option, same_keys_back}
 use Rattle.vtl_meaning.proofs.Places.{IsIdentifier, IsOther, all_back, all_filtered, all_map, all_more, are_identifiers, are_measures, are_others, cells_fit, columns_split, joined_point_is, key_cells, key_for, key_of_joined, key_of_point, key_within, place_here, place_later, point_append, point_of_same, same_name-is, same_name-sym}
 use Rattle.vtl_meaning.proofs.ValueKinds.{GivesOf, IsOf, cell_is_of, null_is_of, point_from, point_parts, value_is_of}
@@ -50,6 +50,10 @@ unless_ok (Some f) x out e = cc
 pub after_ok : {A B : Type 0} (m : Outcome A) (f : A → Outcome B) (out : B) → after m f ≡ Ok out → (x : A) × (m ≡ Ok x) × (f x ≡ Ok out)
 after_ok (Ok x) f out e = (x, refl, e)
 after_ok (Err g) f out e = cc
+
+-- what a node's data set gives, where it has one
+pub operand_ok : (a : NodeTree) (m : Outcome (List Row)) (f : DataSet → Outcome (List Row)) (out : List Row) → with_operand a m f ≡ Ok out → (points : List Row) × (m ≡ Ok points) × (f (with_points (structure_of a) points) ≡ Ok out)
+operand_ok a m f out e = after_ok m (λ points. f (with_points (structure_of a) points)) out e
 
 pub ok_is : {A : Type 0} (x y : A) → unless None x ≡ Ok y → x ≡ y
 ok_is x y e = (unless_ok None x y e).1
@@ -100,8 +104,8 @@ each_kept p a s rest d out w i j h e =
     (all_more (λ r. is_point (columns_of a) r ≡ true) (λ r. Keeps s (key_width a) r (point_of p es r)) (λ r k. exps_keep p (columns_of a) a s rest r h.well_formed i j k (key_within a r k) (key_of_point a r k)) d h.typed)
     h.distinct)
 
-pub measured_kept : (p : Settings) (m : MeasureTree) (a s : Structure) (d out : List Row) → IsMeasured p m a s → IsDataSet a d → measured_of p m a s d ≡ Ok out → IsDataSet s out
-measured_kept p m a s d out i h e = each_kept p a s (for_measures (with_measure m (columns_of a)) (measures_of a) (measures_of s)) d out i.well_formed i.identifiers i.columns h e
+pub measured_kept : (p : Settings) (m : MeasureTree) (a : DataSet) (s : Structure) (out : List Row) → IsMeasured p m a.structure s → IsDataSet a.structure a.points → measured_of p m a s ≡ Ok out → IsDataSet s out
+measured_kept p m a s out i h e = each_kept p a.structure s (for_measures (with_measure m (columns_of a.structure)) (measures_of a.structure) (measures_of s)) a.points out i.well_formed i.identifiers i.columns h e
 
 -- ---- `calc`
 calc_front : (items : List ItemTree) (xs ys : List Component) → AllByRecursion (λ n. target_named items n ≡ None) (names_of ys) → map (calculated_exp items xs) ys ≡ columns_named xs ys
@@ -116,11 +120,11 @@ calculated_split p items a s i =
     ∙ map-append (calculated_exp items (columns_of a)) (identifiers_of s) (others_of s)
     ∙ ap (λ l. l ++ map (calculated_exp items (columns_of a)) (others_of s)) (calc_front items (columns_of a) (identifiers_of s) free)
 
-pub calculated_kept : (p : Settings) (items : List ItemTree) (a s : Structure) (d out : List Row) → IsCalculated p items a s → IsDataSet a d → calculated_of p items a s d ≡ Ok out → IsDataSet s out
-calculated_kept p items a s d out i h e =
-    let same = calculated_split p items a s i in
-    each_kept p a s (map (calculated_exp items (columns_of a)) (others_of s)) d out i.well_formed i.identifiers
-    (subst (λ es. AreFor p (columns_of a) es (columns_of s)) same i.columns) h (ap (λ es. each_point p es d) (sym same) ∙ e)
+pub calculated_kept : (p : Settings) (items : List ItemTree) (a : DataSet) (s : Structure) (out : List Row) → IsCalculated p items a.structure s → IsDataSet a.structure a.points → calculated_of p items a s ≡ Ok out → IsDataSet s out
+calculated_kept p items a s out i h e =
+    let same = calculated_split p items a.structure s i in
+    each_kept p a.structure s (map (calculated_exp items (columns_of a.structure)) (others_of s)) a.points out i.well_formed i.identifiers
+    (subst (λ es. AreFor p (columns_of a.structure) es (columns_of s)) same i.columns) h (ap (λ es. each_point p es a.points) (sym same) ∙ e)
 
 -- ---- two operands
 -- what a look-up gives is one of the points
@@ -143,39 +147,51 @@ pairs_with a b r q h i =
     let front : take (key_width a) (r ++ q) ≡ take (key_width a) r = take-append-le (key_width a) r q l in
     (point_append (columns_of a) (columns_of b) r q h i, longer, subst (λ k. is_point (identifiers_of a) k ≡ true) (sym front) (key_of_point a r h), front)
 
-pub all_paired : (a b : Structure) (d e : List Row) → AllByRecursion (λ r. is_point (columns_of a) r ≡ true) d → AllByRecursion (λ q. is_point (columns_of b) q ≡ true) e → AreDrawn (Pairs a b) (beside a b e) d
-all_paired a b d e h i =
-    all_more (λ r. is_point (columns_of a) r ≡ true) (λ r. AtMostOne (Pairs a b r) (beside a b e r))
-    (λ r j. one_of_option (Pairs a b r) (λ q. r ++ q) (partner a b e r)
-    (λ q f. pairs_with a b r q j (look_is (λ t. is_point (columns_of b) t ≡ true) (key_width b) e (cells_at (places_in (columns_of a) (identifiers_of b)) r) q i f))) d h
+pub all_paired : (a b : DataSet) → AllByRecursion (λ r. is_point (columns_of a.structure) r ≡ true) a.points → AllByRecursion (λ q. is_point (columns_of b.structure) q ≡ true) b.points → AreDrawn (Pairs a.structure b.structure) (beside a.structure b) a.points
+all_paired a b h i =
+    let ours = a.structure in
+    let theirs = b.structure in
+    all_more (λ r. is_point (columns_of ours) r ≡ true) (λ r. AtMostOne (Pairs ours theirs r) (beside ours b r))
+    (λ r j. one_of_option (Pairs ours theirs r) (λ q. r ++ q) (partner ours b r)
+    (λ q f. pairs_with ours theirs r q j (look_is (λ t. is_point (columns_of theirs) t ≡ true) (key_width theirs) b.points (cells_at (places_in (columns_of ours) (identifiers_of theirs)) r) q i f))) a.points h
 
-pair_side : (p : Settings) (a b s : Structure) (rest : List CompExp) (d e out : List Row) → IsStructure s → IsDataSet a d → IsDataSet b e → HasIdentifiers s (identifiers_of a) → AreFor p (columns_of a ++ columns_of b) (columns_named (columns_of a) (identifiers_of s) ++ rest) (columns_of s) → each_point p (columns_named (columns_of a) (identifiers_of s) ++ rest) (paired a b d e) ≡ Ok out → IsDataSet s out
-pair_side p a b s rest d e out w h k i j q =
-    let es = columns_named (columns_of a) (identifiers_of s) ++ rest in
-    let all = all_paired a b d e h.typed k.typed in
-    let P : Row → Type 0 = λ x. (is_point (columns_of a ++ columns_of b) x ≡ true) × (key_width a ≤ length x) × (is_point (identifiers_of a) (take (key_width a) x) ≡ true) in
-    let points : AllByRecursion P (paired a b d e) = drawn_all (Pairs a b) P (λ r x t. (t.0, t.1, t.2)) (beside a b e) d all in
-    let apart : Distinct (key_width a) (paired a b d e) = drawn_apart (Pairs a b) (same_key (key_width a)) (same_key (key_width a)) (λ r t x z f g. same_keys_back (key_width a) (key_width a) r t x z f.3 g.3) (beside a b e) d all h.distinct in
-    subst (λ l. IsDataSet s l) (unless_ok (faults_by (point_fault p es) (paired a b d e)) (map (point_of p es) (paired a b d e)) out q).1
-    (mapped_kept s (key_width a) (point_of p es) (paired a b d e) w
-    (all_more P (λ r. Keeps s (key_width a) r (point_of p es r)) (λ r t. exps_keep p (columns_of a ++ columns_of b) a s rest r h.well_formed i j t.0 t.1 t.2) (paired a b d e) points)
+pair_side : (p : Settings) (a b : DataSet) (s : Structure) (rest : List CompExp) (out : List Row) → IsStructure s → IsDataSet a.structure a.points → IsDataSet b.structure b.points → HasIdentifiers s (identifiers_of a.structure)
+    → AreFor p (columns_of a.structure ++ columns_of b.structure) (columns_named (columns_of a.structure) (identifiers_of s) ++ rest) (columns_of s) → each_point p (columns_named (columns_of a.structure) (identifiers_of s) ++ rest) (paired a b) ≡ Ok out → IsDataSet s out
+pair_side p a b s rest out w h k i j q =
+    let ours = a.structure in
+    let theirs = b.structure in
+    let n = key_width ours in
+    let es = columns_named (columns_of ours) (identifiers_of s) ++ rest in
+    let all = all_paired a b h.typed k.typed in
+    let P : Row → Type 0 = λ x. (is_point (columns_of ours ++ columns_of theirs) x ≡ true) × (n ≤ length x) × (is_point (identifiers_of ours) (take n x) ≡ true) in
+    let points : AllByRecursion P (paired a b) = drawn_all (Pairs ours theirs) P (λ r x t. (t.0, t.1, t.2)) (beside ours b) a.points all in
+    let apart : Distinct n (paired a b) = drawn_apart (Pairs ours theirs) (same_key n) (same_key n) (λ r t x z f g. same_keys_back n n r t x z f.3 g.3) (beside ours b) a.points all h.distinct in
+    subst (λ l. IsDataSet s l) (unless_ok (faults_by (point_fault p es) (paired a b)) (map (point_of p es) (paired a b)) out q).1
+    (mapped_kept s n (point_of p es) (paired a b) w
+    (all_more P (λ r. Keeps s n r (point_of p es r)) (λ r t. exps_keep p (columns_of ours ++ columns_of theirs) ours s rest r h.well_formed i j t.0 t.1 t.2) (paired a b) points)
     apart)
 
-pub pair_kept : (p : Settings) (o : ScalarOp) (a b s : Structure) (d e out : List Row) → IsPaired p o a b s → IsDataSet a d → IsDataSet b e → pair_of p o a b s d e ≡ Ok out → IsDataSet s out
-pair_kept p o a b s d e out i h k q = go (contains a b) i.identifiers i.columns q
+pub pair_kept : (p : Settings) (o : ScalarOp) (a b : DataSet) (s : Structure) (out : List Row) → IsPaired p o a.structure b.structure s → IsDataSet a.structure a.points → IsDataSet b.structure b.points → pair_of p o a b s ≡ Ok out → IsDataSet s out
+pair_kept p o a b s out i h k q = go (contains ours theirs) i.identifiers i.columns q
   where
+    ours : Structure
+    ours = a.structure
+
+    theirs : Structure
+    theirs = b.structure
+
     left : List CompExp
-    left = for_measures (with_namesake o (column_named (columns_of a)) (column_behind (length (columns_of a)) (columns_of b))) (measures_of a) (measures_of s)
+    left = for_measures (with_namesake o (column_named (columns_of ours)) (column_behind (length (columns_of ours)) (columns_of theirs))) (measures_of ours) (measures_of s)
 
     right : List CompExp
-    right = for_measures (with_namesake o (column_behind (length (columns_of b)) (columns_of a)) (column_named (columns_of b))) (measures_of a) (measures_of s)
+    right = for_measures (with_namesake o (column_behind (length (columns_of theirs)) (columns_of ours)) (column_named (columns_of theirs))) (measures_of ours) (measures_of s)
 
     exps : Bool → List CompExp
-    exps t = cond t (columns_named (columns_of a) (identifiers_of s) ++ left) (columns_named (columns_of b) (identifiers_of s) ++ right)
+    exps t = cond t (columns_named (columns_of ours) (identifiers_of s) ++ left) (columns_named (columns_of theirs) (identifiers_of s) ++ right)
 
-    go : (t : Bool) → HasIdentifiers s (identifiers_of (cond t a b)) → AreFor p (cond t (columns_of a ++ columns_of b) (columns_of b ++ columns_of a)) (exps t) (columns_of s) → each_point p (exps t) (cond t (paired a b d e) (paired b a e d)) ≡ Ok out → IsDataSet s out
-    go true f g u = pair_side p a b s left d e out i.well_formed h k f g u
-    go false f g u = pair_side p b a s right e d out i.well_formed k h f g u
+    go : (t : Bool) → HasIdentifiers s (identifiers_of (cond t ours theirs)) → AreFor p (cond t (columns_of ours ++ columns_of theirs) (columns_of theirs ++ columns_of ours)) (exps t) (columns_of s) → each_point p (exps t) (cond t (paired a b) (paired b a)) ≡ Ok out → IsDataSet s out
+    go true f g u = pair_side p a b s left out i.well_formed h k f g u
+    go false f g u = pair_side p b a s right out i.well_formed k h f g u
 
 -- ---- `if`
 pub joined_keeps : (t other s : Structure) (r q : Row) → IsStructure t → HasIdentifiers s (identifiers_of t) → columns_of s ≡ identifiers_of s ++ measures_of s → AreAmong (measures_of s) (columns_of other) → is_point (columns_of t) r ≡ true → is_point (columns_of other) q ≡ true → Keeps s (key_width t) r (joined_point t other s r q)
@@ -186,21 +202,27 @@ joined_keeps t other s r q w h n m i j =
     let both : Keeps s (key_width t) r (k ++ vs) = (joined_point_is s (measures_of s) k vs n (are_measures s) own (cells_fit (measures_of s) (columns_of other) q m j), key_of_joined s k vs own) in
     subst (λ l. Keeps s (key_width t) r (l ++ vs)) (sym (key_cells t s r w h (key_within t r i))) both
 
-pub choice_kept : (t a b s : Structure) (tests d e : List Row) → IsChoice t a b s → IsDataSet t tests → IsDataSet a d → IsDataSet b e → IsDataSet s (choice_of t a b s tests d e)
-choice_kept t a b s tests d e i g h k = drawn_kept s (key_width t) (taken_at t a b s d e) tests i.well_formed (all_more (λ r. is_point (columns_of t) r ≡ true) (λ r. AtMostOne (Keeps s (key_width t) r) (taken_at t a b s d e r)) each_taken tests g.typed) g.distinct
+pub choice_kept : (t a b : DataSet) (s : Structure) → IsChoice t.structure a.structure b.structure s → IsDataSet t.structure t.points → IsDataSet a.structure a.points → IsDataSet b.structure b.points → IsDataSet s (choice_of t a b s)
+choice_kept t a b s i g h k = drawn_kept s n (taken_at tested a b s) t.points i.well_formed (all_more (λ r. is_point (columns_of tested) r ≡ true) (λ r. AtMostOne (Keeps s n r) (taken_at tested a b s r)) each_taken t.points g.typed) g.distinct
   where
-    taken : (other : Structure) (points : List Row) (r : Row) → IsAlternative t other s → IsDataSet other points → is_point (columns_of t) r ≡ true → AtMostOne (Keeps s (key_width t) r) (taken_from t other s points r)
-    taken other points r f l j =
-        one_of_option (Keeps s (key_width t) r) (joined_point t other s r) (partner t other points r)
-        (λ q found. joined_keeps t other s r q g.well_formed i.identifiers i.no_attributes f.measures j
-        (look_is (λ z. is_point (columns_of other) z ≡ true) (key_width other) points (cells_at (places_in (columns_of t) (identifiers_of other)) r) q l.typed found))
+    tested : Structure
+    tested = t.structure
 
-    at : (r : Row) → is_point (columns_of t) r ≡ true → (first : Bool) → AtMostOne (Keeps s (key_width t) r) (cond first (taken_from t a s d r) (taken_from t b s e r))
-    at r j true = taken a d r i.first h j
-    at r j false = taken b e r i.second k j
+    n : ℕ
+    n = key_width tested
 
-    each_taken : (r : Row) → is_point (columns_of t) r ≡ true → AtMostOne (Keeps s (key_width t) r) (taken_at t a b s d e r)
-    each_taken r j = at r j (is_first_chosen t r)
+    taken : (other : DataSet) (r : Row) → IsAlternative tested other.structure s → IsDataSet other.structure other.points → is_point (columns_of tested) r ≡ true → AtMostOne (Keeps s n r) (taken_from tested other s r)
+    taken other r f l j =
+        one_of_option (Keeps s n r) (joined_point tested other.structure s r) (partner tested other r)
+        (λ q found. joined_keeps tested other.structure s r q g.well_formed i.identifiers i.no_attributes f.measures j
+        (look_is (λ z. is_point (columns_of other.structure) z ≡ true) (key_width other.structure) other.points (cells_at (places_in (columns_of tested) (identifiers_of other.structure)) r) q l.typed found))
+
+    at : (r : Row) → is_point (columns_of tested) r ≡ true → (first : Bool) → AtMostOne (Keeps s n r) (cond first (taken_from tested a s r) (taken_from tested b s r))
+    at r j true = taken a r i.first h j
+    at r j false = taken b r i.second k j
+
+    each_taken : (r : Row) → is_point (columns_of tested) r ≡ true → AtMostOne (Keeps s n r) (taken_at tested a b s r)
+    each_taken r j = at r j (is_first_chosen tested r)
 
 -- ---- `filter`
 pub filtered_kept : (p : Settings) (e : CompExp) (a s : Structure) (d out : List Row) → IsFiltered p e a s → IsDataSet a d → filter_of p e d ≡ Ok out → IsDataSet s out
@@ -234,10 +256,11 @@ shown_keeps a s r w i h =
     let both : Keeps s (key_width a) r (k ++ vs) = (joined_point_is s (others_of s) k vs (columns_split s) (are_others s) own (others_fit s (columns_of a) r i.columns h), key_of_joined s k vs own) in
     subst (λ l. Keeps s (key_width a) r l) (sym (shown_split (columns_of a) s r ∙ ap (λ l. l ++ vs) (key_cells a s r w i.identifiers (key_within a r h)))) both
 
-pub left_kept : (a s : Structure) (d : List Row) → IsLeft a s → IsDataSet a d → IsDataSet s (left_of a s d)
-left_kept a s d i h =
-    mapped_kept s (key_width a) (cells_at (places_in (columns_of a) (columns_of s))) d i.well_formed
-    (all_more (λ r. is_point (columns_of a) r ≡ true) (λ r. Keeps s (key_width a) r (cells_at (places_in (columns_of a) (columns_of s)) r)) (λ r k. shown_keeps a s r h.well_formed i k) d h.typed)
+pub left_kept : (a : DataSet) (s : Structure) → IsLeft a.structure s → IsDataSet a.structure a.points → IsDataSet s (left_of a s)
+left_kept a s i h =
+    let ours = a.structure in
+    mapped_kept s (key_width ours) (cells_at (places_in (columns_of ours) (columns_of s))) a.points i.well_formed
+    (all_more (λ r. is_point (columns_of ours) r ≡ true) (λ r. Keeps s (key_width ours) r (cells_at (places_in (columns_of ours) (columns_of s)) r)) (λ r k. shown_keeps ours s r h.well_formed i k) a.points h.typed)
     h.distinct
 
 -- ---- `rename`
@@ -387,18 +410,19 @@ pub both_all : {X : Type 0} (P Q R : X → Type 0) → ((x : X) → P x → Q x 
 both_all P Q R f [] p q = tt
 both_all P Q R f (x ∷ xs) p q = (f x p.0 q.0, both_all P Q R f xs p.1 q.1)
 
-pub sub_kept : (items : List SubItem) (a s : Structure) (d : List Row) → IsSub items a s → IsDataSet a d → IsDataSet s (sub_of items a s d)
-sub_kept items a s d i h =
+pub sub_kept : (items : List SubItem) (a : DataSet) (s : Structure) → IsSub items a.structure s → IsDataSet a.structure a.points → IsDataSet s (sub_of items a s)
+sub_kept items a s i h =
+    let ours = a.structure in
     let w = h.well_formed in
-    let f : Row → Row = cells_at (places_in (columns_of a) (columns_of s)) in
-    let rows = filter (has_values a items) d in
-    let typed = AllByRecursion-filter (λ r. is_point (columns_of a) r ≡ true) (has_values a items) d h.typed in
-    let all : AreDrawn (Taken items a s w i) (λ r. f r ∷ []) rows =
-    both_all (λ r. is_point (columns_of a) r ≡ true) (λ r. has_values a items r ≡ true) (λ r. Taken items a s w i r (f r)) (λ r k l. (k, l, refl)) rows typed (all_filtered (has_values a items) d) in
+    let f : Row → Row = cells_at (places_in (columns_of ours) (columns_of s)) in
+    let rows = filter (has_values ours items) a.points in
+    let typed = AllByRecursion-filter (λ r. is_point (columns_of ours) r ≡ true) (has_values ours items) a.points h.typed in
+    let all : AreDrawn (Taken items ours s w i) (λ r. f r ∷ []) rows =
+    both_all (λ r. is_point (columns_of ours) r ≡ true) (λ r. has_values ours items r ≡ true) (λ r. Taken items ours s w i r (f r)) (λ r k l. (k, l, refl)) rows typed (all_filtered (has_values ours items) a.points) in
     subst (λ l. IsDataSet s l) (sym (map_drawn f rows)) (record {
       well_formed = i.well_formed;
-      typed = drawn_all (Taken items a s w i) (λ q. is_point (columns_of s) q ≡ true) (taken_is items a s w i) (λ r. f r ∷ []) rows all;
-      distinct = drawn_apart (Taken items a s w i) (same_key (key_width a)) (same_key (key_width s)) (taken_back items a s w i) (λ r. f r ∷ []) rows all (all_apart-filter (same_key (key_width a)) (has_values a items) d h.distinct);
+      typed = drawn_all (Taken items ours s w i) (λ q. is_point (columns_of s) q ≡ true) (taken_is items ours s w i) (λ r. f r ∷ []) rows all;
+      distinct = drawn_apart (Taken items ours s w i) (same_key (key_width ours)) (same_key (key_width s)) (taken_back items ours s w i) (λ r. f r ∷ []) rows all (all_apart-filter (same_key (key_width ours)) (has_values ours items) a.points h.distinct);
     })
 
 -- ---- expressions
@@ -417,6 +441,12 @@ named_kept name s (d ∷ env) e h = go (same_name name d.0) (same_name d.0 name)
 both_built : (x y : Bool) → (x && y) ≡ true → (x ≡ true) × (y ≡ true)
 both_built x y e = and_parts x y e
 
+left_given : (a : NodeTree) (s : Structure) (m : Outcome (List Row)) (out : List Row) → IsLeft (structure_of a) s → ((points : List Row) → m ≡ Ok points → IsDataSet (structure_of a) points) → with_operand a m (λ d. Ok (left_of d s)) ≡ Ok out → IsDataSet s out
+left_given a s m out i h e =
+    let x = operand_ok a m (λ d. Ok (left_of d s)) out e in
+    let d = with_points (structure_of a) x.0 in
+    subst (λ l. IsDataSet s l) (ok_is (left_of d s) out x.2) (left_kept d s i (h x.0 x.1))
+
 mutual
   -- of an expression over an environment of data sets
   pub node_kept : (p : Settings) (env : Environment) (n : NodeTree) (out : List Row) → is_built n ≡ true → IsMade p (known_in env) n → AreDataSets env → node_value p env n ≡ Ok out → IsDataSet (structure_of n) out
@@ -425,38 +455,37 @@ mutual
   form_kept : (p : Settings) (env : Environment) (s : Structure) (form : FormTree) (out : List Row) → is_built_form form ≡ true → IsMadeForm p (known_in env) s form → AreDataSets env → form_value p env s form ≡ Ok out → IsDataSet s out
   form_kept p env s (nodes.named name) out b i h e = subst (λ l. IsDataSet s l) (ok_is (points_named name env) out e) (named_kept name s env i h)
   form_kept p env s (nodes.measures m a) out b i h e =
-      let x = after_ok (node_value p env a) (measured_of p m (structure_of a) s) out e in
-      measured_kept p m (structure_of a) s x.0 out i.1 (node_kept p env a x.0 b i.0 h x.1) x.2
+      let x = operand_ok a (node_value p env a) (λ d. measured_of p m d s) out e in
+      measured_kept p m (with_points (structure_of a) x.0) s out i.1 (node_kept p env a x.0 b i.0 h x.1) x.2
   form_kept p env s (nodes.pair o a c) out b i h e =
       let built = both_built (is_built a) (is_built c) b in
-      let x = after_ok (node_value p env a) (λ d. after (node_value p env c) (pair_of p o (structure_of a) (structure_of c) s d)) out e in
-      let y = after_ok (node_value p env c) (pair_of p o (structure_of a) (structure_of c) s x.0) out x.2 in
-      pair_kept p o (structure_of a) (structure_of c) s x.0 y.0 out i.2 (node_kept p env a x.0 built.0 i.0 h x.1) (node_kept p env c y.0 built.1 i.1 h y.1) y.2
+      let x = operand_ok a (node_value p env a) (λ d. with_operand c (node_value p env c) (λ q. pair_of p o d q s)) out e in
+      let d = with_points (structure_of a) x.0 in
+      let y = operand_ok c (node_value p env c) (λ q. pair_of p o d q s) out x.2 in
+      pair_kept p o d (with_points (structure_of c) y.0) s out i.2 (node_kept p env a x.0 built.0 i.0 h x.1) (node_kept p env c y.0 built.1 i.1 h y.1) y.2
   form_kept p env s (nodes.choose t a c) out b i h e =
       let built = both_built (is_built t) (is_built a && is_built c) b in
       let others = both_built (is_built a) (is_built c) built.1 in
-      let w = after_ok (node_value p env t) (λ tests. after (node_value p env a) (λ d. after (node_value p env c) (λ z. Ok (choice_of (structure_of t) (structure_of a) (structure_of c) s tests d z)))) out e in
-      let x = after_ok (node_value p env a) (λ d. after (node_value p env c) (λ z. Ok (choice_of (structure_of t) (structure_of a) (structure_of c) s w.0 d z))) out w.2 in
-      let y = after_ok (node_value p env c) (λ z. Ok (choice_of (structure_of t) (structure_of a) (structure_of c) s w.0 x.0 z)) out x.2 in
-      subst (λ l. IsDataSet s l) (ok_is (choice_of (structure_of t) (structure_of a) (structure_of c) s w.0 x.0 y.0) out y.2)
-      (choice_kept (structure_of t) (structure_of a) (structure_of c) s w.0 x.0 y.0 i.3 (node_kept p env t w.0 built.0 i.0 h w.1) (node_kept p env a x.0 others.0 i.1 h x.1) (node_kept p env c y.0 others.1 i.2 h y.1))
-  form_kept p env s (nodes.member a m) out b i h e =
-      let x = after_ok (node_value p env a) (λ d. Ok (left_of (structure_of a) s d)) out e in
-      subst (λ l. IsDataSet s l) (ok_is (left_of (structure_of a) s x.0) out x.2) (left_kept (structure_of a) s x.0 i.1 (node_kept p env a x.0 b i.0 h x.1))
+      let w = operand_ok t (node_value p env t) (λ tests. with_operand a (node_value p env a) (λ d. with_operand c (node_value p env c) (λ q. Ok (choice_of tests d q s)))) out e in
+      let tests = with_points (structure_of t) w.0 in
+      let x = operand_ok a (node_value p env a) (λ d. with_operand c (node_value p env c) (λ q. Ok (choice_of tests d q s))) out w.2 in
+      let d = with_points (structure_of a) x.0 in
+      let y = operand_ok c (node_value p env c) (λ q. Ok (choice_of tests d q s)) out x.2 in
+      let q = with_points (structure_of c) y.0 in
+      subst (λ l. IsDataSet s l) (ok_is (choice_of tests d q s) out y.2)
+      (choice_kept tests d q s i.3 (node_kept p env t w.0 built.0 i.0 h w.1) (node_kept p env a x.0 others.0 i.1 h x.1) (node_kept p env c y.0 others.1 i.2 h y.1))
+  form_kept p env s (nodes.member a m) out b i h e = left_given a s (node_value p env a) out i.1 (λ points is. node_kept p env a points b i.0 h is) e
   form_kept p env s (nodes.filter a q) out b i h e =
       let x = after_ok (node_value p env a) (filter_of p q) out e in
       filtered_kept p q (structure_of a) s x.0 out i.1 (node_kept p env a x.0 b i.0 h x.1) x.2
   form_kept p env s (nodes.calc a items) out b i h e =
-      let x = after_ok (node_value p env a) (calculated_of p items (structure_of a) s) out e in
-      calculated_kept p items (structure_of a) s x.0 out i.1 (node_kept p env a x.0 b i.0 h x.1) x.2
-  form_kept p env s (nodes.keep a names) out b i h e =
-      let x = after_ok (node_value p env a) (λ d. Ok (left_of (structure_of a) s d)) out e in
-      subst (λ l. IsDataSet s l) (ok_is (left_of (structure_of a) s x.0) out x.2) (left_kept (structure_of a) s x.0 i.1 (node_kept p env a x.0 b i.0 h x.1))
-  form_kept p env s (nodes.drop_named a names) out b i h e =
-      let x = after_ok (node_value p env a) (λ d. Ok (left_of (structure_of a) s d)) out e in
-      subst (λ l. IsDataSet s l) (ok_is (left_of (structure_of a) s x.0) out x.2) (left_kept (structure_of a) s x.0 i.1 (node_kept p env a x.0 b i.0 h x.1))
+      let x = operand_ok a (node_value p env a) (λ d. calculated_of p items d s) out e in
+      calculated_kept p items (with_points (structure_of a) x.0) s out i.1 (node_kept p env a x.0 b i.0 h x.1) x.2
+  form_kept p env s (nodes.keep a names) out b i h e = left_given a s (node_value p env a) out i.1 (λ points is. node_kept p env a points b i.0 h is) e
+  form_kept p env s (nodes.drop_named a names) out b i h e = left_given a s (node_value p env a) out i.1 (λ points is. node_kept p env a points b i.0 h is) e
   form_kept p env s (nodes.rename a pairs) out b i h e = renamed_kept (structure_of a) s out i.1 (node_kept p env a out b i.0 h e)
   form_kept p env s (nodes.sub a items) out b i h e =
-      let x = after_ok (node_value p env a) (λ d. Ok (sub_of items (structure_of a) s d)) out e in
-      subst (λ l. IsDataSet s l) (ok_is (sub_of items (structure_of a) s x.0) out x.2) (sub_kept items (structure_of a) s x.0 i.1 (node_kept p env a x.0 b i.0 h x.1))
+      let x = operand_ok a (node_value p env a) (λ d. Ok (sub_of items d s)) out e in
+      let d = with_points (structure_of a) x.0 in
+      subst (λ l. IsDataSet s l) (ok_is (sub_of items d s) out x.2) (sub_kept items d s i.1 (node_kept p env a x.0 b i.0 h x.1))
   form_kept p env s other out b i h e = cc

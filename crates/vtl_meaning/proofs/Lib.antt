@@ -1,3 +1,4 @@
+mod Determined
 pub mod Drawn
 pub mod Examples
 pub mod Faults
@@ -6,4 +7,5 @@ pub mod LookUps
 pub mod Looks
 pub mod Orders
 pub mod Places
+pub mod Profiles
 pub mod ValueKinds

@@ -20,6 +20,7 @@ use Rattle.vtl_rows.specs.Tables.{cells_at}
 use Rattle.vtl_tree.specs.Clauses.{filter_of, is_true, kept}
 use Rattle.vtl_tree.specs.CompExp.{CompExp}
 use Rattle.vtl_tree.specs.DataSet.{IsDataSet, is_point, look}
+use Rattle.vtl_tree.specs.Environment.{DataSet}
 use Rattle.vtl_tree.specs.Kept.{kept_row}
 use Rattle.vtl_tree.specs.Structure.{IsStructure, columns_of, key_width, same_name, same_role}
 use Rattle.vtl_tree.specs.Value.{value, values}
@@ -39,7 +40,7 @@ use Rattle.vtl_meaning.specs.Columns.{column_behind, column_named, columns_named
 use Rattle.vtl_meaning.specs.LookUps.{calculated_at, chosen_at, has_key_values, measured_at, of_both, paired_at, part_for, result_at, value_named, values_for, values_named}
 use Rattle.vtl_meaning.specs.Made.{AreAmong, AreFor, HasIdentifiers, IsAlternative, IsCalculated, IsChoice, IsColumnAt, IsFiltered, IsLeft, IsMeasured, IsPaired, IsRenamed, IsSub, IsTyped}
 use Rattle.vtl_meaning.specs.Operators.{calculated_exp, calculated_of, choice_of, for_measures, has_values, is_first_chosen, joined_point, left_of, measured_of, pair_of, sub_of, taken_at, target_named, value_exp, with_measure, with_namesake}
-use Rattle.vtl_meaning.specs.Points.{beside, cell_or_null, each_point, paired, partner, point_fault, point_of}
+use Rattle.vtl_meaning.specs.Points.{beside, cell_or_null, each_point, paired, partner, point_fault, point_of, with_points}
 use Rattle.vtl_meaning.proofs.Drawn.{drawn_all}
 use Rattle.vtl_meaning.proofs.Kept.{Alike, Pairs, alike_by_columns, alike_by_values, alike_cells, all_paired, both_all, calculated_split, column_within, exps_keep, exps_split, for_back, key_widths, joined_keeps, look_is, one_of, pairs_with, place_front, shown_keeps, shown_split, taken_key, unless_ok}
 use Rattle.vtl_meaning.proofs.Looks.{found_map, found_of_map, found_then, kept_all, look-drawn, look-map, look_key, map_then, map_twice, some_if, then_turned}
@@ -91,11 +92,12 @@ measured_values p m xs r (u ∷ us) (y ∷ ys) =
     ap (λ ms. result_at p m.op y.kind ms ∷ point_of p (for_measures (with_measure m xs) us ys) r) operands
     ∙ ap (λ l. result_at p m.op y.kind (map (λ e. value p e r) m.before ++ Ok (value_named xs r u.name) ∷ map (λ e. value p e r) m.after) ∷ l) (measured_values p m xs r us ys)
 
-pub measured_look : (p : Settings) (m : MeasureTree) (a s : Structure) (d out : List Row) (k : Row) → IsMeasured p m a s → IsDataSet a d → measured_of p m a s d ≡ Ok out → look (key_width s) out k ≡ option_map (λ r. k ++ measured_at p m a s r) (look (key_width a) d k)
-measured_look p m a s d out k i h e =
-    let rest = for_measures (with_measure m (columns_of a)) (measures_of a) (measures_of s) in
-    each_look p a s rest d out k i.identifiers i.columns h e
-    ∙ found_map (λ r. is_point (columns_of a) r ≡ true) (key_width a) d k (λ r. k ++ point_of p rest r) (λ r. k ++ measured_at p m a s r) h.typed (λ r w key. ap (λ l. k ++ l) (measured_values p m (columns_of a) r (measures_of a) (measures_of s)))
+pub measured_look : (p : Settings) (m : MeasureTree) (a : DataSet) (s : Structure) (out : List Row) (k : Row) → IsMeasured p m a.structure s → IsDataSet a.structure a.points → measured_of p m a s ≡ Ok out → look (key_width s) out k ≡ option_map (λ r. k ++ measured_at p m a.structure s r) (look (key_width a.structure) a.points k)
+measured_look p m a s out k i h e =
+    let ours = a.structure in
+    let rest = for_measures (with_measure m (columns_of ours)) (measures_of ours) (measures_of s) in
+    each_look p ours s rest a.points out k i.identifiers i.columns h e
+    ∙ found_map (λ r. is_point (columns_of ours) r ≡ true) (key_width ours) a.points k (λ r. k ++ point_of p rest r) (λ r. k ++ measured_at p m ours s r) h.typed (λ r w key. ap (λ l. k ++ l) (measured_values p m (columns_of ours) r (measures_of ours) (measures_of s)))
 
 calculated_values : (p : Settings) (items : List ItemTree) (a : Structure) (r : Row) (ys : List Component) → point_of p (map (calculated_exp items (columns_of a)) ys) r ≡ map (calculated_at p items a r) ys
 calculated_values p items a r [] = refl
@@ -105,24 +107,26 @@ calculated_values p items a r (y ∷ ys) = ap (λ v. v ∷ point_of p (map (calc
     go None = refl
     go (Some i) = refl
 
-pub calculated_look : (p : Settings) (items : List ItemTree) (a s : Structure) (d out : List Row) (k : Row) → IsCalculated p items a s → IsDataSet a d → calculated_of p items a s d ≡ Ok out → look (key_width s) out k ≡ option_map (λ r. k ++ map (calculated_at p items a r) (others_of s)) (look (key_width a) d k)
-calculated_look p items a s d out k i h e =
-    let same = calculated_split p items a s i in
-    let rest = map (calculated_exp items (columns_of a)) (others_of s) in
-    each_look p a s rest d out k i.identifiers (subst (λ es. AreFor p (columns_of a) es (columns_of s)) same i.columns) h (ap (λ es. each_point p es d) (sym same) ∙ e)
-    ∙ found_map (λ r. is_point (columns_of a) r ≡ true) (key_width a) d k (λ r. k ++ point_of p rest r) (λ r. k ++ map (calculated_at p items a r) (others_of s)) h.typed (λ r w key. ap (λ l. k ++ l) (calculated_values p items a r (others_of s)))
+pub calculated_look : (p : Settings) (items : List ItemTree) (a : DataSet) (s : Structure) (out : List Row) (k : Row) → IsCalculated p items a.structure s → IsDataSet a.structure a.points → calculated_of p items a s ≡ Ok out → look (key_width s) out k ≡ option_map (λ r. k ++ map (calculated_at p items a.structure r) (others_of s)) (look (key_width a.structure) a.points k)
+calculated_look p items a s out k i h e =
+    let ours = a.structure in
+    let same = calculated_split p items ours s i in
+    let rest = map (calculated_exp items (columns_of ours)) (others_of s) in
+    each_look p ours s rest a.points out k i.identifiers (subst (λ es. AreFor p (columns_of ours) es (columns_of s)) same i.columns) h (ap (λ es. each_point p es a.points) (sym same) ∙ e)
+    ∙ found_map (λ r. is_point (columns_of ours) r ≡ true) (key_width ours) a.points k (λ r. k ++ point_of p rest r) (λ r. k ++ map (calculated_at p items ours r) (others_of s)) h.typed (λ r w key. ap (λ l. k ++ l) (calculated_values p items ours r (others_of s)))
 
 -- ---- chosen columns
-pub left_look : (a s : Structure) (d : List Row) (k : Row) → IsLeft a s → IsDataSet a d → look (key_width s) (left_of a s d) k ≡ option_map (λ r. k ++ values_named (columns_of a) (others_of s) r) (look (key_width a) d k)
-left_look a s d k i h =
-    let P : Row → Type 0 = λ r. is_point (columns_of a) r ≡ true in
-    let f : Row → Row = cells_at (places_in (columns_of a) (columns_of s)) in
-    let keys : AllByRecursion (λ r. same_row (take (key_width s) (f r)) k ≡ same_row (take (key_width a) r) k) d = all_more P (λ r. same_row (take (key_width s) (f r)) k ≡ same_row (take (key_width a) r) k) (λ r w. ap (λ z. same_row z k) (shown_keeps a s r h.well_formed i w).1) d h.typed in
-    look-map (key_width a) (key_width s) f d k k keys
-    ∙ found_map P (key_width a) d k f (λ r. k ++ values_named (columns_of a) (others_of s) r) h.typed
-    (λ r w key. shown_split (columns_of a) s r
-    ∙ ap (λ l. l ++ cells_at (places_in (columns_of a) (others_of s)) r) (key_cells a s r h.well_formed i.identifiers (key_within a r w) ∙ key)
-    ∙ ap (λ l. k ++ l) (named_cells (columns_of a) (others_of s) r))
+pub left_look : (a : DataSet) (s : Structure) (k : Row) → IsLeft a.structure s → IsDataSet a.structure a.points → look (key_width s) (left_of a s) k ≡ option_map (λ r. k ++ values_named (columns_of a.structure) (others_of s) r) (look (key_width a.structure) a.points k)
+left_look a s k i h =
+    let ours = a.structure in
+    let P : Row → Type 0 = λ r. is_point (columns_of ours) r ≡ true in
+    let f : Row → Row = cells_at (places_in (columns_of ours) (columns_of s)) in
+    let keys : AllByRecursion (λ r. same_row (take (key_width s) (f r)) k ≡ same_row (take (key_width ours) r) k) a.points = all_more P (λ r. same_row (take (key_width s) (f r)) k ≡ same_row (take (key_width ours) r) k) (λ r w. ap (λ z. same_row z k) (shown_keeps ours s r h.well_formed i w).1) a.points h.typed in
+    look-map (key_width ours) (key_width s) f a.points k k keys
+    ∙ found_map P (key_width ours) a.points k f (λ r. k ++ values_named (columns_of ours) (others_of s) r) h.typed
+    (λ r w key. shown_split (columns_of ours) s r
+    ∙ ap (λ l. l ++ cells_at (places_in (columns_of ours) (others_of s)) r) (key_cells ours s r h.well_formed i.identifiers (key_within ours r w) ∙ key)
+    ∙ ap (λ l. k ++ l) (named_cells (columns_of ours) (others_of s) r))
 
 -- ---- `filter`
 pub filtered_look : (p : Settings) (e : CompExp) (a s : Structure) (d out : List Row) (k : Row) → IsFiltered p e a s → IsDataSet a d → filter_of p e d ≡ Ok out → look (key_width s) out k ≡ kept_row (λ r. is_true (value p e r)) (look (key_width a) d k)
@@ -215,116 +219,132 @@ namesake_values p o xs left right x l r f g (u ∷ us) (y ∷ ys) (z ∷ zs) i =
     ∙ ap (λ v. result_at p o y.kind (Ok (l u.name) ∷ Ok (r u.name) ∷ []) ∷ v) (namesake_values p o xs left right x l r f g us ys zs i.2)
 
 -- the operand with all identifiers leads
-side_look : (p : Settings) (a b s : Structure) (rest : List CompExp) (F : Row → Row → Row) (d e out : List Row) (k : Row) → IsDataSet a d → IsDataSet b e → AllByRecursion (λ y. place_of y.name (identifiers_of a) < length (identifiers_of a)) (identifiers_of b)
-    → HasIdentifiers s (identifiers_of a) → AreFor p (columns_of a ++ columns_of b) (columns_named (columns_of a) (identifiers_of s) ++ rest) (columns_of s)
-    → ((r q : Row) → is_point (columns_of a) r ≡ true → is_point (columns_of b) q ≡ true → point_of p rest (r ++ q) ≡ F r q)
-    → each_point p (columns_named (columns_of a) (identifiers_of s) ++ rest) (paired a b d e) ≡ Ok out
-    → look (key_width s) out k ≡ of_both (λ r q. k ++ F r q) (look (key_width a) d k) (look (key_width b) e (part_for a b k))
-side_look p a b s rest F d e out k h g within i j f u =
+side_look : (p : Settings) (a b : DataSet) (s : Structure) (rest : List CompExp) (F : Row → Row → Row) (out : List Row) (k : Row) → IsDataSet a.structure a.points → IsDataSet b.structure b.points
+    → AllByRecursion (λ y. place_of y.name (identifiers_of a.structure) < length (identifiers_of a.structure)) (identifiers_of b.structure)
+    → HasIdentifiers s (identifiers_of a.structure) → AreFor p (columns_of a.structure ++ columns_of b.structure) (columns_named (columns_of a.structure) (identifiers_of s) ++ rest) (columns_of s)
+    → ((r q : Row) → is_point (columns_of a.structure) r ≡ true → is_point (columns_of b.structure) q ≡ true → point_of p rest (r ++ q) ≡ F r q)
+    → each_point p (columns_named (columns_of a.structure) (identifiers_of s) ++ rest) (paired a b) ≡ Ok out
+    → look (key_width s) out k ≡ of_both (λ r q. k ++ F r q) (look (key_width a.structure) a.points k) (look (key_width b.structure) b.points (part_for a.structure b.structure k))
+side_look p a b s rest F out k h g within i j f u =
     ap (λ l. look n l k) (sym (unless_ok (faults_by (point_fault p es) rows) (map (point_of p es) rows) out u).1)
     ∙ look-map w n (point_of p es) rows k k keys
-    ∙ ap (option_map (point_of p es)) (look-drawn w w (λ r. option_map (λ q. r ++ q) (partner a b e r)) d k own_keys h.distinct)
-    ∙ map_then (point_of p es) (λ r. option_map (λ q. r ++ q) (partner a b e r)) (look w d k)
-    ∙ found_then (λ r. is_point (columns_of a) r ≡ true) w d k (λ r. option_map (point_of p es) (option_map (λ q. r ++ q) (partner a b e r))) (λ r. option_map (λ q. k ++ F r q) (look (key_width b) e (part_for a b k))) h.typed at
+    ∙ ap (option_map (point_of p es)) (look-drawn w w (λ r. option_map (λ q. r ++ q) (partner ours b r)) a.points k own_keys h.distinct)
+    ∙ map_then (point_of p es) (λ r. option_map (λ q. r ++ q) (partner ours b r)) (look w a.points k)
+    ∙ found_then (λ r. is_point (columns_of ours) r ≡ true) w a.points k (λ r. option_map (point_of p es) (option_map (λ q. r ++ q) (partner ours b r))) (λ r. option_map (λ q. k ++ F r q) (look (key_width theirs) b.points (part_for ours theirs k))) h.typed at
   where
+    ours : Structure
+    ours = a.structure
+
+    theirs : Structure
+    theirs = b.structure
+
     n : ℕ
     n = key_width s
 
     w : ℕ
-    w = key_width a
+    w = key_width ours
 
     es : List CompExp
-    es = columns_named (columns_of a) (identifiers_of s) ++ rest
+    es = columns_named (columns_of ours) (identifiers_of s) ++ rest
 
     rows : List Row
-    rows = paired a b d e
+    rows = paired a b
 
     keys : AllByRecursion (λ x. same_row (take n (point_of p es x)) k ≡ same_row (take w x) k) rows
-    keys = drawn_all (Pairs a b) (λ x. same_row (take n (point_of p es x)) k ≡ same_row (take w x) k) (λ r x t. ap (λ z. same_row z k) (exps_keep p (columns_of a ++ columns_of b) a s rest x h.well_formed i j t.0 t.1 t.2).1) (beside a b e) d (all_paired a b d e h.typed g.typed)
+    keys = drawn_all (Pairs ours theirs) (λ x. same_row (take n (point_of p es x)) k ≡ same_row (take w x) k) (λ r x t. ap (λ z. same_row z k) (exps_keep p (columns_of ours ++ columns_of theirs) ours s rest x h.well_formed i j t.0 t.1 t.2).1) (beside ours b) a.points (all_paired a b h.typed g.typed)
 
-    own_keys : AllByRecursion (λ r. IfSome (option_map (λ q. r ++ q) (partner a b e r)) (λ q. take w q ≡ take w r)) d
-    own_keys = all_more (λ r. is_point (columns_of a) r ≡ true) (λ r. IfSome (option_map (λ q. r ++ q) (partner a b e r)) (λ q. take w q ≡ take w r)) (λ r t. some_if (λ q. take w q ≡ take w r) (λ q. r ++ q) (partner a b e r) (λ q found. take-append-le w r q (key_within a r t))) d h.typed
+    own_keys : AllByRecursion (λ r. IfSome (option_map (λ q. r ++ q) (partner ours b r)) (λ q. take w q ≡ take w r)) a.points
+    own_keys = all_more (λ r. is_point (columns_of ours) r ≡ true) (λ r. IfSome (option_map (λ q. r ++ q) (partner ours b r)) (λ q. take w q ≡ take w r)) (λ r t. some_if (λ q. take w q ≡ take w r) (λ q. r ++ q) (partner ours b r) (λ q found. take-append-le w r q (key_within ours r t))) a.points h.typed
 
-    both : (r q : Row) → is_point (columns_of a) r ≡ true → take w r ≡ k → is_point (columns_of b) q ≡ true → point_of p es (r ++ q) ≡ k ++ F r q
+    both : (r q : Row) → is_point (columns_of ours) r ≡ true → take w r ≡ k → is_point (columns_of theirs) q ≡ true → point_of p es (r ++ q) ≡ k ++ F r q
     both r q t key v =
-        let x = pairs_with a b r q t v in
-        exps_split p a s rest (r ++ q) h.well_formed i x.1 ∙ ap (λ l. l ++ point_of p rest (r ++ q)) (x.3 ∙ key) ∙ ap (λ l. k ++ l) (f r q t v)
+        let x = pairs_with ours theirs r q t v in
+        exps_split p ours s rest (r ++ q) h.well_formed i x.1 ∙ ap (λ l. l ++ point_of p rest (r ++ q)) (x.3 ∙ key) ∙ ap (λ l. k ++ l) (f r q t v)
 
-    at : (r : Row) → is_point (columns_of a) r ≡ true → take w r ≡ k → option_map (point_of p es) (option_map (λ q. r ++ q) (partner a b e r)) ≡ option_map (λ q. k ++ F r q) (look (key_width b) e (part_for a b k))
+    at : (r : Row) → is_point (columns_of ours) r ≡ true → take w r ≡ k → option_map (point_of p es) (option_map (λ q. r ++ q) (partner ours b r)) ≡ option_map (λ q. k ++ F r q) (look (key_width theirs) b.points (part_for ours theirs k))
     at r t key =
-        map_twice (point_of p es) (λ q. r ++ q) (partner a b e r)
-        ∙ ap (λ z. option_map (λ q. point_of p es (r ++ q)) (look (key_width b) e z)) (part_of_point a b r k within key)
-        ∙ found_map (λ q. is_point (columns_of b) q ≡ true) (key_width b) e (part_for a b k) (λ q. point_of p es (r ++ q)) (λ q. k ++ F r q) g.typed (λ q v own. both r q t key v)
+        map_twice (point_of p es) (λ q. r ++ q) (partner ours b r)
+        ∙ ap (λ z. option_map (λ q. point_of p es (r ++ q)) (look (key_width theirs) b.points z)) (part_of_point ours theirs r k within key)
+        ∙ found_map (λ q. is_point (columns_of theirs) q ≡ true) (key_width theirs) b.points (part_for ours theirs k) (λ q. point_of p es (r ++ q)) (λ q. k ++ F r q) g.typed (λ q v own. both r q t key v)
 
-pub pair_look : (p : Settings) (o : ScalarOp) (a b s : Structure) (d e out : List Row) (k : Row) → contains a b ≡ true → IsPaired p o a b s → IsDataSet a d → IsDataSet b e → pair_of p o a b s d e ≡ Ok out → look (key_width s) out k ≡ of_both (λ r q. k ++ paired_at p o a b s r q) (look (key_width a) d k) (look (key_width b) e (part_for a b k))
-pair_look p o a b s d e out k t i h g u =
-    let exps = for_measures (with_namesake o (column_named (columns_of a)) (column_behind (length (columns_of a)) (columns_of b))) (measures_of a) (measures_of s) in
-    let ids = subst (λ x. HasIdentifiers s (identifiers_of (cond x a b))) t i.identifiers in
-    let typed : AreFor p (columns_of a ++ columns_of b) (columns_named (columns_of a) (identifiers_of s) ++ exps) (columns_of s) = rw t at i.columns in
-    let split = for_back p (columns_of a ++ columns_of b) (columns_named (columns_of a) (identifiers_of s)) exps (identifiers_of s) (others_of s) (length-map (identifiers_of s) (λ y. column_named (columns_of a) y.name)) (subst (λ ys. AreFor p (columns_of a ++ columns_of b) (columns_named (columns_of a) (identifiers_of s) ++ exps) ys) (columns_split s) typed) in
-    side_look p a b s exps (λ r q. paired_at p o a b s r q) d e out k h g (contained_within a b t) ids typed
-    (λ r q v w. namesake_values p o (columns_of a ++ columns_of b) (column_named (columns_of a)) (column_behind (length (columns_of a)) (columns_of b)) (r ++ q) (value_named (columns_of a) r) (value_named (columns_of b) q)
-    (λ n j. ap Ok (value_in_front p (columns_of a) (columns_of b) r q n v w j)) (λ n j. ap Ok (value_behind (columns_of a) (columns_of b) r q n v)) (measures_of a) (measures_of s) (others_of s) split)
+pub pair_look : (p : Settings) (o : ScalarOp) (a b : DataSet) (s : Structure) (out : List Row) (k : Row) → contains a.structure b.structure ≡ true → IsPaired p o a.structure b.structure s → IsDataSet a.structure a.points → IsDataSet b.structure b.points → pair_of p o a b s ≡ Ok out
+    → look (key_width s) out k ≡ of_both (λ r q. k ++ paired_at p o a.structure b.structure s r q) (look (key_width a.structure) a.points k) (look (key_width b.structure) b.points (part_for a.structure b.structure k))
+pair_look p o a b s out k t i h g u =
+    let ours = a.structure in
+    let theirs = b.structure in
+    let exps = for_measures (with_namesake o (column_named (columns_of ours)) (column_behind (length (columns_of ours)) (columns_of theirs))) (measures_of ours) (measures_of s) in
+    let ids = subst (λ x. HasIdentifiers s (identifiers_of (cond x ours theirs))) t i.identifiers in
+    let typed : AreFor p (columns_of ours ++ columns_of theirs) (columns_named (columns_of ours) (identifiers_of s) ++ exps) (columns_of s) = rw t at i.columns in
+    let split = for_back p (columns_of ours ++ columns_of theirs) (columns_named (columns_of ours) (identifiers_of s)) exps (identifiers_of s) (others_of s) (length-map (identifiers_of s) (λ y. column_named (columns_of ours) y.name)) (subst (λ ys. AreFor p (columns_of ours ++ columns_of theirs) (columns_named (columns_of ours) (identifiers_of s) ++ exps) ys) (columns_split s) typed) in
+    side_look p a b s exps (λ r q. paired_at p o ours theirs s r q) out k h g (contained_within ours theirs t) ids typed
+    (λ r q v w. namesake_values p o (columns_of ours ++ columns_of theirs) (column_named (columns_of ours)) (column_behind (length (columns_of ours)) (columns_of theirs)) (r ++ q) (value_named (columns_of ours) r) (value_named (columns_of theirs) q)
+    (λ n j. ap Ok (value_in_front p (columns_of ours) (columns_of theirs) r q n v w j)) (λ n j. ap Ok (value_behind (columns_of ours) (columns_of theirs) r q n v)) (measures_of ours) (measures_of s) (others_of s) split)
     (rw t at u)
 
 or_second : (x y : Bool) → (x || y) ≡ true → x ≡ false → y ≡ true
 or_second true y h e = absurd (true≢false e)
 or_second false y h e = h
 
-pub pair_look_right : (p : Settings) (o : ScalarOp) (a b s : Structure) (d e out : List Row) (k : Row) → contains a b ≡ false → IsPaired p o a b s → IsDataSet a d → IsDataSet b e → pair_of p o a b s d e ≡ Ok out → look (key_width s) out k ≡ of_both (λ r q. k ++ paired_at p o a b s r q) (look (key_width a) d (part_for b a k)) (look (key_width b) e k)
-pair_look_right p o a b s d e out k t i h g u =
-    let exps = for_measures (with_namesake o (column_behind (length (columns_of b)) (columns_of a)) (column_named (columns_of b))) (measures_of a) (measures_of s) in
-    let ids = subst (λ x. HasIdentifiers s (identifiers_of (cond x a b))) t i.identifiers in
-    let typed : AreFor p (columns_of b ++ columns_of a) (columns_named (columns_of b) (identifiers_of s) ++ exps) (columns_of s) = rw t at i.columns in
-    let split = for_back p (columns_of b ++ columns_of a) (columns_named (columns_of b) (identifiers_of s)) exps (identifiers_of s) (others_of s) (length-map (identifiers_of s) (λ y. column_named (columns_of b) y.name)) (subst (λ ys. AreFor p (columns_of b ++ columns_of a) (columns_named (columns_of b) (identifiers_of s) ++ exps) ys) (columns_split s) typed) in
-    side_look p b a s exps (λ q r. paired_at p o a b s r q) e d out k g h (contained_within b a (or_second (contains a b) (contains b a) i.contained t)) ids typed
-    (λ q r v w. namesake_values p o (columns_of b ++ columns_of a) (column_behind (length (columns_of b)) (columns_of a)) (column_named (columns_of b)) (q ++ r) (value_named (columns_of a) r) (value_named (columns_of b) q)
-    (λ n j. ap Ok (value_behind (columns_of b) (columns_of a) q r n v)) (λ n j. ap Ok (value_in_front p (columns_of b) (columns_of a) q r n v w j)) (measures_of a) (measures_of s) (others_of s) split)
+pub pair_look_right : (p : Settings) (o : ScalarOp) (a b : DataSet) (s : Structure) (out : List Row) (k : Row) → contains a.structure b.structure ≡ false → IsPaired p o a.structure b.structure s → IsDataSet a.structure a.points → IsDataSet b.structure b.points → pair_of p o a b s ≡ Ok out
+    → look (key_width s) out k ≡ of_both (λ r q. k ++ paired_at p o a.structure b.structure s r q) (look (key_width a.structure) a.points (part_for b.structure a.structure k)) (look (key_width b.structure) b.points k)
+pair_look_right p o a b s out k t i h g u =
+    let ours = a.structure in
+    let theirs = b.structure in
+    let exps = for_measures (with_namesake o (column_behind (length (columns_of theirs)) (columns_of ours)) (column_named (columns_of theirs))) (measures_of ours) (measures_of s) in
+    let ids = subst (λ x. HasIdentifiers s (identifiers_of (cond x ours theirs))) t i.identifiers in
+    let typed : AreFor p (columns_of theirs ++ columns_of ours) (columns_named (columns_of theirs) (identifiers_of s) ++ exps) (columns_of s) = rw t at i.columns in
+    let split = for_back p (columns_of theirs ++ columns_of ours) (columns_named (columns_of theirs) (identifiers_of s)) exps (identifiers_of s) (others_of s) (length-map (identifiers_of s) (λ y. column_named (columns_of theirs) y.name)) (subst (λ ys. AreFor p (columns_of theirs ++ columns_of ours) (columns_named (columns_of theirs) (identifiers_of s) ++ exps) ys) (columns_split s) typed) in
+    side_look p b a s exps (λ q r. paired_at p o ours theirs s r q) out k g h (contained_within theirs ours (or_second (contains ours theirs) (contains theirs ours) i.contained t)) ids typed
+    (λ q r v w. namesake_values p o (columns_of theirs ++ columns_of ours) (column_behind (length (columns_of theirs)) (columns_of ours)) (column_named (columns_of theirs)) (q ++ r) (value_named (columns_of ours) r) (value_named (columns_of theirs) q)
+    (λ n j. ap Ok (value_behind (columns_of theirs) (columns_of ours) q r n v)) (λ n j. ap Ok (value_in_front p (columns_of theirs) (columns_of ours) q r n v w j)) (measures_of ours) (measures_of s) (others_of s) split)
     (rw t at u)
-    ∙ then_turned (λ r q. k ++ paired_at p o a b s r q) (look (key_width a) d (part_for b a k)) (look (key_width b) e k)
+    ∙ then_turned (λ r q. k ++ paired_at p o ours theirs s r q) (look (key_width ours) a.points (part_for theirs ours k)) (look (key_width theirs) b.points k)
 
 -- ---- `if`
-module _ (t a b s : Structure) (tests d e : List Row) (k : Row) (i : IsChoice t a b s) (g : IsDataSet t tests) (h : IsDataSet a d) (l : IsDataSet b e) where
-  abbrev Chosen : Row → Option Row
-  Chosen r = cond (is_first_chosen t r) (option_map (joined_point t a s r) (partner t a d r)) (option_map (joined_point t b s r) (partner t b e r))
+module _ (t a b : DataSet) (s : Structure) (k : Row) (i : IsChoice t.structure a.structure b.structure s) (g : IsDataSet t.structure t.points) (h : IsDataSet a.structure a.points) (l : IsDataSet b.structure b.points) where
+  abbrev Joined : DataSet → Row → Option Row
+  Joined other r = option_map (joined_point t.structure other.structure s r) (partner t.structure other r)
 
-  taken_chosen : (r : Row) → taken_at t a b s d e r ≡ option_to_list (Chosen r)
-  taken_chosen r = go (is_first_chosen t r) (option_map (joined_point t a s r) (partner t a d r)) (option_map (joined_point t b s r) (partner t b e r))
+  abbrev Chosen : Row → Option Row
+  Chosen r = cond (is_first_chosen t.structure r) (Joined a r) (Joined b r)
+
+  taken_chosen : (r : Row) → taken_at t.structure a b s r ≡ option_to_list (Chosen r)
+  taken_chosen r = go (is_first_chosen t.structure r) (Joined a r) (Joined b r)
     where
       go : (x : Bool) (o u : Option Row) → cond x (option_to_list o) (option_to_list u) ≡ option_to_list (cond x o u)
       go true o u = refl
       go false o u = refl
 
-  joined_keys : (other : Structure) (points : List Row) (r : Row) → IsAlternative t other s → IsDataSet other points → is_point (columns_of t) r ≡ true → IfSome (option_map (joined_point t other s r) (partner t other points r)) (λ q. take (key_width s) q ≡ take (key_width t) r)
-  joined_keys other points r f u w =
-      some_if (λ q. take (key_width s) q ≡ take (key_width t) r) (joined_point t other s r) (partner t other points r)
-      (λ q found. (joined_keeps t other s r q g.well_formed i.identifiers i.no_attributes f.measures w
-      (look_is (λ z. is_point (columns_of other) z ≡ true) (key_width other) points (cells_at (places_in (columns_of t) (identifiers_of other)) r) q u.typed found)).1)
+  joined_keys : (other : DataSet) (r : Row) → IsAlternative t.structure other.structure s → IsDataSet other.structure other.points → is_point (columns_of t.structure) r ≡ true → IfSome (Joined other r) (λ q. take (key_width s) q ≡ take (key_width t.structure) r)
+  joined_keys other r f u w =
+      some_if (λ q. take (key_width s) q ≡ take (key_width t.structure) r) (joined_point t.structure other.structure s r) (partner t.structure other r)
+      (λ q found. (joined_keeps t.structure other.structure s r q g.well_formed i.identifiers i.no_attributes f.measures w
+      (look_is (λ z. is_point (columns_of other.structure) z ≡ true) (key_width other.structure) other.points (cells_at (places_in (columns_of t.structure) (identifiers_of other.structure)) r) q u.typed found)).1)
 
-  chosen_keys : (r : Row) → is_point (columns_of t) r ≡ true → IfSome (Chosen r) (λ q. take (key_width s) q ≡ take (key_width t) r)
-  chosen_keys r w = go (is_first_chosen t r)
+  chosen_keys : (r : Row) → is_point (columns_of t.structure) r ≡ true → IfSome (Chosen r) (λ q. take (key_width s) q ≡ take (key_width t.structure) r)
+  chosen_keys r w = go (is_first_chosen t.structure r)
     where
-      go : (x : Bool) → IfSome (cond x (option_map (joined_point t a s r) (partner t a d r)) (option_map (joined_point t b s r) (partner t b e r))) (λ q. take (key_width s) q ≡ take (key_width t) r)
-      go true = joined_keys a d r i.first h w
-      go false = joined_keys b e r i.second l w
+      go : (x : Bool) → IfSome (cond x (Joined a r) (Joined b r)) (λ q. take (key_width s) q ≡ take (key_width t.structure) r)
+      go true = joined_keys a r i.first h w
+      go false = joined_keys b r i.second l w
 
-  joined_at : (other : Structure) (points : List Row) (r : Row) → IsAlternative t other s → is_point (columns_of t) r ≡ true → take (key_width t) r ≡ k → option_map (joined_point t other s r) (partner t other points r) ≡ chosen_at t other s points k
-  joined_at other points r f w key =
-      ap (λ z. option_map (joined_point t other s r) (look (key_width other) points z)) (part_of_point t other r k (among_within (identifiers_of other) (identifiers_of t) f.there) key)
-      ∙ ap (λ f. option_map f (look (key_width other) points (part_for t other k))) whole
+  joined_at : (other : DataSet) (r : Row) → IsAlternative t.structure other.structure s → is_point (columns_of t.structure) r ≡ true → take (key_width t.structure) r ≡ k → Joined other r ≡ chosen_at t.structure other s k
+  joined_at other r f w key =
+      ap (λ z. option_map (joined_point t.structure other.structure s r) (look (key_width other.structure) other.points z)) (part_of_point t.structure other.structure r k (among_within (identifiers_of other.structure) (identifiers_of t.structure) f.there) key)
+      ∙ ap (λ f. option_map f (look (key_width other.structure) other.points (part_for t.structure other.structure k))) whole
     where
-      own : cells_at (places_in (columns_of t) (identifiers_of s)) r ≡ k
-      own = key_cells t s r g.well_formed i.identifiers (key_within t r w) ∙ key
+      own : cells_at (places_in (columns_of t.structure) (identifiers_of s)) r ≡ k
+      own = key_cells t.structure s r g.well_formed i.identifiers (key_within t.structure r w) ∙ key
 
-      whole : joined_point t other s r ≡ (λ q. k ++ values_named (columns_of other) (measures_of s) q)
-      whole = λ x q. (ap (λ z. z ++ cells_at (places_in (columns_of other) (measures_of s)) q) own ∙ ap (λ z. k ++ z) (named_cells (columns_of other) (measures_of s) q)) x
+      whole : joined_point t.structure other.structure s r ≡ (λ q. k ++ values_named (columns_of other.structure) (measures_of s) q)
+      whole = λ x q. (ap (λ z. z ++ cells_at (places_in (columns_of other.structure) (measures_of s)) q) own ∙ ap (λ z. k ++ z) (named_cells (columns_of other.structure) (measures_of s) q)) x
 
-  pub choice_look : look (key_width s) (choice_of t a b s tests d e) k ≡ option_and_then (λ r. cond (is_first_chosen t r) (chosen_at t a s d k) (chosen_at t b s e k)) (look (key_width t) tests k)
+  pub choice_look : look (key_width s) (choice_of t a b s) k ≡ option_and_then (λ r. cond (is_first_chosen t.structure r) (chosen_at t.structure a s k) (chosen_at t.structure b s k)) (look (key_width t.structure) t.points k)
   choice_look =
-      ap (λ f. look (key_width s) (flat_map f tests) k) (λ x r. taken_chosen r x)
-      ∙ look-drawn (key_width t) (key_width s) Chosen tests k (all_more (λ r. is_point (columns_of t) r ≡ true) (λ r. IfSome (Chosen r) (λ q. take (key_width s) q ≡ take (key_width t) r)) chosen_keys tests g.typed) g.distinct
-      ∙ found_then (λ r. is_point (columns_of t) r ≡ true) (key_width t) tests k Chosen (λ r. cond (is_first_chosen t r) (chosen_at t a s d k) (chosen_at t b s e k)) g.typed
-      (λ r w key. ap (λ o. cond (is_first_chosen t r) o (option_map (joined_point t b s r) (partner t b e r))) (joined_at a d r i.first w key) ∙ ap (λ o. cond (is_first_chosen t r) (chosen_at t a s d k) o) (joined_at b e r i.second w key))
+      ap (λ f. look (key_width s) (flat_map f t.points) k) (λ x r. taken_chosen r x)
+      ∙ look-drawn (key_width t.structure) (key_width s) Chosen t.points k (all_more (λ r. is_point (columns_of t.structure) r ≡ true) (λ r. IfSome (Chosen r) (λ q. take (key_width s) q ≡ take (key_width t.structure) r)) chosen_keys t.points g.typed) g.distinct
+      ∙ found_then (λ r. is_point (columns_of t.structure) r ≡ true) (key_width t.structure) t.points k Chosen (λ r. cond (is_first_chosen t.structure r) (chosen_at t.structure a s k) (chosen_at t.structure b s k)) g.typed
+      (λ r w key. ap (λ o. cond (is_first_chosen t.structure r) o (Joined b r)) (joined_at a r i.first w key) ∙ ap (λ o. cond (is_first_chosen t.structure r) (chosen_at t.structure a s k) o) (joined_at b r i.second w key))
 
 -- ---- `sub`
 same_truth : (x y : Bool) → (x ≡ true → y ≡ true) → (y ≡ true → x ≡ true) → x ≡ y
@@ -381,7 +401,7 @@ module _ (items : List SubItem) (a s : Structure) (i : IsSub items a s) (w : IsS
         both_all (λ r. is_point (columns_of a) r ≡ true) (λ r. has_values a items r ≡ true) IsTaken (λ r t v. (t, v)) (filter (has_values a items) d)
         (AllByRecursion-filter (λ r. is_point (columns_of a) r ≡ true) (has_values a items) d h.typed) (all_filtered (has_values a items) d)
 
-    pub sub_look : (j : Row) → length j ≡ key_width a → has_key_values a items j ≡ true → look (key_width s) (sub_of items a s d) (part_for a s j) ≡ option_map (λ r. part_for a s j ++ values_named (columns_of a) (others_of s) r) (look (key_width a) d j)
+    pub sub_look : (j : Row) → length j ≡ key_width a → has_key_values a items j ≡ true → look (key_width s) (sub_of items (with_points a d) s) (part_for a s j) ≡ option_map (λ r. part_for a s j ++ values_named (columns_of a) (others_of s) r) (look (key_width a) d j)
     sub_look j len values =
         look-map (key_width a) (key_width s) shown_row (filter (has_values a items) d) (part_for a s j) j (all_more IsTaken (λ r. same_row (take (key_width s) (shown_row r)) (part_for a s j) ≡ same_row (take (key_width a) r) j) keys (filter (has_values a items) d) all_taken)
         ∙ ap (option_map shown_row) (look-filter (key_width a) (has_values a items) d j h.distinct ∙ kept_all (has_values a items) (look (key_width a) d j) (λ r e. values_of_key r ∙ ap (has_key_values a items) (look_key (key_width a) d j r e) ∙ values))
@@ -401,7 +421,7 @@ module _ (items : List SubItem) (a s : Structure) (i : IsSub items a s) (w : IsS
             ap (same_row (take (key_width a) r)) (sym one) ∙ same_row-refl (take (key_width a) r))
             (λ e. ap (same_row (take (key_width s) (shown_row r))) (sym (key ∙ ap (part_for a s) (same_row-is (take (key_width a) r) j e))) ∙ same_row-refl (take (key_width s) (shown_row r)))
 
-    pub sub_look_only : (k q : Row) → look (key_width s) (sub_of items a s d) k ≡ Some q → (j : Row) × (length j ≡ key_width a) × (has_key_values a items j ≡ true) × (part_for a s j ≡ k)
+    pub sub_look_only : (k q : Row) → look (key_width s) (sub_of items (with_points a d) s) k ≡ Some q → (j : Row) × (length j ≡ key_width a) × (has_key_values a items j ≡ true) × (part_for a s j ≡ k)
     sub_look_only k q e =
         let found = found_of_map (key_width s) IsTaken (cells_at (places_in (columns_of a) (columns_of s))) (filter (has_values a items) d) k q all_taken e in
         let r = found.0 in

@@ -29,10 +29,10 @@ use Rattle.vtl_nodes.specs.declared.clauses.SubItem.{SubItem}
 use Rattle.check_shapes.specs.Pairs.{contains}
 use Rattle.vtl_meaning.specs.Columns.{identifiers_of, places_in}
 use Rattle.vtl_meaning.specs.Made.{AreMadeStatements, IsMade, IsMadeForm}
-use Rattle.vtl_meaning.specs.Meaning.{AreDataSets, Statement, form_value, is_built, is_built_form, known_in, meaning, node_value, points_named, stated}
+use Rattle.vtl_meaning.specs.Meaning.{AreDataSets, Statement, form_value, is_built, is_built_form, known_in, meaning, node_value, points_named, stated, with_operand}
 use Rattle.vtl_meaning.specs.Operators.{calculated_exps, calculated_of, choice_of, has_values, is_first_chosen, joined_point, left_of, measured_exps, measured_of, pair_exps, pair_of, pairs_of, sub_of, taken_at}
 use Rattle.vtl_meaning.specs.Orders.{SameData, SameMeaning}
-use Rattle.vtl_meaning.specs.Points.{beside, each_point, paired, partner, point_fault, point_of, shown}
+use Rattle.vtl_meaning.specs.Points.{beside, each_point, paired, partner, point_fault, point_of, shown, with_points}
 use Rattle.vtl_meaning.proofs.Kept.{node_kept}
 
 -- ---- operators
@@ -48,30 +48,34 @@ filtered_respects p e d f q =
 pub shown_respects : (xs ys : List Component) (d e : List Row) → Perm d e → Perm (shown xs ys d) (shown xs ys e)
 shown_respects xs ys d e q = Perm-map (cells_at (places_in xs ys)) q
 
-pub sub_respects : (items : List SubItem) (a s : Structure) (d e : List Row) → Perm d e → Perm (sub_of items a s d) (sub_of items a s e)
+pub sub_respects : (items : List SubItem) (a s : Structure) (d e : List Row) → Perm d e → Perm (sub_of items (with_points a d) s) (sub_of items (with_points a e) s)
 sub_respects items a s d e q = Perm-map (cells_at (places_in (columns_of a) (columns_of s))) (Perm-filter (has_values a items) q)
 
 -- a partner is found by its key, of which there is one
-partner_respects : (s other : Structure) (e f : List Row) → Perm e f → Distinct (key_width other) e → (r : Row) → partner s other e r ≡ partner s other f r
+partner_respects : (s other : Structure) (e f : List Row) → Perm e f → Distinct (key_width other) e → (r : Row) → partner s (with_points other e) r ≡ partner s (with_points other f) r
 partner_respects s other e f q apart r = look_respects (key_width other) (cells_at (places_in (columns_of s) (identifiers_of other)) r) q apart
 
-pub paired_respects : (s other : Structure) (d t e f : List Row) → Perm d t → Perm e f → Distinct (key_width other) e → Perm (paired s other d e) (paired s other t f)
+pub paired_respects : (s other : Structure) (d t e f : List Row) → Perm d t → Perm e f → Distinct (key_width other) e → Perm (paired (with_points s d) (with_points other e)) (paired (with_points s t) (with_points other f))
 paired_respects s other d t e f p q apart =
-    let same : (r : Row) → beside s other e r ≡ beside s other f r = λ r. ap (λ o. option_to_list (option_map (λ z. r ++ z) o)) (partner_respects s other e f q apart r) in
-    chain (Perm-flat_map (beside s other e) p) (Perm-flat_map_each (beside s other e) (beside s other f) (λ r. Perm-same (beside s other e r) (beside s other f r) (same r)) t)
+    let old : Row → List Row = beside s (with_points other e) in
+    let new : Row → List Row = beside s (with_points other f) in
+    let same : (r : Row) → old r ≡ new r = λ r. ap (λ o. option_to_list (option_map (λ z. r ++ z) o)) (partner_respects s other e f q apart r) in
+    chain (Perm-flat_map old p) (Perm-flat_map_each old new (λ r. Perm-same (old r) (new r) (same r)) t)
 
-pub pair_respects : (p : Settings) (o : ScalarOp) (a b s : Structure) (d t e f : List Row) → Perm d t → Perm e f → Distinct (key_width a) d → Distinct (key_width b) e → Same (pair_of p o a b s d e) (pair_of p o a b s t f)
-pair_respects p o a b s d t e f g h i j = each_respects p (pair_exps o a b s) (pairs_of a b d e) (pairs_of a b t f) (sides (contains a b))
+pub pair_respects : (p : Settings) (o : ScalarOp) (a b s : Structure) (d t e f : List Row) → Perm d t → Perm e f → Distinct (key_width a) d → Distinct (key_width b) e → Same (pair_of p o (with_points a d) (with_points b e) s) (pair_of p o (with_points a t) (with_points b f) s)
+pair_respects p o a b s d t e f g h i j = each_respects p (pair_exps o a b s) (pairs_of (with_points a d) (with_points b e)) (pairs_of (with_points a t) (with_points b f)) (sides (contains a b))
   where
-    sides : (x : Bool) → Perm (cond x (paired a b d e) (paired b a e d)) (cond x (paired a b t f) (paired b a f t))
+    sides : (x : Bool) → Perm (cond x (paired (with_points a d) (with_points b e)) (paired (with_points b e) (with_points a d))) (cond x (paired (with_points a t) (with_points b f)) (paired (with_points b f) (with_points a t)))
     sides true = paired_respects a b d t e f g h j
     sides false = paired_respects b a e f d t h g i
 
-pub choice_respects : (t a b s : Structure) (tests other d e f g : List Row) → Perm tests other → Perm d e → Perm f g → Distinct (key_width a) d → Distinct (key_width b) f → Perm (choice_of t a b s tests d f) (choice_of t a b s other e g)
+pub choice_respects : (t a b s : Structure) (tests other d e f g : List Row) → Perm tests other → Perm d e → Perm f g → Distinct (key_width a) d → Distinct (key_width b) f → Perm (choice_of (with_points t tests) (with_points a d) (with_points b f) s) (choice_of (with_points t other) (with_points a e) (with_points b g) s)
 choice_respects t a b s tests other d e f g p q u i j =
-    let first : (r : Row) → taken_at t a b s d f r ≡ taken_at t a b s e f r = λ r. ap (λ o. cond (is_first_chosen t r) (option_to_list (option_map (joined_point t a s r) o)) (option_to_list (option_map (joined_point t b s r) (partner t b f r)))) (partner_respects t a d e q i r) in
-    let second : (r : Row) → taken_at t a b s e f r ≡ taken_at t a b s e g r = λ r. ap (λ o. cond (is_first_chosen t r) (option_to_list (option_map (joined_point t a s r) (partner t a e r))) (option_to_list (option_map (joined_point t b s r) o))) (partner_respects t b f g u j r) in
-    chain (Perm-flat_map (taken_at t a b s d f) p) (Perm-flat_map_each (taken_at t a b s d f) (taken_at t a b s e g) (λ r. Perm-same (taken_at t a b s d f r) (taken_at t a b s e g r) (first r ∙ second r)) other)
+    let old : Row → List Row = taken_at t (with_points a d) (with_points b f) s in
+    let new : Row → List Row = taken_at t (with_points a e) (with_points b g) s in
+    let Taken : Row → Option Row → Option Row → List Row = λ r x y. cond (is_first_chosen t r) (option_to_list (option_map (joined_point t a s r) x)) (option_to_list (option_map (joined_point t b s r) y)) in
+    let same : (r : Row) → old r ≡ new r = λ r. ap (λ x. Taken r x (partner t (with_points b f) r)) (partner_respects t a d e q i r) ∙ ap (Taken r (partner t (with_points a e) r)) (partner_respects t b f g u j r) in
+    chain (Perm-flat_map old p) (Perm-flat_map_each old new (λ r. Perm-same (old r) (new r) (same r)) other)
 
 -- ---- expressions
 same_after : (m n : Outcome (List Row)) (f g : List Row → Outcome (List Row)) → Same m n → ((d e : List Row) → m ≡ Ok d → Perm d e → Same (f d) (g e)) → Same (after m f) (after n g)
@@ -80,8 +84,11 @@ same_after (Err x) (Err y) f g s h = s
 same_after (Ok d) (Err y) f g s h = absurd s
 same_after (Err x) (Ok e) f g s h = absurd s
 
-left_same : (a s : Structure) (m n : Outcome (List Row)) → Same m n → Same (after m (λ d. Ok (left_of a s d))) (after n (λ d. Ok (left_of a s d)))
-left_same a s m n h = same_after m n (λ d. Ok (left_of a s d)) (λ d. Ok (left_of a s d)) h (λ d e is q. shown_respects (columns_of a) (columns_of s) d e q)
+same_operand : (a : NodeTree) (m n : Outcome (List Row)) (f g : DataSet → Outcome (List Row)) → Same m n → ((d e : List Row) → m ≡ Ok d → Perm d e → Same (f (with_points (structure_of a) d)) (g (with_points (structure_of a) e))) → Same (with_operand a m f) (with_operand a n g)
+same_operand a m n f g s h = same_after m n (λ d. f (with_points (structure_of a) d)) (λ d. g (with_points (structure_of a) d)) s h
+
+left_same : (a : NodeTree) (s : Structure) (m n : Outcome (List Row)) → Same m n → Same (with_operand a m (λ d. Ok (left_of d s))) (with_operand a n (λ d. Ok (left_of d s)))
+left_same a s m n h = same_operand a m n (λ d. Ok (left_of d s)) (λ d. Ok (left_of d s)) h (λ d e is q. shown_respects (columns_of (structure_of a)) (columns_of s) d e q)
 
 named_respects : (name : List ℕ) (env other : Environment) → SameData env other → Perm (points_named name env) (points_named name other)
 named_respects name [] [] s = empty
@@ -104,41 +111,41 @@ module _ (p : Settings) (env other : Environment) (h : AreDataSets env) (same : 
     form_respects : (s : Structure) (form : FormTree) → is_built_form form ≡ true → IsMadeForm p (known_in env) s form → Same (form_value p env s form) (form_value p other s form)
     form_respects s (nodes.named name) b i = named_respects name env other same
     form_respects s (nodes.measures m a) b i =
-        same_after (node_value p env a) (node_value p other a) (measured_of p m (structure_of a) s) (measured_of p m (structure_of a) s) (node_respects a b i.0)
+        same_operand a (node_value p env a) (node_value p other a) (λ d. measured_of p m d s) (λ d. measured_of p m d s) (node_respects a b i.0)
         (λ d e is q. each_respects p (measured_exps m (structure_of a) s) d e q)
     form_respects s (nodes.pair o a c) b i =
         let built = and_parts (is_built a) (is_built c) b in
-        let F : Environment → List Row → Outcome (List Row) = λ en d. after (node_value p en c) (pair_of p o (structure_of a) (structure_of c) s d) in
-        same_after (node_value p env a) (node_value p other a) (F env) (F other) (node_respects a built.0 i.0)
-        (λ d t is q. same_after (node_value p env c) (node_value p other c) (pair_of p o (structure_of a) (structure_of c) s d) (pair_of p o (structure_of a) (structure_of c) s t) (node_respects c built.1 i.1)
+        let F : Environment → DataSet → Outcome (List Row) = λ en d. with_operand c (node_value p en c) (λ q. pair_of p o d q s) in
+        same_operand a (node_value p env a) (node_value p other a) (F env) (F other) (node_respects a built.0 i.0)
+        (λ d t is q. same_operand c (node_value p env c) (node_value p other c) (λ x. pair_of p o (with_points (structure_of a) d) x s) (λ x. pair_of p o (with_points (structure_of a) t) x s) (node_respects c built.1 i.1)
         (λ e f is_too u. pair_respects p o (structure_of a) (structure_of c) s d t e f q u (node_kept p env a d built.0 i.0 h is).distinct (node_kept p env c e built.1 i.1 h is_too).distinct))
     form_respects s (nodes.choose t a c) b i =
         let built = and_parts (is_built t) (is_built a && is_built c) b in
         let others = and_parts (is_built a) (is_built c) built.1 in
-        let Last : List Row → List Row → List Row → Outcome (List Row) = λ tests d e. Ok (choice_of (structure_of t) (structure_of a) (structure_of c) s tests d e) in
-        let Second : Environment → List Row → List Row → Outcome (List Row) = λ en tests d. after (node_value p en c) (Last tests d) in
-        let First : Environment → List Row → Outcome (List Row) = λ en tests. after (node_value p en a) (Second en tests) in
-        same_after (node_value p env t) (node_value p other t) (First env) (First other) (node_respects t built.0 i.0)
-        (λ tests tests_too is q. same_after (node_value p env a) (node_value p other a) (Second env tests) (Second other tests_too) (node_respects a others.0 i.1)
-        (λ d e is_first u. same_after (node_value p env c) (node_value p other c) (Last tests d) (Last tests_too e) (node_respects c others.1 i.2)
+        let Last : DataSet → DataSet → DataSet → Outcome (List Row) = λ tests d e. Ok (choice_of tests d e s) in
+        let Second : Environment → DataSet → DataSet → Outcome (List Row) = λ en tests d. with_operand c (node_value p en c) (Last tests d) in
+        let First : Environment → DataSet → Outcome (List Row) = λ en tests. with_operand a (node_value p en a) (Second en tests) in
+        same_operand t (node_value p env t) (node_value p other t) (First env) (First other) (node_respects t built.0 i.0)
+        (λ tests tests_too is q. same_operand a (node_value p env a) (node_value p other a) (Second env (with_points (structure_of t) tests)) (Second other (with_points (structure_of t) tests_too)) (node_respects a others.0 i.1)
+        (λ d e is_first u. same_operand c (node_value p env c) (node_value p other c) (Last (with_points (structure_of t) tests) (with_points (structure_of a) d)) (Last (with_points (structure_of t) tests_too) (with_points (structure_of a) e)) (node_respects c others.1 i.2)
         (λ f g is_second v. choice_respects (structure_of t) (structure_of a) (structure_of c) s tests tests_too d e f g q u v (node_kept p env a d others.0 i.1 h is_first).distinct (node_kept p env c f others.1 i.2 h is_second).distinct)))
-    form_respects s (nodes.member a m) b i = left_same (structure_of a) s (node_value p env a) (node_value p other a) (node_respects a b i.0)
+    form_respects s (nodes.member a m) b i = left_same a s (node_value p env a) (node_value p other a) (node_respects a b i.0)
     form_respects s (nodes.filter a e) b i =
         same_after (node_value p env a) (node_value p other a) (filter_of p e) (filter_of p e) (node_respects a b i.0)
         (λ d f is q. filtered_respects p e d f q)
     form_respects s (nodes.calc a items) b i =
-        same_after (node_value p env a) (node_value p other a) (calculated_of p items (structure_of a) s) (calculated_of p items (structure_of a) s) (node_respects a b i.0)
+        same_operand a (node_value p env a) (node_value p other a) (λ d. calculated_of p items d s) (λ d. calculated_of p items d s) (node_respects a b i.0)
         (λ d e is q. each_respects p (calculated_exps items (structure_of a) s) d e q)
-    form_respects s (nodes.keep a names) b i = left_same (structure_of a) s (node_value p env a) (node_value p other a) (node_respects a b i.0)
-    form_respects s (nodes.drop_named a names) b i = left_same (structure_of a) s (node_value p env a) (node_value p other a) (node_respects a b i.0)
+    form_respects s (nodes.keep a names) b i = left_same a s (node_value p env a) (node_value p other a) (node_respects a b i.0)
+    form_respects s (nodes.drop_named a names) b i = left_same a s (node_value p env a) (node_value p other a) (node_respects a b i.0)
     form_respects s (nodes.rename a pairs) b i = node_respects a b i.0
     form_respects s (nodes.sub a items) b i =
-        same_after (node_value p env a) (node_value p other a) (λ d. Ok (sub_of items (structure_of a) s d)) (λ d. Ok (sub_of items (structure_of a) s d)) (node_respects a b i.0)
+        same_operand a (node_value p env a) (node_value p other a) (λ d. Ok (sub_of items d s)) (λ d. Ok (sub_of items d s)) (node_respects a b i.0)
         (λ d e is q. sub_respects items (structure_of a) s d e q)
     form_respects s form b i = cc
 
 -- ---- statements
-with_same : (name : List ℕ) (s : Structure) (d e : List Row) (m n : Result Outputs (Fault × List ℕ)) → Perm d e → SameMeaning m n → SameMeaning (with_output name (record { structure = s; points = d }) m) (with_output name (record { structure = s; points = e }) n)
+with_same : (name : List ℕ) (s : Structure) (d e : List Row) (m n : Result Outputs (Fault × List ℕ)) → Perm d e → SameMeaning m n → SameMeaning (with_output name (with_points s d) m) (with_output name (with_points s e) n)
 with_same name s d e (Ok ds) (Ok es) q h = (refl, refl, q, h)
 with_same name s d e (Err f) (Err g) q h = h
 with_same name s d e (Ok ds) (Err g) q h = absurd h
@@ -146,7 +153,7 @@ with_same name s d e (Err f) (Ok es) q h = absurd h
 
 module _ (s : Statement) (F G : DataSet → Result Outputs (Fault × List ℕ)) where
   abbrev data_with : List Row → DataSet
-  data_with d = record { structure = structure_of s.node; points = d }
+  data_with d = with_points (structure_of s.node) d
 
   stated_same : (m n : Outcome (List Row)) → Same m n → ((d e : List Row) → m ≡ Ok d → Perm d e → SameMeaning (F (data_with d)) (G (data_with e))) → SameMeaning (stated s (after m (λ d. Ok (data_with d))) F) (stated s (after n (λ d. Ok (data_with d))) G)
   stated_same (Ok d) (Ok e) q h = go s.persistent (h d e refl q)
@@ -163,7 +170,7 @@ meaning_respects p [] env other b i h same = tt
 meaning_respects p (s ∷ rest) env other b i h same =
     let built = and_parts (is_built s.node) (list_all (λ z. is_built z.node) rest) b in
     stated_same s (λ d. meaning p rest ((s.result, d) ∷ env)) (λ d. meaning p rest ((s.result, d) ∷ other)) (node_value p env s.node) (node_value p other s.node) (node_respects p env other h same s.node built.0 i.0)
-    (λ d e is q. meaning_respects p rest ((s.result, record { structure = structure_of s.node; points = d }) ∷ env) ((s.result, record { structure = structure_of s.node; points = e }) ∷ other) built.1 i.1 (node_kept p env s.node d built.0 i.0 h is, h) (refl, refl, q, same))
+    (λ d e is q. meaning_respects p rest ((s.result, with_points (structure_of s.node) d) ∷ env) ((s.result, with_points (structure_of s.node) e) ∷ other) built.1 i.1 (node_kept p env s.node d built.0 i.0 h is, h) (refl, refl, q, same))
 
 -- each output is a data set
 with_kept : (name : List ℕ) (d : DataSet) (m : Result Outputs (Fault × List ℕ)) (out : Outputs) → IsDataSet d.structure d.points → ((ds : Outputs) → m ≡ Ok ds → AreDataSets ds) → with_output name d m ≡ Ok out → AreDataSets out
@@ -173,7 +180,7 @@ with_kept name d (Err f) out h i e = cc
 pub meaning_kept : (p : Settings) (ss : List Statement) (env : Environment) (out : Outputs) → list_all (λ s. is_built s.node) ss ≡ true → AreMadeStatements p (known_in env) ss → AreDataSets env → meaning p ss env ≡ Ok out → AreDataSets out
 meaning_kept p [] env out b i h e = let same : [] ≡ out = cc in subst AreDataSets same tt
 meaning_kept p (s ∷ rest) env out b i h e =
-    go (node_value p env s.node) refl e (λ d w is. meaning_kept p rest ((s.result, record { structure = structure_of s.node; points = d }) ∷ env) is built.1 i.1 (w, h))
+    go (node_value p env s.node) refl e (λ d w is. meaning_kept p rest ((s.result, with_points (structure_of s.node) d) ∷ env) is built.1 i.1 (w, h))
   where
     built : (is_built s.node ≡ true) × (list_all (λ z. is_built z.node) rest ≡ true)
     built = and_parts (is_built s.node) (list_all (λ z. is_built z.node) rest) b
@@ -185,9 +192,9 @@ meaning_kept p (s ∷ rest) env out b i h e =
     one d true w ih q = with_kept s.result d (Rest d) out w ih q
     one d false w ih q = ih out q
 
-    go : (m : Outcome (List Row)) → node_value p env s.node ≡ m → stated s (after m (λ d. Ok (record { structure = structure_of s.node; points = d }))) Rest ≡ Ok out
-        → ((d : List Row) → IsDataSet (structure_of s.node) d → (is : Outputs) → Rest (record { structure = structure_of s.node; points = d }) ≡ Ok is → AreDataSets is) → AreDataSets out
+    go : (m : Outcome (List Row)) → node_value p env s.node ≡ m → stated s (after m (λ d. Ok (with_points (structure_of s.node) d))) Rest ≡ Ok out
+        → ((d : List Row) → IsDataSet (structure_of s.node) d → (is : Outputs) → Rest (with_points (structure_of s.node) d) ≡ Ok is → AreDataSets is) → AreDataSets out
     go (Ok d) f q ih =
         let w = node_kept p env s.node d built.0 i.0 h f in
-        one (record { structure = structure_of s.node; points = d }) s.persistent w (ih d w) q
+        one (with_points (structure_of s.node) d) s.persistent w (ih d w) q
     go (Err f) g q ih = cc

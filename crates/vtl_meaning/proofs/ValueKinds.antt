@@ -37,7 +37,7 @@ IsOf kind v = is_of kind v ≡ true
 abbrev pub GivesOf : Kind → Outcome Cell → Type 0
 GivesOf kind m = IfOk m (IsOf kind)
 
-after_if : {A B : Type 0} (m : Outcome A) (f : A → Outcome B) (P : A → Type 0) (Q : B → Type 0) → IfOk m P → ((x : A) → P x → IfOk (f x) Q) → IfOk (after m f) Q
+pub after_if : {A B : Type 0} (m : Outcome A) (f : A → Outcome B) (P : A → Type 0) (Q : B → Type 0) → IfOk m P → ((x : A) → P x → IfOk (f x) Q) → IfOk (after m f) Q
 after_if (Ok x) f P Q h g = g x h
 after_if (Err e) f P Q h g = tt
 
@@ -125,7 +125,7 @@ plain_is_of : (p : Settings) (o : ScalarOp) (kind : Kind) (kinds : List Kind) (m
 plain_is_of p o kind kinds ms e h =
     after_if (all_of ms) (result_of p o kind) (λ vs. fits_kinds kinds vs ≡ true) (IsOf kind) (all_of_fit kinds ms h) (λ vs i. result_is_of p o kind kinds vs e i)
 
-branch_if : (o : Option Bool) (a b : Outcome Cell) (Q : Cell → Type 0) → IfOk a Q → IfOk b Q → Q c.Null → IfOk (branch o a b) Q
+pub branch_if : (o : Option Bool) (a b : Outcome Cell) (Q : Cell → Type 0) → IfOk a Q → IfOk b Q → Q c.Null → IfOk (branch o a b) Q
 branch_if (Some true) a b Q h i n = h
 branch_if (Some false) a b Q h i n = i
 branch_if None a b Q h i n = n

@@ -1,8 +1,12 @@
 pub mod Columns
 pub mod Faults
+pub mod Literals
 pub mod LookUps
 pub mod Made
 pub mod Meaning
 pub mod Operators
 pub mod Orders
 pub mod Points
+pub mod Profiles
+pub mod Reaches
+pub mod Shapes

@@ -10,6 +10,7 @@ use Rattle.vtl_cell.specs.declared.cell.Cell.{Cell}
 use Rattle.vtl_cell.specs.declared.kind.Kind.{Kind}
 use Rattle.vtl_cell.specs.declared.operator.ScalarOp.{ScalarOp}
 use Rattle.vtl_tree.specs.DataSet.{look}
+use Rattle.vtl_tree.specs.Environment.{DataSet}
 use Rattle.vtl_tree.specs.Structure.{columns_of, key_width}
 use Rattle.vtl_tree.specs.Value.{called, value}
 use Rattle.vtl_tree.specs.declared.structure.Component.{Component}
@@ -53,8 +54,8 @@ abbrev pub of_both : (Row → Row → Row) → Option Row → Option Row → Opt
 of_both f r q = option_and_then (λ x. option_map (f x) q) r
 
 -- `if`: at a tuple of the condition's identifiers the measures of the chosen operand, where it has a point there
-abbrev pub chosen_at : Structure → Structure → Structure → List Row → Row → Option Row
-chosen_at t other s points k = option_map (λ q. k ++ values_named (columns_of other) (measures_of s) q) (look (key_width other) points (part_for t other k))
+abbrev pub chosen_at : Structure → DataSet → Structure → Row → Option Row
+chosen_at t other s k = option_map (λ q. k ++ values_named (columns_of other.structure) (measures_of s) q) (look (key_width other.structure) other.points (part_for t other.structure k))
 
 -- `calc`: the value of the target of this name, or of the column as it was
 abbrev pub calculated_at : Settings → List ItemTree → Structure → Row → Component → Cell

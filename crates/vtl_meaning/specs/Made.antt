@@ -1,8 +1,9 @@
 -- What typing gives: which expressions are typed over which columns, and how the structure of each node fits its operands.
-use Rattle.std.specs.Prelude.{◌≡◌, ℕ, zero, suc, true, ◌||◌, cond, List, [], ◌∷◌, ◌++◌, map, Some, None}
+use Rattle.std.specs.Prelude.{◌≡◌, ℕ, zero, suc, true, false, ◌||◌, cond, List, [], ◌∷◌, ◌++◌, length, map, Some, None}
 use Rattle.std.specs.List.{AllByRecursion, list_any}
 use Rattle.std.specs.Map.{lookup}
 use Rattle.vtl_cell.specs.Settings.{Settings}
+use Rattle.vtl_cell.specs.Apart.{all_apart}
 use Rattle.vtl_cell.specs.Profile.{IsOfProfile}
 use Rattle.vtl_cell.specs.ScalarKinds.{kinds_of, meets}
 use Rattle.vtl_cell.specs.declared.kind.Kind.{Kind}
@@ -13,15 +14,25 @@ use Rattle.vtl_tree.specs.CompExp.{CompExp, CompExps, column, const, call, aggre
 use Rattle.vtl_tree.specs.Structure.{IsStructure, columns_of, names_of, same_name}
 use Rattle.vtl_tree.specs.Structures.{Named}
 use Rattle.vtl_tree.specs.declared.structure.Component.{Component}
+use Rattle.vtl_tree.specs.declared.structure.Role.TheVariants as role
 use Rattle.vtl_tree.specs.declared.structure.Structure.{Structure}
 use Rattle.vtl_nodes.specs.Trees as nodes
 use Rattle.vtl_nodes.specs.Trees.{FormTree, ItemTree, MaybeNode, MeasureTree, NodeTree, NodeTrees, OperandTrees, structure_of}
 use Rattle.vtl_nodes.specs.declared.clauses.SubItem.{SubItem}
-use Rattle.check_shapes.specs.Pairs.{contains}
+use Rattle.check_shapes.specs.Choices.{chosen}
+use Rattle.check_shapes.specs.Measures.{given_measures, is_miscounted}
+use Rattle.check_shapes.specs.Operands.{agree, agreed_identifiers}
+use Rattle.check_shapes.specs.Pairs.{contains, pair_identifiers}
+use Rattle.check_shapes.specs.declared.choices.Choice.TheVariants as choice
+use Rattle.check_shapes.specs.declared.names.Wanted.TheVariants as wanted
+use Rattle.check_shapes.specs.declared.operands.Compared.TheVariants as compared
 use Rattle.check_values.specs.Kinds.{exp_kind}
 use Rattle.vtl_meaning.specs.Columns.{identifiers_of, kind_named, measures_of, place_of}
+use Rattle.vtl_meaning.specs.Literals.{HasLiterals}
 use Rattle.vtl_meaning.specs.Meaning.{Statement}
 use Rattle.vtl_meaning.specs.Operators.{calculated_exps, measured_exps, pair_columns, pair_exps, target_named}
+use Rattle.vtl_meaning.specs.Reaches.{AreNear}
+use Rattle.vtl_meaning.specs.Shapes.{IsChosen, IsRenamedBy, IsShaped, calculated_components, given_between, given_of_two, outcome_of, target_of}
 
 -- ---- expressions
 -- the column at a place has this name and this kind
@@ -34,12 +45,13 @@ abbrev pub kinds_in : CompExps → List Kind
 kinds_in no_comp_exps = []
 kinds_in (comp_exp e es) = exp_kind e ∷ kinds_in es
 
--- Each column is one of these, each constant is a value of the profile, and each operator has the kind of its row.
+-- Each column is one of these, each constant is a value of the profile, and each operator has the kind of its row, and literals
+-- where it asks for them.
 abbrev mutual
   pub IsTyped : Settings → List Component → CompExp → Type 0
   IsTyped p xs (column place name kind) = IsColumnAt place name kind xs
   IsTyped p xs (const v) = IsOfProfile p v
-  IsTyped p xs (call o kind args) = (kinds_of o (kinds_in args) ≡ Some kind) × AreTyped p xs args
+  IsTyped p xs (call o kind args) = (kinds_of o (kinds_in args) ≡ Some kind) × AreTyped p xs args × HasLiterals o args
   IsTyped p xs (aggregate a kind) = ⊥
 
   pub AreTyped : Settings → List Component → CompExps → Type 0
@@ -62,16 +74,22 @@ abbrev pub HasIdentifiers : Structure → List Component → Type 0
 HasIdentifiers s xs = (names_of (identifiers_of s) ≡ names_of xs) × (map (λ x. x.kind) (identifiers_of s) ≡ map (λ x. x.kind) xs)
 
 -- ---- how a structure fits an operator and its operands
+-- It is the one that typing gives (`shape`); the other fields say what follows for its columns.
 pub record IsMeasured (p : Settings) (m : MeasureTree) (a s : Structure) : Type 0 where
   pub well_formed : IsStructure s
   pub identifiers : HasIdentifiers s (identifiers_of a)
   pub columns : AreFor p (columns_of a) (measured_exps m a s) (columns_of s)
+  pub counted : is_miscounted (outcome_of m.op) (length (measures_of a)) ≡ false
+  pub shape : s.components ≡ identifiers_of a ++ given_measures (outcome_of m.op) (given_between m) None a.components
 
 pub record IsPaired (p : Settings) (o : ScalarOp) (a b s : Structure) : Type 0 where
   pub well_formed : IsStructure s
   pub contained : contains a b || contains b a ≡ true
   pub identifiers : HasIdentifiers s (identifiers_of (cond (contains a b) a b))
   pub columns : AreFor p (pair_columns a b) (pair_exps o a b s) (columns_of s)
+  pub counted : is_miscounted (outcome_of o) (length (measures_of a)) ≡ false
+  pub alike : agree compared.Names role.Measure a.components b.components ≡ true
+  pub shape : s.components ≡ pair_identifiers a b ++ given_measures (outcome_of o) (given_of_two o) (Some b.components) a.components
 
 -- an operand of `if` has the condition's identifiers, in any order, and the measures of the result
 pub record IsAlternative (t a s : Structure) : Type 0 where
@@ -86,6 +104,8 @@ pub record IsChoice (t a b s : Structure) : Type 0 where
   pub second : IsAlternative t b s
   pub identifiers : HasIdentifiers s (identifiers_of t)
   pub no_attributes : columns_of s ≡ identifiers_of s ++ measures_of s
+  pub alike : agree compared.Kinds role.Measure a.components b.components ≡ true
+  pub shape : s.components ≡ agreed_identifiers (a ∷ b ∷ []) t.components ++ measures_of a
 
 pub record IsFiltered (p : Settings) (e : CompExp) (a s : Structure) : Type 0 where
   pub same : s ≡ a
@@ -97,14 +117,16 @@ pub record IsCalculated (p : Settings) (items : List ItemTree) (a s : Structure)
   pub identifiers : HasIdentifiers s (identifiers_of a)
   pub free : AllByRecursion (λ x. target_named items x.name ≡ None) (identifiers_of a)
   pub columns : AreFor p (columns_of a) (calculated_exps items a s) (columns_of s)
+  pub apart : all_apart same_name (map (λ i. i.target) items) ≡ true
+  pub shape : s.components ≡ calculated_components (map target_of items) a.components
 
--- some of the columns, with all identifiers: `keep`, `drop`, `a#m`
+-- Some of the columns, with all identifiers: `keep`, `drop`, `a#m`. Which ones, `IsChosen` says.
 pub record IsLeft (a s : Structure) : Type 0 where
   pub well_formed : IsStructure s
   pub identifiers : HasIdentifiers s (identifiers_of a)
   pub columns : AreAmong (columns_of s) (columns_of a)
 
--- other names in the same places
+-- Other names in the same places. Which ones, `IsRenamedBy` says.
 pub record IsRenamed (a s : Structure) : Type 0 where
   pub well_formed : IsStructure s
   pub kinds : map (λ x. x.kind) (columns_of s) ≡ map (λ x. x.kind) (columns_of a)
@@ -117,25 +139,26 @@ pub record IsSub (items : List SubItem) (a s : Structure) : Type 0 where
   pub left : AreAmong (identifiers_of s) (identifiers_of a)
   pub identifiers : AllByRecursion (λ x. list_any (λ y. same_name y.name x.name) (identifiers_of s) || list_any (λ i. same_name i.id x.name) items ≡ true) (identifiers_of a)
   pub values : AllByRecursion (λ i. (is_of (kind_named i.id (identifiers_of a)) i.value ≡ true) × IsColumnAt (place_of i.id (identifiers_of a)) i.id (kind_named i.id (identifiers_of a)) (identifiers_of a)) items
+  pub shape : s.components ≡ chosen choice.Drop (map (λ i. i.id) items) a.components
 
 -- ---- nodes
--- Each node has a structure that fits its operands, and each name is known with its structure. Of the forms that are not
--- evaluated yet only the operands are told.
+-- Each node has a structure whose components have kinds and which fits its operands, and each name is known with its structure.
+-- Of the forms that are not evaluated yet only the operands are told, and how far analytic calls reach.
 abbrev mutual
   pub IsMade : Settings → Named → NodeTree → Type 0
-  IsMade p known (nodes.node s form) = IsStructure s × IsMadeForm p known s form
+  IsMade p known (nodes.node s form) = IsShaped s × IsMadeForm p known s form
 
   pub IsMadeForm : Settings → Named → Structure → FormTree → Type 0
   IsMadeForm p known s (nodes.named name) = lookup (same_name name) known ≡ Some s
   IsMadeForm p known s (nodes.measures m a) = IsMade p known a × IsMeasured p m (structure_of a) s
   IsMadeForm p known s (nodes.pair o a b) = IsMade p known a × IsMade p known b × IsPaired p o (structure_of a) (structure_of b) s
   IsMadeForm p known s (nodes.choose t a b) = IsMade p known t × IsMade p known a × IsMade p known b × IsChoice (structure_of t) (structure_of a) (structure_of b) s
-  IsMadeForm p known s (nodes.member a m) = IsMade p known a × IsLeft (structure_of a) s
+  IsMadeForm p known s (nodes.member a m) = IsMade p known a × IsLeft (structure_of a) s × IsChosen wanted.Measure choice.Keep (m ∷ []) (structure_of a) s
   IsMadeForm p known s (nodes.filter a e) = IsMade p known a × IsFiltered p e (structure_of a) s
   IsMadeForm p known s (nodes.calc a items) = IsMade p known a × IsCalculated p items (structure_of a) s
-  IsMadeForm p known s (nodes.keep a names) = IsMade p known a × IsLeft (structure_of a) s
-  IsMadeForm p known s (nodes.drop_named a names) = IsMade p known a × IsLeft (structure_of a) s
-  IsMadeForm p known s (nodes.rename a pairs) = IsMade p known a × IsRenamed (structure_of a) s
+  IsMadeForm p known s (nodes.keep a names) = IsMade p known a × IsLeft (structure_of a) s × IsChosen wanted.Value choice.Keep names (structure_of a) s
+  IsMadeForm p known s (nodes.drop_named a names) = IsMade p known a × IsLeft (structure_of a) s × IsChosen wanted.Value choice.Drop names (structure_of a) s
+  IsMadeForm p known s (nodes.rename a pairs) = IsMade p known a × IsRenamed (structure_of a) s × IsRenamedBy pairs (structure_of a) s
   IsMadeForm p known s (nodes.sub a items) = IsMade p known a × IsSub items (structure_of a) s
   IsMadeForm p known s (nodes.pivot a id m) = IsMade p known a
   IsMadeForm p known s (nodes.unpivot a id m) = IsMade p known a
@@ -146,7 +169,7 @@ abbrev mutual
   IsMadeForm p known s (nodes.sym_diff a b) = IsMade p known a × IsMade p known b
   IsMadeForm p known s (nodes.exists_in a b r) = IsMade p known a × IsMade p known b
   IsMadeForm p known s (nodes.aggregate a spec) = IsMade p known a
-  IsMadeForm p known s (nodes.analytic_of a spec) = IsMade p known a
+  IsMadeForm p known s (nodes.analytic_of a spec) = IsMade p known a × AreNear spec
   IsMadeForm p known s (nodes.check a i spec) = IsMade p known a × IsMadeMaybe p known i
   IsMadeForm p known s (nodes.check_datapoint a rules out) = IsMade p known a
   IsMadeForm p known s (nodes.check_hierarchy a rules m out) = IsMade p known a

@@ -13,6 +13,7 @@ use Rattle.vtl_tree.specs.declared.structure.Structure.{Structure}
 use Rattle.vtl_nodes.specs.Trees as nodes
 use Rattle.vtl_nodes.specs.Trees.{FormTree, NodeTree, structure_of}
 use Rattle.vtl_meaning.specs.Operators.{calculated_of, choice_of, left_of, measured_of, pair_of, sub_of}
+use Rattle.vtl_meaning.specs.Points.{with_points}
 
 -- the points of a data set; a name that is missing has none, and no typed script holds one
 abbrev pub points_named : List ℕ → Environment → List Row
@@ -26,29 +27,50 @@ known_in env = map (λ d. (d.0, d.1.structure)) env
 abbrev pub AreDataSets : Environment → Type 0
 AreDataSets env = AllByRecursion (λ d. IsDataSet d.1.structure d.1.points) env
 
+-- what comes of the data set that an operand gives, or its fault
+abbrev pub with_operand : NodeTree → Outcome (List Row) → (DataSet → Outcome (List Row)) → Outcome (List Row)
+with_operand a m f = after m (λ points. f (with_points (structure_of a) points))
+
+-- the points of a form that is not evaluated yet; no script that is run holds one (`is_built`)
+abbrev pub no_points_yet : Outcome (List Row)
+no_points_yet = Ok []
+
 -- The points of an expression, or the fault of the first of its parts that has one: operands before operators, from left to right.
--- A form that is not evaluated yet has no points, and no script that is run holds one (`is_built`).
+-- Each form has its line, so that no new one is passed over.
 abbrev mutual
   pub node_value : Settings → Environment → NodeTree → Outcome (List Row)
   node_value p env (nodes.node s form) = form_value p env s form
 
   pub form_value : Settings → Environment → Structure → FormTree → Outcome (List Row)
   form_value p env s (nodes.named name) = Ok (points_named name env)
-  form_value p env s (nodes.measures m a) = after (node_value p env a) (measured_of p m (structure_of a) s)
-  form_value p env s (nodes.pair o a b) = after (node_value p env a) (λ d. after (node_value p env b) (pair_of p o (structure_of a) (structure_of b) s d))
-  form_value p env s (nodes.choose t a b) = after (node_value p env t) (λ tests. after (node_value p env a) (λ d. after (node_value p env b) (λ e. Ok (choice_of (structure_of t) (structure_of a) (structure_of b) s tests d e))))
-  form_value p env s (nodes.member a m) = after (node_value p env a) (λ d. Ok (left_of (structure_of a) s d))
+  form_value p env s (nodes.measures m a) = with_operand a (node_value p env a) (λ d. measured_of p m d s)
+  form_value p env s (nodes.pair o a b) = with_operand a (node_value p env a) (λ d. with_operand b (node_value p env b) (λ e. pair_of p o d e s))
+  form_value p env s (nodes.choose t a b) = with_operand t (node_value p env t) (λ tests. with_operand a (node_value p env a) (λ d. with_operand b (node_value p env b) (λ e. Ok (choice_of tests d e s))))
+  form_value p env s (nodes.member a m) = with_operand a (node_value p env a) (λ d. Ok (left_of d s))
   form_value p env s (nodes.filter a e) = after (node_value p env a) (filter_of p e)
-  form_value p env s (nodes.calc a items) = after (node_value p env a) (calculated_of p items (structure_of a) s)
-  form_value p env s (nodes.keep a names) = after (node_value p env a) (λ d. Ok (left_of (structure_of a) s d))
-  form_value p env s (nodes.drop_named a names) = after (node_value p env a) (λ d. Ok (left_of (structure_of a) s d))
+  form_value p env s (nodes.calc a items) = with_operand a (node_value p env a) (λ d. calculated_of p items d s)
+  form_value p env s (nodes.keep a names) = with_operand a (node_value p env a) (λ d. Ok (left_of d s))
+  form_value p env s (nodes.drop_named a names) = with_operand a (node_value p env a) (λ d. Ok (left_of d s))
   form_value p env s (nodes.rename a pairs) = node_value p env a
-  form_value p env s (nodes.sub a items) = after (node_value p env a) (λ d. Ok (sub_of items (structure_of a) s d))
-  form_value p env s other = Ok []
+  form_value p env s (nodes.sub a items) = with_operand a (node_value p env a) (λ d. Ok (sub_of items d s))
+  form_value p env s (nodes.pivot a id m) = no_points_yet
+  form_value p env s (nodes.unpivot a id m) = no_points_yet
+  form_value p env s (nodes.join os spec) = no_points_yet
+  form_value p env s (nodes.union ns) = no_points_yet
+  form_value p env s (nodes.intersect ns) = no_points_yet
+  form_value p env s (nodes.set_diff a b) = no_points_yet
+  form_value p env s (nodes.sym_diff a b) = no_points_yet
+  form_value p env s (nodes.exists_in a b r) = no_points_yet
+  form_value p env s (nodes.aggregate a spec) = no_points_yet
+  form_value p env s (nodes.analytic_of a spec) = no_points_yet
+  form_value p env s (nodes.check a i spec) = no_points_yet
+  form_value p env s (nodes.check_datapoint a rules out) = no_points_yet
+  form_value p env s (nodes.check_hierarchy a rules m out) = no_points_yet
+  form_value p env s (nodes.hierarchy a rules m i out) = no_points_yet
 
 -- the data set of an expression, or its fault
 abbrev pub data_set_of : Settings → Environment → NodeTree → Outcome DataSet
-data_set_of p env n = after (node_value p env n) (λ d. Ok (record { structure = structure_of n; points = d }))
+data_set_of p env n = after (node_value p env n) (λ points. Ok (with_points (structure_of n) points))
 
 -- a statement: the name of its result, whether the result is written, and what it is
 pub record Statement : Type 0 where
@@ -78,7 +100,7 @@ abbrev pub meaning : Settings → List Statement → Environment → Result Outp
 meaning p [] env = Ok []
 meaning p (s ∷ rest) env = stated s (data_set_of p env s.node) (λ d. meaning p rest ((s.result, d) ∷ env))
 
--- ---- what is evaluated so far
+-- ---- what is evaluated so far: a form with `no_points_yet` is not
 abbrev mutual
   pub is_built : NodeTree → Bool
   is_built (nodes.node s form) = is_built_form form
@@ -95,4 +117,17 @@ abbrev mutual
   is_built_form (nodes.drop_named a names) = is_built a
   is_built_form (nodes.rename a pairs) = is_built a
   is_built_form (nodes.sub a items) = is_built a
-  is_built_form other = false
+  is_built_form (nodes.pivot a id m) = false
+  is_built_form (nodes.unpivot a id m) = false
+  is_built_form (nodes.join os spec) = false
+  is_built_form (nodes.union ns) = false
+  is_built_form (nodes.intersect ns) = false
+  is_built_form (nodes.set_diff a b) = false
+  is_built_form (nodes.sym_diff a b) = false
+  is_built_form (nodes.exists_in a b r) = false
+  is_built_form (nodes.aggregate a spec) = false
+  is_built_form (nodes.analytic_of a spec) = false
+  is_built_form (nodes.check a i spec) = false
+  is_built_form (nodes.check_datapoint a rules out) = false
+  is_built_form (nodes.check_hierarchy a rules m out) = false
+  is_built_form (nodes.hierarchy a rules m i out) = false

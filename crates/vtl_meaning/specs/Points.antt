@@ -10,11 +10,16 @@ use Rattle.vtl_cell.specs.Row.{Row}
 use Rattle.vtl_rows.specs.Tables.{cells_at}
 use Rattle.vtl_tree.specs.CompExp.{CompExp}
 use Rattle.vtl_tree.specs.DataSet.{look}
+use Rattle.vtl_tree.specs.Environment.{DataSet}
 use Rattle.vtl_tree.specs.Structure.{columns_of, key_width}
 use Rattle.vtl_tree.specs.Value.{value}
 use Rattle.vtl_tree.specs.declared.structure.Component.{Component}
 use Rattle.vtl_tree.specs.declared.structure.Structure.{Structure}
 use Rattle.vtl_meaning.specs.Columns.{identifiers_of, places_in}
+
+-- the data set of these points
+abbrev pub with_points : Structure → List Row → DataSet
+with_points s points = record { structure = s; points = points }
 
 abbrev pub cell_or_null : Outcome Cell → Cell
 cell_or_null (Ok v) = v
@@ -36,14 +41,14 @@ each_point p es d = unless (faults_by (point_fault p es) d) (map (point_of p es)
 abbrev pub shown : List Component → List Component → List Row → List Row
 shown xs ys d = map (cells_at (places_in xs ys)) d
 
--- The point of another operand, of this structure and with these points, that agrees with a point on that operand's identifiers.
-abbrev pub partner : Structure → Structure → List Row → Row → Option Row
-partner s other points r = look (key_width other) points (cells_at (places_in (columns_of s) (identifiers_of other)) r)
+-- the point of another operand that agrees with a point of a structure on that operand's identifiers
+abbrev pub partner : Structure → DataSet → Row → Option Row
+partner s other r = look (key_width other.structure) other.points (cells_at (places_in (columns_of s) (identifiers_of other.structure)) r)
 
--- a point with the cells of its partner behind it, where it has one
-abbrev pub beside : Structure → Structure → List Row → Row → List Row
-beside s other points r = option_to_list (option_map (λ q. r ++ q) (partner s other points r))
+-- a point of a structure with the cells of its partner behind it, where it has one
+abbrev pub beside : Structure → DataSet → Row → List Row
+beside s other r = option_to_list (option_map (λ q. r ++ q) (partner s other r))
 
 -- all pairs of points that agree on the identifiers of the second operand, of which the first has all
-abbrev pub paired : Structure → Structure → List Row → List Row → List Row
-paired s other d points = flat_map (beside s other points) d
+abbrev pub paired : DataSet → DataSet → List Row
+paired a other = flat_map (beside a.structure other) a.points

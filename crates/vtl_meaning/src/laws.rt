@@ -9,9 +9,9 @@ ghost use Rattle.vtl_cell.specs.Row.{Row};
 ghost use Rattle.vtl_cell.specs.declared.operator.ScalarOp.{ScalarOp};
 ghost use Rattle.vtl_tree.specs.Clauses.{filter_of, is_true, kept};
 ghost use Rattle.vtl_tree.specs.CompExp.{CompExp};
-ghost use Rattle.vtl_tree.specs.DataSet.{IsDataSet, is_point, look};
+ghost use Rattle.vtl_tree.specs.DataSet.{AreOfProfile, IsDataSet, is_point, look};
 ghost use Rattle.vtl_tree.specs.Kept.{kept_row};
-ghost use Rattle.vtl_tree.specs.Environment.{Environment};
+ghost use Rattle.vtl_tree.specs.Environment.{DataSet, Environment};
 ghost use Rattle.vtl_tree.specs.SameResult.{Same};
 ghost use Rattle.vtl_tree.specs.Structure.{columns_of, key_width};
 ghost use Rattle.vtl_tree.specs.Value.{value};
@@ -28,7 +28,8 @@ ghost use Rattle.vtl_meaning.specs.Made.{AreMadeStatements, IsCalculated, IsChoi
 ghost use Rattle.vtl_meaning.specs.Meaning.{AreDataSets, Outputs, Statement, is_built, known_in, meaning, node_value};
 ghost use Rattle.vtl_meaning.specs.Operators.{calculated_of, choice_of, is_first_chosen, left_of, measured_of, pair_of, sub_of};
 ghost use Rattle.vtl_meaning.specs.Orders.{SameData, SameMeaning};
-ghost use Rattle.vtl_meaning.specs.Points.{each_point, point_of};
+ghost use Rattle.vtl_meaning.specs.Points.{each_point, point_of, with_points};
+ghost use Rattle.vtl_meaning.specs.Profiles.{AllAreOfProfile};
 
 /// The value of a typed expression at a point of its columns is null or of exactly the kind of the expression.
 pub fn values_are_of_their_kind()
@@ -38,14 +39,14 @@ pub fn values_are_of_their_kind()
 /// Each operator gives a data set of the structure that typing gives: as many cells as columns, each null or of its
 /// column's kind, no identifier null, and each tuple of identifiers once.
 pub fn operators_keep_data_sets()
-    ensures measures { (p : Settings) (m : MeasureTree) (a s : Structure) (d out : List Row) → IsMeasured p m a s → IsDataSet a d → measured_of p m a s d ≡ Ok out → IsDataSet s out }
-    ensures pair { (p : Settings) (o : ScalarOp) (a b s : Structure) (d e out : List Row) → IsPaired p o a b s → IsDataSet a d → IsDataSet b e → pair_of p o a b s d e ≡ Ok out → IsDataSet s out }
-    ensures choice { (t a b s : Structure) (tests d e : List Row) → IsChoice t a b s → IsDataSet t tests → IsDataSet a d → IsDataSet b e → IsDataSet s (choice_of t a b s tests d e) }
-    ensures filter { (p : Settings) (e : CompExp) (a s : Structure) (d out : List Row) → IsFiltered p e a s → IsDataSet a d → filter_of p e d ≡ Ok out → IsDataSet s out }
-    ensures calc { (p : Settings) (items : List ItemTree) (a s : Structure) (d out : List Row) → IsCalculated p items a s → IsDataSet a d → calculated_of p items a s d ≡ Ok out → IsDataSet s out }
-    ensures left { (a s : Structure) (d : List Row) → IsLeft a s → IsDataSet a d → IsDataSet s (left_of a s d) }
-    ensures rename { (a s : Structure) (d : List Row) → IsRenamed a s → IsDataSet a d → IsDataSet s d }
-    ensures sub { (items : List SubItem) (a s : Structure) (d : List Row) → IsSub items a s → IsDataSet a d → IsDataSet s (sub_of items a s d) }
+    ensures measures { (p : Settings) (m : MeasureTree) (a : DataSet) (s : Structure) (out : List Row) → IsMeasured p m a.structure s → IsDataSet a.structure a.points → measured_of p m a s ≡ Ok out → IsDataSet s out }
+    ensures pair { (p : Settings) (o : ScalarOp) (a b : DataSet) (s : Structure) (out : List Row) → IsPaired p o a.structure b.structure s → IsDataSet a.structure a.points → IsDataSet b.structure b.points → pair_of p o a b s ≡ Ok out → IsDataSet s out }
+    ensures choice { (t a b : DataSet) (s : Structure) → IsChoice t.structure a.structure b.structure s → IsDataSet t.structure t.points → IsDataSet a.structure a.points → IsDataSet b.structure b.points → IsDataSet s (choice_of t a b s) }
+    ensures filter { (p : Settings) (e : CompExp) (a : DataSet) (s : Structure) (out : List Row) → IsFiltered p e a.structure s → IsDataSet a.structure a.points → filter_of p e a.points ≡ Ok out → IsDataSet s out }
+    ensures calc { (p : Settings) (items : List ItemTree) (a : DataSet) (s : Structure) (out : List Row) → IsCalculated p items a.structure s → IsDataSet a.structure a.points → calculated_of p items a s ≡ Ok out → IsDataSet s out }
+    ensures left { (a : DataSet) (s : Structure) → IsLeft a.structure s → IsDataSet a.structure a.points → IsDataSet s (left_of a s) }
+    ensures rename { (a : DataSet) (s : Structure) → IsRenamed a.structure s → IsDataSet a.structure a.points → IsDataSet s a.points }
+    ensures sub { (items : List SubItem) (a : DataSet) (s : Structure) → IsSub items a.structure s → IsDataSet a.structure a.points → IsDataSet s (sub_of items a s) }
 {}
 
 /// Over data sets, a typed expression that is evaluated gives a data set of its structure, and so is each output of a
@@ -53,6 +54,13 @@ pub fn operators_keep_data_sets()
 pub fn scripts_keep_data_sets()
     ensures expression { (p : Settings) (env : Environment) (n : NodeTree) (out : List Row) → is_built n ≡ true → IsMade p (known_in env) n → AreDataSets env → node_value p env n ≡ Ok out → IsDataSet (structure_of n) out }
     ensures outputs { (p : Settings) (ss : List Statement) (env : Environment) (out : Outputs) → list_all (λ s. is_built s.node) ss ≡ true → AreMadeStatements p (known_in env) ss → AreDataSets env → meaning p ss env ≡ Ok out → AreDataSets out }
+{}
+
+/// Over data sets whose integers are of the profile, a typed expression that is evaluated gives points whose integers
+/// are of the profile, and so does each output of a script.
+pub fn results_are_of_the_profile()
+    ensures expression { (p : Settings) (env : Environment) (n : NodeTree) → IsMade p (known_in env) n → AllAreOfProfile p env → IfOk (node_value p env n) (AreOfProfile p) }
+    ensures outputs { (p : Settings) (ss : List Statement) (env : Environment) → AreMadeStatements p (known_in env) ss → AllAreOfProfile p env → IfOk (meaning p ss env) (AllAreOfProfile p) }
 {}
 
 /// What each operator gives for a tuple `k` of the result's identifiers, without a fault. `++` puts the identifiers
@@ -68,16 +76,16 @@ pub fn scripts_keep_data_sets()
 /// - `keep`, `drop`, `a#m`: the operand's point with the columns that are left. `rename`: the point unchanged.
 /// - `sub`: at what is left of a tuple `j` that has the given values, the operand's point at `j`, and no other point.
 pub fn operators_by_look_up()
-    ensures measures { (p : Settings) (m : MeasureTree) (a s : Structure) (d out : List Row) (k : Row) → IsMeasured p m a s → IsDataSet a d → measured_of p m a s d ≡ Ok out → look (key_width s) out k ≡ option_map (λ r. k ++ measured_at p m a s r) (look (key_width a) d k) }
-    ensures pair_left { (p : Settings) (o : ScalarOp) (a b s : Structure) (d e out : List Row) (k : Row) → contains a b ≡ true → IsPaired p o a b s → IsDataSet a d → IsDataSet b e → pair_of p o a b s d e ≡ Ok out → look (key_width s) out k ≡ of_both (λ r q. k ++ paired_at p o a b s r q) (look (key_width a) d k) (look (key_width b) e (part_for a b k)) }
-    ensures pair_right { (p : Settings) (o : ScalarOp) (a b s : Structure) (d e out : List Row) (k : Row) → contains a b ≡ false → IsPaired p o a b s → IsDataSet a d → IsDataSet b e → pair_of p o a b s d e ≡ Ok out → look (key_width s) out k ≡ of_both (λ r q. k ++ paired_at p o a b s r q) (look (key_width a) d (part_for b a k)) (look (key_width b) e k) }
-    ensures choice { (t a b s : Structure) (tests d e : List Row) (k : Row) → IsChoice t a b s → IsDataSet t tests → IsDataSet a d → IsDataSet b e → look (key_width s) (choice_of t a b s tests d e) k ≡ option_and_then (λ r. cond (is_first_chosen t r) (chosen_at t a s d k) (chosen_at t b s e k)) (look (key_width t) tests k) }
-    ensures filter { (p : Settings) (e : CompExp) (a s : Structure) (d out : List Row) (k : Row) → IsFiltered p e a s → IsDataSet a d → filter_of p e d ≡ Ok out → look (key_width s) out k ≡ kept_row (λ r. is_true (value p e r)) (look (key_width a) d k) }
-    ensures calc { (p : Settings) (items : List ItemTree) (a s : Structure) (d out : List Row) (k : Row) → IsCalculated p items a s → IsDataSet a d → calculated_of p items a s d ≡ Ok out → look (key_width s) out k ≡ option_map (λ r. k ++ map (calculated_at p items a r) (others_of s)) (look (key_width a) d k) }
-    ensures left { (a s : Structure) (d : List Row) (k : Row) → IsLeft a s → IsDataSet a d → look (key_width s) (left_of a s d) k ≡ option_map (λ r. k ++ values_named (columns_of a) (others_of s) r) (look (key_width a) d k) }
-    ensures rename { (a s : Structure) (d : List Row) (k : Row) → IsRenamed a s → look (key_width s) d k ≡ look (key_width a) d k }
-    ensures sub { (items : List SubItem) (a s : Structure) (d : List Row) (j : Row) → IsSub items a s → IsDataSet a d → length j ≡ key_width a → has_key_values a items j ≡ true → look (key_width s) (sub_of items a s d) (part_for a s j) ≡ option_map (λ r. part_for a s j ++ values_named (columns_of a) (others_of s) r) (look (key_width a) d j) }
-    ensures sub_only { (items : List SubItem) (a s : Structure) (d : List Row) (k q : Row) → IsSub items a s → IsDataSet a d → look (key_width s) (sub_of items a s d) k ≡ Some q → (j : Row) × (length j ≡ key_width a) × (has_key_values a items j ≡ true) × (part_for a s j ≡ k) }
+    ensures measures { (p : Settings) (m : MeasureTree) (a : DataSet) (s : Structure) (out : List Row) (k : Row) → IsMeasured p m a.structure s → IsDataSet a.structure a.points → measured_of p m a s ≡ Ok out → look (key_width s) out k ≡ option_map (λ r. k ++ measured_at p m a.structure s r) (look (key_width a.structure) a.points k) }
+    ensures pair_left { (p : Settings) (o : ScalarOp) (a b : DataSet) (s : Structure) (out : List Row) (k : Row) → contains a.structure b.structure ≡ true → IsPaired p o a.structure b.structure s → IsDataSet a.structure a.points → IsDataSet b.structure b.points → pair_of p o a b s ≡ Ok out → look (key_width s) out k ≡ of_both (λ r q. k ++ paired_at p o a.structure b.structure s r q) (look (key_width a.structure) a.points k) (look (key_width b.structure) b.points (part_for a.structure b.structure k)) }
+    ensures pair_right { (p : Settings) (o : ScalarOp) (a b : DataSet) (s : Structure) (out : List Row) (k : Row) → contains a.structure b.structure ≡ false → IsPaired p o a.structure b.structure s → IsDataSet a.structure a.points → IsDataSet b.structure b.points → pair_of p o a b s ≡ Ok out → look (key_width s) out k ≡ of_both (λ r q. k ++ paired_at p o a.structure b.structure s r q) (look (key_width a.structure) a.points (part_for b.structure a.structure k)) (look (key_width b.structure) b.points k) }
+    ensures choice { (t a b : DataSet) (s : Structure) (k : Row) → IsChoice t.structure a.structure b.structure s → IsDataSet t.structure t.points → IsDataSet a.structure a.points → IsDataSet b.structure b.points → look (key_width s) (choice_of t a b s) k ≡ option_and_then (λ r. cond (is_first_chosen t.structure r) (chosen_at t.structure a s k) (chosen_at t.structure b s k)) (look (key_width t.structure) t.points k) }
+    ensures filter { (p : Settings) (e : CompExp) (a : DataSet) (s : Structure) (out : List Row) (k : Row) → IsFiltered p e a.structure s → IsDataSet a.structure a.points → filter_of p e a.points ≡ Ok out → look (key_width s) out k ≡ kept_row (λ r. is_true (value p e r)) (look (key_width a.structure) a.points k) }
+    ensures calc { (p : Settings) (items : List ItemTree) (a : DataSet) (s : Structure) (out : List Row) (k : Row) → IsCalculated p items a.structure s → IsDataSet a.structure a.points → calculated_of p items a s ≡ Ok out → look (key_width s) out k ≡ option_map (λ r. k ++ map (calculated_at p items a.structure r) (others_of s)) (look (key_width a.structure) a.points k) }
+    ensures left { (a : DataSet) (s : Structure) (k : Row) → IsLeft a.structure s → IsDataSet a.structure a.points → look (key_width s) (left_of a s) k ≡ option_map (λ r. k ++ values_named (columns_of a.structure) (others_of s) r) (look (key_width a.structure) a.points k) }
+    ensures rename { (a : DataSet) (s : Structure) (k : Row) → IsRenamed a.structure s → look (key_width s) a.points k ≡ look (key_width a.structure) a.points k }
+    ensures sub { (items : List SubItem) (a : DataSet) (s : Structure) (j : Row) → IsSub items a.structure s → IsDataSet a.structure a.points → length j ≡ key_width a.structure → has_key_values a.structure items j ≡ true → look (key_width s) (sub_of items a s) (part_for a.structure s j) ≡ option_map (λ r. part_for a.structure s j ++ values_named (columns_of a.structure) (others_of s) r) (look (key_width a.structure) a.points j) }
+    ensures sub_only { (items : List SubItem) (a : DataSet) (s : Structure) (k q : Row) → IsSub items a.structure s → IsDataSet a.structure a.points → look (key_width s) (sub_of items a s) k ≡ Some q → (j : Row) × (length j ≡ key_width a.structure) × (has_key_values a.structure items j ≡ true) × (part_for a.structure s j ≡ k) }
 {}
 
 /// The fault of an operator that evaluates expressions at each point is division by zero where any value has it,
@@ -89,12 +97,12 @@ pub fn faults_are_joined()
 
 /// Operands whose points stand in another order give the same points up to order, or the same fault.
 pub fn operators_do_not_see_order()
-    ensures measures { (p : Settings) (m : MeasureTree) (a s : Structure) (d e : List Row) → Perm d e → Same (measured_of p m a s d) (measured_of p m a s e) }
-    ensures pair { (p : Settings) (o : ScalarOp) (a b s : Structure) (d t e f : List Row) → IsDataSet a d → IsDataSet b e → Perm d t → Perm e f → Same (pair_of p o a b s d e) (pair_of p o a b s t f) }
-    ensures choice { (t a b s : Structure) (tests other d e f g : List Row) → IsDataSet a d → IsDataSet b f → Perm tests other → Perm d e → Perm f g → Perm (choice_of t a b s tests d f) (choice_of t a b s other e g) }
-    ensures calc { (p : Settings) (items : List ItemTree) (a s : Structure) (d e : List Row) → Perm d e → Same (calculated_of p items a s d) (calculated_of p items a s e) }
-    ensures left { (a s : Structure) (d e : List Row) → Perm d e → Perm (left_of a s d) (left_of a s e) }
-    ensures sub { (items : List SubItem) (a s : Structure) (d e : List Row) → Perm d e → Perm (sub_of items a s d) (sub_of items a s e) }
+    ensures measures { (p : Settings) (m : MeasureTree) (a s : Structure) (d e : List Row) → Perm d e → Same (measured_of p m (with_points a d) s) (measured_of p m (with_points a e) s) }
+    ensures pair { (p : Settings) (o : ScalarOp) (a b s : Structure) (d t e f : List Row) → IsDataSet a d → IsDataSet b e → Perm d t → Perm e f → Same (pair_of p o (with_points a d) (with_points b e) s) (pair_of p o (with_points a t) (with_points b f) s) }
+    ensures choice { (t a b s : Structure) (tests other d e f g : List Row) → IsDataSet a d → IsDataSet b f → Perm tests other → Perm d e → Perm f g → Perm (choice_of (with_points t tests) (with_points a d) (with_points b f) s) (choice_of (with_points t other) (with_points a e) (with_points b g) s) }
+    ensures calc { (p : Settings) (items : List ItemTree) (a s : Structure) (d e : List Row) → Perm d e → Same (calculated_of p items (with_points a d) s) (calculated_of p items (with_points a e) s) }
+    ensures left { (a s : Structure) (d e : List Row) → Perm d e → Perm (left_of (with_points a d) s) (left_of (with_points a e) s) }
+    ensures sub { (items : List SubItem) (a s : Structure) (d e : List Row) → Perm d e → Perm (sub_of items (with_points a d) s) (sub_of items (with_points a e) s) }
 {}
 
 /// What a script means does not depend on the order of points: over data sets with the same points, an expression has

@@ -2,16 +2,18 @@
 //! no code.
 //!
 //! Every back end must keep to `meaning`. The laws say that operators give data sets, do not depend on the order of
-//! points, and agree with look-up by identifiers; conditions say how a structure fits its operands, not how typing
-//! found it.
+//! points, and agree with look-up by identifiers; conditions say which structure a result has, component by component
+//! (specs/Made.antt), and which operands are literals, not how typing found them.
 //! It knows no tables, no files and no program: `vtl_expr`, `vtl_clause` and `vtl_interp` compute this.
 //! Begin with specs/Operators.antt and Meaning.antt; LookUps.antt says the same in the words of the manual.
 #![tactic(auto)]
 
 mod laws;
+mod structures;
 
 pub use laws::{
     faults_are_joined, meaning_does_not_see_order, operators_by_look_up,
-    operators_do_not_see_order, operators_keep_data_sets, scripts_keep_data_sets,
-    values_are_of_their_kind,
+    operators_do_not_see_order, operators_keep_data_sets, results_are_of_the_profile,
+    scripts_keep_data_sets, values_are_of_their_kind,
 };
+pub use structures::structures_are_determined;

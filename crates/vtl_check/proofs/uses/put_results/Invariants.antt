@@ -1,10 +1,11 @@
-use Rattle.std.proofs.Common.{◌≡◌, drop, map}
+use Rattle.std.proofs.Common.{◌≡◌, ◌+◌, drop, length, map}
 use Rattle.vtl_nodes.specs.View.{node_tree}
-use Rattle.vtl_syntax.specs.View.{statement_tree}
 use Rattle.vtl_check.specs.Uses.{results_behind}
+use Rattle.vtl_check.proofs.LeftLemmas.{left}
 use Rattle.vtl_check.proofs.uses.put_results.Given as goal
 
-abbrev pub invariant-loop-i : goal.invariant-loop-i
-invariant-loop-i l =
-    results_behind l.known.entries (map statement_tree (drop l.i l.statements)) (map node_tree (drop l.i l.nodes))
-    ≡ results_behind l.fn.known.entries (map statement_tree l.statements) (map node_tree l.nodes)
+abbrev pub invariant-loop-statement : goal.invariant-loop-statement
+invariant-loop-statement l = record {
+  many : l.place + length (left l.statements l.statement-index) ≡ length l.nodes;
+  results : results_behind l.known.entries (left l.statements l.statement-index) (map node_tree (drop l.place l.nodes)) ≡ results_behind l.fn.known.entries (left l.statements 0) (map node_tree l.nodes);
+}

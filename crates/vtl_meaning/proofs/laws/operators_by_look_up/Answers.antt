@@ -11,10 +11,10 @@ pub returns-clause-pair_right : goal.returns-clause-pair_right
 returns-clause-pair_right c = pair_look_right
 
 pub returns-clause-choice : goal.returns-clause-choice
-returns-clause-choice c = λ t a b s tests d e k i g h l. choice_look t a b s tests d e k i g h l
+returns-clause-choice c = choice_look
 
 pub returns-clause-filter : goal.returns-clause-filter
-returns-clause-filter c = filtered_look
+returns-clause-filter c = λ p e a s out k. filtered_look p e a.structure s a.points out k
 
 pub returns-clause-calc : goal.returns-clause-calc
 returns-clause-calc c = calculated_look
@@ -23,10 +23,10 @@ pub returns-clause-left : goal.returns-clause-left
 returns-clause-left c = left_look
 
 pub returns-clause-rename : goal.returns-clause-rename
-returns-clause-rename c = renamed_look
+returns-clause-rename c = λ a s k. renamed_look a.structure s a.points k
 
 pub returns-clause-sub : goal.returns-clause-sub
-returns-clause-sub c = λ items a s d j i h. sub_look items a s i h.well_formed d h j
+returns-clause-sub c = λ items a s j i h. sub_look items a.structure s i h.well_formed a.points h j
 
 pub returns-clause-sub_only : goal.returns-clause-sub_only
-returns-clause-sub_only c = λ items a s d k q i h. sub_look_only items a s i h.well_formed d h k q
+returns-clause-sub_only c = λ items a s k q i h. sub_look_only items a.structure s i h.well_formed a.points h k q

@@ -11,7 +11,7 @@ pub returns-clause-choice : goal.returns-clause-choice
 returns-clause-choice c = choice_kept
 
 pub returns-clause-filter : goal.returns-clause-filter
-returns-clause-filter c = filtered_kept
+returns-clause-filter c = λ p e a s out. filtered_kept p e a.structure s a.points out
 
 pub returns-clause-calc : goal.returns-clause-calc
 returns-clause-calc c = calculated_kept
@@ -20,7 +20,7 @@ pub returns-clause-left : goal.returns-clause-left
 returns-clause-left c = left_kept
 
 pub returns-clause-rename : goal.returns-clause-rename
-returns-clause-rename c = renamed_kept
+returns-clause-rename c = λ a s. renamed_kept a.structure s a.points
 
 pub returns-clause-sub : goal.returns-clause-sub
 returns-clause-sub c = sub_kept

@@ -1,0 +1,189 @@
+-- Expressions and nodes up to a depth.
+use Rattle.std.proofs.Common.{◌≤◌, ℕ, suc, Bool, true, false, cond, List, [], ◌∷◌, ◌++◌, length, Option, Some, None, Result, Ok, Err, arith}
+use Rattle.std.specs.List.{AllByRecursion, find, flat_map}
+use Rattle.std.specs.Option.{IfSome, option_map_or}
+use Rattle.std.specs.Prelude.{option_to_list}
+use Rattle.vtl_cell.specs.declared.kind.Kind.{Kind}
+use Rattle.vtl_cell.specs.declared.operator.ScalarOp.{ScalarOp}
+use Rattle.vtl_cell.specs.Results.{◌>>=◌}
+use Rattle.check_faults.specs.declared.rules.Rule.{Rule}
+use Rattle.vtl_syntax.specs.Depth.{deepest}
+use Rattle.vtl_tree.specs.CompExp.{CompExp, column, const, call, aggregate}
+use Rattle.vtl_tree.specs.Structure.{columns_of, same_name}
+use Rattle.vtl_tree.specs.View.{comp_exps_of}
+use Rattle.vtl_tree.specs.declared.structure.Component.{Component}
+use Rattle.vtl_tree.specs.declared.structure.Structure.{Structure}
+use Rattle.vtl_nodes.specs.Nodes.{all_nodes, form_nodes, nodes_in}
+use Rattle.vtl_nodes.specs.Trees as nodes
+use Rattle.vtl_nodes.specs.Trees.{FormTree, ItemTree, MeasureTree, NodeTree, ValueTree}
+use Rattle.check_shapes.specs.Pairs.{contains}
+use Rattle.check_operators.specs.Typed as typed
+use Rattle.check_operators.specs.Typed.{TypedTree, value, dataset}
+use Rattle.vtl_check.specs.Clauses as clauses
+use Rattle.vtl_meaning.specs.Columns.{column_behind, column_named, columns_named, identifiers_of, measures_of}
+use Rattle.vtl_meaning.specs.Operators.{calculated_exp, calculated_exps, for_measures, measured_exps, pair_exps, target_named, value_exp, with_measure, with_namesake}
+use Rattle.check_laws.specs.Depths.{comp_depth, comps_depth, exps_in, held_exps, item_exps, made_exps, node_depth, value_exps}
+use Rattle.check_laws.specs.Gives.{Gives}
+use Rattle.check_laws.proofs.Lists as lists
+
+abbrev pub IsUpTo : ℕ → CompExp → Type 0
+IsUpTo d e = comp_depth e ≤ d
+
+abbrev pub AreUpTo : ℕ → List CompExp → Type 0
+AreUpTo d es = AllByRecursion (IsUpTo d) es
+
+abbrev pub AreNodesUpTo : ℕ → List NodeTree → Type 0
+AreNodesUpTo d ns = AllByRecursion (λ n. AreUpTo d (exps_in n)) ns
+
+-- the expressions of a node and of all its operands; it is written by a name at least
+pub record IsNodeUpTo (d : ℕ) (n : NodeTree) : Type 0 where
+  pub some : 1 ≤ d
+  pub each : AreNodesUpTo d (nodes_in n)
+
+abbrev pub IsTreeUpTo : ℕ → TypedTree → Type 0
+IsTreeUpTo d (value e) = IsUpTo d e
+IsTreeUpTo d (dataset n) = IsNodeUpTo d n
+
+-- the value of a target
+abbrev pub IsValueUpTo : ℕ → ValueTree → Type 0
+IsValueUpTo d (nodes.scalar e) = IsUpTo d e
+IsValueUpTo d (nodes.analytic windowed) = Unit {0}
+
+abbrev pub IsItemUpTo : ℕ → ItemTree → Type 0
+IsItemUpTo d i = IsValueUpTo d i.value
+
+-- ---- the deepest of a list
+each-below : {X : Type 0} (depth : X → ℕ) (d : ℕ) (xs : List X) → deepest depth xs ≤ d → AllByRecursion (λ x. depth x ≤ d) xs
+each-below depth d [] h = tt
+each-below depth d (x ∷ xs) h = (omega arith, each-below depth d xs (omega arith))
+
+pub deepest-below : {X : Type 0} (depth : X → ℕ) (d : ℕ) (xs : List X) → AllByRecursion (λ x. depth x ≤ d) xs → deepest depth xs ≤ d
+deepest-below depth d [] h = omega arith
+deepest-below depth d (x ∷ xs) h = let here : depth x ≤ d = h.0 in let rest : deepest depth xs ≤ d = deepest-below depth d xs h.1 in omega arith
+
+every-flat : {X Y : Type 0} (P : Y → Type 0) (f : X → List Y) (xs : List X) → AllByRecursion (λ x. AllByRecursion P (f x)) xs → AllByRecursion P (flat_map f xs)
+every-flat P f [] h = tt
+every-flat P f (x ∷ xs) h = lists.appended P (f x) (flat_map f xs) h.0 (every-flat P f xs h.1)
+
+flat-every : {X Y : Type 0} (P : Y → Type 0) (f : X → List Y) (xs : List X) → AllByRecursion P (flat_map f xs) → AllByRecursion (λ x. AllByRecursion P (f x)) xs
+flat-every P f [] h = tt
+flat-every P f (x ∷ xs) h = (lists.front P (f x) (flat_map f xs) h, flat-every P f xs (lists.back P (f x) (flat_map f xs) h))
+
+pub node-depth : (d : ℕ) (n : NodeTree) → IsNodeUpTo d n → node_depth n ≤ d
+node-depth d n h = deepest-below comp_depth d (flat_map exps_in (nodes_in n)) (every-flat (IsUpTo d) exps_in (nodes_in n) h.each)
+
+-- each expression of a node and of its operands is at most as deep as the node
+pub node-below : (d : ℕ) (n : NodeTree) → node_depth n ≤ d → AreNodesUpTo d (nodes_in n)
+node-below d n h = flat-every (IsUpTo d) exps_in (nodes_in n) (each-below comp_depth d (flat_map exps_in (nodes_in n)) h)
+
+-- ---- a greater depth
+exps-raised : (c d : ℕ) (es : List CompExp) → c ≤ d → AreUpTo c es → AreUpTo d es
+exps-raised c d es le h = lists.weaker (IsUpTo c) (IsUpTo d) es (λ e k. omega arith) h
+
+pub nodes-raised : (c d : ℕ) (ns : List NodeTree) → c ≤ d → AreNodesUpTo c ns → AreNodesUpTo d ns
+nodes-raised c d ns le h = lists.weaker (λ n. AreUpTo c (exps_in n)) (λ n. AreUpTo d (exps_in n)) ns (λ n k. exps-raised c d (exps_in n) le k) h
+
+pub tree-raised : (c d : ℕ) (x : TypedTree) → c ≤ d → IsTreeUpTo c x → IsTreeUpTo d x
+tree-raised c d (value e) le h = omega arith
+tree-raised c d (dataset n) le h = record { some = omega arith; each = nodes-raised c d (nodes_in n) le h.each }
+
+-- ---- component expressions
+some-exp : (e : CompExp) → 1 ≤ comp_depth e
+some-exp (column place name kind) = omega arith
+some-exp (const v) = omega arith
+some-exp (call o kind args) = omega arith
+some-exp (aggregate a kind) = omega arith
+
+pub some-tree : (d : ℕ) (x : TypedTree) → IsTreeUpTo d x → 1 ≤ d
+some-tree d (value e) h = omega (arith, some-exp e)
+some-tree d (dataset n) h = h.some
+
+operands-up : (d : ℕ) (es : List CompExp) → AreUpTo d es → comps_depth (comp_exps_of es) ≤ d
+operands-up d [] h = omega arith
+operands-up d (e ∷ es) h = let here : comp_depth e ≤ d = h.0 in let rest : comps_depth (comp_exps_of es) ≤ d = operands-up d es h.1 in omega arith
+
+pub call-up : (d : ℕ) (o : ScalarOp) (kind : Kind) (es : List CompExp) → AreUpTo d es → IsUpTo (suc d) (call o kind (comp_exps_of es))
+call-up d o kind es h = omega (arith, operands-up d es h)
+
+-- ---- the expressions that a form makes of columns
+columns-up : (d : ℕ) (xs ys : List Component) → 1 ≤ d → AreUpTo d (columns_named xs ys)
+columns-up d xs ys some = lists.mapped (IsUpTo d) (λ y. column_named xs y.name) ys (lists.every (λ y. IsUpTo d (column_named xs y.name)) ys (λ y. some))
+
+for-up : (d : ℕ) (f : Component → Component → CompExp) (xs ys : List Component) → ((x y : Component) → IsUpTo d (f x y)) → AreUpTo d (for_measures f xs ys)
+for-up d f [] ys h = tt
+for-up d f (x ∷ xs) [] h = tt
+for-up d f (x ∷ xs) (y ∷ ys) h = (h x y, for-up d f xs ys h)
+
+pub measured-up : (d : ℕ) (m : MeasureTree) (a s : Structure) → 1 ≤ d → AreUpTo d m.before → AreUpTo d m.after → AreUpTo (suc d) (measured_exps m a s)
+measured-up d m a s some hb ha =
+    lists.appended (IsUpTo (suc d)) (columns_named (columns_of a) (identifiers_of s)) (for_measures (with_measure m (columns_of a)) (measures_of a) (measures_of s)) (columns-up (suc d) (columns_of a) (identifiers_of s) (omega arith))
+    (for-up (suc d) (with_measure m (columns_of a)) (measures_of a) (measures_of s)
+    (λ x y. call-up d m.op y.kind (m.before ++ column_named (columns_of a) x.name ∷ m.after) (lists.appended (IsUpTo d) m.before (column_named (columns_of a) x.name ∷ m.after) hb (some, ha))))
+
+-- either operand may be the one with all identifiers
+pub pair-up : (d : ℕ) (o : ScalarOp) (a b s : Structure) → 2 ≤ d → AreUpTo d (pair_exps o a b s)
+pair-up d o a b s two = go (contains a b)
+  where
+    one : 1 ≤ d
+    one = omega arith
+
+    each : (whole : Structure) (f g : List ℕ → CompExp) → ((name : List ℕ) → comp_depth (f name) ≤ 1) → ((name : List ℕ) → comp_depth (g name) ≤ 1) → AreUpTo d (columns_named (columns_of whole) (identifiers_of s) ++ for_measures (with_namesake o f g) (measures_of a) (measures_of s))
+    each whole f g hf hg =
+        lists.appended (IsUpTo d) (columns_named (columns_of whole) (identifiers_of s)) (for_measures (with_namesake o f g) (measures_of a) (measures_of s)) (columns-up d (columns_of whole) (identifiers_of s) one)
+        (for-up d (with_namesake o f g) (measures_of a) (measures_of s) (λ x y. omega (arith, hf x.name, hg x.name)))
+
+    go : (t : Bool) → AreUpTo d (cond t (columns_named (columns_of a) (identifiers_of s) ++ for_measures (with_namesake o (column_named (columns_of a)) (column_behind (length (columns_of a)) (columns_of b))) (measures_of a) (measures_of s)) (columns_named (columns_of b) (identifiers_of s) ++ for_measures (with_namesake o (column_behind (length (columns_of b)) (columns_of a)) (column_named (columns_of b))) (measures_of a) (measures_of s)))
+    go true = each a (column_named (columns_of a)) (column_behind (length (columns_of a)) (columns_of b)) (λ name. omega arith) (λ name. omega arith)
+    go false = each b (column_behind (length (columns_of b)) (columns_of a)) (column_named (columns_of b)) (λ name. omega arith) (λ name. omega arith)
+
+found-up : {X : Type 0} (P : X → Type 0) (p : X → Bool) (xs : List X) → AllByRecursion P xs → IfSome (find p xs) P
+found-up P p [] h = tt
+found-up P p (x ∷ xs) h = go (p x) (found-up P p xs h.1)
+  where
+    go : (b : Bool) → IfSome (find p xs) P → IfSome (cond b (Some x) (find p xs)) P
+    go true ih = h.0
+    go false ih = ih
+
+value-up : (d : ℕ) (v : ValueTree) → 1 ≤ d → IsValueUpTo d v → IsUpTo d (value_exp v)
+value-up d (nodes.scalar e) some h = h
+value-up d (nodes.analytic windowed) some h = some
+
+pub calculated-up : (d : ℕ) (items : List ItemTree) (a s : Structure) → 1 ≤ d → AllByRecursion (IsItemUpTo d) items → AreUpTo d (calculated_exps items a s)
+calculated-up d items a s some h = lists.mapped (IsUpTo d) (calculated_exp items (columns_of a)) (columns_of s) (lists.every (λ y. IsUpTo d (calculated_exp items (columns_of a) y)) (columns_of s) (λ y. go y (target_named items y.name) (found-up (IsItemUpTo d) (λ i. same_name i.target y.name) items h)))
+  where
+    go : (y : Component) (o : Option ItemTree) → IfSome o (IsItemUpTo d) → IsUpTo d (option_map_or (λ i. value_exp i.value) o (column_named (columns_of a) y.name))
+    go y None k = some
+    go y (Some i) k = value-up d i.value some k
+
+-- ---- the expressions that a form holds
+pub items-up : (d : ℕ) (items : List ItemTree) → AllByRecursion (IsItemUpTo d) items → AreUpTo d (flat_map item_exps items)
+items-up d items h = every-flat (IsUpTo d) item_exps items (lists.weaker (IsItemUpTo d) (λ i. AreUpTo d (item_exps i)) items (λ i k. held i.value k) h)
+  where
+    held : (v : ValueTree) → IsValueUpTo d v → AreUpTo d (value_exps v)
+    held (nodes.scalar e) k = (k, tt)
+    held (nodes.analytic windowed) k = tt
+
+pub option-up : (d : ℕ) (o : Option CompExp) → IfSome o (IsUpTo d) → AreUpTo d (option_to_list o)
+option-up d None h = tt
+option-up d (Some e) h = (h, tt)
+
+-- ---- a node over operands
+pub node-up : (d : ℕ) (s : Structure) (form : FormTree) → 1 ≤ d → AreUpTo d (held_exps form) → AreUpTo d (made_exps s form) → AreNodesUpTo d (form_nodes form) → IsNodeUpTo d (nodes.node s form)
+node-up d s form some held made below = record { some = some; each = (lists.appended (IsUpTo d) (held_exps form) (made_exps s form) held made, below) }
+
+-- the same as typing makes it, whatever its structure is
+pub dataset-up : (d : ℕ) (form : FormTree) (r : Result Structure Rule) → ((s : Structure) → IsNodeUpTo d (nodes.node s form)) → Gives (IsTreeUpTo d) (r >>= typed.made_of form)
+dataset-up d form (Ok s) h = h s
+dataset-up d form (Err broken) h = tt
+
+pub clause-up : (d : ℕ) (form : FormTree) (r : Result Structure Rule) → ((s : Structure) → IsNodeUpTo d (nodes.node s form)) → Gives (IsNodeUpTo d) (r >>= clauses.made_of form)
+clause-up d form (Ok s) h = h s
+clause-up d form (Err broken) h = tt
+
+-- operands beside each other
+pub beside : (d : ℕ) (xs ys : List NodeTree) → AreNodesUpTo d xs → AreNodesUpTo d ys → AreNodesUpTo d (xs ++ ys)
+beside d xs ys h k = lists.appended (λ n. AreUpTo d (exps_in n)) xs ys h k
+
+pub all-beside : (d : ℕ) (ns : List NodeTree) → AllByRecursion (IsNodeUpTo d) ns → AreNodesUpTo d (all_nodes (nodes.nodes_of ns))
+all-beside d [] h = tt
+all-beside d (n ∷ ns) h = beside d (nodes_in n) (all_nodes (nodes.nodes_of ns)) h.0.each (all-beside d ns h.1)

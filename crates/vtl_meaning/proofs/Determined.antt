@@ -1,0 +1,28 @@
+-- The structure of a result is one.
+use Rattle.std.proofs.Common.{◌≡◌, List, true, Some, ap, sym, ◌∙◌}
+use Rattle.vtl_cell.specs.Settings.{Settings}
+use Rattle.vtl_tree.specs.Structures.{Named, structure_of}
+use Rattle.vtl_tree.specs.declared.structure.Component.{Component}
+use Rattle.vtl_tree.specs.declared.structure.Structure.{Structure}
+use Rattle.vtl_nodes.specs.Trees as nodes
+use Rattle.vtl_nodes.specs.Trees.{FormTree}
+use Rattle.vtl_meaning.specs.Made.{IsMadeForm}
+use Rattle.vtl_meaning.specs.Meaning.{is_built_form}
+
+-- structures of the same components
+pub same_shape : (s t : Structure) (xs : List Component) → s.components ≡ xs → t.components ≡ xs → s ≡ t
+same_shape s t xs h k = ap structure_of (h ∙ sym k)
+
+pub form_shape : (p : Settings) (known : Named) (s t : Structure) (form : FormTree) → is_built_form form ≡ true → IsMadeForm p known s form → IsMadeForm p known t form → s ≡ t
+form_shape p known s t (nodes.named name) b h k = let e : Some s ≡ Some t = sym h ∙ k in cc
+form_shape p known s t (nodes.measures m a) b h k = same_shape s t _ h.1.shape k.1.shape
+form_shape p known s t (nodes.pair o a c) b h k = same_shape s t _ h.2.shape k.2.shape
+form_shape p known s t (nodes.choose c a d) b h k = same_shape s t _ h.3.shape k.3.shape
+form_shape p known s t (nodes.member a m) b h k = same_shape s t _ h.2.shape k.2.shape
+form_shape p known s t (nodes.filter a e) b h k = h.1.same ∙ sym k.1.same
+form_shape p known s t (nodes.calc a items) b h k = same_shape s t _ h.1.shape k.1.shape
+form_shape p known s t (nodes.keep a names) b h k = same_shape s t _ h.2.shape k.2.shape
+form_shape p known s t (nodes.drop_named a names) b h k = same_shape s t _ h.2.shape k.2.shape
+form_shape p known s t (nodes.rename a pairs) b h k = same_shape s t _ h.2 k.2
+form_shape p known s t (nodes.sub a items) b h k = same_shape s t _ h.1.shape k.1.shape
+form_shape p known s t form b h k = cc

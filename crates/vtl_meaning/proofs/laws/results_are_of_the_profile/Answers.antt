@@ -1,0 +1,8 @@
+use Rattle.vtl_meaning.proofs.Profiles.{meaning_gives, node_gives}
+use Rattle.vtl_meaning.proofs.laws.results_are_of_the_profile.Goals as goal
+
+pub returns-clause-expression : goal.returns-clause-expression
+returns-clause-expression c = λ p env n i h. node_gives p env h n i
+
+pub returns-clause-outputs : goal.returns-clause-outputs
+returns-clause-outputs c = meaning_gives
