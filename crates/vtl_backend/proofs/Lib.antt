@@ -1,1 +1,3 @@
+pub use Rattle.vtl_check.proofs.LeftLemmas
+pub use Rattle.vtl_check.proofs.NameLemmas
 pub mod Agrees

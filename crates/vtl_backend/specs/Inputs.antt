@@ -9,6 +9,7 @@ use Rattle.vtl_tree.specs.Environment.{DataSet, Environment}
 use Rattle.vtl_tree.specs.Structures.{Named}
 use Rattle.vtl_tree.specs.declared.structure.Structure.{Structure}
 use Rattle.vtl_sets.specs.TableOf.{IsTableOf}
+use Rattle.vtl_meaning.specs.Profiles.{AllAreOfProfile}
 use Rattle.vtl_check.specs.Checked.{TypedScript, nodes_of}
 use Rattle.vtl_check.specs.Uses.{reads}
 
@@ -35,3 +36,7 @@ input_of tables e = (e.0, record { structure = e.1; points = rows_named e.0 tabl
 -- the data sets that the script reads, by name
 abbrev pub environment_of : TypedScript → NamedTables → Environment
 environment_of t tables = map (input_of tables) (inputs_of t)
+
+-- these data sets hold integers of the script's profile alone
+abbrev pub AreInRange : TypedScript → NamedTables → Type 0
+AreInRange t tables = AllAreOfProfile t.settings (environment_of t tables)

@@ -3,6 +3,7 @@ pub use Rattle.vtl_check.specs.Count
 pub use Rattle.vtl_check.specs.Names
 pub use Rattle.vtl_check.specs.Places
 pub use Rattle.vtl_check.specs.Script
+pub use Rattle.vtl_check.specs.Transformations
 pub use Rattle.vtl_check.specs.Uses
 pub mod Agree
 pub mod Inputs

@@ -1,30 +1,25 @@
 -- The statements of a typed script, and what is evaluated of them so far.
-use Rattle.std.specs.Prelude.{ℕ, Bool, true, false, List, [], ◌∷◌, length}
+use Rattle.std.specs.Prelude.{Bool, true, false, List, [], ◌∷◌}
 use Rattle.std.specs.List.{list_all}
-use Rattle.vtl_syntax.specs.Trees as tree
-use Rattle.vtl_syntax.specs.Trees.{ScriptTree}
 use Rattle.vtl_syntax.specs.declared.word_groups.AssignKind.{AssignKind}
 use Rattle.vtl_syntax.specs.declared.word_groups.AssignKind.TheVariants as kind
 use Rattle.vtl_nodes.specs.Trees.{NodeTree}
 use Rattle.vtl_meaning.specs.Meaning.{Statement, is_built}
 use Rattle.vtl_check.specs.Checked.{TypedScript, nodes_of, tree_of}
+use Rattle.vtl_check.specs.Transformations.{Transformation, transformations}
 
 -- a result is written where `<-` assigns it
 abbrev pub is_written : AssignKind → Bool
 is_written kind.Persistent = true
 is_written kind.Temporary = false
 
--- each assignment with its node; a typed script has nothing but assignments, and as many nodes
-abbrev pub with_nodes : ScriptTree → List NodeTree → List Statement
-with_nodes (tree.assignment name k e ∷ ss) (n ∷ ns) = record { result = name; persistent = is_written k; node = n } ∷ with_nodes ss ns
-with_nodes ss ns = []
+-- each transformation with its node; a typed script has as many of each
+abbrev pub with_nodes : List Transformation → List NodeTree → List Statement
+with_nodes (t ∷ ts) (n ∷ ns) = record { result = t.name; persistent = is_written t.kind; node = n } ∷ with_nodes ts ns
+with_nodes ts ns = []
 
 abbrev pub statements_of : TypedScript → List Statement
-statements_of t = with_nodes (tree_of t) (nodes_of t)
+statements_of t = with_nodes (transformations (tree_of t)) (nodes_of t)
 
 abbrev pub is_script_built : TypedScript → Bool
 is_script_built t = list_all is_built (nodes_of t)
-
--- how many transformations a script has
-abbrev pub transformations : TypedScript → ℕ
-transformations t = length t.nodes

@@ -14,6 +14,7 @@ use Rattle.vtl_sets.proofs.TableLemmas.{point_fits}
 use Rattle.vtl_meaning.specs.Columns.{places_in}
 use Rattle.vtl_meaning.specs.Made.{IsSub}
 use Rattle.vtl_meaning.specs.Operators.{has_values}
+use Rattle.vtl_meaning.specs.Points.{with_points}
 use Rattle.vtl_meaning.proofs.Kept.{sub_kept}
 use Rattle.vtl_expr.proofs.PointLemmas.{holds_at}
 use Rattle.vtl_clause.specs.Pins.{are_met, is_met, wanted_in}
@@ -30,7 +31,7 @@ pub sub_fits : (items : List SubItem) (a s : Structure) (d : List Row) (i : ℕ)
 sub_fits items a s d i r is h l at has =
     let own = holds_at (λ x. is_point (columns_of a) x ≡ true) d i r h.typed l at in
     let one : IsDataSet a (r ∷ []) = record { well_formed = h.well_formed; typed = (own, tt); distinct = refl } in
-    let made = (sub_kept items a s (r ∷ []) is one).typed in
+    let made = (sub_kept items (with_points a (r ∷ [])) s is one).typed in
     let places = places_in (columns_of a) (columns_of s) in
     let taken : AllByRecursion (λ x. is_point (columns_of s) x ≡ true) (cells_at places r ∷ []) =
     subst (λ b. AllByRecursion (λ x. is_point (columns_of s) x ≡ true) (map (cells_at places) (cond b (r ∷ []) []))) has made in

@@ -85,7 +85,7 @@ fn calculated_table(
 ) -> Result<Table, ScalarErr>
     requires { IsCalculated p.now (map item_tree items.now) a.now.structure made.now }
     ensures table { IfOk result (IsTableOf made.now) }
-    ensures rows { AnswersBy (λ t. t.rows) result (calculated_of p.now (map item_tree items.now) a.now.structure made.now a.now.points) }
+    ensures rows { AnswersBy (λ t. t.rows) result (calculated_of p.now (map item_tree items.now) a.now made.now) }
 {
     let wanted = made.columns(alloc)?;
     let exps = calculated_exps(alloc, items, a.structure(), &wanted)?;
@@ -103,7 +103,7 @@ pub fn calc(
     p: &Profile,
 ) -> Result<DataSet, ScalarErr>
     requires { IsCalculated p.now (map item_tree items.now) a.now.structure made }
-    ensures { Answers result (with_structure made (calculated_of p.now (map item_tree items.now) a.now.structure made a.now.points)) }
+    ensures { Answers result (with_structure made (calculated_of p.now (map item_tree items.now) a.now made)) }
 {
     let table = calculated_table(alloc, a, items, &made, p);
     DataSet::answered(alloc, made, table)

@@ -94,7 +94,7 @@ fn sub_table(
 ) -> Result<Table, AllocError>
     requires { IsSub items.now a.now.structure made.now }
     ensures table { IfOk result (IsTableOf made.now) }
-    ensures rows { IfOk result (λ t. t.rows ≡ sub_of items.now a.now.structure made.now a.now.points) }
+    ensures rows { IfOk result (λ t. t.rows ≡ sub_of items.now a.now made.now) }
 {
     let structure = a.structure();
     let pins = pinned(alloc, structure, items)?;
@@ -117,7 +117,7 @@ pub fn sub(
     made: Structure,
 ) -> Result<DataSet, AllocError>
     requires { IsSub items.now a.now.structure made }
-    ensures { IfOk result (λ d. d ≡ data_set made (sub_of items.now a.now.structure made a.now.points)) }
+    ensures { IfOk result (λ d. d ≡ data_set made (sub_of items.now a.now made)) }
 {
     let table = sub_table(alloc, a, items, &made)?;
     DataSet::of(alloc, made, table)

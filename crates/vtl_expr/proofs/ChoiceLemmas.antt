@@ -55,7 +55,7 @@ taken_fits t s tests d a identifiers columns i r g h n m asked ids cs l at q at_
 abbrev taken_by : List ℕ → List ℕ → ℕ → List Row → Row → Row → List Row
 taken_by identifiers measures width points key r = option_to_list (option_map (joined_by identifiers measures r) (look width points key))
 
-taken_is : (t s : Structure) (d : DataSet) (a : Alternative) (identifiers : List ℕ) (r : Row) → IsAsked t d s a → identifiers ≡ places_in (columns_of t) (identifiers_of s) → taken identifiers a r ≡ taken_from t d.structure s d.points r
+taken_is : (t s : Structure) (d : DataSet) (a : Alternative) (identifiers : List ℕ) (r : Row) → IsAsked t d s a → identifiers ≡ places_in (columns_of t) (identifiers_of s) → taken identifiers a r ≡ taken_from t d s r
 taken_is t s d a identifiers r asked ids =
     let own = places_in (columns_of t) (identifiers_of s) in
     let theirs = places_in (columns_of d.structure) (measures_of s) in
@@ -65,12 +65,12 @@ taken_is t s d a identifiers r asked ids =
     ∙ ap (λ (x : Sought). taken_by own theirs (length x.places) x.points (cells_at x.places r) r) asked.partners
     ∙ ap (λ n. taken_by own theirs n d.points key r) (length-map (identifiers_of d.structure) (λ y. place_of y.name (columns_of t)))
 
-chosen_at : (t s : Structure) (d e : DataSet) (x : Choice) (r : Row) → IsBetween t d e s x → chosen x r ≡ taken_at t d.structure e.structure s d.points e.points r
+chosen_at : (t s : Structure) (d e : DataSet) (x : Choice) (r : Row) → IsBetween t d e s x → chosen x r ≡ taken_at t d e s r
 chosen_at t s d e x r is =
     ap (λ n. cond (is_true (Ok (column_of n r))) (taken x.identifiers.items x.first r) (taken x.identifiers.items x.second r)) is.test
     ∙ ap (λ l. cond (is_first_chosen t r) l (taken x.identifiers.items x.second r)) (taken_is t s d x.first x.identifiers.items r is.first is.identifiers)
-    ∙ ap (λ l. cond (is_first_chosen t r) (taken_from t d.structure s d.points r) l) (taken_is t s e x.second x.identifiers.items r is.second is.identifiers)
+    ∙ ap (λ l. cond (is_first_chosen t r) (taken_from t d s r) l) (taken_is t s e x.second x.identifiers.items r is.second is.identifiers)
 
-pub all_chosen : (t s : Structure) (d e : DataSet) (x : Choice) (tests rows : List Row) (i : ℕ) → IsBetween t d e s x → rows ≡ tests → length rows ≤ i → flat_map (chosen x) (take i rows) ≡ choice_of t d.structure e.structure s tests d.points e.points
-all_chosen t s d e x tests rows i is same l =
-    ap (flat_map (chosen x)) (take_all i rows l ∙ same) ∙ ap (λ g. flat_map g tests) (λ j r. chosen_at t s d e x r is j)
+pub all_chosen : (t d e : DataSet) (s : Structure) (x : Choice) (rows : List Row) (i : ℕ) → IsBetween t.structure d e s x → rows ≡ t.points → length rows ≤ i → flat_map (chosen x) (take i rows) ≡ choice_of t d e s
+all_chosen t d e s x rows i is same l =
+    ap (flat_map (chosen x)) (take_all i rows l ∙ same) ∙ ap (λ g. flat_map g t.points) (λ j r. chosen_at t.structure s d e x r is j)

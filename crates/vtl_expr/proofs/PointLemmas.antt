@@ -1,5 +1,5 @@
 -- Points that are made one after the other, and the faults of their values.
-use Rattle.std.proofs.Common.{◌≡◌, ℕ, zero, suc, ◌+◌, ◌<◌, List, [], ◌∷◌, ◌++◌, true, length, map, take, get_or, Option, Some, None, Result, Ok, Err, sym, ap, ◌∙◌, subst, arith}
+use Rattle.std.proofs.Common.{◌≡◌, ℕ, zero, suc, ◌+◌, ◌<◌, List, [], ◌∷◌, ◌++◌, true, length, map, take, get_or, Option, Some, None, Result, refl, sym, ap, ◌∙◌, subst, arith}
 use Rattle.std.specs.List.{AllByRecursion, flat_map}
 use Rattle.std.specs.Prelude.{IfOk}
 use Rattle.std.proofs.lemmas.Grind.{flat_map-append}
@@ -9,9 +9,8 @@ use Rattle.vtl_cell.specs.declared.cell.Cell.{Cell}
 use Rattle.vtl_cell.specs.Outcome.{Fault, DivZero, Range, fault_in, faults_by, join, unless}
 use Rattle.vtl_cell.specs.Row.{Row}
 use Rattle.vtl_rows.specs.Tables.{fits, fits_kinds}
-use Rattle.vtl_scalar.specs.Answers.{Answers, AnswersBy}
+use Rattle.vtl_scalar.specs.Answers.{AnswersBy}
 use Rattle.vtl_scalar.specs.declared.error.ScalarErr.{ScalarErr}
-use Rattle.vtl_scalar.specs.declared.error.ScalarErr.TheVariants as err
 use Rattle.vtl_tree.specs.CompExp.{CompExp}
 use Rattle.vtl_tree.specs.DataSet.{is_point}
 use Rattle.vtl_tree.specs.Value.{value}
@@ -24,6 +23,7 @@ use Rattle.vtl_sets.proofs.ColumnLemmas.{kinds_of_columns}
 use Rattle.vtl_meaning.specs.Made.{AreFor}
 use Rattle.vtl_meaning.specs.Points.{cell_or_null, point_fault, point_of}
 use Rattle.vtl_meaning.proofs.Kept.{values_fit}
+use Rattle.vtl_expr.specs.Seen.{answer_of}
 
 -- ---- one more value
 pub values_more : (p : Settings) (es : List CompExpr) (i : ℕ) (e : CompExpr) (r : Row) → i < length es → e ≡ get_or es i e → point_of p (map comp_exp_of (take (i + 1) es)) r ≡ point_of p (map comp_exp_of (take i es)) r ++ cell_or_null (value p (comp_exp_of e) r) ∷ []
@@ -52,17 +52,15 @@ pub fitting : (p : Settings) (xs : List Component) (es : List CompExp) (ys : Lis
 fitting p xs es ys r i h = ap (λ ks. fits_kinds ks (point_of p es r)) (kinds_of_columns ys) ∙ values_fit p xs es ys r i h
 
 -- ---- the end of a walk
-seen_by : {A B : Type 0} (view : A → B) (r : Result A ScalarErr) (s : Option Fault) (x : A) → Answers r (unless s x) → AnswersBy view r (unless s (view x))
-seen_by view (Ok z) None x a = let same : x ≡ z = cc in ap (λ w. Ok (view w)) same
-seen_by view (Ok z) (Some f) x a = cc
-seen_by view (Err err.DivZero) None x a = cc
-seen_by view (Err err.DivZero) (Some f) x a = let same : f ≡ DivZero = cc in ap Err same
-seen_by view (Err err.Range) None x a = cc
-seen_by view (Err err.Range) (Some f) x a = let same : f ≡ Range = cc in ap Err same
-seen_by view (Err err.OutOfMemory) s x a = tt
+seen_by : {A B : Type 0} (view : A → B) (s : Option Fault) (x : A) → AnswersBy view (answer_of (unless s x)) (unless s (view x))
+seen_by view None x = refl
+seen_by view (Some DivZero) x = refl
+seen_by view (Some Range) x = refl
 
-pub finished : {A B : Type 0} (view : A → B) (r : Result A ScalarErr) (s f : Option Fault) (x : A) (y : B) → Answers r (unless s x) → s ≡ f → view x ≡ y → AnswersBy view r (unless f y)
-finished view r s f x y a e g = subst (λ t. AnswersBy view r (unless t y)) e (subst (λ z. AnswersBy view r (unless s z)) g (seen_by view r s x a))
+pub finished : {A B : Type 0} (view : A → B) (r : Result A ScalarErr) (s f : Option Fault) (x : A) (y : B) → r ≡ answer_of (unless s x) → s ≡ f → view x ≡ y → AnswersBy view r (unless f y)
+finished view r s f x y a e g =
+    subst (λ q. AnswersBy view q (unless f y)) (sym a)
+    (subst (λ t. AnswersBy view (answer_of (unless s x)) (unless t y)) e (subst (λ z. AnswersBy view (answer_of (unless s x)) (unless s z)) g (seen_by view s x)))
 
 -- ---- points that are drawn from rows
 pub drawn_more : (g : Row → List Row) (rows : List Row) (i : ℕ) (r : Row) → i < length rows → r ≡ get_or rows i r → flat_map g (take (i + 1) rows) ≡ flat_map g (take i rows) ++ g r
@@ -79,7 +77,10 @@ drawn_faults f g rows old new i r h at o n =
     n ∙ ap (λ s. join s (faults_by f (g r))) o ∙ sym (faults_by-append f (flat_map g (take i rows)) (g r)) ∙ ap (faults_by f) (sym (drawn_more g rows i r h at))
 
 -- what holds of the value holds of the answer
-pub answered_keeps : {A : Type 0} (P : A → Type 0) (r : Result A ScalarErr) (s : Option Fault) (x : A) → Answers r (unless s x) → P x → IfOk r P
-answered_keeps P (Ok z) None x a h = let same : x ≡ z = cc in subst P same h
-answered_keeps P (Ok z) (Some f) x a h = cc
-answered_keeps P (Err e) s x a h = tt
+pub answered_keeps : {A : Type 0} (P : A → Type 0) (r : Result A ScalarErr) (s : Option Fault) (x : A) → r ≡ answer_of (unless s x) → P x → IfOk r P
+answered_keeps P r s x a h = subst (λ q. IfOk q P) (sym a) (go s)
+  where
+    go : (t : Option Fault) → IfOk (answer_of (unless t x)) P
+    go None = h
+    go (Some DivZero) = tt
+    go (Some Range) = tt

@@ -31,7 +31,7 @@ Fits columns identifiers a r = (q : Row) → found a.partners r ≡ Some q → f
 
 -- an operand as the points of a condition see it
 pub record IsAsked (t : Structure) (d : DataSet) (s : Structure) (a : Alternative) : Type 0 where
-  pub partners : a.partners ≡ sought_by t d.structure d.points
+  pub partners : a.partners ≡ sought_by t d
   pub measures : a.measures.items ≡ places_in (columns_of d.structure) (measures_of s)
   pub points : IsDataSet d.structure d.points
 

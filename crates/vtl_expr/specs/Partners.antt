@@ -8,6 +8,7 @@ use Rattle.vtl_rows.specs.Tables.{cells_at, fits}
 use Rattle.vtl_rows.specs.declared.column.Column.{Column}
 use Rattle.vtl_tree.specs.CompExp.{CompExp}
 use Rattle.vtl_tree.specs.DataSet.{look}
+use Rattle.vtl_tree.specs.Environment.{DataSet}
 use Rattle.vtl_tree.specs.Structure.{columns_of}
 use Rattle.vtl_tree.specs.declared.structure.Structure.{Structure}
 use Rattle.vtl_meaning.specs.Columns.{identifiers_of, places_in}
@@ -23,8 +24,8 @@ abbrev pub found : Sought → Row → Option Row
 found sought r = look (length sought.places) sought.points (cells_at sought.places r)
 
 -- the points of an operand, as the rows of a structure ask for them
-abbrev pub sought_by : Structure → Structure → List Row → Sought
-sought_by s other points = record { places = places_in (columns_of s) (identifiers_of other); points = points }
+abbrev pub sought_by : Structure → DataSet → Sought
+sought_by s other = record { places = places_in (columns_of s) (identifiers_of other.structure); points = other.points }
 
 -- what comes of a row and the point that it asks for, where there is one
 abbrev pub with_found : (Row → Row → Row) → Sought → Row → List Row

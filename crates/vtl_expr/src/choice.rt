@@ -149,7 +149,7 @@ fn choice_table<L: Ledger>(
     requires some { 0 < L.parts }
     requires made { IsChoice condition.now.structure then.now.structure other.now.structure made.now }
     ensures table { IfOk result (IsTableOf made.now) }
-    ensures rows { IfOk result (λ t. t.rows ≡ choice_of condition.now.structure then.now.structure other.now.structure made.now condition.now.points then.now.points other.now.points) }
+    ensures rows { IfOk result (λ t. t.rows ≡ choice_of condition.now then.now other.now made.now) }
 {
     let mut steps: Steps<L> = Steps::new(blank);
     let choice = Choice::of(alloc, condition.structure(), then, other, made, &mut steps)?;
@@ -172,7 +172,7 @@ pub fn choose(
     made: Structure,
 ) -> Result<DataSet, AllocError>
     requires { IsChoice condition.now.structure then.now.structure other.now.structure made }
-    ensures { IfOk result (λ d. d ≡ data_set made (choice_of condition.now.structure then.now.structure other.now.structure made condition.now.points then.now.points other.now.points)) }
+    ensures { IfOk result (λ d. d ≡ data_set made (choice_of condition.now then.now other.now made)) }
 {
     let table = choice_table::<Brand>(alloc, condition, then, other, &made, Blank::new(1))?;
     DataSet::of(alloc, made, table)

@@ -1,5 +1,5 @@
 // Expressions that are made from columns and other expressions.
-ghost use Rattle.std.specs.Prelude.{◌≡◌, ◌++◌, ◌∷◌, [], length, map, IfOk, OnOk};
+ghost use Rattle.std.specs.Prelude.{◌≡◌, ◌++◌, ◌∷◌, [], length, map, IfOk, OnErr, OnOk};
 ghost use Rattle.vtl_tree.specs.Shown.{shown};
 ghost use Rattle.vtl_tree.specs.Structure.{columns_of};
 ghost use Rattle.vtl_tree.specs.View.{comp_exp_of};
@@ -86,13 +86,14 @@ pub(crate) fn column_behind(
     })
 }
 
-/// Puts the column of a name, as an expression, after others.
+/// Puts the column of a name, as an expression, after others. If memory runs out, the others are left as they were.
 pub fn push_column(
     out: &mut Vec<CompExpr>,
     columns: &[&Component],
     name: &Txt,
 ) -> Result<(), AllocError>
-    ensures { OnOk result (map comp_exp_of out.new.items ≡ map comp_exp_of out.old.items ++ column_named (shown columns.now) name.now ∷ []) }
+    ensures ok { OnOk result (map comp_exp_of out.new.items ≡ map comp_exp_of out.old.items ++ column_named (shown columns.now) name.now ∷ []) }
+    ensures err { OnErr result (out.new.items ≡ out.old.items) }
 {
     out.push(column_behind(&[], columns, name)?)?;
     Ok(())

@@ -14,7 +14,7 @@ use vtl_tree::Structure;
 fn kept_table(alloc: Global, a: &DataSet, made: &Structure) -> Result<Table, AllocError>
     requires { IsLeft a.now.structure made.now }
     ensures table { IfOk result (IsTableOf made.now) }
-    ensures rows { IfOk result (λ t. t.rows ≡ left_of a.now.structure made.now a.now.points) }
+    ensures rows { IfOk result (λ t. t.rows ≡ left_of a.now made.now) }
 {
     let columns = made.columns(alloc)?;
     let places = places_in(alloc, a.structure(), &columns)?;
@@ -25,7 +25,7 @@ fn kept_table(alloc: Global, a: &DataSet, made: &Structure) -> Result<Table, All
 /// only if memory runs out.
 pub fn keep_columns(alloc: Global, a: &DataSet, made: Structure) -> Result<DataSet, AllocError>
     requires { IsLeft a.now.structure made }
-    ensures { IfOk result (λ d. d ≡ data_set made (left_of a.now.structure made a.now.points)) }
+    ensures { IfOk result (λ d. d ≡ data_set made (left_of a.now made)) }
 {
     let table = kept_table(alloc, a, &made)?;
     DataSet::of(alloc, made, table)

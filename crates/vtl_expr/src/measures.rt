@@ -85,7 +85,7 @@ fn measured_table(
 ) -> Result<Table, ScalarErr>
     requires { IsMeasured p.now (measure_tree op.now) a.now.structure made.now }
     ensures table { IfOk result (IsTableOf made.now) }
-    ensures rows { AnswersBy (λ t. t.rows) result (measured_of p.now (measure_tree op.now) a.now.structure made.now a.now.points) }
+    ensures rows { AnswersBy (λ t. t.rows) result (measured_of p.now (measure_tree op.now) a.now made.now) }
 {
     let exps = measured_exps(alloc, op, a.structure(), made)?;
     each_point(alloc, &exps, a, made, p)
@@ -102,7 +102,7 @@ pub fn map_measures(
     p: &Profile,
 ) -> Result<DataSet, ScalarErr>
     requires { IsMeasured p.now (measure_tree op.now) a.now.structure made }
-    ensures { Answers result (with_structure made (measured_of p.now (measure_tree op.now) a.now.structure made a.now.points)) }
+    ensures { Answers result (with_structure made (measured_of p.now (measure_tree op.now) a.now made)) }
 {
     let table = measured_table(alloc, op, a, &made, p);
     DataSet::answered(alloc, made, table)

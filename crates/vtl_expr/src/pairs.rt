@@ -1,6 +1,6 @@
 // An operator on the measures of two data sets.
 ghost use Rattle.std.specs.List.{flat_map};
-ghost use Rattle.std.specs.Prelude.{◌≡◌, ◌<◌, ◌++◌, true, false, map, Some, IfOk, IfErr, OnOk};
+ghost use Rattle.std.specs.Prelude.{◌≡◌, ◌<◌, ◌++◌, true, cond, map, Some, IfOk, IfErr, OnOk};
 ghost use Rattle.vtl_cell.specs.Outcome.{faults_by, join};
 ghost use Rattle.vtl_cell.specs.Row.{Row};
 ghost use Rattle.vtl_rows.specs.Tables.{fits};
@@ -16,6 +16,7 @@ ghost use Rattle.vtl_meaning.specs.Points.{each_point, paired, point_fault, poin
 ghost use Rattle.vtl_sets.specs.TableOf.{IsTableOf, table_columns};
 ghost use Rattle.vtl_expr.specs.Partners.{AllFit, found, with_found};
 ghost use Rattle.vtl_expr.specs.Seen.{seen_of};
+ghost use Rattle.vtl_expr.specs.Sides.{left_column, right_column, side_column};
 
 use crate::namesakes::{Side, namesake_exps};
 use crate::partners::Partners;
@@ -104,7 +105,7 @@ fn each_pair<L: Ledger>(
     requires other { IsDataSet other.now.structure other.now.points }
     requires expressions { AreFor p.now (columns_of lead.now.structure ++ columns_of other.now.structure) (map comp_exp_of exps.now) (columns_of made.now) }
     ensures columns { IfOk result (λ t. t.columns ≡ table_columns made.now) }
-    ensures rows { AnswersBy (λ t. t.rows) result (each_point p.now (map comp_exp_of exps.now) (paired lead.now.structure other.now.structure lead.now.points other.now.points)) }
+    ensures rows { AnswersBy (λ t. t.rows) result (each_point p.now (map comp_exp_of exps.now) (paired lead.now other.now)) }
 {
     let mut steps: Steps<L> = Steps::new(blank);
     let partners = Partners::of(alloc, lead.structure(), other, &mut steps)?;
@@ -124,53 +125,47 @@ fn pairs_table(
     requires other { IsDataSet other.now.structure other.now.points }
     requires expressions { AreFor p.now (columns_of lead.now.structure ++ columns_of other.now.structure) (map comp_exp_of exps.now) (columns_of made.now) }
     ensures columns { IfOk result (λ t. t.columns ≡ table_columns made.now) }
-    ensures rows { AnswersBy (λ t. t.rows) result (each_point p.now (map comp_exp_of exps.now) (paired lead.now.structure other.now.structure lead.now.points other.now.points)) }
+    ensures rows { AnswersBy (λ t. t.rows) result (each_point p.now (map comp_exp_of exps.now) (paired lead.now other.now)) }
 {
     each_pair::<Brand>(alloc, exps, lead, other, made, p, Blank::new(1))
 }
 
-// The left operand has all identifiers of the right one.
-fn left_leads(
-    alloc: Global,
-    op: ScalarOp,
-    a: &DataSet,
-    b: &DataSet,
-    made: &Structure,
-    p: &Profile,
-) -> Result<Table, ScalarErr>
-    requires leads { contains a.now.structure b.now.structure ≡ true }
-    requires made { IsPaired p.now op a.now.structure b.now.structure made.now }
-    ensures table { IfOk result (IsTableOf made.now) }
-    ensures rows { AnswersBy (λ t. t.rows) result (pair_of p.now op a.now.structure b.now.structure made.now a.now.points b.now.points) }
-{
-    let ours = a.structure();
-    let theirs = b.structure();
-    let left = Side::leading(alloc, ours)?;
-    let right = Side::behind(alloc, ours, theirs)?;
-    let exps = namesake_exps(alloc, op, ours, &left, &right, ours, made)?;
-    pairs_table(alloc, &exps, a, b, made, p)
+// Two operands: the one that leads, since it has all identifiers of the other, and the other one; and the columns of the
+// left and of the right operand, where the cells of the one that leads stand first.
+#[derive(Drop)]
+struct Lead<'a> {
+    lead: &'a DataSet,
+    other: &'a DataSet,
+    left: Side<'a>,
+    right: Side<'a>,
 }
 
-// The right operand has all identifiers of the left one, and more.
-fn right_leads(
-    alloc: Global,
-    op: ScalarOp,
-    a: &DataSet,
-    b: &DataSet,
-    made: &Structure,
-    p: &Profile,
-) -> Result<Table, ScalarErr>
-    requires leads { contains a.now.structure b.now.structure ≡ false }
-    requires made { IsPaired p.now op a.now.structure b.now.structure made.now }
-    ensures table { IfOk result (IsTableOf made.now) }
-    ensures rows { AnswersBy (λ t. t.rows) result (pair_of p.now op a.now.structure b.now.structure made.now a.now.points b.now.points) }
-{
-    let ours = a.structure();
-    let theirs = b.structure();
-    let left = Side::behind(alloc, theirs, ours)?;
-    let right = Side::leading(alloc, theirs)?;
-    let exps = namesake_exps(alloc, op, theirs, &left, &right, ours, made)?;
-    pairs_table(alloc, &exps, b, a, made, p)
+impl<'a> Lead<'a> {
+    // The left operand leads where it has all identifiers of the right one, else the right operand leads.
+    fn of(alloc: Global, a: &'a DataSet, b: &'a DataSet) -> Result<Lead<'a>, AllocError>
+        ensures lead { IfOk result (λ l. l.lead.now ≡ cond (contains a.now.structure b.now.structure) a.now b.now) }
+        ensures other { IfOk result (λ l. l.other.now ≡ cond (contains a.now.structure b.now.structure) b.now a.now) }
+        ensures points { IfOk result (λ l. IsDataSet l.lead.now.structure l.lead.now.points × IsDataSet l.other.now.structure l.other.now.points) }
+        ensures left { IfOk result (λ l. side_column l.left ≡ left_column a.now.structure b.now.structure) }
+        ensures right { IfOk result (λ l. side_column l.right ≡ right_column a.now.structure b.now.structure) }
+    {
+        let (ours, theirs) = (a.structure(), b.structure());
+        if contains(ours, theirs) {
+            Ok(Lead {
+                lead: a,
+                other: b,
+                left: Side::leading(alloc, ours)?,
+                right: Side::behind(alloc, ours, theirs)?,
+            })
+        } else {
+            Ok(Lead {
+                lead: b,
+                other: a,
+                left: Side::behind(alloc, theirs, ours)?,
+                right: Side::leading(alloc, theirs)?,
+            })
+        }
+    }
 }
 
 fn pair_table(
@@ -183,13 +178,13 @@ fn pair_table(
 ) -> Result<Table, ScalarErr>
     requires { IsPaired p.now op a.now.structure b.now.structure made.now }
     ensures table { IfOk result (IsTableOf made.now) }
-    ensures rows { AnswersBy (λ t. t.rows) result (pair_of p.now op a.now.structure b.now.structure made.now a.now.points b.now.points) }
+    ensures rows { AnswersBy (λ t. t.rows) result (pair_of p.now op a.now b.now made.now) }
 {
-    if contains(a.structure(), b.structure()) {
-        left_leads(alloc, op, a, b, made, p)
-    } else {
-        right_leads(alloc, op, a, b, made, p)
-    }
+    let pair = Lead::of(alloc, a, b)?;
+    let lead = pair.lead.structure();
+    let ours = a.structure();
+    let exps = namesake_exps(alloc, op, lead, &pair.left, &pair.right, ours, made)?;
+    pairs_table(alloc, &exps, pair.lead, pair.other, made, p)
 }
 
 /// The operator's value at each measure and its namesake, for every two points that agree on the common identifiers, as
@@ -205,7 +200,7 @@ pub fn pair_measures(
     p: &Profile,
 ) -> Result<DataSet, ScalarErr>
     requires { IsPaired p.now op a.now.structure b.now.structure made }
-    ensures { Answers result (with_structure made (pair_of p.now op a.now.structure b.now.structure made a.now.points b.now.points)) }
+    ensures { Answers result (with_structure made (pair_of p.now op a.now b.now made)) }
 {
     let table = pair_table(alloc, op, a, b, &made, p);
     DataSet::answered(alloc, made, table)

@@ -70,7 +70,7 @@ impl<'a> Partners<'a> {
         other: &'a DataSet,
         steps: &mut Steps<L>,
     ) -> Result<Partners<'a>, AllocError>
-        ensures { IfOk result (λ partners. partners ≡ sought_by asking.now other.now.structure other.now.points) }
+        ensures { IfOk result (λ partners. partners ≡ sought_by asking.now other.now) }
     {
         let identifiers = other.structure().identifiers(alloc)?;
         let places = places_in(alloc, asking, &identifiers)?;

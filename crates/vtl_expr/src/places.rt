@@ -1,5 +1,5 @@
 // Cells by the places of columns.
-ghost use Rattle.std.specs.Prelude.{◌≡◌, ◌++◌, IfOk, OnOk};
+ghost use Rattle.std.specs.Prelude.{◌≡◌, ◌++◌, ◌∷◌, [], IfOk, OnOk, OnErr};
 ghost use Rattle.vtl_cell.specs.Row.{column_of};
 ghost use Rattle.vtl_rows.specs.Tables.{cells_at};
 ghost use Rattle.vtl_tree.specs.Shown.{shown};
@@ -27,32 +27,53 @@ pub fn places_in(
     Ok(places)
 }
 
-// A cell equal to the one at a place, or null after the last one.
-fn copy_at(row: &[Cell], place: usize) -> Result<Cell, AllocError>
-    ensures { IfOk result (λ copy. copy ≡ column_of place row.now) }
+// Puts a copy of a cell after others, which are left as they are if memory runs out.
+fn push_copy(cells: &mut Vec<Cell>, cell: &Cell) -> Result<(), AllocError>
+    ensures ok { OnOk result (cells.new.items ≡ cells.old.items ++ cell.now ∷ []) }
+    ensures err { OnErr result (cells.new.items ≡ cells.old.items) }
+{
+    cells.push(clone_cell(cell)?)?;
+    Ok(())
+}
+
+// The same with the cell at a place of a row, or null after the last one.
+fn push_copy_at(cells: &mut Vec<Cell>, row: &[Cell], place: usize) -> Result<(), AllocError>
+    ensures ok { OnOk result (cells.new.items ≡ cells.old.items ++ column_of place row.now ∷ []) }
+    ensures err { OnErr result (cells.new.items ≡ cells.old.items) }
 {
     match row.get(place) {
-        Some(cell) => clone_cell(cell),
-        None => Ok(Cell::Null),
+        Some(cell) => push_copy(cells, cell),
+        None => push_copy(cells, &Cell::Null),
     }
 }
 
-/// Puts the cells at places of a row after others. Texts are shared.
+/// Puts the cells at places of a row after others. Texts are shared. If memory runs out, the others are left as they
+/// were.
 pub fn push_cells(cells: &mut Vec<Cell>, row: &[Cell], places: &[usize]) -> Result<(), AllocError>
-    ensures { OnOk result (cells.new.items ≡ cells.old.items ++ cells_at places.now row.now) }
+    ensures ok { OnOk result (cells.new.items ≡ cells.old.items ++ cells_at places.now row.now) }
+    ensures err { OnErr result (cells.new.items ≡ cells.old.items) }
 {
+    let before = cells.len();
     for place in places {
-        cells.push(copy_at(row, *place)?)?;
+        if let Err(error) = push_copy_at(cells, row, *place) {
+            cells.truncate(before);
+            return Err(error);
+        }
     }
     Ok(())
 }
 
-/// Puts the cells of a row after others. Texts are shared.
+/// Puts the cells of a row after others. Texts are shared. If memory runs out, the others are left as they were.
 pub fn push_row(cells: &mut Vec<Cell>, row: &[Cell]) -> Result<(), AllocError>
-    ensures { OnOk result (cells.new.items ≡ cells.old.items ++ row.now) }
+    ensures ok { OnOk result (cells.new.items ≡ cells.old.items ++ row.now) }
+    ensures err { OnErr result (cells.new.items ≡ cells.old.items) }
 {
+    let before = cells.len();
     for cell in row {
-        cells.push(clone_cell(cell)?)?;
+        if let Err(error) = push_copy(cells, cell) {
+            cells.truncate(before);
+            return Err(error);
+        }
     }
     Ok(())
 }

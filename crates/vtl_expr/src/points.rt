@@ -2,14 +2,14 @@
 ghost use Rattle.std.specs.Prelude.{◌≡◌, true, ◌++◌, ◌∷◌, [], map, IfOk, IfErr, OnOk, None};
 ghost use Rattle.vtl_cell.specs.Outcome.{fault_in, join, unless};
 ghost use Rattle.vtl_rows.specs.Tables.{fits};
-ghost use Rattle.vtl_scalar.specs.Answers.{Answers, AnswersBy};
+ghost use Rattle.vtl_scalar.specs.Answers.{AnswersBy};
 ghost use Rattle.vtl_tree.specs.Structure.{IsStructure, columns_of};
 ghost use Rattle.vtl_tree.specs.Value.{value};
 ghost use Rattle.vtl_tree.specs.View.{comp_exp_of};
 ghost use Rattle.vtl_sets.specs.TableOf.{table_columns};
 ghost use Rattle.vtl_meaning.specs.Made.{AreFor};
 ghost use Rattle.vtl_meaning.specs.Points.{cell_or_null, each_point, point_fault, point_of};
-ghost use Rattle.vtl_expr.specs.Seen.{seen_of};
+ghost use Rattle.vtl_expr.specs.Seen.{answer_of, seen_of};
 
 use crate::evaluation::eval;
 use crate::seen::Seen;
@@ -93,7 +93,7 @@ impl Points {
 
     // The table, unless a value has a fault.
     pub(crate) fn finish(self) -> Result<Table, ScalarErr>
-        ensures { Answers result (unless (seen_of self.seen) self.table) }
+        ensures { result ≡ answer_of (unless (seen_of self.seen) self.table) }
     {
         self.seen.unless(self.table)
     }

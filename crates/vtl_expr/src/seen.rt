@@ -1,7 +1,7 @@
 // The fault that a walk over many points has seen.
+ghost use Rattle.std.specs.Prelude.{◌≡◌};
 ghost use Rattle.vtl_cell.specs.Outcome.{unless};
-ghost use Rattle.vtl_scalar.specs.Answers.{Answers};
-ghost use Rattle.vtl_expr.specs.Seen.{seen_of, SeesAlso};
+ghost use Rattle.vtl_expr.specs.Seen.{answer_of, seen_of, SeesAlso};
 
 use vtl_scalar::ScalarErr;
 
@@ -33,7 +33,7 @@ impl Seen {
 
     /// The value, unless a fault was seen.
     pub fn unless<T: Drop>(self, value: T) -> Result<T, ScalarErr>
-        ensures { Answers result (unless (seen_of self) value) }
+        ensures { result ≡ answer_of (unless (seen_of self) value) }
     {
         match self {
             Seen::Nothing => Ok(value),

@@ -1,7 +1,7 @@
 -- What an expression evaluates to, from what its operands do.
 use Rattle.std.proofs.Common.{◌≡◌, List, Result, Ok, Err, sym, ap, ◌∙◌}
 use Rattle.vtl_cell.specs.Settings.{Settings}
-use Rattle.vtl_cell.specs.Outcome.{DivZero, Fault, Outcome, Range, after}
+use Rattle.vtl_cell.specs.Outcome.{DivZero, Fault, Outcome, Range}
 use Rattle.vtl_cell.specs.Row.{Row}
 use Rattle.vtl_scalar.specs.Answers.{AnswersBy}
 use Rattle.vtl_scalar.specs.declared.error.ScalarErr.{ScalarErr}
@@ -10,7 +10,8 @@ use Rattle.vtl_tree.specs.Environment.{DataSet, Environment}
 use Rattle.vtl_tree.specs.declared.structure.Structure.{Structure}
 use Rattle.vtl_nodes.specs.Trees.{NodeTree, structure_of}
 use Rattle.vtl_sets.specs.DataSets.{data_set, with_structure}
-use Rattle.vtl_meaning.specs.Meaning.{node_value}
+use Rattle.vtl_meaning.specs.Meaning.{node_value, with_operand}
+use Rattle.vtl_meaning.specs.Points.{with_points}
 use Rattle.vtl_interp.specs.Evaluated.{Evaluates, Gives}
 
 -- a function of a structure and a data set at others that are the same
@@ -47,5 +48,5 @@ stops view other p env a n err.Range g h = g Range h
 stops view other p env a n err.OutOfMemory g h = tt
 
 -- what follows an operand that is evaluated
-pub then : (p : Settings) (env : Environment) (a : NodeTree) (d : DataSet) (f : Structure → List Row → Outcome (List Row)) → Gives p env a d → after (node_value p env a) (f (structure_of a)) ≡ f d.structure d.points
-then p env a d f g = ap (λ m. after m (f (structure_of a))) g.points ∙ ap (λ s. f s d.points) (sym g.structure)
+pub then : (p : Settings) (env : Environment) (a : NodeTree) (d : DataSet) (f : DataSet → Outcome (List Row)) → Gives p env a d → with_operand a (node_value p env a) f ≡ f d
+then p env a d f g = ap (λ m. with_operand a m f) g.points ∙ ap (λ s. f (with_points s d.points)) (sym g.structure)

@@ -8,8 +8,6 @@ use Rattle.vtl_cell.specs.Settings.{Settings}
 use Rattle.vtl_cell.specs.Outcome.{Fault, after}
 use Rattle.vtl_cell.specs.Row.{Row}
 use Rattle.vtl_rows.specs.Named.{NamedTables}
-use Rattle.vtl_syntax.specs.Trees as tree
-use Rattle.vtl_syntax.specs.Trees.{ScriptTree}
 use Rattle.vtl_tree.specs.Environment.{DataSet, Environment}
 use Rattle.vtl_tree.specs.Structure.{same_name}
 use Rattle.vtl_tree.specs.Structures.{Named}
@@ -17,6 +15,7 @@ use Rattle.vtl_tree.specs.declared.structure.Structure.{Structure}
 use Rattle.vtl_tree.proofs.StructuresLemmas.{not_found}
 use Rattle.vtl_nodes.specs.Trees.{NodeTree, structure_of}
 use Rattle.vtl_backend.specs.Checked.{IsTyped, TypedScript, known_of, nodes_of, tree_of}
+use Rattle.vtl_backend.specs.Transformations.{Transformation, transformations}
 use Rattle.vtl_backend.specs.Uses.{results_behind, with_new}
 use Rattle.vtl_meaning.specs.Meaning.{Outputs, meaning, node_value, stated, with_output}
 use Rattle.vtl_backend.specs.Inputs.{environment_of, inputs_of}
@@ -38,32 +37,30 @@ kept_known known true name d (Ok rest) outputs there ih e = let same : (name, d)
 kept_known known true name d (Err f) outputs there ih e = cc
 kept_known known false name d m outputs there ih e = ih outputs e
 
-known_results : (p : Settings) (ss : ScriptTree) (ns : List NodeTree) (env : Environment) (known : Named) (outputs : Outputs) → AreNew (keys_of known) (with_nodes ss ns) → meaning p (with_nodes ss ns) env ≡ Ok outputs → AreKnown (results_behind known ss ns) outputs
+known_results : (p : Settings) (ts : List Transformation) (ns : List NodeTree) (env : Environment) (known : Named) (outputs : Outputs) → AreNew (keys_of known) (with_nodes ts ns) → meaning p (with_nodes ts ns) env ≡ Ok outputs → AreKnown (results_behind known ts ns) outputs
 known_results p [] ns env known outputs new e = let none : [] ≡ outputs = cc in subst (AreKnown known) none tt
-known_results p (tree.assignment name k x ∷ ss) [] env known outputs new e = let none : [] ≡ outputs = cc in subst (AreKnown known) none tt
-known_results p (tree.assignment name k x ∷ ss) (n ∷ ns) env known outputs new e =
-    go (node_value p env n) (λ d rest. known_results p ss ns ((name, d) ∷ env) (known ++ (name, structure_of n) ∷ []) rest (subst (λ (l : List (List ℕ)). AreNew l (with_nodes ss ns)) (sym keys) new.1)) e
+known_results p (t ∷ ts) [] env known outputs new e = let none : [] ≡ outputs = cc in subst (AreKnown known) none tt
+known_results p (t ∷ ts) (n ∷ ns) env known outputs new e =
+    go (node_value p env n) (λ d rest. known_results p ts ns ((t.name, d) ∷ env) (known ++ (t.name, structure_of n) ∷ []) rest (subst (λ (l : List (List ℕ)). AreNew l (with_nodes ts ns)) (sym keys) new.1)) e
   where
-    keys : keys_of (known ++ (name, structure_of n) ∷ []) ≡ keys_of known ++ name ∷ []
-    keys = map-append (λ (y : List ℕ × Structure). y.0) known ((name, structure_of n) ∷ [])
+    keys : keys_of (known ++ (t.name, structure_of n) ∷ []) ≡ keys_of known ++ t.name ∷ []
+    keys = map-append (λ (y : List ℕ × Structure). y.0) known ((t.name, structure_of n) ∷ [])
 
-    grown : with_new known name (structure_of n) ≡ known ++ (name, structure_of n) ∷ []
-    grown = ap (λ b. cond b known (known ++ (name, structure_of n) ∷ [])) new.0
+    grown : with_new known t.name (structure_of n) ≡ known ++ (t.name, structure_of n) ∷ []
+    grown = ap (λ b. cond b known (known ++ (t.name, structure_of n) ∷ [])) new.0
 
-    there : lookup (same_name name) (results_behind (known ++ (name, structure_of n) ∷ []) ss ns) ≡ Some (structure_of n)
-    there = still_found name (structure_of n) (known ++ (name, structure_of n) ∷ []) ss ns (found_behind name known ((name, structure_of n) ∷ []) (not_found known name new.0) ∙ ap (λ b. cond b (Some (structure_of n)) None) ((bytes_decides name name).1 refl))
+    there : lookup (same_name t.name) (results_behind (known ++ (t.name, structure_of n) ∷ []) ts ns) ≡ Some (structure_of n)
+    there = still_found t.name (structure_of n) (known ++ (t.name, structure_of n) ∷ []) ts ns (found_behind t.name known ((t.name, structure_of n) ∷ []) (not_found known t.name new.0) ∙ ap (λ b. cond b (Some (structure_of n)) None) ((bytes_decides t.name t.name).1 refl))
 
-    go : (r : Result (List Row) Fault) → ((d : DataSet) (rest : Outputs) → meaning p (with_nodes ss ns) ((name, d) ∷ env) ≡ Ok rest → AreKnown (results_behind (known ++ (name, structure_of n) ∷ []) ss ns) rest)
-        → stated (record { result = name; persistent = is_written k; node = n }) (after r (λ points. Ok (record { structure = structure_of n; points = points }))) (λ d. meaning p (with_nodes ss ns) ((name, d) ∷ env)) ≡ Ok outputs
-        → AreKnown (results_behind (with_new known name (structure_of n)) ss ns) outputs
+    go : (r : Result (List Row) Fault) → ((d : DataSet) (rest : Outputs) → meaning p (with_nodes ts ns) ((t.name, d) ∷ env) ≡ Ok rest → AreKnown (results_behind (known ++ (t.name, structure_of n) ∷ []) ts ns) rest)
+        → stated (record { result = t.name; persistent = is_written t.kind; node = n }) (after r (λ points. Ok (record { structure = structure_of n; points = points }))) (λ d. meaning p (with_nodes ts ns) ((t.name, d) ∷ env)) ≡ Ok outputs
+        → AreKnown (results_behind (with_new known t.name (structure_of n)) ts ns) outputs
     go (Ok points) ih e =
-        subst (λ (l : Named). AreKnown (results_behind l ss ns) outputs) (sym grown)
-        (kept_known (results_behind (known ++ (name, structure_of n) ∷ []) ss ns) (is_written k) name (record { structure = structure_of n; points = points }) (meaning p (with_nodes ss ns) ((name, record { structure = structure_of n; points = points }) ∷ env)) outputs there (ih (record { structure = structure_of n; points = points })) e)
+        subst (λ (l : Named). AreKnown (results_behind l ts ns) outputs) (sym grown)
+        (kept_known (results_behind (known ++ (t.name, structure_of n) ∷ []) ts ns) (is_written t.kind) t.name (record { structure = structure_of n; points = points }) (meaning p (with_nodes ts ns) ((t.name, record { structure = structure_of n; points = points }) ∷ env)) outputs there (ih (record { structure = structure_of n; points = points })) e)
     go (Err f) ih e = cc
-known_results p (tree.datapoint n vs rs b ∷ ss) ns env known outputs new e = let none : [] ≡ outputs = cc in subst (AreKnown known) none tt
-known_results p (tree.hierarchical n v rs b ∷ ss) ns env known outputs new e = let none : [] ≡ outputs = cc in subst (AreKnown known) none tt
 
 -- each output has the structure that is known of its name
 pub outputs_known : (t : TypedScript) (tables : NamedTables) (outputs : Outputs) → IsTyped t → script_meaning t tables ≡ Ok outputs → AllByRecursion (λ e. lookup (same_name e.0) (known_of t) ≡ Some e.1.structure) outputs
 outputs_known t tables outputs typed e =
-    known_results t.settings (tree_of t) (nodes_of t) (environment_of t tables) (inputs_of t) outputs (new_among_fewer (keys_of (inputs_of t)) (keys_of t.declared) (statements_of t) (reads_fewer t.declared (nodes_of t)) (results_new t typed)) e
+    known_results t.settings (transformations (tree_of t)) (nodes_of t) (environment_of t tables) (inputs_of t) outputs (new_among_fewer (keys_of (inputs_of t)) (keys_of t.declared) (statements_of t) (reads_fewer t.declared (nodes_of t)) (results_new t typed)) e

@@ -9,8 +9,6 @@ use Rattle.std.proofs.lemmas.Option.{get_or_from_slice_get, slice_get_within}
 use Rattle.vtl_cell.specs.Apart.{all_apart}
 use Rattle.vtl_cell.specs.Row.{Row}
 use Rattle.vtl_rows.specs.Named.{NamedTables, table_of}
-use Rattle.vtl_syntax.specs.Trees as tree
-use Rattle.vtl_syntax.specs.Trees.{ScriptTree}
 use Rattle.vtl_tree.specs.Environment.{DataSet, Environment}
 use Rattle.vtl_tree.specs.Structure.{same_name}
 use Rattle.vtl_tree.specs.Structures.{Named, has_name}
@@ -18,6 +16,7 @@ use Rattle.vtl_tree.specs.declared.structure.Structure.{Structure}
 use Rattle.vtl_text.proofs.Apart.{repeated}
 use Rattle.vtl_nodes.specs.Trees.{NodeTree, structure_of}
 use Rattle.vtl_backend.specs.Checked.{TypedScript, known_of, nodes_of, tree_of}
+use Rattle.vtl_backend.specs.Transformations.{Transformation, transformations}
 use Rattle.vtl_backend.specs.Uses.{results_behind, with_new}
 use Rattle.vtl_meaning.specs.Meaning.{known_in}
 use Rattle.vtl_backend.specs.Inputs.{AreInputs, Holds, input_of, inputs_of, rows_named}
@@ -71,16 +70,14 @@ entry_at (x ∷ es) (suc i) name apart h e =
     none false q = refl
 
 -- results stand behind what is known
-pub still_found : (name : List ℕ) (s : Structure) (known : Named) (ss : ScriptTree) (ns : List NodeTree) → lookup (same_name name) known ≡ Some s → lookup (same_name name) (results_behind known ss ns) ≡ Some s
+pub still_found : (name : List ℕ) (s : Structure) (known : Named) (ts : List Transformation) (ns : List NodeTree) → lookup (same_name name) known ≡ Some s → lookup (same_name name) (results_behind known ts ns) ≡ Some s
 still_found name s known [] ns e = e
-still_found name s known (tree.assignment n k x ∷ ss) [] e = e
-still_found name s known (tree.assignment n k x ∷ ss) (m ∷ ns) e = still_found name s (with_new known n (structure_of m)) ss ns (go (has_name n known))
+still_found name s known (t ∷ ts) [] e = e
+still_found name s known (t ∷ ts) (m ∷ ns) e = still_found name s (with_new known t.name (structure_of m)) ts ns (go (has_name t.name known))
   where
-    go : (b : Bool) → lookup (same_name name) (cond b known (known ++ (n, structure_of m) ∷ [])) ≡ Some s
+    go : (b : Bool) → lookup (same_name name) (cond b known (known ++ (t.name, structure_of m) ∷ [])) ≡ Some s
     go true = e
-    go false = found_in_front name known ((n, structure_of m) ∷ []) s e
-still_found name s known (tree.datapoint n vs rs b ∷ ss) ns e = e
-still_found name s known (tree.hierarchical n v rs b ∷ ss) ns e = e
+    go false = found_in_front name known ((t.name, structure_of m) ∷ []) s e
 
 all_at : {X : Type 0} (P : X → Type 0) (xs : List X) (i : ℕ) (x : X) → AllByRecursion P xs → slice_get xs i ≡ Some x → P x
 all_at P [] i x h e = cc
@@ -91,7 +88,7 @@ pub is_input : (t : TypedScript) (tables : NamedTables) (i : ℕ) (name : List �
 is_input t tables i name are it =
     record {
       structure = it.structure;
-      found = still_found name it.structure (inputs_of t) (tree_of t) (nodes_of t) it.found;
+      found = still_found name it.structure (inputs_of t) (transformations (tree_of t)) (nodes_of t) it.found;
       holds = all_at (λ e. Holds e.1 (table_of e.0 tables)) (inputs_of t) i (name, it.structure) are it.entry;
     }
 
@@ -117,7 +114,7 @@ pub held_more : (t : TypedScript) (tables : NamedTables) (known now : Environmen
     → now ≡ map (input_of tables) (take (i + 1) (inputs_of t))
 held_more t tables known now i name d it held found points e =
     let s = it.structure in
-    let there : lookup (same_name name) (known_of t) ≡ Some s = still_found name s (inputs_of t) (tree_of t) (nodes_of t) it.found in
+    let there : lookup (same_name name) (known_of t) ≡ Some s = still_found name s (inputs_of t) (transformations (tree_of t)) (nodes_of t) it.found in
     let both : Some d.structure ≡ Some s = sym found ∙ there in
     let same : d.structure ≡ s = cc in
     let made : (name, d) ≡ input_of tables (name, s) = ap (λ (u : Structure). (name, record { structure = u; points = d.points })) same ∙ ap (λ (rows : List Row). (name, record { structure = s; points = rows })) points in

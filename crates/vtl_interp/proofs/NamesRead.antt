@@ -1,5 +1,5 @@
 -- What expressions and statements mean depends only on the data sets that they read.
-use Rattle.std.proofs.Common.{◌≡◌, ℕ, Bool, true, ◌&&◌, cond, List, [], ◌∷◌, ◌++◌, Option, Some, Ok, Err, refl, sym, ap, ◌∙◌}
+use Rattle.std.proofs.Common.{◌≡◌, ℕ, Bool, true, ◌&&◌, cond, List, [], ◌∷◌, ◌++◌, Option, Some, Ok, Err, refl, sym, ap, subst, ◌∙◌}
 use Rattle.std.specs.List.{AllByRecursion, flat_map, list_all}
 use Rattle.std.specs.Map.{lookup}
 use Rattle.std.specs.Option.{option_map_or}
@@ -14,9 +14,11 @@ use Rattle.vtl_tree.specs.Structures.{Named}
 use Rattle.vtl_tree.specs.declared.structure.Structure.{Structure}
 use Rattle.vtl_nodes.specs.Trees as nodes
 use Rattle.vtl_nodes.specs.Trees.{FormTree, NodeTree, structure_of}
-use Rattle.vtl_backend.specs.Names.{form_names, names_in}
+use Rattle.vtl_backend.proofs.NameLemmas.{names_append}
+use Rattle.vtl_backend.specs.Names.{name_at_form, names_at, names_in}
+use Rattle.vtl_nodes.specs.Nodes.{form_nodes, nodes_in}
 use Rattle.vtl_meaning.specs.Made.{AreMadeStatements, IsMade, IsMadeForm}
-use Rattle.vtl_meaning.specs.Meaning.{Statement, data_set_of, form_value, is_built, is_built_form, kept_output, meaning, node_value, stated}
+use Rattle.vtl_meaning.specs.Meaning.{Statement, data_set_of, form_value, is_built, is_built_form, kept_output, meaning, node_value, stated, with_operand}
 use Rattle.vtl_meaning.specs.Operators.{calculated_of, choice_of, left_of, measured_of, pair_of, sub_of}
 
 -- ---- lists
@@ -49,6 +51,13 @@ data_in e f xs ys h = (all_front (λ name. data_of name e ≡ data_of name f) xs
 known_both : (k l : Named) (xs ys : List (List ℕ)) → SameKnown k l (xs ++ ys) → SameKnown k l xs × SameKnown k l ys
 known_both k l xs ys h = (all_front (λ name. lookup (same_name name) k ≡ lookup (same_name name) l) xs ys h, all_back (λ name. lookup (same_name name) k ≡ lookup (same_name name) l) xs ys h)
 
+-- the same of the names of nodes that stand before others, and behind
+data_parts : (e f : Environment) (xs ys : List NodeTree) → SameData e f (names_at (xs ++ ys)) → SameData e f (names_at xs) × SameData e f (names_at ys)
+data_parts e f xs ys h = data_in e f (names_at xs) (names_at ys) (subst (SameData e f) (names_append xs ys) h)
+
+known_parts : (k l : Named) (xs ys : List NodeTree) → SameKnown k l (names_at (xs ++ ys)) → SameKnown k l (names_at xs) × SameKnown k l (names_at ys)
+known_parts k l xs ys h = known_both k l (names_at xs) (names_at ys) (subst (SameKnown k l) (names_append xs ys) h)
+
 data_more : (e f : Environment) (new : List ℕ) (d : DataSet) (names : List (List ℕ)) → SameData e f names → SameData ((new, d) ∷ e) ((new, d) ∷ f) names
 data_more e f new d names h =
     all_so (λ name. data_of name e ≡ data_of name f) (λ name. data_of name ((new, d) ∷ e) ≡ data_of name ((new, d) ∷ f)) (λ name same. ap (cond (same_name new name) (Some d)) same) names h
@@ -62,26 +71,26 @@ mutual
   pub node_same : (p : Settings) (e f : Environment) (n : NodeTree) → SameData e f (names_in n) → node_value p e n ≡ node_value p f n
   node_same p e f (nodes.node s form) h = form_same p e f s form h
 
-  form_same : (p : Settings) (e f : Environment) (s : Structure) (form : FormTree) → SameData e f (form_names form) → form_value p e s form ≡ form_value p f s form
+  form_same : (p : Settings) (e f : Environment) (s : Structure) (form : FormTree) → SameData e f (name_at_form form ++ names_at (form_nodes form)) → form_value p e s form ≡ form_value p f s form
   form_same p e f s (nodes.named name) h = ap (λ (o : Option DataSet). Ok (option_map_or (λ d. d.points) o [])) h.0
-  form_same p e f s (nodes.measures m a) h = ap (λ r. after r (measured_of p m (structure_of a) s)) (node_same p e f a h)
+  form_same p e f s (nodes.measures m a) h = ap (λ r. with_operand a r (λ d. measured_of p m d s)) (node_same p e f a h)
   form_same p e f s (nodes.pair o a b) h =
-      let parts = data_in e f (names_in a) (names_in b) h in
-      ap (λ r. after r (λ d. after (node_value p e b) (pair_of p o (structure_of a) (structure_of b) s d))) (node_same p e f a parts.0)
-      ∙ ap (λ r. after (node_value p f a) (λ d. after r (pair_of p o (structure_of a) (structure_of b) s d))) (node_same p e f b parts.1)
+      let parts = data_parts e f (nodes_in a) (nodes_in b) h in
+      ap (λ r. with_operand a r (λ d. with_operand b (node_value p e b) (λ q. pair_of p o d q s))) (node_same p e f a parts.0)
+      ∙ ap (λ r. with_operand a (node_value p f a) (λ d. with_operand b r (λ q. pair_of p o d q s))) (node_same p e f b parts.1)
   form_same p e f s (nodes.choose t a b) h =
-      let parts = data_in e f (names_in t ++ names_in a) (names_in b) h in
-      let more = data_in e f (names_in t) (names_in a) parts.0 in
-      ap (λ r. after r (λ tests. after (node_value p e a) (λ d. after (node_value p e b) (λ q. Ok (choice_of (structure_of t) (structure_of a) (structure_of b) s tests d q))))) (node_same p e f t more.0)
-      ∙ ap (λ r. after (node_value p f t) (λ tests. after r (λ d. after (node_value p e b) (λ q. Ok (choice_of (structure_of t) (structure_of a) (structure_of b) s tests d q))))) (node_same p e f a more.1)
-      ∙ ap (λ r. after (node_value p f t) (λ tests. after (node_value p f a) (λ d. after r (λ q. Ok (choice_of (structure_of t) (structure_of a) (structure_of b) s tests d q))))) (node_same p e f b parts.1)
-  form_same p e f s (nodes.member a m) h = ap (λ r. after r (λ d. Ok (left_of (structure_of a) s d))) (node_same p e f a h)
+      let parts = data_parts e f (nodes_in t) (nodes_in a ++ nodes_in b) h in
+      let more = data_parts e f (nodes_in a) (nodes_in b) parts.1 in
+      ap (λ r. with_operand t r (λ tests. with_operand a (node_value p e a) (λ d. with_operand b (node_value p e b) (λ q. Ok (choice_of tests d q s))))) (node_same p e f t parts.0)
+      ∙ ap (λ r. with_operand t (node_value p f t) (λ tests. with_operand a r (λ d. with_operand b (node_value p e b) (λ q. Ok (choice_of tests d q s))))) (node_same p e f a more.0)
+      ∙ ap (λ r. with_operand t (node_value p f t) (λ tests. with_operand a (node_value p f a) (λ d. with_operand b r (λ q. Ok (choice_of tests d q s))))) (node_same p e f b more.1)
+  form_same p e f s (nodes.member a m) h = ap (λ r. with_operand a r (λ d. Ok (left_of d s))) (node_same p e f a h)
   form_same p e f s (nodes.filter a c) h = ap (λ r. after r (filter_of p c)) (node_same p e f a h)
-  form_same p e f s (nodes.calc a items) h = ap (λ r. after r (calculated_of p items (structure_of a) s)) (node_same p e f a h)
-  form_same p e f s (nodes.keep a names) h = ap (λ r. after r (λ d. Ok (left_of (structure_of a) s d))) (node_same p e f a h)
-  form_same p e f s (nodes.drop_named a names) h = ap (λ r. after r (λ d. Ok (left_of (structure_of a) s d))) (node_same p e f a h)
+  form_same p e f s (nodes.calc a items) h = ap (λ r. with_operand a r (λ d. calculated_of p items d s)) (node_same p e f a h)
+  form_same p e f s (nodes.keep a names) h = ap (λ r. with_operand a r (λ d. Ok (left_of d s))) (node_same p e f a h)
+  form_same p e f s (nodes.drop_named a names) h = ap (λ r. with_operand a r (λ d. Ok (left_of d s))) (node_same p e f a h)
   form_same p e f s (nodes.rename a pairs) h = node_same p e f a h
-  form_same p e f s (nodes.sub a items) h = ap (λ r. after r (λ d. Ok (sub_of items (structure_of a) s d))) (node_same p e f a h)
+  form_same p e f s (nodes.sub a items) h = ap (λ r. with_operand a r (λ d. Ok (sub_of items d s))) (node_same p e f a h)
   form_same p e f s other h = refl
 
 -- ---- the meaning of statements
@@ -106,25 +115,25 @@ mutual
   pub made_same : (p : Settings) (k l : Named) (n : NodeTree) → is_built n ≡ true → SameKnown k l (names_in n) → IsMade p k n → IsMade p l n
   made_same p k l (nodes.node s form) b h m = (m.0, form_made_same p k l s form b h m.1)
 
-  form_made_same : (p : Settings) (k l : Named) (s : Structure) (form : FormTree) → is_built_form form ≡ true → SameKnown k l (form_names form) → IsMadeForm p k s form → IsMadeForm p l s form
+  form_made_same : (p : Settings) (k l : Named) (s : Structure) (form : FormTree) → is_built_form form ≡ true → SameKnown k l (name_at_form form ++ names_at (form_nodes form)) → IsMadeForm p k s form → IsMadeForm p l s form
   form_made_same p k l s (nodes.named name) b h m = sym h.0 ∙ m
   form_made_same p k l s (nodes.measures o a) b h m = (made_same p k l a b h m.0, m.1)
   form_made_same p k l s (nodes.pair o a c) b h m =
       let built = and_parts (is_built a) (is_built c) b in
-      let parts = known_both k l (names_in a) (names_in c) h in
+      let parts = known_parts k l (nodes_in a) (nodes_in c) h in
       (made_same p k l a built.0 parts.0 m.0, made_same p k l c built.1 parts.1 m.1, m.2)
   form_made_same p k l s (nodes.choose t a c) b h m =
       let built = and_parts (is_built t) (is_built a && is_built c) b in
       let both = and_parts (is_built a) (is_built c) built.1 in
-      let parts = known_both k l (names_in t ++ names_in a) (names_in c) h in
-      let more = known_both k l (names_in t) (names_in a) parts.0 in
-      (made_same p k l t built.0 more.0 m.0, made_same p k l a both.0 more.1 m.1, made_same p k l c both.1 parts.1 m.2, m.3)
-  form_made_same p k l s (nodes.member a name) b h m = (made_same p k l a b h m.0, m.1)
+      let parts = known_parts k l (nodes_in t) (nodes_in a ++ nodes_in c) h in
+      let more = known_parts k l (nodes_in a) (nodes_in c) parts.1 in
+      (made_same p k l t built.0 parts.0 m.0, made_same p k l a both.0 more.0 m.1, made_same p k l c both.1 more.1 m.2, m.3)
+  form_made_same p k l s (nodes.member a name) b h m = (made_same p k l a b h m.0, m.1, m.2)
   form_made_same p k l s (nodes.filter a c) b h m = (made_same p k l a b h m.0, m.1)
   form_made_same p k l s (nodes.calc a items) b h m = (made_same p k l a b h m.0, m.1)
-  form_made_same p k l s (nodes.keep a names) b h m = (made_same p k l a b h m.0, m.1)
-  form_made_same p k l s (nodes.drop_named a names) b h m = (made_same p k l a b h m.0, m.1)
-  form_made_same p k l s (nodes.rename a pairs) b h m = (made_same p k l a b h m.0, m.1)
+  form_made_same p k l s (nodes.keep a names) b h m = (made_same p k l a b h m.0, m.1, m.2)
+  form_made_same p k l s (nodes.drop_named a names) b h m = (made_same p k l a b h m.0, m.1, m.2)
+  form_made_same p k l s (nodes.rename a pairs) b h m = (made_same p k l a b h m.0, m.1, m.2)
   form_made_same p k l s (nodes.sub a items) b h m = (made_same p k l a b h m.0, m.1)
   form_made_same p k l s other b h m = cc
 

@@ -7,7 +7,7 @@ use Rattle.std.specs.Map.{lookup}
 use Rattle.vtl_cell.specs.Settings.{Settings}
 use Rattle.vtl_cell.specs.shared_text.Txt.{Txt}
 use Rattle.vtl_cell.specs.declared.operator.ScalarOp.{ScalarOp}
-use Rattle.vtl_cell.specs.Outcome.{Outcome, after}
+use Rattle.vtl_cell.specs.Outcome.{Outcome}
 use Rattle.vtl_cell.specs.Row.{Row}
 use Rattle.vtl_scalar.specs.Answers.{AnswersBy}
 use Rattle.vtl_scalar.specs.declared.error.ScalarErr.{ScalarErr}
@@ -26,8 +26,8 @@ use Rattle.vtl_nodes.specs.declared.nodes.NodeForm.{NodeForm}
 use Rattle.vtl_nodes.specs.declared.nodes.NodeForm.TheVariants as form
 use Rattle.vtl_nodes.specs.declared.nodes.NodeForm as forms
 use Rattle.vtl_sets.specs.DataSets.{with_structure}
-use Rattle.vtl_meaning.specs.Made.{IsMade}
-use Rattle.vtl_meaning.specs.Meaning.{form_value, known_in, node_value}
+use Rattle.vtl_meaning.specs.Made.{IsChoice, IsMade, IsMeasured}
+use Rattle.vtl_meaning.specs.Meaning.{form_value, known_in, node_value, with_operand}
 use Rattle.vtl_interp.specs.Evaluated.{Evaluates, Gives}
 use Rattle.vtl_interp.proofs.Environments.{data_looked, known_looked}
 use Rattle.vtl_interp.proofs.Evaluates.{applied, then}
@@ -44,6 +44,9 @@ form_tree-Measures op a = search (rules, forms.the_lemmas)
 
 pub form_tree-Pair : (op : ScalarOp) (a b : Box Node Global) → form_tree (form.Pair op a b) ≡ nodes.pair op (node_tree a.value) (node_tree b.value)
 form_tree-Pair op a b = search (rules, forms.the_lemmas)
+
+pub form_tree-Choose : (c a b : Box Node Global) → form_tree (form.Choose c a b) ≡ nodes.choose (node_tree c.value) (node_tree a.value) (node_tree b.value)
+form_tree-Choose c a b = search (rules, forms.the_lemmas)
 
 pub form_tree-Member : (a : Box Node Global) (m : Txt) → form_tree (form.Member a m) ≡ nodes.member (node_tree a.value) m
 form_tree-Member a m = search (rules, forms.the_lemmas)
@@ -64,22 +67,34 @@ form_tree-Sub a values = search (rules, forms.the_lemmas)
 tree_with : (n : Node) (f : NodeForm) (t : FormTree) → n.form ≡ f → form_tree f ≡ t → node_tree n ≡ nodes.node n.structure t
 tree_with n f t e d = node_tree-is n ∙ ap (λ (g : NodeForm). nodes.node n.structure (form_tree g)) e ∙ ap (nodes.node n.structure) d
 
+-- what is made of a node's form holds of the data sets that its operands give
+pub measures_fit : (p : Settings) (env : Environment) (n : Node) (op : MeasureOp) (a : Box Node Global) (d : DataSet) → n.form ≡ form.Measures op a → IsMade p (known_in env) (node_tree n) → Gives p env (node_tree a.value) d → IsMeasured p (measure_tree op) d.structure n.structure
+measures_fit p env n op a d e made g =
+    subst (λ (s : Structure). IsMeasured p (measure_tree op) s n.structure) (sym g.structure)
+    (subst (IsMade p (known_in env)) (tree_with n (form.Measures op a) (nodes.measures (measure_tree op) (node_tree a.value)) e (form_tree-Measures op a)) made).1.1
+
+pub choose_fits : (p : Settings) (env : Environment) (n : Node) (c a b : Box Node Global) (t d o : DataSet) → n.form ≡ form.Choose c a b → IsMade p (known_in env) (node_tree n) → Gives p env (node_tree c.value) t → Gives p env (node_tree a.value) d → Gives p env (node_tree b.value) o → IsChoice t.structure d.structure o.structure n.structure
+choose_fits p env n c a b t d o e made gt gd go =
+    subst (λ (s : Structure). IsChoice s d.structure o.structure n.structure) (sym gt.structure)
+    (subst (λ (s : Structure). IsChoice (structure_of (node_tree c.value)) s o.structure n.structure) (sym gd.structure)
+    (subst (λ (s : Structure). IsChoice (structure_of (node_tree c.value)) (structure_of (node_tree a.value)) s n.structure) (sym go.structure)
+    (subst (IsMade p (known_in env)) (tree_with n (form.Choose c a b) (nodes.choose (node_tree c.value) (node_tree a.value) (node_tree b.value)) e (form_tree-Choose c a b)) made).1.3))
+
 -- an operator on one operand
-pub one_operand : {A : Type 0} (view : A → DataSet) (p : Settings) (env : Environment) (n : Node) (f : NodeForm) (t : FormTree) (a : NodeTree) (d : DataSet) (op : Structure → List Row → Outcome (List Row)) (r : Result A ScalarErr)
-    → n.form ≡ f → form_tree f ≡ t → form_value p env n.structure t ≡ after (node_value p env a) (op (structure_of a)) → Gives p env a d → AnswersBy view r (with_structure n.structure (op d.structure d.points))
+pub one_operand : {A : Type 0} (view : A → DataSet) (p : Settings) (env : Environment) (n : Node) (f : NodeForm) (t : FormTree) (a : NodeTree) (d : DataSet) (op : DataSet → Outcome (List Row)) (r : Result A ScalarErr)
+    → n.form ≡ f → form_tree f ≡ t → form_value p env n.structure t ≡ with_operand a (node_value p env a) op → Gives p env a d → AnswersBy view r (with_structure n.structure (op d))
     → Evaluates view p env (node_tree n) r
 one_operand view p env n f t a d op r e tree value g h =
     subst (λ (u : NodeTree). Evaluates view p env u r) (sym (tree_with n f t e tree))
-    (applied view p env (nodes.node n.structure t) (op d.structure d.points) r (value ∙ then p env a d op g) h)
+    (applied view p env (nodes.node n.structure t) (op d) r (value ∙ then p env a d op g) h)
 
 -- an operator on two
-pub two_operands : {A : Type 0} (view : A → DataSet) (p : Settings) (env : Environment) (n : Node) (f : NodeForm) (t : FormTree) (a b : NodeTree) (d e : DataSet) (op : Structure → Structure → List Row → List Row → Outcome (List Row)) (r : Result A ScalarErr)
-    → n.form ≡ f → form_tree f ≡ t → form_value p env n.structure t ≡ after (node_value p env a) (λ x. after (node_value p env b) (op (structure_of a) (structure_of b) x)) → Gives p env a d → Gives p env b e
-    → AnswersBy view r (with_structure n.structure (op d.structure e.structure d.points e.points)) → Evaluates view p env (node_tree n) r
+pub two_operands : {A : Type 0} (view : A → DataSet) (p : Settings) (env : Environment) (n : Node) (f : NodeForm) (t : FormTree) (a b : NodeTree) (d e : DataSet) (op : DataSet → DataSet → Outcome (List Row)) (r : Result A ScalarErr)
+    → n.form ≡ f → form_tree f ≡ t → form_value p env n.structure t ≡ with_operand a (node_value p env a) (λ x. with_operand b (node_value p env b) (op x)) → Gives p env a d → Gives p env b e
+    → AnswersBy view r (with_structure n.structure (op d e)) → Evaluates view p env (node_tree n) r
 two_operands view p env n f t a b d e op r is tree value g k h =
     subst (λ (u : NodeTree). Evaluates view p env u r) (sym (tree_with n f t is tree))
-    (applied view p env (nodes.node n.structure t) (op d.structure e.structure d.points e.points) r
-    (value ∙ then p env a d (λ s x. after (node_value p env b) (op s (structure_of b) x)) g ∙ then p env b e (λ s y. op d.structure s d.points y) k) h)
+    (applied view p env (nodes.node n.structure t) (op d e) r (value ∙ then p env a d (λ x. with_operand b (node_value p env b) (op x)) g ∙ then p env b e (op d) k) h)
 
 -- ---- a name
 -- a name's node is made over what is held: its structure is that of the data set

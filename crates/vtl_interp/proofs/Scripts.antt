@@ -1,11 +1,10 @@
 -- What typing says of the statements that are run.
-use Rattle.std.proofs.Common.{◌≡◌, ℕ, suc, ◌+◌, Bool, true, false, ◌||◌, ◌&&◌, List, [], ◌∷◌, ◌++◌, Result, Ok, Err, refl, subst}
+use Rattle.std.proofs.Common.{◌≡◌, ℕ, ◌+◌, Bool, true, false, ◌||◌, ◌&&◌, List, [], ◌∷◌, ◌++◌, Result, Ok, Err, refl, subst}
 use Rattle.std.specs.List.{AllByRecursion, list_all, list_any}
 use Rattle.std.specs.Map.{keys_of}
 use Rattle.std.proofs.lemmas.Bool.{and_parts}
 use Rattle.std.proofs.lemmas.List.{map-append}
-use Rattle.vtl_syntax.specs.Trees as tree
-use Rattle.vtl_syntax.specs.Trees.{Exp, ScriptTree}
+use Rattle.vtl_syntax.specs.Trees.{Exp}
 use Rattle.vtl_tree.specs.Structure.{same_name}
 use Rattle.vtl_tree.specs.Structures.{has_name}
 use Rattle.vtl_tree.specs.declared.structure.Structure.{Structure}
@@ -18,33 +17,30 @@ use Rattle.vtl_backend.specs.Places.{Env}
 use Rattle.vtl_backend.specs.Checked.{IsTyped, TypedScript, env_over, nodes_of, tree_of}
 use Rattle.vtl_backend.specs.Count.{count}
 use Rattle.vtl_backend.specs.Names.{names_in, names_of}
-use Rattle.vtl_backend.specs.Script.{assigned, at, has_definitions, is_too_much, statements_typed, value_typed, with_result}
+use Rattle.vtl_backend.specs.Script.{assigned, at, is_too_much, transformations_typed, value_typed, with_result}
+use Rattle.vtl_backend.specs.Transformations.{Transformation, transformations}
 use Rattle.vtl_meaning.specs.Meaning.{Statement, is_built}
 use Rattle.vtl_backend.specs.Statements.{statements_of, with_nodes}
 use Rattle.vtl_interp.specs.Results.{AreNew}
 use Rattle.vtl_interp.proofs.NamesRead.{all_back, all_both, all_front, are_built, names_read}
 
 -- ---- the nodes of statements are nodes of the script
-pub built_statements : (ss : ScriptTree) (ns : List NodeTree) → list_all is_built ns ≡ true → are_built (with_nodes ss ns) ≡ true
+pub built_statements : (ts : List Transformation) (ns : List NodeTree) → list_all is_built ns ≡ true → are_built (with_nodes ts ns) ≡ true
 built_statements [] ns h = refl
-built_statements (tree.assignment name k e ∷ ss) [] h = refl
-built_statements (tree.assignment name k e ∷ ss) (n ∷ ns) h =
+built_statements (t ∷ ts) [] h = refl
+built_statements (t ∷ ts) (n ∷ ns) h =
     let parts = and_parts (is_built n) (list_all is_built ns) h in
-    both (is_built n) (are_built (with_nodes ss ns)) parts.0 (built_statements ss ns parts.1)
+    both (is_built n) (are_built (with_nodes ts ns)) parts.0 (built_statements ts ns parts.1)
   where
     both : (a b : Bool) → a ≡ true → b ≡ true → (a && b) ≡ true
     both true b e d = d
     both false b e d = cc
-built_statements (tree.datapoint n vs rs b ∷ ss) ns h = refl
-built_statements (tree.hierarchical n v rs b ∷ ss) ns h = refl
 
-pub names_statements : (P : List ℕ → Type 0) (ss : ScriptTree) (ns : List NodeTree) → AllByRecursion P (names_of ns) → AllByRecursion P (names_read (with_nodes ss ns))
+pub names_statements : (P : List ℕ → Type 0) (ts : List Transformation) (ns : List NodeTree) → AllByRecursion P (names_of ns) → AllByRecursion P (names_read (with_nodes ts ns))
 names_statements P [] ns h = tt
-names_statements P (tree.assignment name k e ∷ ss) [] h = tt
-names_statements P (tree.assignment name k e ∷ ss) (n ∷ ns) h =
-    all_both P (names_in n) (names_read (with_nodes ss ns)) (all_front P (names_in n) (names_of ns) h) (names_statements P ss ns (all_back P (names_in n) (names_of ns) h))
-names_statements P (tree.datapoint n vs rs b ∷ ss) ns h = tt
-names_statements P (tree.hierarchical n v rs b ∷ ss) ns h = tt
+names_statements P (t ∷ ts) [] h = tt
+names_statements P (t ∷ ts) (n ∷ ns) h =
+    all_both P (names_in n) (names_read (with_nodes ts ns)) (all_front P (names_in n) (names_of ns) h) (names_statements P ts ns (all_back P (names_in n) (names_of ns) h))
 
 -- ---- results have new names
 -- a typed statement's name is none that is known
@@ -56,24 +52,22 @@ name_new env before name e n h = go (has_name name env.known) h
     go false h = refl
     go true h = cc
 
-names_new : (env : Env) (i before : ℕ) (done : List NodeTree) (ss : ScriptTree) (all ns : List NodeTree) → statements_typed env i before done ss ≡ Ok all → AreNew (keys_of env.known) (with_nodes ss ns)
-names_new env i before done [] all ns h = tt
-names_new env i before done (tree.assignment name k e ∷ ss) all [] h = tt
-names_new env i before done (tree.assignment name k e ∷ ss) all (n ∷ ns) h =
-    go (assigned env before name e) refl (λ m. names_new (with_result env name m) (suc i) (before + count m) (done ++ m ∷ []) ss all ns) h
+names_new : (env : Env) (before : ℕ) (done : List NodeTree) (ts : List Transformation) (all ns : List NodeTree) → transformations_typed env before done ts ≡ Ok all → AreNew (keys_of env.known) (with_nodes ts ns)
+names_new env before done [] all ns h = tt
+names_new env before done (t ∷ ts) all [] h = tt
+names_new env before done (t ∷ ts) all (n ∷ ns) h =
+    go (assigned env before t.name t.value) refl (λ m. names_new (with_result env t.name m) (before + count m) (done ++ m ∷ []) ts all ns) h
   where
     rest : NodeTree → Result (List NodeTree) (ℕ × ℕ)
-    rest m = statements_typed (with_result env name m) (suc i) (before + count m) (done ++ m ∷ []) ss
+    rest m = transformations_typed (with_result env t.name m) (before + count m) (done ++ m ∷ []) ts
 
-    go : (r : Result NodeTree Rule) → assigned env before name e ≡ r → ((m : NodeTree) → rest m ≡ Ok all → AreNew (keys_of (env.known ++ (name, structure_of m) ∷ [])) (with_nodes ss ns))
-        → at i r rest ≡ Ok all → (list_any (same_name name) (keys_of env.known) ≡ false) × AreNew (keys_of env.known ++ name ∷ []) (with_nodes ss ns)
-    go (Ok m) e ih h = (name_new env before name _ m e, subst (λ l. AreNew l (with_nodes ss ns)) (map-append (λ (x : List ℕ × Structure). x.0) env.known ((name, structure_of m) ∷ [])) (ih m h))
+    go : (r : Result NodeTree Rule) → assigned env before t.name t.value ≡ r → ((m : NodeTree) → rest m ≡ Ok all → AreNew (keys_of (env.known ++ (t.name, structure_of m) ∷ [])) (with_nodes ts ns))
+        → at t.number r rest ≡ Ok all → (list_any (same_name t.name) (keys_of env.known) ≡ false) × AreNew (keys_of env.known ++ t.name ∷ []) (with_nodes ts ns)
+    go (Ok m) e ih h = (name_new env before t.name _ m e, subst (λ l. AreNew l (with_nodes ts ns)) (map-append (λ (x : List ℕ × Structure). x.0) env.known ((t.name, structure_of m) ∷ [])) (ih m h))
     go (Err broken) e ih h = cc
-names_new env i before done (tree.datapoint n vs rs b ∷ ss) all ns h = cc
-names_new env i before done (tree.hierarchical n v rs b ∷ ss) all ns h = cc
 
 pub results_new : (t : TypedScript) → IsTyped t → AreNew (keys_of t.declared) (statements_of t)
-results_new t typed = names_new (env_over t.settings t.declared) 1 0 [] (tree_of t) (nodes_of t) (nodes_of t) typed
+results_new t typed = names_new (env_over t.settings t.declared) 0 [] (transformations (tree_of t)) (nodes_of t) (nodes_of t) typed
 
 -- fewer names leave new names new
 abbrev IsFewer : (fewer more : List (List ℕ)) → Type 0
@@ -106,21 +100,3 @@ fewer_push fewer more x f name h =
 pub new_among_fewer : (fewer more : List (List ℕ)) (ss : List Statement) → IsFewer fewer more → AreNew more ss → AreNew fewer ss
 new_among_fewer fewer more [] f h = tt
 new_among_fewer fewer more (s ∷ ss) f h = (f s.result h.0, new_among_fewer (fewer ++ s.result ∷ []) (more ++ s.result ∷ []) ss (fewer_push fewer more s.result f) h.1)
-
--- ---- every statement is an assignment
-no_definitions : (env : Env) (i before : ℕ) (done : List NodeTree) (ss : ScriptTree) (all : List NodeTree) → statements_typed env i before done ss ≡ Ok all → has_definitions ss ≡ false
-no_definitions env i before done [] all h = refl
-no_definitions env i before done (tree.assignment name k e ∷ ss) all h =
-    go (assigned env before name e) (λ m. no_definitions (with_result env name m) (suc i) (before + count m) (done ++ m ∷ []) ss all) h
-  where
-    rest : NodeTree → Result (List NodeTree) (ℕ × ℕ)
-    rest m = statements_typed (with_result env name m) (suc i) (before + count m) (done ++ m ∷ []) ss
-
-    go : (r : Result NodeTree Rule) → ((m : NodeTree) → rest m ≡ Ok all → has_definitions ss ≡ false) → at i r rest ≡ Ok all → has_definitions ss ≡ false
-    go (Ok m) ih h = ih m h
-    go (Err broken) ih h = cc
-no_definitions env i before done (tree.datapoint n vs rs b ∷ ss) all h = cc
-no_definitions env i before done (tree.hierarchical n v rs b ∷ ss) all h = cc
-
-pub all_assignments : (t : TypedScript) → IsTyped t → has_definitions (tree_of t) ≡ false
-all_assignments t typed = no_definitions (env_over t.settings t.declared) 1 0 [] (tree_of t) (nodes_of t) typed

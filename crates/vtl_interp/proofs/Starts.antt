@@ -17,6 +17,7 @@ use Rattle.vtl_meaning.specs.Meaning.{known_in, meaning}
 use Rattle.vtl_backend.specs.Inputs.{environment_of, inputs_of}
 use Rattle.vtl_backend.specs.Runs.{script_meaning}
 use Rattle.vtl_backend.specs.Statements.{is_script_built, statements_of, with_nodes}
+use Rattle.vtl_backend.specs.Transformations.{transformations}
 use Rattle.vtl_interp.specs.Results.{AreReady}
 use Rattle.vtl_interp.proofs.InputsRead.{known_inputs, reads_same}
 use Rattle.vtl_interp.proofs.NamesRead.{SameKnown, all_so, statements_made_same}
@@ -28,10 +29,10 @@ known_loaded t tables env loaded = ap known_in loaded ∙ known_inputs tables (i
 pub ready_at_start : (t : TypedScript) (tables : NamedTables) (env : Environment) → IsTyped t → is_script_built t ≡ true → AreMadeStatements t.settings t.declared (statements_of t) → env ≡ environment_of t tables → AreReady t.settings env [] (statements_of t)
 ready_at_start t tables env typed built made loaded =
     let ss = statements_of t in
-    let all_built = built_statements (tree_of t) (nodes_of t) built in
+    let all_built = built_statements (transformations (tree_of t)) (nodes_of t) built in
     let same : SameKnown t.declared (inputs_of t) (names_of (nodes_of t)) =
     all_so (λ name. lookup (same_name name) (inputs_of t) ≡ lookup (same_name name) t.declared) (λ name. lookup (same_name name) t.declared ≡ lookup (same_name name) (inputs_of t)) (λ name e. sym e) (names_of (nodes_of t)) (reads_same t.declared (nodes_of t)) in
-    let read = names_statements (λ name. lookup (same_name name) t.declared ≡ lookup (same_name name) (inputs_of t)) (tree_of t) (nodes_of t) same in
+    let read = names_statements (λ name. lookup (same_name name) t.declared ≡ lookup (same_name name) (inputs_of t)) (transformations (tree_of t)) (nodes_of t) same in
     record {
       made = subst (λ (k : Named). AreMadeStatements t.settings k ss) (sym (known_loaded t tables env loaded)) (statements_made_same t.settings ss t.declared (inputs_of t) all_built read made);
       built = all_built;
@@ -40,15 +41,15 @@ ready_at_start t tables env typed built made loaded =
 
 -- ---- with the parts as they are handed over
 module _ (t : TypedScript) (tables : NamedTables) (env : Environment) (p : Settings) (ss : List Statement) (ns : List Node) (settings : p ≡ t.settings) (script : ss ≡ t.script) (nodes : ns ≡ t.nodes) where
-  pub ready_to_run : IsTyped t → is_script_built t ≡ true → AreMadeStatements t.settings t.declared (statements_of t) → env ≡ environment_of t tables → AreReady p env [] (with_nodes (map statement_tree ss) (map node_tree ns))
+  pub ready_to_run : IsTyped t → is_script_built t ≡ true → AreMadeStatements t.settings t.declared (statements_of t) → env ≡ environment_of t tables → AreReady p env [] (with_nodes (transformations (map statement_tree ss)) (map node_tree ns))
   ready_to_run typed built made loaded =
-      subst (λ (q : Settings). AreReady q env [] (with_nodes (map statement_tree ss) (map node_tree ns))) (sym settings)
-      (subst (λ (l : List Statement). AreReady t.settings env [] (with_nodes (map statement_tree l) (map node_tree ns))) (sym script)
-      (subst (λ (l : List Node). AreReady t.settings env [] (with_nodes (tree_of t) (map node_tree l))) (sym nodes) (ready_at_start t tables env typed built made loaded)))
+      subst (λ (q : Settings). AreReady q env [] (with_nodes (transformations (map statement_tree ss)) (map node_tree ns))) (sym settings)
+      (subst (λ (l : List Statement). AreReady t.settings env [] (with_nodes (transformations (map statement_tree l)) (map node_tree ns))) (sym script)
+      (subst (λ (l : List Node). AreReady t.settings env [] (with_nodes (transformations (tree_of t)) (map node_tree l))) (sym nodes) (ready_at_start t tables env typed built made loaded)))
 
-  pub meant_by_run : env ≡ environment_of t tables → meaning p (with_nodes (map statement_tree ss) (map node_tree ns)) env ≡ script_meaning t tables
+  pub meant_by_run : env ≡ environment_of t tables → meaning p (with_nodes (transformations (map statement_tree ss)) (map node_tree ns)) env ≡ script_meaning t tables
   meant_by_run loaded =
-      ap (λ (q : Settings). meaning q (with_nodes (map statement_tree ss) (map node_tree ns)) env) settings
-      ∙ ap (λ (l : List Statement). meaning t.settings (with_nodes (map statement_tree l) (map node_tree ns)) env) script
-      ∙ ap (λ (l : List Node). meaning t.settings (with_nodes (tree_of t) (map node_tree l)) env) nodes
+      ap (λ (q : Settings). meaning q (with_nodes (transformations (map statement_tree ss)) (map node_tree ns)) env) settings
+      ∙ ap (λ (l : List Statement). meaning t.settings (with_nodes (transformations (map statement_tree l)) (map node_tree ns)) env) script
+      ∙ ap (λ (l : List Node). meaning t.settings (with_nodes (transformations (tree_of t)) (map node_tree l)) env) nodes
       ∙ ap (meaning t.settings (statements_of t)) loaded

@@ -5,6 +5,7 @@ pub use Rattle.vtl_backend.specs.Runs
 pub use Rattle.vtl_backend.specs.Script
 pub use Rattle.vtl_backend.specs.Statements
 pub use Rattle.vtl_backend.specs.Tables
+pub use Rattle.vtl_backend.specs.Transformations
 pub use Rattle.vtl_backend.specs.Uses
 pub use Rattle.vtl_backend.specs.declared.error
 pub mod Evaluated

@@ -25,7 +25,7 @@ pub fn measures<'a>(
     p: &Profile,
 ) -> Result<Value<'a>, ScalarErr>
     requires { IsMeasured p.now (measure_tree op.now) (value_view a).structure made.now }
-    ensures { AnswersBy value_view result (with_structure made.now (measured_of p.now (measure_tree op.now) (value_view a.entry).structure made.now (value_view a.entry).points)) }
+    ensures { AnswersBy value_view result (with_structure made.now (measured_of p.now (measure_tree op.now) (value_view a.entry) made.now)) }
 {
     let made = share_structure(alloc, made)?;
     Ok(Value::Made(vtl_clause::map_measures(alloc, op, a.data(), made, p)?))
@@ -41,7 +41,7 @@ pub fn pair<'a>(
     p: &Profile,
 ) -> Result<Value<'a>, ScalarErr>
     requires { IsPaired p.now op (value_view a).structure (value_view b).structure made.now }
-    ensures { AnswersBy value_view result (with_structure made.now (pair_of p.now op (value_view a.entry).structure (value_view b.entry).structure made.now (value_view a.entry).points (value_view b.entry).points)) }
+    ensures { AnswersBy value_view result (with_structure made.now (pair_of p.now op (value_view a.entry) (value_view b.entry) made.now)) }
 {
     let made = share_structure(alloc, made)?;
     Ok(Value::Made(vtl_clause::pair_measures(alloc, op, a.data(), b.data(), made, p)?))
@@ -56,7 +56,7 @@ pub fn choose<'a>(
     made: &Structure,
 ) -> Result<Value<'a>, ScalarErr>
     requires { IsChoice (value_view condition).structure (value_view a).structure (value_view b).structure made.now }
-    ensures { AnswersBy value_view result (Ok (data_set made.now (choice_of (value_view condition.entry).structure (value_view a.entry).structure (value_view b.entry).structure made.now (value_view condition.entry).points (value_view a.entry).points (value_view b.entry).points))) }
+    ensures { AnswersBy value_view result (Ok (data_set made.now (choice_of (value_view condition.entry) (value_view a.entry) (value_view b.entry) made.now))) }
 {
     let made = share_structure(alloc, made)?;
     Ok(Value::Made(vtl_clause::choose(alloc, condition.data(), a.data(), b.data(), made)?))
@@ -65,7 +65,7 @@ pub fn choose<'a>(
 /// Some of the columns: `keep`, `drop` and `a#m`.
 pub fn columns<'a>(alloc: Global, a: Value<'a>, made: &Structure) -> Result<Value<'a>, ScalarErr>
     requires { IsLeft (value_view a).structure made.now }
-    ensures { AnswersBy value_view result (Ok (data_set made.now (left_of (value_view a.entry).structure made.now (value_view a.entry).points))) }
+    ensures { AnswersBy value_view result (Ok (data_set made.now (left_of (value_view a.entry) made.now))) }
 {
     let made = share_structure(alloc, made)?;
     Ok(Value::Made(vtl_clause::keep_columns(alloc, a.data(), made)?))
@@ -95,7 +95,7 @@ pub fn calc<'a>(
     p: &Profile,
 ) -> Result<Value<'a>, ScalarErr>
     requires { IsCalculated p.now (map item_tree items.now) (value_view a).structure made.now }
-    ensures { AnswersBy value_view result (with_structure made.now (calculated_of p.now (map item_tree items.now) (value_view a.entry).structure made.now (value_view a.entry).points)) }
+    ensures { AnswersBy value_view result (with_structure made.now (calculated_of p.now (map item_tree items.now) (value_view a.entry) made.now)) }
 {
     let made = share_structure(alloc, made)?;
     Ok(Value::Made(vtl_clause::calc(alloc, a.data(), items, made, p)?))
@@ -118,7 +118,7 @@ pub fn sub<'a>(
     made: &Structure,
 ) -> Result<Value<'a>, ScalarErr>
     requires { IsSub items.now (value_view a).structure made.now }
-    ensures { AnswersBy value_view result (Ok (data_set made.now (sub_of items.now (value_view a.entry).structure made.now (value_view a.entry).points))) }
+    ensures { AnswersBy value_view result (Ok (data_set made.now (sub_of items.now (value_view a.entry) made.now))) }
 {
     let made = share_structure(alloc, made)?;
     Ok(Value::Made(vtl_clause::sub(alloc, a.data(), items, made)?))

@@ -1,10 +1,10 @@
 // The statements, one after the other.
-ghost use Rattle.std.specs.Prelude.{◌≡◌, ◌∷◌, [], None, false, true, length, map, OnOk};
+ghost use Rattle.std.specs.Prelude.{◌≡◌, ◌∷◌, [], None, true, length, map, OnOk};
 ghost use Rattle.vtl_syntax.specs.View.{statement_tree};
 ghost use Rattle.vtl_nodes.specs.View.{node_tree};
 ghost use Rattle.vtl_meaning.specs.Made.{IsMade};
 ghost use Rattle.vtl_meaning.specs.Meaning.{is_built, known_in, meaning};
-ghost use Rattle.vtl_backend.specs.Script.{has_definitions};
+ghost use Rattle.vtl_backend.specs.Transformations.{transformations};
 ghost use Rattle.vtl_rows.specs.Named.{table_of};
 ghost use Rattle.vtl_backend.specs.Statements.{is_written, with_nodes};
 ghost use Rattle.vtl_interp.specs.Evaluated.{Evaluates};
@@ -95,6 +95,7 @@ fn add_result(
 }
 
 // The tables of the results that are written, or the first fault. Data sets that no later statement reads are released.
+// A definition has no node, and gives nothing.
 fn run_each(
     alloc: Global,
     known: Known,
@@ -103,24 +104,24 @@ fn run_each(
     nodes: &[Node],
     p: &Profile,
 ) -> Result<Outputs, RunErr>
-    requires many { length nodes.now ≡ length statements.now }
-    requires plain { has_definitions (map statement_tree statements.now) ≡ false }
+    requires many { length nodes.now ≡ length (transformations (map statement_tree statements.now)) }
     requires reads { AreRead last.now.entries 0 (map node_tree nodes.now) }
-    requires ready { AreReady p.now known.entries [] (with_nodes (map statement_tree statements.now) (map node_tree nodes.now)) }
-    ensures { ShownBy (meaning p.now (with_nodes (map statement_tree statements.now) (map node_tree nodes.now)) known.entries) result }
+    requires ready { AreReady p.now known.entries [] (with_nodes (transformations (map statement_tree statements.now)) (map node_tree nodes.now)) }
+    ensures { ShownBy (meaning p.now (with_nodes (transformations (map statement_tree statements.now)) (map node_tree nodes.now)) known.entries) result }
 {
     let mut held = Held {
         known,
         outputs: Outputs::new(alloc),
     };
-    for i in 0..statements.len() {
-        match &statements[i] {
-            Statement::Assignment { name, kind, .. } => {
-                add_result(alloc, &mut held, name, *kind, &nodes[i], p)?;
-                let_go(alloc, &mut held.known, last, i, name, &nodes[i])?;
-            }
-            _ => unreachable!(),
-        }
+    let mut place = 0;
+    for statement in statements {
+        let Statement::Assignment { name, kind, .. } = statement else {
+            continue;
+        };
+        let node = &nodes[place];
+        add_result(alloc, &mut held, name, *kind, node, p)?;
+        let_go(alloc, &mut held.known, last, place, name, node)?;
+        place += 1;
     }
     Ok(held.outputs)
 }
@@ -134,10 +135,9 @@ pub fn run_statements(
     nodes: &[Node],
     p: &Profile,
 ) -> Result<Outputs, RunErr>
-    requires many { length nodes.now ≡ length statements.now }
-    requires plain { has_definitions (map statement_tree statements.now) ≡ false }
-    requires ready { AreReady p.now known.entries [] (with_nodes (map statement_tree statements.now) (map node_tree nodes.now)) }
-    ensures { ShownBy (meaning p.now (with_nodes (map statement_tree statements.now) (map node_tree nodes.now)) known.entries) result }
+    requires many { length nodes.now ≡ length (transformations (map statement_tree statements.now)) }
+    requires ready { AreReady p.now known.entries [] (with_nodes (transformations (map statement_tree statements.now)) (map node_tree nodes.now)) }
+    ensures { ShownBy (meaning p.now (with_nodes (transformations (map statement_tree statements.now)) (map node_tree nodes.now)) known.entries) result }
 {
     let last = last_reads(alloc, nodes)?;
     run_each(alloc, known, &last, statements, nodes, p)

@@ -36,5 +36,5 @@ returns-clause-table c =
     let s = c.args.made.now in
     let p = c.args.p.now in
     let items = map item_tree c.args.items.now in
-    answered_is_table s c.each_point.result (calculated_of p items a.structure s a.points) c.each_point.ensures.columns (returns-clause-rows c)
-    (λ out e. calculated_kept p items a.structure s a.points out c.requires c.structure.ensures.points e)
+    answered_is_table s c.each_point.result (calculated_of p items a s) c.each_point.ensures.columns (returns-clause-rows c)
+    (λ out e. calculated_kept p items a s out c.requires c.structure.ensures.points e)

@@ -1,18 +1,16 @@
-use Rattle.std.proofs.Common.{◌≡◌, List, length, map, ap, sym, subst, ◌∙◌}
-use Rattle.std.proofs.lemmas.List.{length-map}
+use Rattle.std.proofs.Common.{◌≡◌, List, ap, sym, subst, ◌∙◌}
 use Rattle.vtl_cell.specs.Row.{Row}
+use Rattle.vtl_rows.specs.Tables.{column_kinds}
 use Rattle.vtl_tree.specs.DataSet.{IsDataSet}
 use Rattle.vtl_tree.specs.Structure.{columns_of}
-use Rattle.vtl_sets.specs.TableOf.{column_for, table_columns}
+use Rattle.vtl_sets.proofs.ColumnLemmas.{kinds_of_columns}
 use Rattle.vtl_meaning.proofs.Kept.{renamed_kept}
 use Rattle.vtl_clause.proofs.renaming.renamed_table.Goals as goal
 
 pub with_columns-requires : goal.with_columns-requires
 with_columns-requires c =
-    let a = columns_of c.args.a.structure in
-    let s = columns_of c.args.made.now in
-    let as_many : length s ≡ length a = sym (length-map s (λ x. x.kind)) ∙ ap length c.requires.kinds ∙ length-map a (λ x. x.kind) in
-    ap length c.in_ok-columns.ensures ∙ length-map s column_for ∙ as_many ∙ sym (length-map a column_for) ∙ sym (ap length c.in_ok-table.ensures.table.columns)
+    ap column_kinds c.in_ok-columns.ensures ∙ kinds_of_columns (columns_of c.args.made.now) ∙ c.requires.kinds
+    ∙ sym (ap column_kinds c.in_ok-table.ensures.table.columns ∙ kinds_of_columns (columns_of c.args.a.structure))
 
 pub returns-clause-table : goal.returns-clause-table
 returns-clause-table c = record {

@@ -68,5 +68,5 @@ returns-clause-table c =
     let s = c.args.made.now in
     record {
       columns = c.loop-i.invariant.columns;
-      points = subst (λ (l : List Row). IsDataSet s l) (sym (returns-clause-rows c)) (sub_kept c.args.items.now a.structure s a.points c.requires c.structure-structure.ensures.points);
+      points = subst (λ (l : List Row). IsDataSet s l) (sym (returns-clause-rows c)) (sub_kept c.args.items.now a s c.requires c.structure-structure.ensures.points);
     }

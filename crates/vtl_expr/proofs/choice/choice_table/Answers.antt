@@ -52,7 +52,7 @@ returns-clause-rows g c =
     let rows = c.table-table.result.now.rows in
     let past : length rows ≤ c.loop-i.i = omega (arith, c.len-i-end.ensures.rows, c.loop-i-test.false) in
     let is = subst (λ (x : Structure). IsBetween x d e s c.in_ok-choice.choice) c.structure.ensures.structure c.in_ok-choice.ensures in
-    c.loop-i.invariant.rows ∙ all_chosen t.structure s d e c.in_ok-choice.choice t.points rows c.loop-i.i is c.table-table.ensures.points past
+    c.loop-i.invariant.rows ∙ all_chosen t d e s c.in_ok-choice.choice rows c.loop-i.i is c.table-table.ensures.points past
 
 pub returns-clause-table : goal.returns-clause-table
 returns-clause-table g c =
@@ -63,5 +63,5 @@ returns-clause-table g c =
     let is = subst (λ (x : Structure). IsBetween x d e s c.in_ok-choice.choice) c.structure.ensures.structure c.in_ok-choice.ensures in
     record {
       columns = c.loop-i.invariant.columns;
-      points = subst (λ l. IsDataSet s l) (sym (returns-clause-rows g c)) (choice_kept t.structure d.structure e.structure s t.points d.points e.points c.requires.made c.structure.ensures.points is.first.points is.second.points);
+      points = subst (λ l. IsDataSet s l) (sym (returns-clause-rows g c)) (choice_kept t d e s c.requires.made c.structure.ensures.points is.first.points is.second.points);
     }

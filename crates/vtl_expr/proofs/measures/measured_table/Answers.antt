@@ -35,6 +35,6 @@ returns-clause-table c =
     let s = c.args.made.now in
     let m = measure_tree c.args.op.now in
     let es = ap (map comp_exp_of) c.deref.ensures.value ∙ c.in_ok-exps.ensures ∙ ap (λ (x : Structure). measured_exps m x s) c.structure.ensures.structure in
-    answered_is_table s c.each_point.result (measured_of p m a.structure s a.points) c.each_point.ensures.columns
+    answered_is_table s c.each_point.result (measured_of p m a s) c.each_point.ensures.columns
     (subst (λ (l : List CompExp). AnswersBy (λ (t : Listed). t.rows) c.each_point.result (each_point p l a.points)) es c.each_point.ensures.rows)
-    (λ out e. measured_kept p m a.structure s a.points out c.requires c.structure.ensures.points e)
+    (λ out e. measured_kept p m a s out c.requires c.structure.ensures.points e)

@@ -1,17 +1,14 @@
-use Rattle.std.proofs.Common.{length, map, sym, ap, subst, ◌∙◌}
+use Rattle.std.proofs.Common.{List, length, map, sym, ap, subst, ◌∙◌}
 use Rattle.vtl_syntax.specs.View.{statement_tree}
-use Rattle.vtl_backend.specs.Script.{has_definitions}
+use Rattle.vtl_syntax.specs.declared.statements.Statement.{Statement}
+use Rattle.vtl_backend.specs.Transformations.{transformations}
 use Rattle.vtl_interp.specs.Results.{ShownBy}
 use Rattle.vtl_interp.proofs.MadeStatements.{statements_made}
-use Rattle.vtl_interp.proofs.Scripts.{all_assignments}
 use Rattle.vtl_interp.proofs.Starts.{meant_by_run, ready_to_run}
 use Rattle.vtl_interp.proofs.interp.script_outputs.Goals as goal
 
 pub run_statements-requires-clause-many : goal.run_statements-requires-clause-many
-run_statements-requires-clause-many c = c.nodes.ensures.as_many ∙ sym (ap length c.statements.ensures)
-
-pub run_statements-requires-clause-plain : goal.run_statements-requires-clause-plain
-run_statements-requires-clause-plain c = ap (λ l. has_definitions (map statement_tree l)) c.statements.ensures ∙ all_assignments c.args.script.now c.nodes.ensures.typed
+run_statements-requires-clause-many c = c.nodes.ensures.as_many ∙ sym (ap (λ (l : List Statement). length (transformations (map statement_tree l))) c.statements.ensures)
 
 pub run_statements-requires-clause-ready : goal.run_statements-requires-clause-ready
 run_statements-requires-clause-ready c =

@@ -9,8 +9,8 @@ use Rattle.vtl_interp.proofs.operators.calc.Goals as goal
 pub returns-in_err-calc : goal.returns-in_err-calc
 returns-in_err-calc c =
     let passed : c.from_residual-in_err-calc.result ≡ Err c.in_err-calc.field-0.0 = search rules in
-    rw passed (fault_passed (λ d. d) value_view c.in_err-calc.field-0.0 _ _ (at_same (λ s d. with_structure s (calculated_of c.args.p.now (map item_tree c.args.items.now) d.structure s d.points)) c.in_ok-made.made c.args.made.now c.data.result.now (value_view c.args.a) c.in_ok-made.ensures c.data.ensures) c.in_err-calc.ensures)
+    rw passed (fault_passed (λ d. d) value_view c.in_err-calc.field-0.0 _ _ (at_same (λ s d. with_structure s (calculated_of c.args.p.now (map item_tree c.args.items.now) d s)) c.in_ok-made.made c.args.made.now c.data.result.now (value_view c.args.a) c.in_ok-made.ensures c.data.ensures) c.in_err-calc.ensures)
 
 pub returns : goal.returns
 returns c =
-    sym (at_same (λ s d. with_structure s (calculated_of c.args.p.now (map item_tree c.args.items.now) d.structure s d.points)) c.in_ok-made.made c.args.made.now c.data.result.now (value_view c.args.a) c.in_ok-made.ensures c.data.ensures) ∙ c.in_ok-calc.ensures
+    sym (at_same (λ s d. with_structure s (calculated_of c.args.p.now (map item_tree c.args.items.now) d s)) c.in_ok-made.made c.args.made.now c.data.result.now (value_view c.args.a) c.in_ok-made.ensures c.data.ensures) ∙ c.in_ok-calc.ensures

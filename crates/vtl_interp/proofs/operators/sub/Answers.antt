@@ -7,4 +7,4 @@ use Rattle.vtl_interp.proofs.operators.sub.Goals as goal
 
 pub returns : goal.returns
 returns c =
-    ap Ok (sym (c.in_ok-sub.ensures ∙ at_same (λ s d. data_set s (sub_of c.args.items.now d.structure s d.points)) c.in_ok-made.made c.args.made.now c.data.result.now (value_view c.args.a) c.in_ok-made.ensures c.data.ensures))
+    ap Ok (sym (c.in_ok-sub.ensures ∙ at_same (λ s d. data_set s (sub_of c.args.items.now d s)) c.in_ok-made.made c.args.made.now c.data.result.now (value_view c.args.a) c.in_ok-made.ensures c.data.ensures))

@@ -1,18 +1,17 @@
-use Rattle.std.proofs.Common.{◌≡◌, drop, false, map}
+use Rattle.std.proofs.Common.{◌≡◌, ◌+◌, drop, length, map}
 use Rattle.std.specs.Map.{keys_of}
-use Rattle.vtl_syntax.specs.View.{statement_tree}
 use Rattle.vtl_nodes.specs.View.{node_tree}
 use Rattle.vtl_meaning.specs.Meaning.{meaning}
-use Rattle.vtl_backend.specs.Script.{has_definitions}
-use Rattle.vtl_backend.specs.Statements.{with_nodes}
+use Rattle.vtl_backend.proofs.LeftLemmas.{left}
 use Rattle.vtl_interp.specs.Reads.{AreRead}
 use Rattle.vtl_interp.specs.Results.{AreReady, Remain}
+use Rattle.vtl_interp.proofs.Turns.{left_from}
 use Rattle.vtl_interp.proofs.statements.run_each.Given as goal
 
-abbrev pub invariant-loop-i : goal.invariant-loop-i
-invariant-loop-i l = record {
-  plain : has_definitions (map statement_tree (drop l.i l.statements)) ≡ false;
-  reads : AreRead l.last.entries l.i (map node_tree (drop l.i l.nodes));
-  ready : AreReady l.p l.held.known.entries (keys_of l.held.outputs) (with_nodes (map statement_tree (drop l.i l.statements)) (map node_tree (drop l.i l.nodes)));
-  meant : Remain (meaning l.p (with_nodes (map statement_tree l.statements) (map node_tree l.nodes)) l.initial.held.known.entries) (meaning l.p (with_nodes (map statement_tree (drop l.i l.statements)) (map node_tree (drop l.i l.nodes))) l.held.known.entries) l.held.outputs;
+abbrev pub invariant-loop-statement : goal.invariant-loop-statement
+invariant-loop-statement l = record {
+  many : l.place + length (left l.statements l.statement-index) ≡ length l.nodes;
+  reads : AreRead l.last.entries l.place (map node_tree (drop l.place l.nodes));
+  ready : AreReady l.p l.held.known.entries (keys_of l.held.outputs) (left_from l.statements l.nodes l.statement-index l.place);
+  meant : Remain (meaning l.p (left_from l.statements l.nodes 0 0) l.initial.held.known.entries) (meaning l.p (left_from l.statements l.nodes l.statement-index l.place) l.held.known.entries) l.held.outputs;
 }

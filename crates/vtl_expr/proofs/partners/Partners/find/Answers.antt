@@ -10,7 +10,7 @@ pub row-requires : goal.row-requires
 row-requires g c =
     let places = c.self.inside.places.items in
     let row = c.args.row.now in
-    let key = c.deref-2.ensures.value ∙ c.in_ok-push_cells.ensures ∙ ap (λ l. l ++ cells_at c.deref.result.now row) c.in_ok-key.ensures.items ∙ ap (λ ps. cells_at ps row) c.deref.ensures.value in
+    let key = c.deref-2.ensures.value ∙ c.in_ok-push_cells.ensures.ok ∙ ap (λ l. l ++ cells_at c.deref.result.now row) c.in_ok-key.ensures.items ∙ ap (λ ps. cells_at ps row) c.deref.ensures.value in
     let is = c.probe.ensures.rows ∙ ap (rows_by c.self.inside.index) key ∙ ap (λ (f : Row → List ℕ). f (cells_at places row)) c.self.invariant.1 in
     found_place (length places) c.self.inside.table.now.rows (cells_at places row) c.probe.result.now c.in-Some.place.now is c.in-Some.ensures.value
 
@@ -18,7 +18,7 @@ pub returns-in-Some : goal.returns-in-Some
 returns-in-Some g c =
     let places = c.self.inside.places.items in
     let row = c.args.row.now in
-    let key = c.deref-2.ensures.value ∙ c.in_ok-push_cells.ensures ∙ ap (λ l. l ++ cells_at c.deref.result.now row) c.in_ok-key.ensures.items ∙ ap (λ ps. cells_at ps row) c.deref.ensures.value in
+    let key = c.deref-2.ensures.value ∙ c.in_ok-push_cells.ensures.ok ∙ ap (λ l. l ++ cells_at c.deref.result.now row) c.in_ok-key.ensures.items ∙ ap (λ ps. cells_at ps row) c.deref.ensures.value in
     let is = c.probe.ensures.rows ∙ ap (rows_by c.self.inside.index) key ∙ ap (λ (f : Row → List ℕ). f (cells_at places row)) c.self.invariant.1 in
     found_row (length places) c.self.inside.table.now.rows (cells_at places row) c.probe.result.now c.in-Some.place.now c.row.result.now is c.in-Some.ensures.value c.row.ensures.row
     ∙ ap (λ (s : Sought). found s row) c.self.view_is
@@ -27,7 +27,7 @@ pub returns : goal.returns
 returns g c =
     let places = c.self.inside.places.items in
     let row = c.args.row.now in
-    let key = c.deref-2.ensures.value ∙ c.in_ok-push_cells.ensures ∙ ap (λ l. l ++ cells_at c.deref.result.now row) c.in_ok-key.ensures.items ∙ ap (λ ps. cells_at ps row) c.deref.ensures.value in
+    let key = c.deref-2.ensures.value ∙ c.in_ok-push_cells.ensures.ok ∙ ap (λ l. l ++ cells_at c.deref.result.now row) c.in_ok-key.ensures.items ∙ ap (λ ps. cells_at ps row) c.deref.ensures.value in
     let is = c.probe.ensures.rows ∙ ap (rows_by c.self.inside.index) key ∙ ap (λ (f : Row → List ℕ). f (cells_at places row)) c.self.invariant.1 in
     found_none (length places) c.self.inside.table.now.rows (cells_at places row) c.probe.result.now is c.in-None.ensures.value
     ∙ ap (λ (s : Sought). found s row) c.self.view_is
