@@ -2,6 +2,7 @@
 ghost use Rattle.std.specs.Prelude.{◌≡◌, false};
 ghost use Rattle.vtl_check.specs.Script.{has_definitions};
 ghost use Rattle.vtl_syntax.specs.View.{script_tree};
+ghost use Rattle.vtl_syntax.specs.Written.{AreWritten};
 
 use crate::notation::{kind_word, profile};
 use crate::refusals;
@@ -35,7 +36,9 @@ fn over_structures(
     script: &Script,
     structures: &str,
     profile: &Profile,
-) -> Result<Report, AllocError> {
+) -> Result<Report, AllocError>
+    requires { AreWritten (script_tree script.now) }
+{
     match read_structures(alloc, structures.as_bytes()) {
         Ok(structures) => with_structures(alloc, script, &structures, profile),
         Err(error) => refusals::of_structures(alloc, error),
@@ -47,7 +50,9 @@ fn with_structures(
     script: &Script,
     structures: &Structures,
     profile: &Profile,
-) -> Result<Report, AllocError> {
+) -> Result<Report, AllocError>
+    requires { AreWritten (script_tree script.now) }
+{
     if defines_rulesets(script) {
         refusals::of_rulesets(alloc)
     } else {
@@ -61,7 +66,8 @@ fn typed(
     structures: &Structures,
     profile: &Profile,
 ) -> Result<Report, AllocError>
-    requires { has_definitions (script_tree script.now) ≡ false }
+    requires written { AreWritten (script_tree script.now) }
+    requires plain { has_definitions (script_tree script.now) ≡ false }
 {
     match check(alloc, script, structures, profile) {
         Ok(checked) => last_structure(alloc, &checked),

@@ -4,6 +4,7 @@ use Rattle.std.specs.List.{list_all, list_any}
 use Rattle.std.specs.Map.{lookup}
 use Rattle.std.specs.Option.{option_and_then, option_map_or}
 use Rattle.std.specs.Cmp.Lexicographic.{bytes_decides}
+use Rattle.std.specs.Prelude.{ok_or}
 use Rattle.std.proofs.lemmas.Bool.{and_parts}
 use Rattle.std.proofs.lemmas.Bool.Decides.{nat_tests}
 use Rattle.vtl_tree.specs.Structure.{IsStructure, key_width, most_components, names_of, same_name}
@@ -11,13 +12,15 @@ use Rattle.vtl_tree.specs.Structures.{AreStructures, Named, components_of, has_n
 use Rattle.vtl_tree.specs.declared.structure.Component.{Component}
 use Rattle.vtl_tree.specs.declared.structure.Structure.{Structure}
 use Rattle.vtl_tree.proofs.StructuresLemmas.{add_are, all_found}
+use Rattle.vtl_lists.specs.Aliases.{Record}
 use Rattle.vtl_lists.specs.Apart.{all_apart}
-use Rattle.vtl_csv.specs.Declarations.{Declaration, codes_of, component_in, dataset_in, declaration_of, declared_by, has_component, is_full, kind_in, or_rule, record_of, role_in, unless_rule}
-use Rattle.vtl_csv.specs.StructuresFile.{Fault, after_record, at_line, is_header, is_identifier, lacks_identifier, lines_declare, lines_in, records_in, structures_of_file, with_identifiers, without_identifier}
+use Rattle.vtl_lists.specs.Results.{◌>>=◌}
+use Rattle.vtl_csv.specs.Declarations.{Declaration, codes_of, component_in, dataset_in, declaration_of, declared_by, has_component, is_full, kind_in, record_of, role_in}
+use Rattle.vtl_csv.specs.StructuresFile.{Fault, ◌at_line◌, is_header, is_identifier, lacks_identifier, lines_declare, lines_in, records_in, structures_of_file, with_identifiers, without_identifier}
 use Rattle.vtl_csv.proofs.DeclarationLemmas.{record_fits}
 
 abbrev pub Records : Type 0
-Records = List (List (List ℕ))
+Records = List Record
 
 -- ---- declared lines are structures
 pub lines_are : (line : ℕ) (so_far : Named) (rs : Records) (all : Named) → AreStructures so_far → lines_declare line so_far rs ≡ Ok all → AreStructures all
@@ -25,7 +28,7 @@ lines_are line so_far [] all h e = let same : so_far ≡ all = cc in subst (λ x
 lines_are line so_far (fields ∷ rest) all h e = go (λ new a q. lines_are (line + 1) new rest all a q) (record_of so_far fields) refl e
   where
     go : ((new : Named) → AreStructures new → lines_declare (line + 1) new rest ≡ Ok all → AreStructures all)
-        → (r : Result (List ℕ × Component) ℕ) → record_of so_far fields ≡ r → at_line line (λ new. lines_declare (line + 1) new rest) (after_record so_far r) ≡ Ok all → AreStructures all
+        → (r : Result (List ℕ × Component) ℕ) → record_of so_far fields ≡ r → ((r >>= λ p. Ok (with_component p.0 p.1 so_far)) at_line line >>= λ new. lines_declare (line + 1) new rest) ≡ Ok all → AreStructures all
     go ih (Err rule) is q = cc
     go ih (Ok p) is q = ih (with_component p.0 p.1 so_far) (add_are so_far p.0 p.1 h (record_fits so_far fields p is)) q
 
@@ -39,11 +42,11 @@ speaks_of name fields = option_map_or (same_name name) (name_in fields) false
 abbrev has_record : List ℕ → Records → Bool
 has_record name rs = list_any (speaks_of name) rs
 
-or_kept : {X Y : Type 0} (n : ℕ) (o : Option X) (f : X → Result Y ℕ) (y : Y) → or_rule n o f ≡ Ok y → (x : X) × (o ≡ Some x) × (f x ≡ Ok y)
+or_kept : {X Y : Type 0} (n : ℕ) (o : Option X) (f : X → Result Y ℕ) (y : Y) → (ok_or o n >>= f) ≡ Ok y → (x : X) × (o ≡ Some x) × (f x ≡ Ok y)
 or_kept n None f y e = cc
 or_kept n (Some x) f y e = (x, refl, e)
 
-unless_rule_kept : {Y : Type 0} (n : ℕ) (b : Bool) (r : Result Y ℕ) (y : Y) → unless_rule n b r ≡ Ok y → r ≡ Ok y
+unless_rule_kept : {Y : Type 0} (n : ℕ) (b : Bool) (r : Result Y ℕ) (y : Y) → cond b (Err n) r ≡ Ok y → r ≡ Ok y
 unless_rule_kept n true r y e = cc
 unless_rule_kept n false r y e = e
 
@@ -66,7 +69,7 @@ declares_its_name so_far d p e =
 record_names : (so_far : Named) (fields : List (List ℕ)) (p : List ℕ × Component) → record_of so_far fields ≡ Ok p → name_in fields ≡ Some p.0
 record_names so_far fields p e = go (declaration_of fields) e
   where
-    go : (o : Option Declaration) → or_rule 2 o (declared_by so_far) ≡ Ok p → option_and_then (λ d. dataset_in d.dataset) o ≡ Some p.0
+    go : (o : Option Declaration) → (ok_or o 2 >>= declared_by so_far) ≡ Ok p → option_and_then (λ d. dataset_in d.dataset) o ≡ Some p.0
     go None q = cc
     go (Some d) q = declares_its_name so_far d p q
 
@@ -107,7 +110,7 @@ lines_name n line so_far (fields ∷ rest) all e has = go (λ new q. lines_name 
     later false false c false h e = e
 
     go : ((new : Named) → lines_declare (line + 1) new rest ≡ Ok all → (has_name n new || has_record n rest) ≡ true)
-        → (r : Result (List ℕ × Component) ℕ) → record_of so_far fields ≡ r → at_line line (λ new. lines_declare (line + 1) new rest) (after_record so_far r) ≡ Ok all → (has_name n so_far || (speaks_of n fields || has_record n rest)) ≡ true
+        → (r : Result (List ℕ × Component) ℕ) → record_of so_far fields ≡ r → ((r >>= λ p. Ok (with_component p.0 p.1 so_far)) at_line line >>= λ new. lines_declare (line + 1) new rest) ≡ Ok all → (has_name n so_far || (speaks_of n fields || has_record n rest)) ≡ true
     go ih (Err rule) is q = cc
     go ih (Ok p) is q =
         let named : speaks_of n fields ≡ same_name n p.0 = ap (λ o. option_map_or (same_name n) o false) (record_names so_far fields p is) in
@@ -144,11 +147,11 @@ record IsDeclared (rs : Records) (all : Named) : Type 0 where
 no_name_yet : AreStructures []
 no_name_yet = record { declarable = refl; distinct = refl }
 
-file_declares : (rs : Records) (all : Named) → with_identifiers (drop 1 rs) (lines_in rs) ≡ Ok all → IsDeclared rs all
+file_declares : (rs : Records) (all : Named) → (lines_in rs >>= with_identifiers (drop 1 rs)) ≡ Ok all → IsDeclared rs all
 file_declares [] all e = cc
 file_declares (first ∷ rest) all e = header (is_header first) e
   where
-    none_lacks : (r : Result Named Fault) → lines_declare 2 [] rest ≡ r → with_identifiers rest r ≡ Ok all → IsDeclared (first ∷ rest) all
+    none_lacks : (r : Result Named Fault) → lines_declare 2 [] rest ≡ r → (r >>= with_identifiers rest) ≡ Ok all → IsDeclared (first ∷ rest) all
     none_lacks (Err fault) is q = cc
     none_lacks (Ok declared) is q = whole (without_identifier 2 declared rest) refl q
       where
@@ -161,7 +164,7 @@ file_declares (first ∷ rest) all e = header (is_header first) e
               each = λ n has. record_identifies n 2 declared rest w (lines_name n 2 [] rest declared is has);
             })
 
-    header : (b : Bool) → with_identifiers rest (cond b (lines_declare 2 [] rest) (Err (1, 1))) ≡ Ok all → IsDeclared (first ∷ rest) all
+    header : (b : Bool) → (cond b (lines_declare 2 [] rest) (Err (1, 1)) >>= with_identifiers rest) ≡ Ok all → IsDeclared (first ∷ rest) all
     header true q = none_lacks (lines_declare 2 [] rest) refl q
     header false q = cc
 

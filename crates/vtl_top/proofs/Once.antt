@@ -5,12 +5,13 @@ use Rattle.vtl_tree.specs.Environment.{Environment}
 use Rattle.vtl_tree.specs.Structures.{Named}
 use Rattle.vtl_tree.specs.declared.structure.Structure.{Structure}
 use Rattle.vtl_csv.specs.InputFile.{dataset_rows}
+use Rattle.vtl_decimal.specs.Settings.{Settings}
 use Rattle.vtl_interp.specs.Script.{has_definitions}
 use Rattle.vtl_interp.specs.Uses.{reads}
 use Rattle.vtl_meaning.specs.Meaning.{is_built}
 use Rattle.vtl_top.specs.Structures.{structures_in}
-use Rattle.vtl_top.specs.Expected.{asked_step, csv_limit, dataset_step, input_path, inputs_step, meant, one_more_step, outputs_of, points_or_fault, read, run_step, script_in, script_limit, script_of, script_step, structures_limit, structures_step, typed_by, typed_step, typing_of, unbuilt, with_points}
-use Rattle.vtl_top.specs.Steps.{Behind, Held, Step, ◌>>=◌, only_files, refused_if, settled}
+use Rattle.vtl_top.specs.Expected.{asked_step, csv_limit, dataset_step, file_in, inputs_step, meant, one_more_step, outputs_of, points_or_fault, read, run_step, script_in, script_limit, script_of, script_step, structures_limit, structures_step, typed_by, typed_step, typing_of, unbuilt, with_points}
+use Rattle.vtl_top.specs.Steps.{Behind, Held, Path, Step, ◌>>=◌, only_files, refused_if, settled}
 use Rattle.vtl_top.specs.Words.{Command, Run, Source, run}
 use Rattle.vtl_status.specs.declared.status.Status.{Status}
 use Rattle.vtl_status.specs.declared.status.Status.TheVariants as st
@@ -44,32 +45,32 @@ structures_once path held =
 refused_once : (b : Bool) (status : Status) (held : Held) → Once (refused_if b status) held
 refused_once b status held = settled_once (cond b (Err status) (Ok tt)) held
 
-dataset_once : (r : Run) (e : List ℕ × Structure) (held : Held) → Once (dataset_step r e) held
-dataset_once r e held =
-    onward_once (read (input_path r e.0) csv_limit) (λ bytes. settled (points_or_fault e.0 (dataset_rows r.source.settings e.1 bytes))) held (read_once (input_path r e.0) csv_limit held)
-    (λ bytes. settled_once (points_or_fault e.0 (dataset_rows r.source.settings e.1 bytes)) held)
+dataset_once : (folder : Path) (p : Settings) (e : List ℕ × Structure) (held : Held) → Once (dataset_step folder p e) held
+dataset_once folder p e held =
+    onward_once (read (file_in folder e.0) csv_limit) (λ bytes. settled (points_or_fault e.0 (dataset_rows p e.1 bytes))) held (read_once (file_in folder e.0) csv_limit held)
+    (λ bytes. settled_once (points_or_fault e.0 (dataset_rows p e.1 bytes)) held)
 
-inputs_once : (r : Run) (before : Environment) (inputs : Named) (held : Held) → Once (inputs_step r before inputs) held
-inputs_once r before [] held = settled_once (Ok before) held
-inputs_once r before (e ∷ rest) held =
-    onward_once (one_more_step r before e) (λ more. inputs_step r more rest) held
-    (onward_once (dataset_step r e) (λ points. settled (Ok (with_points before e points))) held (dataset_once r e held) (λ points. settled_once (Ok (with_points before e points)) held))
-    (λ more. inputs_once r more rest held)
+inputs_once : (folder : Path) (p : Settings) (before : Environment) (inputs : Named) (held : Held) → Once (inputs_step folder p before inputs) held
+inputs_once folder p before [] held = settled_once (Ok before) held
+inputs_once folder p before (e ∷ rest) held =
+    onward_once (one_more_step folder p before e) (λ more. inputs_step folder p more rest) held
+    (onward_once (dataset_step folder p e) (λ points. settled (Ok (with_points before e points))) held (dataset_once folder p e held) (λ points. settled_once (Ok (with_points before e points)) held))
+    (λ more. inputs_once folder p more rest held)
 
 typed_once : (s : Source) (held : Held) → Once (typed_step s) held
 typed_once s held =
     onward_once (script_step s.script) (after_script s) held (onward_once (read s.script script_limit) (script_of s.script) held (read_once s.script script_limit held) (λ bytes. script_once s.script bytes held)) (λ tree.
     onward_once (refused_if (has_definitions tree) (unbuilt s)) (λ plain. after_plain s tree) held (refused_once (has_definitions tree) (unbuilt s) held) (λ plain.
     onward_once (structures_step s.structures) (after_structures s tree) held (structures_once s.structures held) (λ structures.
-    onward_once (settled (typing_of s tree structures)) (λ nodes. settled (Ok (typed_by tree structures nodes))) held (settled_once (typing_of s tree structures) held) (λ nodes.
-    settled_once (Ok (typed_by tree structures nodes)) held))))
+    onward_once (settled (typing_of s tree structures)) (λ nodes. settled (Ok (typed_by tree structures s.settings nodes))) held (settled_once (typing_of s tree structures) held) (λ nodes.
+    settled_once (Ok (typed_by tree structures s.settings nodes)) held))))
 
 run_once : (r : Run) (held : Held) → Once (run_step r) held
 run_once r held =
     onward_once (typed_step r.source) (after_typing r) held (typed_once r.source held) (λ t.
     onward_once (refused_if (not (list_all is_built t.nodes)) (unbuilt r.source)) (λ built. after_built r t) held (refused_once (not (list_all is_built t.nodes)) (unbuilt r.source) held) (λ built.
-    onward_once (inputs_step r [] (reads t.structures t.nodes)) (λ env. settled (outputs_of r (meant r t env))) held (inputs_once r [] (reads t.structures t.nodes) held) (λ env.
-    settled_once (outputs_of r (meant r t env)) held)))
+    onward_once (inputs_step r.input t.settings [] (reads t.structures t.nodes)) (λ env. settled (outputs_of r.output t.settings (meant t env))) held (inputs_once r.input t.settings [] (reads t.structures t.nodes) held) (λ env.
+    settled_once (outputs_of r.output t.settings (meant t env)) held)))
 
 pub determined : (command : Option Command) (held : Held) → Once (asked_step command) held
 determined None held = settled_once (Err st.Usage) held

@@ -1,5 +1,5 @@
 -- No files that are held leave a command without an outcome.
-use Rattle.std.proofs.Common.{◌≡◌, ◌⊎◌, inl, inr, ℕ, Bool, cond, not, List, [], ◌∷◌, Option, Some, None, Result, Ok, Err, refl}
+use Rattle.std.proofs.Common.{◌⊎◌, inl, inr, ℕ, Bool, cond, not, List, [], ◌∷◌, Option, Some, None, Result, Ok, Err, refl}
 use Rattle.std.specs.Prelude.{IsUtf8, chars}
 use Rattle.std.specs.List.{list_all}
 use Rattle.vtl_syntax.specs.Trees.{ScriptTree}
@@ -8,12 +8,13 @@ use Rattle.vtl_tree.specs.Environment.{Environment}
 use Rattle.vtl_tree.specs.Structures.{Named}
 use Rattle.vtl_tree.specs.declared.structure.Structure.{Structure}
 use Rattle.vtl_csv.specs.InputFile.{dataset_rows}
+use Rattle.vtl_decimal.specs.Settings.{Settings}
 use Rattle.vtl_interp.specs.Script.{has_definitions}
 use Rattle.vtl_interp.specs.Uses.{reads}
 use Rattle.vtl_meaning.specs.Meaning.{is_built}
-use Rattle.vtl_top.specs.Expected.{asked_step, content, csv_limit, dataset_step, input_path, inputs_step, meant, one_more_step, outputs_of, points_or_fault, read, run_step, script_limit, script_of, script_step, structures_limit, structures_step, typed_by, typed_step, typing_of, unbuilt, with_points}
+use Rattle.vtl_top.specs.Expected.{asked_step, content, csv_limit, dataset_step, file_in, inputs_step, meant, one_more_step, outputs_of, points_or_fault, read, run_step, script_limit, script_of, script_step, structures_limit, structures_step, typed_by, typed_step, typing_of, unbuilt, with_points}
 use Rattle.vtl_top.specs.ScriptFile.{faulty, no_text, whole}
-use Rattle.vtl_top.specs.Steps.{Behind, Held, Made, Step, ◌>>=◌, only_files, refused_if, settled}
+use Rattle.vtl_top.specs.Steps.{Held, Made, Path, Step, ◌>>=◌, only_files, refused_if, settled}
 use Rattle.vtl_top.specs.Structures.{structures_in}
 use Rattle.vtl_top.specs.Words.{Command, Run, Source, run}
 use Rattle.vtl_status.specs.declared.status.Status.{Status}
@@ -52,32 +53,32 @@ structures_total path held =
 refused_total : (b : Bool) (status : Status) (held : Held) → Total (refused_if b status) held
 refused_total b status held = settled_total (cond b (Err status) (Ok tt)) held
 
-dataset_total : (r : Run) (e : List ℕ × Structure) (held : Held) → Total (dataset_step r e) held
-dataset_total r e held =
-    onward_total (read (input_path r e.0) csv_limit) (λ bytes. settled (points_or_fault e.0 (dataset_rows r.source.settings e.1 bytes))) held (read_total (input_path r e.0) csv_limit held)
-    (λ bytes. settled_total (points_or_fault e.0 (dataset_rows r.source.settings e.1 bytes)) held)
+dataset_total : (folder : Path) (p : Settings) (e : List ℕ × Structure) (held : Held) → Total (dataset_step folder p e) held
+dataset_total folder p e held =
+    onward_total (read (file_in folder e.0) csv_limit) (λ bytes. settled (points_or_fault e.0 (dataset_rows p e.1 bytes))) held (read_total (file_in folder e.0) csv_limit held)
+    (λ bytes. settled_total (points_or_fault e.0 (dataset_rows p e.1 bytes)) held)
 
-inputs_total : (r : Run) (before : Environment) (inputs : Named) (held : Held) → Total (inputs_step r before inputs) held
-inputs_total r before [] held = settled_total (Ok before) held
-inputs_total r before (e ∷ rest) held =
-    onward_total (one_more_step r before e) (λ more. inputs_step r more rest) held
-    (onward_total (dataset_step r e) (λ points. settled (Ok (with_points before e points))) held (dataset_total r e held) (λ points. settled_total (Ok (with_points before e points)) held))
-    (λ more. inputs_total r more rest held)
+inputs_total : (folder : Path) (p : Settings) (before : Environment) (inputs : Named) (held : Held) → Total (inputs_step folder p before inputs) held
+inputs_total folder p before [] held = settled_total (Ok before) held
+inputs_total folder p before (e ∷ rest) held =
+    onward_total (one_more_step folder p before e) (λ more. inputs_step folder p more rest) held
+    (onward_total (dataset_step folder p e) (λ points. settled (Ok (with_points before e points))) held (dataset_total folder p e held) (λ points. settled_total (Ok (with_points before e points)) held))
+    (λ more. inputs_total folder p more rest held)
 
 typed_total : (s : Source) (held : Held) → Total (typed_step s) held
 typed_total s held =
     onward_total (script_step s.script) (after_script s) held (onward_total (read s.script script_limit) (script_of s.script) held (read_total s.script script_limit held) (λ bytes. script_total s.script bytes held)) (λ tree.
     onward_total (refused_if (has_definitions tree) (unbuilt s)) (λ plain. after_plain s tree) held (refused_total (has_definitions tree) (unbuilt s) held) (λ plain.
     onward_total (structures_step s.structures) (after_structures s tree) held (structures_total s.structures held) (λ structures.
-    onward_total (settled (typing_of s tree structures)) (λ nodes. settled (Ok (typed_by tree structures nodes))) held (settled_total (typing_of s tree structures) held) (λ nodes.
-    settled_total (Ok (typed_by tree structures nodes)) held))))
+    onward_total (settled (typing_of s tree structures)) (λ nodes. settled (Ok (typed_by tree structures s.settings nodes))) held (settled_total (typing_of s tree structures) held) (λ nodes.
+    settled_total (Ok (typed_by tree structures s.settings nodes)) held))))
 
 run_total : (r : Run) (held : Held) → Total (run_step r) held
 run_total r held =
     onward_total (typed_step r.source) (after_typing r) held (typed_total r.source held) (λ t.
     onward_total (refused_if (not (list_all is_built t.nodes)) (unbuilt r.source)) (λ built. after_built r t) held (refused_total (not (list_all is_built t.nodes)) (unbuilt r.source) held) (λ built.
-    onward_total (inputs_step r [] (reads t.structures t.nodes)) (λ env. settled (outputs_of r (meant r t env))) held (inputs_total r [] (reads t.structures t.nodes) held) (λ env.
-    settled_total (outputs_of r (meant r t env)) held)))
+    onward_total (inputs_step r.input t.settings [] (reads t.structures t.nodes)) (λ env. settled (outputs_of r.output t.settings (meant t env))) held (inputs_total r.input t.settings [] (reads t.structures t.nodes) held) (λ env.
+    settled_total (outputs_of r.output t.settings (meant t env)) held)))
 
 total : (command : Option Command) (held : Held) → Total (asked_step command) held
 total None held = settled_total (Err st.Usage) held

@@ -6,6 +6,7 @@ use Rattle.std.specs.Str.{is_utf8}
 use Rattle.vtl_files.specs.Outside.{bytes_at}
 use Rattle.vtl_cell.specs.Outcome.{DivZero, Fault as EvaluationFault, Range}
 use Rattle.vtl_cell.specs.Row.{Row}
+use Rattle.vtl_decimal.specs.Settings.{Settings}
 use Rattle.vtl_syntax.specs.Trees.{ScriptTree}
 use Rattle.vtl_tree.specs.Environment.{Environment}
 use Rattle.vtl_tree.specs.Structures.{Named}
@@ -17,7 +18,7 @@ use Rattle.vtl_meaning.specs.Meaning.{Outputs, is_built}
 use Rattle.vtl_interp.specs.Checked.{env_over}
 use Rattle.vtl_interp.specs.Script.{has_definitions, script_typed}
 use Rattle.vtl_interp.specs.Uses.{reads}
-use Rattle.vtl_top.specs.Expected.{Typed, csv_limit, dataset_step, fault_status, input_path, inputs_step, meant, one_more_step, outputs_of, points_or_fault, read, run_step, script_in, script_limit, script_of, script_step, sized, structures_limit, structures_step, typed_by, typed_or_fault, typed_step, typing_of, unbuilt, with_points}
+use Rattle.vtl_top.specs.Expected.{Typed, csv_limit, dataset_step, fault_status, file_in, inputs_step, meant, one_more_step, outputs_of, points_or_fault, read, run_step, script_in, script_limit, script_of, script_step, sized, structures_limit, structures_step, typed_by, typed_or_fault, typed_step, typing_of, unbuilt, with_points}
 use Rattle.vtl_top.specs.Meant.{IsFaulted, IsMistyped, IsRead, IsReady}
 use Rattle.std.specs.Option.{IfSome}
 use Rattle.vtl_files.specs.declared.files.Files.{Ghosts}
@@ -26,7 +27,7 @@ use Rattle.vtl_top.specs.Answered.{Takes}
 use Rattle.vtl_top.specs.Informed.{HasRun, IsTold, TellsRun}
 use Rattle.vtl_top.proofs.StepLemmas.{if_some_map}
 use Rattle.vtl_top.specs.ScriptFile.{Parsed, faulty, no_text, whole}
-use Rattle.vtl_top.specs.Steps.{Behind, Held, Step, ◌>>=◌, refused_if, settled}
+use Rattle.vtl_top.specs.Steps.{Behind, Held, Path, Step, ◌>>=◌, refused_if, settled}
 use Rattle.vtl_top.specs.Structures.{declared, structures_in}
 use Rattle.vtl_top.specs.Words.{Run, Source}
 use Rattle.vtl_status.specs.declared.status.Status.{Status}
@@ -134,17 +135,17 @@ module _ (status : Status) (own : is_other (cause status) ≡ false) (held : Hel
   never_ok : {A : Type 0} (x : A) → Never (settled (Ok x))
   never_ok x e = cc
 
-  never_dataset : (r : Run) (e : List ℕ × Structure) → Never (dataset_step r e)
-  never_dataset r e =
-      never_onward (read (input_path r e.0) csv_limit) (λ bytes. settled (points_or_fault e.0 (dataset_rows r.source.settings e.1 bytes))) (never_read (input_path r e.0) csv_limit)
-      (λ bytes. never_points e.0 (dataset_rows r.source.settings e.1 bytes))
+  never_dataset : (folder : Path) (p : Settings) (e : List ℕ × Structure) → Never (dataset_step folder p e)
+  never_dataset folder p e =
+      never_onward (read (file_in folder e.0) csv_limit) (λ bytes. settled (points_or_fault e.0 (dataset_rows p e.1 bytes))) (never_read (file_in folder e.0) csv_limit)
+      (λ bytes. never_points e.0 (dataset_rows p e.1 bytes))
 
-  never_inputs : (r : Run) (before : Environment) (inputs : Named) → Never (inputs_step r before inputs)
-  never_inputs r before [] = never_ok before
-  never_inputs r before (e ∷ rest) =
-      never_onward (one_more_step r before e) (λ more. inputs_step r more rest)
-      (never_onward (dataset_step r e) (λ points. settled (Ok (with_points before e points))) (never_dataset r e) (λ points. never_ok (with_points before e points)))
-      (λ more. never_inputs r more rest)
+  never_inputs : (folder : Path) (p : Settings) (before : Environment) (inputs : Named) → Never (inputs_step folder p before inputs)
+  never_inputs folder p before [] = never_ok before
+  never_inputs folder p before (e ∷ rest) =
+      never_onward (one_more_step folder p before e) (λ more. inputs_step folder p more rest)
+      (never_onward (dataset_step folder p e) (λ points. settled (Ok (with_points before e points))) (never_dataset folder p e) (λ points. never_ok (with_points before e points)))
+      (λ more. never_inputs folder p more rest)
 
   -- ---- a source is refused so by its typing alone
   record ByTypes (s : Source) : Type 0 where
@@ -157,16 +158,16 @@ module _ (status : Status) (own : is_other (cause status) ≡ false) (held : Hel
   by_types_alone s gives = at_script (refused_at (script_step s.script) (after_script s) held status gives)
     where
       at_typing : (tree : ScriptTree) (structures : Named) → IsRead s held tree structures
-          → (settled (typing_of s tree structures)).gives held (Err status) ⊎ ((nodes : List NodeTree) × (settled (typing_of s tree structures)).gives held (Ok nodes) × (settled (Ok (typed_by tree structures nodes))).gives held (Err status)) → ByTypes s
+          → (settled (typing_of s tree structures)).gives held (Err status) ⊎ ((nodes : List NodeTree) × (settled (typing_of s tree structures)).gives held (Ok nodes) × (settled (Ok (typed_by tree structures s.settings nodes))).gives held (Err status)) → ByTypes s
       at_typing tree structures is (inl e) = record { tree = tree; structures = structures; is_read = is; typing = e }
-      at_typing tree structures is (inr (nodes, given, e)) = absurd (never_ok (typed_by tree structures nodes) e)
+      at_typing tree structures is (inr (nodes, given, e)) = absurd (never_ok (typed_by tree structures s.settings nodes) e)
 
       at_structures : (tree : ScriptTree) (u : Unit {0}) → (script_step s.script).gives held (Ok tree) → (refused_if (has_definitions tree) (unbuilt s)).gives held (Ok u)
           → (structures_step s.structures).gives held (Err status) ⊎ ((structures : Named) × (structures_step s.structures).gives held (Ok structures) × (after_structures s tree structures).gives held (Err status)) → ByTypes s
       at_structures tree u script plain (inl e) =
           absurd (never_onward (read s.structures structures_limit) (λ bytes. settled (structures_in s.structures bytes)) (never_read s.structures structures_limit) (never_structures s.structures) e)
       at_structures tree u script plain (inr (structures, is, rest)) =
-          at_typing tree structures (source_from s held tree structures u script plain is) (refused_at (settled (typing_of s tree structures)) (λ nodes. settled (Ok (typed_by tree structures nodes))) held status rest)
+          at_typing tree structures (source_from s held tree structures u script plain is) (refused_at (settled (typing_of s tree structures)) (λ nodes. settled (Ok (typed_by tree structures s.settings nodes))) held status rest)
 
       at_plain : (tree : ScriptTree) → (script_step s.script).gives held (Ok tree)
           → (refused_if (has_definitions tree) (unbuilt s)).gives held (Err status) ⊎ ((u : Unit {0}) × (refused_if (has_definitions tree) (unbuilt s)).gives held (Ok u) × (after_plain s tree).gives held (Err status)) → ByTypes s
@@ -182,22 +183,22 @@ module _ (status : Status) (own : is_other (cause status) ≡ false) (held : Hel
     typed : Typed
     inputs : Environment
     ready : IsReady r held typed inputs
-    values : Err status ≡ outputs_of r (meant r typed inputs)
+    values : Err status ≡ outputs_of r.output typed.settings (meant typed inputs)
 
   by_run : (r : Run) → (run_step r).gives held (Err status) → ByTypes r.source ⊎ ByValues r
   by_run r gives = at_types (refused_at (typed_step r.source) (after_typing r) held status gives)
     where
       at_values : (t : Typed) (u : Unit {0}) → (typed_step r.source).gives held (Ok t) → (refused_if (not (list_all is_built t.nodes)) (unbuilt r.source)).gives held (Ok u)
-          → (inputs_step r [] (reads t.structures t.nodes)).gives held (Err status)
-          ⊎ ((env : Environment) × (inputs_step r [] (reads t.structures t.nodes)).gives held (Ok env) × (settled (outputs_of r (meant r t env))).gives held (Err status)) → ByTypes r.source ⊎ ByValues r
-      at_values t u typed built (inl e) = absurd (never_inputs r [] (reads t.structures t.nodes) e)
+          → (inputs_step r.input t.settings [] (reads t.structures t.nodes)).gives held (Err status)
+          ⊎ ((env : Environment) × (inputs_step r.input t.settings [] (reads t.structures t.nodes)).gives held (Ok env) × (settled (outputs_of r.output t.settings (meant t env))).gives held (Err status)) → ByTypes r.source ⊎ ByValues r
+      at_values t u typed built (inl e) = absurd (never_inputs r.input t.settings [] (reads t.structures t.nodes) e)
       at_values t u typed built (inr (env, is, rest)) = inr (record { typed = t; inputs = env; ready = ready_from r held t env u typed built is; values = rest })
 
       at_built : (t : Typed) → (typed_step r.source).gives held (Ok t)
           → (refused_if (not (list_all is_built t.nodes)) (unbuilt r.source)).gives held (Err status)
           ⊎ ((u : Unit {0}) × (refused_if (not (list_all is_built t.nodes)) (unbuilt r.source)).gives held (Ok u) × (after_built r t).gives held (Err status)) → ByTypes r.source ⊎ ByValues r
       at_built t typed (inl e) = absurd (never_refused (not (list_all is_built t.nodes)) (unbuilt r.source) refl e)
-      at_built t typed (inr (u, built, rest)) = at_values t u typed built (refused_at (inputs_step r [] (reads t.structures t.nodes)) (λ env. settled (outputs_of r (meant r t env))) held status rest)
+      at_built t typed (inr (u, built, rest)) = at_values t u typed built (refused_at (inputs_step r.input t.settings [] (reads t.structures t.nodes)) (λ env. settled (outputs_of r.output t.settings (meant t env))) held status rest)
 
       at_types : (typed_step r.source).gives held (Err status) ⊎ ((t : Typed) × (typed_step r.source).gives held (Ok t) × (after_typing r t).gives held (Err status)) → ByTypes r.source ⊎ ByValues r
       at_types (inl e) = inl (by_types_alone r.source e)
@@ -211,9 +212,9 @@ typing_fault i rule (Err fault) e = let one : i ≡ fault.0 = cc in let two : ru
     ap2 : {a b c d : ℕ} → a ≡ b → c ≡ d → ◌≡◌ {A = ℕ × ℕ} (a, c) (b, d)
     ap2 p q = cc
 
-values_give_no_type : (i rule : ℕ) (r : Run) (m : Result Outputs (EvaluationFault × List ℕ)) → Err (st.Mistyped i rule) ≡ outputs_of r m → ⊥
-values_give_no_type i rule r (Ok results) e = cc
-values_give_no_type i rule r (Err fault) e = go fault.0 e
+values_give_no_type : (i rule : ℕ) (folder : Path) (p : Settings) (m : Result Outputs (EvaluationFault × List ℕ)) → Err (st.Mistyped i rule) ≡ outputs_of folder p m → ⊥
+values_give_no_type i rule folder p (Ok results) e = cc
+values_give_no_type i rule folder p (Err fault) e = go fault.0 e
   where
     go : (f : EvaluationFault) → ◌≡◌ {A = Result (List (List ℕ × List ℕ)) Status} (Err (st.Mistyped i rule)) (Err (fault_status f fault.1)) → ⊥
     go DivZero e = cc
@@ -224,7 +225,7 @@ mistyped_only r held i rule gives = go (by_run (st.Mistyped i rule) refl held r 
   where
     go : ByTypes (st.Mistyped i rule) refl held r.source ⊎ ByValues (st.Mistyped i rule) refl held r → IsMistyped r.source held i rule
     go (inl b) = record { tree = b.tree; structures = b.structures; source = b.is_read; fault = typing_fault i rule (script_typed (env_over r.source.settings b.structures) b.tree) b.typing }
-    go (inr b) = absurd (values_give_no_type i rule r (meant r b.typed b.inputs) b.values)
+    go (inr b) = absurd (values_give_no_type i rule r.output b.typed.settings (meant b.typed b.inputs) b.values)
 
 pub mistyped_always : (r : Run) (held : Held) (i rule : ℕ) → IsMistyped r.source held i rule → (run_step r).gives held (Err (st.Mistyped i rule))
 mistyped_always r held i rule is =
@@ -244,9 +245,9 @@ types_give_no_value f name (Ok nodes) e = cc
 types_give_no_value DivZero name (Err fault) e = cc
 types_give_no_value Range name (Err fault) e = cc
 
-value_fault : (f : EvaluationFault) (name : List ℕ) (r : Run) (m : Result Outputs (EvaluationFault × List ℕ)) → Err (fault_status f name) ≡ outputs_of r m → m ≡ Err (f, name)
-value_fault f name r (Ok results) e = cc
-value_fault f name r (Err fault) e = ap Err (go f fault.0 e)
+value_fault : (f : EvaluationFault) (name : List ℕ) (folder : Path) (p : Settings) (m : Result Outputs (EvaluationFault × List ℕ)) → Err (fault_status f name) ≡ outputs_of folder p m → m ≡ Err (f, name)
+value_fault f name folder p (Ok results) e = cc
+value_fault f name folder p (Err fault) e = ap Err (go f fault.0 e)
   where
     go : (a b : EvaluationFault) → ◌≡◌ {A = Result (List (List ℕ × List ℕ)) Status} (Err (fault_status a name)) (Err (fault_status b fault.1)) → ◌≡◌ {A = EvaluationFault × List ℕ} (b, fault.1) (a, name)
     go DivZero DivZero e = let same : name ≡ fault.1 = cc in ap (λ (n : List ℕ). (DivZero, n)) (sym same)
@@ -259,10 +260,10 @@ faulted_only r held f name gives = go (by_run (fault_status f name) (own_values 
   where
     go : ByTypes (fault_status f name) (own_values f name) held r.source ⊎ ByValues (fault_status f name) (own_values f name) held r → IsFaulted r held f name
     go (inl b) = absurd (types_give_no_value f name (script_typed (env_over r.source.settings b.structures) b.tree) b.typing)
-    go (inr b) = record { typed = b.typed; inputs = b.inputs; ready = b.ready; means = value_fault f name r (meant r b.typed b.inputs) b.values }
+    go (inr b) = record { typed = b.typed; inputs = b.inputs; ready = b.ready; means = value_fault f name r.output b.typed.settings (meant b.typed b.inputs) b.values }
 
 pub faulted_always : (r : Run) (held : Held) (f : EvaluationFault) (name : List ℕ) → IsFaulted r held f name → (run_step r).gives held (Err (fault_status f name))
-faulted_always r held f name is = ready_gives r held is.typed is.inputs (Err (fault_status f name)) is.ready (sym (ap (outputs_of r) is.means))
+faulted_always r held f name is = ready_gives r held is.typed is.inputs (Err (fault_status f name)) is.ready (sym (ap (outputs_of r.output is.typed.settings) is.means))
 
 -- ---- what is refused before the script is run, is refused by no fault of it
 module _ {F A X : Type 0} (g : Ghosts F) (a b : F) (step : Step A) (never : (f : EvaluationFault) (name : List ℕ) (held : Held) → step.gives held (Err (fault_status f name)) → ⊥) (view : X → A) (Q : Held → Type 0) where
@@ -280,7 +281,7 @@ typing_tells g a b s view told status = no_run g a b (typed_step s) never view (
         let b = by_types_alone (fault_status f name) (own_values f name) held s gives in
         types_give_no_value f name (script_typed (env_over s.settings b.structures) b.tree) b.typing
 
-pub inputs_tell : {F X : Type 0} (g : Ghosts F) (a b c : F) (s : Source) (r : Run) (inputs : Named) (view : X → Environment) (told : TypedScript → Type 0) (status : Status) → g.held b ≡ g.held a → Takes g b c (inputs_step r [] inputs) view (Err status) → TellsRun g a s told status
-inputs_tell g a b c s r inputs view told status same t h =
+pub inputs_tell : {F X : Type 0} (g : Ghosts F) (a b c : F) (s : Source) (folder : Path) (p : Settings) (inputs : Named) (view : X → Environment) (told : TypedScript → Type 0) (status : Status) → g.held b ≡ g.held a → Takes g b c (inputs_step folder p [] inputs) view (Err status) → TellsRun g a s told status
+inputs_tell g a b c s folder p inputs view told status same t h =
     subst (λ o. IfSome o (λ held. IsTold held s told)) same
-    (no_run g b c (inputs_step r [] inputs) (λ f name held. never_inputs (fault_status f name) (own_values f name) held r [] inputs) view (λ held. IsTold held s told) status t h)
+    (no_run g b c (inputs_step folder p [] inputs) (λ f name held. never_inputs (fault_status f name) (own_values f name) held folder p [] inputs) view (λ held. IsTold held s told) status t h)

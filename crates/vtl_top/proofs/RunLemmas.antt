@@ -9,7 +9,7 @@ use Rattle.vtl_tree.specs.declared.structure.Structure.{Structure}
 use Rattle.vtl_csv.specs.InputFile.{Fault, Reads}
 use Rattle.vtl_csv.specs.declared.input.InputErr.{InputErr}
 use Rattle.vtl_csv.specs.declared.input.InputErr.TheVariants as input
-use Rattle.vtl_meaning.specs.Meaning.{Outputs, is_built, meaning}
+use Rattle.vtl_meaning.specs.Meaning.{Outputs, is_built}
 use Rattle.vtl_interp.specs.Runs.{Tells}
 use Rattle.vtl_interp.specs.error.RunErr.{RunErr}
 use Rattle.vtl_interp.specs.error.RunErr.TheVariants as run
@@ -26,12 +26,11 @@ use Rattle.vtl_interp.specs.Checked.{TypedScript, nodes_of, tree_of}
 use Rattle.vtl_interp.specs.Script.{has_definitions}
 use Rattle.vtl_interp.specs.Inputs.{environment_of, inputs_of}
 use Rattle.vtl_interp.specs.Runs.{script_meaning}
-use Rattle.vtl_interp.specs.Statements.{statements_of}
 use Rattle.vtl_top.specs.Expected.{Typed, fault_status, inputs_step, meant, outputs_of, points_or_fault, run_step, script_step, structures_step, typed_by, typed_step, typing_of, unbuilt}
 use Rattle.vtl_top.specs.InputsRead.{rows_in}
 use Rattle.vtl_top.specs.Kinds.{refused, told_by}
 use Rattle.vtl_top.specs.Refusal.{IsOrMemory, IsTableRead, SettlesBy, faulted, input_refusal}
-use Rattle.vtl_top.specs.Steps.{File, Made, Step, ◌>>=◌, refused_if, settled}
+use Rattle.vtl_top.specs.Steps.{File, Made, Path, Step, ◌>>=◌, refused_if, settled}
 use Rattle.vtl_top.specs.Informed.{HasRun, typed_view}
 use Rattle.vtl_top.specs.Words.{Run, Source}
 use Rattle.vtl_status.specs.declared.status.Status.{Status}
@@ -78,15 +77,15 @@ input_refuses name (Ok points) status e = cc
 input_refuses name (Err fault) status e = let same : st.Input name fault.0 fault.1.0 fault.1.1 ≡ status = cc in ap told_by (sym same)
 
 -- ---- results
-pub run_faulted : {Y : Type 0} (r : Run) (view : Y → List File) (m : Result Outputs (EvaluationFault × List ℕ)) (before now : NamedTables) (error : RunErr) (status : Status) → Tells m before now (Err error) → status ≡ faulted error
-    → SettlesBy view (outputs_of r m) (Err status)
-run_faulted r view m before now (run.DivZero name) status tells e = inr (ap (outputs_of r) tells.0 ∙ ap Err (sym e))
-run_faulted r view m before now (run.Range name) status tells e = inr (ap (outputs_of r) tells.0 ∙ ap Err (sym e))
-run_faulted r view m before now run.OutOfMemory status tells e = inl e
+pub run_faulted : {Y : Type 0} (folder : Path) (p : Settings) (view : Y → List File) (m : Result Outputs (EvaluationFault × List ℕ)) (before now : NamedTables) (error : RunErr) (status : Status) → Tells m before now (Err error) → status ≡ faulted error
+    → SettlesBy view (outputs_of folder p m) (Err status)
+run_faulted folder p view m before now (run.DivZero name) status tells e = inr (ap (outputs_of folder p) tells.0 ∙ ap Err (sym e))
+run_faulted folder p view m before now (run.Range name) status tells e = inr (ap (outputs_of folder p) tells.0 ∙ ap Err (sym e))
+run_faulted folder p view m before now run.OutOfMemory status tells e = inl e
 
-pub results_refuse : (r : Run) (m : Result Outputs (EvaluationFault × List ℕ)) (status : Status) → outputs_of r m ≡ Err status → told_by status ≡ refused
-results_refuse r (Ok results) status e = cc
-results_refuse r (Err fault) status e = let same : fault_status fault.0 fault.1 ≡ status = cc in ap told_by (sym same) ∙ go fault.0
+pub results_refuse : (folder : Path) (p : Settings) (m : Result Outputs (EvaluationFault × List ℕ)) (status : Status) → outputs_of folder p m ≡ Err status → told_by status ≡ refused
+results_refuse folder p (Ok results) status e = cc
+results_refuse folder p (Err fault) status e = let same : fault_status fault.0 fault.1 ≡ status = cc in ap told_by (sym same) ∙ go fault.0
   where
     go : (f : EvaluationFault) → told_by (fault_status f fault.1) ≡ refused
     go DivZero = refl
@@ -126,16 +125,19 @@ module _ {F X : Type 0} (g : Ghosts F) (s : Source) (view : X → Typed) (a b : 
         plainly c result plain (takes_onward g (structures_step s.structures) (after_structures s (script_tree script)) b c c (λ (x : Named). x) view structures result u rest)
 
 module _ {F : Type 0} (g : Ghosts F) (s : Source) (a : F) (tree : ScriptTree) (structures : Named) where
-  typed_same : (t : TypedScript) → tree_of t ≡ tree → t.declared ≡ structures → typed_by tree structures (nodes_of t) ≡ typed_view t
-  typed_same t p q = ap (λ (x : ScriptTree). typed_by x structures (nodes_of t)) (sym p) ∙ ap (λ (x : Named). typed_by (tree_of t) x (nodes_of t)) (sym q)
+  typed_same : (t : TypedScript) → tree_of t ≡ tree → t.declared ≡ structures → t.settings ≡ s.settings → typed_by tree structures s.settings (nodes_of t) ≡ typed_view t
+  typed_same t p q u =
+      ap (λ (x : ScriptTree). typed_by x structures s.settings (nodes_of t)) (sym p)
+      ∙ ap (λ (x : Named). typed_by (tree_of t) x s.settings (nodes_of t)) (sym q)
+      ∙ ap (λ (x : Settings). typed_by (tree_of t) t.declared x (nodes_of t)) (sym u)
 
-  pub typed_takes : (result : Result TypedScript Status) → SettlesBy nodes_of (typing_of s tree structures) result → IfOk result (λ t. tree_of t ≡ tree) → IfOk result (λ t. t.declared ≡ structures)
+  pub typed_takes : (result : Result TypedScript Status) → SettlesBy nodes_of (typing_of s tree structures) result → IfOk result (λ t. tree_of t ≡ tree) → IfOk result (λ t. t.declared ≡ structures) → IfOk result (λ t. t.settings ≡ s.settings)
       → Takes g a a (after_structures s tree structures) typed_view result
-  typed_takes (Ok t) is p q =
-      takes_onward g (settled (typing_of s tree structures)) (λ nodes. settled (Ok (typed_by tree structures nodes))) a a a nodes_of typed_view t (Ok t)
-      (settled_ok g a nodes_of t (typing_of s tree structures) is) (settled_ok g a typed_view t (Ok (typed_by tree structures (nodes_of t))) (ap Ok (typed_same t p q)))
-  typed_takes (Err status) is p q =
-      takes_stopped g (settled (typing_of s tree structures)) (λ nodes. settled (Ok (typed_by tree structures nodes))) a a nodes_of typed_view status
+  typed_takes (Ok t) is p q u =
+      takes_onward g (settled (typing_of s tree structures)) (λ nodes. settled (Ok (typed_by tree structures s.settings nodes))) a a a nodes_of typed_view t (Ok t)
+      (settled_ok g a nodes_of t (typing_of s tree structures) is) (settled_ok g a typed_view t (Ok (typed_by tree structures s.settings (nodes_of t))) (ap Ok (typed_same t p q u)))
+  typed_takes (Err status) is p q u =
+      takes_stopped g (settled (typing_of s tree structures)) (λ nodes. settled (Ok (typed_by tree structures s.settings nodes))) a a nodes_of typed_view status
       (typing_given g a s tree structures nodes_of (Err status) is)
 
 -- ---- the steps of a run
@@ -158,19 +160,17 @@ module _ {F X : Type 0} (g : Ghosts F) (r : Run) (view : X → List File) (a b :
         takes_onward g (typed_step r.source) (after_typing r) a b c typed_view view t result typed
         (takes_onward g (refused_if test (unbuilt r.source)) (λ built. after_built r (typed_view t)) b b c (λ (u : Unit {0}). u) view tt result (test_passes g b test (unbuilt r.source) (ap not e)) rest)
 
-    pub inputs_refused : (c : F) (status : Status) → list_all is_built (nodes_of t) ≡ true → Takes g b c (inputs_step r [] (inputs_of t)) (environment_of t) (Err status) → Takes g a c (run_step r) view (Err status)
+    pub inputs_refused : (c : F) (status : Status) → list_all is_built (nodes_of t) ≡ true → Takes g b c (inputs_step r.input t.settings [] (inputs_of t)) (environment_of t) (Err status) → Takes g a c (run_step r) view (Err status)
     inputs_refused c status e u =
-        built_on c (Err status) e (takes_stopped g (inputs_step r [] (inputs_of t)) (λ env. settled (outputs_of r (meant r (typed_view t) env))) b c (environment_of t) view status u)
+        built_on c (Err status) e (takes_stopped g (inputs_step r.input t.settings [] (inputs_of t)) (λ env. settled (outputs_of r.output t.settings (meant (typed_view t) env))) b c (environment_of t) view status u)
 
-    pub then_results : (c : F) (inputs : NamedTables) (result : Result X Status) → list_all is_built (nodes_of t) ≡ true → t.settings ≡ r.source.settings → Takes g b c (inputs_step r [] (inputs_of t)) (environment_of t) (Ok inputs)
-        → SettlesBy view (outputs_of r (script_meaning t inputs)) result → Takes g a c (run_step r) view result
-    then_results c inputs result e same u is =
-        let m = meant r (typed_view t) (environment_of t inputs) in
-        let here : SettlesBy view (outputs_of r m) result =
-        subst (λ (p : Settings). SettlesBy view (outputs_of r (meaning p (statements_of t) (environment_of t inputs))) result) same is in
+    pub then_results : (c : F) (inputs : NamedTables) (result : Result X Status) → list_all is_built (nodes_of t) ≡ true → Takes g b c (inputs_step r.input t.settings [] (inputs_of t)) (environment_of t) (Ok inputs)
+        → SettlesBy view (outputs_of r.output t.settings (script_meaning t inputs)) result → Takes g a c (run_step r) view result
+    then_results c inputs result e u is =
+        let m = script_meaning t inputs in
         built_on c result e
-        (takes_onward g (inputs_step r [] (inputs_of t)) (λ env. settled (outputs_of r (meant r (typed_view t) env))) b c c (environment_of t) view inputs result u
-        (settled_given g c view (outputs_of r m) (results_refuse r m) result here))
+        (takes_onward g (inputs_step r.input t.settings [] (inputs_of t)) (λ env. settled (outputs_of r.output t.settings (meant (typed_view t) env))) b c c (environment_of t) view inputs result u
+        (settled_given g c view (outputs_of r.output t.settings m) (results_refuse r.output t.settings m) result is))
 
 -- ---- what is made of files, or of a text
 module _ {F A X : Type 0} (g : Ghosts F) (a b : F) (step : Step A) (wrap : A → Made) (view : X → A) where

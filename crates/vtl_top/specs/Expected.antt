@@ -3,12 +3,14 @@ use Rattle.std.specs.Prelude.{◌≡◌, ℕ, not, List, [], ◌∷◌, ◌++◌
 use Rattle.vtl_files.specs.Outside.{bytes_at}
 use Rattle.vtl_cell.specs.Outcome.{DivZero, Fault as EvaluationFault, Range}
 use Rattle.vtl_cell.specs.Row.{Row}
+use Rattle.vtl_decimal.specs.Settings.{Settings}
 use Rattle.vtl_syntax.specs.Trees.{ScriptTree}
 use Rattle.vtl_tree.specs.Environment.{DataSet, Environment}
 use Rattle.vtl_tree.specs.Structures.{Named}
 use Rattle.vtl_nodes.specs.Trees.{NodeTree}
 use Rattle.vtl_meaning.specs.Meaning.{Outputs, is_built, meaning}
 use Rattle.vtl_interp.specs.Statements.{with_nodes}
+use Rattle.vtl_interp.specs.Transformations.{transformations}
 use Rattle.std.specs.List.{list_all}
 use Rattle.vtl_tree.specs.declared.structure.Structure.{Structure}
 use Rattle.vtl_csv.specs.CsvText.{csv_of}
@@ -63,17 +65,14 @@ abbrev pub script_step : Path → Step ScriptTree
 script_step path = read path script_limit >>= script_of path
 
 -- ---- the inputs
-abbrev pub input_path : Run → Name → Path
-input_path r name = file_in r.input name
-
 -- the points that a file holds, or the status of its first fault
 abbrev pub points_or_fault : Name → Result (List Row) Fault → Result (List Row) Status
 points_or_fault name (Ok points) = Ok points
 points_or_fault name (Err fault) = Err (st.Input name fault.0 fault.1.0 fault.1.1)
 
--- the points of the data set of this name and structure
-abbrev pub dataset_step : Run → Name × Structure → Step (List Row)
-dataset_step r e = read (input_path r e.0) csv_limit >>= λ bytes. settled (points_or_fault e.0 (dataset_rows r.source.settings e.1 bytes))
+-- the points of the data set of this name and structure, from its file in a folder
+abbrev pub dataset_step : Path → Settings → Name × Structure → Step (List Row)
+dataset_step folder p e = read (file_in folder e.0) csv_limit >>= λ bytes. settled (points_or_fault e.0 (dataset_rows p e.1 bytes))
 
 abbrev pub data_set : Structure → List Row → DataSet
 data_set structure points = record { structure = structure; points = points }
@@ -82,18 +81,18 @@ abbrev pub with_points : Environment → Name × Structure → List Row → Envi
 with_points before e points = before ++ (e.0, data_set e.1 points) ∷ []
 
 -- the data sets before, and one more behind them
-abbrev pub one_more_step : Run → Environment → Name × Structure → Step Environment
-one_more_step r before e = dataset_step r e >>= λ points. settled (Ok (with_points before e points))
+abbrev pub one_more_step : Path → Settings → Environment → Name × Structure → Step Environment
+one_more_step folder p before e = dataset_step folder p e >>= λ points. settled (Ok (with_points before e points))
 
 -- the data sets before, and behind them those of these names and structures, each read in turn
-abbrev pub inputs_step : Run → Environment → Named → Step Environment
-inputs_step r before [] = settled (Ok before)
-inputs_step r before (e ∷ rest) = one_more_step r before e >>= λ more. inputs_step r more rest
+abbrev pub inputs_step : Path → Settings → Environment → Named → Step Environment
+inputs_step folder p before [] = settled (Ok before)
+inputs_step folder p before (e ∷ rest) = one_more_step folder p before e >>= λ more. inputs_step folder p more rest
 
 -- ---- the outputs
--- the file of a result
-abbrev pub output_of : Run → Name × DataSet → File
-output_of r result = (file_in r.output result.0, csv_of r.source.settings result.1.structure result.1.points)
+-- the file of a result in a folder
+abbrev pub output_of : Path → Settings → Name × DataSet → File
+output_of folder p result = (file_in folder result.0, csv_of p result.1.structure result.1.points)
 
 -- the status of a fault, which names the result of its statement
 abbrev pub fault_status : EvaluationFault → Name → Status
@@ -101,9 +100,9 @@ fault_status DivZero name = st.DivZero name
 fault_status Range name = st.Range name
 
 -- the files of all results, in order, or the status of the fault
-abbrev pub outputs_of : Run → Result Outputs (EvaluationFault × Name) → Result (List File) Status
-outputs_of r (Ok results) = Ok (map (output_of r) results)
-outputs_of r (Err fault) = Err (fault_status fault.0 fault.1)
+abbrev pub outputs_of : Path → Settings → Result Outputs (EvaluationFault × Name) → Result (List File) Status
+outputs_of folder p (Ok results) = Ok (map (output_of folder p) results)
+outputs_of folder p (Err fault) = Err (fault_status fault.0 fault.1)
 
 -- ---- the whole
 -- the structures of the structures file
@@ -115,14 +114,15 @@ abbrev pub typed_or_fault : {A : Type 0} → Result A (ℕ × ℕ) → Result A 
 typed_or_fault (Ok x) = Ok x
 typed_or_fault (Err fault) = Err (st.Mistyped fault.0 fault.1)
 
--- a script with its structures, and its nodes, one for each statement
+-- a script with the structures and the settings that it is typed over, and its nodes, one for each transformation
 pub record Typed : Type 0 where
   pub tree : ScriptTree
   pub structures : Named
+  pub settings : Settings
   pub nodes : List NodeTree
 
-abbrev pub typed_by : ScriptTree → Named → List NodeTree → Typed
-typed_by tree structures nodes = record { tree = tree; structures = structures; nodes = nodes }
+abbrev pub typed_by : ScriptTree → Named → Settings → List NodeTree → Typed
+typed_by tree structures settings nodes = record { tree = tree; structures = structures; settings = settings; nodes = nodes }
 
 -- the typing of a script over structures
 abbrev pub typing_of : Source → ScriptTree → Named → Result (List NodeTree) Status
@@ -139,19 +139,19 @@ typed_step s =
     refused_if (has_definitions tree) (unbuilt s) >>= λ plain.
     structures_step s.structures >>= λ structures.
     settled (typing_of s tree structures) >>= λ nodes.
-    settled (Ok (typed_by tree structures nodes))
+    settled (Ok (typed_by tree structures s.settings nodes))
 
 -- what a script means over the data sets that were read
-abbrev pub meant : Run → Typed → Environment → Result Outputs (EvaluationFault × Name)
-meant r t env = meaning r.source.settings (with_nodes t.tree t.nodes) env
+abbrev pub meant : Typed → Environment → Result Outputs (EvaluationFault × Name)
+meant t env = meaning t.settings (with_nodes (transformations t.tree) t.nodes) env
 
--- what a run makes: the files of its outputs
+-- what a run makes: the files of its outputs. Inputs are read, and outputs written, with the settings of the typed script.
 abbrev pub run_step : Run → Step (List File)
 run_step r =
     typed_step r.source >>= λ t.
     refused_if (not (list_all is_built t.nodes)) (unbuilt r.source) >>= λ built.
-    inputs_step r [] (reads t.structures t.nodes) >>= λ env.
-    settled (outputs_of r (meant r t env))
+    inputs_step r.input t.settings [] (reads t.structures t.nodes) >>= λ env.
+    settled (outputs_of r.output t.settings (meant t env))
 
 -- what the words ask for
 abbrev pub asked_step : Option Command → Step Made

@@ -17,7 +17,7 @@ HasRun status = ⊥
 
 -- a typed script, without where its parts lie in memory
 abbrev pub typed_view : TypedScript → Typed
-typed_view t = typed_by (tree_of t) t.declared (nodes_of t)
+typed_view t = typed_by (tree_of t) t.declared t.settings (nodes_of t)
 
 -- The back end was told of the script that these held files give.
 pub record IsTold (held : Held) (s : Source) (told : TypedScript → Type 0) : Type 0 where

@@ -23,12 +23,14 @@ pub record IsRead (s : Source) (held : Held) (tree : ScriptTree) (structures : N
   pub plain : has_definitions tree ≡ false
   pub declared : (structures_step s.structures).gives held (Ok structures)
 
--- That script is typed over the structures, and each of its expressions is evaluated; and these are the data sets that it reads.
+-- That script is typed over the structures with the settings of the words, and each of its expressions is evaluated; and these
+-- are the data sets that it reads.
 pub record IsReady (r : Run) (held : Held) (t : Typed) (inputs : Environment) : Type 0 where
   pub source : IsRead r.source held t.tree t.structures
+  pub settings : t.settings ≡ r.source.settings
   pub fits : script_typed (env_over r.source.settings t.structures) t.tree ≡ Ok t.nodes
   pub built : list_all is_built t.nodes ≡ true
-  pub read : (inputs_step r [] (reads t.structures t.nodes)).gives held (Ok inputs)
+  pub read : (inputs_step r.input t.settings [] (reads t.structures t.nodes)).gives held (Ok inputs)
 
 -- A script is ready, and its statements mean results over the data sets that it reads; and the files are named after the results
 -- that are written, in order, and hold their CSV texts.
@@ -37,15 +39,15 @@ pub record IsMeant (r : Run) (held : Held) (files : List File) : Type 0 where
   pub inputs : Environment
   pub results : Outputs
   pub ready : IsReady r held typed inputs
-  pub means : meant r typed inputs ≡ Ok results
-  pub written : files ≡ map (output_of r) results
+  pub means : meant typed inputs ≡ Ok results
+  pub written : files ≡ map (output_of r.output typed.settings) results
 
 -- The same up to the meaning, which is a fault: it is this one, in the statement with this result.
 pub record IsFaulted (r : Run) (held : Held) (fault : Fault) (name : Name) : Type 0 where
   pub typed : Typed
   pub inputs : Environment
   pub ready : IsReady r held typed inputs
-  pub means : meant r typed inputs ≡ Err (fault, name)
+  pub means : meant typed inputs ≡ Err (fault, name)
 
 -- The script has this first fault over the structures: the number of the statement, and the rule.
 pub record IsMistyped (s : Source) (held : Held) (statement rule : ℕ) : Type 0 where

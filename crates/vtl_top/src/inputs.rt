@@ -4,16 +4,15 @@ ghost use Rattle.vtl_rows.specs.Named.{table_of};
 ghost use Rattle.vtl_tree.specs.Structures.{is_declarable};
 ghost use Rattle.vtl_sets.specs.TableOf.{IsTableOf};
 ghost use Rattle.vtl_csv.specs.InputFile.{dataset_rows};
-ghost use Rattle.vtl_interp.specs.Inputs.{AreInputs, environment_of, inputs_of, rows_named};
+ghost use Rattle.vtl_tree.specs.DataSet.{AreOfProfile};
+ghost use Rattle.vtl_interp.specs.Inputs.{AreInRange, AreInputs, environment_of, inputs_of, rows_named};
 ghost use Rattle.vtl_top.specs.Answered.{Takes};
 ghost use Rattle.vtl_top.specs.Expected.{dataset_step, inputs_step};
 ghost use Rattle.vtl_top.specs.InputsRead.{Adds, rows_in};
 ghost use Rattle.vtl_top.specs.Refusal.{IsTableRead};
-ghost use Rattle.vtl_top.specs.RunView.{run_view};
 
 use crate::reading::{file_in, read_file};
 use crate::refusal::input_refusal;
-use crate::words::Run;
 use std::alloc::Global;
 use vtl_csv::read_dataset;
 use vtl_decimal::Profile;
@@ -35,7 +34,8 @@ fn table_in(
     profile: &Profile,
 ) -> Result<Table, Status>
     requires { is_declarable structure.now ≡ true }
-    ensures { IsTableRead name.now structure.now (dataset_rows profile.now structure.now bytes.now) result }
+    ensures table { IsTableRead name.now structure.now (dataset_rows profile.now structure.now bytes.now) result }
+    ensures ranges { IfOk result (λ t. AreOfProfile profile.now t.rows) }
 {
     match read_dataset(alloc, bytes, structure, profile) {
         Ok(table) => Ok(table),
@@ -43,21 +43,23 @@ fn table_in(
     }
 }
 
-// The table of the data set of this name, from its file.
+// The table of the data set of this name, from its file in a folder.
 fn read_input<F: Files>(
     alloc: Global,
     files: &mut F,
-    run: &Run<'_>,
+    folder: &str,
+    profile: &Profile,
     name: &Txt,
     structure: &Structure,
 ) -> Result<Table, Status>
     requires { is_declarable structure.now ≡ true }
-    ensures takes { Takes F.Files files.old files.new (dataset_step (run_view run.now) (name.now, structure.now)) rows_in result }
+    ensures takes { Takes F.Files files.old files.new (dataset_step folder.now profile.now (name.now, structure.now)) rows_in result }
     ensures table { IfOk result (λ t. IsTableOf structure.now t) }
+    ensures ranges { IfOk result (λ t. AreOfProfile profile.now t.rows) }
 {
-    let path = file_in(alloc, run.input, name)?;
+    let path = file_in(alloc, folder, name)?;
     match read_file(alloc, files, path.as_str(), CSV_LIMIT) {
-        Ok(bytes) => table_in(alloc, name, structure, &bytes, &run.source.profile),
+        Ok(bytes) => table_in(alloc, name, structure, &bytes, profile),
         Err(status) => Err(status),
     }
 }
@@ -67,17 +69,18 @@ fn read_input<F: Files>(
 fn add_input<F: Files>(
     alloc: Global,
     files: &mut F,
-    run: &Run<'_>,
+    folder: &str,
+    profile: &Profile,
     name: &Txt,
     structure: &Structure,
     tables: &mut Tables,
 ) -> Result<(), Status>
     requires declarable { is_declarable structure.now ≡ true }
     requires new { table_of name.now tables.old ≡ None }
-    ensures takes { Takes F.Files files.old files.new (dataset_step (run_view run.now) (name.now, structure.now)) (λ _. rows_named name.now tables.new) result }
-    ensures put { OnOk result (Adds name.now structure.now tables.old tables.new) }
+    ensures takes { Takes F.Files files.old files.new (dataset_step folder.now profile.now (name.now, structure.now)) (λ _. rows_named name.now tables.new) result }
+    ensures put { OnOk result (Adds profile.now name.now structure.now tables.old tables.new) }
 {
-    match read_input(alloc, files, run, name, structure) {
+    match read_input(alloc, files, folder, profile, name, structure) {
         Ok(table) => Ok(tables.put(alloc, name.share()?, table)?),
         Err(status) => Err(status),
     }
@@ -96,22 +99,24 @@ fn input_at(checked: &Checked, i: usize) -> (&Txt, &Structure)
     }
 }
 
-/// The tables of the data sets that a script reads, each from its file, in order of first use.
+/// The tables of the data sets that a script reads, each from its file in a folder, in order of first use.
 pub fn read_inputs<F: Files>(
     alloc: Global,
     files: &mut F,
-    run: &Run<'_>,
+    folder: &str,
     checked: &Checked,
 ) -> Result<Tables, Status>
-    ensures takes { Takes F.Files files.old files.new (inputs_step (run_view run.now) [] (inputs_of checked.now)) (environment_of checked.now) result }
+    ensures takes { Takes F.Files files.old files.new (inputs_step folder.now checked.now.settings [] (inputs_of checked.now)) (environment_of checked.now) result }
     ensures inputs { IfOk result (λ t. AreInputs checked.now t) }
+    ensures ranges { IfOk result (λ t. AreInRange checked.now t) }
 {
     // The nodes are typed over structures as they may be declared, whose names are distinct.
     let _nodes = checked.nodes();
+    let profile = checked.profile();
     let mut tables = Tables::new(alloc);
     for i in 0..checked.inputs().len() {
         let (name, structure) = input_at(checked, i);
-        match add_input(alloc, files, run, name, structure, &mut tables) {
+        match add_input(alloc, files, folder, profile, name, structure, &mut tables) {
             Ok(()) => {}
             Err(status) => return Err(status),
         }

@@ -17,8 +17,6 @@ mod refusal;
 mod results;
 mod run;
 mod structures;
-#[cfg(test)]
-mod tests;
 mod top;
 mod typing;
 mod words;

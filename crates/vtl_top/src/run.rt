@@ -2,6 +2,7 @@
 ghost use Rattle.std.specs.Prelude.{◌≡◌, IfOk};
 ghost use Rattle.std.specs.List.{AllByRecursion};
 ghost use Rattle.vtl_syntax.specs.View.{script_tree};
+ghost use Rattle.vtl_syntax.specs.Written.{AreWritten};
 ghost use Rattle.vtl_top.specs.Answered.{Takes};
 ghost use Rattle.vtl_top.specs.Expected.{run_step, script_step, structures_step, typed_step};
 ghost use Rattle.vtl_top.specs.OutputView.{NamesPath, outputs_view};
@@ -43,7 +44,8 @@ fn unparsed(error: ParseErr) -> Status
 
 // The tree of the script file.
 fn read_script<F: Files>(alloc: Global, files: &mut F, path: &str) -> Result<Script, Status>
-    ensures { Takes F.Files files.old files.new (script_step path.now) script_tree result }
+    ensures takes { Takes F.Files files.old files.new (script_step path.now) script_tree result }
+    ensures written { IfOk result (λ script. AreWritten (script_tree script)) }
 {
     match read_file(alloc, files, path, SCRIPT_LIMIT) {
         Ok(bytes) => script_of(alloc, path, &bytes),
@@ -53,7 +55,8 @@ fn read_script<F: Files>(alloc: Global, files: &mut F, path: &str) -> Result<Scr
 
 // The script that the bytes of a file are.
 fn script_of(alloc: Global, path: &str, bytes: &[u8]) -> Result<Script, Status>
-    ensures { IsScriptOf path.now bytes.now result }
+    ensures script { IsScriptOf path.now bytes.now result }
+    ensures written { IfOk result (λ script. AreWritten (script_tree script)) }
 {
     match str::from_utf8(bytes) {
         Ok(text) => parsed(alloc, text),
@@ -62,7 +65,8 @@ fn script_of(alloc: Global, path: &str, bytes: &[u8]) -> Result<Script, Status>
 }
 
 fn parsed(alloc: Global, text: &str) -> Result<Script, Status>
-    ensures { IsScriptOfText text.now result }
+    ensures script { IsScriptOfText text.now result }
+    ensures written { IfOk result (λ script. AreWritten (script_tree script)) }
 {
     match parse(alloc, text) {
         Ok(script) => Ok(script),
@@ -91,8 +95,7 @@ pub fn read_typed<F: Files>(
     files: &mut F,
     source: &Source<'_>,
 ) -> Result<Checked, Status>
-    ensures takes { Takes F.Files files.old files.new (typed_step (source_view source.now)) typed_view result }
-    ensures settings { IfOk result (λ c. c.settings ≡ source.now.profile) }
+    ensures { Takes F.Files files.old files.new (typed_step (source_view source.now)) typed_view result }
 {
     let script = read_script(alloc, files, source.script)?;
     if defines_rulesets(&script) {
@@ -118,6 +121,6 @@ pub fn prepare<B: Backend, F: Files>(
     if !is_built(&checked) {
         return Err(unbuilt(alloc, run.source.script));
     }
-    let inputs = read_inputs(alloc, files, run, &checked)?;
-    results(alloc, back, run, &checked, &inputs)
+    let inputs = read_inputs(alloc, files, run.input, &checked)?;
+    results(alloc, back, run.output, &checked, &inputs)
 }

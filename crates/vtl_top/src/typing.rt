@@ -1,6 +1,7 @@
 // Whether the script is typed over the structures.
 ghost use Rattle.std.specs.Prelude.{◌≡◌, IfOk, false};
 ghost use Rattle.vtl_syntax.specs.View.{script_tree};
+ghost use Rattle.vtl_syntax.specs.Written.{AreWritten};
 ghost use Rattle.vtl_interp.specs.Checked.{env_over, nodes_of};
 ghost use Rattle.vtl_interp.specs.Script.{has_definitions, script_typed};
 ghost use Rattle.vtl_top.specs.Expected.{typed_or_fault};
@@ -21,7 +22,8 @@ pub fn typed(
     structures: &Structures,
     profile: &Profile,
 ) -> Result<Checked, Status>
-    requires { has_definitions (script_tree script.now) ≡ false }
+    requires written { AreWritten (script_tree script.now) }
+    requires plain { has_definitions (script_tree script.now) ≡ false }
     ensures typing { SettlesBy nodes_of (typed_or_fault (script_typed (env_over profile.now structures.now) (script_tree script.now))) result }
     ensures script { IfOk result (λ c. c.script ≡ script.now.statements) }
     ensures declared { IfOk result (λ c. c.declared ≡ structures.now) }

@@ -9,18 +9,18 @@ use Rattle.vtl_status.specs.declared.status.Status.{Status}
 use Rattle.vtl_top.proofs.RunLemmas.{passed_on, same_tree, structures_refused, then_typed, typed_takes}
 use Rattle.vtl_top.proofs.run.read_typed.Goals as goal
 
-pub returns-in_err-structures-clause-takes : goal.returns-in_err-structures-clause-takes
-returns-in_err-structures-clause-takes g c =
+pub returns-in_err-structures : goal.returns-in_err-structures
+returns-in_err-structures g c =
     let s = source_view c.args.source.now in
     subst (λ (res : Result TypedScript Status). Takes g.F.Files c.args.files.now c.read_structures_file.new.files (typed_step s) typed_view res)
     (sym (passed_on c.from_residual-in_err-structures.result c.in_err-structures.field-0.0 c.from_residual-in_err-structures.ensures.1))
-    (structures_refused g.F.Files s typed_view c.args.files.now c.read_script.new.files c.in_ok-script.script c.in_ok-script.ensures c.read_structures_file.new.files c.in_err-structures.field-0.0
+    (structures_refused g.F.Files s typed_view c.args.files.now c.read_script.new.files c.in_ok-script.script c.in_ok-script.ensures.takes c.read_structures_file.new.files c.in_err-structures.field-0.0
     (sym c.defines_rulesets.ensures ∙ c.if-defines_rulesets.false) c.in_err-structures.ensures)
 
-pub returns-clause-takes : goal.returns-clause-takes
-returns-clause-takes g c =
+pub returns : goal.returns
+returns g c =
     let s = source_view c.args.source.now in
-    then_typed g.F.Files s typed_view c.args.files.now c.read_script.new.files c.in_ok-script.script c.in_ok-script.ensures c.read_structures_file.new.files c.in_ok-structures.structures c.typed.result
+    then_typed g.F.Files s typed_view c.args.files.now c.read_script.new.files c.in_ok-script.script c.in_ok-script.ensures.takes c.read_structures_file.new.files c.in_ok-structures.structures c.typed.result
     (sym c.defines_rulesets.ensures ∙ c.if-defines_rulesets.false) c.in_ok-structures.ensures
     (typed_takes g.F.Files s c.read_structures_file.new.files (script_tree c.in_ok-script.script) c.in_ok-structures.structures c.typed.result c.typed.ensures.typing
-    (same_tree c.typed.result c.in_ok-script.script.statements c.typed.ensures.script) c.typed.ensures.declared)
+    (same_tree c.typed.result c.in_ok-script.script.statements c.typed.ensures.script) c.typed.ensures.declared c.typed.ensures.settings)

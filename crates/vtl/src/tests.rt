@@ -1,9 +1,9 @@
 // The top call over files in memory that give and take a few bytes at a time, or fail at a chosen call.
-use crate::{Status, vtl};
 use std::alloc::{AllocError, Global};
 use std::process::Abort;
 use std::test::Fail;
 use vtl_files::{FailAt, MemFile, MemFiles, MemSink, Method};
+use vtl_top::{Status, vtl};
 
 const HELD: [(&str, &str); 3] = [
     ("script.vtl", "DS_r <- DS_1 [filter Me_1 > 5];"),
