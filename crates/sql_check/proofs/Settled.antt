@@ -12,40 +12,21 @@ use Rattle.vtl_cell.specs.declared.kind.Kind.{Kind}
 use Rattle.vtl_kinds.specs.Literals.{lies_between}
 use Rattle.sql_tree.specs.Trees as tree
 use Rattle.sql_tree.specs.Trees.{QueryTree, StatementTree, Text}
-use Rattle.sql_tree.specs.declared.statements.InputColumn.{InputColumn}
 use Rattle.sql_tree.specs.declared.statements.SqlInput.{SqlInput}
 use Rattle.sql_check_parts.specs.Queries.{query_breaks, query_columns, query_names, shared_kinds}
-use Rattle.sql_check_parts.specs.Rules.{Tests, broken, least, lesser}
-use Rattle.sql_check_parts.specs.Scopes.{Columns, Tables, is_among, is_empty, or_null, repeats}
-use Rattle.sql_check_parts.specs.Statements.{Given, after, codes_fit, column_entry, input_breaks, input_columns, is_taken, most_input_columns, names_fit, scale_of, scale_written, statement_breaks, with_table}
-use Rattle.sql_check_parts.specs.Typed.{distinct_columns}
+use Rattle.sql_check_parts.specs.Rules.{broken, least, lesser}
+use Rattle.sql_check_parts.specs.Scopes.{Columns, Tables, is_among, is_empty, or_nothing, or_null, repeats}
+use Rattle.sql_check_parts.specs.Statements.{Given, after, codes_fit, input_breaks, input_columns, is_taken, most_input_columns, names_fit, scale_of, scale_written, statement_breaks, with_table}
+use Rattle.sql_check_parts.specs.Told.{distinct_columns}
 use Rattle.sql_check_parts.specs.declared.rules.SqlRule.{SqlRule}
 use Rattle.sql_check_parts.specs.declared.rules.SqlRule.TheVariants as rule
 use Rattle.sql_check_parts.proofs.Least.{least_append}
 use Rattle.sql_check_parts.proofs.Maps.{keys_all}
+use Rattle.sql_check_parts.proofs.Unbroken.{holds_first, none_either, none_lesser}
 use Rattle.sql_check_queries.proofs.Columns.{names_differ}
-use Rattle.sql_check_queries.specs.Typed.{IsTypedQuery}
-use Rattle.sql_check_queries.specs.declared.queries.QueryTyped.{QueryTyped}
-use Rattle.sql_check.specs.Answers.{GivesIfTyped, IsSettled, IsStep, MayPut, Sets, some_columns}
-
--- a test that no rule is broken at
-pub holds_first : (r : SqlRule) (b : Bool) (tests : Tests) → least (broken ((r, b) ∷ tests)) ≡ None → (b ≡ false) × (least (broken tests) ≡ None)
-unfolding least
-holds_first r true tests h = absurd (some (least (broken tests)) h)
-  where
-    some : (o : Option SqlRule) → lesser (Some r) o ≡ None → ⊥
-    some None e = cc
-    some (Some x) e = cc
-holds_first r false tests h = (refl, h)
-
-pub none_lesser : (a b : Option SqlRule) → lesser a b ≡ None → (a ≡ None) × (b ≡ None)
-none_lesser None b h = (refl, h)
-none_lesser (Some a) None h = cc
-none_lesser (Some a) (Some b) h = cc
-
-pub none_either : (a b : Bool) → (a || b) ≡ false → (a ≡ false) × (b ≡ false)
-none_either true b h = cc
-none_either false b h = (refl, h)
+use Rattle.sql_check_queries.specs.Told.{IsQueryTold}
+use Rattle.sql_check_queries.specs.declared.queries.QueryTold.{QueryTold}
+use Rattle.sql_check.specs.Answers.{GivesIfTyped, IsSettled, IsStep, MayPut, Sets}
 
 -- ---- SET
 
@@ -80,11 +61,6 @@ no_bytes (c ∷ cs) = go (length (encode_utf8_all (c ∷ cs))) (length-le-encode
     go : (n : ℕ) → length (c ∷ cs) ≤ n → (n == 0) ≡ false
     go n h = ⊎_elim (λ t. absurd (omega (arith, h, t.1))) (λ t. t.0) (eqb_tells n 0)
 
--- the names and the kinds of columns, side by side
-pub columns_beside : (cs : List InputColumn) → zip (map (λ c. c.name) cs) (map (λ c. c.kind) cs) ≡ map column_entry cs
-columns_beside [] = refl
-columns_beside (c ∷ cs) = ap (λ l. (c.name, c.kind) ∷ l) (columns_beside cs)
-
 -- columns of different names
 distinct : (columns : Columns) → repeats (keys_of columns) ≡ false → distinct_columns columns ≡ Some columns
 distinct columns h = ap (λ b. if b then None else Some columns) h
@@ -104,8 +80,8 @@ may_put tables name (Some c) all f e = record { free = f; some = refl }
 settled : (p : Settings) (before now : Given) (s : StatementTree) (name : Text) (columns : Option Columns) (all : Columns) (fault told : Option SqlRule) → fault ≡ least (statement_breaks p before s) → after before s ≡ with_table before name all → (fault ≡ None → columns ≡ Some all) → IsSettled before now name columns fault told → IsStep p before now s told
 settled p before now s name columns all fault told f a e h = record { fault_is = h.told_is ∙ f; given_is = go fault told h.told_is e h.given_is }
   where
-    go : (fault told : Option SqlRule) → told ≡ fault → (fault ≡ None → columns ≡ Some all) → GivesIfTyped fault now (with_table before name (some_columns columns)) → GivesIfTyped told now (after before s)
-    go None None q e g = g ∙ ap (λ c. with_table before name (some_columns c)) (e refl) ∙ sym a
+    go : (fault told : Option SqlRule) → told ≡ fault → (fault ≡ None → columns ≡ Some all) → GivesIfTyped fault now (with_table before name (or_nothing columns)) → GivesIfTyped told now (after before s)
+    go None None q e g = g ∙ ap (λ c. with_table before name (or_nothing c)) (e refl) ∙ sym a
     go None (Some r) q e g = tt
     go (Some r) None q e g = cc
     go (Some r) (Some t) q e g = tt
@@ -140,13 +116,13 @@ create_settled p tables name q names kinds taken query t f n k l h =
           ∙ distinct (query_columns tables q) (ap repeats (keys_all (query_names q) (map or_null (shared_kinds tables q)) (sym (ap length k) ∙ l ∙ ap length n)) ∙ names_differ p tables q (sym f ∙ none.1)),
     )
 
-pub create_may : (p : Settings) (tables : Tables) (name : Text) (q : QueryTree) (t : QueryTyped) (taken : Option SqlRule) (columns : Option Columns) → IsTypedQuery p tables q t → taken ≡ least (broken ((rule.MisnamedTable, is_taken tables name) ∷ [])) → columns ≡ distinct_columns (zip t.names t.kinds)
+pub create_may : (p : Settings) (tables : Tables) (name : Text) (q : QueryTree) (t : QueryTold) (taken : Option SqlRule) (columns : Option Columns) → IsQueryTold p tables q t → taken ≡ least (broken ((rule.MisnamedTable, is_taken tables name) ∷ [])) → columns ≡ distinct_columns (zip t.names t.kinds)
     → lesser taken t.fault ≡ None → MayPut tables name columns
 create_may p tables name q t taken columns h e c n =
     let whole = create_settled p tables name q t.names t.kinds taken t.fault e h.fault_is h.names_are h.kinds_are h.as_many n in
     may_put tables name columns (query_columns tables q) whole.0 (c ∙ whole.1)
 
-pub create_step : (p : Settings) (before now : Given) (name : Text) (q : QueryTree) (t : QueryTyped) (taken : Option SqlRule) (columns : Option Columns) {E : Type 0} (r : Result (Option SqlRule) E) → IsTypedQuery p before.tables q t → taken ≡ least (broken ((rule.MisnamedTable, is_taken before.tables name) ∷ [])) → columns ≡ distinct_columns (zip t.names t.kinds)
+pub create_step : (p : Settings) (before now : Given) (name : Text) (q : QueryTree) (t : QueryTold) (taken : Option SqlRule) (columns : Option Columns) {E : Type 0} (r : Result (Option SqlRule) E) → IsQueryTold p before.tables q t → taken ≡ least (broken ((rule.MisnamedTable, is_taken before.tables name) ∷ [])) → columns ≡ distinct_columns (zip t.names t.kinds)
     → IfOk r (IsSettled before now name columns (lesser taken t.fault)) → IfOk r (IsStep p before now (tree.create name q))
 create_step p before now name q t taken columns r h e c s =
     if_ok r s (λ told. settled p before now (tree.create name q) name columns (query_columns before.tables q) (lesser taken t.fault) told

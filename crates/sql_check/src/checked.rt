@@ -29,7 +29,7 @@ impl Model for SqlChecked {
     ghost use Rattle.sql_check_parts.specs.Statements.{IsTypedScript, script_settings};
     ghost use Rattle.sql_check.specs.Answers as answers;
 
-    ghost Value = { answers.Typed };
+    ghost Value = { answers.CheckedScript };
 
     ghost coded = { Prim.hlevel (codes, s.the_row.coded) };
 

@@ -2,51 +2,102 @@
 ghost use Rattle.std.specs.List.{list_any};
 ghost use Rattle.std.specs.Map.{keys_of};
 ghost use Rattle.std.specs.Option.{is_none};
-ghost use Rattle.std.specs.Prelude.{◌≡◌, ◌||◌, ℕ, List, length, nat_lt, not, IfOk, map};
+ghost use Rattle.std.specs.Prelude.{◌≡◌, ◌||◌, ◌++◌, ◌∷◌, [], ℕ, List, filter, length, nat_lt, not, IfOk, OnOk, map};
 ghost use Rattle.vtl_cell.specs.declared.kind.Kind.{Kind};
 ghost use Rattle.vtl_cell.specs.Words.{is_word};
 ghost use Rattle.sql_check_parts.specs.Rules.{least};
-ghost use Rattle.sql_check_parts.specs.Scopes.{is_among, is_empty, kind_among, repeats};
-ghost use Rattle.sql_check_parts.specs.Statements.{codes_fit, column_entry, input_breaks, input_columns, is_taken, is_text, most_input_columns, names_fit};
-ghost use Rattle.sql_check_parts.specs.Typed.{distinct_columns};
+ghost use Rattle.sql_check_parts.specs.Scopes.{is_among, is_empty, repeats, value_among};
+ghost use Rattle.sql_check_parts.specs.Statements.{codes_fit, input_breaks, input_columns, is_taken, is_text, most_input_columns, names_fit};
+ghost use Rattle.sql_check_parts.specs.Told.{distinct_columns};
+ghost use Rattle.sql_check.specs.Answers.{is_wanted};
 
+use indexmap::IndexSet;
 use sql_check_parts::{Columns, SqlRule, Tables, Test, least_broken, repeats};
 use sql_tree::{InputColumn, SqlInput};
 use std::alloc::{AllocError, Global};
 use vtl_cell::{Kind, Txt, is_word};
 
-fn names_of(alloc: Global, columns: &[InputColumn]) -> Result<Vec<Txt>, AllocError>
-    ensures { IfOk result (λ names. names.items ≡ map (λ c. c.name) columns.now) }
+// The names of a key, to be looked up.
+fn key_set(alloc: Global, key: &[Txt]) -> Result<IndexSet<Txt>, AllocError>
+    ensures { IfOk result (λ names. (name : List ℕ) → is_among name names.keys ≡ is_among name key.now) }
 {
-    let mut names = Vec::with_capacity(alloc, columns.len())?;
-    for column in columns {
-        names.push(column.name.share()?)?;
+    let mut names = IndexSet::new(alloc);
+    for name in key {
+        names.insert(name.share()?)?;
     }
     Ok(names)
 }
 
-fn kinds_of(alloc: Global, columns: &[InputColumn]) -> Result<Vec<Kind>, AllocError>
-    ensures { IfOk result (λ kinds. kinds.items ≡ map (λ c. c.kind) columns.now) }
+// Whether a column is wanted: one of a key, or one that is not.
+fn is_wanted(key: &IndexSet<Txt>, of_key: bool, column: &InputColumn) -> bool
+    ensures { result ≡ is_wanted key.now.keys of_key column.now }
 {
-    let mut kinds = Vec::with_capacity(alloc, columns.len())?;
-    for column in columns {
-        kinds.push(column.kind)?;
-    }
-    Ok(kinds)
+    let is_of_key = key.contains(&column.name);
+    if of_key { is_of_key } else { !is_of_key }
 }
 
-/// The columns of an input; none where a name stands twice. It fails only if memory runs out.
+// The names of columns, and their kinds.
+#[derive(Drop)]
+struct Listed {
+    names: Vec<Txt>,
+    kinds: Vec<Kind>,
+}
+
+impl Listed {
+    // No columns.
+    fn new(alloc: Global) -> Listed
+        ensures names { result.names.items ≡ [] }
+        ensures kinds { result.kinds.items ≡ [] }
+    {
+        Listed {
+            names: Vec::new(alloc),
+            kinds: Vec::new(alloc),
+        }
+    }
+
+    // Puts a column behind the others.
+    fn put(&mut self, column: &InputColumn) -> Result<(), AllocError>
+        ensures names { OnOk result (self.new.names.items ≡ self.old.names.items ++ column.now.name ∷ []) }
+        ensures kinds { OnOk result (self.new.kinds.items ≡ self.old.kinds.items ++ column.now.kind ∷ []) }
+    {
+        self.names.push(column.name.share()?)?;
+        self.kinds.push(column.kind)?;
+        Ok(())
+    }
+
+    // Puts those columns behind the others that are of a key, or those that are not.
+    fn put_those(
+        &mut self,
+        key: &IndexSet<Txt>,
+        of_key: bool,
+        columns: &[InputColumn],
+    ) -> Result<(), AllocError>
+        ensures names { OnOk result (self.new.names.items ≡ self.old.names.items ++ map (λ c. c.name) (filter (is_wanted key.now.keys of_key) columns.now)) }
+        ensures kinds { OnOk result (self.new.kinds.items ≡ self.old.kinds.items ++ map (λ c. c.kind) (filter (is_wanted key.now.keys of_key) columns.now)) }
+    {
+        for column in columns {
+            if is_wanted(key, of_key, column) {
+                self.put(column)?;
+            }
+        }
+        Ok(())
+    }
+}
+
+/// The columns of an input's table; none where a name stands twice. It fails only if memory runs out.
 pub fn input_columns(alloc: Global, input: &SqlInput) -> Result<Option<Columns>, AllocError>
     ensures { IfOk result (λ columns. columns ≡ distinct_columns (input_columns input.now)) }
 {
     let columns = input.columns.as_slice();
-    let names = names_of(alloc, columns)?;
-    let kinds = kinds_of(alloc, columns)?;
-    Columns::of(alloc, &names, &kinds)
+    let key = key_set(alloc, input.key.as_slice())?;
+    let mut listed = Listed::new(alloc);
+    listed.put_those(&key, true, columns)?;
+    listed.put_those(&key, false, columns)?;
+    Columns::of(alloc, &listed.names, &listed.kinds)
 }
 
 fn any_unknown(columns: &Columns, names: &[Txt]) -> bool
-    ensures { result ≡ list_any (λ name. is_none (kind_among columns.now name)) names.now }
+    ensures { result ≡ list_any (λ name. is_none (value_among columns.now name)) names.now }
 {
     for name in names {
         if columns.kind(name).is_none() {

@@ -3,7 +3,8 @@ ghost use Rattle.std.specs.Prelude.{◌≡◌, None, IfOk, OnOk};
 ghost use Rattle.sql_tree.specs.View.{query_tree, statement_tree};
 ghost use Rattle.sql_tree.specs.Trees as tree;
 ghost use Rattle.sql_check_parts.specs.Statements.{with_table};
-ghost use Rattle.sql_check.specs.Answers.{IsSettled, IsStep, MayPut, given_view, some_columns};
+ghost use Rattle.sql_check_parts.specs.Scopes.{or_nothing};
+ghost use Rattle.sql_check.specs.Answers.{IsSettled, IsStep, MayPut, given_view};
 
 use crate::exports::export_fault;
 use crate::given::SoFar;
@@ -17,7 +18,7 @@ use vtl_cell::{Profile, Txt};
 // Puts the table of a statement after the others. It fails only if memory runs out.
 fn put(given: &mut SoFar, name: &Txt, columns: Option<Columns>) -> Result<(), AllocError>
     requires { MayPut given.old.tables name.now columns }
-    ensures { OnOk result (given_view given.new ≡ with_table (given_view given.old) name.now (some_columns columns)) }
+    ensures { OnOk result (given_view given.new ≡ with_table (given_view given.old) name.now (or_nothing columns)) }
 {
     match columns {
         Some(columns) => given.tables.put(name, columns),

@@ -6,14 +6,14 @@ use Rattle.sql_check_parts.specs.Expressions.{Site, breaks}
 use Rattle.sql_check_parts.specs.Kinds.{kind_in}
 use Rattle.sql_check_parts.specs.Rules.{least, lesser}
 use Rattle.sql_check_parts.specs.Scopes.{Grouping}
-use Rattle.sql_check_parts.specs.Typed.{IsTyped}
-use Rattle.sql_check_parts.specs.declared.typed.Typed.{Typed}
+use Rattle.sql_check_parts.specs.Told.{IsTold}
+use Rattle.sql_check_parts.specs.declared.told.Told.{Told}
 use Rattle.sql_check_parts.specs.declared.rules.SqlRule.{SqlRule}
 use Rattle.sql_check_expressions.specs.declared.parts.Parts.{Parts}
 
 -- the kind of an expression and the least of the rules that it breaks
-abbrev pub IsTypedAt : Site → Option Grouping → Exp → Typed → Type 0
-IsTypedAt at g e = IsTyped (kind_in at.scope e) (breaks at g e)
+abbrev pub IsToldAt : Site → Option Grouping → Exp → Told → Type 0
+IsToldAt at g e = IsTold (kind_in at.scope e) (breaks at g e)
 
 -- the kinds of parts and the least of the rules that they break
 pub record AreParts (kinds : List Kind) (rules : List SqlRule) (p : Parts) : Type 0 where
@@ -21,6 +21,6 @@ pub record AreParts (kinds : List Kind) (rules : List SqlRule) (p : Parts) : Typ
   pub fault_is : p.fault ≡ least rules
 
 -- a kind and rules, behind parts of which the least broken rule is `before`
-pub record IsBehind (before : Option SqlRule) (kind : Kind) (rules : List SqlRule) (t : Typed) : Type 0 where
+pub record IsBehind (before : Option SqlRule) (kind : Kind) (rules : List SqlRule) (t : Told) : Type 0 where
   pub kind_is : t.kind ≡ kind
   pub fault_is : t.fault ≡ lesser before (least rules)

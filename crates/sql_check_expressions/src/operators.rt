@@ -8,45 +8,45 @@ ghost use Rattle.sql_check_parts.specs.Exists.{exists_breaks};
 ghost use Rattle.sql_check_parts.specs.Kinds.{given_kind};
 ghost use Rattle.sql_check_parts.specs.Rules.{broken, lesser};
 ghost use Rattle.sql_check_parts.specs.Scopes.{or_null};
-ghost use Rattle.sql_check_parts.specs.Typed.{IsTyped};
+ghost use Rattle.sql_check_parts.specs.Told.{IsTold};
 ghost use Rattle.sql_check_expressions.specs.Told.{IsBehind};
 
 use crate::Site;
 use crate::parts::Parts;
 use sql_check_parts::{
-    self, Grouping, SqlRule, Test, Typed, exists, least_broken, lesser, operator,
+    self, Grouping, SqlRule, Test, Told, exists, least_broken, lesser, operator,
 };
 use sql_tree::{Equality, Source};
 use std::alloc::{AllocError, Global};
 use vtl_cell::{Kind, List, ScalarOp};
 
 // What is known after parts with a fault.
-pub(crate) fn behind(before: Option<SqlRule>, own: Typed) -> Typed
+pub(crate) fn behind(before: Option<SqlRule>, own: Told) -> Told
     ensures kind { result.kind ≡ own.kind }
     ensures fault { result.fault ≡ lesser before own.fault }
 {
-    Typed {
+    Told {
         kind: own.kind,
         fault: lesser(before, own.fault),
     }
 }
 
 // A truth value with a fault.
-pub(crate) fn truth(fault: Option<SqlRule>) -> Typed
+pub(crate) fn truth(fault: Option<SqlRule>) -> Told
     ensures kind { result.kind ≡ k.Bool }
     ensures fault { result.fault ≡ fault }
 {
-    Typed {
+    Told {
         kind: Kind::Bool,
         fault,
     }
 }
 
 // `COUNT(*)`
-pub(crate) fn count_all(group: &Option<Grouping>) -> Typed
-    ensures { IsTyped k.Int (broken ((SqlRule.OutsideGroup, is_none group.now) ∷ [])) result }
+pub(crate) fn count_all(group: &Option<Grouping>) -> Told
+    ensures { IsTold k.Int (broken ((SqlRule.OutsideGroup, is_none group.now) ∷ [])) result }
 {
-    Typed {
+    Told {
         kind: Kind::Int,
         fault: least_broken(&[Test {
             rule: SqlRule::OutsideGroup,
@@ -61,8 +61,8 @@ pub(crate) fn existence(
     group: &Option<Grouping>,
     source: &Source,
     equalities: &List<Equality>,
-) -> Result<Typed, AllocError>
-    ensures { IfOk result (IsTyped k.Bool (exists_breaks at.now.tables at.now.scope group.now source.now equalities.now)) }
+) -> Result<Told, AllocError>
+    ensures { IfOk result (IsTold k.Bool (exists_breaks at.now.tables at.now.scope group.now source.now equalities.now)) }
 {
     let fault = exists(at.tables, at.scope, group, source, equalities.as_slice())?;
     Ok(truth(fault))
@@ -72,9 +72,9 @@ pub(crate) fn existence(
 pub(crate) fn binary(
     alloc: Global,
     op: ScalarOp,
-    left: Typed,
-    right: Typed,
-) -> Result<Typed, AllocError>
+    left: Told,
+    right: Told,
+) -> Result<Told, AllocError>
     ensures { IfOk result (IsBehind (lesser left.fault right.fault) (given_kind op (left.kind ∷ right.kind ∷ [])) (operator_breaks op (left.kind ∷ right.kind ∷ []))) }
 {
     let own = operator(alloc, op, &[left.kind, right.kind])?;
@@ -82,7 +82,7 @@ pub(crate) fn binary(
 }
 
 // CASE with branches and the value for the case that none is taken.
-pub(crate) fn case(branches: Parts, other: Typed) -> Result<Typed, AllocError>
+pub(crate) fn case(branches: Parts, other: Told) -> Result<Told, AllocError>
     ensures { IfOk result (IsBehind (lesser branches.fault other.fault) (or_null (common_kind (branches.kinds.items ++ other.kind ∷ []))) (case_breaks (branches.kinds.items ++ other.kind ∷ []))) }
 {
     let mut branches = branches;

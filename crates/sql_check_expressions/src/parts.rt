@@ -2,7 +2,7 @@
 ghost use Rattle.std.specs.Prelude.{◌≡◌, ◌++◌, ◌∷◌, [], None, OnOk};
 ghost use Rattle.sql_check_parts.specs.Rules.{lesser};
 
-use sql_check_parts::{SqlRule, Typed, lesser};
+use sql_check_parts::{SqlRule, Told, lesser};
 use std::alloc::{AllocError, Global};
 use vtl_cell::Kind;
 
@@ -26,7 +26,7 @@ impl Parts {
     }
 
     /// Puts a part after the others.
-    pub(crate) fn put(&mut self, part: Typed) -> Result<(), AllocError>
+    pub(crate) fn put(&mut self, part: Told) -> Result<(), AllocError>
         ensures kinds { OnOk result (self.new.kinds.items ≡ self.old.kinds.items ++ part.kind ∷ []) }
         ensures fault { OnOk result (self.new.fault ≡ lesser self.old.fault part.fault) }
     {

@@ -8,14 +8,14 @@ ghost use Rattle.sql_check_parts.specs.Expressions.{all_break, branches_break, b
 ghost use Rattle.sql_check_parts.specs.Kinds.{kind_in, kinds_in, value_kinds};
 ghost use Rattle.sql_check_parts.specs.Queries.{condition_at};
 ghost use Rattle.sql_check_parts.specs.Rules.{least};
-ghost use Rattle.sql_check_parts.specs.Typed.{IsTyped};
-ghost use Rattle.sql_check_expressions.specs.Told.{AreParts, IsTypedAt};
+ghost use Rattle.sql_check_parts.specs.Told.{IsTold};
+ghost use Rattle.sql_check_expressions.specs.Told.{AreParts, IsToldAt};
 
 use crate::Site;
 use crate::operators::{behind, binary, case, count_all, existence, truth};
 use crate::parts::Parts;
 use sql_check_parts::{
-    self, Grouping, SqlRule, Typed, column, condition_fault, constant, lesser, list_fault, operator,
+    self, Grouping, SqlRule, Told, column, condition_fault, constant, lesser, list_fault, operator,
 };
 use sql_tree::{Branch, Literal, SqlExpr};
 use std::alloc::{AllocError, Global};
@@ -29,8 +29,8 @@ pub fn expression(
     at: &Site,
     group: &Option<Grouping>,
     e: &SqlExpr,
-) -> Result<Typed, AllocError>
-    ensures { IfOk result (IsTyped (kind_in at.now.scope (expr_tree e.now)) (breaks at.now group.now (expr_tree e.now))) }
+) -> Result<Told, AllocError>
+    ensures { IfOk result (IsTold (kind_in at.now.scope (expr_tree e.now)) (breaks at.now group.now (expr_tree e.now))) }
 {
     match e {
         SqlExpr::Binary { left, op, right } => {
@@ -71,8 +71,8 @@ fn unary(
     group: &Option<Grouping>,
     op: ScalarOp,
     operand: &SqlExpr,
-) -> Result<Typed, AllocError>
-    ensures { IfOk result (IsTypedAt at.now group.now (tree.unary op (expr_tree operand.now))) }
+) -> Result<Told, AllocError>
+    ensures { IfOk result (IsToldAt at.now group.now (tree.unary op (expr_tree operand.now))) }
 {
     let operand = expression(alloc, at, group, operand)?;
     let own = operator(alloc, op, &[operand.kind])?;
@@ -88,8 +88,8 @@ fn in_list(
     group: &Option<Grouping>,
     operand: &SqlExpr,
     literals: &[Literal],
-) -> Result<Typed, AllocError>
-    ensures { IfOk result (IsTyped k.Bool (breaks at.now group.now (expr_tree operand.now) ++ list_breaks at.now.settings (kind_in at.now.scope (expr_tree operand.now)) literals.now)) }
+) -> Result<Told, AllocError>
+    ensures { IfOk result (IsTold k.Bool (breaks at.now group.now (expr_tree operand.now) ++ list_breaks at.now.settings (kind_in at.now.scope (expr_tree operand.now)) literals.now)) }
 {
     let operand = expression(alloc, at, group, operand)?;
     let own = list_fault(alloc, at.profile, operand.kind, literals)?;
@@ -105,8 +105,8 @@ fn call(
     group: &Option<Grouping>,
     function: ScalarOp,
     operands: &[SqlExpr],
-) -> Result<Typed, AllocError>
-    ensures { IfOk result (IsTypedAt at.now group.now (tree.call function (exps_of (map expr_tree operands.now)))) }
+) -> Result<Told, AllocError>
+    ensures { IfOk result (IsToldAt at.now group.now (tree.call function (exps_of (map expr_tree operands.now)))) }
 {
     let parts = all(alloc, at, group, operands)?;
     let own = sql_check_parts::call(alloc, at.profile, function, operands, &parts.kinds)?;
@@ -122,8 +122,8 @@ fn aggregate(
     group: &Option<Grouping>,
     function: AggKind,
     operand: &SqlExpr,
-) -> Result<Typed, AllocError>
-    ensures { IfOk result (IsTypedAt at.now group.now (tree.aggregate function (expr_tree operand.now))) }
+) -> Result<Told, AllocError>
+    ensures { IfOk result (IsToldAt at.now group.now (tree.aggregate function (expr_tree operand.now))) }
 {
     let rows = None;
     let operand = expression(alloc, at, &rows, operand)?;
@@ -171,8 +171,8 @@ fn branch_value(
     at: &Site,
     group: &Option<Grouping>,
     branch: &Branch,
-) -> Result<Typed, AllocError>
-    ensures { IfOk result (IsTyped (kind_in at.now.scope (branch_tree branch.now).1) (condition_at at.now group.now (branch_tree branch.now).0 ++ breaks at.now group.now (branch_tree branch.now).1)) }
+) -> Result<Told, AllocError>
+    ensures { IfOk result (IsTold (kind_in at.now.scope (branch_tree branch.now).1) (condition_at at.now group.now (branch_tree branch.now).0 ++ breaks at.now group.now (branch_tree branch.now).1)) }
 {
     let condition = condition(alloc, at, group, &branch.condition)?;
     let value = expression(alloc, at, group, &branch.value)?;

@@ -1,5 +1,5 @@
 -- The equalities of EXISTS.
-use Rattle.std.specs.Prelude.{Bool, true, false, not, ◌&&◌, List, [], ◌∷◌, ◌++◌, Option, option_and_then, if◌then◌else◌}
+use Rattle.std.specs.Prelude.{Bool, true, false, not, ◌&&◌, List, [], ◌∷◌, ◌++◌, Option}
 use Rattle.std.specs.List.{flat_map}
 use Rattle.std.specs.Option.{is_none}
 use Rattle.vtl_cell.specs.Kinds.{same_kind}
@@ -10,12 +10,12 @@ use Rattle.sql_tree.specs.declared.parts.Equality.{Equality}
 use Rattle.sql_tree.specs.declared.parts.Source.{Source}
 use Rattle.sql_check_parts.specs.Rules.{broken}
 use Rattle.vtl_cell.specs.Texts.{same_text}
-use Rattle.sql_check_parts.specs.Scopes.{Columns, Grouping, Scope, Tables, column_in, columns_of, kind_among, or_null}
+use Rattle.sql_check_parts.specs.Scopes.{Columns, Grouping, Scope, Tables, columns_of, found, inside, or_null}
 use Rattle.sql_check_parts.specs.Windows.{is_ungrouped}
 use Rattle.sql_check_parts.specs.declared.rules.SqlRule.{SqlRule}
 use Rattle.sql_check_parts.specs.declared.rules.SqlRule.TheVariants as rule
 
--- the inner source: its alias hides an outer one wholly
+-- the inner source
 pub record Inner : Type 0 where
   pub alias : Text
   pub columns : Option Columns
@@ -24,10 +24,10 @@ abbrev pub inner_of : Tables → Source → Inner
 inner_of tables s = record { alias = s.alias; columns = columns_of tables s.table }
 
 abbrev pub is_inner : Inner → Column → Bool
-is_inner i c = same_text i.alias c.source
+is_inner i c = same_text c.source i.alias
 
 abbrev pub kind_inside : Scope → Inner → Column → Option Kind
-kind_inside s i c = if is_inner i c then option_and_then (λ columns. kind_among columns c.name) i.columns else column_in s c
+kind_inside s i c = found (inside s i.alias i.columns) c
 
 -- a column of the inner source is known; one of an outer source besides is one of GROUP BY in a group
 abbrev pub side_breaks : Scope → Option Grouping → Inner → Column → List SqlRule

@@ -7,4 +7,4 @@ pub mod Exists
 pub mod Expressions
 pub mod Queries
 pub mod Statements
-pub mod Typed
+pub mod Told

@@ -1,6 +1,6 @@
--- Tables by name, their columns by name, and the sources of a select by alias.
-use Rattle.std.specs.Prelude.{Bool, true, false, not, ◌&&◌, List, [], ◌∷◌, ◌++◌, Option, Some, None, nat_eq, fold, map, option_and_then, if◌then◌else◌}
-use Rattle.std.specs.List.{list_any}
+-- Tables by name, their columns by name, and the sources of a select by alias, with one look-up for kinds, places and cells.
+use Rattle.std.specs.Prelude.{ℕ, suc, ◌+◌, Bool, true, false, not, ◌&&◌, List, [], ◌∷◌, ◌++◌, Option, Some, None, fold, length, map, option_and_then, if◌then◌else◌}
+use Rattle.std.specs.List.{flat_map, list_any}
 use Rattle.std.specs.Map.{keys_of, lookup}
 use Rattle.indexmap.specs.IndexSet.{insert_key}
 use Rattle.vtl_cell.specs.Apart.{all_apart}
@@ -22,18 +22,23 @@ abbrev pub is_empty : {A : Type 0} → List A → Bool
 is_empty [] = true
 is_empty (x ∷ xs) = false
 
+-- values by name, as those of the columns of a table
+abbrev pub Named : Type 0 → Type 0
+Named V = List (Text × V)
+
+-- the value at a name, if there is one
+abbrev pub value_among : {V : Type 0} → Named V → Text → Option V
+value_among named name = lookup (same_text name) named
+
 -- the kinds of a table's columns, by name
 abbrev pub Columns : Type 0
-Columns = List (Text × Kind)
+Columns = Named Kind
 
 abbrev pub Tables : Type 0
-Tables = List (Text × Columns)
+Tables = Named Columns
 
 abbrev pub columns_of : Tables → Text → Option Columns
-columns_of tables name = lookup (same_text name) tables
-
-abbrev pub kind_among : Columns → Text → Option Kind
-kind_among columns name = lookup (same_text name) columns
+columns_of tables name = value_among tables name
 
 -- what has no kind counts as null: a rule is broken at it that comes before those on kinds
 abbrev pub or_null : Option Kind → Kind
@@ -42,24 +47,60 @@ or_null None = k.Null
 
 -- ---- sources
 
--- the columns of the sources from the left, by alias
-abbrev pub Scope : Type 0
-Scope = List (Text × Columns)
+-- the sources of a select from the left, by alias: at each column a value, as its kind, its place or the cell of a row
+abbrev pub Sources : Type 0 → Type 0
+Sources V = Named (Named V)
+
+-- the value at a column, if there is one
+abbrev pub found : {V : Type 0} → Sources V → Column → Option V
+found sources c = option_and_then (λ named. value_among named c.name) (value_among sources c.source)
 
 -- one more source; a table that is not there has no columns, and of two sources of one alias the first counts
-abbrev pub add_source : Scope → Text → Option Columns → Scope
-add_source scope alias None = scope
-add_source scope alias (Some columns) = if is_among alias (keys_of scope) then scope else scope ++ (alias, columns) ∷ []
+abbrev pub add_source : {V : Type 0} → Sources V → Text → Option (Named V) → Sources V
+add_source sources alias None = sources
+add_source sources alias (Some columns) = if is_among alias (keys_of sources) then sources else sources ++ (alias, columns) ∷ []
+
+-- what a source names where its table is not there: nothing
+abbrev pub or_nothing : {V : Type 0} → Option (Named V) → Named V
+or_nothing (Some columns) = columns
+or_nothing None = []
+
+-- the sources within EXISTS: its own stands first, so that it hides an outer one of its alias wholly
+abbrev pub inside : {V : Type 0} → Sources V → Text → Option (Named V) → Sources V
+inside outer alias columns = (alias, or_nothing columns) ∷ outer
+
+-- the kinds of the columns of the sources
+abbrev pub Scope : Type 0
+Scope = Sources Kind
 
 abbrev pub with_source : Tables → Scope → Source → Scope
 with_source tables scope s = add_source scope s.alias (columns_of tables s.table)
 
--- the kind of a column, if there is one
-abbrev pub column_in : Scope → Column → Option Kind
-column_in scope c = option_and_then (λ columns. kind_among columns c.name) (lookup (same_text c.source) scope)
-
 abbrev pub column_kind : Scope → Column → Kind
-column_kind scope c = or_null (column_in scope c)
+column_kind scope c = or_null (found scope c)
+
+-- ---- places
+
+-- the values of a source, or of all sources, with others in their places
+abbrev pub each_value : {V W : Type 0} → (V → W) → Named V → Named W
+each_value f named = map (λ e. (e.0, f e.1)) named
+
+-- numbers in place of values, from this one on
+abbrev pub numbered : {V : Type 0} → ℕ → Named V → Named ℕ
+numbered n [] = []
+numbered n (e ∷ es) = (e.0, n) ∷ numbered (suc n) es
+
+abbrev pub placed_from : {V : Type 0} → ℕ → Sources V → Sources ℕ
+placed_from n [] = []
+placed_from n (s ∷ ss) = (s.0, numbered n s.1) ∷ placed_from (n + length s.1) ss
+
+-- the place of each column in the row of FROM, which is the columns of the sources one after the other
+abbrev pub placed : {V : Type 0} → Sources V → Sources ℕ
+placed sources = placed_from 0 sources
+
+-- the row of FROM of these values
+abbrev pub row_of : {V : Type 0} → Sources V → List V
+row_of sources = flat_map (λ s. map (λ e. e.1) s.1) sources
 
 -- ---- groups
 

@@ -1,5 +1,5 @@
 -- The rules that statements break, and the fault of a script: the least rule that its first faulty statement breaks.
-use Rattle.std.specs.Prelude.{◌≡◌, ℕ, suc, ℤ, pos, unsigned_abs, Bool, true, false, not, ◌&&◌, ◌||◌, List, [], ◌∷◌, ◌++◌, map, length, nat_lt, Option, Some, None, encode_utf8_all}
+use Rattle.std.specs.Prelude.{◌≡◌, ℕ, suc, ℤ, pos, unsigned_abs, Bool, true, false, not, ◌&&◌, ◌||◌, List, [], ◌∷◌, ◌++◌, map, filter, fold, length, nat_lt, Option, Some, None, encode_utf8_all}
 use Rattle.std.specs.List.{list_any}
 use Rattle.std.specs.Map.{keys_of}
 use Rattle.std.specs.Option.{is_none}
@@ -19,7 +19,7 @@ use Rattle.sql_tree.specs.declared.statements.SqlInput.{SqlInput}
 use Rattle.sql_check_parts.specs.Queries.{query_breaks, query_columns}
 use Rattle.sql_check_parts.specs.Rules.{broken, least}
 use Rattle.vtl_cell.specs.Texts.{same_text}
-use Rattle.sql_check_parts.specs.Scopes.{Columns, Tables, columns_of, is_among, is_empty, kind_among, repeats}
+use Rattle.sql_check_parts.specs.Scopes.{Columns, Tables, columns_of, is_among, is_empty, repeats, value_among}
 use Rattle.sql_check_parts.specs.declared.rules.SqlRule.{SqlRule}
 use Rattle.sql_check_parts.specs.declared.rules.SqlRule.TheVariants as rule
 
@@ -45,12 +45,20 @@ settings_of digits rounding = record { scale = scale_of (scale_written digits); 
 abbrev pub column_entry : InputColumn → Text × Kind
 column_entry c = (c.name, c.kind)
 
+abbrev pub is_of_key : List Text → InputColumn → Bool
+is_of_key key c = is_among c.name key
+
+-- columns in the order of a table: those of the key first, then the others, each as they are listed
+abbrev pub in_table_order : List Text → List InputColumn → List InputColumn
+in_table_order key cs = filter (is_of_key key) cs ++ filter (λ c. not (is_of_key key c)) cs
+
+-- the columns of an input's table
 abbrev pub input_columns : SqlInput → Columns
-input_columns s = map column_entry s.columns
+input_columns s = map column_entry (in_table_order s.key s.columns)
 
 -- names that are columns, and no name twice
 abbrev pub names_fit : Columns → List Text → Bool
-names_fit columns names = not (repeats names) && not (list_any (λ name. is_none (kind_among columns name)) names)
+names_fit columns names = not (repeats names) && not (list_any (λ name. is_none (value_among columns name)) names)
 
 abbrev pub is_text : Kind → Bool
 is_text k.Text = true
@@ -58,7 +66,7 @@ is_text kind = false
 
 -- codes of a text in the key, none of them empty or twice
 abbrev pub codes_fit : List Text → InputColumn → Bool
-codes_fit key c = is_empty c.codes || (is_text c.kind && is_among c.name key && not (list_any is_empty c.codes) && not (repeats c.codes))
+codes_fit key c = is_empty c.codes || (is_text c.kind && is_of_key key c && not (list_any is_empty c.codes) && not (repeats c.codes))
 
 -- whether a table may have this name: no table has it yet
 abbrev pub is_taken : Tables → Text → Bool
@@ -124,6 +132,10 @@ after given (tree.setting digits rounding) = given
 after given (tree.input s) = with_table given s.name (input_columns s)
 after given (tree.create name q) = with_table given name (query_columns given.tables q)
 after given (tree.export s) = with_export given s.name
+
+-- what statements have given
+abbrev pub given_by : List StatementTree → Given
+given_by ss = fold after nothing ss
 
 -- the number of a statement, and a rule
 abbrev pub Fault : Type 0

@@ -22,7 +22,7 @@ use Rattle.sql_tree.specs.declared.word_groups.ValueFunction.{ValueFunction}
 use Rattle.sql_tree.specs.declared.word_groups.ValueFunction.TheVariants as value
 use Rattle.sql_check_parts.specs.Literals.{has_no_value, literal_kind}
 use Rattle.sql_check_parts.specs.Rules.{broken}
-use Rattle.sql_check_parts.specs.Scopes.{Grouping, Scope, column_in, column_kind, is_empty, is_grouped_by, or_null}
+use Rattle.sql_check_parts.specs.Scopes.{Grouping, Scope, column_kind, found, is_empty, is_grouped_by, or_null}
 use Rattle.sql_check_parts.specs.declared.rules.SqlRule.{SqlRule}
 use Rattle.sql_check_parts.specs.declared.rules.SqlRule.TheVariants as rule
 
@@ -35,7 +35,7 @@ is_ungrouped (Some group) c = not (is_grouped_by group c)
 
 -- a column: it is known, and in a group one of GROUP BY
 abbrev pub column_breaks : Scope → Option Grouping → Column → List SqlRule
-column_breaks s g c = broken ((rule.UnknownColumn, is_none (column_in s c)) ∷ (rule.OutsideGroup, is_ungrouped g c) ∷ [])
+column_breaks s g c = broken ((rule.UnknownColumn, is_none (found s c)) ∷ (rule.OutsideGroup, is_ungrouped g c) ∷ [])
 
 -- ---- calls
 

@@ -2,8 +2,8 @@
 ghost use Rattle.std.specs.Map.{keys_of};
 ghost use Rattle.std.specs.Prelude.{◌≡◌, ◌++◌, ◌∷◌, [], false, not, length, zip, IfOk, OnOk};
 ghost use Rattle.vtl_cell.specs.declared.kind.Kind.{Kind};
-ghost use Rattle.sql_check_parts.specs.Scopes.{is_among, kind_among, repeats};
-ghost use Rattle.sql_check_parts.specs.Typed.{distinct_columns};
+ghost use Rattle.sql_check_parts.specs.Scopes.{is_among, repeats, value_among};
+ghost use Rattle.sql_check_parts.specs.Told.{distinct_columns};
 
 use indexmap::IndexMap;
 use std::alloc::{AllocError, Global};
@@ -61,7 +61,7 @@ impl Columns {
 
     /// The kind of a column.
     pub fn kind(&self, name: &Txt) -> Option<Kind>
-        ensures { result ≡ kind_among self.now name.now }
+        ensures { result ≡ value_among self.now name.now }
     {
         self.kinds.get(name).copied()
     }

@@ -3,7 +3,7 @@ ghost use Rattle.std.specs.List.{flat_map};
 ghost use Rattle.std.specs.Prelude.{◌≡◌, ◌&&◌, not, option_and_then, IfOk};
 ghost use Rattle.sql_check_parts.specs.Exists.{equality_breaks, exists_breaks, inner_of, is_inner, is_tie, kind_inside, same_side, side_breaks};
 ghost use Rattle.sql_check_parts.specs.Rules.{least};
-ghost use Rattle.sql_check_parts.specs.Scopes.{kind_among};
+ghost use Rattle.sql_check_parts.specs.Scopes.{value_among};
 ghost use Rattle.sql_check_parts.specs.Windows.{is_ungrouped};
 
 use crate::scope::is_ungrouped;
@@ -41,11 +41,11 @@ fn inner_of<'a>(tables: &'a Tables, source: &'a Source) -> InnerSource<'a>
 fn is_inner(inner: &InnerSource, column: &Column) -> bool
     ensures { result ≡ is_inner inner.now column.now }
 {
-    inner.alias == &column.source
+    &column.source == inner.alias
 }
 
 fn inner_kind(inner: &InnerSource, column: &Column) -> Option<Kind>
-    ensures { result ≡ option_and_then (λ columns. kind_among columns column.now.name) inner.now.columns }
+    ensures { result ≡ option_and_then (λ columns. value_among columns column.now.name) inner.now.columns }
 {
     match inner.columns {
         Some(columns) => columns.kind(&column.name),

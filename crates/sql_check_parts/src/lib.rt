@@ -16,7 +16,7 @@ mod operators;
 mod rules;
 mod scope;
 mod tables;
-mod typed;
+mod told;
 mod windows;
 
 pub use columns::{Columns, repeats};
@@ -27,5 +27,5 @@ pub use operators::{aggregate, call, case, condition_fault, operator};
 pub use rules::{SqlRule, Test, least_broken, lesser};
 pub use scope::{Scope, column};
 pub use tables::Tables;
-pub use typed::{Typed, or_null};
+pub use told::{Told, or_null};
 pub use windows::{columns_fault, window};

@@ -6,10 +6,10 @@ ghost use Rattle.sql_tree.specs.View.{expr_tree};
 ghost use Rattle.sql_check_parts.specs.Expressions.{constant_breaks, list_breaks};
 ghost use Rattle.sql_check_parts.specs.Literals.{are_digits, constant_kind, constant_value, has_no_value, integer_in, is_place, is_size, literal_kind, literal_value, literals_fit, numeral_kind, numeral_value, second_passes};
 ghost use Rattle.sql_check_parts.specs.Rules.{least};
-ghost use Rattle.sql_check_parts.specs.Typed.{IsTyped};
+ghost use Rattle.sql_check_parts.specs.Told.{IsTold};
 
 use crate::operators::operator_kind;
-use crate::{SqlRule, Test, Typed, least_broken};
+use crate::{SqlRule, Test, Told, least_broken};
 use sql_tree::{Constant, Literal, Numeral, SqlExpr};
 use std::alloc::{AllocError, Global};
 use vtl_cell::{Cell, Kind, Profile, ScalarOp};
@@ -68,11 +68,11 @@ pub fn constant_value(
 }
 
 /// A constant. It fails only if memory runs out.
-pub fn constant(alloc: Global, profile: &Profile, constant: &Constant) -> Result<Typed, AllocError>
-    ensures { IfOk result (IsTyped (constant_kind constant.now) (constant_breaks profile.now constant.now)) }
+pub fn constant(alloc: Global, profile: &Profile, constant: &Constant) -> Result<Told, AllocError>
+    ensures { IfOk result (IsTold (constant_kind constant.now) (constant_breaks profile.now constant.now)) }
 {
     let value = constant_value(alloc, profile, constant)?;
-    Ok(Typed {
+    Ok(Told {
         kind: constant_kind(constant),
         fault: least_broken(&[Test {
             rule: SqlRule::UnfitLiteral,

@@ -8,9 +8,9 @@ ghost use Rattle.sql_check_parts.specs.Expressions.{aggregate_breaks, call_break
 ghost use Rattle.sql_check_parts.specs.Kinds.{given_kind, operator_kind};
 ghost use Rattle.sql_check_parts.specs.Rules.{least};
 ghost use Rattle.sql_check_parts.specs.Scopes.{or_null};
-ghost use Rattle.sql_check_parts.specs.Typed.{IsTyped};
+ghost use Rattle.sql_check_parts.specs.Told.{IsTold};
 
-use crate::{Grouping, SqlRule, Test, Typed, least_broken, literals_fit, or_null};
+use crate::{Grouping, SqlRule, Test, Told, least_broken, literals_fit, or_null};
 use sql_tree::SqlExpr;
 use std::alloc::{AllocError, Global};
 use vtl_cell::{AggKind, Kind, Profile, ScalarOp};
@@ -31,11 +31,11 @@ pub(crate) fn operator_kind(
 }
 
 /// An operator on operands of these kinds. It fails only if memory runs out.
-pub fn operator(alloc: Global, op: ScalarOp, kinds: &[Kind]) -> Result<Typed, AllocError>
-    ensures { IfOk result (IsTyped (given_kind op kinds.now) (operator_breaks op kinds.now)) }
+pub fn operator(alloc: Global, op: ScalarOp, kinds: &[Kind]) -> Result<Told, AllocError>
+    ensures { IfOk result (IsTold (given_kind op kinds.now) (operator_breaks op kinds.now)) }
 {
     let kind = operator_kind(alloc, op, kinds)?;
-    Ok(Typed {
+    Ok(Told {
         kind: or_null(kind),
         fault: least_broken(&[Test {
             rule: SqlRule::UnfitKind,
@@ -51,12 +51,12 @@ pub fn call(
     function: ScalarOp,
     operands: &[SqlExpr],
     kinds: &[Kind],
-) -> Result<Typed, AllocError>
-    ensures { IfOk result (IsTyped (given_kind function kinds.now) (call_breaks profile.now function (exps_of (map expr_tree operands.now)) kinds.now)) }
+) -> Result<Told, AllocError>
+    ensures { IfOk result (IsTold (given_kind function kinds.now) (call_breaks profile.now function (exps_of (map expr_tree operands.now)) kinds.now)) }
 {
     let kind = operator_kind(alloc, function, kinds)?;
     let fit = literals_fit(profile, function, operands);
-    Ok(Typed {
+    Ok(Told {
         kind: or_null(kind),
         fault: least_broken(&[
             Test {
@@ -72,11 +72,11 @@ pub fn call(
 }
 
 /// An aggregate of values of a kind.
-pub fn aggregate(function: AggKind, kind: Kind, group: &Option<Grouping>) -> Typed
-    ensures { IsTyped (or_null (aggregate_kind function kind)) (aggregate_breaks (aggregate_kind function kind) group.now) result }
+pub fn aggregate(function: AggKind, kind: Kind, group: &Option<Grouping>) -> Told
+    ensures { IsTold (or_null (aggregate_kind function kind)) (aggregate_breaks (aggregate_kind function kind) group.now) result }
 {
     let given = aggregate_kind(function, kind);
-    Typed {
+    Told {
         kind: or_null(given),
         fault: least_broken(&[
             Test {
@@ -92,11 +92,11 @@ pub fn aggregate(function: AggKind, kind: Kind, group: &Option<Grouping>) -> Typ
 }
 
 /// CASE with values of these kinds.
-pub fn case(kinds: &[Kind]) -> Typed
-    ensures { IsTyped (or_null (common_kind kinds.now)) (case_breaks kinds.now) result }
+pub fn case(kinds: &[Kind]) -> Told
+    ensures { IsTold (or_null (common_kind kinds.now)) (case_breaks kinds.now) result }
 {
     let kind = common_kind(kinds);
-    Typed {
+    Told {
         kind: or_null(kind),
         fault: least_broken(&[Test {
             rule: SqlRule::UnfitKind,

@@ -3,11 +3,11 @@ ghost use Rattle.std.specs.Map.{keys_of, lookup};
 ghost use Rattle.std.specs.Option.{option_copied};
 ghost use Rattle.std.specs.Prelude.{◌≡◌, [], IfOk, OnOk};
 ghost use Rattle.vtl_cell.specs.Texts.{same_text};
-ghost use Rattle.sql_check_parts.specs.Scopes.{add_source, column_in, column_kind, is_among};
-ghost use Rattle.sql_check_parts.specs.Typed.{IsTyped};
+ghost use Rattle.sql_check_parts.specs.Scopes.{add_source, column_kind, found, is_among};
+ghost use Rattle.sql_check_parts.specs.Told.{IsTold};
 ghost use Rattle.sql_check_parts.specs.Windows.{column_breaks, is_ungrouped};
 
-use crate::{Columns, Grouping, SqlRule, Test, Typed, least_broken, or_null};
+use crate::{Columns, Grouping, SqlRule, Test, Told, least_broken, or_null};
 use indexmap::IndexMap;
 use sql_tree::Column;
 use std::alloc::{AllocError, Global};
@@ -69,7 +69,7 @@ impl<'a> Scope<'a> {
 
     /// The kind of a column.
     pub fn kind(&self, column: &Column) -> Option<Kind>
-        ensures { result ≡ column_in self.now column.now }
+        ensures { result ≡ found self.now column.now }
     {
         match self.columns(&column.source) {
             Some(columns) => columns.kind(&column.name),
@@ -89,12 +89,12 @@ pub(crate) fn is_ungrouped(group: &Option<Grouping>, column: &Column) -> Result<
 }
 
 /// A column. It fails only if memory runs out.
-pub fn column(scope: &Scope, group: &Option<Grouping>, column: &Column) -> Result<Typed, AllocError>
-    ensures { IfOk result (IsTyped (column_kind scope.now column.now) (column_breaks scope.now group.now column.now)) }
+pub fn column(scope: &Scope, group: &Option<Grouping>, column: &Column) -> Result<Told, AllocError>
+    ensures { IfOk result (IsTold (column_kind scope.now column.now) (column_breaks scope.now group.now column.now)) }
 {
     let kind = scope.kind(column);
     let ungrouped = is_ungrouped(group, column)?;
-    Ok(Typed {
+    Ok(Told {
         kind: or_null(kind),
         fault: least_broken(&[
             Test {

@@ -3,11 +3,11 @@ ghost use Rattle.std.specs.List.{flat_map};
 ghost use Rattle.std.specs.Prelude.{◌≡◌, IfOk};
 ghost use Rattle.sql_check_parts.specs.Rules.{least};
 ghost use Rattle.sql_check_parts.specs.Scopes.{is_empty};
-ghost use Rattle.sql_check_parts.specs.Typed.{IsTyped};
+ghost use Rattle.sql_check_parts.specs.Told.{IsTold};
 ghost use Rattle.sql_check_parts.specs.Windows.{argument, bound_fits, call_fits, call_kind, column_breaks, columns_break, default_fits, frame_fits, frame_misplaced, is_framed, is_misplaced, is_row_count, key_breaks, literals_fit, order_misplaced, shift_kind, value_kind, window_breaks, window_kind};
 
 use crate::literals::{has_no_value, literal_kind};
-use crate::{Grouping, Scope, SqlRule, Test, Typed, column, least_broken, lesser, or_null};
+use crate::{Grouping, Scope, SqlRule, Test, Told, column, least_broken, lesser, or_null};
 use sql_tree::{Bound, Column, Frame, Literal, ValueFunction, Window, WindowCall, WindowKey};
 use std::alloc::{AllocError, Global};
 use vtl_cell::{Kind, Profile, Txt};
@@ -245,8 +245,8 @@ pub fn window(
     scope: &Scope,
     group: &Option<Grouping>,
     window: &Window,
-) -> Result<Typed, AllocError>
-    ensures { IfOk result (IsTyped (window_kind scope.now window.now) (window_breaks profile.now scope.now group.now window.now)) }
+) -> Result<Told, AllocError>
+    ensures { IfOk result (IsTold (window_kind scope.now window.now) (window_breaks profile.now scope.now group.now window.now)) }
 {
     let columns = window_columns_fault(scope, group, window)?;
     let kind = call_kind(scope, &window.call);
@@ -265,7 +265,7 @@ pub fn window(
             is_broken: is_misplaced(group, window),
         },
     ]);
-    Ok(Typed {
+    Ok(Told {
         kind: or_null(kind),
         fault: lesser(columns, own),
     })

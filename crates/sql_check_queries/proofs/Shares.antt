@@ -27,8 +27,3 @@ beside_end (c ∷ cs) [] zero h = refl
 beside_end (c ∷ cs) [] (suc i) h = ap (λ xs. c ∷ xs) (ap (λ xs. take i cs ++ xs) (beside_none (drop i cs)) ∙ take-append-drop i cs)
 beside_end (c ∷ cs) (kind ∷ kinds) zero h = absurd (omega (arith, h))
 beside_end (c ∷ cs) (kind ∷ kinds) (suc i) h = ap (λ xs. c ∷ xs) (beside_end cs kinds i (omega (arith, h)))
-
-pub length-beside : (cs : List (Option Kind)) (kinds : List Kind) → length (beside cs kinds) ≡ length cs
-length-beside [] kinds = refl
-length-beside (c ∷ cs) [] = refl
-length-beside (c ∷ cs) (kind ∷ kinds) = ap suc (length-beside cs kinds)

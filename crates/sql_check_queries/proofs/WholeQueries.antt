@@ -10,15 +10,15 @@ use Rattle.sql_check_parts.specs.Rules.{least, lesser}
 use Rattle.vtl_cell.specs.Texts.{same_text}
 use Rattle.sql_check_parts.specs.Scopes.{Tables, or_null}
 use Rattle.sql_check_parts.proofs.Least.{least_append}
-use Rattle.sql_check_queries.specs.Typed.{Grows, IsFirst, IsTypedQuery, IsTypedSelect, IsUnion, columns_breaks}
-use Rattle.sql_check_queries.specs.declared.queries.QueryTyped.{QueryTyped}
-use Rattle.sql_check_queries.specs.declared.selects.SelectTyped.{SelectTyped}
+use Rattle.sql_check_parts.proofs.QueryKinds.{as_many}
+use Rattle.sql_check_queries.specs.Told.{Grows, IsFirst, IsQueryTold, IsSelectTold, IsUnion, columns_breaks}
+use Rattle.sql_check_queries.specs.declared.queries.QueryTold.{QueryTold}
+use Rattle.sql_check_queries.specs.declared.selects.SelectTold.{SelectTold}
 use Rattle.sql_check_queries.specs.declared.unions.Union.{Union}
-use Rattle.sql_check_queries.proofs.Columns.{as_many}
 
 -- a first select, and those behind it
-pub union_made : (p : Settings) (tables : Tables) (first : SelectTree) (rest : List SelectTree) (typed : SelectTyped) (before after : Union)
-    → IsTypedSelect p tables first typed → IsFirst typed before → Grows p tables rest before after → IsUnion p tables first rest after
+pub union_made : (p : Settings) (tables : Tables) (first : SelectTree) (rest : List SelectTree) (typed : SelectTold) (before after : Union)
+    → IsSelectTold p tables first typed → IsFirst typed before → Grows p tables rest before after → IsUnion p tables first rest after
 union_made p tables first rest typed before after t f g = record {
   names_are = g.names_are ∙ f.names_are ∙ t.names_are;
   shared_are = g.shared_are ∙ ap (λ cs. fold (λ shared other. beside shared (kinds_of tables other)) cs rest) (f.shared_are ∙ ap (map Some) t.kinds_are);
@@ -51,10 +51,10 @@ least_of_union p tables first rest u i =
     ∙ sym (least_append (flat_map (select_breaks p tables) q) (union_breaks names kinds q))
 
 -- a query of a first select and those behind it
-pub query_made : (p : Settings) (tables : Tables) (q : QueryTree) (first : SelectTree) (rest : List SelectTree) (u : Union) (r : QueryTyped) → q ≡ first ∷ rest → IsUnion p tables first rest u
-    → r.names ≡ u.names → r.kinds ≡ map or_null u.shared.items → r.fault ≡ lesser u.fault (least (columns_breaks u.names u.shared.items u.same_names)) → IsTypedQuery p tables q r
+pub query_made : (p : Settings) (tables : Tables) (q : QueryTree) (first : SelectTree) (rest : List SelectTree) (u : Union) (r : QueryTold) → q ≡ first ∷ rest → IsUnion p tables first rest u
+    → r.names ≡ u.names → r.kinds ≡ map or_null u.shared.items → r.fault ≡ lesser u.fault (least (columns_breaks u.names u.shared.items u.same_names)) → IsQueryTold p tables q r
 query_made p tables q first rest u r e i names kinds fault =
-    let P : QueryTree → Type 0 = λ ss. IsTypedQuery p tables ss r in
+    let P : QueryTree → Type 0 = λ ss. IsQueryTold p tables ss r in
     let kinds_are : r.kinds ≡ map or_null (shared_kinds tables (first ∷ rest)) = kinds ∙ ap (map or_null) i.shared_are in
     subst P (sym e) (record {
       names_are = names ∙ i.names_are;
@@ -64,10 +64,10 @@ query_made p tables q first rest u r e i names kinds fault =
     })
 
 -- a query of no select
-pub none_made : (p : Settings) (tables : Tables) (q : QueryTree) (r : QueryTyped) → q ≡ [] → r.names ≡ [] → r.kinds ≡ [] → r.fault ≡ None → IsTypedQuery p tables q r
+pub none_made : (p : Settings) (tables : Tables) (q : QueryTree) (r : QueryTold) → q ≡ [] → r.names ≡ [] → r.kinds ≡ [] → r.fault ≡ None → IsQueryTold p tables q r
 unfolding least
 none_made p tables q r e names kinds fault =
-    let P : QueryTree → Type 0 = λ ss. IsTypedQuery p tables ss r in
+    let P : QueryTree → Type 0 = λ ss. IsQueryTold p tables ss r in
     subst P (sym e) (record {
       names_are = names;
       kinds_are = kinds;

@@ -2,18 +2,18 @@
 ghost use Rattle.std.specs.Prelude.{◌≡◌, map, IfOk};
 ghost use Rattle.sql_tree.specs.View.{item_tree, value_tree};
 ghost use Rattle.sql_check_parts.specs.Queries.{item_name, value_breaks, value_kind};
-ghost use Rattle.sql_check_parts.specs.Typed.{IsTyped};
-ghost use Rattle.sql_check_queries.specs.Typed.{HasItems};
+ghost use Rattle.sql_check_parts.specs.Told.{IsTold};
+ghost use Rattle.sql_check_queries.specs.Told.{HasItems};
 
 use sql_check_expressions::{Site, expression};
-use sql_check_parts::{Grouping, SqlRule, Typed, lesser, window};
+use sql_check_parts::{Grouping, SqlRule, Told, lesser, window};
 use sql_tree::{Item, ItemValue};
 use std::alloc::{AllocError, Global};
 use vtl_cell::{Kind, List, Txt};
 
 /// The kinds of items, and the least of the rules that they break.
 #[derive(Drop)]
-pub(crate) struct ItemsTyped {
+pub(crate) struct ItemsTold {
     pub(crate) kinds: List<Kind>,
     pub(crate) fault: Option<SqlRule>,
 }
@@ -23,8 +23,8 @@ fn value(
     at: &Site,
     group: &Option<Grouping>,
     value: &ItemValue,
-) -> Result<Typed, AllocError>
-    ensures { IfOk result (IsTyped (value_kind at.now.scope (value_tree value.now)) (value_breaks at.now group.now (value_tree value.now))) }
+) -> Result<Told, AllocError>
+    ensures { IfOk result (IsTold (value_kind at.now.scope (value_tree value.now)) (value_breaks at.now group.now (value_tree value.now))) }
 {
     match value {
         ItemValue::Expr(e) => expression(alloc, at, group, e),
@@ -38,7 +38,7 @@ pub(crate) fn items(
     at: &Site,
     group: &Option<Grouping>,
     items: &[Item],
-) -> Result<ItemsTyped, AllocError>
+) -> Result<ItemsTold, AllocError>
     ensures { IfOk result (HasItems at.now group.now (map item_tree items.now)) }
 {
     let mut kinds = Vec::new(alloc);
@@ -48,7 +48,7 @@ pub(crate) fn items(
         kinds.push(typed.kind)?;
         fault = lesser(fault, typed.fault);
     }
-    Ok(ItemsTyped {
+    Ok(ItemsTold {
         kinds: List::of(kinds),
         fault,
     })

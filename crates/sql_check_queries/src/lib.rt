@@ -4,7 +4,7 @@
 //! It builds the scope of each select from the left and asks `sql_check_expressions` for each condition and item;
 //! the columns that a query gives are those that later statements see.
 //! It knows no statement (`sql_check` puts tables in and takes columns out), no rows, and nothing of VTL.
-//! Begin with sql_check_parts/specs/Queries.antt, then specs/Typed.antt.
+//! Begin with sql_check_parts/specs/Queries.antt, then specs/Told.antt.
 #![tactic(auto)]
 
 mod groups;
@@ -14,4 +14,4 @@ mod selects;
 mod sources;
 mod unions;
 
-pub use queries::{QueryTyped, query};
+pub use queries::{QueryTold, query};

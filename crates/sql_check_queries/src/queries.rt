@@ -1,7 +1,7 @@
 // Queries.
 ghost use Rattle.std.specs.Prelude.{◌≡◌, [], None, map, IfOk, OnOk};
 ghost use Rattle.sql_tree.specs.View.{query_tree, select_tree};
-ghost use Rattle.sql_check_queries.specs.Typed.{Grows, IsTypedQuery, IsUnion};
+ghost use Rattle.sql_check_queries.specs.Told.{Grows, IsQueryTold, IsUnion};
 
 use crate::selects::select;
 use crate::unions::Union;
@@ -12,7 +12,7 @@ use vtl_cell::{Kind, List, Profile, Txt};
 
 /// The columns that a query gives, and the least of the rules that it breaks.
 #[derive(Drop)]
-pub struct QueryTyped {
+pub struct QueryTold {
     /// The names of the columns.
     pub names: List<Txt>,
     /// Their kinds; that of null where there is none, since a rule is broken then.
@@ -51,12 +51,12 @@ fn union(
     Ok(union)
 }
 
-fn no_columns(alloc: Global) -> QueryTyped
+fn no_columns(alloc: Global) -> QueryTold
     ensures names { result.names ≡ [] }
     ensures kinds { result.kinds ≡ [] }
     ensures fault { result.fault ≡ None }
 {
-    QueryTyped {
+    QueryTold {
         names: List::of(Vec::new(alloc)),
         kinds: List::of(Vec::new(alloc)),
         fault: None,
@@ -69,14 +69,14 @@ pub fn query(
     profile: &Profile,
     tables: &Tables,
     query: &Query,
-) -> Result<QueryTyped, AllocError>
-    ensures { IfOk result (IsTypedQuery profile.now tables.now (query_tree query.now)) }
+) -> Result<QueryTold, AllocError>
+    ensures { IfOk result (IsQueryTold profile.now tables.now (query_tree query.now)) }
 {
     let Some((first, rest)) = query.selects.as_slice().split_first() else {
         return Ok(no_columns(alloc));
     };
     let union = union(alloc, profile, tables, first, rest)?;
-    Ok(QueryTyped {
+    Ok(QueryTold {
         kinds: union.kinds(alloc)?,
         fault: union.least_fault(),
         names: union.names,

@@ -6,11 +6,11 @@ ghost use Rattle.sql_check_parts.specs.Expressions.{site};
 ghost use Rattle.sql_check_parts.specs.Queries.{maybe_condition};
 ghost use Rattle.sql_check_parts.specs.Rules.{least};
 ghost use Rattle.sql_check_parts.specs.Windows.{column_breaks};
-ghost use Rattle.sql_check_queries.specs.Typed.{HasParts, IsTypedSelect};
+ghost use Rattle.sql_check_queries.specs.Told.{HasParts, IsSelectTold};
 
 use crate::groups::groups_of;
 use crate::items::{items, names};
-use crate::sources::{SourcesTyped, sources};
+use crate::sources::{SourcesTold, sources};
 use sql_check_expressions::{Site, condition};
 use sql_check_parts::{
     Grouping, Scope, SqlRule, Tables, Test, columns_fault, least_broken, lesser, repeats,
@@ -21,7 +21,7 @@ use vtl_cell::{Kind, List, Profile, Txt};
 
 /// The columns that a select gives, and the least of the rules that it breaks.
 #[derive(Drop)]
-pub(crate) struct SelectTyped {
+pub(crate) struct SelectTold {
     pub(crate) names: List<Txt>,
     pub(crate) kinds: List<Kind>,
     pub(crate) fault: Option<SqlRule>,
@@ -60,7 +60,7 @@ fn parts(
     tables: &Tables,
     scope: &Scope,
     select: &Select,
-) -> Result<SelectTyped, AllocError>
+) -> Result<SelectTold, AllocError>
     ensures { IfOk result (HasParts (site profile.now tables.now scope.now) (select_tree select.now)) }
 {
     let at = Site::new(profile, tables, scope);
@@ -74,7 +74,7 @@ fn parts(
         is_broken: repeats(alloc, names.as_slice())?,
     }]);
     let before = lesser(lesser(rows, having), typed.fault);
-    Ok(SelectTyped {
+    Ok(SelectTold {
         names,
         kinds: typed.kinds,
         fault: lesser(before, twice),
@@ -88,12 +88,12 @@ pub(crate) fn select(
     profile: &Profile,
     tables: &Tables,
     select: &Select,
-) -> Result<SelectTyped, AllocError>
-    ensures { IfOk result (IsTypedSelect profile.now tables.now (select_tree select.now)) }
+) -> Result<SelectTold, AllocError>
+    ensures { IfOk result (IsSelectTold profile.now tables.now (select_tree select.now)) }
 {
-    let SourcesTyped { scope, fault } = sources(alloc, profile, tables, select)?;
+    let SourcesTold { scope, fault } = sources(alloc, profile, tables, select)?;
     let typed = parts(alloc, profile, tables, &scope, select)?;
-    Ok(SelectTyped {
+    Ok(SelectTold {
         fault: lesser(fault, typed.fault),
         ..typed
     })

@@ -5,7 +5,7 @@ ghost use Rattle.sql_check_parts.specs.Expressions.{site};
 ghost use Rattle.sql_check_parts.specs.Queries.{join_breaks, join_condition, join_source, joined_scope, joins_break, source_breaks};
 ghost use Rattle.sql_check_parts.specs.Rules.{least};
 ghost use Rattle.sql_check_parts.specs.Scopes.{with_source};
-ghost use Rattle.sql_check_queries.specs.Typed.{HasSources};
+ghost use Rattle.sql_check_queries.specs.Told.{HasSources};
 
 use sql_check_expressions::{Site, condition};
 use sql_check_parts::{Scope, SqlRule, Tables, Test, least_broken, lesser};
@@ -15,7 +15,7 @@ use vtl_cell::Profile;
 
 /// The sources of a select, and the least of the rules that they break.
 #[derive(Drop)]
-pub(crate) struct SourcesTyped<'a> {
+pub(crate) struct SourcesTold<'a> {
     pub(crate) scope: Scope<'a>,
     pub(crate) fault: Option<SqlRule>,
 }
@@ -117,14 +117,14 @@ pub(crate) fn sources<'a>(
     profile: &Profile,
     tables: &'a Tables,
     select: &Select,
-) -> Result<SourcesTyped<'a>, AllocError>
+) -> Result<SourcesTold<'a>, AllocError>
     ensures { IfOk result (HasSources profile.now tables.now (select_tree select.now)) }
 {
     let mut scope = Scope::new(alloc);
     let first = source_fault(tables, &scope, &select.from);
     add_source(tables, &mut scope, &select.from)?;
     let joins = add_joins(alloc, profile, tables, &mut scope, select.joins.as_slice())?;
-    Ok(SourcesTyped {
+    Ok(SourcesTold {
         scope,
         fault: lesser(first, joins),
     })

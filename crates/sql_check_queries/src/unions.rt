@@ -6,9 +6,9 @@ ghost use Rattle.vtl_cell.specs.ScalarKinds.{shared_kind};
 ghost use Rattle.sql_check_parts.specs.Queries.{beside, lacks_kind, same_names};
 ghost use Rattle.sql_check_parts.specs.Rules.{least, lesser};
 ghost use Rattle.sql_check_parts.specs.Scopes.{or_null};
-ghost use Rattle.sql_check_queries.specs.Typed.{columns_breaks, IsFirst};
+ghost use Rattle.sql_check_queries.specs.Told.{columns_breaks, IsFirst};
 
-use crate::selects::SelectTyped;
+use crate::selects::SelectTold;
 use sql_check_parts::{SqlRule, Test, least_broken, lesser, or_null};
 use std::alloc::{AllocError, Global};
 use vtl_cell::{Kind, List, Txt};
@@ -72,7 +72,7 @@ fn any_lacks_kind(shared: &[Option<Kind>]) -> bool
 
 impl Union {
     /// A first select. It fails only if memory runs out.
-    pub(crate) fn of(alloc: Global, first: SelectTyped) -> Result<Union, AllocError>
+    pub(crate) fn of(alloc: Global, first: SelectTold) -> Result<Union, AllocError>
         ensures { IfOk result (IsFirst first) }
     {
         Ok(Union {
@@ -84,7 +84,7 @@ impl Union {
     }
 
     /// One more select.
-    pub(crate) fn add(&mut self, other: &SelectTyped)
+    pub(crate) fn add(&mut self, other: &SelectTold)
         ensures names { self.new.names ≡ self.old.names }
         ensures shared { self.new.shared.items ≡ beside self.old.shared.items other.now.kinds }
         ensures same { self.new.same_names ≡ (self.old.same_names && same_names self.old.names other.now.names) }

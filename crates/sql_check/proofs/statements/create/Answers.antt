@@ -2,7 +2,7 @@ use Rattle.std.proofs.Common.{[], ◌∷◌, IfOk, ap, subst, sym, ◌∙◌}
 use Rattle.std.specs.Prelude.{zip}
 use Rattle.sql_tree.specs.View.{query_tree}
 use Rattle.sql_check_parts.specs.Rules.{broken, least}
-use Rattle.sql_check_parts.specs.Typed.{distinct_columns}
+use Rattle.sql_check_parts.specs.Told.{distinct_columns}
 use Rattle.sql_check_parts.specs.declared.rules.SqlRule.TheVariants as rule
 use Rattle.sql_check.specs.Answers.{IsSettled, given_view}
 use Rattle.sql_check.proofs.Settled.{create_may, create_step}

@@ -4,11 +4,11 @@ use Rattle.std.specs.Map.{keys_of}
 use Rattle.vtl_cell.specs.declared.kind.Kind.{Kind}
 use Rattle.sql_check_parts.specs.Rules.{least}
 use Rattle.sql_check_parts.specs.Scopes.{Columns, repeats}
-use Rattle.sql_check_parts.specs.declared.typed.Typed.{Typed}
+use Rattle.sql_check_parts.specs.declared.told.Told.{Told}
 use Rattle.sql_check_parts.specs.declared.rules.SqlRule.{SqlRule}
 
 -- its kind, and the least of the rules that it breaks
-pub record IsTyped (kind : Kind) (rules : List SqlRule) (t : Typed) : Type 0 where
+pub record IsTold (kind : Kind) (rules : List SqlRule) (t : Told) : Type 0 where
   pub kind_is : t.kind ≡ kind
   pub fault_is : t.fault ≡ least rules
 

@@ -7,7 +7,7 @@ use vtl_cell::Kind;
 
 /// The kind of an expression, and the least of the rules that it breaks.
 #[derive(Clone, Copy, Debug, PartialEq, Eq)]
-pub struct Typed {
+pub struct Told {
     /// The kind; that of null where there is none, since a rule is broken then.
     pub kind: Kind,
     /// The least of the rules that are broken, if any is.

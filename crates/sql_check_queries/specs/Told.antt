@@ -11,27 +11,27 @@ use Rattle.sql_check_parts.specs.Rules.{broken, least, lesser}
 use Rattle.sql_check_parts.specs.Scopes.{Grouping, Tables, or_null}
 use Rattle.sql_check_parts.specs.declared.rules.SqlRule.{SqlRule}
 use Rattle.sql_check_parts.specs.declared.rules.SqlRule.TheVariants as rule
-use Rattle.sql_check_queries.specs.declared.items.ItemsTyped.{ItemsTyped}
-use Rattle.sql_check_queries.specs.declared.queries.QueryTyped.{QueryTyped}
-use Rattle.sql_check_queries.specs.declared.selects.SelectTyped.{SelectTyped}
-use Rattle.sql_check_queries.specs.declared.sources.SourcesTyped.{SourcesTyped}
+use Rattle.sql_check_queries.specs.declared.items.ItemsTold.{ItemsTold}
+use Rattle.sql_check_queries.specs.declared.queries.QueryTold.{QueryTold}
+use Rattle.sql_check_queries.specs.declared.selects.SelectTold.{SelectTold}
+use Rattle.sql_check_queries.specs.declared.sources.SourcesTold.{SourcesTold}
 use Rattle.sql_check_queries.specs.declared.unions.Union.{Union}
 
-pub record HasSources (p : Settings) (tables : Tables) (s : SelectTree) (t : SourcesTyped) : Type 0 where
+pub record HasSources (p : Settings) (tables : Tables) (s : SelectTree) (t : SourcesTold) : Type 0 where
   pub scope_is : t.scope ≡ scope_of tables s
   pub fault_is : t.fault ≡ least (sources_break p tables s)
 
-pub record HasItems (at : Site) (g : Option Grouping) (items : List ItemTree) (t : ItemsTyped) : Type 0 where
+pub record HasItems (at : Site) (g : Option Grouping) (items : List ItemTree) (t : ItemsTold) : Type 0 where
   pub kinds_are : t.kinds ≡ map (item_kind at.scope) items
   pub fault_is : t.fault ≡ least (flat_map (item_breaks at g) items)
 
 -- the parts of a select that see all its sources
-pub record HasParts (at : Site) (s : SelectTree) (t : SelectTyped) : Type 0 where
+pub record HasParts (at : Site) (s : SelectTree) (t : SelectTold) : Type 0 where
   pub names_are : t.names ≡ names_of s
   pub kinds_are : t.kinds ≡ map (item_kind at.scope) s.items
   pub fault_is : t.fault ≡ least (parts_break at s)
 
-pub record IsTypedSelect (p : Settings) (tables : Tables) (s : SelectTree) (t : SelectTyped) : Type 0 where
+pub record IsSelectTold (p : Settings) (tables : Tables) (s : SelectTree) (t : SelectTold) : Type 0 where
   pub names_are : t.names ≡ names_of s
   pub kinds_are : t.kinds ≡ kinds_of tables s
   pub fault_is : t.fault ≡ least (select_breaks p tables s)
@@ -39,7 +39,7 @@ pub record IsTypedSelect (p : Settings) (tables : Tables) (s : SelectTree) (t : 
 -- ---- unions
 
 -- what is known of a first select alone
-pub record IsFirst (first : SelectTyped) (u : Union) : Type 0 where
+pub record IsFirst (first : SelectTold) (u : Union) : Type 0 where
   pub names_are : u.names ≡ first.names
   pub shared_are : u.shared.items ≡ map Some first.kinds
   pub same : u.same_names ≡ true
@@ -69,7 +69,7 @@ pub record IsUnion (p : Settings) (tables : Tables) (first : SelectTree) (rest :
 -- ---- queries
 
 -- as many kinds as names
-pub record IsTypedQuery (p : Settings) (tables : Tables) (q : QueryTree) (t : QueryTyped) : Type 0 where
+pub record IsQueryTold (p : Settings) (tables : Tables) (q : QueryTree) (t : QueryTold) : Type 0 where
   pub names_are : t.names ≡ query_names q
   pub kinds_are : t.kinds ≡ map or_null (shared_kinds tables q)
   pub as_many : length t.kinds ≡ length t.names

@@ -1,0 +1,5 @@
+pub mod Both
+pub mod Fits
+pub mod Selects
+pub mod Statements
+pub mod Operators
