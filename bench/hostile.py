@@ -1,0 +1,327 @@
+#!/usr/bin/env python3
+"""Inputs that were chosen to be slow, or that are so by bad luck, each beside a plain one of the same size.
+
+hostile.py list            prints a line for each case: its name, its plain counterpart, how many rows it has, and the
+                           program that reads it
+hostile.py CASE FOLDER N   writes the case with N rows (names, codes, tables) into a folder that is made: script.vtl,
+                           structures.csv, in/ and out/ for `vtl run`, or script.sql for `vtl_probe sql`
+
+Hashes of the standard library have a fixed seed, so that texts of one hash can be worked out: they have 16 bytes after
+which the state is known, the eight bytes of this state, by which it is multiplied with nothing, and then any eight bytes.
+"""
+import hashlib
+import itertools
+import math
+import os
+import random
+import sys
+
+# ---- the standard library's hash
+
+MULTIPLIER = 0x9E3779B97F4A7C15
+SEED = 0x243F6A8885A308D3
+WORD = (1 << 64) - 1
+LETTERS = b'ABCDEFGHIJKLMNOPQRSTUVWXYZabcdefghijklmnopqrstuvwxyz0123456789_.'
+
+
+def folded(a, b):
+    product = a * b
+    return (product & WORD) ^ (product >> 64)
+
+
+def word_at(data, at):
+    return int.from_bytes(data[at:at + 8], 'little')
+
+
+def fed_number(state, number):
+    """The state after a number of eight bytes."""
+    return folded(state ^ number, MULTIPLIER ^ 16)
+
+
+def front_of_one_hash(state, blocks):
+    """A front of 16 bytes a block and of eight more; texts that begin with it and end in any eight bytes have one hash."""
+    length = 16 * blocks + 16
+    chance = random.Random(1)
+    while True:
+        front = b'N' + bytes(chance.choices(LETTERS, k=16 * blocks - 1))
+        reached = (state + length) & WORD
+        for at in range(0, 16 * blocks, 16):
+            reached = folded(word_at(front, at) ^ reached, word_at(front, at + 8) ^ MULTIPLIER)
+        last = reached.to_bytes(8, 'little')
+        if all(byte in LETTERS for byte in last):
+            return front + last
+
+
+def of_one_hash(state, blocks, count):
+    front = front_of_one_hash(state, blocks)
+    for _, end in zip(range(count), itertools.product(LETTERS, repeat=8)):
+        yield front + bytes(end)
+
+
+# What was fed before a text: nothing for a name; the number of its kind for the cell of a row; the number of cells before
+# that for a key that is fed as a list.
+NAME = SEED
+ROW = fed_number(SEED, 4)
+KEY = fed_number(fed_number(SEED, 1), 4)
+
+
+def shuffled(texts):
+    texts = list(texts)
+    random.Random(2).shuffle(texts)
+    return texts
+
+
+# ---- files
+
+def write(path, chunks):
+    with open(path, 'wb') as file:
+        for chunk in chunks:
+            file.write(chunk)
+
+
+def run_folder(folder, script, structures):
+    os.makedirs(f'{folder}/in')
+    os.makedirs(f'{folder}/out')
+    write(f'{folder}/script.vtl', [script.encode()])
+    write(f'{folder}/structures.csv', itertools.chain([b'dataset,component,role,type,codes\n'], structures))
+
+
+def data_sets(folder, script, components, **rows):
+    structures = [f'{name},{component},\n'.encode() for name in rows for component in components]
+    run_folder(folder, script, structures)
+    header = ','.join(component.split(',')[0] for component in components)
+    for name, lines in rows.items():
+        write(f'{folder}/in/{name}.csv', itertools.chain([header.encode() + b'\n'], (line + b'\n' for line in lines)))
+
+
+TEXT_KEY = 'Id_1,identifier,string'
+INTEGER_KEY = 'Id_1,identifier,integer'
+INTEGER = 'Me_1,measure,integer'
+TEXT = 'Me_1,measure,string'
+COPY = 'DS_r <- DS_1;\n'
+CHAIN = 200
+
+
+def mixed(count):
+    """The numbers below a count in a mixed order."""
+    step = 700001
+    while math.gcd(step, count) != 1:
+        step += 2
+    return ((i * step) % count for i in range(count))
+
+
+def plain_text(i):
+    return b'k%011d' % i
+
+
+def long_text(i):
+    """As long as a text of one hash of two blocks."""
+    return hashlib.md5(b'%d' % i).hexdigest().encode() + b'%016d' % i
+
+
+# ---- structures files and SQL texts
+
+def names(folder, count, texts):
+    run_folder(folder, '\n', (text + b',i,identifier,date,\n' for text in texts))
+
+
+def chosen_names(folder, count):
+    names(folder, count, of_one_hash(NAME, 1, count))
+
+
+def plain_names(folder, count):
+    names(folder, count, (b'N%031d' % i for i in range(count)))
+
+
+def codes(folder, texts):
+    run_folder(folder, '\n', itertools.chain([b'D,i,identifier,string,'], [b'|'.join(texts)], [b'\n']))
+
+
+def chosen_codes(folder, count):
+    codes(folder, of_one_hash(NAME, 1, count))
+
+
+def plain_codes(folder, count):
+    codes(folder, (b'C%031d' % i for i in range(count)))
+
+
+def tables(folder, texts):
+    os.makedirs(folder)
+    inputs = (b'INPUT "' + text + b'" ("a" INTEGER) KEY ("a");\n' for text in texts)
+    write(f'{folder}/script.sql', itertools.chain([b'SET SCALE 6 ROUNDING HALF_UP;\n'], inputs))
+
+
+def chosen_tables(folder, count):
+    tables(folder, of_one_hash(NAME, 1, count))
+
+
+def plain_tables(folder, count):
+    tables(folder, (b'N%031d' % i for i in range(count)))
+
+
+# ---- data sets
+
+def members(folder, count, literals):
+    words = (''.join(word) for word in itertools.product('abcdefghijklmnopqrstuvwxyz', repeat=3))
+    listed = ','.join('"%s"' % word for word in itertools.islice(words, literals))
+    rows = (b'%d,x%02d' % (i, i % 100) for i in mixed(count))
+    data_sets(folder, 'DS_r <- DS_1[filter Me_1 in {%s}];\n' % listed, [INTEGER_KEY, TEXT], DS_1=rows)
+
+
+def one_member(folder, count):
+    members(folder, count, 1)
+
+
+def many_members(folder, count):
+    members(folder, count, 250)
+
+
+def most_members(folder, count):
+    members(folder, count, 10000)
+
+
+def copied(folder, texts):
+    data_sets(folder, COPY, [TEXT_KEY, INTEGER], DS_1=(text + b',1' for text in texts))
+
+
+def plain_rows(folder, count):
+    copied(folder, (long_text(i) for i in mixed(count)))
+
+
+def chosen_rows(folder, count):
+    copied(folder, shuffled(of_one_hash(ROW, 2, count)))
+
+
+def one_front(folder, count):
+    copied(folder, (b'urn:sdmx:org.sdmx.infomodel.codelist.Code=%08d' % i for i in mixed(count)))
+
+
+def two_keys(folder, rows):
+    data_sets(folder, COPY, [TEXT_KEY, 'Id_2,identifier,integer', INTEGER], DS_1=rows)
+
+
+def ties(folder, count):
+    """Sixteen digits fill the word that a sort begins from; ten rows tie in it."""
+    two_keys(folder, (hashlib.md5(b'%d' % (i // 10)).hexdigest()[:20].encode() + b',%d,1' % (i % 10) for i in mixed(count)))
+
+
+def plain_pairs_of_keys(folder, count):
+    two_keys(folder, (b'station-%09d,%d,1' % (i // 10, i % 10) for i in mixed(count)))
+
+
+def outliers(folder, count):
+    """One unknown, written 999999999999, in each of two integer identifiers."""
+    rows = [b'%d,%d,1' % (i // 1000, i % 1000) for i in mixed(count - 1)]
+    rows.append(b'999999999999,999999999999,1')
+    data_sets(folder, COPY, [INTEGER_KEY, 'Id_2,identifier,integer', INTEGER], DS_1=rows)
+
+
+def no_outliers(folder, count):
+    rows = (b'%d,%d,1' % (i // 1000, i % 1000) for i in mixed(count))
+    data_sets(folder, COPY, [INTEGER_KEY, 'Id_2,identifier,integer', INTEGER], DS_1=rows)
+
+
+def paired(folder, texts):
+    texts = shuffled(texts)
+    rows = [text + b',1' for text in texts]
+    data_sets(folder, 'DS_r <- DS_1 + DS_2;\n', [TEXT_KEY, INTEGER], DS_1=rows, DS_2=rows)
+
+
+def chosen_keys(folder, count):
+    paired(folder, of_one_hash(KEY, 2, count))
+
+
+def keys_as_rows(folder, count):
+    paired(folder, of_one_hash(ROW, 2, count))
+
+
+def plain_keys(folder, count):
+    paired(folder, (long_text(i) for i in range(count)))
+
+
+def many_identifiers(folder, count, width):
+    components = ['I%d,identifier,integer' % i for i in range(width)] + [INTEGER]
+    rows = [b','.join(b'%d' % (i // 10 ** (j % 7) % 10) for j in range(width)) + b',1' for i in mixed(count)]
+    data_sets(folder, 'DS_r <- DS_1 + DS_2;\n', components, DS_1=rows, DS_2=rows)
+
+
+def wide_keys(folder, count):
+    many_identifiers(folder, count, 32)
+
+
+def narrow_keys(folder, count):
+    """As many cells as in the wide keys: their rows are fewer."""
+    many_identifiers(folder, count * 33 // 9, 8)
+
+
+def chain(folder, count, assigned):
+    steps = ''.join(f'r{i} {assigned if i < CHAIN else "<-"} r{i - 1} + 1;\n' for i in range(1, CHAIN + 1))
+    data_sets(folder, 'r0 := DS_1;\n' + steps, [INTEGER_KEY, INTEGER], DS_1=(b'%d,1' % i for i in mixed(count)))
+
+
+def kept_results(folder, count):
+    chain(folder, count, '<-')
+
+
+def passing_results(folder, count):
+    chain(folder, count, ':=')
+
+
+def clause(folder, count, text):
+    script = 'DS_r <- DS_1[%s];\n' % text
+    data_sets(folder, script, [TEXT_KEY, INTEGER], DS_1=(plain_text(i) + b',1' for i in mixed(count)))
+
+
+def renamed(folder, count):
+    clause(folder, count, 'rename Me_1 to x')
+
+
+def short_rows(folder, count):
+    copied(folder, (plain_text(i) for i in mixed(count)))
+
+
+def parts_of_texts(folder, count):
+    clause(folder, count, 'calc x := substr(Id_1, 1, 3)')
+
+
+def changed_texts(folder, count):
+    clause(folder, count, 'calc x := replace(trim(Id_1), "0", "00")')
+
+
+def lengths_of_texts(folder, count):
+    clause(folder, count, 'calc x := length(Id_1)')
+
+
+# the case, its plain counterpart, how many rows, and what reads it
+CASES = [
+    (chosen_names, plain_names, 20164, 'vtl'),
+    (chosen_codes, plain_codes, 31773, 'vtl'),
+    (chosen_tables, plain_tables, 100000, 'vtl_probe'),
+    (many_members, one_member, 1000000, 'vtl'),
+    (most_members, one_member, 1000000, 'vtl'),
+    (chosen_rows, plain_rows, 500000, 'vtl'),
+    (one_front, plain_rows, 500000, 'vtl'),
+    (ties, plain_pairs_of_keys, 1000000, 'vtl'),
+    (outliers, no_outliers, 1000000, 'vtl'),
+    (chosen_keys, plain_keys, 500000, 'vtl'),
+    (keys_as_rows, plain_keys, 500000, 'vtl'),
+    (wide_keys, narrow_keys, 200000, 'vtl'),
+    (kept_results, passing_results, 50000, 'vtl'),
+    (renamed, short_rows, 1000000, 'vtl'),
+    (parts_of_texts, lengths_of_texts, 1000000, 'vtl'),
+    (changed_texts, lengths_of_texts, 1000000, 'vtl'),
+]
+
+
+def main(words):
+    if words == ['list']:
+        for case, plain, count, reader in CASES:
+            print(case.__name__, plain.__name__, count, reader)
+        return
+    known = {function.__name__: function for row in CASES for function in row[:2]}
+    if len(words) != 3 or words[0] not in known:
+        sys.exit(__doc__)
+    known[words[0]](words[1], int(words[2]))
+
+
+main(sys.argv[1:])
