@@ -28,5 +28,5 @@ pub use operator::{AggKind, ScalarOp};
 pub use reading::read_cell;
 pub use row::{is_same_key, is_same_row};
 pub use vtl_decimal::{Profile, Rounding};
-pub use vtl_text::{List, Shared, Txt, are_distinct, is_component_name, is_word};
+pub use vtl_text::{ByName, List, Shared, Txt, are_distinct, is_component_name, is_word};
 pub use writing::write_cell;

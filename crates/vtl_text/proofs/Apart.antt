@@ -1,11 +1,10 @@
 -- A text is put behind texts that are apart, or it is one of them.
-use Rattle.std.proofs.Common.{◌≡◌, ℕ, zero, suc, ◌<◌, ◌+◌, Bool, true, false, not, ◌&&◌, ◌||◌, List, [], ◌∷◌, ◌++◌, length, get_or, take, refl, sym, ap, ◌∙◌, arith, if◌then◌else◌}
+use Rattle.std.proofs.Common.{◌≡◌, ℕ, zero, suc, ◌<◌, ◌+◌, Bool, true, false, not, ◌&&◌, ◌||◌, List, [], ◌∷◌, ◌++◌, length, get_or, take, refl, sym, ap, ◌∙◌, arith}
 use Rattle.std.specs.List.{list_any}
 use Rattle.std.proofs.lemmas.Bool.{and_parts, and_from}
 use Rattle.std.proofs.lemmas.List.Folds.{list_any-append}
 use Rattle.std.proofs.lemmas.List.{take_more}
 use Rattle.std.specs.Cmp.Lexicographic.{nat_list_eq_equiv}
-use Rattle.indexmap.specs.IndexSet.{insert_key}
 use Rattle.vtl_lists.specs.Apart.{all_apart}
 use Rattle.vtl_text.specs.Texts.{same_text}
 
@@ -55,7 +54,6 @@ repeated (y ∷ ys) (suc i) x h e t = go (same_text x y) refl t (repeated ys i x
 
 -- one more text, which does not stand before
 pub one_more : (xs seen : List (List ℕ)) (i : ℕ) (x : List ℕ) → i < length xs → x ≡ get_or xs i x → seen ≡ take i xs → all_apart same_text seen ≡ true → list_any (same_text x) seen ≡ false
-    → (insert_key same_text seen x ≡ take (i + 1) xs) × (all_apart same_text (insert_key same_text seen x) ≡ true)
+    → (seen ++ x ∷ [] ≡ take (i + 1) xs) × (all_apart same_text (seen ++ x ∷ []) ≡ true)
 one_more xs seen i x h e s a t =
-    let grown : insert_key same_text seen x ≡ seen ++ x ∷ [] = ap (λ b. if b then seen else seen ++ x ∷ []) t in
-    (grown ∙ ap (λ l. l ++ x ∷ []) s ∙ ap (λ y. take i xs ++ y ∷ []) e ∙ sym (take_more xs i x h), ap (all_apart same_text) grown ∙ apart_push seen x a t)
+    (ap (λ l. l ++ x ∷ []) s ∙ ap (λ y. take i xs ++ y ∷ []) e ∙ sym (take_more xs i x h), apart_push seen x a t)

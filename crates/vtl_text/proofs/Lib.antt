@@ -1,5 +1,6 @@
 pub mod Apart
 pub mod ByteOrder
+pub mod NamedItems
 pub mod Occurrences
 pub mod Parts
 pub mod Places
