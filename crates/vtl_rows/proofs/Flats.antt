@@ -1,6 +1,6 @@
 -- Rows in a flat list of cells.
-use Rattle.std.proofs.Common.{◌≡◌, ℕ, zero, suc, ◌+◌, ◌*◌, ◌<◌, ◌≤◌, List, [], ◌∷◌, ◌++◌, Bool, true, false, ◌&&◌, length, length-append, get_or, take, drop, arith, refl, sym, ap, subst, ◌∙◌, true≢false}
-use Rattle.std.proofs.lemmas.List.Elements.{All-push, All-weaker}
+use Rattle.std.proofs.Common.{◌≡◌, ℕ, zero, suc, ◌+◌, ◌*◌, ◌^◌, ◌<◌, ◌≤◌, List, [], ◌∷◌, ◌++◌, Bool, true, false, ◌&&◌, length, length-append, get_or, take, drop, arith, refl, sym, ap, subst, ◌∙◌, true≢false}
+use Rattle.std.proofs.lemmas.List.Elements.{All-append, All-push, All-weaker}
 use Rattle.std.proofs.lemmas.List.{length-map, take-append-le, drop-append-le, take_all, length-take-le, length-drop, drop-drop}
 use Rattle.std.proofs.lemmas.Nat.{mul-le}
 use Rattle.std.proofs.Math.Nat.{le_refl}
@@ -8,8 +8,10 @@ use Rattle.vtl_cell.specs.declared.cell.Cell.{Cell}
 use Rattle.vtl_cell.specs.Kinds.{is_of}
 use Rattle.vtl_cell.specs.declared.kind.Kind.{Kind}
 use Rattle.vtl_cell.specs.Row.{Row}
+use Rattle.vtl_rows.specs.declared.cells.Cells.{Cells}
+use Rattle.vtl_rows.specs.declared.cells.Cells.TheVariants as c
 use Rattle.vtl_rows.specs.declared.column.Column.{Column}
-use Rattle.vtl_rows.specs.Flat.{flat_rows, IsFlat}
+use Rattle.vtl_rows.specs.Flat.{cells_of, flat_rows, IsFlat}
 use Rattle.vtl_rows.specs.Tables.{AllFit, fits, fits_kinds, column_kinds}
 
 pub length-flat_rows : (width n : ℕ) (cells : List Cell) → length (flat_rows width n cells) ≡ n
@@ -36,6 +38,18 @@ flat_rows-push width (suc n) cells row e h = let m = one_more width n cells e in
     ∙ ap (λ r. r ∷ flat_rows width (n + 1) (drop width (cells ++ row))) (take-append-le width cells row m.0)
     ∙ ap (λ l. take width cells ∷ flat_rows width (n + 1) l) (drop-append-le width cells row m.0)
     ∙ ap (λ l. take width cells ∷ l) (flat_rows-push width n (drop width cells) row m.1 h)
+
+pub flat_rows-append : (width n m : ℕ) (cells more : List Cell) → length cells ≡ n * width → flat_rows width (n + m) (cells ++ more) ≡ flat_rows width n cells ++ flat_rows width m more
+flat_rows-append width zero m cells more e =
+    let z : 0 + m ≡ m = omega arith in
+    let s = none_left cells (omega (arith, e)) in
+    ap (λ k. flat_rows width k (cells ++ more)) z ∙ ap (λ l. flat_rows width m (l ++ more)) s
+flat_rows-append width (suc n) m cells more e = let h = one_more width n cells e in
+    let next : suc n + m ≡ suc (n + m) = omega arith in
+    ap (λ k. flat_rows width k (cells ++ more)) next
+    ∙ ap (λ r. r ∷ flat_rows width (n + m) (drop width (cells ++ more))) (take-append-le width cells more h.0)
+    ∙ ap (λ l. take width cells ∷ flat_rows width (n + m) l) (drop-append-le width cells more h.0)
+    ∙ ap (λ l. take width cells ∷ l) (flat_rows-append width n m (drop width cells) more h.1)
 
 pub get_or-flat_rows : (width n i : ℕ) (cells : List Cell) (d : Row) → i < n → get_or (flat_rows width n cells) i d ≡ take width (drop (i * width) cells)
 get_or-flat_rows width zero i cells d h = absurd (omega arith)
@@ -84,6 +98,24 @@ IsFlat-kinds columns other n cells flat e =
           (All-weaker (λ r. fits columns r ≡ true) (λ r. fits other r ≡ true) (λ r h. ap (λ kinds. fits_kinds kinds r) e ∙ h) (flat_rows (length columns) n cells) flat.fit);
     }
 
+-- the rows of another table of the same kinds behind them
+module _ (columns other : List Column) (n m : ℕ) (cells more : List Cell) (flat : IsFlat columns n cells) (behind : IsFlat other m more) (e : column_kinds other ≡ column_kinds columns) where
+  pub IsFlat-append : IsFlat columns (n + m) (cells ++ more)
+  IsFlat-append =
+      let there = IsFlat-kinds other columns m more behind (sym e) in
+      let l = length-append cells more in
+      record {
+        wide = flat.wide;
+        whole = omega (arith, l, flat.whole, there.whole);
+        fit = subst (AllFit columns) (sym (flat_rows-append (length columns) n m cells more flat.whole))
+            (All-append (λ r. fits columns r ≡ true) (flat_rows (length columns) n cells) (flat_rows (length columns) m more) flat.fit there.fit);
+      }
+
+  pub rows_append : flat_rows (length columns) (n + m) (cells ++ more) ≡ flat_rows (length columns) n cells ++ flat_rows (length other) m more
+  rows_append =
+      flat_rows-append (length columns) n m cells more flat.whole
+      ∙ ap (λ w. flat_rows (length columns) n cells ++ flat_rows w m more) (sym (as_many_kinds columns other e))
+
 -- a row's place among the cells of a table's rows
 module _ (columns : List Column) (n : ℕ) (cells : List Cell) (rows : List Row) (width : ℕ) (flat : IsFlat columns n cells) (seen : flat_rows (length columns) n cells ≡ rows) (wide : width ≡ length columns) where
   in_count : (i : ℕ) → i < length rows → i < n
@@ -97,6 +129,11 @@ module _ (columns : List Column) (n : ℕ) (cells : List Cell) (rows : List Row)
 
   pub row_wide : (i : ℕ) → i < length rows → length (take width (drop (i * width) cells)) ≡ width
   row_wide i h = let w = row_within i h in let l = length-drop (i * width) cells in length-take-le width (drop (i * width) cells) (omega (arith, w, l))
+
+-- as many cells as fit into memory
+pub cells_few : (held : Cells) → length (cells_of held) < 2 ^ 63
+cells_few (c.Own cells) = omega (arith, cells.ok, cells.small)
+cells_few (c.Shared shared) = omega (arith, shared.value.ok, shared.value.small)
 
 -- as many rows as cells at most
 pub rows_few : (columns : List Column) (n : ℕ) (cells : List Cell) → IsFlat columns n cells → n ≤ length cells

@@ -8,6 +8,7 @@
 #![tactic(auto)]
 
 mod alphabets;
+mod cells;
 mod column;
 mod distinct;
 mod guess;

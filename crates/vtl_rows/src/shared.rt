@@ -1,20 +1,20 @@
 // Tables with several owners.
 ghost use Rattle.std.specs.Prelude.{◌≡◌, IfOk};
+ghost use Rattle.vtl_rows.specs.Tables.{column_kinds};
 
-use crate::Table;
+use crate::{Column, Table};
 use std::alloc::{AllocError, Global};
 use std::marker::Model;
-use std::rc::Rc;
 
-/// A table that may have several owners. A contract sees the table.
+/// A table whose rows may have several owners, each with columns of its own. A contract sees the table.
 pub struct SharedTable {
-    shared: Rc<Table, Global>,
+    table: Table,
 }
 
 // Written out, so that a proof above sees one call and not the drop of each part.
 impl Drop for SharedTable {
     fn drop(self) {
-        let SharedTable { shared: _shared } = self;
+        let SharedTable { table: _table } = self;
     }
 }
 
@@ -23,7 +23,7 @@ impl Model for SharedTable {
 
     ghost Value = { Listed };
 
-    ghost view = { λ t. t.shared.value };
+    ghost view = { λ t. t.table };
 }
 
 impl SharedTable {
@@ -31,33 +31,44 @@ impl SharedTable {
     pub fn of(alloc: Global, table: Table) -> Result<SharedTable, AllocError>
         ensures { IfOk result (λ t. t ≡ table) }
     {
-        let shared = Rc::new(alloc, table)?;
-        Ok(SharedTable { shared })
+        Ok(SharedTable {
+            table: table.into_shared(alloc)?,
+        })
     }
 
-    /// One more owner of the table. It fails only if memory runs out.
+    /// One more owner of the rows. It fails only if memory runs out.
     pub fn share(&self) -> Result<SharedTable, AllocError>
         ensures { IfOk result (λ t. t ≡ self.now) }
     {
-        let shared = self.shared.clone()?;
-        Ok(SharedTable { shared })
+        Ok(SharedTable {
+            table: self.table.share()?,
+        })
     }
 
     /// The table.
     pub fn table(&self) -> &Table
         ensures { result.now ≡ self.now }
     {
-        Rc::as_ref(&self.shared)
+        &self.table
     }
 
-    /// The table itself: it is copied where it has other owners. It fails only if memory runs out.
+    /// The table itself: its rows are copied where they have other owners. It fails only if memory runs out.
     pub fn into_table(self, alloc: Global) -> Result<Table, AllocError>
         ensures { IfOk result (λ t. t ≡ self) }
     {
-        let SharedTable { shared } = self;
-        match Rc::try_unwrap(shared) {
-            Ok(table) => Ok(table),
-            Err(shared) => shared.copy(alloc),
+        let SharedTable { table } = self;
+        table.into_own(alloc)
+    }
+
+    /// The same rows below other columns, of the same kinds as before: no cell is copied. It takes no memory.
+    pub fn with_columns(self, columns: Vec<Column>) -> SharedTable
+        requires { column_kinds columns.items ≡ column_kinds self.columns }
+        ensures columns { result.columns ≡ columns.items }
+        ensures rows { result.rows ≡ self.rows }
+    {
+        let SharedTable { table } = self;
+        SharedTable {
+            table: table.with_columns(columns),
         }
     }
 }
