@@ -14,8 +14,11 @@ const SLOTS_FOR_A_ROW: usize = 2;
 // This many slots follow those at which a row is first looked for.
 const MORE_SLOTS: usize = 256;
 
-// No more than this many slots are looked at for each row on average: with more, the cost would depend on luck.
-const MAX_STEPS: usize = 8;
+// No more than this many slots are looked at for each row on average, nor than these for one row: with more, the cost
+// would depend on luck. Rows whose hashes were not chosen need one or two on average, and never as many.
+const MAX_STEPS: usize = 4;
+
+const MAX_STEPS_FOR_A_ROW: usize = 128;
 
 // A row, and a part of its hash. The number of a row that was not seen stands for none.
 #[derive(Clone, Copy)]
@@ -74,7 +77,8 @@ impl Seen {
         ensures { Tells keys.now table.now.rows i self.new.mask self.new.slots.items result }
     {
         let probe = probe_of(row_or_none(table, i), keys, self.mask, i);
-        let end = probe.start.saturating_add(self.left).min(self.slots.len());
+        let steps = self.left.min(MAX_STEPS_FOR_A_ROW);
+        let end = probe.start.saturating_add(steps).min(self.slots.len());
         match seek(&self.slots, probe, end, table, keys) {
             Place::Same => Meeting::Repeat,
             Place::Unknown => Meeting::Unknown,
