@@ -1,4 +1,9 @@
 pub mod Adding
+pub mod Counts
 pub mod Finding
+pub mod Grouping
+pub mod KeyGroups
 pub mod Putting
+pub mod Ranges
 pub mod Slots
+pub mod Standing

@@ -1,7 +1,10 @@
 pub mod Buckets
 pub mod Entries
+pub mod Groups
 pub mod Index
 pub mod Keys
+pub mod Leads
 pub mod Lookup
+pub mod Members
 pub mod Numbers
 pub mod Places

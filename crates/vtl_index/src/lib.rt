@@ -5,16 +5,26 @@
 //! other: a caller that must not match nulls looks before probing. Each call counts one step, for callers that bound
 //! their work.
 //! It knows no tables: a number is whatever the caller means by it.
-//! Begin with specs/Lookup.antt, then specs/Index.antt.
+//!
+//! `Groups` holds which rows have one key, each known by its lead, the first row that has its key; `Marks` holds which
+//! rows were met.
+//! Begin with specs/Lookup.antt, then specs/Index.antt; for groups with specs/Leads.antt, then specs/Groups.antt.
 #![tactic(auto)]
 
 mod bucket;
 mod entries;
+mod groups;
 mod index;
 mod keys;
+mod laws;
+mod marks;
+mod members;
 mod places;
 mod row_numbers;
 mod steps;
 
+pub use groups::Groups;
 pub use index::{Index, rows_are_those_added};
+pub use laws::{each_once_is_a_set, groups_are_keys};
+pub use marks::Marks;
 pub use steps::Steps;
