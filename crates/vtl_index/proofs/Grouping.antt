@@ -1,11 +1,11 @@
 -- Groups by the leads of rows.
-use Rattle.std.proofs.Common.{◌≡◌, ℕ, zero, suc, ◌+◌, ◌-◌, ◌<◌, ◌≤◌, Bool, true, false, List, [], ◌∷◌, ◌++◌, length, length-append, length-drop, length-take, get_or, get_or-drop, get_or-take, map, set, take, drop, refl, sym, ap, ◌∙◌, subst, arith, inl, inr, eqb, eqb-true, eq-eqb, ne_eqb, All}
+use Rattle.std.proofs.Common.{◌≡◌, ℕ, zero, suc, ◌+◌, ◌-◌, ◌<◌, ◌≤◌, true, List, [], ◌∷◌, ◌++◌, length, length-append, length-drop, length-take, get_or, get_or-drop, get_or-take, map, set, take, drop, refl, sym, ap, ◌∙◌, subst, arith, eqb, eq-eqb, ne_eqb, All}
 use Rattle.std.specs.List.{range_with_len}
-use Rattle.std.proofs.lemmas.List.{ext_get_or, get_or-append_right, get_or-map, get_or_default, get_or_append_left, length-map, length_push, length-take-le, drop_more}
+use Rattle.std.proofs.lemmas.List.{ext_get_or, get_or-append_right, get_or-map, get_or_default, get_or_append_left, length-map, length_push, length-take-le}
 use Rattle.std.proofs.lemmas.List.Edits.{map_over_more}
 use Rattle.std.proofs.lemmas.List.FromFn.{get_or-range_with_len, length-range_with_len}
 use Rattle.vtl_index.proofs.Counts.{begin_few, begin_rises, begin_zero}
-use Rattle.vtl_index.proofs.Ranges.{all_pass, few_pass, more_passing, none_pass, one_passes, passing, passing_agree, passing_at, passing_is, same_passing, same_tests}
+use Rattle.vtl_index.proofs.Ranges.{all_pass, more_passing, none_pass, one_passes, passing, passing_agree, passing_at, passing_is, same_passing, same_tests}
 use Rattle.vtl_index.specs.Groups.{AreLeads, firsts, is_first, rows_led}
 use Rattle.vtl_index.specs.Members.{AreApart, IsGrouped, StandByGroup, begin_of, led_by, number_of, start_in}
 use Rattle.vtl_index.specs.declared.members.Members.{Members}
