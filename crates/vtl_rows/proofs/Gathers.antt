@@ -82,7 +82,7 @@ all_chosen places [] = tt
 all_chosen places (r ∷ rows) = (cells_count r places, all_chosen places rows)
 
 -- a cell of a row that fits is null or of its column's kind, also past the last
-cell_fits : (columns : List Column) (r : Row) → fits columns r ≡ true → (i : ℕ) → is_of (column_at columns i).kind (column_of i r) ≡ true
+pub cell_fits : (columns : List Column) (r : Row) → fits columns r ≡ true → (i : ℕ) → is_of (column_at columns i).kind (column_of i r) ≡ true
 cell_fits [] [] e i = refl
 cell_fits [] (x ∷ xs) e i = absurd (true≢false (sym e))
 cell_fits (c ∷ cs) [] e i = absurd (true≢false (sym e))

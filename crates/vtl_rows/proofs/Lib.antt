@@ -1,6 +1,7 @@
 pub mod AllColumns
 pub mod Firsts
 pub mod Flats
+pub mod Gathered
 pub mod Gathers
 pub mod InOrder
 pub mod Least
@@ -8,4 +9,5 @@ pub mod NamedLemmas
 pub mod Placed
 pub mod SeenRows
 pub mod Stable
+pub mod Starts
 pub mod Ties

@@ -71,7 +71,7 @@ fn append_chosen(cells: &mut Vec<Cell>, row: &[Cell], places: &[usize]) -> Resul
 }
 
 // A cell equal to the one at a place, or null after the last one.
-fn copy_at(row: &[Cell], place: usize) -> Result<Cell, AllocError>
+pub(crate) fn copy_at(row: &[Cell], place: usize) -> Result<Cell, AllocError>
     ensures { IfOk result (λ copy. copy ≡ column_of place row.now) }
 {
     match row.get(place) {
