@@ -1,10 +1,10 @@
 -- Rows that are put together, in a flat list of cells.
-use Rattle.std.proofs.Common.{◌≡◌, ℕ, zero, suc, ◌+◌, ◌*◌, ◌/◌, ◌<◌, ◌≤◌, List, [], ◌∷◌, ◌++◌, inl, inr, map, true, length, length-append, get_or, take, drop, arith, refl, sym, ap, ◌∙◌, subst, All}
+use Rattle.std.proofs.Common.{◌≡◌, ℕ, zero, suc, ◌+◌, ◌*◌, ◌/◌, ◌<◌, ◌≤◌, List, [], ◌∷◌, ◌++◌, inl, inr, map, true, length, length-append, get_or, take, drop, arith, refl, sym, ap, ◌∙◌, subst, All, append_assoc}
 use Rattle.std.specs.List.{AllByRecursion, flat_map}
 use Rattle.std.specs.Simd.{first_chunks}
 use Rattle.std.proofs.Math.Nat.{add-div_left, div-eq_of_lt, mul-div_cancel}
 use Rattle.std.proofs.lemmas.Bool.{cases_lt}
-use Rattle.std.proofs.lemmas.List.{drop-append-le, drop_at, get_or_past, length-drop, length-map, take-append-le, take_all, take_at}
+use Rattle.std.proofs.lemmas.List.{append-nil, drop-append-le, drop_at, get_or_past, length-drop, length-map, take-append-le, take_all, take_at}
 use Rattle.std.proofs.lemmas.List.Elements.{All-map, All-weaker, recursion_from_All}
 use Rattle.vtl_cell.specs.declared.cell.Cell.{Cell}
 use Rattle.vtl_cell.specs.declared.cell.Cell.TheVariants as c
@@ -77,6 +77,16 @@ pieces-push w n xs x some e h =
     let all : length (xs ++ x) / w ≡ suc n = ap (λ k. k / w) (length-append xs x ∙ ap (λ k. length xs + k) h ∙ more) ∙ mul-div_cancel (suc n) some in
     let before : n ≡ length xs / w = sym (ap (λ k. k / w) e ∙ mul-div_cancel n some) in
     ap (λ k. first_chunks w k (xs ++ x)) all ∙ chunks-push w n xs x e h ∙ ap (λ k. first_chunks w k xs ++ x ∷ []) before
+
+-- ---- a row for each piece
+module _ {X : Type 0} (f : List X → Row) (w : ℕ) (all : List Cell) (cells : List Cell) (xs : List X) (sofar : cells ++ flat_map f (pieces w xs) ≡ all) where
+  pub next_piece : (more : List Cell) (x rest : List X) → 0 < w → xs ≡ x ++ rest → length x ≡ w → more ≡ cells ++ f x → more ++ flat_map f (pieces w rest) ≡ all
+  next_piece more x rest some e h put =
+      ap (λ l. l ++ flat_map f (pieces w rest)) put ∙ append_assoc cells (f x) (flat_map f (pieces w rest))
+      ∙ ap (λ ps. cells ++ flat_map f ps) (sym (ap (pieces w) e ∙ pieces-next w x rest some h)) ∙ sofar
+
+  pub no_piece : length xs < w → cells ≡ all
+  no_piece h = sym (append-nil cells) ∙ ap (λ ps. cells ++ flat_map f ps) (sym (pieces-none w xs h)) ∙ sofar
 
 -- ---- cells that are picked from parts
 null_is_of : (kind : Kind) → is_of kind c.Null ≡ true
