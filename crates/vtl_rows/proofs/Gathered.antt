@@ -15,7 +15,7 @@ use Rattle.vtl_cell.specs.Row.{Row, column_of}
 use Rattle.vtl_rows.specs.declared.column.Column.{Column}
 use Rattle.vtl_rows.specs.declared.gather.Pick.{Pick}
 use Rattle.vtl_rows.specs.Flat.{flat_rows, IsFlat}
-use Rattle.vtl_rows.specs.Gathered.{part_at, picked, picked_cell, picked_kind, pieces}
+use Rattle.vtl_rows.specs.Gathered.{part_at, picked, picked_kind, pieces}
 use Rattle.vtl_rows.specs.Places.{row_at}
 use Rattle.vtl_rows.specs.Tables.{AllFit, Listed, column_at, column_kinds, fits, fits_kinds}
 use Rattle.vtl_rows.proofs.Flats.{fits_wide}
