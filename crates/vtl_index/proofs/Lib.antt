@@ -2,8 +2,13 @@ pub mod Adding
 pub mod Counts
 pub mod Finding
 pub mod Grouping
+pub mod KeyForms
 pub mod KeyGroups
+pub mod KeyOrder
+pub mod LeadLemmas
+pub mod Probes
 pub mod Putting
 pub mod Ranges
+pub mod RowSlotLemmas
 pub mod Slots
 pub mod Standing

@@ -1,5 +1,8 @@
 pub mod Buckets
+pub mod Counted
 pub mod Entries
+pub mod Finders
+pub mod FirstRows
 pub mod Groups
 pub mod Index
 pub mod Keys
@@ -8,3 +11,6 @@ pub mod Lookup
 pub mod Members
 pub mod Numbers
 pub mod Places
+pub mod RowIndex
+pub mod RowKeys
+pub mod RowSlots

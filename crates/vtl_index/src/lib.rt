@@ -4,15 +4,19 @@
 //! By hash first and by order where a bucket is full, so no choice of keys makes it slow. Null is a key like any
 //! other: a caller that must not match nulls looks before probing. Each call counts one step, for callers that bound
 //! their work.
-//! It knows no tables: a number is whatever the caller means by it.
+//! `Index` knows no tables: a number is whatever the caller means by it.
 //!
 //! `Groups` holds which rows have one key, each known by its lead, the first row that has its key; `Marks` holds which
-//! rows were met.
-//! Begin with specs/Lookup.antt, then specs/Index.antt; for groups with specs/Leads.antt, then specs/Groups.antt.
+//! rows were met. `RowIndex` finds the rows of a table by the cells of listed columns, and keeps no cells. Leads are
+//! found by hash, and by a sort where cells were chosen to have like hashes, so no choice of cells makes them slow.
+//! Begin with specs/Lookup.antt, then specs/Index.antt; for groups with specs/Leads.antt, then specs/Groups.antt; for
+//! keys of tables with specs/RowKeys.antt, then specs/RowIndex.antt.
 #![tactic(auto)]
 
 mod bucket;
+mod by_columns;
 mod entries;
+mod finder;
 mod groups;
 mod index;
 mod keys;
@@ -20,11 +24,17 @@ mod laws;
 mod marks;
 mod members;
 mod places;
+mod row_index;
+mod row_keys;
 mod row_numbers;
+mod row_order;
+mod row_slots;
 mod steps;
 
 pub use groups::Groups;
 pub use index::{Index, rows_are_those_added};
 pub use laws::{each_once_is_a_set, groups_are_keys};
 pub use marks::Marks;
+pub use row_index::RowIndex;
+pub use row_keys::{KeyColumn, KeyForm, NullKeys};
 pub use steps::Steps;

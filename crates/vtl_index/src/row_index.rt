@@ -1,0 +1,158 @@
+// A look-up from keys to the rows of a table that have them.
+ghost use Rattle.std.specs.Prelude.{◌≡◌, ◌+◌, ◌<◌, ◌≤◌, length, nat_lt, IfOk, OnOk};
+ghost use Rattle.vtl_index.specs.RowIndex.{found_rows, is_sought};
+ghost use Rattle.vtl_index.specs.RowKeys.{key_at, key_of};
+
+use crate::finder::{Finder, Led, led_of};
+use crate::row_keys::{KeyColumn, KeyedRows, NullKeys, RowKey};
+use crate::{Groups, Steps};
+use std::alloc::{AllocError, Global};
+use std::marker::Model;
+use std::sync::ledger::Ledger;
+use vtl_cell::{Cell, Profile};
+use vtl_rows::Table;
+
+/// A look-up from keys to the rows of a table that have them. A key is made of the cells of a row at listed columns.
+/// It keeps numbers of rows and no cells. A contract sees the rows, the columns of the key, what becomes of keys that
+/// have a null, and the profile by which an integer is made a number.
+pub struct RowIndex<'t> {
+    table: &'t Table,
+    key: Vec<KeyColumn>,
+    nulls: NullKeys,
+    p: Profile,
+    finder: Finder,
+    groups: Groups,
+}
+
+// Written out, so that a proof above sees one call and not the drop of each part.
+impl<'t> Drop for RowIndex<'t> {
+    fn drop(self) {
+        let RowIndex {
+            table: _table,
+            key: _key,
+            nulls: _nulls,
+            p: _p,
+            finder: _finder,
+            groups: _groups,
+        } = self;
+    }
+}
+
+impl<'t> Model for RowIndex<'t> {
+    ghost use Rattle.std.specs.Prelude.{◌≡◌, length};
+    ghost use Rattle.vtl_rows.specs.Places.{row_at};
+    ghost use Rattle.vtl_index.specs.Finders.{IsFinder};
+    ghost use Rattle.vtl_index.specs.Leads.{leads_of};
+    ghost use Rattle.vtl_index.specs.RowIndex.{RowLookup};
+    ghost use Rattle.vtl_index.specs.RowKeys.{key_at};
+
+    ghost Value = { RowLookup };
+
+    ghost view = { λ x. record { rows = x.table.now.rows; key = x.key.items; nulls = x.nulls; p = x.p } };
+
+    ghost invariant = { λ x. (x.groups ≡ leads_of (key_at x.p x.key.items) x.table.now.rows) × IsFinder (λ i. key_at x.p x.key.items (row_at x.table.now.rows i)) (length x.table.now.rows) x.finder };
+}
+
+// Counts a step for each row.
+fn count_rows<L: Ledger>(table: &Table, steps: &mut Steps<L>)
+    ensures { steps.new ≡ steps.old + length table.now.rows }
+{
+    for _ in 0..table.len() {
+        steps.tick();
+    }
+}
+
+// Whether a key is looked for at all.
+fn is_sought(nulls: NullKeys, key: &RowKey) -> bool
+    ensures { result ≡ is_sought nulls (key_of key.now) }
+{
+    match nulls {
+        NullKeys::Found => true,
+        NullKeys::NotFound => !key.has_null(),
+    }
+}
+
+impl<'t> RowIndex<'t> {
+    /// The look-up of a table's rows by the cells of these columns. It takes one step for each row, whether it finds
+    /// them by hash or by order. It fails only if memory runs out.
+    pub fn of<L: Ledger>(
+        alloc: Global,
+        table: &'t Table,
+        key: Vec<KeyColumn>,
+        nulls: NullKeys,
+        p: &Profile,
+        steps: &mut Steps<L>,
+    ) -> Result<RowIndex<'t>, AllocError>
+        ensures value { IfOk result (λ x. x ≡ record { rows = table.now.rows; key = key.items; nulls = nulls; p = p.now }) }
+        ensures steps { OnOk result (steps.new ≡ steps.old + length table.now.rows) }
+        ensures bound { steps.new ≤ steps.old + length table.now.rows }
+    {
+        count_rows(table, steps);
+        let Led { leads, finder } = led_of(
+            alloc,
+            &KeyedRows {
+                table,
+                columns: &key,
+                p,
+            },
+        )?;
+        let groups = Groups::from_leads(alloc, leads)?;
+        Ok(RowIndex {
+            table,
+            key,
+            nulls,
+            p: *p,
+            finder,
+            groups,
+        })
+    }
+
+    /// The numbers of the rows that have the key of this row, rising. The cells of the row's key stand at these
+    /// columns there. It takes one step, and no memory.
+    pub fn probe<L: Ledger>(&self, row: &[Cell], at: &[KeyColumn], steps: &mut Steps<L>) -> &[usize]
+        ensures rows { result.now ≡ found_rows self.now (key_at self.now.p at.now row.now) }
+        ensures steps { steps.new ≡ steps.old + 1 }
+    {
+        steps.tick();
+        let key = RowKey {
+            row,
+            columns: at,
+            p: &self.p,
+        };
+        self.rows_of(&key)
+    }
+
+    // The rows of a key.
+    fn rows_of(&self, key: &RowKey) -> &[usize]
+        ensures { result.now ≡ found_rows self.now (key_of key.now) }
+    {
+        if !is_sought(self.nulls, key) {
+            return &[];
+        }
+        let keyed = KeyedRows {
+            table: self.table,
+            columns: &self.key,
+            p: &self.p,
+        };
+        match self.finder.find(&keyed, key) {
+            Some(lead) => self.groups.beside(lead),
+            None => &[],
+        }
+    }
+
+    /// Whether a row has the key of this row, whose cells stand at these columns there. It takes one step, and no
+    /// memory.
+    pub fn has<L: Ledger>(&self, row: &[Cell], at: &[KeyColumn], steps: &mut Steps<L>) -> bool
+        ensures found { result ≡ nat_lt 0 (length (found_rows self.now (key_at self.now.p at.now row.now))) }
+        ensures steps { steps.new ≡ steps.old + 1 }
+    {
+        !self.probe(row, at, steps).is_empty()
+    }
+
+    /// The table.
+    pub fn table(&self) -> &'t Table
+        ensures { result.now.rows ≡ self.now.rows }
+    {
+        self.table
+    }
+}

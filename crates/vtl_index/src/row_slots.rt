@@ -1,0 +1,140 @@
+// The first row of each key, found by the hash of the key.
+ghost use Rattle.std.specs.Prelude.{◌≡◌, ◌<◌, ◌-◌, ◌^◌, replicate, IfOk};
+ghost use Rattle.vtl_index.specs.FirstRows.{FindsFirst};
+ghost use Rattle.vtl_index.specs.RowKeys.{cells_hash, count_in, key_of, keys_in};
+ghost use Rattle.vtl_index.specs.RowSlots.{IsFilled, Meets, Seeks, end_of, start_of};
+
+use crate::row_keys::{KeyedRows, RowKey, tag_of};
+use std::alloc::{AllocError, Global};
+
+// There are at least this many slots for each row.
+const SLOTS_FOR_A_ROW: usize = 2;
+
+// No more than this many slots are looked at for a key: with more, the cost would depend on luck.
+const MAX_PROBES: usize = 128;
+
+// The number that stands for no row.
+const NO_ROW: u32 = u32::MAX;
+
+// A row, and a part of the hash of its key.
+#[derive(Clone, Copy)]
+pub(crate) struct RowSlot {
+    pub(crate) tag: u32,
+    pub(crate) row: u32,
+}
+
+// Where a search for a key ended: at a row that has it, at a free slot, or before it came to either.
+pub(crate) enum Place {
+    Held(usize),
+    Free(usize),
+    Unknown,
+}
+
+#[derive(Drop)]
+pub(crate) struct RowSlots {
+    pub(crate) mask: usize,
+    pub(crate) slots: Vec<RowSlot>,
+}
+
+// This many slots of no row.
+fn free_slots(alloc: Global, count: usize) -> Result<Vec<RowSlot>, AllocError>
+    ensures { IfOk result (λ slots. slots.items ≡ replicate count (record { tag = 0; row = 2 ^ 32 - 1 })) }
+{
+    let mut slots = Vec::with_capacity(alloc, count)?;
+    for _ in 0..count {
+        slots.push(RowSlot {
+            tag: 0,
+            row: NO_ROW,
+        })?;
+    }
+    Ok(slots)
+}
+
+impl RowSlots {
+    // No rows yet, of the rows of a table.
+    pub(crate) fn new(alloc: Global, keyed: &KeyedRows) -> Result<RowSlots, AllocError>
+        requires { count_in keyed.now < 2 ^ 32 }
+        ensures { IfOk result (λ t. IsFilled (keys_in keyed.now) (count_in keyed.now) t.mask t.slots.items 0) }
+    {
+        let room = keyed
+            .len()
+            .saturating_mul(SLOTS_FOR_A_ROW)
+            .checked_next_power_of_two()
+            .unwrap_or(1);
+        let slots = free_slots(alloc, room.saturating_add(MAX_PROBES))?;
+        Ok(RowSlots {
+            mask: room.saturating_sub(1),
+            slots,
+        })
+    }
+
+    // The place at which a hash is first looked for.
+    fn start_of(&self, hash: u64) -> usize
+        ensures { result ≡ start_of self.now.mask hash }
+    {
+        hash as usize & self.mask
+    }
+
+    // The place before which it is found, or not at all.
+    fn end_of(&self, hash: u64) -> usize
+        ensures { result ≡ end_of self.now.mask self.now.slots.items hash }
+    {
+        self.start_of(hash)
+            .saturating_add(MAX_PROBES)
+            .min(self.slots.len())
+    }
+
+    // Looks for a key.
+    fn seek(&self, keyed: &KeyedRows, hash: u64, key: &RowKey) -> Place
+        requires { hash ≡ cells_hash (key_of key.now) }
+        ensures { Seeks (keys_in keyed.now) (count_in keyed.now) self.now.mask self.now.slots.items (key_of key.now) result }
+    {
+        let tag = tag_of(hash);
+        for place in self.start_of(hash)..self.end_of(hash) {
+            let slot = self.slots[place];
+            let row = slot.row as usize;
+            if row >= keyed.len() {
+                return Place::Free(place);
+            }
+            if slot.tag == tag && keyed.has(row, key) {
+                return Place::Held(row);
+            }
+        }
+        Place::Unknown
+    }
+
+    // The first row that has a key.
+    pub(crate) fn find(&self, keyed: &KeyedRows, key: &RowKey) -> Option<usize>
+        requires { IsFilled (keys_in keyed.now) (count_in keyed.now) self.now.mask self.now.slots.items (count_in keyed.now) }
+        ensures { FindsFirst (keys_in keyed.now) (count_in keyed.now) (key_of key.now) result }
+    {
+        match self.seek(keyed, key.hash(), key) {
+            Place::Held(row) => Some(row),
+            Place::Free(_) => None,
+            Place::Unknown => None,
+        }
+    }
+
+    // The first row that has the key of a row, which is put in a slot where it is the first. None where the search is
+    // given up.
+    pub(crate) fn meet(&mut self, keyed: &KeyedRows, i: usize) -> Option<usize>
+        requires few { count_in keyed.now < 2 ^ 32 }
+        requires within { i < count_in keyed.now }
+        requires filled { IsFilled (keys_in keyed.now) (count_in keyed.now) self.old.mask self.old.slots.items i }
+        ensures { Meets (keys_in keyed.now) (count_in keyed.now) self.new.mask self.new.slots.items i result }
+    {
+        let key = keyed.key(i);
+        let hash = key.hash();
+        match self.seek(keyed, hash, &key) {
+            Place::Held(row) => Some(row),
+            Place::Unknown => None,
+            Place::Free(place) => {
+                self.slots[place] = RowSlot {
+                    tag: tag_of(hash),
+                    row: i as u32,
+                };
+                Some(i)
+            }
+        }
+    }
+}
