@@ -1,5 +1,5 @@
 -- Keys in order, cell by cell, and rows in the order of their keys.
-use Rattle.std.proofs.Common.{All, ◌≡◌, ℕ, zero, suc, ◌+◌, ◌-◌, ◌<◌, ◌≤◌, inl, inr, List, [], ◌∷◌, ◌++◌, Bool, true, false, ◌||◌, min, map, length, get_or, drop, arith, refl, sym, ap, subst, ◌∙◌, true≢false}
+use Rattle.std.proofs.Common.{All, ◌≡◌, ℕ, ◌+◌, ◌-◌, ◌<◌, ◌≤◌, inl, inr, List, [], ◌∷◌, ◌++◌, Bool, true, false, ◌||◌, min, map, length, get_or, drop, arith, refl, sym, ap, ◌∙◌, true≢false}
 use Rattle.std.specs.List.{Contains, list_any, range_with_len}
 use Rattle.std.specs.List.Sorted.{IsNonDecreasingBy, IsPartitionedBy, IsPartitionPoint, IsSortedBy}
 use Rattle.std.specs.Ordering.{is_eq, is_lt, nat_cmp, on, ordering_index, ordering_then, then_cmp}
@@ -15,7 +15,7 @@ use Rattle.std.proofs.lemmas.List.Sorted.{All-permutation, Contains-permutation,
 use Rattle.vtl_cell.specs.Order.{cell_cmp, same_cell}
 use Rattle.vtl_cell.specs.Row.{Row, row_cmp, same_row}
 use Rattle.vtl_cell.specs.declared.cell.Cell.{Cell}
-use Rattle.vtl_cell.proofs.Rows.{row_cmp_total, same_row-is, same_row-refl}
+use Rattle.vtl_cell.proofs.Rows.{row_cmp_total, same_row-is}
 use Rattle.vtl_index.specs.FirstRows.{IsFirst, IsKeyOrder}
 
 -- ---- two keys

@@ -1,13 +1,12 @@
 -- Equal keys have one hash, so the first row of each is met where it is looked for.
-use Rattle.std.proofs.Common.{◌≡◌, ◌≢◌, ℕ, ◌+◌, ◌-◌, ◌<◌, ◌≤◌, ◌^◌, inl, inr, List, Bool, true, false, ◌==◌, ◌&&◌, Option, None, Some, eq-eqb, get_or, length, min, replicate, set, arith, refl, sym, ap, subst, ◌∙◌, true≢false}
+use Rattle.std.proofs.Common.{◌≡◌, ◌≢◌, ℕ, ◌+◌, ◌-◌, ◌<◌, ◌≤◌, ◌^◌, inl, inr, List, Bool, true, false, ◌==◌, ◌&&◌, None, Some, eq-eqb, length, min, replicate, set, arith, refl, sym, ap, subst, ◌∙◌, true≢false}
 use Rattle.std.proofs.lemmas.Bool.{cases_eq, cases_lt}
 use Rattle.std.proofs.lemmas.List.{get_or-replicate, get_or-set_other, get_or-set_same, get_or_past, length-replicate, length-set}
 use Rattle.vtl_cell.specs.Row.{Row, same_row}
 use Rattle.vtl_cell.proofs.Rows.{same_row-is, same_row-refl, split_and}
 use Rattle.vtl_index.specs.FirstRows.{FindsFirst, IsFirst}
 use Rattle.vtl_index.specs.RowKeys.{cells_hash, tag_of}
-use Rattle.vtl_index.specs.RowSlots.{AreUsed, IsFilled, IsFree, IsHeld, Meets, NoneMatches, Seeks, Stands, end_of, is_match, slot_at, start_of}
-use Rattle.vtl_index.specs.declared.row_slots.Place.{Place}
+use Rattle.vtl_index.specs.RowSlots.{AreUsed, IsFilled, IsFree, IsHeld, NoneMatches, Stands, end_of, is_match, slot_at, start_of}
 use Rattle.vtl_index.specs.declared.row_slots.RowSlot.{RowSlot}
 
 abbrev none : RowSlot

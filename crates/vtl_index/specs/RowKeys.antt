@@ -1,5 +1,5 @@
 -- Keys of rows: the cells of listed columns, as they count there.
-use Rattle.std.specs.Prelude.{ℕ, ◌/◌, ◌^◌, Bool, Ok, Err, List, map, length, bit_and}
+use Rattle.std.specs.Prelude.{ℕ, ◌/◌, ◌^◌, Bool, Ok, Err, List, map, length}
 use Rattle.std.specs.List.{fold, list_any}
 use Rattle.std.specs.Hash.FoldHasher as folding
 use Rattle.vtl_cell.specs.Conversion.{as_kind}

@@ -1,4 +1,4 @@
-use Rattle.std.proofs.Common.{IfOk, ◌≡◌, ◌∙◌, ap, length, subst, sym}
+use Rattle.std.proofs.Common.{◌∙◌, ap, length, subst, sym}
 use Rattle.vtl_rows.specs.Places.{row_at}
 use Rattle.vtl_index.specs.Finders.{IsFinder}
 use Rattle.vtl_index.specs.Groups.{AreLeads}

@@ -1,4 +1,4 @@
-use Rattle.std.proofs.Common.{◌≡◌, ◌∙◌, None, ap, length, subst, sym}
+use Rattle.std.proofs.Common.{◌∙◌, None, ap, length, subst, sym}
 use Rattle.vtl_rows.specs.Places.{row_at}
 use Rattle.vtl_index.specs.Finders.{IsFinder}
 use Rattle.vtl_index.specs.FirstRows.{FindsFirst, IsFirst}

@@ -1,4 +1,4 @@
-use Rattle.vtl_index.specs.RowKeys.{cells_hash, count_in, key_of, keys_in}
+use Rattle.vtl_index.specs.RowKeys.{count_in, key_of, keys_in}
 use Rattle.vtl_index.specs.RowSlots.{AreUsed, NoneMatches, start_of}
 use Rattle.vtl_index.proofs.row_slots.RowSlots.seek.Given as goal
 
