@@ -1,6 +1,6 @@
 // Tables by name.
-ghost use Rattle.std.specs.Prelude.{◌≡◌, ◌<◌, ◌++◌, [], ◌∷◌, length, None, slice_index_or, OnOk, OnErr};
-ghost use Rattle.std.specs.Option.{option_copied};
+ghost use Rattle.std.specs.Prelude.{◌≡◌, ◌<◌, ◌++◌, [], ◌∷◌, length, None, slice_index_or, IfNone, OnOk, OnErr};
+ghost use Rattle.std.specs.Option.{option_copied, option_to_list};
 ghost use Rattle.vtl_rows.specs.Named.{table_of};
 
 use crate::{SharedTable, Table};
@@ -80,6 +80,14 @@ impl Tables {
     {
         let (name, shared) = self.named.get_index(i).unwrap();
         (name, shared.table())
+    }
+
+    /// Takes the last table, with its name, where there is one. It takes no memory.
+    pub fn pop(&mut self) -> Option<(Txt, SharedTable)>
+        ensures last { self.old ≡ self.new ++ option_to_list result }
+        ensures none { IfNone result (self.new ≡ []) }
+    {
+        self.named.pop()
     }
 
     /// The number of tables.
