@@ -1,21 +1,17 @@
 -- Named structures stay what they are as more are put, and as one of them gains a component.
-use Rattle.std.proofs.Common.{◌≡◌, ℕ, zero, suc, ◌<◌, ◌+◌, Bool, true, false, cond, not, ◌&&◌, ◌||◌, nat_le, List, [], ◌∷◌, ◌++◌, length, slice_get, Some, None, get_or, take, Result, Ok, Err, subst, refl, sym, ap, ◌∙◌, arith, if◌then◌else◌}
+use Rattle.std.proofs.Common.{◌≡◌, ℕ, zero, suc, ◌<◌, Bool, true, false, cond, ◌&&◌, ◌||◌, nat_le, List, [], ◌∷◌, ◌++◌, length, slice_get, Some, None, Result, Ok, Err, subst, refl, sym, ap, ◌∙◌, arith}
 use Rattle.std.specs.Prelude.{OnOk, OnErr}
-use Rattle.std.specs.List.{list_all, list_any}
+use Rattle.std.specs.List.{list_all}
 use Rattle.std.specs.Map.{keys_of, lookup, set_value}
 use Rattle.std.specs.Option.{option_map_or}
 use Rattle.std.proofs.lemmas.Bool.{and_parts, and_from}
 use Rattle.std.proofs.lemmas.Bool.Decides.{nat_tests}
-use Rattle.std.proofs.lemmas.List.Folds.{list_any-append}
 use Rattle.std.proofs.lemmas.Map.Steps.{set_value_same}
-use Rattle.std.specs.Cmp.Lexicographic.{nat_list_eq_equiv}
-use Rattle.indexmap.specs.IndexMap.{insert_entry}
-use Rattle.indexmap.specs.IndexSet.{insert_key}
-use Rattle.std.proofs.lemmas.List.{take_more}
 use Rattle.vtl_cell.specs.Apart.{all_apart}
 use Rattle.vtl_tree.specs.declared.structure.Component.{Component}
 use Rattle.vtl_tree.specs.declared.structure.Structure.{Structure}
 use Rattle.vtl_text.proofs.Apart.{apart_push}
+use Rattle.vtl_text.proofs.NamedItems.{set_twice}
 use Rattle.vtl_tree.specs.Structure.{names_of, same_name, most_components}
 use Rattle.vtl_tree.specs.Structures.{AreStructures, Named, are_declarable, components_of, Fits, has_name, is_declarable, is_declarable_component, is_declarable_entry, structure_of, with_component}
 
@@ -53,6 +49,12 @@ put_are xs name s h e d = record {
   distinct = ap (all_apart same_name) (keys_push xs name s) ∙ apart_push (keys_of xs) name h.distinct e;
 }
 
+-- and whether there was memory for it or not
+pub put_leaves : {A E : Type 0} (r : Result A E) (xs new : Named) (name : List ℕ) (s : Structure) → AreStructures xs → has_name name xs ≡ false → is_declarable s ≡ true
+    → OnOk r (new ≡ xs ++ (name, s) ∷ []) → OnErr r (new ≡ xs) → AreStructures new
+put_leaves (Ok a) xs new name s h e d put kept = subst AreStructures (sym put) (put_are xs name s h e d)
+put_leaves (Err a) xs new name s h e d put kept = subst AreStructures (sym kept) h
+
 -- a name that is not there has no structure
 pub not_found : (xs : Named) (name : List ℕ) → has_name name xs ≡ false → lookup (same_name name) xs ≡ None
 not_found [] name e = refl
@@ -61,14 +63,6 @@ not_found (x ∷ xs) name e = go (same_name name x.0) (not_found xs name) e
     go : (b : Bool) → (has_name name xs ≡ false → lookup (same_name name) xs ≡ None) → (b || has_name name xs) ≡ false → cond b (Some x.1) (lookup (same_name name) xs) ≡ None
     go true ih q = cc
     go false ih q = ih q
-
-pub insert_new : (xs : Named) (name : List ℕ) (s : Structure) → has_name name xs ≡ false → insert_entry same_name xs name s ≡ xs ++ (name, s) ∷ []
-insert_new [] name s e = refl
-insert_new (x ∷ xs) name s e = go (same_name name x.0) (insert_new xs name s) e
-  where
-    go : (b : Bool) → (has_name name xs ≡ false → insert_entry same_name xs name s ≡ xs ++ (name, s) ∷ []) → (b || has_name name xs) ≡ false → cond b ((x.0, s) ∷ xs) (x ∷ insert_entry same_name xs name s) ≡ x ∷ (xs ++ (name, s) ∷ [])
-    go true ih q = cc
-    go false ih q = ap (λ l. x ∷ l) (ih q)
 
 -- one more component begins a data set, or is the last of the one that is there
 pub begins_data_set : (xs : Named) (name : List ℕ) (x : Component) → has_name name xs ≡ false → with_component name x xs ≡ xs ++ (name, structure_of (x ∷ [])) ∷ []
@@ -157,9 +151,13 @@ add_are xs name x h f = record {
     go true e = ap (all_apart same_name) (keys_kept xs name x e) ∙ h.distinct
     go false e = ap (λ l. all_apart same_name (keys_of l)) (begins_data_set xs name x e) ∙ ap (all_apart same_name) (keys_push xs name (structure_of (x ∷ []))) ∙ apart_push (keys_of xs) name h.distinct e
 
--- what a component that is added to a data set leaves, whether there was memory or not
-module _ (xs new : Named) (name : List ℕ) (x : Component) (s t : Structure) (h : AreStructures xs) (f : Fits x (components_of name xs))
-    (found : lookup (same_name name) xs ≡ Some s) (written : new ≡ set_value (same_name name) xs t) where
+-- what a component that is added to a data set leaves, whether there was memory or not; another structure stood in its
+-- place meanwhile
+module _ (xs between new : Named) (name : List ℕ) (x : Component) (s t other : Structure) (h : AreStructures xs) (f : Fits x (components_of name xs))
+    (found : lookup (same_name name) xs ≡ Some s) (taken : between ≡ set_value (same_name name) xs other) (put : new ≡ set_value (same_name name) between t) where
+  written : new ≡ set_value (same_name name) xs t
+  written = put ∙ ap (λ l. set_value (same_name name) l t) taken ∙ set_twice (same_name name) xs other t
+
   added : t ≡ structure_of (s.components ++ x ∷ []) → new ≡ with_component name x xs
   added e = written ∙ ap (set_value (same_name name) xs) e ∙ goes_on xs name x s found
 
@@ -183,3 +181,12 @@ pub began : {A E : Type 0} (xs old new : Named) (name : List ℕ) (x : Component
     → s ≡ structure_of (x ∷ []) → OnOk r (new ≡ old ++ (name, s) ∷ []) → OnOk r (new ≡ with_component name x xs)
 began xs old new name x s (Ok a) same none e q = q ∙ ap (λ l. l ++ (name, s) ∷ []) same ∙ ap (λ t. xs ++ (name, t) ∷ []) e ∙ sym (begins_data_set xs name x (not_there xs name none))
 began xs old new name x s (Err a) same none e q = tt
+
+-- what stays where a call fails
+pub on_err : {T E P : Type 0} (r : Result T E) → P → OnErr r P
+on_err (Ok x) p = tt
+on_err (Err e) p = p
+
+pub kept_same : {T E : Type 0} (xs old new : Named) (r : Result T E) → old ≡ xs → OnErr r (new ≡ old) → OnErr r (new ≡ xs)
+kept_same xs old new (Ok x) same e = tt
+kept_same xs old new (Err e) same k = k ∙ same

@@ -7,12 +7,11 @@ ghost use Rattle.vtl_tree.specs.Structure.{names_of, same_name};
 ghost use Rattle.vtl_tree.specs.Structures.{AreStructures, are_codes, codes_fit, components_of, has_name, is_declarable, is_declarable_component, is_null_kind, is_string_identifier, structure_of, with_component, Fits};
 
 use crate::structure::{Component, Role, Structure};
-use indexmap::IndexMap;
 use std::alloc::{AllocError, Global};
 use std::marker::Model;
 use std::mem;
 use vtl_cell::Kind;
-use vtl_text::{List, Txt, is_component_name};
+use vtl_text::{ByName, List, Txt, is_component_name};
 
 /// The most components that a structure may have.
 pub const MAX_COMPONENTS: usize = 64;
@@ -20,7 +19,7 @@ pub const MAX_COMPONENTS: usize = 64;
 /// Structures with their names, in the order in which they were put. Each is declarable, and the names are distinct. A
 /// contract sees the list of the names, each with its structure.
 pub struct Structures {
-    by_name: IndexMap<Txt, Structure>,
+    by_name: ByName<Structure>,
     alloc: Global,
 }
 
@@ -39,9 +38,9 @@ impl Model for Structures {
 
     ghost Value = { Named };
 
-    ghost view = { λ s. s.by_name.entries };
+    ghost view = { λ s. s.by_name };
 
-    ghost invariant = { λ s. AreStructures s.by_name.entries };
+    ghost invariant = { λ s. AreStructures s.by_name };
 }
 
 impl Structures {
@@ -50,7 +49,7 @@ impl Structures {
         ensures { result ≡ [] }
     {
         Structures {
-            by_name: IndexMap::new(alloc),
+            by_name: ByName::new(alloc),
             alloc,
         }
     }
@@ -70,8 +69,7 @@ impl Structures {
         ensures put { OnOk result (self.new ≡ self.old ++ (name, structure) ∷ []) }
         ensures failed { OnErr result (self.new ≡ self.old) }
     {
-        self.by_name.insert(name, structure)?;
-        Ok(())
+        self.by_name.put(name, structure)
     }
 
     /// Adds a component that fits its data set: the last of those that it has, or the first of a new data set, which
@@ -81,8 +79,12 @@ impl Structures {
         ensures added { OnOk result (self.new ≡ with_component name component self.old) }
         ensures failed { OnErr result (self.new ≡ self.old) }
     {
-        match self.by_name.get_mut(&name) {
-            Some(structure) => push_component(self.alloc, structure, component),
+        match self.by_name.replace(&name, no_components(self.alloc)) {
+            Some(mut structure) => {
+                let pushed = push_component(self.alloc, &mut structure, component);
+                self.by_name.replace(&name, structure);
+                pushed
+            }
             None => {
                 let structure = one_component(self.alloc, component)?;
                 self.put(name, structure)
@@ -104,7 +106,16 @@ impl Structures {
         ensures entry { slice_get self.now i ≡ Some (result.0.now, result.1.now) }
         ensures declarable { is_declarable result.1.now ≡ true }
     {
-        self.by_name.get_index(i).unwrap()
+        self.by_name.at(i)
+    }
+}
+
+// A structure without components, which stands in place of one that is changed.
+fn no_components(alloc: Global) -> Structure
+    ensures { result ≡ structure_of [] }
+{
+    Structure {
+        components: List::of(Vec::new(alloc)),
     }
 }
 

@@ -10,8 +10,8 @@ use Rattle.vtl_tree.proofs.StructuresLemmas.{all_found}
 use Rattle.vtl_tree.proofs.structures.Structures.get.Goals as goal
 
 pub returns-clause-declarable : goal.returns-clause-declarable
-returns-clause-declarable c = go c.get.result c.get.ensures.value
+returns-clause-declarable c = go c.get.result c.get.ensures
   where
-    go : (o : Option (Bor Structure)) → option_copied o ≡ lookup (same_name c.args.name.now) c.self.inside.by_name.entries → IfSome o (λ s. is_declarable s.now ≡ true)
+    go : (o : Option (Bor Structure)) → option_copied o ≡ lookup (same_name c.args.name.now) c.self.inside.by_name → IfSome o (λ s. is_declarable s.now ≡ true)
     go None e = tt
-    go (Some s) e = all_found (same_name c.args.name.now) c.self.inside.by_name.entries s.now c.self.invariant.declarable (sym e)
+    go (Some s) e = all_found (same_name c.args.name.now) c.self.inside.by_name s.now c.self.invariant.declarable (sym e)
