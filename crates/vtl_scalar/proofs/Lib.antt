@@ -1,7 +1,10 @@
 pub mod FaultLemmas
 pub mod KindLemmas
+pub mod MemberLemmas
 pub mod NullLemmas
+pub mod OperandLemmas
 pub mod ProfileLemmas
 pub mod RemainderLemmas
+pub mod TextLemmas
 pub mod UnitLemmas
 pub mod ValueKindLemmas

@@ -1,5 +1,5 @@
 // The comparisons. None of them takes memory or has a fault.
-ghost use Rattle.std.specs.Prelude.{◌≡◌};
+ghost use Rattle.std.specs.Prelude.{◌≡◌, ◌∷◌, []};
 ghost use Rattle.vtl_cell.specs.ScalarComparison.{between_of, member_of, membership_of, order_of, truth};
 
 use crate::operands::units;
@@ -7,8 +7,8 @@ use std::cmp::Ordering;
 use vtl_cell::Cell;
 use vtl_decimal::Profile;
 
-// A boolean, or null.
-pub(crate) fn truth(b: Option<bool>) -> Cell
+/// A boolean, or null where there is none.
+pub fn truth(b: Option<bool>) -> Cell
     ensures { result ≡ truth b }
 {
     match b {
@@ -43,7 +43,7 @@ pub(crate) fn between(a: &Cell, x: &Cell, y: &Cell, p: &Profile) -> Option<bool>
 }
 
 // Whether one of the members equals the value.
-fn member(a: &Cell, members: &[Cell], p: &Profile) -> Option<bool>
+pub(crate) fn member(a: &Cell, members: &[Cell], p: &Profile) -> Option<bool>
     ensures { result ≡ member_of p.now a.now members.now }
 {
     let mut found = false;
@@ -52,6 +52,16 @@ fn member(a: &Cell, members: &[Cell], p: &Profile) -> Option<bool>
         found = is_this || found;
     }
     Some(found)
+}
+
+// Whether one of two members equals the value.
+#[tactic(auto, using(crate::proofs::MemberLemmas::member_of_two))]
+pub(crate) fn member_of_two(a: &Cell, x: &Cell, y: &Cell, p: &Profile) -> Option<bool>
+    ensures { result ≡ member_of p.now a.now (x.now ∷ y.now ∷ []) }
+{
+    let is_first = order(a, x, p)?.is_eq();
+    let is_second = order(a, y, p)?.is_eq();
+    Some(is_first || is_second)
 }
 
 // Whether the first operand is one of the others.

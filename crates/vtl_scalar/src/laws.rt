@@ -1,9 +1,11 @@
 // Laws of the table of scalar operators.
-ghost use Rattle.std.specs.Prelude.{◌≡◌, ◌≤◌, ℤ, List, map, false, IfOk, Ok, Some, true, IsOk};
+ghost use Rattle.std.specs.Prelude.{◌≡◌, ◌≤◌, ◌∷◌, ℤ, List, map, false, IfOk, Ok, Some, true, IsOk};
 ghost use Rattle.std.specs.List.{AllByRecursion, list_any};
 ghost use Rattle.vtl_cell.specs.Kinds.{is_null, kind_of};
+ghost use Rattle.vtl_cell.specs.Perm.{Perm};
 ghost use Rattle.vtl_cell.specs.Profile.{IsOfProfile};
 ghost use Rattle.vtl_cell.specs.ScalarArithmetic.{as_number, units};
+ghost use Rattle.vtl_cell.specs.ScalarComparison.{membership_of};
 ghost use Rattle.vtl_cell.specs.Scalars.{scalar_of};
 ghost use Rattle.vtl_cell.specs.declared.cell.Cell.{Cell};
 ghost use Rattle.vtl_cell.specs.declared.operator.ScalarOp.{ScalarOp};
@@ -45,4 +47,10 @@ pub fn null_gives_null()
 #[tactic(auto, using(crate::proofs::ProfileLemmas::value_is_of_profile))]
 pub fn values_are_of_the_profile()
     ensures { (p : Settings) (op : ScalarOp) (args : List Cell) → AllByRecursion (IsOfProfile p) args → IfOk (scalar_of p op args) (IsOfProfile p) }
+{}
+
+/// Whether a value is in a set does not depend on the order of the set's members.
+#[tactic(auto, using(crate::proofs::MemberLemmas::membership_of_perm))]
+pub fn members_have_no_order()
+    ensures { (p : Settings) (a : Cell) (xs ys : List Cell) → Perm xs ys → membership_of p (a ∷ xs) ≡ membership_of p (a ∷ ys) }
 {}

@@ -1,13 +1,14 @@
 // The operators by the number of their operands.
-ghost use Rattle.std.specs.Prelude.{◌≡◌};
+ghost use Rattle.std.specs.Prelude.{◌≡◌, ◌∷◌, []};
 ghost use Rattle.vtl_cell.specs.Scalars.{unary_of, binary_of, ternary_of, by_number_of_operands, scalar_of};
 ghost use Rattle.vtl_scalar.specs.Answers.{Answers};
 
-use crate::comparison::{between, membership, order, truth};
+use crate::comparison::{between, member, member_of_two, membership, order, truth};
 use crate::error::ScalarErr;
 use crate::operands::alike;
 use crate::{arithmetic, choice, texts};
 use std::alloc::Global;
+use std::slice;
 use vtl_cell::{Cell, ScalarOp, not3};
 use vtl_decimal::{Fault, Profile};
 
@@ -26,6 +27,49 @@ pub fn apply(alloc: Global, op: ScalarOp, args: &[Cell], p: &Profile) -> Result<
         ScalarOp::In => Ok(truth(membership(args, p))),
         ScalarOp::NotIn => Ok(truth(not3(membership(args, p)))),
         _ => by_number_of_operands(alloc, op, args, p),
+    }
+}
+
+/// The value of an operator for one operand, as `apply` gives it, with the same faults.
+#[tactic(auto, using(crate::proofs::OperandLemmas::scalar_of_one))]
+pub fn apply_one(alloc: Global, op: ScalarOp, a: &Cell, p: &Profile) -> Result<Cell, ScalarErr>
+    ensures { Answers result (scalar_of p.now op (a.now ∷ [])) }
+{
+    unary(alloc, op, a, p)
+}
+
+/// The value of an operator for two operands, as `apply` gives it, with the same faults.
+pub fn apply_two(
+    alloc: Global,
+    op: ScalarOp,
+    a: &Cell,
+    b: &Cell,
+    p: &Profile,
+) -> Result<Cell, ScalarErr>
+    ensures { Answers result (scalar_of p.now op (a.now ∷ b.now ∷ [])) }
+{
+    match op {
+        ScalarOp::In => Ok(truth(member(a, slice::from_ref(b), p))),
+        ScalarOp::NotIn => Ok(truth(not3(member(a, slice::from_ref(b), p)))),
+        _ => binary(alloc, op, a, b, p),
+    }
+}
+
+/// The value of an operator for three operands, as `apply` gives it, with the same faults.
+pub fn apply_three(
+    alloc: Global,
+    op: ScalarOp,
+    a: &Cell,
+    x: &Cell,
+    y: &Cell,
+    p: &Profile,
+) -> Result<Cell, ScalarErr>
+    ensures { Answers result (scalar_of p.now op (a.now ∷ x.now ∷ y.now ∷ [])) }
+{
+    match op {
+        ScalarOp::In => Ok(truth(member_of_two(a, x, y, p))),
+        ScalarOp::NotIn => Ok(truth(not3(member_of_two(a, x, y, p)))),
+        _ => ternary(alloc, op, a, x, y, p),
     }
 }
 
