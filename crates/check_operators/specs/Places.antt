@@ -39,7 +39,7 @@ pub record Env : Type 0 where
   pub known : Named
 
 abbrev pub env_of : Scope → Env
-env_of s = record { settings = s.profile; known = s.known.entries }
+env_of s = record { settings = s.profile; known = s.known }
 
 -- a name where a data set is needed: an unknown one breaks `UnknownDataset`, and a quoted one, which names a component,
 -- `DatasetOrValue`

@@ -11,9 +11,8 @@ use crate::{Inside, Place, Typed};
 use check_faults::{Rule, TypeErr};
 use check_shapes::is_among;
 use check_values::{column, name as name_of};
-use indexmap::IndexMap;
 use std::alloc::Global;
-use vtl_cell::{List, Profile, Txt};
+use vtl_cell::{ByName, List, Profile, Txt};
 use vtl_nodes::NodeForm;
 use vtl_syntax::Comp;
 use vtl_tree::{CompExpr, Structure, share_structure};
@@ -24,7 +23,7 @@ pub struct Scope {
     /// The scale and the rounding of numbers.
     pub profile: Profile,
     /// The structures of the data sets, by name.
-    pub known: IndexMap<Txt, Structure>,
+    pub known: ByName<Structure>,
 }
 
 fn known_by(alloc: Global, name: &Txt, structure: Option<&Structure>) -> Result<Typed, TypeErr>
@@ -40,10 +39,10 @@ fn known_by(alloc: Global, name: &Txt, structure: Option<&Structure>) -> Result<
 
 fn dataset_named(
     alloc: Global,
-    known: &IndexMap<Txt, Structure>,
+    known: &ByName<Structure>,
     component: &Comp,
 ) -> Result<Typed, TypeErr>
-    ensures { Answers typed_tree result (dataset_named known.now.entries component.now) }
+    ensures { Answers typed_tree result (dataset_named known.now component.now) }
 {
     match component {
         Comp::Name(name) => known_by(alloc, name, known.get(name)),

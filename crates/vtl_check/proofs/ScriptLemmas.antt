@@ -56,7 +56,7 @@ written_shared script shared same h = subst (λ (l : List Statement). AreWritten
 pub typed_parts : (script shared : List Statement) (structures declared : Named) (settings : Settings) (nodes : List Node) (u : Uses)
     → shared ≡ script → declared ≡ structures
     → IsTyped (with_parts script structures settings nodes)
-    → u.known.entries ≡ results_behind (reads structures (map node_tree nodes)) (transformations (map statement_tree script)) (map node_tree nodes)
+    → u.known ≡ results_behind (reads structures (map node_tree nodes)) (transformations (map statement_tree script)) (map node_tree nodes)
     → u.inputs.items ≡ keys_of (reads structures (map node_tree nodes))
     → u.outputs.items ≡ outputs_in (transformations (map statement_tree script))
     → IsTyped (with_parts shared declared settings nodes) × AreUses (with_parts shared declared settings nodes) u

@@ -53,6 +53,6 @@ known_of t = results_behind (reads t.declared (nodes_of t)) (transformations (tr
 
 -- these are the data sets that the script reads and gives
 pub record AreUses (t : TypedScript) (u : Uses) : Type 0 where
-  pub known_data : u.known.entries ≡ known_of t
+  pub known_data : u.known ≡ known_of t
   pub read_names : u.inputs.items ≡ inputs_of t
   pub written_names : u.outputs.items ≡ outputs_of t

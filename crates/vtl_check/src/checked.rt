@@ -17,20 +17,19 @@ use crate::known::share_structures;
 use crate::script::typed_statements;
 use crate::uses::{Uses, uses_of};
 use check_operators::Scope;
-use indexmap::IndexMap;
 use std::alloc::{AllocError, Global};
 use std::marker::Model;
 use vtl_decimal::Profile;
 use vtl_nodes::Node;
 use vtl_syntax::{Script, Statement};
-use vtl_text::Txt;
+use vtl_text::{ByName, Txt};
 use vtl_tree::{Structure, Structures};
 
 /// A script that is written and typed over declared structures, with its nodes. The script is shared.
 #[derive(Drop)]
 pub struct Checked {
     script: Script,
-    declared: IndexMap<Txt, Structure>,
+    declared: ByName<Structure>,
     profile: Profile,
     nodes: Vec<Node>,
     uses: Uses,
@@ -51,12 +50,12 @@ impl Model for Checked {
 
     ghost coded = { Prim.hlevel (codes, s.the_row.coded, n.the_row.coded) };
 
-    ghost view = { λ c. record { script = c.script.statements; declared = c.declared.entries; settings = c.profile; nodes = c.nodes.items } };
+    ghost view = { λ c. record { script = c.script.statements; declared = c.declared; settings = c.profile; nodes = c.nodes.items } };
 
     ghost invariant = { λ c.
-        IsTyped (record { script = c.script.statements; declared = c.declared.entries; settings = c.profile; nodes = c.nodes.items })
-        × AreUses (record { script = c.script.statements; declared = c.declared.entries; settings = c.profile; nodes = c.nodes.items }) c.uses
-        × AreStructures c.declared.entries
+        IsTyped (record { script = c.script.statements; declared = c.declared; settings = c.profile; nodes = c.nodes.items })
+        × AreUses (record { script = c.script.statements; declared = c.declared; settings = c.profile; nodes = c.nodes.items }) c.uses
+        × AreStructures c.declared
         × AreWritten (map statement_tree c.script.statements)
         × (length c.nodes.items ≡ length (transformations (map statement_tree c.script.statements))) };
 }
@@ -173,7 +172,7 @@ pub fn defines_rulesets(script: &Script) -> bool
 #[derive(Drop)]
 struct Parts {
     script: Script,
-    declared: IndexMap<Txt, Structure>,
+    declared: ByName<Structure>,
     uses: Uses,
 }
 
@@ -186,9 +185,9 @@ fn parts_of(
 ) -> Result<Parts, AllocError>
     requires { length nodes.now ≡ length (transformations (map statement_tree script.now.statements)) }
     ensures script { IfOk result (λ p. p.script.statements ≡ script.now.statements) }
-    ensures declared { IfOk result (λ p. p.declared.entries ≡ structures.now) }
-    ensures structures { IfOk result (λ p. AreStructures p.declared.entries) }
-    ensures known { IfOk result (λ p. p.uses.known.entries ≡ results_behind (reads structures.now (map node_tree nodes.now)) (transformations (map statement_tree script.now.statements)) (map node_tree nodes.now)) }
+    ensures declared { IfOk result (λ p. p.declared ≡ structures.now) }
+    ensures structures { IfOk result (λ p. AreStructures p.declared) }
+    ensures known { IfOk result (λ p. p.uses.known ≡ results_behind (reads structures.now (map node_tree nodes.now)) (transformations (map statement_tree script.now.statements)) (map node_tree nodes.now)) }
     ensures inputs { IfOk result (λ p. p.uses.inputs.items ≡ keys_of (reads structures.now (map node_tree nodes.now))) }
     ensures outputs { IfOk result (λ p. p.uses.outputs.items ≡ outputs_in (transformations (map statement_tree script.now.statements))) }
 {

@@ -40,7 +40,7 @@ fn assigned(
 ) -> Result<(Box<Node>, usize), TypeErr>
     requires { before ≤ most_nodes }
     ensures typing { Answers (λ r. boxed_tree r.0) result (assigned (env_of scope.now) before name.now (expr_tree e.now)) }
-    ensures new_name { IfOk result (λ r. has_name name.now scope.now.known.entries ≡ false) }
+    ensures new_name { IfOk result (λ r. has_name name.now scope.now.known ≡ false) }
     ensures sum { IfOk result (λ r. r.1 ≡ before + count (boxed_tree r.0)) }
     ensures few { IfOk result (λ r. r.1 ≤ most_nodes) }
 {
@@ -56,7 +56,7 @@ fn assigned(
 
 // Makes the result of a statement known.
 fn add_result(alloc: Global, scope: &mut Scope, name: &Txt, node: &Node) -> Result<(), AllocError>
-    requires { has_name name.now scope.old.known.entries ≡ false }
+    requires { has_name name.now scope.old.known ≡ false }
     ensures { OnOk result (env_of scope.new ≡ with_result (env_of scope.old) name.now (node_tree node.now)) }
 {
     let structure = share_structure(alloc, &node.structure)?;

@@ -1,6 +1,6 @@
 // The data sets that a typed script reads, and those that it gives.
 ghost use Rattle.std.specs.Map.{keys_of, lookup};
-ghost use Rattle.std.specs.Prelude.{◌≡◌, ◌<◌, ◌++◌, IfOk, OnOk, Some, length, map, slice_get};
+ghost use Rattle.std.specs.Prelude.{◌≡◌, ◌++◌, IfOk, OnOk, length, map};
 ghost use Rattle.vtl_nodes.specs.View.{node_tree};
 ghost use Rattle.vtl_syntax.specs.View.{statement_tree};
 ghost use Rattle.vtl_tree.specs.Structure.{same_name};
@@ -9,18 +9,17 @@ ghost use Rattle.vtl_check.specs.Uses.{output_named, outputs_in, read_behind, re
 
 use crate::known::{is_known, put};
 use crate::names::read_names;
-use indexmap::IndexMap;
 use std::alloc::{AllocError, Global};
 use vtl_nodes::Node;
 use vtl_syntax::{AssignKind, Statement};
-use vtl_text::Txt;
+use vtl_text::{ByName, Txt};
 use vtl_tree::{Structure, share_structure};
 
 /// The data sets that a script reads and gives.
 #[derive(Drop)]
 pub struct Uses {
     /// The structures of the declared data sets that the script reads, and then of its results.
-    pub known: IndexMap<Txt, Structure>,
+    pub known: ByName<Structure>,
     /// The names of the declared data sets that the script reads, in order of first use.
     pub inputs: Vec<Txt>,
     /// The names of the results that are written with `<-`, in order.
@@ -30,11 +29,11 @@ pub struct Uses {
 // Puts a structure after others, where none has the name yet.
 fn put_new(
     alloc: Global,
-    known: &mut IndexMap<Txt, Structure>,
+    known: &mut ByName<Structure>,
     name: &Txt,
     structure: &Structure,
 ) -> Result<(), AllocError>
-    ensures { OnOk result (known.new.entries ≡ with_new known.old.entries name.now structure.now) }
+    ensures { OnOk result (known.new ≡ with_new known.old name.now structure.now) }
 {
     if is_known(known, name) {
         return Ok(());
@@ -46,11 +45,11 @@ fn put_new(
 // Puts a data set that is read after others, where it is declared and new.
 fn put_read(
     alloc: Global,
-    declared: &IndexMap<Txt, Structure>,
-    known: &mut IndexMap<Txt, Structure>,
+    declared: &ByName<Structure>,
+    known: &mut ByName<Structure>,
     name: &Txt,
 ) -> Result<(), AllocError>
-    ensures { OnOk result (known.new.entries ≡ with_declared known.old.entries name.now (lookup (same_name name.now) declared.now.entries)) }
+    ensures { OnOk result (known.new ≡ with_declared known.old name.now (lookup (same_name name.now) declared.now)) }
 {
     match declared.get(name) {
         Some(structure) => put_new(alloc, known, name, structure),
@@ -61,11 +60,11 @@ fn put_read(
 // Puts the declared data sets of some names after others.
 fn put_reads(
     alloc: Global,
-    declared: &IndexMap<Txt, Structure>,
-    known: &mut IndexMap<Txt, Structure>,
+    declared: &ByName<Structure>,
+    known: &mut ByName<Structure>,
     names: &[Txt],
 ) -> Result<(), AllocError>
-    ensures { OnOk result (known.new.entries ≡ read_behind declared.now.entries known.old.entries names.now) }
+    ensures { OnOk result (known.new ≡ read_behind declared.now known.old names.now) }
 {
     for name in names {
         put_read(alloc, declared, known, name)?;
@@ -76,31 +75,24 @@ fn put_reads(
 // The declared data sets that expressions read.
 fn reads(
     alloc: Global,
-    declared: &IndexMap<Txt, Structure>,
+    declared: &ByName<Structure>,
     nodes: &[Node],
-) -> Result<IndexMap<Txt, Structure>, AllocError>
-    ensures { IfOk result (λ known. known.entries ≡ reads declared.now.entries (map node_tree nodes.now)) }
+) -> Result<ByName<Structure>, AllocError>
+    ensures { IfOk result (λ known. known ≡ reads declared.now (map node_tree nodes.now)) }
 {
     let names = read_names(alloc, nodes)?;
-    let mut known = IndexMap::new(alloc);
+    let mut known = ByName::new(alloc);
     put_reads(alloc, declared, &mut known, &names)?;
     Ok(known)
 }
 
-fn entry(known: &IndexMap<Txt, Structure>, i: usize) -> (&Txt, &Structure)
-    requires { i < length known.now.entries }
-    ensures { slice_get known.now.entries i ≡ Some (result.0.now, result.1.now) }
-{
-    known.get_index(i).unwrap()
-}
-
 // The names of data sets, in order.
-fn names_by_place(alloc: Global, known: &IndexMap<Txt, Structure>) -> Result<Vec<Txt>, AllocError>
-    ensures { IfOk result (λ v. v.items ≡ keys_of known.now.entries) }
+fn names_by_place(alloc: Global, known: &ByName<Structure>) -> Result<Vec<Txt>, AllocError>
+    ensures { IfOk result (λ v. v.items ≡ keys_of known.now) }
 {
     let mut names = Vec::new(alloc);
     for i in 0..known.len() {
-        let (name, _) = entry(known, i);
+        let (name, _) = known.at(i);
         names.push(name.share()?)?;
     }
     Ok(names)
@@ -109,12 +101,12 @@ fn names_by_place(alloc: Global, known: &IndexMap<Txt, Structure>) -> Result<Vec
 // Puts the results of statements after other data sets. A definition has no node.
 fn put_results(
     alloc: Global,
-    known: &mut IndexMap<Txt, Structure>,
+    known: &mut ByName<Structure>,
     statements: &[Statement],
     nodes: &[Node],
 ) -> Result<(), AllocError>
     requires { length nodes.now ≡ length (transformations (map statement_tree statements.now)) }
-    ensures { OnOk result (known.new.entries ≡ results_behind known.old.entries (transformations (map statement_tree statements.now)) (map node_tree nodes.now)) }
+    ensures { OnOk result (known.new ≡ results_behind known.old (transformations (map statement_tree statements.now)) (map node_tree nodes.now)) }
 {
     let mut place = 0;
     for statement in statements {
@@ -153,13 +145,13 @@ fn outputs(alloc: Global, statements: &[Statement]) -> Result<Vec<Txt>, AllocErr
 /// The data sets that statements with these nodes read and give.
 pub fn uses_of(
     alloc: Global,
-    declared: &IndexMap<Txt, Structure>,
+    declared: &ByName<Structure>,
     statements: &[Statement],
     nodes: &[Node],
 ) -> Result<Uses, AllocError>
     requires { length nodes.now ≡ length (transformations (map statement_tree statements.now)) }
-    ensures known { IfOk result (λ u. u.known.entries ≡ results_behind (reads declared.now.entries (map node_tree nodes.now)) (transformations (map statement_tree statements.now)) (map node_tree nodes.now)) }
-    ensures inputs { IfOk result (λ u. u.inputs.items ≡ keys_of (reads declared.now.entries (map node_tree nodes.now))) }
+    ensures known { IfOk result (λ u. u.known ≡ results_behind (reads declared.now (map node_tree nodes.now)) (transformations (map statement_tree statements.now)) (map node_tree nodes.now)) }
+    ensures inputs { IfOk result (λ u. u.inputs.items ≡ keys_of (reads declared.now (map node_tree nodes.now))) }
     ensures outputs { IfOk result (λ u. u.outputs.items ≡ outputs_in (transformations (map statement_tree statements.now))) }
 {
     let mut known = reads(alloc, declared, nodes)?;

@@ -3,4 +3,4 @@ use Rattle.std.specs.Map.{keys_of}
 use Rattle.vtl_check.proofs.uses.names_by_place.Given as goal
 
 abbrev pub invariant-loop-i : goal.invariant-loop-i
-invariant-loop-i l = l.names.items ≡ keys_of (take l.i l.known.entries)
+invariant-loop-i l = l.names.items ≡ keys_of (take l.i l.known)
