@@ -15,6 +15,10 @@ use vtl_rows::Table;
 /// A look-up from keys to the rows of a table that have them. A key is made of the cells of a row at listed columns.
 /// It keeps numbers of rows and no cells. A contract sees the rows, the columns of the key, what becomes of keys that
 /// have a null, and the profile by which an integer is made a number.
+///
+/// It takes 16 to 32 bytes a row beside its groups, or 8 where cells were chosen to have like hashes. A probe then
+/// compares its key with as many others as the logarithm of the number of rows, and looks at no more than 128 slots
+/// otherwise, whatever the cells are.
 pub struct RowIndex<'t> {
     table: &'t Table,
     key: Vec<KeyColumn>,

@@ -15,11 +15,11 @@ returns-in-Some c =
     let key = key_of c.args.key.now in
     let place = c.partition_point-place.result in
     let point = IsPartitionPoint-from_clause (λ i. is_lt (row_cmp (keys i) key)) order place c.partition_point-place.ensures.partitioned (parted keys (count_in c.args.keyed.now) order c.requires key) (λ a r q k. search rules) in
-    let got = c.in-Some.ensures.lookup.3 in
-    let is : get_or order place 0 ≡ c.in-Some.row.now = sym (got.1 0) in
+    let read = c.in-Some.ensures.lookup.3 in
+    let is : get_or order place 0 ≡ c.in-Some.row.now = sym (read.1 0) in
     let here = sym c.has.ensures ∙ c.if-has.true in
     subst (IsFirst keys (count_in c.args.keyed.now) key) is
-    (found_there keys (count_in c.args.keyed.now) order c.requires key place point got.0 (ap (λ i. same_row (keys i) key) is ∙ here))
+    (found_there keys (count_in c.args.keyed.now) order c.requires key place point read.0 (ap (λ i. same_row (keys i) key) is ∙ here))
 
 pub returns-in_default : goal.returns-in_default
 returns-in_default c =
@@ -28,8 +28,8 @@ returns-in_default c =
     let key = key_of c.args.key.now in
     let place = c.partition_point-place.result in
     let point = IsPartitionPoint-from_clause (λ i. is_lt (row_cmp (keys i) key)) order place c.partition_point-place.ensures.partitioned (parted keys (count_in c.args.keyed.now) order c.requires key) (λ a r q k. search rules) in
-    let got = c.in-Some.ensures.lookup.3 in
-    let is : get_or order place 0 ≡ c.in-Some.row.now = sym (got.1 0) in
+    let read = c.in-Some.ensures.lookup.3 in
+    let is : get_or order place 0 ≡ c.in-Some.row.now = sym (read.1 0) in
     let unlike = sym c.has.ensures ∙ c.if-has.false in
     found_nowhere keys (count_in c.args.keyed.now) order c.requires key place point (λ h. ap (λ i. same_row (keys i) key) is ∙ unlike)
 
