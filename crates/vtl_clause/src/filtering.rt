@@ -1,5 +1,5 @@
 // `filter`
-ghost use Rattle.std.specs.Prelude.{◌≡◌, true, ◌++◌, ◌∷◌, [], IfOk, IfErr, if◌then◌else◌};
+ghost use Rattle.std.specs.Prelude.{◌≡◌, true, ◌++◌, ◌∷◌, [], Ok, IfOk, IfErr, if◌then◌else◌};
 ghost use Rattle.vtl_cell.specs.Outcome.{fault_in, join};
 ghost use Rattle.vtl_rows.specs.Tables.{fits};
 ghost use Rattle.vtl_scalar.specs.Answers.{Answers, AnswersBy};
@@ -9,38 +9,46 @@ ghost use Rattle.vtl_tree.specs.View.{comp_exp_of};
 ghost use Rattle.vtl_sets.specs.DataSets.{with_structure};
 ghost use Rattle.vtl_meaning.specs.Made.{IsFiltered};
 ghost use Rattle.vtl_sets.specs.TableOf.{IsTableOf};
+ghost use Rattle.vtl_expr.specs.Prepared.{prepared_exp};
 ghost use Rattle.vtl_expr.specs.Seen.{seen_of};
 
-use crate::rows::copied_row;
 use std::alloc::Global;
 use vtl_cell::{Cell, Profile};
-use vtl_expr::{Seen, eval};
+use vtl_expr::{Prepared, Seen, prepare, value_at};
 use vtl_rows::Table;
 use vtl_scalar::ScalarErr;
 use vtl_sets::{DataSet, new_table};
 use vtl_tree::{CompExpr, Structure};
 
-// Puts a row after those that are kept, where the condition is true, and records the condition's fault.
+// Whether a cell is true.
+fn is_true(cell: &Cell) -> bool
+    ensures { result ≡ is_true (Ok cell.now) }
+{
+    matches!(cell, Cell::Bool(true))
+}
+
+// Puts a copy of a row after those that are kept, where the condition is true, and records the condition's fault.
 fn keep(
     alloc: Global,
     kept: &mut Table,
     seen: Seen,
-    condition: &CompExpr,
+    condition: &Prepared,
     row: &[Cell],
     p: &Profile,
 ) -> Result<Seen, ScalarErr>
     requires { fits kept.old.columns row.now ≡ true }
     ensures columns { kept.new.columns ≡ kept.old.columns }
-    ensures rows { IfOk result (λ _. kept.new.rows ≡ kept.old.rows ++ (if is_true (value p.now (comp_exp_of condition.now) row.now) then row.now ∷ [] else [])) }
-    ensures seen { IfOk result (λ s. seen_of s ≡ join (seen_of seen) (fault_in (value p.now (comp_exp_of condition.now) row.now))) }
+    ensures rows { IfOk result (λ _. kept.new.rows ≡ kept.old.rows ++ (if is_true (value p.now (prepared_exp condition.now) row.now) then row.now ∷ [] else [])) }
+    ensures seen { IfOk result (λ s. seen_of s ≡ join (seen_of seen) (fault_in (value p.now (prepared_exp condition.now) row.now))) }
     ensures err { IfErr result (λ e. e ≡ ScalarErr.OutOfMemory) }
 {
-    match eval(alloc, condition, row, p) {
-        Ok(Cell::Bool(true)) => {
-            kept.push_row(copied_row(alloc, row)?)?;
+    match value_at(alloc, condition, row, &[], p) {
+        Ok(value) => {
+            if is_true(value.cell()) {
+                kept.push_copy(row)?;
+            }
             Ok(seen)
         }
-        Ok(_) => Ok(seen),
         Err(error) => seen.and(error),
     }
 }
@@ -56,11 +64,12 @@ fn kept_table(
     ensures table { IfOk result (IsTableOf made.now) }
     ensures rows { AnswersBy (λ t. t.rows) result (filter_of p.now (comp_exp_of condition.now) a.now.points) }
 {
+    let prepared = prepare(alloc, condition)?;
     let table = a.table();
     let mut kept = new_table(alloc, made)?;
     let mut seen = Seen::Nothing;
     for i in 0..table.len() {
-        seen = keep(alloc, &mut kept, seen, condition, table.row(i), p)?;
+        seen = keep(alloc, &mut kept, seen, &prepared, table.row(i), p)?;
     }
     seen.unless(kept)
 }

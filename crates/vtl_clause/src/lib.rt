@@ -10,7 +10,6 @@
 mod calculation;
 mod filtering;
 mod renaming;
-mod rows;
 mod subspace;
 
 pub use calculation::calc;

@@ -66,10 +66,11 @@ fn has_values(row: &[Cell], pins: &[Pin<'_>]) -> bool
     true
 }
 
-// Adds the cells at places of a row, where it has the wanted values.
+// Adds the cells at places of a row, where it has the wanted values. They are put together in a list that is used for
+// one row after the other.
 fn push_sub(
-    alloc: Global,
     out: &mut Table,
+    cells: &mut Vec<Cell>,
     row: &[Cell],
     pins: &[Pin<'_>],
     places: &[usize],
@@ -79,9 +80,9 @@ fn push_sub(
     ensures rows { OnOk result (out.new.rows ≡ out.old.rows ++ (if are_met (map wanted_by pins.now) row.now then cells_at places.now row.now ∷ [] else [])) }
 {
     if has_values(row, pins) {
-        let mut cells = Vec::with_capacity(alloc, places.len())?;
-        push_cells(&mut cells, row, places)?;
-        out.push_row(cells)?;
+        cells.clear();
+        push_cells(cells, row, places)?;
+        out.push_cells(cells)?;
     }
     Ok(())
 }
@@ -100,10 +101,11 @@ fn sub_table(
     let pins = pinned(alloc, structure, items)?;
     let columns = made.columns(alloc)?;
     let places = places_in(alloc, structure, &columns)?;
-    let mut out = new_table(alloc, made)?;
     let table = a.table();
+    let mut out = new_table(alloc, made)?;
+    let mut cells = Vec::with_capacity(alloc, places.len())?;
     for i in 0..table.len() {
-        push_sub(alloc, &mut out, table.row(i), &pins, &places)?;
+        push_sub(&mut out, &mut cells, table.row(i), &pins, &places)?;
     }
     Ok(out)
 }

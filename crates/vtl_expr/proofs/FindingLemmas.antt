@@ -1,91 +1,99 @@
 -- Rows that an index finds by their first cells.
-use Rattle.std.proofs.Common.{◌≡◌, ℕ, suc, ◌+◌, ◌-◌, ◌<◌, ◌≤◌, List, [], ◌∷◌, ◌++◌, Bool, true, false, cond, length, map, take, get_or, Some, None, refl, sym, ap, ◌∙◌, arith}
-use Rattle.std.specs.Prelude.{slice_get}
-use Rattle.std.specs.List.{filter}
-use Rattle.std.proofs.lemmas.List.{append-nil, map-append, take_more, length-take-le}
-use Rattle.std.proofs.lemmas.List.Elements.{filter-append}
-use Rattle.vtl_cell.specs.Row.{Row, same_row}
-use Rattle.vtl_index.specs.Lookup.{rows_of, with_row}
-use Rattle.vtl_tree.specs.DataSet.{look}
-use Rattle.vtl_expr.specs.Partners.{numbered}
+use Rattle.std.proofs.Common.{◌≡◌, ℕ, zero, suc, ◌+◌, ◌<◌, ◌≤◌, List, [], ◌∷◌, Bool, true, false, cond, length, map, take, get_or, Option, Some, None, refl, sym, ap, ◌∙◌, subst, arith}
+use Rattle.std.specs.Prelude.{option_map, slice_get, slice_index_or}
+use Rattle.std.specs.List.{AllByRecursion, filter, range_with_len}
+use Rattle.std.proofs.lemmas.List.{get_or_default}
+use Rattle.vtl_cell.specs.Row.{Row, column_of, same_row}
+use Rattle.vtl_cell.specs.Settings.{Settings}
+use Rattle.vtl_rows.specs.Places.{row_at}
+use Rattle.vtl_rows.specs.Tables.{cells_at}
+use Rattle.vtl_index.specs.Leads.{rows_with}
+use Rattle.vtl_index.specs.RowIndex.{RowLookup, found_rows}
+use Rattle.vtl_index.specs.RowKeys.{as_it_is, key_at}
+use Rattle.vtl_index.specs.declared.row_keys.KeyColumn.{KeyColumn}
+use Rattle.vtl_index.specs.declared.row_keys.NullKeys.TheVariants.{Found}
+use Rattle.vtl_index.proofs.KeyForms.{plain_keys}
+use Rattle.vtl_tree.specs.DataSet.{IsDataSet, is_point, look}
+use Rattle.vtl_tree.specs.Structure.{IsStructure, columns_of, key_width}
+use Rattle.vtl_tree.specs.declared.structure.Structure.{Structure}
+use Rattle.vtl_meaning.specs.Columns.{identifiers_of, places_in}
+use Rattle.vtl_meaning.proofs.Places.{all_more, all_of_map, key_cells, key_within}
+use Rattle.vtl_expr.specs.Partners.{IsIndexBy, Sought, columns_in}
+use Rattle.vtl_expr.proofs.Ranges.{all_in_range, all_indexed}
 
-numbered_push : (n j : ℕ) (rows : List Row) (r : Row) → numbered n j (rows ++ r ∷ []) ≡ numbered n j rows ++ (take n r, j + length rows) ∷ []
-numbered_push n j [] r = let same : j ≡ j + length {A = Row} [] = omega arith in ap (λ i. (take n r, i) ∷ []) same
-numbered_push n j (x ∷ rows) r =
-    let same : j + 1 + length rows ≡ j + length (x ∷ rows) = omega arith in
-    ap (λ (l : List (Row × ℕ)). (take n x, j) ∷ l) (numbered_push n (j + 1) rows r ∙ ap (λ i. numbered n (j + 1) rows ++ (take n r, i) ∷ []) same)
+-- ---- keys whose cells count as they are
+pub columns_as_they_are : (places : List ℕ) → columns_in (map as_it_is places) ≡ places
+columns_as_they_are [] = refl
+columns_as_they_are (i ∷ is) = ap (λ l. i ∷ l) (columns_as_they_are is)
 
-pub numbered_more : (n : ℕ) (rows : List Row) (i : ℕ) (r : Row) → i < length rows → r ≡ get_or rows i r → numbered n 0 (take (i + 1) rows) ≡ numbered n 0 (take i rows) ++ (take n r, i) ∷ []
-numbered_more n rows i r h at =
-    let few : i ≤ length rows = omega arith in
-    let l = length-take-le i rows few in
-    let same : 0 + length (take i rows) ≡ i = omega (arith, l) in
-    ap (numbered n 0) (take_more rows i r h) ∙ ap (λ x. numbered n 0 (take i rows ++ x ∷ [])) (sym at) ∙ numbered_push n 0 (take i rows) r
-    ∙ ap (λ k. numbered n 0 (take i rows) ++ (take n r, k) ∷ []) same
-
--- ---- the first row that was added with a key is the one that a look-up gives
-abbrev keyed : ℕ → ℕ → List Row → Row → List (Row × ℕ)
-keyed n j rows k = filter (λ p. same_row p.0 k) (numbered n j rows)
-
--- where the first row with a key stands, if the rows are numbered from j on
-abbrev IsFound : ℕ → ℕ → List Row → Row → ℕ → Type 0
-IsFound n j rows k i = (j ≤ i) × (i < j + length rows) × ((d : Row) → look n rows k ≡ Some (get_or rows (i - j) d))
-
-found_at : (n j : ℕ) (r : Row) (rows : List Row) (k : Row) (i : ℕ) (b : Bool) → slice_get (map (λ p. p.1) (cond b ((take n r, j) ∷ keyed n (j + 1) rows k) (keyed n (j + 1) rows k))) 0 ≡ Some i
-    → (slice_get (rows_of (numbered n (j + 1) rows) k) 0 ≡ Some i → IsFound n (j + 1) rows k i)
-    → (j ≤ i) × (i < j + length (r ∷ rows)) × ((d : Row) → cond b (Some r) (look n rows k) ≡ Some (get_or (r ∷ rows) (i - j) d))
-found_at n j r rows k i true h later =
-    let same : j ≡ i = cc in
-    let none : 0 ≡ i - j = omega arith in
-    (omega arith, omega arith, λ d. ap (λ m. Some (get_or (r ∷ rows) m d)) none)
-found_at n j r rows k i false h later =
-    let f = later h in
-    let l = f.0 in
-    let m = f.1 in
-    let next : suc (i - (j + 1)) ≡ i - j = omega (arith, l) in
-    (omega (arith, l), omega (arith, m), λ d. f.2 d ∙ ap (λ q. Some (get_or (r ∷ rows) q d)) next)
-
-found_from : (n j : ℕ) (rows : List Row) (k : Row) (i : ℕ) → slice_get (rows_of (numbered n j rows) k) 0 ≡ Some i → IsFound n j rows k i
-found_from n j [] k i e = cc
-found_from n j (r ∷ rows) k i e = found_at n j r rows k i (same_row (take n r) k) e (found_from n (j + 1) rows k i)
-
-none_at : (n j : ℕ) (r : Row) (rows : List Row) (k : Row) (b : Bool) → slice_get (map (λ p. p.1) (cond b ((take n r, j) ∷ keyed n (j + 1) rows k) (keyed n (j + 1) rows k))) 0 ≡ None
-    → (slice_get (rows_of (numbered n (j + 1) rows) k) 0 ≡ None → look n rows k ≡ None) → cond b (Some r) (look n rows k) ≡ None
-none_at n j r rows k true h later = cc
-none_at n j r rows k false h later = later h
-
-none_from : (n j : ℕ) (rows : List Row) (k : Row) → slice_get (rows_of (numbered n j rows) k) 0 ≡ None → look n rows k ≡ None
-none_from n j [] k e = refl
-none_from n j (r ∷ rows) k e = none_at n j r rows k (same_row (take n r) k) e (none_from n (j + 1) rows k)
-
-pub found_place : (n : ℕ) (rows : List Row) (k : Row) (is : List ℕ) (i : ℕ) → is ≡ rows_of (numbered n 0 rows) k → Some i ≡ slice_get is 0 → i < length rows
-found_place n rows k is i e h =
-    let f = found_from n 0 rows k i (ap (λ l. slice_get l 0) (sym e) ∙ sym h) in
-    let l = f.1 in
-    omega (arith, l)
-
-pub found_row : (n : ℕ) (rows : List Row) (k : Row) (is : List ℕ) (i : ℕ) (r : Row) → is ≡ rows_of (numbered n 0 rows) k → Some i ≡ slice_get is 0 → r ≡ get_or rows i r → Some r ≡ look n rows k
-found_row n rows k is i r e h at =
-    let f = found_from n 0 rows k i (ap (λ l. slice_get l 0) (sym e) ∙ sym h) in
-    let same : i ≡ i - 0 = omega arith in
-    ap Some (at ∙ ap (λ m. get_or rows m r) same) ∙ sym (f.2 r)
-
-pub found_none : (n : ℕ) (rows : List Row) (k : Row) (is : List ℕ) → is ≡ rows_of (numbered n 0 rows) k → None ≡ slice_get is 0 → None ≡ look n rows k
-found_none n rows k is e h = sym (none_from n 0 rows k (ap (λ l. slice_get l 0) (sym e) ∙ sym h))
-
--- ---- one more row in an index
-added_at : (added : List (Row × ℕ)) (key : Row) (row : ℕ) (k : Row) → with_row key row (rows_of added) k ≡ rows_of (added ++ (key, row) ∷ []) k
-added_at added key row k =
-    go (same_row key k) ∙ sym (ap (map (λ (p : Row × ℕ). p.1)) (filter-append (λ (p : Row × ℕ). same_row p.0 k) added ((key, row) ∷ [])) ∙ map-append (λ (p : Row × ℕ). p.1) (filter (λ (p : Row × ℕ). same_row p.0 k) added) (filter (λ (p : Row × ℕ). same_row p.0 k) ((key, row) ∷ [])))
+-- ---- the first row that is found is the one that a look-up gives
+first_found : (key : Row → Row) (n : ℕ) (at : ℕ → Row) (is : List ℕ) (k : Row) → AllByRecursion (λ i. key (at i) ≡ take n (at i)) is → look n (map at is) k ≡ option_map at (slice_get (filter (λ i. same_row (key (at i)) k) is) 0)
+first_found key n at [] k all = refl
+first_found key n at (i ∷ is) k all =
+    ap (λ x. cond (same_row x k) (Some (at i)) (look n (map at is) k)) (sym all.0) ∙ go (same_row (key (at i)) k) (first_found key n at is k all.1)
   where
-    go : (b : Bool) → cond b (rows_of added k ++ row ∷ []) (rows_of added k) ≡ rows_of added k ++ map (λ (p : Row × ℕ). p.1) (cond b ((key, row) ∷ []) [])
-    go true = refl
-    go false = sym (append-nil (rows_of added k))
+    go : (b : Bool) → look n (map at is) k ≡ option_map at (slice_get (filter (λ j. same_row (key (at j)) k) is) 0)
+        → cond b (Some (at i)) (look n (map at is) k) ≡ option_map at (slice_get (cond b (i ∷ filter (λ j. same_row (key (at j)) k) is) (filter (λ j. same_row (key (at j)) k) is)) 0)
+    go true later = refl
+    go false later = later
 
-row_added : (added : List (Row × ℕ)) (key : Row) (row : ℕ) → with_row key row (rows_of added) ≡ rows_of (added ++ (key, row) ∷ [])
-row_added added key row = λ i k. added_at added key row k i
+first_holds : (P : ℕ → Type 0) (p : ℕ → Bool) (is : List ℕ) (i : ℕ) → AllByRecursion P is → slice_get (filter p is) 0 ≡ Some i → P i
+first_holds P p [] i all e = cc
+first_holds P p (j ∷ is) i all e = go (p j) (first_holds P p is i all.1) e
+  where
+    go : (b : Bool) → (slice_get (filter p is) 0 ≡ Some i → P i) → slice_get (cond b (j ∷ filter p is) (filter p is)) 0 ≡ Some i → P i
+    go true later h = let same : j ≡ i = cc in subst P same all.0
+    go false later h = later h
 
-pub index_more : (n : ℕ) (rows : List Row) (i : ℕ) (r key : Row) (old new : Row → List ℕ) → i < length rows → r ≡ get_or rows i r → key ≡ take n r → old ≡ rows_of (numbered n 0 (take i rows)) → new ≡ with_row key i old → new ≡ rows_of (numbered n 0 (take (i + 1) rows))
-index_more n rows i r key old new h at e o w =
-    w ∙ ap (with_row key i) o ∙ row_added (numbered n 0 (take i rows)) key i ∙ ap (λ k. rows_of (numbered n 0 (take i rows) ++ (k, i) ∷ [])) e
-    ∙ ap rows_of (sym (numbered_more n rows i r h at))
+module _ (n : ℕ) (rows : List Row) (x : RowLookup) (k : Row) (by : IsIndexBy n rows x) where
+  found_is : found_rows x k ≡ rows_with (key_at x.p x.key) rows k
+  found_is = rw (by.nulls, by.rows) refl
+
+  keys_are : AllByRecursion (λ i. key_at x.p x.key (row_at rows i) ≡ take n (row_at rows i)) (range_with_len 0 (length rows))
+  keys_are = all_of_map (row_at rows) (λ r. key_at x.p x.key r ≡ take n r) (range_with_len 0 (length rows)) (subst (AllByRecursion (λ r. key_at x.p x.key r ≡ take n r)) (sym (all_indexed rows [])) by.keys)
+
+  looked : look n rows k ≡ option_map (row_at rows) (slice_get (found_rows x k) 0)
+  looked =
+      ap (λ l. look n l k) (sym (all_indexed rows [])) ∙ first_found (key_at x.p x.key) n (row_at rows) (range_with_len 0 (length rows)) k keys_are
+      ∙ ap (λ l. option_map (row_at rows) (slice_get l 0)) (sym found_is)
+
+  pub found_place : (is : List ℕ) (i : ℕ) → is ≡ found_rows x k → Some i ≡ slice_get is 0 → i < length rows
+  found_place is i e h =
+      first_holds (λ j. j < length rows) (λ j. same_row (key_at x.p x.key (row_at rows j)) k) (range_with_len 0 (length rows)) i (all_in_range (λ j. j < length rows) 0 (length rows) (λ j l m. omega (arith, m)))
+      (ap (λ l. slice_get l 0) (sym (e ∙ found_is)) ∙ sym h)
+
+  pub found_row : (is : List ℕ) (i : ℕ) (r : Row) → is ≡ found_rows x k → Some i ≡ slice_get is 0 → r ≡ get_or rows i r → Some r ≡ look n rows k
+  found_row is i r e h at =
+      ap Some (at ∙ any_default) ∙ ap (option_map (row_at rows)) h ∙ ap (λ l. option_map (row_at rows) (slice_get l 0)) e ∙ sym looked
+    where
+      any_default : get_or rows i r ≡ row_at rows i
+      any_default = get_or_default rows i r [] (found_place is i e h)
+
+  pub found_none : (is : List ℕ) → is ≡ found_rows x k → None ≡ slice_get is 0 → None ≡ look n rows k
+  found_none is e h = ap (option_map (row_at rows)) h ∙ ap (λ l. option_map (row_at rows) (slice_get l 0)) e ∙ sym looked
+
+-- ---- an index of a data set's points by their identifiers
+keys_of_points : (p : Settings) (s : Structure) (rows : List Row) → IsDataSet s rows → AllByRecursion (λ r. key_at p (map as_it_is (places_in (columns_of s) (identifiers_of s))) r ≡ take (key_width s) r) rows
+keys_of_points p s rows d =
+    let places = places_in (columns_of s) (identifiers_of s) in
+    all_more (λ r. is_point (columns_of s) r ≡ true) (λ r. key_at p (map as_it_is places) r ≡ take (key_width s) r)
+    (λ r h. ap (λ (f : Row → Row). f r) (plain_keys p places) ∙ key_cells s s r d.well_formed (refl, refl) (key_within s r h)) rows d.typed
+
+module _ (asked : List KeyColumn) (places : List ℕ) (is : asked ≡ map as_it_is places) where
+  places_are : columns_in asked ≡ places
+  places_are = ap columns_in is ∙ columns_as_they_are places
+
+  pub index_by : (x : RowLookup) (s : Structure) (rows : List Row) → x.rows ≡ rows → x.nulls ≡ Found → x.key ≡ map as_it_is (places_in (columns_of s) (identifiers_of s)) → length places ≡ key_width s → IsDataSet s rows
+      → (asked ≡ map as_it_is (columns_in asked)) × IsIndexBy (length (columns_in asked)) rows x
+  index_by x s rows all nulls key width d =
+      let wide : key_width s ≡ length (columns_in asked) = sym (ap length places_are ∙ width) in
+      let keys = subst (λ k. AllByRecursion (λ r. key_at x.p k r ≡ take (key_width s) r) rows) (sym key) (keys_of_points x.p s rows d) in (
+        is ∙ ap (map as_it_is) (sym places_are),
+        record { rows = all; nulls = nulls; keys = subst (λ n. AllByRecursion (λ r. key_at x.p x.key r ≡ take n r) rows) wide keys },
+      )
+
+  abbrev sought : List ℕ → List Row → Sought
+  sought at points = record { places = at; points = points }
+
+  pub sought_is : (rows points : List Row) → rows ≡ points → sought (columns_in asked) rows ≡ sought places points
+  sought_is rows points same = ap (λ l. sought l rows) places_are ∙ ap (sought places) same

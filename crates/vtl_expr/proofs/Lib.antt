@@ -4,5 +4,7 @@ pub mod FindingLemmas
 pub mod MeasureLemmas
 pub mod PairLemmas
 pub mod PointLemmas
+pub mod PreparedLemmas
+pub mod Ranges
 pub mod Values
 pub mod Walks

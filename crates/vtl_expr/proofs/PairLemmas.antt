@@ -48,7 +48,7 @@ pair_fits p a b s es sought r f k is own q at =
     let other = look_is (λ x. is_point theirs x ≡ true) (length places) b.points (cells_at places r) q k.typed looked in
     fitting p (columns_of a ++ theirs) es (columns_of s) (r ++ q) f (point_append (columns_of a) theirs r q own other)
 
-pub all_fit : (p : Settings) (a b : DataSet) (s : Structure) (es : List CompExp) (sought : Sought) → AreFor p (columns_of a.structure ++ columns_of b.structure) es (columns_of s) → IsDataSet a.structure a.points → IsDataSet b.structure b.points → sought ≡ sought_by a.structure b → AllFit p es (table_columns s) sought a.points
+pub all_fit : (p : Settings) (a b : DataSet) (s : Structure) (es : List CompExp) (sought : Sought) → AreFor p (columns_of a.structure ++ columns_of b.structure) es (columns_of s) → IsDataSet a.structure a.points → IsDataSet b.structure b.points → sought ≡ sought_by a.structure b → AllFit (point_of p es) (table_columns s) sought a.points
 all_fit p a b s es sought f h k is =
     all_more (λ r. is_point (columns_of a.structure) r ≡ true) (λ r. (q : Row) → found sought r ≡ Some q → fits (table_columns s) (point_of p es (r ++ q)) ≡ true) (λ r own q at. pair_fits p a.structure b s es sought r f k is own q at) a.points h.typed
 

@@ -13,31 +13,68 @@ use Rattle.vtl_scalar.specs.Answers.{AnswersBy}
 use Rattle.vtl_scalar.specs.declared.error.ScalarErr.{ScalarErr}
 use Rattle.vtl_tree.specs.CompExp.{CompExp}
 use Rattle.vtl_tree.specs.DataSet.{is_point}
-use Rattle.vtl_tree.specs.Value.{value}
-use Rattle.vtl_tree.specs.View.{comp_exp_of}
-use Rattle.vtl_tree.specs.declared.expression.CompExpr.{CompExpr}
+use Rattle.vtl_tree.specs.Value.{value, values}
+use Rattle.vtl_tree.specs.View.{comp_exps_of}
 use Rattle.vtl_tree.specs.declared.structure.Component.{Component}
 use Rattle.vtl_tree.proofs.Faults.{faults_by-append, join_none}
 use Rattle.vtl_sets.specs.TableOf.{column_for}
 use Rattle.vtl_sets.proofs.ColumnLemmas.{kinds_of_columns}
 use Rattle.vtl_meaning.specs.Made.{AreFor}
-use Rattle.vtl_meaning.specs.Points.{cell_or_null, point_fault, point_of}
+use Rattle.vtl_meaning.specs.Points.{cell_or_null, each_point, point_fault, point_of}
 use Rattle.vtl_meaning.proofs.Kept.{values_fit}
+use Rattle.vtl_expr.specs.Prepared.{SameValues, prepared_exp}
 use Rattle.vtl_expr.specs.Seen.{answer_of}
+use Rattle.vtl_expr.specs.declared.prepared.Prepared.{Prepared}
 
 -- ---- one more value
-pub values_more : (p : Settings) (es : List CompExpr) (i : ℕ) (e : CompExpr) (r : Row) → i < length es → e ≡ get_or es i e → point_of p (map comp_exp_of (take (i + 1) es)) r ≡ point_of p (map comp_exp_of (take i es)) r ++ cell_or_null (value p (comp_exp_of e) r) ∷ []
-values_more p es i e r h at =
-    let f : CompExp → Cell = λ x. cell_or_null (value p x r) in
-    ap (map f) (map_more comp_exp_of es i e h) ∙ map-append f (map comp_exp_of (take i es)) (comp_exp_of (get_or es i e) ∷ [])
-    ∙ ap (λ x. map f (map comp_exp_of (take i es)) ++ f (comp_exp_of x) ∷ []) (sym at)
+pub values_more : {X : Type 0} (f : X → CompExp) (p : Settings) (es : List X) (i : ℕ) (e : X) (r : Row) → i < length es → e ≡ get_or es i e → point_of p (map f (take (i + 1) es)) r ≡ point_of p (map f (take i es)) r ++ cell_or_null (value p (f e) r) ∷ []
+values_more f p es i e r h at =
+    let g : CompExp → Cell = λ x. cell_or_null (value p x r) in
+    ap (map g) (map_more f es i e h) ∙ map-append g (map f (take i es)) (f (get_or es i e) ∷ [])
+    ∙ ap (λ x. map g (map f (take i es)) ++ g (f x) ∷ []) (sym at)
 
-pub fault_more : (p : Settings) (es : List CompExpr) (i : ℕ) (e : CompExpr) (r : Row) → i < length es → e ≡ get_or es i e → point_fault p (map comp_exp_of (take (i + 1) es)) r ≡ join (point_fault p (map comp_exp_of (take i es)) r) (fault_in (value p (comp_exp_of e) r))
-fault_more p es i e r h at =
-    let f : CompExp → Option Fault = λ x. fault_in (value p x r) in
-    let before = faults_by f (map comp_exp_of (take i es)) in
-    ap (faults_by f) (map_more comp_exp_of es i e h) ∙ faults_by-append f (map comp_exp_of (take i es)) (comp_exp_of (get_or es i e) ∷ [])
-    ∙ ap (join before) (join_none (f (comp_exp_of (get_or es i e)))) ∙ ap (λ x. join before (f (comp_exp_of x))) (sym at)
+pub fault_more : {X : Type 0} (f : X → CompExp) (p : Settings) (es : List X) (i : ℕ) (e : X) (r : Row) → i < length es → e ≡ get_or es i e → point_fault p (map f (take (i + 1) es)) r ≡ join (point_fault p (map f (take i es)) r) (fault_in (value p (f e) r))
+fault_more f p es i e r h at =
+    let g : CompExp → Option Fault = λ x. fault_in (value p x r) in
+    let before = faults_by g (map f (take i es)) in
+    ap (faults_by g) (map_more f es i e h) ∙ faults_by-append g (map f (take i es)) (f (get_or es i e) ∷ [])
+    ∙ ap (join before) (join_none (g (f (get_or es i e)))) ∙ ap (λ x. join before (g (f x))) (sym at)
+
+-- ---- prepared expressions
+point_by_values : (p : Settings) (es : List CompExp) (r : Row) → point_of p es r ≡ map cell_or_null (values p (comp_exps_of es) r)
+point_by_values p [] r = refl
+point_by_values p (e ∷ es) r = ap (λ l. cell_or_null (value p e r) ∷ l) (point_by_values p es r)
+
+fault_by_values : (p : Settings) (es : List CompExp) (r : Row) → point_fault p es r ≡ faults_by fault_in (values p (comp_exps_of es) r)
+fault_by_values p [] r = refl
+fault_by_values p (e ∷ es) r = ap (join (fault_in (value p e r))) (fault_by_values p es r)
+
+points_same : (p : Settings) (es fs : List CompExp) → SameValues es fs → point_of p es ≡ point_of p fs
+points_same p es fs same = λ j r. (point_by_values p es r ∙ ap (map cell_or_null) (same p r) ∙ sym (point_by_values p fs r)) j
+
+faults_same : (p : Settings) (es fs : List CompExp) → SameValues es fs → point_fault p es ≡ point_fault p fs
+faults_same p es fs same = λ j r. (fault_by_values p es r ∙ ap (faults_by fault_in) (same p r) ∙ sym (fault_by_values p fs r)) j
+
+-- in place of the expressions that they were made of
+module _ (p : Settings) (lent items : List Prepared) (es : List CompExp) (is : lent ≡ items) (same : SameValues (map prepared_exp items) es) where
+  pub points_prepared : point_of p (map prepared_exp lent) ≡ point_of p es
+  points_prepared = ap (λ l. point_of p (map prepared_exp l)) is ∙ points_same p (map prepared_exp items) es same
+
+  faults_prepared : point_fault p (map prepared_exp lent) ≡ point_fault p es
+  faults_prepared = ap (λ l. point_fault p (map prepared_exp l)) is ∙ faults_same p (map prepared_exp items) es same
+
+  -- at a point that is in one piece
+  pub point_whole : (r : Row) → point_of p (map prepared_exp lent) (r ++ []) ≡ point_of p es r
+  point_whole r = ap (λ (f : Row → Row). f (r ++ [])) points_prepared ∙ ap (point_of p es) (append-nil r)
+
+  pub fault_whole : (r : Row) → point_fault p (map prepared_exp lent) (r ++ []) ≡ point_fault p es r
+  fault_whole r = ap (λ (f : Row → Option Fault). f (r ++ [])) faults_prepared ∙ ap (point_fault p es) (append-nil r)
+
+  -- at all of them
+  pub each_prepared : (rows : List Row) → each_point p (map prepared_exp lent) rows ≡ each_point p es rows
+  each_prepared rows =
+      ap (λ (f : Row → Row). unless (faults_by (point_fault p (map prepared_exp lent)) rows) (map f rows)) points_prepared
+      ∙ ap (λ (f : Row → Option Fault). unless (faults_by f rows) (map (point_of p es) rows)) faults_prepared
 
 -- ---- one more point
 pub rows_more : (f : Row → Row) (rows : List Row) (i : ℕ) (r : Row) → i < length rows → r ≡ get_or rows i r → map f (take (i + 1) rows) ≡ map f (take i rows) ++ f r ∷ []

@@ -1,4 +1,6 @@
 pub mod Choices
+pub mod Given
 pub mod Partners
+pub mod Prepared
 pub mod Seen
 pub mod Sides

@@ -1,18 +1,19 @@
 -- Points that are found by the cells of other rows.
-use Rattle.std.specs.Prelude.{◌≡◌, ℕ, ◌+◌, true, List, [], ◌∷◌, ◌++◌, length, take, Option, Some, option_map}
+use Rattle.std.specs.Prelude.{◌≡◌, ◌++◌, ℕ, true, List, length, map, take, Option, Some, option_map}
 use Rattle.std.specs.List.{AllByRecursion}
 use Rattle.std.specs.Option.{option_to_list}
-use Rattle.vtl_cell.specs.Settings.{Settings}
 use Rattle.vtl_cell.specs.Row.{Row}
 use Rattle.vtl_rows.specs.Tables.{cells_at, fits}
 use Rattle.vtl_rows.specs.declared.column.Column.{Column}
-use Rattle.vtl_tree.specs.CompExp.{CompExp}
+use Rattle.vtl_index.specs.RowIndex.{RowLookup}
+use Rattle.vtl_index.specs.RowKeys.{key_at}
+use Rattle.vtl_index.specs.declared.row_keys.KeyColumn.{KeyColumn}
+use Rattle.vtl_index.specs.declared.row_keys.NullKeys.TheVariants.{Found}
 use Rattle.vtl_tree.specs.DataSet.{look}
 use Rattle.vtl_tree.specs.Environment.{DataSet}
 use Rattle.vtl_tree.specs.Structure.{columns_of}
 use Rattle.vtl_tree.specs.declared.structure.Structure.{Structure}
 use Rattle.vtl_meaning.specs.Columns.{identifiers_of, places_in}
-use Rattle.vtl_meaning.specs.Points.{point_of}
 
 -- points, and the places at which rows that ask for them have their identifiers
 pub record Sought : Type 0 where
@@ -31,11 +32,16 @@ sought_by s other = record { places = places_in (columns_of s) (identifiers_of o
 abbrev pub with_found : (Row → Row → Row) → Sought → Row → List Row
 with_found f sought r = option_to_list (option_map (f r) (found sought r))
 
--- what the expressions give at each row beside the point that it asks for fits the columns
-abbrev pub AllFit : Settings → List CompExp → List Column → Sought → List Row → Type 0
-AllFit p es columns sought rows = AllByRecursion (λ r. (q : Row) → found sought r ≡ Some q → fits columns (point_of p es (r ++ q)) ≡ true) rows
+-- what is made of each row beside the point that it asks for fits the columns
+abbrev pub AllFit : (Row → Row) → List Column → Sought → List Row → Type 0
+AllFit f columns sought rows = AllByRecursion (λ r. (q : Row) → found sought r ≡ Some q → fits columns (f (r ++ q)) ≡ true) rows
 
--- the first n cells of each row with its number, from a first one on
-abbrev pub numbered : ℕ → ℕ → List Row → List (Row × ℕ)
-numbered n i [] = []
-numbered n i (r ∷ rs) = (take n r, i) ∷ numbered n (i + 1) rs
+-- the columns of a key
+abbrev pub columns_in : List KeyColumn → List ℕ
+columns_in key = map (λ k. k.column) key
+
+-- the index finds rows by their first n cells
+pub record IsIndexBy (n : ℕ) (points : List Row) (x : RowLookup) : Type 0 where
+  pub rows : x.rows ≡ points
+  pub nulls : x.nulls ≡ Found
+  pub keys : AllByRecursion (λ r. key_at x.p x.key r ≡ take n r) points

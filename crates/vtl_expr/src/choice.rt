@@ -51,27 +51,11 @@ fn is_true_at(row: &[Cell], place: usize) -> bool
     matches!(row.get(place), Some(Cell::Bool(true)))
 }
 
-// The cells at places of a row, followed by those at places of another.
-fn joined(
-    alloc: Global,
-    row: &[Cell],
-    identifiers: &[usize],
-    point: &[Cell],
-    measures: &[usize],
-) -> Result<Vec<Cell>, AllocError>
-    ensures { IfOk result (λ v. v.items ≡ cells_at identifiers.now row.now ++ cells_at measures.now point.now) }
-{
-    let count = identifiers.len().saturating_add(measures.len());
-    let mut cells = Vec::with_capacity(alloc, count)?;
-    push_cells(&mut cells, row, identifiers)?;
-    push_cells(&mut cells, point, measures)?;
-    Ok(cells)
-}
-
-// Adds the point that an operand has for a point of the condition, where it has one.
+// Adds the point that an operand has for a point of the condition, where it has one. It is made in a list that is
+// used for one point after the other.
 fn push_taken<L: Ledger>(
-    alloc: Global,
     out: &mut Table,
+    cells: &mut Vec<Cell>,
     identifiers: &[usize],
     operand: &Alternative<'_>,
     row: &[Cell],
@@ -81,8 +65,11 @@ fn push_taken<L: Ledger>(
     ensures columns { out.new.columns ≡ out.old.columns }
     ensures rows { OnOk result (out.new.rows ≡ out.old.rows ++ taken identifiers.now operand.now row.now) }
 {
-    if let Some(point) = operand.partners.find(alloc, row, steps)? {
-        out.push_row(joined(alloc, row, identifiers, point, &operand.measures)?)?;
+    if let Some(point) = operand.partners.find(row, steps) {
+        cells.clear();
+        push_cells(cells, row, identifiers)?;
+        push_cells(cells, point, &operand.measures)?;
+        out.push_cells(cells)?;
     }
     Ok(())
 }
@@ -118,8 +105,8 @@ impl<'a> Choice<'a> {
     // Adds the point that is taken at a point of the condition, where there is one.
     fn push<L: Ledger>(
         &self,
-        alloc: Global,
         out: &mut Table,
+        cells: &mut Vec<Cell>,
         row: &[Cell],
         steps: &mut Steps<L>,
     ) -> Result<(), AllocError>
@@ -129,9 +116,9 @@ impl<'a> Choice<'a> {
         ensures rows { OnOk result (out.new.rows ≡ out.old.rows ++ chosen self.now row.now) }
     {
         if is_true_at(row, self.test) {
-            push_taken(alloc, out, &self.identifiers, &self.first, row, steps)
+            push_taken(out, cells, &self.identifiers, &self.first, row, steps)
         } else {
-            push_taken(alloc, out, &self.identifiers, &self.second, row, steps)
+            push_taken(out, cells, &self.identifiers, &self.second, row, steps)
         }
     }
 }
@@ -153,10 +140,12 @@ fn choice_table<L: Ledger>(
 {
     let mut steps: Steps<L> = Steps::new(blank);
     let choice = Choice::of(alloc, condition.structure(), then, other, made, &mut steps)?;
-    let mut out = new_table(alloc, made)?;
     let table = condition.table();
+    let mut out = new_table(alloc, made)?;
+    out.reserve_rows(table.len())?;
+    let mut cells = Vec::new(alloc);
     for i in 0..table.len() {
-        choice.push(alloc, &mut out, table.row(i), &mut steps)?;
+        choice.push(&mut out, &mut cells, table.row(i), &mut steps)?;
     }
     Ok(out)
 }

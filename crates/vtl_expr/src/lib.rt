@@ -5,13 +5,15 @@
 //! operator; the structure of a result is decided where scripts are checked, and passed in. Clauses on data sets are
 //! left to `vtl_clause`.
 //! It knows no script, no statement, no file and no text format.
-//! Begin with `evaluation.rt`, then `points.rt` and `measures.rt`.
+//! An expression is prepared once (`prepared.rt`) and then has a value at each point, which is lent where it stands.
+//! Begin with `prepared.rt` and `evaluation.rt`, then `points.rt` and `measures.rt`.
 #![tactic(auto)]
 
 mod choice;
 mod columns;
 mod evaluation;
 mod expressions;
+mod given;
 mod kept_columns;
 mod measures;
 mod namesakes;
@@ -19,15 +21,18 @@ mod pairs;
 mod partners;
 mod places;
 mod points;
+mod prepared;
 mod seen;
 
 pub use choice::choose;
 pub use columns::place_of;
-pub use evaluation::eval;
+pub use evaluation::{eval, value_at};
 pub use expressions::{copied, push_column};
+pub use given::Given;
 pub use kept_columns::keep_columns;
 pub use measures::map_measures;
 pub use pairs::pair_measures;
-pub use places::{places_in, push_cells, push_row};
+pub use places::{places_in, push_cells};
 pub use points::each_point;
+pub use prepared::{Prepared, prepare, prepare_all};
 pub use seen::Seen;

@@ -15,13 +15,14 @@ ghost use Rattle.vtl_meaning.specs.Operators.{pair_of};
 ghost use Rattle.vtl_meaning.specs.Points.{each_point, paired, point_fault, point_of};
 ghost use Rattle.vtl_sets.specs.TableOf.{IsTableOf, table_columns};
 ghost use Rattle.vtl_expr.specs.Partners.{AllFit, found, with_found};
+ghost use Rattle.vtl_expr.specs.Prepared.{prepared_exp};
 ghost use Rattle.vtl_expr.specs.Seen.{seen_of};
 ghost use Rattle.vtl_expr.specs.Sides.{left_column, right_column, side_column};
 
 use crate::namesakes::{Side, namesake_exps};
 use crate::partners::Partners;
-use crate::places::push_row;
 use crate::points::Points;
+use crate::prepared::{Prepared, prepare_all};
 use check_shapes::contains;
 use std::alloc::{AllocError, Global};
 use std::marker::Brand;
@@ -33,34 +34,24 @@ use vtl_scalar::ScalarErr;
 use vtl_sets::DataSet;
 use vtl_tree::{CompExpr, Structure};
 
-// The cells of a row, followed by those of its partner.
-fn beside(alloc: Global, row: &[Cell], partner: &[Cell]) -> Result<Vec<Cell>, AllocError>
-    ensures { IfOk result (λ v. v.items ≡ row.now ++ partner.now) }
-{
-    let mut cells = Vec::with_capacity(alloc, row.len().saturating_add(partner.len()))?;
-    push_row(&mut cells, row)?;
-    push_row(&mut cells, partner)?;
-    Ok(cells)
-}
-
 // Adds the point of a row and its partner, where it has one.
 fn push_pair<L: Ledger>(
     alloc: Global,
     points: &mut Points,
-    exps: &[CompExpr],
+    exps: &[Prepared],
     partners: &Partners<'_>,
     row: &[Cell],
     p: &Profile,
     steps: &mut Steps<L>,
 ) -> Result<(), ScalarErr>
-    requires { (q : Row) → found partners.now row.now ≡ Some q → fits points.old.table.columns (point_of p.now (map comp_exp_of exps.now) (row.now ++ q)) ≡ true }
+    requires { (q : Row) → found partners.now row.now ≡ Some q → fits points.old.table.columns (point_of p.now (map prepared_exp exps.now) (row.now ++ q)) ≡ true }
     ensures columns { points.new.table.columns ≡ points.old.table.columns }
-    ensures rows { OnOk result (points.new.table.rows ≡ points.old.table.rows ++ map (point_of p.now (map comp_exp_of exps.now)) (with_found (λ r q. r ++ q) partners.now row.now)) }
-    ensures seen { OnOk result (seen_of points.new.seen ≡ join (seen_of points.old.seen) (faults_by (point_fault p.now (map comp_exp_of exps.now)) (with_found (λ r q. r ++ q) partners.now row.now))) }
+    ensures rows { OnOk result (points.new.table.rows ≡ points.old.table.rows ++ map (point_of p.now (map prepared_exp exps.now)) (with_found (λ r q. r ++ q) partners.now row.now)) }
+    ensures seen { OnOk result (seen_of points.new.seen ≡ join (seen_of points.old.seen) (faults_by (point_fault p.now (map prepared_exp exps.now)) (with_found (λ r q. r ++ q) partners.now row.now))) }
     ensures err { IfErr result (λ e. e ≡ ScalarErr.OutOfMemory) }
 {
-    match partners.find(alloc, row, steps)? {
-        Some(partner) => points.push(alloc, exps, &beside(alloc, row, partner)?, p),
+    match partners.find(row, steps) {
+        Some(partner) => points.push(alloc, exps, row, partner, p),
         None => Ok(()),
     }
 }
@@ -68,7 +59,7 @@ fn push_pair<L: Ledger>(
 // The table of the values of expressions at each point with its partner.
 fn each_beside<L: Ledger>(
     alloc: Global,
-    exps: &[CompExpr],
+    exps: &[Prepared],
     lead: &DataSet,
     partners: &Partners<'_>,
     made: &Structure,
@@ -76,12 +67,12 @@ fn each_beside<L: Ledger>(
     steps: &mut Steps<L>,
 ) -> Result<Table, ScalarErr>
     requires structure { IsStructure made.now }
-    requires fits { AllFit p.now (map comp_exp_of exps.now) (table_columns made.now) partners.now lead.now.points }
+    requires fits { AllFit (point_of p.now (map prepared_exp exps.now)) (table_columns made.now) partners.now lead.now.points }
     ensures columns { IfOk result (λ t. t.columns ≡ table_columns made.now) }
-    ensures rows { AnswersBy (λ t. t.rows) result (each_point p.now (map comp_exp_of exps.now) (flat_map (with_found (λ r q. r ++ q) partners.now) lead.now.points)) }
+    ensures rows { AnswersBy (λ t. t.rows) result (each_point p.now (map prepared_exp exps.now) (flat_map (with_found (λ r q. r ++ q) partners.now) lead.now.points)) }
 {
-    let mut points = Points::new(alloc, made)?;
     let table = lead.table();
+    let mut points = Points::new(alloc, made, table.len())?;
     for i in 0..table.len() {
         push_pair(alloc, &mut points, exps, partners, table.row(i), p, steps)?;
     }
@@ -108,8 +99,9 @@ fn each_pair<L: Ledger>(
     ensures rows { AnswersBy (λ t. t.rows) result (each_point p.now (map comp_exp_of exps.now) (paired lead.now other.now)) }
 {
     let mut steps: Steps<L> = Steps::new(blank);
+    let prepared = prepare_all(alloc, exps)?;
     let partners = Partners::of(alloc, lead.structure(), other, &mut steps)?;
-    each_beside(alloc, exps, lead, &partners, made, p, &mut steps)
+    each_beside(alloc, &prepared, lead, &partners, made, p, &mut steps)
 }
 
 // The same, with a counter of steps.

@@ -62,18 +62,3 @@ pub fn push_cells(cells: &mut Vec<Cell>, row: &[Cell], places: &[usize]) -> Resu
     }
     Ok(())
 }
-
-/// Puts the cells of a row after others. Texts are shared. If memory runs out, the others are left as they were.
-pub fn push_row(cells: &mut Vec<Cell>, row: &[Cell]) -> Result<(), AllocError>
-    ensures ok { OnOk result (cells.new.items ≡ cells.old.items ++ row.now) }
-    ensures err { OnErr result (cells.new.items ≡ cells.old.items) }
-{
-    let before = cells.len();
-    for cell in row {
-        if let Err(error) = push_copy(cells, cell) {
-            cells.truncate(before);
-            return Err(error);
-        }
-    }
-    Ok(())
-}

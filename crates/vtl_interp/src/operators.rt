@@ -107,7 +107,7 @@ pub fn rename<'a>(alloc: Global, a: Value<'a>, made: &Structure) -> Result<Value
     ensures { AnswersBy value_view result (Ok (data_set made.now (value_view a.entry).points)) }
 {
     let made = share_structure(alloc, made)?;
-    Ok(Value::Made(vtl_clause::rename(alloc, a.into_data(alloc)?, made)?))
+    Ok(Value::Made(vtl_clause::rename(alloc, a.data(), made)?))
 }
 
 /// `sub`

@@ -1,6 +1,6 @@
-use Rattle.std.proofs.Common.{◌≡◌, ◌<◌, ◌≤◌, List, Option, length, true, arith, ap, sym, subst, ◌∙◌}
+use Rattle.std.proofs.Common.{◌≡◌, ◌<◌, ◌≤◌, List, [], ◌∷◌, ◌++◌, cond, Option, length, true, arith, ap, sym, subst, ◌∙◌}
 use Rattle.std.proofs.lemmas.List.{take_all}
-use Rattle.vtl_cell.specs.Outcome.{Fault, fault_in, faults_by}
+use Rattle.vtl_cell.specs.Outcome.{Fault, fault_in, faults_by, join}
 use Rattle.vtl_cell.specs.Row.{Row}
 use Rattle.vtl_rows.specs.Tables.{Listed, fits}
 use Rattle.vtl_tree.specs.Clauses.{filter_of, is_true, kept}
@@ -35,10 +35,13 @@ loop-i-preserved c =
     let r = c.row.result.now in
     let rows = c.table-table.result.now.rows in
     let within : c.loop-i.i < length rows = omega (arith, c.len-i-end.ensures.rows, c.loop-i-test.true) in
+    let same = c.in_ok-prepared.ensures p r in
     record {
       columns = c.keep.ensures.columns ∙ c.loop-i.invariant.columns;
-      rows = kept_more (λ x. is_true (value p e x)) rows c.loop-i.i r c.loop-i.kept.rows c.keep.new.kept.rows within c.row.ensures.row c.loop-i.invariant.rows c.in_ok-seen.ensures.rows;
-      seen = seen_more (λ x. fault_in (value p e x)) rows c.loop-i.i r (seen_of c.loop-i.seen) (seen_of c.in_ok-seen.seen) within c.row.ensures.row c.loop-i.invariant.seen c.in_ok-seen.ensures.seen;
+      rows = kept_more (λ x. is_true (value p e x)) rows c.loop-i.i r c.loop-i.kept.rows c.keep.new.kept.rows within c.row.ensures.row c.loop-i.invariant.rows
+          (c.in_ok-seen.ensures.rows ∙ ap (λ m. c.loop-i.kept.rows ++ cond (is_true m) (r ∷ []) []) same);
+      seen = seen_more (λ x. fault_in (value p e x)) rows c.loop-i.i r (seen_of c.loop-i.seen) (seen_of c.in_ok-seen.seen) within c.row.ensures.row c.loop-i.invariant.seen
+          (c.in_ok-seen.ensures.seen ∙ ap (λ m. join (seen_of c.loop-i.seen) (fault_in m)) same);
     }
 
 pub returns-clause-rows : goal.returns-clause-rows

@@ -4,10 +4,10 @@ use Rattle.std.proofs.lemmas.List.{take_all}
 use Rattle.vtl_cell.specs.Outcome.{faults_by}
 use Rattle.vtl_cell.specs.Row.{Row}
 use Rattle.vtl_rows.specs.Tables.{Listed, fits}
-use Rattle.vtl_tree.specs.View.{comp_exp_of}
 use Rattle.vtl_sets.specs.TableOf.{table_columns}
 use Rattle.vtl_meaning.specs.Points.{point_fault, point_of}
 use Rattle.vtl_expr.specs.Partners.{found, with_found}
+use Rattle.vtl_expr.specs.Prepared.{prepared_exp}
 use Rattle.vtl_expr.specs.Seen.{seen_of}
 use Rattle.vtl_expr.proofs.PointLemmas.{drawn_faults, drawn_mapped, finished, holds_at}
 use Rattle.vtl_expr.proofs.pairs.each_beside.Goals as goal
@@ -15,7 +15,7 @@ use Rattle.vtl_expr.proofs.pairs.each_beside.Goals as goal
 pub push_pair-requires : goal.push_pair-requires
 push_pair-requires g c = λ q e.
     let p = c.args.p.now in
-    let es = map comp_exp_of c.args.exps.now in
+    let es = map prepared_exp c.args.exps.now in
     let s = c.args.made.now in
     let rows = c.table-table.result.now.rows in
     let r = c.row.result.now in
@@ -26,7 +26,7 @@ push_pair-requires g c = λ q e.
 
 pub loop-i-preserved : goal.loop-i-preserved
 loop-i-preserved g c =
-    let es = map comp_exp_of c.args.exps.now in
+    let es = map prepared_exp c.args.exps.now in
     let p = c.args.p.now in
     let rows = c.table-table.result.now.rows in
     let draw = with_found (λ r q. r ++ q) c.args.partners.now in
@@ -40,7 +40,7 @@ loop-i-preserved g c =
 
 pub returns-clause-rows : goal.returns-clause-rows
 returns-clause-rows g c =
-    let es = map comp_exp_of c.args.exps.now in
+    let es = map prepared_exp c.args.exps.now in
     let p = c.args.p.now in
     let rows = c.table-table.result.now.rows in
     let draw = with_found (λ r q. r ++ q) c.args.partners.now in
