@@ -3,7 +3,6 @@ use Rattle.std.specs.Prelude.{ℕ, suc, ◌+◌, ◌<◌, ◌≡◌, true, false
 use Rattle.std.specs.Global.{Vec}
 use Rattle.vtl_lists.specs.Aliases.{Record}
 use Rattle.vtl_cell.specs.Settings.{Settings}
-use Rattle.vtl_cell.specs.declared.cell.Cell.{Cell}
 use Rattle.vtl_cell.specs.Row.{Row}
 use Rattle.vtl_rows.specs.Tables.{Listed}
 use Rattle.vtl_tree.specs.declared.structure.Component.{Component}
@@ -22,10 +21,10 @@ flaw_of f = (f.column, f.kind)
 abbrev pub fault_of : FaultFields → Fault
 fault_of f = (f.line, flaw_of f.flaw)
 
--- the row or the flaw that an answer holds
-abbrev pub row_answer : Result (Vec Cell) FlawFields → Result Row Flaw
-row_answer (Ok row) = Ok row.items
-row_answer (Err flaw) = Err (flaw_of flaw)
+-- a row, or the flaw where there is one
+abbrev pub row_answer : Row → Option Flaw → Result Row Flaw
+row_answer row None = Ok row
+row_answer row (Some flaw) = Err flaw
 
 -- the columns of a header, or a column
 abbrev pub columns_answer : Result (Vec Component) ℕ → Result (List Component) ℕ

@@ -12,7 +12,7 @@ ghost use Rattle.vtl_csv.specs.InputSteps.{Answers, IsLayout, fault_among, fault
 use crate::file_column::FileColumn;
 use crate::header::{Layout, read_layout};
 use crate::input::{Fault, Flaw, InputErr, InputKind};
-use crate::input_fields::record_row;
+use crate::input_fields::{MOST_POINTS, fill_row};
 use crate::records::RecordReader;
 use crate::text_pool::pools;
 use csv::ByteRecord;
@@ -22,8 +22,24 @@ use vtl_rows::Table;
 use vtl_sets::table_column;
 use vtl_tree::Structure;
 
-// A table of no rows with the columns of a file.
-fn table_of(alloc: Global, file: &[FileColumn]) -> Result<Table, AllocError>
+// So many bytes at the front of a file tell how long its lines are.
+const FRONT: usize = 65_536;
+
+// About how many rows a file has, by the lines at its front; mostly there are some fewer.
+fn expected_rows(text: &[u8]) -> usize {
+    let front = &text[..text.len().min(FRONT)];
+    let mut lines = 0usize;
+    for byte in front {
+        if *byte == b'\n' {
+            lines = lines.saturating_add(1);
+        }
+    }
+    let rows = lines.saturating_mul(text.len()) / front.len().max(1);
+    rows.saturating_add(rows / 32).min(MOST_POINTS)
+}
+
+// A table of no rows with the columns of a file, and with room for this many rows, where there is so much.
+fn table_of(alloc: Global, file: &[FileColumn], expected: usize) -> Result<Table, AllocError>
     requires { 0 < length file.now }
     ensures columns { IfOk result (λ t. t.columns ≡ map column_for file.now) }
     ensures rows { IfOk result (λ t. t.rows ≡ []) }
@@ -32,7 +48,10 @@ fn table_of(alloc: Global, file: &[FileColumn]) -> Result<Table, AllocError>
     for column in file {
         columns.push(table_column(column.component())?)?;
     }
-    Ok(Table::new(alloc, columns))
+    let mut table = Table::new(alloc, columns);
+    // Without this room the table grows as it is filled.
+    let _has_room = table.reserve_rows(expected).is_ok();
+    Ok(table)
 }
 
 // Adds the rows of the records that are left, up to the first flaw, which is the answer.
@@ -49,10 +68,12 @@ fn add_rows(
     ensures rows { IfOk result (λ o. taken table.new.rows (option_map flaw_of o) ≡ taken_with profile.now columns.now table.old.rows reader.old) }
 {
     let mut pools = pools(alloc, columns.len())?;
+    let mut row = Vec::with_capacity(alloc, columns.len())?;
     while reader.next(fields)? {
-        match record_row(alloc, columns, &mut pools, table.len(), fields, profile)? {
-            Ok(row) => table.push_row(row)?,
-            Err(flaw) => return Ok(Some(flaw)),
+        let count = table.len();
+        match fill_row(alloc, columns, &mut pools, count, fields, profile, &mut row)? {
+            None => table.push_cells(&mut row)?,
+            Some(flaw) => return Ok(Some(flaw)),
         }
     }
     Ok(None)
@@ -156,11 +177,12 @@ fn key_places<'a>(
     Ok(&places[..count])
 }
 
-// The data set whose records are left after a header with this layout.
+// The data set whose records are left after a header with this layout, about so many.
 fn read_table(
     alloc: Global,
     structure: &Structure,
     layout: &Layout,
+    expected: usize,
     reader: &mut RecordReader,
     fields: &mut ByteRecord,
     profile: &Profile,
@@ -169,7 +191,7 @@ fn read_table(
     requires layout { IsLayout structure.now (layout_seen layout.now) }
     ensures { IfOk result (λ r. Answers structure.now r (rows_below profile.now structure.now (layout_seen layout.now) reader.old)) }
 {
-    let mut table = table_of(alloc, &layout.columns)?;
+    let mut table = table_of(alloc, &layout.columns, expected)?;
     let keys = key_places(alloc, structure, &layout.places)?;
     match read_rows(
         alloc,
@@ -201,7 +223,10 @@ fn read_text(
         return Ok(Err(bad_header(1)));
     }
     match read_layout(alloc, structure, &fields)? {
-        Ok(layout) => read_table(alloc, structure, &layout, &mut reader, &mut fields, profile),
+        Ok(layout) => {
+            let expected = expected_rows(text);
+            read_table(alloc, structure, &layout, expected, &mut reader, &mut fields, profile)
+        }
         Err(column) => Ok(Err(bad_header(column))),
     }
 }

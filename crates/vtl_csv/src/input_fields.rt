@@ -1,9 +1,9 @@
 // The cells that the fields of a record spell in their columns.
-ghost use Rattle.std.specs.Prelude.{◌≡◌, [], IfOk, length};
+ghost use Rattle.std.specs.Prelude.{◌≡◌, [], IfOk, length, option_map};
 ghost use Rattle.csv.specs.Records.{fields_of};
 ghost use Rattle.vtl_cell.specs.Reading.{reads};
 ghost use Rattle.vtl_csv.specs.InputFields.{field_cell, record_row, row_with, text_cell};
-ghost use Rattle.vtl_csv.specs.InputSteps.{row_answer};
+ghost use Rattle.vtl_csv.specs.InputSteps.{flaw_of, row_answer};
 ghost use Rattle.std.specs.List.{zip};
 
 use crate::file_column::FileColumn;
@@ -16,8 +16,8 @@ use std::str;
 use vtl_cell::{Cell, Kind, Profile, read_cell};
 use vtl_tree::Role;
 
-// The most points that a file may hold.
-const MOST_POINTS: usize = 1_000_000;
+/// The most points that a file may hold.
+pub const MOST_POINTS: usize = 1_000_000;
 
 // The value of a kind that a text stands for. A text is shared with an equal one of the pool.
 fn value(
@@ -74,51 +74,55 @@ fn field_cell(
     }
 }
 
-// The cells of as many fields as columns.
-fn row(
+// Puts the cells of as many fields as columns into an empty row, up to the first flaw, which is the answer.
+fn fill(
     alloc: Global,
     columns: &[FileColumn],
     pools: &mut [TextPool],
     fields: &ByteRecord,
     profile: &Profile,
-) -> Result<Result<Vec<Cell>, Flaw>, AllocError>
+    row: &mut Vec<Cell>,
+) -> Result<Option<Flaw>, AllocError>
     requires fields { length (fields_of fields.now) ≡ length columns.now }
     requires pools { length pools.old ≡ length columns.now }
-    ensures { IfOk result (λ r. row_answer r ≡ row_with profile.now [] (zip columns.now (fields_of fields.now))) }
+    requires none { row.old.items ≡ [] }
+    ensures { IfOk result (λ o. row_answer row.new.items (option_map flaw_of o) ≡ row_with profile.now [] (zip columns.now (fields_of fields.now))) }
 {
-    let mut row = Vec::with_capacity(alloc, columns.len())?;
     for i in 0..columns.len() {
         match field_cell(alloc, &columns[i], &mut pools[i], field(fields, i), profile)? {
             Ok(cell) => row.push(cell)?,
             Err(kind) => {
                 let column = i as u64 + 1;
-                return Ok(Err(Flaw { column, kind }));
+                return Ok(Some(Flaw { column, kind }));
             }
         }
     }
-    Ok(Ok(row))
+    Ok(None)
 }
 
-/// The row of a record after `count` rows, or the first flaw of the record. The pools are those of the columns.
-pub fn record_row(
+/// Puts the cells of a record after `count` rows into an empty row, up to the first flaw of the record, which is the
+/// answer. The pools are those of the columns.
+pub fn fill_row(
     alloc: Global,
     columns: &[FileColumn],
     pools: &mut [TextPool],
     count: usize,
     fields: &ByteRecord,
     profile: &Profile,
-) -> Result<Result<Vec<Cell>, Flaw>, AllocError>
-    requires { length pools.old ≡ length columns.now }
-    ensures { IfOk result (λ r. row_answer r ≡ record_row profile.now columns.now count (fields_of fields.now)) }
+    row: &mut Vec<Cell>,
+) -> Result<Option<Flaw>, AllocError>
+    requires pools { length pools.old ≡ length columns.now }
+    requires none { row.old.items ≡ [] }
+    ensures { IfOk result (λ o. row_answer row.new.items (option_map flaw_of o) ≡ record_row profile.now columns.now count (fields_of fields.now)) }
 {
     if count >= MOST_POINTS {
         let kind = InputKind::TooManyRows;
-        return Ok(Err(Flaw { column: 1, kind }));
+        return Ok(Some(Flaw { column: 1, kind }));
     }
     if fields.len() == columns.len() {
-        return row(alloc, columns, pools, fields, profile);
+        return fill(alloc, columns, pools, fields, profile, row);
     }
     let column = fields.len().min(columns.len()) as u64 + 1;
     let kind = InputKind::WrongWidth;
-    Ok(Err(Flaw { column, kind }))
+    Ok(Some(Flaw { column, kind }))
 }

@@ -11,7 +11,7 @@ const FEW: usize = 64;
 // A text is kept in one of this many slots, by its hash, until another one takes the slot.
 const SLOTS: usize = 16_384;
 
-// After more texts than this, no more are kept where most of them were new.
+// After more texts than this, none is shared any more where most of them were new.
 const TRIAL: usize = 65_536;
 
 /// Texts of a column that were met lately. What it costs to look for one does not depend on the others.
@@ -20,6 +20,7 @@ pub struct TextPool {
     slots: Vec<Option<Txt>>,
     asked: usize,
     made: usize,
+    has_given_up: bool,
 }
 
 impl TextPool {
@@ -29,6 +30,7 @@ impl TextPool {
             slots: Vec::new(alloc),
             asked: 0,
             made: 0,
+            has_given_up: false,
         }
     }
 
@@ -36,8 +38,7 @@ impl TextPool {
     pub fn text(&mut self, alloc: Global, text: &str) -> Result<Txt, AllocError>
         ensures { IfOk result (λ t. t ≡ chars text.now) }
     {
-        self.asked = self.asked.saturating_add(1);
-        if self.asked < FEW || self.is_spent() {
+        if self.is_idle(alloc) {
             return Txt::new(alloc, text);
         }
         let place = place_of(text);
@@ -49,9 +50,18 @@ impl TextPool {
         Ok(made)
     }
 
-    // Whether most texts were new.
-    fn is_spent(&self) -> bool {
-        self.asked > TRIAL && self.made > self.asked / 2
+    // Counts one more text, and tells whether none is shared: there are few yet, or most of them were new at the end of
+    // the trial. Then what is held is given up for good.
+    fn is_idle(&mut self, alloc: Global) -> bool {
+        if self.has_given_up {
+            return true;
+        }
+        self.asked = self.asked.saturating_add(1);
+        if self.asked > TRIAL && self.made > self.asked / 2 {
+            self.slots = Vec::new(alloc);
+            self.has_given_up = true;
+        }
+        self.has_given_up || self.asked < FEW
     }
 
     // The text in a slot, where it is this one.

@@ -2,7 +2,7 @@ use Rattle.std.proofs.Common.{◌≡◌, [], drop, length}
 use Rattle.std.specs.List.{zip}
 use Rattle.csv.specs.Records.{fields_of}
 use Rattle.vtl_csv.specs.InputFields.{row_with}
-use Rattle.vtl_csv.proofs.input_fields.row.Given as goal
+use Rattle.vtl_csv.proofs.input_fields.fill.Given as goal
 
 abbrev pub invariant-loop-i : goal.invariant-loop-i
 invariant-loop-i l =

@@ -3,7 +3,7 @@ use Rattle.std.specs.List.{zip}
 use Rattle.csv.specs.Records.{fields_of}
 use Rattle.vtl_csv.specs.InputFields.{row_with}
 use Rattle.vtl_csv.proofs.InputFieldLemmas.{row_ends, row_stops, row_takes}
-use Rattle.vtl_csv.proofs.input_fields.row.Goals as goal
+use Rattle.vtl_csv.proofs.input_fields.fill.Goals as goal
 
 pub returns-in-Err : goal.returns-in-Err
 returns-in-Err c =
