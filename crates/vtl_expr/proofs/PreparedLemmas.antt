@@ -1,6 +1,6 @@
 -- Expressions that are prepared have the values of their trees.
-use Rattle.std.proofs.Common.{rules, Box, Vec, Global, ◌≡◌, Bool, true, false, Option, Some, None, ℕ, suc, ◌+◌, ◌<◌, ◌≤◌, arith, List, [], ◌∷◌, ◌++◌, length, get_or, take, drop, map, Ok, Err, refl, sym, ap, ◌∙◌}
-use Rattle.std.proofs.lemmas.List.{map_more, map-append, take_more}
+use Rattle.std.proofs.Common.{rules, Box, Global, ◌≡◌, Bool, true, false, Option, Some, None, ℕ, ◌+◌, ◌<◌, arith, List, [], ◌∷◌, ◌++◌, length, get_or, take, drop, map, Ok, Err, refl, sym, ap, ◌∙◌}
+use Rattle.std.proofs.lemmas.List.{map_more, map-append}
 use Rattle.vtl_cell.specs.Conversion.{as_kind}
 use Rattle.vtl_cell.specs.Outcome.{Outcome, after, fault_in, faults_by, join}
 use Rattle.vtl_cell.specs.Perm.{Perm}
@@ -8,21 +8,16 @@ use Rattle.vtl_cell.specs.Row.{Row}
 use Rattle.vtl_cell.specs.ScalarComparison.{membership_of, truth}
 use Rattle.vtl_cell.specs.Settings.{Settings}
 use Rattle.vtl_cell.specs.declared.cell.Cell.{Cell}
-use Rattle.vtl_cell.specs.declared.cell.Cell.TheVariants as c
 use Rattle.vtl_cell.specs.declared.kind.Kind.{Kind}
 use Rattle.vtl_cell.specs.declared.kind.Kind.TheVariants as k
-use Rattle.vtl_cell.specs.declared.operator.ScalarOp.{ScalarOp}
-use Rattle.vtl_cell.specs.declared.operator.ScalarOp.TheVariants as op
 use Rattle.vtl_scalar.proofs.MemberLemmas.{membership_of_perm}
-use Rattle.vtl_tree.specs.CompExp.{CompExp, aggregate, call, column, comp_exp, const}
-use Rattle.vtl_tree.specs.Value.{all_of, called, is_choice, result_of, value, values}
+use Rattle.vtl_tree.specs.CompExp.{CompExp, call, comp_exp, const}
+use Rattle.vtl_tree.specs.Value.{all_of, is_choice, result_of, value, values}
 use Rattle.vtl_tree.specs.View.{comp_exp_of, comp_exps_of}
-use Rattle.vtl_tree.specs.declared.expression.AggCall.{AggCall}
-use Rattle.vtl_tree.specs.declared.expression.CompExpr.{CompExpr, the_lemmas as tree_lemmas}
-use Rattle.vtl_tree.specs.declared.expression.CompExpr as tree
+use Rattle.vtl_tree.specs.declared.expression.CompExpr.{CompExpr}
 use Rattle.vtl_meaning.specs.Points.{cell_or_null, point_fault, point_of}
-use Rattle.vtl_expr.specs.Prepared.{SameValue, SameValues, asked, constants, membership_op, membership_test, prepared_exp}
-use Rattle.vtl_expr.specs.declared.prepared.Prepared.{Prepared, Column, Const, Apply, Membership, the_lemmas}
+use Rattle.vtl_expr.specs.Prepared.{SameValue, SameValues, asked, constants, membership_op, prepared_exp}
+use Rattle.vtl_expr.specs.declared.prepared.Prepared.{Prepared, Membership, the_lemmas}
 use Rattle.vtl_expr.proofs.Values.{no_choice}
 
 prepared-Membership : (is_in : Bool) (operand : Box Prepared Global) (members : List Cell) → prepared_exp (Membership is_in operand members) ≡ call (membership_op is_in) k.Bool (comp_exp (prepared_exp operand.value) (constants members))

@@ -1,10 +1,10 @@
-use Rattle.std.proofs.Common.{rules, arith, Global, Vec, ◌≡◌, ◌++◌, length, true, false, Some, None, Ok, Err, refl, sym, ap, ◌∙◌}
+use Rattle.std.proofs.Common.{rules, arith, Global, Vec, ◌≡◌, ◌++◌, true, false, Some, None, Ok, Err, refl, sym, ap, ◌∙◌}
 use Rattle.vtl_cell.specs.declared.cell.Cell.{Cell}
 use Rattle.vtl_cell.specs.declared.cell.Cell.TheVariants as cell
-use Rattle.vtl_tree.specs.Value.{all_of, called, first_chosen, is_choice, result_of}
+use Rattle.vtl_tree.specs.Value.{all_of, first_chosen, is_choice, result_of}
 use Rattle.vtl_expr.specs.Given.{given_cell}
 use Rattle.vtl_expr.proofs.PreparedLemmas.{membership_value}
-use Rattle.vtl_expr.proofs.Values.{AnswersBy_passed, AnswersBy_same, after_fault, after_value, choice_first, choice_value, no_operands_chosen, of_item, of_items, three_value, two_value}
+use Rattle.vtl_expr.proofs.Values.{AnswersBy_passed, AnswersBy_same, after_fault, after_value, choice_first, choice_value, no_operands_chosen, of_items, three_value, two_value}
 use Rattle.vtl_expr.proofs.evaluation.+evaluation.Goals as goal
 
 pub value_at-returns-in-Membership : goal.value_at-returns-in-Membership
