@@ -1,5 +1,5 @@
 -- The rows that a CSV file gives are points of its columns.
-use Rattle.std.proofs.Common.{◌≡◌, ℕ, zero, suc, ◌+◌, List, [], ◌∷◌, ◌++◌, Bool, true, false, cond, not, ◌&&◌, nat_le, Option, Some, None, Result, Ok, Err, length, map, arith, refl, sym, ap, ◌∙◌, subst, append_assoc}
+use Rattle.std.proofs.Common.{◌≡◌, ℕ, ◌+◌, List, [], ◌∷◌, ◌++◌, Bool, true, false, cond, not, ◌&&◌, nat_le, Option, Some, None, Result, Ok, Err, length, map, arith, refl, sym, ap, ◌∙◌, subst, append_assoc}
 use Rattle.std.specs.Prelude.{◌==◌, min}
 use Rattle.std.specs.List.{zip, AllByRecursion}
 use Rattle.std.specs.Str.{is_utf8}
@@ -24,7 +24,7 @@ use Rattle.vtl_sets.specs.TableOf.{column_for}
 use Rattle.vtl_sets.proofs.TableLemmas.{point_fits}
 use Rattle.vtl_csv.specs.declared.input.InputKind.{InputKind}
 use Rattle.vtl_csv.specs.declared.input.InputKind.TheVariants as i
-use Rattle.vtl_csv.specs.InputFields.{Flaw, at_column, coded_cell, field_cell, is_coded, most_points, record_row, row_with, text_cell}
+use Rattle.vtl_csv.specs.InputFields.{at_column, coded_cell, field_cell, is_coded, most_points, record_row, row_with, text_cell}
 use Rattle.vtl_csv.specs.StructuresFile.{is_identifier}
 
 abbrev ok_of : {X E : Type 0} → X → Result X E

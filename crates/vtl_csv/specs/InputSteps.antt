@@ -1,5 +1,5 @@
 -- The steps by which a CSV file of a data set is read: what each leaves, and how its answer is seen.
-use Rattle.std.specs.Prelude.{ℕ, suc, ◌+◌, ◌<◌, ◌≡◌, true, false, List, [], ◌∷◌, ◌++◌, length, take, Option, Some, None, Result, Ok, Err}
+use Rattle.std.specs.Prelude.{ℕ, ◌+◌, ◌≡◌, List, [], ◌∷◌, ◌++◌, length, Option, Some, None, Result, Ok, Err}
 use Rattle.std.specs.Global.{Vec}
 use Rattle.vtl_lists.specs.Aliases.{Record}
 use Rattle.vtl_cell.specs.Settings.{Settings}
