@@ -1,7 +1,6 @@
 -- The values of operators on prepared operands.
-use Rattle.std.proofs.Common.{◌≡◌, ◌==◌, Bool, true, false, Option, Some, arith, suc, ℕ, ◌+◌, ◌<◌, ◌≤◌, List, [], ◌∷◌, ◌++◌, length, get_or, drop, map, Result, Ok, Err, subst, refl, sym, ap, ◌∙◌, append_assoc}
+use Rattle.std.proofs.Common.{◌≡◌, ◌==◌, Bool, true, false, Option, Some, arith, suc, ℕ, List, [], ◌∷◌, ◌++◌, length, get_or, map, Result, Ok, Err, subst, refl, sym, ap, ◌∙◌}
 use Rattle.std.proofs.lemmas.Bool.{eqb-true}
-use Rattle.std.proofs.lemmas.List.{append-nil, drop_more, drop_all}
 use Rattle.vtl_cell.specs.Conversion.{as_kind}
 use Rattle.vtl_cell.specs.Outcome.{Fault, DivZero, Range, Outcome, after}
 use Rattle.vtl_cell.specs.Settings.{Settings}
@@ -42,10 +41,6 @@ no_choice p kind o (x ∷ y ∷ []) h = refl
 no_choice p kind o (x ∷ y ∷ z ∷ []) h = refl
 no_choice p kind o (x ∷ y ∷ z ∷ w ∷ more) h = refl
 
-one_of : {B : Type 0} (m : Outcome Cell) (f : List Cell → Outcome B) → after (all_of (m ∷ [])) f ≡ after m (λ x. f (x ∷ []))
-one_of (Ok x) f = refl
-one_of (Err e) f = refl
-
 two_of : {B : Type 0} (m n : Outcome Cell) (f : List Cell → Outcome B) → after (all_of (m ∷ n ∷ [])) f ≡ after m (λ x. after n (λ y. f (x ∷ y ∷ [])))
 two_of (Ok x) (Ok y) f = refl
 two_of (Ok x) (Err e) f = refl
@@ -78,13 +73,6 @@ module _ (p : Settings) (row : List Cell) where
       as_many : (xs : List Prepared) → length (of_items xs) ≡ length xs
       as_many [] = refl
       as_many (x ∷ xs) = ap suc (as_many xs)
-
-  pub one_value : (kind : Kind) (o : ScalarOp) (args : List Prepared) → length args ≡ 1 → (x : Prepared) → x ≡ get_or args 0 x → called p kind (of_items args) o ≡ after (of_item x) (λ v. result_of p o kind (v ∷ []))
-  one_value kind o [] h x at = absurd (omega (arith, h))
-  one_value kind o (a ∷ b ∷ more) h x at = absurd (omega (arith, h))
-  one_value kind o (a ∷ []) h x at =
-      no_choice p kind o (of_item a ∷ []) (other_number o 1 refl) ∙ one_of (of_item a) (result_of p o kind)
-      ∙ ap (λ y. after (of_item y) (λ v. result_of p o kind (v ∷ []))) (sym at)
 
   pub two_value : (kind : Kind) (o : ScalarOp) (args : List Prepared) → length args ≡ 2 → (x : Prepared) → x ≡ get_or args 0 x → (y : Prepared) → y ≡ get_or args 1 y → called p kind (of_items args) o ≡ after (of_item x) (λ v. after (of_item y) (λ w. result_of p o kind (v ∷ w ∷ [])))
   two_value kind o [] h x at y at_y = absurd (omega (arith, h))
@@ -123,9 +111,6 @@ module _ (p : Settings) (row : List Cell) where
     choice_is : (y z : Prepared) → called p kind (of_items args) o ≡ after (of_item x) (chosen kind (of_item (get_or args 1 y)) (of_item (get_or args 2 z)))
     choice_is y z = three_items kind o args h i x y z ∙ ap (λ t. after (of_item t) (chosen kind (of_item (get_or args 1 y)) (of_item (get_or args 2 z)))) (sym at)
 
-    pub choice_fault : (f : Fault) → of_item x ≡ Err f → called p kind (of_items args) o ≡ Err f
-    choice_fault f e = choice_is x x ∙ after_fault (of_item x) (chosen kind (of_item (get_or args 1 x)) (of_item (get_or args 2 x))) f e
-
     module _ (t : Cell) (e : of_item x ≡ Ok t) where
       pub choice_value : (b : Option Bool) → b ≡ first_chosen t → (y z : Prepared) → called p kind (of_items args) o ≡ after (branch b (of_item (get_or args 1 y)) (of_item (get_or args 2 z))) (as_kind p kind)
       choice_value b is y z =
@@ -135,37 +120,6 @@ module _ (p : Settings) (row : List Cell) where
       pub choice_first : Some true ≡ first_chosen t → (y : Prepared) → y ≡ get_or args 1 y → called p kind (of_items args) o ≡ after (of_item y) (as_kind p kind)
       choice_first is y at_y = choice_value (Some true) is y y ∙ ap (λ w. after (of_item w) (as_kind p kind)) (sym at_y)
 
-      pub choice_second : Some false ≡ first_chosen t → (z : Prepared) → z ≡ get_or args 2 z → called p kind (of_items args) o ≡ after (of_item z) (as_kind p kind)
-      choice_second is z at_z = choice_value (Some false) is z z ∙ ap (λ w. after (of_item w) (as_kind p kind)) (sym at_z)
-
   -- ---- all operands, one after the other: what comes of those that are left, behind the values of others
   abbrev pub rest : List Prepared → List Cell → Outcome (List Cell)
   rest args done = after (all_of (of_items args)) (λ vs. Ok (done ++ vs))
-
-  joined : (done : List Cell) (v : Cell) (m : Outcome (List Cell)) → after (after m (λ vs. Ok (v ∷ vs))) (λ vs. Ok (done ++ vs)) ≡ after m (λ vs. Ok ((done ++ v ∷ []) ++ vs))
-  joined done v (Ok vs) = ap Ok (sym (append_assoc done (v ∷ []) vs))
-  joined done v (Err f) = refl
-
-  front : (args : List Prepared) (i : ℕ) (x : Prepared) (done : List Cell) → i < length args → x ≡ get_or args i x → rest (drop i args) done ≡ rest (x ∷ drop (i + 1) args) done
-  front args i x done l at = ap (λ xs. rest xs done) (drop_more args i x l) ∙ ap (λ y. rest (y ∷ drop (i + 1) args) done) (sym at)
-
-  pub rest_more : (args : List Prepared) (i : ℕ) (x : Prepared) (done : List Cell) (v : Cell) → i < length args → x ≡ get_or args i x → of_item x ≡ Ok v → rest (drop i args) done ≡ rest (drop (i + 1) args) (done ++ v ∷ [])
-  rest_more args i x done v l at e =
-      front args i x done l at
-      ∙ ap (λ m. after (after m (λ w. after (all_of (of_items (drop (i + 1) args))) (λ ws. Ok (w ∷ ws)))) (λ vs. Ok (done ++ vs))) e
-      ∙ joined done v (all_of (of_items (drop (i + 1) args)))
-
-  pub rest_stops : (args : List Prepared) (i : ℕ) (x : Prepared) (done : List Cell) (f : Fault) → i < length args → x ≡ get_or args i x → of_item x ≡ Err f → rest (drop i args) done ≡ Err f
-  rest_stops args i x done f l at e =
-      front args i x done l at
-      ∙ ap (λ m. after (after m (λ w. after (all_of (of_items (drop (i + 1) args))) (λ ws. Ok (w ∷ ws)))) (λ vs. Ok (done ++ vs))) e
-
-  pub rest_done : (args : List Prepared) (i : ℕ) (done : List Cell) → length args ≤ i → rest (drop i args) done ≡ Ok done
-  rest_done args i done h = ap (λ xs. rest xs done) (drop_all i args h) ∙ ap Ok (append-nil done)
-
-  pub rest_all : (args : List Prepared) → all_of (of_items args) ≡ rest args []
-  rest_all args = go (all_of (of_items args))
-    where
-      go : (m : Outcome (List Cell)) → m ≡ after m (λ vs. Ok ([] ++ vs))
-      go (Ok vs) = refl
-      go (Err f) = refl
