@@ -10,4 +10,5 @@ pub mod Placed
 pub mod SeenRows
 pub mod Stable
 pub mod Starts
+pub mod Strict
 pub mod Ties

@@ -1,9 +1,12 @@
 // The first row that agrees with one before it.
-ghost use Rattle.std.specs.Prelude.{◌≡◌, ◌<◌, ◌&&◌, nat_lt, length, All, IfOk, IfSome, if◌then◌else◌};
+ghost use Rattle.std.specs.Prelude.{◌≡◌, ◌<◌, ◌&&◌, nat_lt, None, length, All, IfOk, IfSome, IsPermutation, if◌then◌else◌};
+ghost use Rattle.std.specs.Bool.{OnTrue};
+ghost use Rattle.std.specs.List.{range_with_len};
 ghost use Rattle.vtl_rows.specs.Keys.{FindsRepeat, FindsSame, apart, tie_by};
 ghost use Rattle.vtl_rows.specs.Places.{IsOrderOf, ties_before};
 
-use crate::order::{compare_places, is_in_order, numbers_below, order_of, rising_keys};
+use crate::guess::guessed_order;
+use crate::order::{compare_places, is_in_order, numbers_below, rising_keys, sorted_places};
 use crate::seen::{Meeting, Seen};
 use crate::{SortKey, Table};
 use std::alloc::{AllocError, Global};
@@ -56,6 +59,19 @@ fn repeat_in_order(table: &Table, places: &[usize], keys: &[SortKey]) -> Option<
     }
 }
 
+// Whether the rows at these places are each before the next one; then none ties with another.
+fn rise_strictly(table: &Table, keys: &[SortKey], places: &[usize]) -> bool
+    requires { IsPermutation (range_with_len 0 (length table.now.rows)) places.now }
+    ensures { OnTrue result (FindsSame (tie_by keys.now) table.now.rows None) }
+{
+    for i in 0..places.len().saturating_sub(1) {
+        if !compare_places(table, keys, places[i + 1], places[i]).is_gt() {
+            return false;
+        }
+    }
+    true
+}
+
 // The same, by hash, and by a sort where cells were chosen to have one hash.
 fn repeat_of(alloc: Global, table: &Table, keys: &[SortKey]) -> Result<Option<usize>, AllocError>
     ensures { IfOk result (FindsSame (tie_by keys.now) table.now.rows) }
@@ -67,7 +83,11 @@ fn repeat_of(alloc: Global, table: &Table, keys: &[SortKey]) -> Result<Option<us
     if let Some(found) = repeat_by_hash(alloc, table, keys)? {
         return Ok(found);
     }
-    let places = order_of(alloc, table, keys)?;
+    let guess = guessed_order(alloc, table, keys)?;
+    if rise_strictly(table, keys, &guess) {
+        return Ok(None);
+    }
+    let places = sorted_places(table, keys, guess)?;
     Ok(repeat_in_order(table, &places, keys))
 }
 
