@@ -1,7 +1,9 @@
+pub mod Agreements
 mod Determined
 pub mod Drawn
 pub mod Examples
 pub mod Faults
+pub mod JoinExamples
 pub mod Kept
 pub mod LookUps
 pub mod Looks

@@ -1,5 +1,7 @@
+pub mod Agreement
 pub mod Columns
 pub mod Faults
+pub mod Joined
 pub mod Literals
 pub mod LookUps
 pub mod Made
@@ -9,4 +11,6 @@ pub mod Orders
 pub mod Points
 pub mod Profiles
 pub mod Reaches
+pub mod Sets
 pub mod Shapes
+pub mod Turned
