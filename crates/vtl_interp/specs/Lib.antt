@@ -8,6 +8,8 @@ pub use Rattle.vtl_backend.specs.Tables
 pub use Rattle.vtl_backend.specs.Transformations
 pub use Rattle.vtl_backend.specs.Uses
 pub use Rattle.vtl_backend.specs.declared.error
+pub use Rattle.vtl_meaning.specs.Meaning
+pub use Rattle.vtl_meaning.specs.Profiles
 pub mod Evaluated
 pub mod Held
 pub mod Loaded

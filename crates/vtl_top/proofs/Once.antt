@@ -8,7 +8,7 @@ use Rattle.vtl_csv.specs.InputFile.{dataset_rows}
 use Rattle.vtl_decimal.specs.Settings.{Settings}
 use Rattle.vtl_interp.specs.Script.{has_definitions}
 use Rattle.vtl_interp.specs.Uses.{reads}
-use Rattle.vtl_meaning.specs.Meaning.{is_built}
+use Rattle.vtl_interp.specs.Meaning.{is_built}
 use Rattle.vtl_top.specs.Structures.{structures_in}
 use Rattle.vtl_top.specs.Expected.{asked_step, csv_limit, dataset_step, file_in, inputs_step, meant, one_more_step, outputs_of, points_or_fault, read, run_step, script_in, script_limit, script_of, script_step, structures_limit, structures_step, typed_by, typed_step, typing_of, unbuilt, with_points}
 use Rattle.vtl_top.specs.Steps.{Behind, Held, Path, Step, ◌>>=◌, only_files, refused_if, settled}

@@ -9,7 +9,7 @@ use Rattle.vtl_tree.specs.declared.structure.Structure.{Structure}
 use Rattle.vtl_csv.specs.InputFile.{Fault, Reads}
 use Rattle.vtl_csv.specs.declared.input.InputErr.{InputErr}
 use Rattle.vtl_csv.specs.declared.input.InputErr.TheVariants as input
-use Rattle.vtl_meaning.specs.Meaning.{Outputs, is_built}
+use Rattle.vtl_interp.specs.Meaning.{Outputs, is_built}
 use Rattle.vtl_interp.specs.Runs.{Tells}
 use Rattle.vtl_interp.specs.error.RunErr.{RunErr}
 use Rattle.vtl_interp.specs.error.RunErr.TheVariants as run

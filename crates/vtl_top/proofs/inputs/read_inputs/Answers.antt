@@ -5,7 +5,7 @@ use Rattle.vtl_tree.specs.Structures.{Named}
 use Rattle.vtl_tree.specs.declared.structure.Structure.{Structure}
 use Rattle.vtl_interp.specs.Checked.{nodes_of}
 use Rattle.vtl_interp.specs.Inputs.{environment_of, input_of, inputs_of, rows_named}
-use Rattle.vtl_meaning.specs.Profiles.{AllAreOfProfile}
+use Rattle.vtl_interp.specs.Profiles.{AllAreOfProfile}
 use Rattle.vtl_top.specs.Answered.{Takes}
 use Rattle.vtl_top.specs.Expected.{dataset_step, inputs_step, one_more_step, with_points}
 use Rattle.vtl_top.specs.InputsRead.{Adds}
