@@ -1,12 +1,11 @@
 -- Rows that an index finds by their first cells.
-use Rattle.std.proofs.Common.{◌≡◌, ℕ, zero, suc, ◌+◌, ◌<◌, ◌≤◌, List, [], ◌∷◌, Bool, true, false, cond, length, map, take, get_or, Option, Some, None, refl, sym, ap, ◌∙◌, subst, arith}
-use Rattle.std.specs.Prelude.{option_map, slice_get, slice_index_or}
+use Rattle.std.proofs.Common.{◌≡◌, ℕ, ◌<◌, List, [], ◌∷◌, Bool, true, false, cond, length, map, take, get_or, Some, None, refl, sym, ap, ◌∙◌, subst, arith}
+use Rattle.std.specs.Prelude.{option_map, slice_get}
 use Rattle.std.specs.List.{AllByRecursion, filter, range_with_len}
 use Rattle.std.proofs.lemmas.List.{get_or_default}
-use Rattle.vtl_cell.specs.Row.{Row, column_of, same_row}
+use Rattle.vtl_cell.specs.Row.{Row, same_row}
 use Rattle.vtl_cell.specs.Settings.{Settings}
 use Rattle.vtl_rows.specs.Places.{row_at}
-use Rattle.vtl_rows.specs.Tables.{cells_at}
 use Rattle.vtl_index.specs.Leads.{rows_with}
 use Rattle.vtl_index.specs.RowIndex.{RowLookup, found_rows}
 use Rattle.vtl_index.specs.RowKeys.{as_it_is, key_at}
@@ -14,7 +13,7 @@ use Rattle.vtl_index.specs.declared.row_keys.KeyColumn.{KeyColumn}
 use Rattle.vtl_index.specs.declared.row_keys.NullKeys.TheVariants.{Found}
 use Rattle.vtl_index.proofs.KeyForms.{plain_keys}
 use Rattle.vtl_tree.specs.DataSet.{IsDataSet, is_point, look}
-use Rattle.vtl_tree.specs.Structure.{IsStructure, columns_of, key_width}
+use Rattle.vtl_tree.specs.Structure.{columns_of, key_width}
 use Rattle.vtl_tree.specs.declared.structure.Structure.{Structure}
 use Rattle.vtl_meaning.specs.Columns.{identifiers_of, places_in}
 use Rattle.vtl_meaning.proofs.Places.{all_more, all_of_map, key_cells, key_within}

@@ -1,5 +1,4 @@
 use Rattle.std.proofs.Common.{List, map, ap, sym, subst, ◌∙◌}
-use Rattle.std.specs.List.{flat_map}
 use Rattle.vtl_cell.specs.Row.{Row}
 use Rattle.vtl_cell.specs.Outcome.{Outcome}
 use Rattle.vtl_rows.specs.Tables.{Listed}

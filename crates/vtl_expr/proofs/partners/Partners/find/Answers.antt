@@ -1,4 +1,4 @@
-use Rattle.std.proofs.Common.{◌≡◌, length, ap, ◌∙◌}
+use Rattle.std.proofs.Common.{length, ap, ◌∙◌}
 use Rattle.vtl_index.specs.RowIndex.{found_rows}
 use Rattle.vtl_index.specs.RowKeys.{key_at}
 use Rattle.vtl_index.proofs.KeyForms.{plain_keys}
