@@ -1,18 +1,22 @@
 -- The columns of an input, those of its key first.
 use Rattle.std.proofs.Common.{◌≡◌, ◌∙◌, ◌+◌, ◌<◌, ℕ, Bool, true, false, cond, not, ◌||◌, List, [], ◌∷◌, ◌++◌, length, take, drop, get_or, map, if◌then◌else◌, refl, ap, sym, append_assoc}
+use Rattle.std.specs.Map.{keys_of}
 use Rattle.std.specs.Prelude.{filter, zip}
 use Rattle.std.proofs.Math.Bool.{or_assoc}
 use Rattle.std.proofs.lemmas.List.{drop_more, map-append, take_more}
 use Rattle.std.proofs.lemmas.Slice.Eq.{bytes_eq-Decides}
-use Rattle.indexmap.specs.IndexSet.{insert_key}
 use Rattle.vtl_cell.specs.Texts.{same_text}
 use Rattle.sql_tree.specs.Trees.{Text}
 use Rattle.sql_tree.specs.declared.statements.InputColumn.{InputColumn}
 use Rattle.sql_check_parts.specs.Scopes.{is_among}
 use Rattle.sql_check_parts.specs.Statements.{column_entry, in_table_order}
+use Rattle.sql_check_parts.proofs.Maps.{map_push}
 use Rattle.sql_check.specs.Answers.{is_wanted}
 
--- ---- the set of a key
+-- ---- the names of a key
+
+abbrev pub Names : Type 0
+Names = List (Text × Unit {0})
 
 among_push : (name : Text) (ks : List Text) (k : Text) → is_among name (ks ++ k ∷ []) ≡ (is_among name ks || same_text name k)
 among_push name [] k = go (same_text name k)
@@ -38,19 +42,23 @@ among_again name ks k h = go (same_text name k) (bytes_eq-Decides name k).0
     go true same = or_true (is_among name ks) (ap (λ n. is_among n ks) (same refl) ∙ h)
     go false same = or_false (is_among name ks)
 
-among_inserted : (ks : List Text) (k name : Text) → is_among name (insert_key same_text ks k) ≡ (is_among name ks || same_text name k)
-among_inserted ks k name = go (is_among k ks) (among_again name ks k)
-  where
-    go : (b : Bool) → (b ≡ true → is_among name ks ≡ (is_among name ks || same_text name k)) → is_among name (if b then ks else ks ++ k ∷ []) ≡ (is_among name ks || same_text name k)
-    go true again = again refl
-    go false again = among_push name ks k
+one_more : (key : List Text) (i : ℕ) (k : Text) → i < length key → k ≡ get_or key i k → (name : Text) → is_among name (take (i + 1) key) ≡ (is_among name (take i key) || same_text name k)
+one_more key i k l e name = ap (is_among name) (take_more key i k l ∙ ap (λ y. take i key ++ y ∷ []) (sym e)) ∙ among_push name (take i key) k
 
--- one more name
-pub name_taken : (ks key : List Text) (i : ℕ) (k : Text) → i < length key → k ≡ get_or key i k → ((name : Text) → is_among name ks ≡ is_among name (take i key)) → (name : Text) → is_among name (insert_key same_text ks k) ≡ is_among name (take (i + 1) key)
-name_taken ks key i k l e h name =
-    among_inserted ks k name
+-- one more name, which is put
+pub name_put : (names : Names) (key : List Text) (i : ℕ) (k : Text) → i < length key → k ≡ get_or key i k → ((name : Text) → is_among name (keys_of names) ≡ is_among name (take i key)) → (name : Text) → is_among name (keys_of (names ++ (k, tt) ∷ [])) ≡ is_among name (take (i + 1) key)
+name_put names key i k l e h name =
+    ap (is_among name) (map_push (λ e. e.0) names (k, tt))
+    ∙ among_push name (keys_of names) k
     ∙ ap (λ b. b || same_text name k) (h name)
-    ∙ sym (ap (is_among name) (take_more key i k l ∙ ap (λ y. take i key ++ y ∷ []) (sym e)) ∙ among_push name (take i key) k)
+    ∙ sym (one_more key i k l e name)
+
+-- one more name, which is there
+pub name_there : (names : Names) (key : List Text) (i : ℕ) (k : Text) → i < length key → k ≡ get_or key i k → is_among k (keys_of names) ≡ true → ((name : Text) → is_among name (keys_of names) ≡ is_among name (take i key)) → (name : Text) → is_among name (keys_of names) ≡ is_among name (take (i + 1) key)
+name_there names key i k l e a h name =
+    among_again name (keys_of names) k a
+    ∙ ap (λ b. b || same_text name k) (h name)
+    ∙ sym (one_more key i k l e name)
 
 -- ---- columns
 

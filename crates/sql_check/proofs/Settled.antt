@@ -1,8 +1,9 @@
 -- What follows where no rule is broken.
-use Rattle.std.proofs.Common.{◌≡◌, ◌≤◌, ⊎_elim, ℕ, Bool, true, false, not, ◌||◌, ◌==◌, List, [], ◌∷◌, Some, None, Option, IsSome, IfSome, IfOk, Result, Ok, Err, if◌then◌else◌, encode_utf8_all, map, pos, length, refl, sym, ap, ◌∙◌, arith}
+use Rattle.std.proofs.Common.{◌≡◌, ◌≤◌, ⊎_elim, ℕ, Bool, true, false, not, ◌||◌, ◌==◌, List, [], ◌∷◌, Some, None, Option, is_some, IsSome, IfSome, IfOk, Result, Ok, Err, if◌then◌else◌, encode_utf8_all, map, pos, length, refl, sym, ap, ◌∙◌, arith}
 use Rattle.std.specs.Map.{keys_of}
 use Rattle.std.specs.Prelude.{nat_lt, zip}
 use Rattle.std.specs.List.{list_any}
+use Rattle.std.specs.Option.{is_none}
 use Rattle.vtl_cell.specs.Words.{is_word}
 use Rattle.std.proofs.lemmas.Bool.Decides.{eqb_tells}
 use Rattle.std.proofs.lemmas.Str.{length-le-encodes}
@@ -12,11 +13,12 @@ use Rattle.vtl_cell.specs.declared.kind.Kind.{Kind}
 use Rattle.vtl_kinds.specs.Literals.{lies_between}
 use Rattle.sql_tree.specs.Trees as tree
 use Rattle.sql_tree.specs.Trees.{QueryTree, StatementTree, Text}
+use Rattle.sql_tree.specs.declared.statements.SqlExport.{SqlExport}
 use Rattle.sql_tree.specs.declared.statements.SqlInput.{SqlInput}
 use Rattle.sql_check_parts.specs.Queries.{query_breaks, query_columns, query_names, shared_kinds}
 use Rattle.sql_check_parts.specs.Rules.{broken, least, lesser}
-use Rattle.sql_check_parts.specs.Scopes.{Columns, Tables, is_among, is_empty, or_nothing, or_null, repeats}
-use Rattle.sql_check_parts.specs.Statements.{Given, after, codes_fit, input_breaks, input_columns, is_taken, most_input_columns, names_fit, scale_of, scale_written, statement_breaks, with_table}
+use Rattle.sql_check_parts.specs.Scopes.{Columns, Tables, columns_of, is_among, is_empty, or_nothing, or_null, repeats}
+use Rattle.sql_check_parts.specs.Statements.{Given, after, codes_fit, export_breaks, input_breaks, input_columns, is_taken, most_input_columns, names_fit, order_fits, scale_of, scale_written, statement_breaks, with_table}
 use Rattle.sql_check_parts.specs.Told.{distinct_columns}
 use Rattle.sql_check_parts.specs.declared.rules.SqlRule.{SqlRule}
 use Rattle.sql_check_parts.specs.declared.rules.SqlRule.TheVariants as rule
@@ -105,6 +107,17 @@ pub input_step : (p : Settings) (before now : Given) (s : SqlInput) (columns : O
     → IfOk r (IsSettled before now s.name columns fault) → IfOk r (IsStep p before now (tree.input s))
 input_step p before now s columns fault r c f h =
     if_ok r h (λ told. settled p before now (tree.input s) s.name columns (input_columns s) fault told f refl (λ n. c ∙ (input_settled before.tables s (sym f ∙ n)).1))
+
+-- where an export breaks no rule, no export has its name
+pub export_new : (tables : Tables) (exported : List Text) (s : SqlExport) (fault : Option SqlRule) → fault ≡ least (export_breaks tables exported s) → is_some fault ≡ false → is_among s.name exported ≡ false
+export_new tables exported s (Some r) f n = cc
+export_new tables exported s None f n =
+    let unknown = is_none (columns_of tables s.name) in
+    let twice = is_among s.name exported in
+    let unfit = not (order_fits (columns_of tables s.name) s.order) in
+    let one = holds_first rule.UnknownTable unknown ((rule.MisnamedTable, twice || not (is_word s.name)) ∷ (rule.MisnamedColumn, unfit) ∷ []) (sym f) in
+    let two = holds_first rule.MisnamedTable (twice || not (is_word s.name)) ((rule.MisnamedColumn, unfit) ∷ []) one.1 in
+    (none_either twice (not (is_word s.name)) two.0).0
 
 -- where a created table breaks no rule its name is free, and the columns of its query have different names
 create_settled : (p : Settings) (tables : Tables) (name : Text) (q : QueryTree) (names : List Text) (kinds : List Kind) (taken query : Option SqlRule) → taken ≡ least (broken ((rule.MisnamedTable, is_taken tables name) ∷ [])) → query ≡ least (query_breaks p tables q)

@@ -27,7 +27,7 @@ is_wanted key true c = is_of_key key c
 is_wanted key false c = not (is_of_key key c)
 
 abbrev pub given_view : SoFar → Given
-given_view g = record { tables = g.tables; exported = g.exported.keys }
+given_view g = record { tables = g.tables; exported = keys_of g.exported }
 
 -- the least rule that a statement breaks, or none, and then what it gives is there
 abbrev pub GivesIfTyped : Option SqlRule → Given → Given → Type 0

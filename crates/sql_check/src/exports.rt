@@ -1,5 +1,6 @@
 // EXPORT.
 ghost use Rattle.std.specs.Prelude.{◌≡◌, ◌||◌, not, IfOk};
+ghost use Rattle.std.specs.Map.{keys_of};
 ghost use Rattle.std.specs.Option.{option_copied};
 ghost use Rattle.vtl_cell.specs.Words.{is_word};
 ghost use Rattle.sql_check_parts.specs.Rules.{least};
@@ -8,11 +9,10 @@ ghost use Rattle.sql_check_parts.specs.Statements.{export_breaks, order_fits};
 
 use crate::given::SoFar;
 use crate::inputs::names_fit;
-use indexmap::IndexSet;
 use sql_check_parts::{Columns, SqlRule, Test, least_broken};
 use sql_tree::SqlExport;
 use std::alloc::{AllocError, Global};
-use vtl_cell::{Txt, is_word};
+use vtl_cell::{ByName, Txt, is_word};
 
 fn order_fits(alloc: Global, columns: Option<&Columns>, order: &[Txt]) -> Result<bool, AllocError>
     ensures { IfOk result (λ b. b ≡ order_fits (option_copied columns.entry) order.now) }
@@ -23,10 +23,10 @@ fn order_fits(alloc: Global, columns: Option<&Columns>, order: &[Txt]) -> Result
     }
 }
 
-fn is_misnamed(exported: &IndexSet<Txt>, name: &Txt) -> bool
-    ensures { result ≡ (is_among name.now exported.now.keys || not (is_word name.now)) }
+fn is_misnamed(exported: &ByName<()>, name: &Txt) -> bool
+    ensures { result ≡ (is_among name.now (keys_of exported.now) || not (is_word name.now)) }
 {
-    exported.contains(name) || !is_word(name.as_str())
+    exported.has(name) || !is_word(name.as_str())
 }
 
 /// The least of the rules that an export breaks. It fails only if memory runs out.
@@ -35,7 +35,7 @@ pub fn export_fault(
     given: &SoFar,
     export: &SqlExport,
 ) -> Result<Option<SqlRule>, AllocError>
-    ensures { IfOk result (λ fault. fault ≡ least (export_breaks given.now.tables given.now.exported.keys export.now)) }
+    ensures { IfOk result (λ fault. fault ≡ least (export_breaks given.now.tables (keys_of given.now.exported) export.now)) }
 {
     let columns = given.tables.columns(&export.name);
     let is_unknown = columns.is_none();

@@ -3,16 +3,15 @@ ghost use Rattle.std.specs.Prelude.{◌≡◌};
 ghost use Rattle.sql_check_parts.specs.Statements.{nothing};
 ghost use Rattle.sql_check.specs.Answers.{given_view};
 
-use indexmap::IndexSet;
 use sql_check_parts::Tables;
 use std::alloc::Global;
-use vtl_cell::Txt;
+use vtl_cell::ByName;
 
 /// The tables that statements have given, and the names of those that they have exported.
 #[derive(Drop)]
 pub struct SoFar {
     pub tables: Tables,
-    pub exported: IndexSet<Txt>,
+    pub exported: ByName<()>,
 }
 
 impl SoFar {
@@ -22,7 +21,7 @@ impl SoFar {
     {
         SoFar {
             tables: Tables::new(alloc),
-            exported: IndexSet::new(alloc),
+            exported: ByName::new(alloc),
         }
     }
 }

@@ -11,28 +11,29 @@ ghost use Rattle.sql_check_parts.specs.Statements.{codes_fit, input_breaks, inpu
 ghost use Rattle.sql_check_parts.specs.Told.{distinct_columns};
 ghost use Rattle.sql_check.specs.Answers.{is_wanted};
 
-use indexmap::IndexSet;
 use sql_check_parts::{Columns, SqlRule, Tables, Test, least_broken, repeats};
 use sql_tree::{InputColumn, SqlInput};
 use std::alloc::{AllocError, Global};
-use vtl_cell::{Kind, Txt, is_word};
+use vtl_cell::{ByName, Kind, Txt, is_word};
 
 // The names of a key, to be looked up.
-fn key_set(alloc: Global, key: &[Txt]) -> Result<IndexSet<Txt>, AllocError>
-    ensures { IfOk result (λ names. (name : List ℕ) → is_among name names.keys ≡ is_among name key.now) }
+fn key_set(alloc: Global, key: &[Txt]) -> Result<ByName<()>, AllocError>
+    ensures { IfOk result (λ names. (name : List ℕ) → is_among name (keys_of names) ≡ is_among name key.now) }
 {
-    let mut names = IndexSet::new(alloc);
+    let mut names = ByName::new(alloc);
     for name in key {
-        names.insert(name.share()?)?;
+        if !names.has(name) {
+            names.put(name.share()?, ())?;
+        }
     }
     Ok(names)
 }
 
 // Whether a column is wanted: one of a key, or one that is not.
-fn is_wanted(key: &IndexSet<Txt>, of_key: bool, column: &InputColumn) -> bool
-    ensures { result ≡ is_wanted key.now.keys of_key column.now }
+fn is_wanted(key: &ByName<()>, of_key: bool, column: &InputColumn) -> bool
+    ensures { result ≡ is_wanted (keys_of key.now) of_key column.now }
 {
-    let is_of_key = key.contains(&column.name);
+    let is_of_key = key.has(&column.name);
     if of_key { is_of_key } else { !is_of_key }
 }
 
@@ -68,12 +69,12 @@ impl Listed {
     // Puts those columns behind the others that are of a key, or those that are not.
     fn put_those(
         &mut self,
-        key: &IndexSet<Txt>,
+        key: &ByName<()>,
         of_key: bool,
         columns: &[InputColumn],
     ) -> Result<(), AllocError>
-        ensures names { OnOk result (self.new.names.items ≡ self.old.names.items ++ map (λ c. c.name) (filter (is_wanted key.now.keys of_key) columns.now)) }
-        ensures kinds { OnOk result (self.new.kinds.items ≡ self.old.kinds.items ++ map (λ c. c.kind) (filter (is_wanted key.now.keys of_key) columns.now)) }
+        ensures names { OnOk result (self.new.names.items ≡ self.old.names.items ++ map (λ c. c.name) (filter (is_wanted (keys_of key.now) of_key) columns.now)) }
+        ensures kinds { OnOk result (self.new.kinds.items ≡ self.old.kinds.items ++ map (λ c. c.kind) (filter (is_wanted (keys_of key.now) of_key) columns.now)) }
     {
         for column in columns {
             if is_wanted(key, of_key, column) {

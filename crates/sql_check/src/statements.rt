@@ -1,9 +1,10 @@
 // Statements.
-ghost use Rattle.std.specs.Prelude.{◌≡◌, None, IfOk, OnOk};
+ghost use Rattle.std.specs.Map.{keys_of};
+ghost use Rattle.std.specs.Prelude.{◌≡◌, None, false, IfOk, OnOk};
 ghost use Rattle.sql_tree.specs.View.{query_tree, statement_tree};
 ghost use Rattle.sql_tree.specs.Trees as tree;
-ghost use Rattle.sql_check_parts.specs.Statements.{with_table};
-ghost use Rattle.sql_check_parts.specs.Scopes.{or_nothing};
+ghost use Rattle.sql_check_parts.specs.Statements.{with_export, with_table};
+ghost use Rattle.sql_check_parts.specs.Scopes.{is_among, or_nothing};
 ghost use Rattle.sql_check.specs.Answers.{IsSettled, IsStep, MayPut, given_view};
 
 use crate::exports::export_fault;
@@ -75,6 +76,15 @@ fn create(
     settle(given, &create.name, columns, lesser(taken, typed.fault))
 }
 
+// Puts the name of an export after the others. It fails only if memory runs out.
+fn put_export(given: &mut SoFar, name: &Txt) -> Result<(), AllocError>
+    requires { is_among name.now (keys_of given.old.exported) ≡ false }
+    ensures { OnOk result (given_view given.new ≡ with_export (given_view given.old) name.now) }
+{
+    given.exported.put(name.share()?, ())?;
+    Ok(())
+}
+
 fn export(
     alloc: Global,
     profile: &Profile,
@@ -85,7 +95,7 @@ fn export(
 {
     let fault = export_fault(alloc, given, export)?;
     if fault.is_none() {
-        given.exported.insert(export.name.share()?)?;
+        put_export(given, &export.name)?;
     }
     Ok(fault)
 }

@@ -2,5 +2,6 @@ pub mod Least
 pub mod Unbroken
 pub mod QueryKinds
 pub mod FewOperands
+pub mod Grouped
 pub mod Maps
 pub mod Places

@@ -1,65 +1,31 @@
--- Maps by name, as lists of entries.
-use Rattle.std.proofs.Common.{◌≡◌, ℕ, zero, suc, ◌+◌, ◌<◌, ◌≤◌, Bool, true, false, cond, not, ◌||◌, ◌++◌, List, [], ◌∷◌, length, take, map, get_or, Some, None, Option, is_some, refl, sym, ap, ◌∙◌, arith}
-use Rattle.std.specs.List.{fold}
-use Rattle.std.specs.Map.{keys_of, lookup}
-use Rattle.std.specs.Option.{option_map}
+-- Items by name, as lists of entries.
+use Rattle.std.proofs.Common.{◌≡◌, ℕ, zero, suc, ◌+◌, ◌<◌, ◌≤◌, true, false, not, ◌++◌, List, [], ◌∷◌, length, take, map, get_or, Some, None, refl, sym, ap, ◌∙◌, arith, if◌then◌else◌}
+use Rattle.std.specs.Map.{keys_of}
 use Rattle.std.specs.Prelude.{zip}
 use Rattle.std.proofs.lemmas.List.{take_more}
-use Rattle.std.proofs.lemmas.List.Sums.{fold-append}
-use Rattle.std.proofs.lemmas.Map.Made.{lookup-map_values}
-use Rattle.indexmap.specs.IndexMap.{insert_entry}
+use Rattle.std.proofs.lemmas.Map.Made.{keys_of-map_values}
 use Rattle.vtl_cell.specs.Apart.{all_apart}
-use Rattle.vtl_text.proofs.Apart.{repeated}
 use Rattle.vtl_cell.specs.Texts.{same_text}
-use Rattle.sql_check_parts.specs.Scopes.{is_among}
-
-pub among_lookup : {V : Type 0} (name : List ℕ) (es : List (List ℕ × V)) → is_some (lookup (same_text name) es) ≡ is_among name (keys_of es)
-among_lookup name [] = refl
-among_lookup name (e ∷ es) = go (among_lookup name es) (same_text name e.0)
-  where
-    go : is_some (lookup (same_text name) es) ≡ is_among name (keys_of es) → (b : Bool) → is_some (cond b (Some e.1) (lookup (same_text name) es)) ≡ (b || is_among name (keys_of es))
-    go ih true = refl
-    go ih false = ih
-
--- a name that is not there yet goes behind the others
-pub insert_new : {V : Type 0} (es : List (List ℕ × V)) (name : List ℕ) (v : V) → is_among name (keys_of es) ≡ false → insert_entry same_text es name v ≡ es ++ (name, v) ∷ []
-insert_new [] name v h = refl
-insert_new (e ∷ es) name v h = go (same_text name e.0) (insert_new es name v) h
-  where
-    go : (b : Bool) → (is_among name (keys_of es) ≡ false → insert_entry same_text es name v ≡ es ++ (name, v) ∷ []) → (b || is_among name (keys_of es)) ≡ false → cond b ((e.0, v) ∷ es) (e ∷ insert_entry same_text es name v) ≡ e ∷ (es ++ (name, v) ∷ [])
-    go true ih q = cc
-    go false ih q = ap (λ l. e ∷ l) (ih q)
-
--- an entry with its value mapped
-abbrev pub with_value : {V W : Type 0} → (V → W) → List ℕ × V → List ℕ × W
-with_value g e = (e.0, g e.1)
-
--- what is seen of a map whose values are mapped
-pub among_mapped : {V W : Type 0} (g : V → W) (name : List ℕ) (es : List (List ℕ × V)) → is_some (lookup (same_text name) es) ≡ is_among name (keys_of (map (with_value g) es))
-among_mapped {V = V} g name es = sym (some_mapped (lookup (same_text name) es)) ∙ ap is_some (sym (lookup-map_values g (same_text name) es)) ∙ among_lookup name (map (with_value g) es)
-  where
-    some_mapped : (o : Option V) → is_some (option_map g o) ≡ is_some o
-    some_mapped None = refl
-    some_mapped (Some v) = refl
-
-pub insert_mapped : {V W : Type 0} (g : V → W) (es : List (List ℕ × V)) (name : List ℕ) (v : V) → is_among name (keys_of (map (with_value g) es)) ≡ false
-    → map (with_value g) (insert_entry same_text es name v) ≡ map (with_value g) es ++ (name, g v) ∷ []
-insert_mapped g [] name v h = refl
-insert_mapped g (e ∷ es) name v h = go (same_text name e.0) (insert_mapped g es name v) h
-  where
-    go : (b : Bool) → (is_among name (keys_of (map (with_value g) es)) ≡ false → map (with_value g) (insert_entry same_text es name v) ≡ map (with_value g) es ++ (name, g v) ∷ [])
-        → (b || is_among name (keys_of (map (with_value g) es))) ≡ false → map (with_value g) (cond b ((e.0, v) ∷ es) (e ∷ insert_entry same_text es name v)) ≡ (e.0, g e.1) ∷ (map (with_value g) es ++ (name, g v) ∷ [])
-    go true ih q = cc
-    go false ih q = ap (λ l. (e.0, g e.1) ∷ l) (ih q)
+use Rattle.vtl_cell.specs.declared.kind.Kind.{Kind}
+use Rattle.vtl_text.proofs.Apart.{apart_push, repeated}
+use Rattle.sql_check_parts.specs.Scopes.{Columns, is_among, repeats}
+use Rattle.sql_check_parts.specs.Told.{distinct_columns}
 
 pub map_push : {A C : Type 0} (g : C → A) (ys : List C) (x : C) → map g (ys ++ x ∷ []) ≡ map g ys ++ g x ∷ []
 map_push g [] x = refl
 map_push g (y ∷ ys) x = ap (λ l. g y ∷ l) (map_push g ys x)
 
--- one more item of a fold over mapped items
-pub fold_taken : {A B C : Type 0} (f : B → A → B) (g : C → A) (b : B) (xs : List C) (i : ℕ) (x : C) → i < length xs → x ≡ get_or xs i x → f (fold f b (map g (take i xs))) (g x) ≡ fold f b (map g (take (i + 1) xs))
-fold_taken f g b xs i x h e =
-    sym (ap (λ ys. fold f b (map g ys)) (take_more xs i x h ∙ ap (λ y. take i xs ++ y ∷ []) (sym e)) ∙ ap (fold f b) (map_push g (take i xs) x) ∙ fold-append f b (map g (take i xs)) (g x ∷ []))
+-- an entry whose name is the one that was shared
+pub put_as : {V : Type 0} (before after : List (List ℕ × V)) (copy name : List ℕ) (v : V) → after ≡ before ++ (copy, v) ∷ [] → copy ≡ name → after ≡ before ++ (name, v) ∷ []
+put_as before after copy name v p e = p ∙ ap (λ (n : List ℕ). before ++ (n, v) ∷ []) e
+
+-- an entry with its value mapped
+abbrev pub with_value : {V W : Type 0} → (V → W) → List ℕ × V → List ℕ × W
+with_value g e = (e.0, g e.1)
+
+-- mapping the values keeps the names
+pub names_kept : {V W : Type 0} (g : V → W) (name : List ℕ) (es : List (List ℕ × V)) → is_among name (keys_of (map (with_value g) es)) ≡ is_among name (keys_of es)
+names_kept g name es = ap (is_among name) (keys_of-map_values g es)
 
 -- ---- columns of names and kinds
 
@@ -69,14 +35,6 @@ keys_taken names vs zero h = refl
 keys_taken [] vs (suc i) h = refl
 keys_taken (n ∷ names) [] (suc i) h = absurd (omega (arith, h))
 keys_taken (n ∷ names) (v ∷ vs) (suc i) h = ap (λ l. n ∷ l) (keys_taken names vs i (omega (arith, h)))
-
--- where all names are apart, each is new behind those before it
-pub new_name : {V : Type 0} (names : List (List ℕ)) (vs : List V) (i : ℕ) (name : List ℕ) → length vs ≡ length names → i < length names → name ≡ get_or names i name → all_apart same_text names ≡ true → is_among name (keys_of (take i (zip names vs))) ≡ false
-new_name names vs i name h l e apart = ap (is_among name) (keys_taken names vs i h) ∙ go (is_among name (take i names)) (repeated names i name l e)
-  where
-    go : (b : Bool) → (b ≡ true → false ≡ all_apart same_text names) → b ≡ false
-    go true before = sym (before refl ∙ apart)
-    go false before = refl
 
 pub keys_all : {V : Type 0} (names : List (List ℕ)) (vs : List V) → length vs ≡ length names → keys_of (zip names vs) ≡ names
 keys_all [] vs h = refl
@@ -118,6 +76,27 @@ taken_whole (x ∷ xs) (suc i) h = ap (λ l. x ∷ l) (taken_whole xs i (omega (
 pub entries_whole : {V : Type 0} (names : List (List ℕ)) (vs : List V) (i : ℕ) → length vs ≡ length names → length names ≤ i → take i (zip names vs) ≡ zip names vs
 entries_whole names vs i h l = taken_whole (zip names vs) i (omega (arith, l, zip_long names vs h))
 
-pub not_repeated : (b : Bool) → not b ≡ false → b ≡ true
-not_repeated true h = refl
-not_repeated false h = cc
+-- the first names of columns
+first_names : (names : List (List ℕ)) (kinds : List Kind) (i : ℕ) (es : Columns) → length kinds ≡ length names → es ≡ take i (zip names kinds) → keys_of es ≡ take i names
+first_names names kinds i es h s = ap keys_of s ∙ keys_taken names kinds i h
+
+-- a name among those before it stands twice
+pub twice : (names : List (List ℕ)) (kinds : List Kind) (i : ℕ) (name : List ℕ) (es : Columns) → length kinds ≡ length names → i < length names → name ≡ get_or names i name → es ≡ take i (zip names kinds)
+    → is_among name (keys_of es) ≡ true → None ≡ distinct_columns (zip names kinds)
+twice names kinds i name es h l e s a =
+    let before = repeated names i name l e (ap (is_among name) (sym (first_names names kinds i es h s)) ∙ a) in
+    sym (ap (λ b. if b then None else Some (zip names kinds)) (ap repeats (keys_all names kinds h) ∙ ap not (sym before)))
+
+-- one more name that is not among those before it
+pub still_apart : (names : List (List ℕ)) (kinds : List Kind) (i : ℕ) (name : List ℕ) (es : Columns) → length kinds ≡ length names → i < length names → name ≡ get_or names i name → es ≡ take i (zip names kinds)
+    → all_apart same_text (take i names) ≡ true → is_among name (keys_of es) ≡ false → all_apart same_text (take (i + 1) names) ≡ true
+still_apart names kinds i name es h l e s a f =
+    ap (all_apart same_text) (take_more names i name l ∙ ap (λ y. take i names ++ y ∷ []) (sym e))
+    ∙ apart_push (take i names) name a (ap (is_among name) (sym (first_names names kinds i es h s)) ∙ f)
+
+-- where all names are apart, the columns have different names
+pub once : (names : List (List ℕ)) (kinds : List Kind) (i : ℕ) (es : Columns) → length kinds ≡ length names → length names ≤ i → es ≡ take i (zip names kinds)
+    → all_apart same_text (take i names) ≡ true → Some es ≡ distinct_columns (zip names kinds)
+once names kinds i es h l s a =
+    ap Some (s ∙ entries_whole names kinds i h l)
+    ∙ sym (ap (λ b. if b then None else Some (zip names kinds)) (ap repeats (keys_all names kinds h) ∙ ap not (ap (all_apart same_text) (sym (taken_whole names i l)) ∙ a)))

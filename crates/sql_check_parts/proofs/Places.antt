@@ -1,7 +1,5 @@
 -- Looking a column up in mapped sources, and its place in the row of FROM.
-use Rattle.std.proofs.Common.{◌≡◌, ◌∙◌, ◌+◌, ℕ, suc, Bool, true, false, cond, length, map, get_or, List, [], ◌∷◌, ◌++◌, Some, None, Option, refl, ap, sym, append_assoc, arith}
-use Rattle.std.specs.List.{flat_map}
-use Rattle.std.specs.Map.{lookup}
+use Rattle.std.proofs.Common.{◌≡◌, ◌∙◌, ◌+◌, suc, Bool, true, false, cond, length, map, get_or, List, [], ◌∷◌, ◌++◌, Some, None, Option, refl, ap, sym, append_assoc, arith}
 use Rattle.std.specs.Option.{option_map}
 use Rattle.std.specs.Prelude.{option_and_then}
 use Rattle.std.proofs.lemmas.List.{length-map}

@@ -1,5 +1,5 @@
 -- A query has as many kinds as names.
-use Rattle.std.proofs.Common.{◌≡◌, ◌∙◌, suc, length, map, List, [], ◌∷◌, Some, None, refl, ap, sym}
+use Rattle.std.proofs.Common.{◌≡◌, ◌∙◌, suc, length, map, List, [], ◌∷◌, Some, refl, ap, sym}
 use Rattle.std.specs.Prelude.{Option}
 use Rattle.std.specs.List.{fold}
 use Rattle.std.proofs.lemmas.List.{length-map}

@@ -1,8 +1,11 @@
 -- Tables by name, their columns by name, and the sources of a select by alias, with one look-up for kinds, places and cells.
-use Rattle.std.specs.Prelude.{ℕ, suc, ◌+◌, Bool, true, false, not, ◌&&◌, List, [], ◌∷◌, ◌++◌, Option, Some, None, fold, length, map, option_and_then, if◌then◌else◌}
+use Rattle.std.specs.Prelude.{ℕ, suc, ◌+◌, Bool, true, false, not, List, [], ◌∷◌, ◌++◌, Option, Some, None, length, map, option_and_then, if◌then◌else◌}
+use Rattle.std.specs.Cmp.Lexicographic.{slice_cmp}
+use Rattle.std.specs.FinSet as set
 use Rattle.std.specs.List.{flat_map, list_any}
 use Rattle.std.specs.Map.{keys_of, lookup}
-use Rattle.indexmap.specs.IndexSet.{insert_key}
+use Rattle.std.specs.Ordering.{nat_cmp, ordering_then}
+use Rattle.std.specs.declared.cmp.Ordering.{Ordering}
 use Rattle.vtl_cell.specs.Apart.{all_apart}
 use Rattle.vtl_cell.specs.Texts.{same_text}
 use Rattle.vtl_cell.specs.declared.kind.Kind.{Kind}
@@ -111,15 +114,17 @@ ColumnName = Text × Text
 abbrev pub column_name : Column → ColumnName
 column_name c = (c.source, c.name)
 
-abbrev pub same_column : ColumnName → ColumnName → Bool
-same_column a b = same_text a.0 b.0 && same_text a.1 b.1
+-- columns by alias, and those of one alias by name
+abbrev pub column_order : ColumnName → ColumnName → Ordering
+column_order a b = ordering_then (slice_cmp nat_cmp a.0 b.0) (slice_cmp nat_cmp a.1 b.1)
 
--- the columns of GROUP BY, each once
+-- a set of columns
 abbrev pub Grouping : Type 0
-Grouping = List ColumnName
+Grouping = set.FinSet column_order
 
+-- the columns of GROUP BY
 abbrev pub grouping_of : List Column → Grouping
-grouping_of cs = fold (insert_key same_column) [] (map column_name cs)
+grouping_of cs = set.from_list (map column_name cs)
 
 abbrev pub is_grouped_by : Grouping → Column → Bool
-is_grouped_by group c = list_any (same_column (column_name c)) group
+is_grouped_by group c = set.contains group (column_name c)

@@ -1,9 +1,8 @@
 -- The rules that statements break, and the fault of a script: the least rule that its first faulty statement breaks.
-use Rattle.std.specs.Prelude.{◌≡◌, ℕ, suc, ℤ, pos, unsigned_abs, Bool, true, false, not, ◌&&◌, ◌||◌, List, [], ◌∷◌, ◌++◌, map, filter, fold, length, nat_lt, Option, Some, None, encode_utf8_all}
+use Rattle.std.specs.Prelude.{◌≡◌, ℕ, suc, ℤ, pos, unsigned_abs, Bool, true, false, not, ◌&&◌, ◌||◌, List, [], ◌∷◌, ◌++◌, map, filter, fold, length, nat_lt, Option, Some, None}
 use Rattle.std.specs.List.{list_any}
 use Rattle.std.specs.Map.{keys_of}
 use Rattle.std.specs.Option.{is_none}
-use Rattle.indexmap.specs.IndexSet.{insert_key}
 use Rattle.vtl_kinds.specs.Literals.{integer_written, lies_between}
 use Rattle.vtl_cell.specs.Settings.{Settings}
 use Rattle.vtl_cell.specs.settings.Rounding.{Rounding}
@@ -18,7 +17,6 @@ use Rattle.sql_tree.specs.declared.statements.SqlExport.{SqlExport}
 use Rattle.sql_tree.specs.declared.statements.SqlInput.{SqlInput}
 use Rattle.sql_check_parts.specs.Queries.{query_breaks, query_columns}
 use Rattle.sql_check_parts.specs.Rules.{broken, least}
-use Rattle.vtl_cell.specs.Texts.{same_text}
 use Rattle.sql_check_parts.specs.Scopes.{Columns, Tables, columns_of, is_among, is_empty, repeats, value_among}
 use Rattle.sql_check_parts.specs.declared.rules.SqlRule.{SqlRule}
 use Rattle.sql_check_parts.specs.declared.rules.SqlRule.TheVariants as rule
@@ -118,7 +116,7 @@ abbrev pub with_table : Given → Text → Columns → Given
 with_table given name columns = record { tables = given.tables ++ (name, columns) ∷ []; exported = given.exported }
 
 abbrev pub with_export : Given → Text → Given
-with_export given name = record { tables = given.tables; exported = insert_key same_text given.exported name }
+with_export given name = record { tables = given.tables; exported = given.exported ++ name ∷ [] }
 
 -- SET stands first alone
 abbrev pub statement_breaks : Settings → Given → StatementTree → List SqlRule

@@ -8,17 +8,16 @@ ghost use Rattle.sql_check_parts.specs.Told.{IsTold};
 ghost use Rattle.sql_check_parts.specs.Windows.{column_breaks, is_ungrouped};
 
 use crate::{Columns, Grouping, SqlRule, Test, Told, least_broken, or_null};
-use indexmap::IndexMap;
 use sql_tree::Column;
 use std::alloc::{AllocError, Global};
 use std::marker::Model;
-use vtl_cell::{Kind, Txt};
+use vtl_cell::{ByName, Kind, Txt};
 
 /// The sources of a select from the left, by alias. A contract sees the list of the aliases with the columns of the
 /// tables.
 #[derive(Drop)]
 pub struct Scope<'a> {
-    sources: IndexMap<Txt, &'a Columns>,
+    sources: ByName<&'a Columns>,
 }
 
 impl<'a> Model for Scope<'a> {
@@ -27,7 +26,7 @@ impl<'a> Model for Scope<'a> {
 
     ghost Value = { scopes.Scope };
 
-    ghost view = { λ s. map (λ e. (e.0, e.1.now)) s.sources.entries };
+    ghost view = { λ s. map (λ e. (e.0, e.1.now)) s.sources };
 }
 
 impl<'a> Scope<'a> {
@@ -36,7 +35,7 @@ impl<'a> Scope<'a> {
         ensures { result ≡ [] }
     {
         Scope {
-            sources: IndexMap::new(alloc),
+            sources: ByName::new(alloc),
         }
     }
 
@@ -44,7 +43,7 @@ impl<'a> Scope<'a> {
     pub fn has(&self, alias: &Txt) -> bool
         ensures { result ≡ is_among alias.now (keys_of self.now) }
     {
-        self.sources.contains_key(alias)
+        self.sources.has(alias)
     }
 
     /// Adds a source, unless it has no columns or its alias is there already. It fails only if memory runs out.
@@ -53,7 +52,7 @@ impl<'a> Scope<'a> {
     {
         match columns {
             Some(columns) if !self.has(alias) => {
-                self.sources.insert(alias.share()?, columns)?;
+                self.sources.put(alias.share()?, columns)?;
                 Ok(())
             }
             _ => Ok(()),

@@ -5,15 +5,14 @@ ghost use Rattle.std.specs.Prelude.{◌≡◌, ◌++◌, ◌∷◌, [], false, O
 ghost use Rattle.sql_check_parts.specs.Scopes.{columns_of, is_among};
 
 use crate::Columns;
-use indexmap::IndexMap;
 use std::alloc::{AllocError, Global};
 use std::marker::Model;
-use vtl_cell::Txt;
+use vtl_cell::{ByName, Txt};
 
 /// The tables that statements give. A contract sees the list of their names with their columns.
 #[derive(Drop)]
 pub struct Tables {
-    named: IndexMap<Txt, Columns>,
+    named: ByName<Columns>,
 }
 
 impl Model for Tables {
@@ -21,7 +20,7 @@ impl Model for Tables {
 
     ghost Value = { scopes.Tables };
 
-    ghost view = { λ t. t.named.entries };
+    ghost view = { λ t. t.named };
 }
 
 impl Tables {
@@ -30,7 +29,7 @@ impl Tables {
         ensures { result ≡ [] }
     {
         Tables {
-            named: IndexMap::new(alloc),
+            named: ByName::new(alloc),
         }
     }
 
@@ -45,7 +44,7 @@ impl Tables {
     pub fn has(&self, name: &Txt) -> bool
         ensures { result ≡ is_among name.now (keys_of self.now) }
     {
-        self.named.contains_key(name)
+        self.named.has(name)
     }
 
     /// Puts a table after the others, under a name that none has yet. It fails only if memory runs out.
@@ -53,7 +52,6 @@ impl Tables {
         requires { is_among name.now (keys_of self.old) ≡ false }
         ensures { OnOk result (self.new ≡ self.old ++ (name.now, columns) ∷ []) }
     {
-        self.named.insert(name.share()?, columns)?;
-        Ok(())
+        self.named.put(name.share()?, columns)
     }
 }

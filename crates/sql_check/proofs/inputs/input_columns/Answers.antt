@@ -1,4 +1,5 @@
 use Rattle.std.proofs.Common.{IfOk, ◌≡◌, map, length, ap, sym, subst, ◌∙◌}
+use Rattle.std.specs.Map.{keys_of}
 use Rattle.std.specs.Prelude.{zip}
 use Rattle.std.proofs.lemmas.List.{length-map}
 use Rattle.sql_check_parts.specs.Statements.{column_entry, in_table_order}
@@ -10,7 +11,7 @@ pub of-requires : goal.of-requires
 of-requires c =
     let key = c.as_slice.result.now in
     let cs = c.as_slice-columns.result.now in
-    let keys = c.in_ok-key.key.keys in
+    let keys = keys_of c.in_ok-key.key in
     let xs = in_table_order key cs in
     let start = c.new-listed.result in
     let first = c.put_those.new.self in
@@ -23,7 +24,7 @@ pub returns : goal.returns
 returns c =
     let key = c.as_slice.result.now in
     let cs = c.as_slice-columns.result.now in
-    let keys = c.in_ok-key.key.keys in
+    let keys = keys_of c.in_ok-key.key in
     let xs = in_table_order key cs in
     let ks = c.deref-2.result.now in
     let start = c.new-listed.result in

@@ -1,4 +1,5 @@
 use Rattle.std.proofs.Common.{◌+◌, ◌++◌, drop, map, ap, sym, ◌∙◌}
+use Rattle.std.specs.Map.{keys_of}
 use Rattle.std.specs.Prelude.{filter}
 use Rattle.sql_check.specs.Answers.{is_wanted}
 use Rattle.sql_check.specs.declared.inputs.Listed.{Listed}
@@ -8,7 +9,7 @@ use Rattle.sql_check.proofs.inputs.Listed.put_those.Goals as goal
 
 pub loop-column-preserved : goal.loop-column-preserved
 loop-column-preserved c =
-    let f = is_wanted c.args.key.now.keys c.args.of_key in
+    let f = is_wanted (keys_of c.args.key.now) c.args.of_key in
     let cs = c.args.columns.now in
     let i = c.loop-column.column-index in
     let x = c.column-item.result in

@@ -1,34 +1,28 @@
-use Rattle.std.proofs.Common.{ap, ◌∙◌, sym, if◌then◌else◌, None, Some}
+use Rattle.std.proofs.Common.{ap, sym, refl, ◌∙◌}
 use Rattle.std.specs.Map.{keys_of}
-use Rattle.std.specs.Prelude.{zip}
-use Rattle.vtl_cell.specs.Apart.{all_apart}
-use Rattle.vtl_cell.specs.Texts.{same_text}
-use Rattle.sql_check_parts.specs.Scopes.{is_among, repeats}
-use Rattle.sql_check_parts.proofs.Maps.{entries_whole, entry_taken, keys_all, new_name, not_repeated}
+use Rattle.sql_check_parts.specs.Scopes.{is_among}
+use Rattle.sql_check_parts.proofs.Maps.{entry_taken, once, put_as, still_apart, twice}
 use Rattle.sql_check_parts.proofs.columns.Columns.of.Goals as goal
 
-pub returns-then-branch : goal.returns-then-branch
-returns-then-branch c =
-    let ns = c.args.names.now in
-    let ks = c.args.kinds.now in
-    sym (ap (λ b. if b then None else Some (zip ns ks)) (ap repeats (keys_all ns ks c.requires) ∙ sym c.in_ok-repeats.ensures ∙ c.if-branch.true))
+pub loop-i-init : goal.loop-i-init
+loop-i-init c = record { listed = c.new-columns.ensures; apart = refl }
+
+pub returns-then-has : goal.returns-then-has
+returns-then-has c =
+    twice c.args.names.now c.args.kinds.now c.loop-i.i c.index-names-i.result c.loop-i.columns c.requires c.loop-i-test.true c.index-names-i.is c.loop-i.invariant.listed (sym c.has.ensures ∙ c.if-has.true)
 
 pub put-requires : goal.put-requires
-put-requires c =
-    let ns = c.args.names.now in
-    let ks = c.args.kinds.now in
-    let apart = not_repeated (all_apart same_text ns) (sym c.in_ok-repeats.ensures ∙ c.if-branch.false) in
-    ap (λ cs. is_among c.index-names-i.result (keys_of cs)) c.loop-i.invariant
-    ∙ new_name ns ks c.loop-i.i c.index-names-i.result c.requires c.loop-i-test.true c.index-names-i.is apart
+put-requires c = ap (λ name. is_among name (keys_of c.loop-i.columns)) c.in_ok-share.ensures ∙ sym c.has.ensures ∙ c.if-has.false
 
 pub loop-i-preserved : goal.loop-i-preserved
 loop-i-preserved c =
-    c.in_ok-put.ensures
-    ∙ entry_taken c.args.names.now c.args.kinds.now c.loop-i.i c.index-names-i.result _ c.loop-i.columns c.requires c.loop-i-test.true c.index-names-i.is c.loop-i.invariant
+    let name = c.index-names-i.result in
+    record {
+      listed =
+          put_as c.loop-i.columns _ _ name _ c.in_ok-put.ensures.put c.in_ok-share.ensures
+          ∙ entry_taken c.args.names.now c.args.kinds.now c.loop-i.i name _ c.loop-i.columns c.requires c.loop-i-test.true c.index-names-i.is c.loop-i.invariant.listed;
+      apart = still_apart c.args.names.now c.args.kinds.now c.loop-i.i name c.loop-i.columns c.requires c.loop-i-test.true c.index-names-i.is c.loop-i.invariant.listed c.loop-i.invariant.apart (sym c.has.ensures ∙ c.if-has.false);
+    }
 
 pub returns : goal.returns
-returns c =
-    let ns = c.args.names.now in
-    let ks = c.args.kinds.now in
-    ap Some (c.loop-i.invariant ∙ entries_whole ns ks c.loop-i.i c.requires c.loop-i-test.false)
-    ∙ sym (ap (λ b. if b then None else Some (zip ns ks)) (ap repeats (keys_all ns ks c.requires) ∙ sym c.in_ok-repeats.ensures ∙ c.if-branch.false))
+returns c = once c.args.names.now c.args.kinds.now c.loop-i.i c.loop-i.columns c.requires c.loop-i-test.false c.loop-i.invariant.listed c.loop-i.invariant.apart

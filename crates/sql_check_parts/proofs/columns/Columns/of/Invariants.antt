@@ -1,6 +1,11 @@
-use Rattle.std.proofs.Common.{◌≡◌, take}
+use Rattle.std.proofs.Common.{◌≡◌, take, true}
 use Rattle.std.specs.Prelude.{zip}
+use Rattle.vtl_cell.specs.Apart.{all_apart}
+use Rattle.vtl_cell.specs.Texts.{same_text}
 use Rattle.sql_check_parts.proofs.columns.Columns.of.Given as goal
 
 abbrev pub invariant-loop-i : goal.invariant-loop-i
-invariant-loop-i l = l.columns ≡ take l.i (zip l.names l.kinds)
+invariant-loop-i l = record {
+  listed : l.columns ≡ take l.i (zip l.names l.kinds);
+  apart : all_apart same_text (take l.i l.names) ≡ true;
+}

@@ -1,8 +1,7 @@
-use Rattle.std.proofs.Common.{◌≡◌, take, map, []}
-use Rattle.std.specs.List.{fold}
-use Rattle.indexmap.specs.IndexSet.{insert_key}
-use Rattle.sql_check_parts.specs.Scopes.{column_name, same_column}
+use Rattle.std.proofs.Common.{◌≡◌, map, take}
+use Rattle.sql_check_parts.specs.Scopes.{ColumnName, column_name}
+use Rattle.sql_check_parts.proofs.Grouped.{is_column_among}
 use Rattle.sql_check_parts.proofs.grouping.Grouping.of.Given as goal
 
 abbrev pub invariant-loop-column : goal.invariant-loop-column
-invariant-loop-column l = l.group.keys ≡ fold (insert_key same_column) [] (map column_name (take l.column-index l.columns))
+invariant-loop-column l = (name : ColumnName) → is_column_among name l.group.keys ≡ is_column_among name (map column_name (take l.column-index l.columns))

@@ -12,7 +12,7 @@ copied_mapped (Some b) = refl
 pub returns : goal.returns
 returns c =
     let test = same_text c.args.alias.now in
-    ap option_copied (c.copied.ensures ∙ c.get.ensures.value)
-    ∙ copied_mapped (lookup test c.self.inside.sources.entries)
-    ∙ sym (lookup-map_values (λ b. b.now) test c.self.inside.sources.entries)
+    ap option_copied (c.copied.ensures ∙ c.get.ensures)
+    ∙ copied_mapped (lookup test c.self.inside.sources)
+    ∙ sym (lookup-map_values (λ b. b.now) test c.self.inside.sources)
     ∙ ap (lookup test) c.self.view_is
