@@ -92,24 +92,27 @@ fn faulted(error: RunErr) -> Status
 }
 
 /// The outputs that a script means over its inputs, in a folder, or the status of its fault; or that memory ran out.
+/// The inputs are let go before the first text is made.
 pub fn results<B: Backend>(
     alloc: Global,
     back: &mut B,
     folder: &str,
     checked: &Checked,
-    inputs: &Tables,
+    inputs: Tables,
 ) -> Result<Vec<Output>, Status>
-    requires inputs { AreInputs checked.now inputs.now }
-    requires ranges { AreInRange checked.now inputs.now }
+    requires inputs { AreInputs checked.now inputs }
+    requires ranges { AreInRange checked.now inputs }
     requires built { is_script_built checked.now ≡ true }
-    ensures view { SettlesBy outputs_view (outputs_of folder.now checked.now.settings (script_meaning checked.now inputs.now)) result }
+    ensures view { SettlesBy outputs_view (outputs_of folder.now checked.now.settings (script_meaning checked.now inputs)) result }
     ensures named { IfOk result (λ o. AllByRecursion NamesPath o.items) }
     ensures told { HasRun (status_of result) → B.told back.new checked.now }
 {
     // The nodes are the typing of the script, so the structures of its results are known.
     let _nodes = checked.nodes();
     let mut tables = Tables::new(alloc);
-    match back.run(alloc, checked, inputs, &mut tables) {
+    let ran = back.run(alloc, checked, &inputs, &mut tables);
+    drop(inputs);
+    match ran {
         Ok(()) => Ok(make_outputs(alloc, folder, checked, &tables)?),
         Err(error) => Err(faulted(error)),
     }

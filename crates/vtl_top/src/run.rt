@@ -122,5 +122,5 @@ pub fn prepare<B: Backend, F: Files>(
         return Err(unbuilt(alloc, run.source.script));
     }
     let inputs = read_inputs(alloc, files, run.input, &checked)?;
-    results(alloc, back, run.output, &checked, &inputs)
+    results(alloc, back, run.output, &checked, inputs)
 }
