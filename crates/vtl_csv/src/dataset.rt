@@ -225,7 +225,15 @@ fn read_text(
     match read_layout(alloc, structure, &fields)? {
         Ok(layout) => {
             let expected = expected_rows(text);
-            read_table(alloc, structure, &layout, expected, &mut reader, &mut fields, profile)
+            read_table(
+                alloc,
+                structure,
+                &layout,
+                expected,
+                &mut reader,
+                &mut fields,
+                profile,
+            )
         }
         Err(column) => Ok(Err(bad_header(column))),
     }
