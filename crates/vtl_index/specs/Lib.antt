@@ -14,3 +14,4 @@ pub mod Places
 pub mod RowIndex
 pub mod RowKeys
 pub mod RowSlots
+pub mod Seekers

@@ -12,7 +12,7 @@ use vtl_cell::{Profile, Rounding};
 use vtl_rows::Table;
 
 // The columns of a key whose cells count as they are.
-fn key_of_columns(alloc: Global, columns: &[usize]) -> Result<Vec<KeyColumn>, AllocError>
+pub(crate) fn key_of_columns(alloc: Global, columns: &[usize]) -> Result<Vec<KeyColumn>, AllocError>
     ensures { IfOk result (λ key. key.items ≡ map as_it_is columns.now) }
 {
     columns
@@ -25,7 +25,7 @@ fn key_of_columns(alloc: Global, columns: &[usize]) -> Result<Vec<KeyColumn>, Al
 }
 
 // Some profile, for keys that make no numbers.
-fn any_profile() -> Profile {
+pub(crate) fn any_profile() -> Profile {
     match Profile::new(0, Rounding::Down) {
         Some(p) => p,
         None => unreachable!(),

@@ -29,6 +29,7 @@ mod row_keys;
 mod row_numbers;
 mod row_order;
 mod row_slots;
+mod seeker;
 mod steps;
 
 pub use groups::Groups;
@@ -37,4 +38,5 @@ pub use laws::{each_once_is_a_set, groups_are_keys};
 pub use marks::Marks;
 pub use row_index::RowIndex;
 pub use row_keys::{KeyColumn, KeyForm, NullKeys};
+pub use seeker::Seeker;
 pub use steps::Steps;

@@ -1,6 +1,7 @@
 -- Joins: tuples with a part for each operand, present or missing, and the points that they make.
-use Rattle.std.specs.Prelude.{List, ◌++◌, filter, map, Bool, Option, Some, None, is_some}
-use Rattle.std.specs.List.{flat_map, list_all}
+use Rattle.std.specs.Prelude.{ℕ, List, [], ◌++◌, filter, map, Bool, Option, Some, None, is_some, slice_get}
+use Rattle.std.specs.List.{flat_map, list_all, position_or_len}
+use Rattle.std.specs.Option.{option_map_or}
 use Rattle.vtl_cell.specs.Row.{Row, same_row}
 use Rattle.vtl_cell.specs.declared.cell.Cell.TheVariants as c
 use Rattle.vtl_syntax.specs.declared.word_groups.JoinKind.{JoinKind}
@@ -10,6 +11,7 @@ use Rattle.vtl_tree.specs.Structure.{of_role}
 use Rattle.vtl_tree.specs.declared.structure.Component.{Component}
 use Rattle.vtl_tree.specs.declared.structure.Role.TheVariants as role
 use Rattle.vtl_tree.specs.declared.structure.Structure.{Structure}
+use Rattle.check_shapes.specs.Pairs.{contains}
 use Rattle.vtl_tuples.specs.Keys.{each_once, item_at}
 use Rattle.vtl_tuples.specs.Tuples.{combinations, matching}
 use Rattle.vtl_meaning.specs.Agreement.{OperandPoint, first_agreeing, key_of, operand_points, points_agree, values_in}
@@ -34,6 +36,24 @@ present x = record { structure = x.structure; point = Some x.point }
 -- no part is missing
 abbrev pub is_whole : Tuple → Bool
 is_whole t = list_all (λ p. is_some p.point) t.parts
+
+-- ---- the reference, of which the joined set has the identifiers
+abbrev pub contains_all : List Structure → Structure → Bool
+contains_all as a = list_all (λ b. contains a b) as
+
+-- Its place: in an inner join that of the first operand whose identifiers contain those of every other, in the other joins the
+-- first one.
+abbrev pub reference_place : JoinKind → List Structure → ℕ
+reference_place join.Inner as = position_or_len (contains_all as) as
+reference_place join.Left as = 0
+reference_place join.Full as = 0
+reference_place join.Cross as = 0
+
+abbrev pub structures_of : List DataSet → List Structure
+structures_of ds = map (λ d. d.structure) ds
+
+abbrev pub reference_of : JoinKind → List DataSet → Option DataSet
+reference_of kind ds = slice_get ds (reference_place kind (structures_of ds))
 
 -- ---- `left_join` and `inner_join`: from the points of the reference, which is one of the operands
 -- the identifiers of a point of the reference, and of each operand the point that agrees with it, if there is one
@@ -96,3 +116,7 @@ tuple_point t = t.identifiers ++ flat_map measures_in t.parts ++ flat_map attrib
 
 abbrev pub joined_of : JoinKind → (reference : DataSet) → List DataSet → List Row
 joined_of kind reference ds = map tuple_point (tuples_of kind reference ds)
+
+-- the same with the reference that the operands have; without operands there is none, and no typed join is
+abbrev pub join_of : JoinKind → List DataSet → List Row
+join_of kind ds = option_map_or (λ reference. joined_of kind reference ds) (reference_of kind ds) []

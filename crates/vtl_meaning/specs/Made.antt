@@ -1,6 +1,6 @@
 -- What typing gives: which expressions are typed over which columns, and how the structure of each node fits its operands.
-use Rattle.std.specs.Prelude.{◌≡◌, ℕ, zero, suc, true, false, ◌||◌, cond, List, [], ◌∷◌, ◌++◌, length, map, Some, None}
-use Rattle.std.specs.List.{AllByRecursion, list_any}
+use Rattle.std.specs.Prelude.{◌≡◌, ℕ, zero, suc, true, false, ◌||◌, cond, List, [], ◌∷◌, ◌++◌, length, map, Some, None, slice_get}
+use Rattle.std.specs.List.{AllByRecursion, flat_map, list_any}
 use Rattle.std.specs.Map.{lookup}
 use Rattle.vtl_cell.specs.Settings.{Settings}
 use Rattle.vtl_cell.specs.Apart.{all_apart}
@@ -11,7 +11,9 @@ use Rattle.vtl_cell.specs.declared.kind.Kind.TheVariants as k
 use Rattle.vtl_cell.specs.declared.operator.ScalarOp.{ScalarOp}
 use Rattle.vtl_cell.specs.Kinds.{is_of}
 use Rattle.vtl_tree.specs.CompExp.{CompExp, CompExps, column, const, call, aggregate, no_comp_exps, comp_exp}
-use Rattle.vtl_tree.specs.Structure.{IsStructure, columns_of, names_of, same_name}
+use Rattle.vtl_syntax.specs.declared.word_groups.JoinKind.{JoinKind}
+use Rattle.vtl_syntax.specs.declared.word_groups.JoinKind.TheVariants as join
+use Rattle.vtl_tree.specs.Structure.{IsStructure, columns_of, names_of, of_role, same_name}
 use Rattle.vtl_tree.specs.Structures.{Named}
 use Rattle.vtl_tree.specs.declared.structure.Component.{Component}
 use Rattle.vtl_tree.specs.declared.structure.Role.TheVariants as role
@@ -19,20 +21,26 @@ use Rattle.vtl_tree.specs.declared.structure.Structure.{Structure}
 use Rattle.vtl_nodes.specs.Trees as nodes
 use Rattle.vtl_nodes.specs.Trees.{FormTree, ItemTree, MaybeNode, MeasureTree, NodeTree, NodeTrees, OperandTrees, structure_of}
 use Rattle.vtl_nodes.specs.declared.clauses.SubItem.{SubItem}
+use Rattle.check_joins.specs.Joins as joins
+use Rattle.check_joins.specs.declared.joins.Operand.{Operand}
 use Rattle.check_shapes.specs.Choices.{chosen}
-use Rattle.check_shapes.specs.Measures.{given_measures, is_miscounted}
+use Rattle.check_shapes.specs.Clauses.{first_kind, names_column, pivot_components}
+use Rattle.check_shapes.specs.Measures.{bool_var, given_measures, is_miscounted, made}
 use Rattle.check_shapes.specs.Operands.{agree, agreed_identifiers}
 use Rattle.check_shapes.specs.Pairs.{contains, pair_identifiers}
 use Rattle.check_shapes.specs.declared.choices.Choice.TheVariants as choice
 use Rattle.check_shapes.specs.declared.names.Wanted.TheVariants as wanted
 use Rattle.check_shapes.specs.declared.operands.Compared.TheVariants as compared
 use Rattle.check_values.specs.Kinds.{exp_kind}
-use Rattle.vtl_meaning.specs.Columns.{identifiers_of, kind_named, measures_of, place_of}
+use Rattle.vtl_meaning.specs.Agreement.{common_identifiers}
+use Rattle.vtl_meaning.specs.Columns.{identifiers_of, kind_named, measures_of, others_of, place_of}
+use Rattle.vtl_meaning.specs.Joined.{reference_place}
 use Rattle.vtl_meaning.specs.Literals.{HasLiterals}
 use Rattle.vtl_meaning.specs.Meaning.{Statement}
 use Rattle.vtl_meaning.specs.Operators.{calculated_exps, measured_exps, pair_columns, pair_exps, target_named}
 use Rattle.vtl_meaning.specs.Reaches.{AreNear}
-use Rattle.vtl_meaning.specs.Shapes.{IsChosen, IsRenamedBy, IsShaped, calculated_components, given_between, given_of_two, outcome_of, target_of}
+use Rattle.vtl_meaning.specs.Shapes.{IsChosen, IsJoinedFrom, IsRenamedBy, IsShaped, calculated_components, given_between, given_of_two, outcome_of, target_of}
+use Rattle.vtl_meaning.specs.Turned.{codes_of, other_identifiers}
 
 -- ---- expressions
 -- the column at a place has this name and this kind
@@ -141,6 +149,83 @@ pub record IsSub (items : List SubItem) (a s : Structure) : Type 0 where
   pub values : AllByRecursion (λ i. (is_of (kind_named i.id (identifiers_of a)) i.value ≡ true) × IsColumnAt (place_of i.id (identifiers_of a)) i.id (kind_named i.id (identifiers_of a)) (identifiers_of a)) items
   pub shape : s.components ≡ chosen choice.Drop (map (λ i. i.id) items) a.components
 
+-- ---- joins
+abbrev pub kinds_of : List Component → List Kind
+kinds_of xs = map (λ x. x.kind) xs
+
+-- the kinds of some columns of all operands, operand by operand
+abbrev pub kinds_of_all : (Structure → List Component) → List Structure → List Kind
+kinds_of_all f as = flat_map (λ a. kinds_of (f a)) as
+
+abbrev pub attributes_of : Structure → List Component
+attributes_of s = of_role role.Attribute s
+
+-- How the identifiers of the operands go with those of the reference, and what the identifiers of the result are. In inner and
+-- left joins the reference has all of each operand's identifiers, in full joins the operands have the same; a cross join keeps
+-- those of every operand.
+abbrev pub GoTogether : JoinKind → (reference : Structure) → List Structure → Structure → Type 0
+GoTogether join.Inner r as s = HasIdentifiers s (identifiers_of r) × AllByRecursion (λ a. AreAmong (identifiers_of a) (identifiers_of r)) as
+GoTogether join.Left r as s = HasIdentifiers s (identifiers_of r) × AllByRecursion (λ a. AreAmong (identifiers_of a) (identifiers_of r)) as
+GoTogether join.Full r as s = HasIdentifiers s (identifiers_of r) × AllByRecursion (λ a. AreAmong (identifiers_of a) (identifiers_of r) × AreAmong (identifiers_of r) (identifiers_of a)) as
+GoTogether join.Cross r as s = kinds_of (identifiers_of s) ≡ kinds_of_all identifiers_of as
+
+-- The columns of a joined set. Their names, `IsJoinedFrom` says.
+pub record IsJoined (kind : JoinKind) (as : List Structure) (s : Structure) : Type 0 where
+  pub well_formed : IsStructure s
+  pub reference : Structure
+  pub there : slice_get as (reference_place kind as) ≡ Some reference
+  pub identifiers : GoTogether kind reference as s
+  pub measures : kinds_of (measures_of s) ≡ kinds_of_all measures_of as
+  pub attributes : kinds_of (attributes_of s) ≡ kinds_of_all attributes_of as
+
+-- ---- set operators
+-- the first operand's identifiers and measures; each operand has them, in any order
+pub record IsCombined (a : Structure) (bs : List Structure) (s : Structure) : Type 0 where
+  pub well_formed : IsStructure s
+  pub identifiers : HasIdentifiers s (identifiers_of a)
+  pub operands : AllByRecursion (λ b. IsAlternative s b s) (a ∷ bs)
+  pub no_attributes : columns_of s ≡ identifiers_of s ++ measures_of s
+  pub shape : s.components ≡ agreed_identifiers bs a.components ++ measures_of a
+
+abbrev pub AreCombined : List Structure → Structure → Type 0
+AreCombined [] s = ⊥
+AreCombined (a ∷ bs) s = IsCombined a bs s
+
+-- `exists_in`: the first operand's identifiers and a truth value; the identifiers that both have are of the same kinds
+pub record IsExistence (a b s : Structure) : Type 0 where
+  pub well_formed : IsStructure s
+  pub identifiers : HasIdentifiers s (identifiers_of a)
+  pub truth : kinds_of (others_of s) ≡ k.Bool ∷ []
+  pub common : AreAmong (common_identifiers a b) (identifiers_of a)
+  pub shape : s.components ≡ agreed_identifiers (b ∷ []) a.components ++ bool_var ∷ []
+
+-- ---- `pivot` and `unpivot`
+-- the other identifiers, and a measure of the measure's kind for each code
+pub record IsPivoted (id m : List ℕ) (a s : Structure) : Type 0 where
+  pub well_formed : IsStructure s
+  pub identifiers : HasIdentifiers s (other_identifiers id a)
+  pub coded : IsColumnAt (place_of id (identifiers_of a)) id (kind_named id (identifiers_of a)) (identifiers_of a)
+  pub measured : IsColumnAt (place_of m (columns_of a)) m (kind_named m (columns_of a)) (columns_of a)
+  pub measures : kinds_of (others_of s) ≡ map (λ code. kind_named m (columns_of a)) (codes_of id a)
+  pub shape : s.components ≡ pivot_components id (kind_named m (columns_of a)) (codes_of id a) a.components
+
+-- the identifiers, one of texts behind them, and a measure of the kind that all measures have
+pub record IsUnpivoted (id m : List ℕ) (a s : Structure) : Type 0 where
+  pub well_formed : IsStructure s
+  pub identifiers : HasIdentifiers s (identifiers_of a ++ names_column id (measures_of a) ∷ [])
+  pub measured : kinds_of (others_of s) ≡ first_kind (measures_of a) ∷ []
+  pub alike : AllByRecursion (λ x. x.kind ≡ first_kind (measures_of a)) (measures_of a)
+  pub shape : s.components ≡ chosen choice.Except [] a.components ++ names_column id (measures_of a) ∷ made m role.Measure (first_kind (measures_of a)) ∷ []
+
+-- ---- operands
+abbrev pub operands_in : OperandTrees → List Operand
+operands_in nodes.no_operands = []
+operands_in (nodes.operand n alias os) = record { alias = alias; structure = structure_of n } ∷ operands_in os
+
+abbrev pub node_structures : NodeTrees → List Structure
+node_structures nodes.no_nodes = []
+node_structures (nodes.and_node n ns) = structure_of n ∷ node_structures ns
+
 -- ---- nodes
 -- Each node has a structure whose components have kinds and which fits its operands, and each name is known with its structure.
 -- Of the forms that are not evaluated yet only the operands are told, and how far analytic calls reach.
@@ -160,14 +245,14 @@ abbrev mutual
   IsMadeForm p known s (nodes.drop_named a names) = IsMade p known a × IsLeft (structure_of a) s × IsChosen wanted.Value choice.Drop names (structure_of a) s
   IsMadeForm p known s (nodes.rename a pairs) = IsMade p known a × IsRenamed (structure_of a) s × IsRenamedBy pairs (structure_of a) s
   IsMadeForm p known s (nodes.sub a items) = IsMade p known a × IsSub items (structure_of a) s
-  IsMadeForm p known s (nodes.pivot a id m) = IsMade p known a
-  IsMadeForm p known s (nodes.unpivot a id m) = IsMade p known a
-  IsMadeForm p known s (nodes.join os spec) = AreMadeOperands p known os
-  IsMadeForm p known s (nodes.union ns) = AreMade p known ns
-  IsMadeForm p known s (nodes.intersect ns) = AreMade p known ns
-  IsMadeForm p known s (nodes.set_diff a b) = IsMade p known a × IsMade p known b
-  IsMadeForm p known s (nodes.sym_diff a b) = IsMade p known a × IsMade p known b
-  IsMadeForm p known s (nodes.exists_in a b r) = IsMade p known a × IsMade p known b
+  IsMadeForm p known s (nodes.pivot a id m) = IsMade p known a × IsPivoted id m (structure_of a) s
+  IsMadeForm p known s (nodes.unpivot a id m) = IsMade p known a × IsUnpivoted id m (structure_of a) s
+  IsMadeForm p known s (nodes.join os spec) = AreMadeOperands p known os × IsJoined spec.kind (joins.structures_of (operands_in os)) s × IsJoinedFrom spec.kind (operands_in os) s
+  IsMadeForm p known s (nodes.union ns) = AreMade p known ns × AreCombined (node_structures ns) s
+  IsMadeForm p known s (nodes.intersect ns) = AreMade p known ns × AreCombined (node_structures ns) s
+  IsMadeForm p known s (nodes.set_diff a b) = IsMade p known a × IsMade p known b × IsCombined (structure_of a) (structure_of b ∷ []) s
+  IsMadeForm p known s (nodes.sym_diff a b) = IsMade p known a × IsMade p known b × IsCombined (structure_of a) (structure_of b ∷ []) s
+  IsMadeForm p known s (nodes.exists_in a b r) = IsMade p known a × IsMade p known b × IsExistence (structure_of a) (structure_of b) s
   IsMadeForm p known s (nodes.aggregate a spec) = IsMade p known a
   IsMadeForm p known s (nodes.analytic_of a spec) = IsMade p known a × AreNear spec
   IsMadeForm p known s (nodes.check a i spec) = IsMade p known a × IsMadeMaybe p known i

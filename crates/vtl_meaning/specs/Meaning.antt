@@ -11,9 +11,12 @@ use Rattle.vtl_tree.specs.Environment.{DataSet, Environment, data_of}
 use Rattle.vtl_tree.specs.Structures.{Named}
 use Rattle.vtl_tree.specs.declared.structure.Structure.{Structure}
 use Rattle.vtl_nodes.specs.Trees as nodes
-use Rattle.vtl_nodes.specs.Trees.{FormTree, NodeTree, structure_of}
+use Rattle.vtl_nodes.specs.Trees.{FormTree, NodeTree, NodeTrees, OperandTrees, structure_of}
+use Rattle.vtl_meaning.specs.Joined.{join_of}
 use Rattle.vtl_meaning.specs.Operators.{calculated_of, choice_of, left_of, measured_of, pair_of, sub_of}
 use Rattle.vtl_meaning.specs.Points.{with_points}
+use Rattle.vtl_meaning.specs.Sets.{difference_of, existence_of, intersection_of, symmetric_difference_of, union_of}
+use Rattle.vtl_meaning.specs.Turned.{pivot_of, unpivot_of}
 
 -- the points of a data set; a name that is missing has none, and no typed script holds one
 abbrev pub points_named : List ℕ → Environment → List Row
@@ -30,6 +33,10 @@ AreDataSets env = AllByRecursion (λ d. IsDataSet d.1.structure d.1.points) env
 -- what comes of the data set that an operand gives, or its fault
 abbrev pub with_operand : NodeTree → Outcome (List Row) → (DataSet → Outcome (List Row)) → Outcome (List Row)
 with_operand a m f = after m (λ points. f (with_points (structure_of a) points))
+
+-- the data set that the first of several operands gives, and those of the others, or the first fault
+abbrev pub with_first : NodeTree → Outcome (List Row) → Outcome (List DataSet) → Outcome (List DataSet)
+with_first a m rest = after m (λ points. after rest (λ ds. Ok (with_points (structure_of a) points ∷ ds)))
 
 -- the points of a form that is not evaluated yet; no script that is run holds one (`is_built`)
 abbrev pub no_points_yet : Outcome (List Row)
@@ -53,20 +60,29 @@ abbrev mutual
   form_value p env s (nodes.drop_named a names) = with_operand a (node_value p env a) (λ d. Ok (left_of d s))
   form_value p env s (nodes.rename a pairs) = node_value p env a
   form_value p env s (nodes.sub a items) = with_operand a (node_value p env a) (λ d. Ok (sub_of items d s))
-  form_value p env s (nodes.pivot a id m) = no_points_yet
-  form_value p env s (nodes.unpivot a id m) = no_points_yet
-  form_value p env s (nodes.join os spec) = no_points_yet
-  form_value p env s (nodes.union ns) = no_points_yet
-  form_value p env s (nodes.intersect ns) = no_points_yet
-  form_value p env s (nodes.set_diff a b) = no_points_yet
-  form_value p env s (nodes.sym_diff a b) = no_points_yet
-  form_value p env s (nodes.exists_in a b r) = no_points_yet
+  form_value p env s (nodes.pivot a id m) = with_operand a (node_value p env a) (λ d. Ok (pivot_of d id m))
+  form_value p env s (nodes.unpivot a id m) = with_operand a (node_value p env a) (λ d. Ok (unpivot_of d))
+  form_value p env s (nodes.join os spec) = after (operands_value p env os) (λ ds. Ok (join_of spec.kind ds))
+  form_value p env s (nodes.union ns) = after (nodes_value p env ns) (λ ds. Ok (union_of ds s))
+  form_value p env s (nodes.intersect ns) = after (nodes_value p env ns) (λ ds. Ok (intersection_of ds s))
+  form_value p env s (nodes.set_diff a b) = with_operand a (node_value p env a) (λ d. with_operand b (node_value p env b) (λ e. Ok (difference_of d e s)))
+  form_value p env s (nodes.sym_diff a b) = with_operand a (node_value p env a) (λ d. with_operand b (node_value p env b) (λ e. Ok (symmetric_difference_of d e s)))
+  form_value p env s (nodes.exists_in a b r) = with_operand a (node_value p env a) (λ d. with_operand b (node_value p env b) (λ e. Ok (existence_of d e r)))
   form_value p env s (nodes.aggregate a spec) = no_points_yet
   form_value p env s (nodes.analytic_of a spec) = no_points_yet
   form_value p env s (nodes.check a i spec) = no_points_yet
   form_value p env s (nodes.check_datapoint a rules out) = no_points_yet
   form_value p env s (nodes.check_hierarchy a rules m out) = no_points_yet
   form_value p env s (nodes.hierarchy a rules m i out) = no_points_yet
+
+  -- the data sets of several expressions, or the fault of the first that has one
+  pub nodes_value : Settings → Environment → NodeTrees → Outcome (List DataSet)
+  nodes_value p env nodes.no_nodes = Ok []
+  nodes_value p env (nodes.and_node n ns) = with_first n (node_value p env n) (nodes_value p env ns)
+
+  pub operands_value : Settings → Environment → OperandTrees → Outcome (List DataSet)
+  operands_value p env nodes.no_operands = Ok []
+  operands_value p env (nodes.operand n alias os) = with_first n (node_value p env n) (operands_value p env os)
 
 -- the data set of an expression, or its fault
 abbrev pub data_set_of : Settings → Environment → NodeTree → Outcome DataSet
@@ -117,17 +133,25 @@ abbrev mutual
   is_built_form (nodes.drop_named a names) = is_built a
   is_built_form (nodes.rename a pairs) = is_built a
   is_built_form (nodes.sub a items) = is_built a
-  is_built_form (nodes.pivot a id m) = false
-  is_built_form (nodes.unpivot a id m) = false
-  is_built_form (nodes.join os spec) = false
-  is_built_form (nodes.union ns) = false
-  is_built_form (nodes.intersect ns) = false
-  is_built_form (nodes.set_diff a b) = false
-  is_built_form (nodes.sym_diff a b) = false
-  is_built_form (nodes.exists_in a b r) = false
+  is_built_form (nodes.pivot a id m) = is_built a
+  is_built_form (nodes.unpivot a id m) = is_built a
+  is_built_form (nodes.join os spec) = are_operands_built os
+  is_built_form (nodes.union ns) = are_nodes_built ns
+  is_built_form (nodes.intersect ns) = are_nodes_built ns
+  is_built_form (nodes.set_diff a b) = is_built a && is_built b
+  is_built_form (nodes.sym_diff a b) = is_built a && is_built b
+  is_built_form (nodes.exists_in a b r) = is_built a && is_built b
   is_built_form (nodes.aggregate a spec) = false
   is_built_form (nodes.analytic_of a spec) = false
   is_built_form (nodes.check a i spec) = false
   is_built_form (nodes.check_datapoint a rules out) = false
   is_built_form (nodes.check_hierarchy a rules m out) = false
   is_built_form (nodes.hierarchy a rules m i out) = false
+
+  pub are_nodes_built : NodeTrees → Bool
+  are_nodes_built nodes.no_nodes = true
+  are_nodes_built (nodes.and_node n ns) = is_built n && are_nodes_built ns
+
+  pub are_operands_built : OperandTrees → Bool
+  are_operands_built nodes.no_operands = true
+  are_operands_built (nodes.operand n alias os) = is_built n && are_operands_built os

@@ -10,6 +10,9 @@ use Rattle.vtl_tree.specs.Structures.{is_null_kind}
 use Rattle.vtl_tree.specs.declared.structure.Component.{Component}
 use Rattle.vtl_tree.specs.declared.structure.Structure.{Structure}
 use Rattle.vtl_nodes.specs.Trees.{ItemTree, MeasureTree}
+use Rattle.vtl_syntax.specs.declared.word_groups.JoinKind.{JoinKind}
+use Rattle.check_joins.specs.Joins.{held_names, joined_components}
+use Rattle.check_joins.specs.declared.joins.Operand.{Operand}
 use Rattle.check_shapes.specs.Choices.{chosen}
 use Rattle.check_shapes.specs.Clauses.{calculated, is_new, renamed, target_component}
 use Rattle.check_shapes.specs.Measures.{Gives}
@@ -72,3 +75,8 @@ pub record IsChosen (w : Wanted) (c : Choice) (names : List (List ℕ)) (a s : S
 -- the same components, with the names that the pairs give them
 abbrev pub IsRenamedBy : List Renaming → Structure → Structure → Type 0
 IsRenamedBy pairs a s = s.components ≡ map (renamed pairs) a.components
+
+-- ---- joins
+-- the identifiers, and then the other components operand by operand; a name that several operands hold behind its operand's alias
+abbrev pub IsJoinedFrom : JoinKind → List Operand → Structure → Type 0
+IsJoinedFrom kind os s = s.components ≡ joined_components kind (held_names kind os) os
