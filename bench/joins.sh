@@ -134,5 +134,5 @@ peers 'left other' 'SELECT * FROM left UNION ALL SELECT * FROM other o WHERE NOT
     "pandas.concat([left, other]).drop_duplicates(keys)" "$keys"
 echo 'total <- union(left, other);' | job 'union of 1,000,000 with 1,000,000 points, half of them shared' total
 peers 'left other' "SELECT Station, Number, CASE WHEN EXISTS (SELECT 1 FROM other o WHERE l.Station = o.Station AND l.Number = o.Number) THEN 'true' ELSE 'false' END AS bool_var FROM left l ORDER BY Station, Number;" \
-    "left.merge(other[keys], on=keys, how='left', indicator=True).assign(bool_var=lambda both: both._merge == 'both')[['Station', 'Number', 'bool_var']]" "$keys"
+    "left.merge(other[keys], on=keys, how='left', indicator=True).assign(bool_var=lambda both: (both._merge == 'both').map({True: 'true', False: 'false'}))[['Station', 'Number', 'bool_var']]" "$keys"
 echo 'total <- exists_in(left, other);' | job 'exists_in of 1,000,000 in 1,000,000 points' total
