@@ -7,7 +7,6 @@ pub mod KeyGroups
 pub mod KeyOrder
 pub mod LeadLemmas
 pub mod LeadWalk
-pub mod PlainOrder
 pub mod Probes
 pub mod Putting
 pub mod Ranges

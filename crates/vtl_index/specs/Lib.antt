@@ -11,7 +11,6 @@ pub mod Lookup
 pub mod Members
 pub mod Numbers
 pub mod Places
-pub mod PlainKeys
 pub mod RowIndex
 pub mod RowKeys
 pub mod RowSlots
