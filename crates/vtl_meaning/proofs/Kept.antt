@@ -488,4 +488,12 @@ mutual
       let x = operand_ok a (node_value p env a) (λ d. Ok (sub_of items d s)) out e in
       let d = with_points (structure_of a) x.0 in
       subst (λ l. IsDataSet s l) (ok_is (sub_of items d s) out x.2) (sub_kept items d s i.1 (node_kept p env a x.0 b i.0 h x.1))
+  form_kept p env s (nodes.pivot a id m) out b i h e = ?
+  form_kept p env s (nodes.unpivot a id m) out b i h e = ?
+  form_kept p env s (nodes.join os spec) out b i h e = ?
+  form_kept p env s (nodes.union ns) out b i h e = ?
+  form_kept p env s (nodes.intersect ns) out b i h e = ?
+  form_kept p env s (nodes.set_diff a c) out b i h e = ?
+  form_kept p env s (nodes.sym_diff a c) out b i h e = ?
+  form_kept p env s (nodes.exists_in a c r) out b i h e = ?
   form_kept p env s other out b i h e = cc

@@ -142,6 +142,14 @@ module _ (p : Settings) (env other : Environment) (h : AreDataSets env) (same : 
     form_respects s (nodes.sub a items) b i =
         same_operand a (node_value p env a) (node_value p other a) (λ d. Ok (sub_of items d s)) (λ d. Ok (sub_of items d s)) (node_respects a b i.0)
         (λ d e is q. sub_respects items (structure_of a) s d e q)
+    form_respects s (nodes.pivot a id m) b i = ?
+    form_respects s (nodes.unpivot a id m) b i = ?
+    form_respects s (nodes.join os spec) b i = ?
+    form_respects s (nodes.union ns) b i = ?
+    form_respects s (nodes.intersect ns) b i = ?
+    form_respects s (nodes.set_diff a c) b i = ?
+    form_respects s (nodes.sym_diff a c) b i = ?
+    form_respects s (nodes.exists_in a c r) b i = ?
     form_respects s form b i = cc
 
 -- ---- statements

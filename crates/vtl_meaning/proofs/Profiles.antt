@@ -232,6 +232,14 @@ module _ (p : Settings) (env : Environment) (h : AllAreOfProfile p env) where
         let test = has_values (structure_of a) items in
         onward (node_value p env a) (λ d. Ok (map (cells_at places) (filter test d))) (node_gives a i.0)
         (λ d k. shown_are p places (filter test d) (AllByRecursion-filter (IsRowOfProfile p) test d k))
+    form_gives s (nodes.pivot a id m) i = ?
+    form_gives s (nodes.unpivot a id m) i = ?
+    form_gives s (nodes.join os spec) i = ?
+    form_gives s (nodes.union ns) i = ?
+    form_gives s (nodes.intersect ns) i = ?
+    form_gives s (nodes.set_diff a c) i = ?
+    form_gives s (nodes.sym_diff a c) i = ?
+    form_gives s (nodes.exists_in a c r) i = ?
     form_gives s other i = tt
 
 -- ---- statements
