@@ -9,6 +9,7 @@ use Rattle.vtl_cell.specs.Perm.{Perm, chain}
 use Rattle.vtl_cell.specs.Row.{Row}
 use Rattle.vtl_cell.proofs.Perms.{Perm-map, Perm-same}
 use Rattle.vtl_cell.proofs.Sorts.{AllByRecursion-filter}
+use Rattle.vtl_syntax.specs.declared.word_groups.JoinKind.TheVariants as join
 use Rattle.vtl_tree.specs.DataSet.{IsDataSet}
 use Rattle.vtl_tree.specs.Environment.{DataSet}
 use Rattle.vtl_tree.specs.declared.structure.Structure.{Structure}
@@ -19,9 +20,11 @@ use Rattle.vtl_tuples.proofs.Lists.{filter-map, flat_map_each, map-flat_map, map
 use Rattle.vtl_meaning.specs.Agreement.{OperandPoint, agree_in, first_agreeing, key_of, operand_point, operand_points, points_agree}
 use Rattle.vtl_meaning.specs.Columns.{identifiers_of}
 use Rattle.vtl_meaning.specs.JoinWords.{agreed_tuple}
-use Rattle.vtl_meaning.specs.Joined.{Part, Tuple, agreeing, inner_tuples, is_whole, left_tuples, part_of, present, tuple_beside}
-use Rattle.vtl_meaning.specs.Made.{AreAmong}
+use Rattle.vtl_meaning.specs.Joined.{Part, Tuple, agreeing, inner_tuples, is_whole, join_of, left_tuples, part_of, present, reference_place, structures_of, tuple_beside, tuple_point}
+use Rattle.vtl_meaning.specs.Made.{AreAmong, IsJoined}
 use Rattle.vtl_meaning.proofs.JoinAgreements.{Covers, agree-from, agree-gives, agreeing_only, agreeing_own, covers}
+use Rattle.vtl_meaning.proofs.JoinKept.{join_with, reference_is}
+use Rattle.vtl_meaning.proofs.JoinParts.{AreSets}
 use Rattle.vtl_meaning.proofs.Places.{all_back, all_front, all_map, all_more, each}
 
 -- ---- points of one type
@@ -176,3 +179,28 @@ inner_agreed pre r post all =
     itself : (ts : List Tuple) → map (λ t. t) ts ≡ ts
     itself [] = refl
     itself (t ∷ ts) = ap (λ l. t ∷ l) (itself ts)
+
+-- ---- the joined set
+split_at : {X : Type 0} (xs : List X) (n : ℕ) (x : X) → slice_get xs n ≡ Some x → (pre : List X) × (post : List X) × (xs ≡ pre ++ x ∷ post) × (length pre ≡ n)
+split_at [] n x e = cc
+split_at (y ∷ xs) zero x e = let same : y ≡ x = cc in ([], xs, ap (λ z. z ∷ xs) same, refl)
+split_at (y ∷ xs) (suc n) x e = let rest = split_at xs n x e in (y ∷ rest.0, rest.1, ap (λ l. y ∷ l) rest.2, ap suc rest.3)
+
+all_join : (a : Structure) (ds : List DataSet) → AreSets ds → AllByRecursion (λ b. AreAmong (identifiers_of b) (identifiers_of a)) (structures_of ds) → AllByRecursion (Joins a) ds
+all_join a [] all within = tt
+all_join a (d ∷ ds) all within = (record { kept = all.0; within = within.0 }, all_join a ds all.1 within.1)
+
+pub inner_points : (ds : List DataSet) (s : Structure) → IsJoined join.Inner (structures_of ds) s → AllByRecursion (λ d. IsDataSet d.structure d.points) ds
+    → Perm (map (λ xs. tuple_point (agreed_tuple (reference_place join.Inner (structures_of ds)) xs)) (agreeing ds)) (join_of join.Inner ds)
+inner_points ds s i all =
+    let r = reference_is join.Inner ds s i all in
+    let parts = split_at ds (reference_place join.Inner (structures_of ds)) r.0 r.1.there in
+    let joins = all_join r.0.structure ds all r.1.together.1 in
+    chain (Perm-same _ _ (sym (map-map tuple_point (agreed_tuple (reference_place join.Inner (structures_of ds))) (agreeing ds))))
+    (chain (Perm-map tuple_point (at ds r.0 parts.0 parts.1 (reference_place join.Inner (structures_of ds)) parts.2 parts.3 joins))
+    (Perm-same _ _ (sym (join_with join.Inner ds r.0 r.1.there))))
+  where
+    at : (es : List DataSet) (r : DataSet) (pre post : List DataSet) (n : ℕ) → es ≡ pre ++ r ∷ post → length pre ≡ n → AllByRecursion (Joins r.structure) es → Perm (map (agreed_tuple n) (agreeing es)) (inner_tuples r es)
+    at es r pre post n e l joins =
+        subst (λ zs. Perm (map (agreed_tuple n) (agreeing zs)) (inner_tuples r zs)) (sym e)
+        (subst (λ m. Perm (map (agreed_tuple m) (agreeing (pre ++ r ∷ post))) (inner_tuples r (pre ++ r ∷ post))) l (inner_agreed pre r post (subst (AllByRecursion (Joins r.structure)) e joins)))

@@ -5,6 +5,7 @@ pub mod Examples
 pub mod Faults
 pub mod JoinAgreements
 pub mod JoinExamples
+pub mod JoinGrows
 pub mod JoinInner
 pub mod JoinKept
 pub mod JoinOrders
