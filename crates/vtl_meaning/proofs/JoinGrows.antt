@@ -101,7 +101,7 @@ own_with a d h within =
     own_found (λ q. is_point (columns_of b) q ≡ true) (same_key (key_width b)) (λ x y. same_row (key y) (key x)) (λ q i. same_row-refl (key q))
     (λ q t i j e. values_agree a b q t h.well_formed (covers a b within) i j (same_row-is (key q) (key t) e)) d.points h.typed h.distinct
 
-alike_rows : (i j k : Row) → same_row k i ≡ true → same_row k j ≡ same_row i j
+pub alike_rows : (i j k : Row) → same_row k i ≡ true → same_row k j ≡ same_row i j
 alike_rows i j k e = ap (λ z. same_row z j) (same_row-is k i e)
 
 -- the identifiers of the tuples are the keys

@@ -32,7 +32,7 @@ use Rattle.vtl_meaning.proofs.Places.{all_back, all_front, all_map, all_more, ea
 abbrev pub beside : OperandPoint → DataSet → Option OperandPoint
 beside x d = find (points_agree x) (operand_points d)
 
-find-map : {X Y : Type 0} (p : Y → Bool) (f : X → Y) (xs : List X) → find p (map f xs) ≡ option_map f (find (λ x. p (f x)) xs)
+pub find-map : {X Y : Type 0} (p : Y → Bool) (f : X → Y) (xs : List X) → find p (map f xs) ≡ option_map f (find (λ x. p (f x)) xs)
 find-map p f [] = refl
 find-map p f (x ∷ xs) = go (p (f x)) (find-map p f xs)
   where
