@@ -19,7 +19,7 @@ use Rattle.vtl_tuples.proofs.Leads.{led_is}
 use Rattle.vtl_tuples.proofs.Lists.{filter-map, flat_map_each, map-flat_map, map-map, map_same}
 use Rattle.vtl_meaning.specs.Agreement.{OperandPoint, agree_in, first_agreeing, key_of, operand_point, operand_points, points_agree}
 use Rattle.vtl_meaning.specs.Columns.{identifiers_of}
-use Rattle.vtl_meaning.specs.JoinWords.{agreed_tuple}
+use Rattle.vtl_meaning.specs.JoinWords.{IsWithin, agreed_tuple}
 use Rattle.vtl_meaning.specs.Joined.{Part, Tuple, agreeing, inner_tuples, is_whole, join_of, left_tuples, part_of, present, reference_place, structures_of, tuple_beside, tuple_point}
 use Rattle.vtl_meaning.specs.Made.{AreAmong, IsJoined}
 use Rattle.vtl_meaning.proofs.JoinAgreements.{Covers, agree-from, agree-gives, agreeing_only, agreeing_own, covers}
@@ -64,12 +64,7 @@ reference_leads r = record {
   covers = λ x y c d e g. let f = agree-gives r x e in let f' = agree-gives r y g in agree-from x y (λ name h i. sym (f name (c name h) h) ∙ f' name (d name i) i);
 }
 
--- a data set whose identifiers the reference has
-pub record Joins (r : Structure) (d : DataSet) : Type 0 where
-  pub kept : IsDataSet d.structure d.points
-  pub within : AreAmong (identifiers_of d.structure) (identifiers_of r)
-
-within_points : (r : Structure) (d : DataSet) → Joins r d → AllByRecursion (Within r) (operand_points d)
+within_points : (r : Structure) (d : DataSet) → IsWithin r d → AllByRecursion (Within r) (operand_points d)
 within_points r d j = all_map (operand_point d.structure) (Within r) d.points (each (λ q. Covers r d.structure) (λ q. covers r d.structure j.within) d.points)
 
 -- ---- the parts of what a point finds
@@ -112,30 +107,30 @@ led_parts r ds =
     ∙ flat_map_each (λ q. map (λ t. t.parts) (option_to_list (cond (is_whole (tuple_beside a ds q)) (Some (tuple_beside a ds q)) None))) one (λ q. parts_if (is_whole (tuple_beside a ds q)) (tuple_beside a ds q)) r.points)
 
 -- ---- the reference may be any operand
-pub inner_is : (pre : List DataSet) (r : DataSet) (post : List DataSet) → AllByRecursion (Joins r.structure) (pre ++ r ∷ post)
+pub inner_is : (pre : List DataSet) (r : DataSet) (post : List DataSet) → AllByRecursion (IsWithin r.structure) (pre ++ r ∷ post)
     → Perm (map (map present) (agreeing (pre ++ r ∷ post))) (map (λ t. t.parts) (inner_tuples r (pre ++ r ∷ post)))
 inner_is pre r post all =
     chain (Perm-map (map present) (led_is (Within a) points_agree operand_points beside pre r post
-    (all_more (Joins a) (λ d. AllByRecursion (Within a) (operand_points d)) (within_points a) pre in_pre)
-    (all_more (Joins a) (λ d. AllByRecursion (Within a) (operand_points d)) (within_points a) post in_post.1)
+    (all_more (IsWithin a) (λ d. AllByRecursion (Within a) (operand_points d)) (within_points a) pre in_pre)
+    (all_more (IsWithin a) (λ d. AllByRecursion (Within a) (operand_points d)) (within_points a) post in_post.1)
     (all_map (operand_point a) (Finds (Within a) points_agree operand_points beside pre r post) r.points (all_more (λ q. first_agreeing a r q ≡ Some q) (λ q. Finds (Within a) points_agree operand_points beside pre r post (operand_point a q)) found r.points (agreeing_own r in_post.0.kept)))))
     (Perm-same _ _ (led_parts r (pre ++ r ∷ post)))
   where
     a : Structure
     a = r.structure
 
-    in_pre : AllByRecursion (Joins r.structure) pre
-    in_pre = all_front (Joins r.structure) pre (r ∷ post) all
+    in_pre : AllByRecursion (IsWithin r.structure) pre
+    in_pre = all_front (IsWithin r.structure) pre (r ∷ post) all
 
-    in_post : AllByRecursion (Joins r.structure) (r ∷ post)
-    in_post = all_back (Joins r.structure) pre (r ∷ post) all
+    in_post : AllByRecursion (IsWithin r.structure) (r ∷ post)
+    in_post = all_back (IsWithin r.structure) pre (r ∷ post) all
 
     found : (q : Row) → first_agreeing r.structure r q ≡ Some q → Finds (Within r.structure) points_agree operand_points beside pre r post (operand_point r.structure q)
     found q e = record {
       leads = reference_leads (operand_point r.structure q);
       own = beside_is (operand_point r.structure q) r ∙ ap (option_map (operand_point r.structure)) e;
-      before = all_more (Joins r.structure) _ (λ d j. beside_only (operand_point r.structure q) d (covers r.structure d.structure j.within) j.kept) pre in_pre;
-      behind = all_more (Joins r.structure) _ (λ d j. beside_only (operand_point r.structure q) d (covers r.structure d.structure j.within) j.kept) post in_post.1;
+      before = all_more (IsWithin r.structure) _ (λ d j. beside_only (operand_point r.structure q) d (covers r.structure d.structure j.within) j.kept) pre in_pre;
+      behind = all_more (IsWithin r.structure) _ (λ d j. beside_only (operand_point r.structure q) d (covers r.structure d.structure j.within) j.kept) post in_post.1;
     }
 
 -- ---- the tuples, with their identifiers
@@ -162,14 +157,14 @@ told_by_parts pre r post q e =
     let ps = map (λ d. part_of d (first_agreeing a d q)) (pre ++ r ∷ post) in
     ap (λ k. record { identifiers = k; parts = ps }) (ap (λ o. option_map_or (λ p. option_map_or (key_of p.structure) p.point []) o []) (part_there pre r post (λ d. first_agreeing a d q)) ∙ ap (λ o. option_map_or (key_of a) o []) e)
 
-pub inner_agreed : (pre : List DataSet) (r : DataSet) (post : List DataSet) → AllByRecursion (Joins r.structure) (pre ++ r ∷ post)
+pub inner_agreed : (pre : List DataSet) (r : DataSet) (post : List DataSet) → AllByRecursion (IsWithin r.structure) (pre ++ r ∷ post)
     → Perm (map (agreed_tuple (length pre)) (agreeing (pre ++ r ∷ post))) (inner_tuples r (pre ++ r ∷ post))
 inner_agreed pre r post all =
     let n = length pre in
     let ds = pre ++ r ∷ post in
     let a = r.structure in
     let I : Tuple → Type 0 = λ t. tuple_from n t.parts ≡ t in
-    let own = (all_back (Joins a) pre (r ∷ post) all).0.kept in
+    let own = (all_back (IsWithin a) pre (r ∷ post) all).0.kept in
     let each_told = all_map (tuple_beside a ds) I r.points (all_more (λ q. first_agreeing a r q ≡ Some q) (λ q. I (tuple_beside a ds q)) (told_by_parts pre r post) r.points (agreeing_own r own)) in
     let told = AllByRecursion-filter I is_whole (left_tuples r ds) each_told in
     chain (Perm-same _ _ (ap (λ (f : List OperandPoint → Tuple). map f (agreeing ds)) (λ i xs. agreed_from n xs i) ∙ sym (map-map (tuple_from n) (map present) (agreeing ds))))
@@ -186,7 +181,7 @@ split_at [] n x e = cc
 split_at (y ∷ xs) zero x e = let same : y ≡ x = cc in ([], xs, ap (λ z. z ∷ xs) same, refl)
 split_at (y ∷ xs) (suc n) x e = let rest = split_at xs n x e in (y ∷ rest.0, rest.1, ap (λ l. y ∷ l) rest.2, ap suc rest.3)
 
-all_join : (a : Structure) (ds : List DataSet) → AreSets ds → AllByRecursion (λ b. AreAmong (identifiers_of b) (identifiers_of a)) (structures_of ds) → AllByRecursion (Joins a) ds
+all_join : (a : Structure) (ds : List DataSet) → AreSets ds → AllByRecursion (λ b. AreAmong (identifiers_of b) (identifiers_of a)) (structures_of ds) → AllByRecursion (IsWithin a) ds
 all_join a [] all within = tt
 all_join a (d ∷ ds) all within = (record { kept = all.0; within = within.0 }, all_join a ds all.1 within.1)
 
@@ -200,7 +195,7 @@ inner_points ds s i all =
     (chain (Perm-map tuple_point (at ds r.0 parts.0 parts.1 (reference_place join.Inner (structures_of ds)) parts.2 parts.3 joins))
     (Perm-same _ _ (sym (join_with join.Inner ds r.0 r.1.there))))
   where
-    at : (es : List DataSet) (r : DataSet) (pre post : List DataSet) (n : ℕ) → es ≡ pre ++ r ∷ post → length pre ≡ n → AllByRecursion (Joins r.structure) es → Perm (map (agreed_tuple n) (agreeing es)) (inner_tuples r es)
+    at : (es : List DataSet) (r : DataSet) (pre post : List DataSet) (n : ℕ) → es ≡ pre ++ r ∷ post → length pre ≡ n → AllByRecursion (IsWithin r.structure) es → Perm (map (agreed_tuple n) (agreeing es)) (inner_tuples r es)
     at es r pre post n e l joins =
         subst (λ zs. Perm (map (agreed_tuple n) (agreeing zs)) (inner_tuples r zs)) (sym e)
-        (subst (λ m. Perm (map (agreed_tuple m) (agreeing (pre ++ r ∷ post))) (inner_tuples r (pre ++ r ∷ post))) l (inner_agreed pre r post (subst (AllByRecursion (Joins r.structure)) e joins)))
+        (subst (λ m. Perm (map (agreed_tuple m) (agreeing (pre ++ r ∷ post))) (inner_tuples r (pre ++ r ∷ post))) l (inner_agreed pre r post (subst (AllByRecursion (IsWithin r.structure)) e joins)))

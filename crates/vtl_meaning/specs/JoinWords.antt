@@ -4,13 +4,21 @@ use Rattle.std.specs.List.{flat_map, list_any}
 use Rattle.std.specs.Option.{option_and_then, option_map_or}
 use Rattle.vtl_cell.specs.Each.{cons_if}
 use Rattle.vtl_cell.specs.Row.{Row, same_row}
-use Rattle.vtl_tree.specs.DataSet.{look}
+use Rattle.vtl_tree.specs.DataSet.{IsDataSet, look}
 use Rattle.vtl_tree.specs.Environment.{DataSet}
 use Rattle.vtl_tree.specs.Structure.{key_width}
 use Rattle.vtl_tree.specs.declared.structure.Component.{Component}
+use Rattle.vtl_tree.specs.declared.structure.Structure.{Structure}
 use Rattle.vtl_tuples.specs.Keys.{item_at}
 use Rattle.vtl_meaning.specs.Agreement.{OperandPoint, first_agreeing, key_of, operand_point, operand_points, values_in}
+use Rattle.vtl_meaning.specs.Columns.{identifiers_of}
 use Rattle.vtl_meaning.specs.Joined.{Part, Tuple, is_whole, part_of, present, tuple_point}
+use Rattle.vtl_meaning.specs.Made.{AreAmong}
+
+-- a data set whose identifiers the reference has
+pub record IsWithin (reference : Structure) (d : DataSet) : Type 0 where
+  pub kept : IsDataSet d.structure d.points
+  pub within : AreAmong (identifiers_of d.structure) (identifiers_of reference)
 
 -- the tuple of points that agree, of which the one at a place is the reference's
 abbrev pub agreed_tuple : ℕ → List OperandPoint → Tuple
