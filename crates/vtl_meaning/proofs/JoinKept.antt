@@ -1,9 +1,8 @@
 -- Joins of data sets give data sets.
-use Rattle.std.proofs.Common.{◌≡◌, ℕ, zero, suc, Bool, true, false, not, ◌&&◌, ◌||◌, List, [], ◌∷◌, ◌++◌, cond, length, map, take, Option, Some, None, refl, sym, ap, ◌∙◌, subst, arith}
+use Rattle.std.proofs.Common.{◌≡◌, ℕ, zero, suc, Bool, true, false, not, ◌&&◌, ◌||◌, List, [], ◌∷◌, ◌++◌, cond, length, map, take, Some, None, refl, sym, ap, ◌∙◌, subst, arith}
 use Rattle.std.specs.Prelude.{slice_get}
 use Rattle.std.specs.List.{AllByRecursion, filter, flat_map, list_any}
 use Rattle.std.specs.Option.{option_map_or, option_to_list}
-use Rattle.std.proofs.lemmas.Bool.{and_parts}
 use Rattle.std.proofs.lemmas.List.{take_all}
 use Rattle.vtl_cell.specs.Apart.{all_apart}
 use Rattle.vtl_cell.specs.Kinds.{is_null, is_of}
@@ -11,8 +10,7 @@ use Rattle.vtl_cell.specs.Order.{same_cell}
 use Rattle.vtl_cell.specs.Row.{Row, column_of, same_key, same_row}
 use Rattle.vtl_cell.specs.declared.cell.Cell.{Cell}
 use Rattle.vtl_cell.specs.declared.kind.Kind.{Kind}
-use Rattle.vtl_cell.proofs.Aparts.{apart_more, apart_parts, none_is, none_same}
-use Rattle.vtl_cell.proofs.Cells.{same_cell-refl}
+use Rattle.vtl_cell.proofs.Aparts.{apart_more, apart_parts}
 use Rattle.vtl_cell.proofs.Rows.{same_row-refl}
 use Rattle.vtl_cell.proofs.Sorts.{AllByRecursion-filter}
 use Rattle.vtl_syntax.specs.declared.word_groups.JoinKind.{JoinKind}
@@ -35,7 +33,7 @@ use Rattle.vtl_meaning.specs.LookUps.{value_named}
 use Rattle.vtl_meaning.specs.Made.{AreAmong, GoTogether, HasIdentifiers, IsColumnAt, IsJoined, component_kinds, kinds_of_all}
 use Rattle.vtl_meaning.proofs.Drawn.{AtMostOne, Keeps, drawn_kept, mapped_kept}
 use Rattle.vtl_meaning.proofs.JoinParts.{AreSets, IsPart, parts_are, parts_of_operands, tuple_is}
-use Rattle.vtl_meaning.proofs.Places.{IsIdentifier, all_append, all_map, all_more, all_of_map, are_identifiers, columns_split, key_for, key_of_point, place_here, place_later, point_append, point_length, point_of_identifiers}
+use Rattle.vtl_meaning.proofs.Places.{IsIdentifier, all_append, all_map, all_more, are_identifiers, columns_split, key_for, key_of_point, place_here, place_later, point_append, point_length, point_of_identifiers}
 use Rattle.vtl_meaning.proofs.ValueKinds.{IsOf, point_from, point_parts}
 
 -- ---- `left_join`: a point for each point of the reference

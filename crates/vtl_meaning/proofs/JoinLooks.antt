@@ -1,11 +1,11 @@
 -- Joins by look-up.
-use Rattle.std.proofs.Common.{◌≡◌, ℕ, ◌≤◌, Bool, true, false, ◌&&◌, ◌||◌, List, [], ◌∷◌, ◌++◌, cond, length, map, take, Option, Some, None, refl, sym, ap, ◌∙◌, subst}
-use Rattle.std.specs.Prelude.{IfSome, option_map, slice_get}
-use Rattle.std.specs.List.{AllByRecursion, filter, find, flat_map, list_any}
-use Rattle.std.specs.Option.{option_and_then, option_to_list}
+use Rattle.std.proofs.Common.{◌≡◌, ℕ, Bool, true, false, ◌&&◌, ◌||◌, List, [], ◌∷◌, ◌++◌, cond, length, map, take, Option, Some, None, refl, sym, ap, ◌∙◌, subst}
+use Rattle.std.specs.Prelude.{IfSome, option_map}
+use Rattle.std.specs.List.{AllByRecursion, find, flat_map, list_any}
+use Rattle.std.specs.Option.{option_and_then}
 use Rattle.vtl_cell.specs.Each.{cons_if}
 use Rattle.vtl_cell.specs.Row.{Row, same_key, same_row}
-use Rattle.vtl_cell.proofs.Rows.{same_row-is, same_row-refl, same_row-sym}
+use Rattle.vtl_cell.proofs.Rows.{same_row-is, same_row-refl}
 use Rattle.vtl_syntax.specs.declared.word_groups.JoinKind.TheVariants as join
 use Rattle.vtl_tree.specs.DataSet.{Distinct, IsDataSet, is_point, look}
 use Rattle.vtl_tree.specs.Environment.{DataSet}
@@ -15,11 +15,11 @@ use Rattle.vtl_tree.specs.declared.structure.Structure.{Structure}
 use Rattle.vtl_tuples.specs.Tuples.{combinations}
 use Rattle.vtl_tuples.proofs.Lists.{map-map}
 use Rattle.vtl_tuples.proofs.Onces.{among_once}
-use Rattle.vtl_meaning.specs.Agreement.{OperandPoint, first_agreeing, key_of, operand_point, operand_points, values_in}
+use Rattle.vtl_meaning.specs.Agreement.{OperandPoint, key_of, operand_point, operand_points, values_in}
 use Rattle.vtl_meaning.specs.Columns.{identifiers_of}
 use Rattle.vtl_meaning.specs.JoinWords.{point_with, points_at, whole_point}
-use Rattle.vtl_meaning.specs.Joined.{Tuple, all_keys, crossed, is_whole, join_of, keys_in, reference_of, structures_of, tuple_at, tuple_beside, tuple_point}
-use Rattle.vtl_meaning.specs.Made.{AreAmong, GoTogether, HasIdentifiers, IsJoined}
+use Rattle.vtl_meaning.specs.Joined.{all_keys, crossed, is_whole, join_of, keys_in, reference_of, structures_of, tuple_at, tuple_beside, tuple_point}
+use Rattle.vtl_meaning.specs.Made.{AreAmong, GoTogether, IsJoined}
 use Rattle.vtl_meaning.proofs.Agreements.{found_by_key}
 use Rattle.vtl_meaning.proofs.JoinAgreements.{own_found}
 use Rattle.vtl_meaning.proofs.JoinGrows.{alike_rows, own_with}
@@ -27,7 +27,7 @@ use Rattle.vtl_meaning.proofs.JoinInner.{find-map}
 use Rattle.vtl_meaning.proofs.JoinKept.{IsCombination, all_keys_are, beside_keeps, combinations_are, crossed_is, full_keeps, have_them, join_with, key_at, keys_at, reference_is, same_row-append, whole_key, whole_points}
 use Rattle.vtl_meaning.proofs.JoinParts.{AreSets}
 use Rattle.vtl_meaning.proofs.Looks.{look-drawn, look-map}
-use Rattle.vtl_meaning.proofs.Places.{all_map, all_more, all_of_map, key_of_point, point_length}
+use Rattle.vtl_meaning.proofs.Places.{all_map, all_more, key_of_point, point_length}
 
 -- ---- the reference of a typed join
 goes_with_first : (r : DataSet) (ds : List DataSet) (s : Structure) → IsJoined join.Left (structures_of (r ∷ ds)) s → GoTogether join.Left r.structure (structures_of (r ∷ ds)) s

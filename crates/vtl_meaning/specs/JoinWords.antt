@@ -1,5 +1,5 @@
 -- Joins in the words of their laws: as tuples of points that agree, one operand after the other, and by look-up.
-use Rattle.std.specs.Prelude.{ℕ, Bool, not, List, [], ◌∷◌, ◌++◌, cond, filter, map, Option, Some, None, is_some, option_map, slice_get}
+use Rattle.std.specs.Prelude.{ℕ, Bool, not, List, [], ◌∷◌, ◌++◌, cond, filter, map, Option, Some, None, option_map, slice_get}
 use Rattle.std.specs.List.{flat_map, list_any}
 use Rattle.std.specs.Option.{option_and_then, option_map_or}
 use Rattle.vtl_cell.specs.Each.{cons_if}

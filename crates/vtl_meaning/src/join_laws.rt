@@ -16,7 +16,7 @@ ghost use Rattle.vtl_meaning.specs.Agreement.{key_of, operand_points, points_agr
 ghost use Rattle.vtl_meaning.specs.Columns.{identifiers_of};
 ghost use Rattle.vtl_meaning.specs.JoinWords.{IsWithin, agreed_tuple, cross_with, full_with, left_with, point_with, points_at, whole_point};
 ghost use Rattle.vtl_meaning.specs.Joined.{agreeing, cross_tuples, crossed, full_tuples, inner_tuples, join_of, keys_in, left_tuples, present, reference_of, reference_place, structures_of, tuple_at, tuple_beside, tuple_point};
-ghost use Rattle.vtl_meaning.specs.Made.{AreAmong, IsJoined};
+ghost use Rattle.vtl_meaning.specs.Made.{IsJoined};
 ghost use Rattle.vtl_meaning.specs.Orders.{SameOperands};
 
 /// A join of data sets is a data set of the structure that typing gives, and its integers are of the profile where
