@@ -17,7 +17,7 @@ use Rattle.vtl_tuples.proofs.Lists.{map-map}
 use Rattle.vtl_tuples.proofs.Onces.{among_once}
 use Rattle.vtl_meaning.specs.Agreement.{OperandPoint, key_of, operand_point, operand_points, values_in}
 use Rattle.vtl_meaning.specs.Columns.{identifiers_of}
-use Rattle.vtl_meaning.specs.JoinWords.{point_with, points_at, whole_point}
+use Rattle.vtl_meaning.specs.JoinWords.{looked_tuple, point_with, points_at, whole_point}
 use Rattle.vtl_meaning.specs.Joined.{all_keys, crossed, is_whole, join_of, keys_in, reference_of, structures_of, tuple_at, tuple_beside, tuple_point}
 use Rattle.vtl_meaning.specs.Made.{AreAmong, GoTogether, IsJoined}
 use Rattle.vtl_meaning.proofs.Agreements.{found_by_key}
@@ -25,6 +25,7 @@ use Rattle.vtl_meaning.proofs.JoinAgreements.{own_found}
 use Rattle.vtl_meaning.proofs.JoinGrows.{alike_rows, own_with}
 use Rattle.vtl_meaning.proofs.JoinInner.{find-map}
 use Rattle.vtl_meaning.proofs.JoinKept.{IsCombination, all_keys_are, beside_keeps, combinations_are, crossed_is, full_keeps, have_them, join_with, key_at, keys_at, reference_is, same_row-append, whole_key, whole_points}
+use Rattle.vtl_meaning.proofs.JoinLooked.{HasThose, at_looked}
 use Rattle.vtl_meaning.proofs.JoinParts.{AreSets}
 use Rattle.vtl_meaning.proofs.Looks.{look-drawn, look-map}
 use Rattle.vtl_meaning.proofs.Places.{all_map, all_more, key_of_point, point_length}
@@ -255,3 +256,12 @@ full_has_each r ds s i all = each_own (r ∷ ds) all (goes_with_all r ds s i).1
         → AllByRecursion (λ d. AllByRecursion (λ q. point_with (identifiers_of r.structure) d (values_in d.structure (identifiers_of r.structure) q) ≡ Some q) d.points) es
     each_own [] sets within = tt
     each_own (e ∷ es) sets within = (own_with r.structure e sets.0 within.0.0, each_own es sets.1 within.1)
+
+-- ---- the parts by look-up
+pub full_looked : (r : DataSet) (ds : List DataSet) (s : Structure) (k : Row) → IsJoined join.Full (structures_of (r ∷ ds)) s → AllByRecursion (λ d. IsDataSet d.structure d.points) (r ∷ ds) → length k ≡ key_width r.structure
+    → tuple_at (identifiers_of r.structure) (r ∷ ds) k ≡ looked_tuple r.structure (r ∷ ds) k
+full_looked r ds s k i all l = at_looked r.structure (r ∷ ds) k all.0.well_formed l (those (r ∷ ds) all (goes_with_all r ds s i).1)
+  where
+    those : (es : List DataSet) → AreSets es → AllByRecursion (λ b. AreAmong (identifiers_of b) (identifiers_of r.structure) × AreAmong (identifiers_of r.structure) (identifiers_of b)) (structures_of es) → AllByRecursion (HasThose r.structure) es
+    those [] sets within = tt
+    those (e ∷ es) sets within = (record { inside = record { kept = sets.0; within = within.0.0 }; back = within.0.1 }, those es sets.1 within.1)

@@ -8,6 +8,7 @@ pub mod JoinExamples
 pub mod JoinGrows
 pub mod JoinInner
 pub mod JoinKept
+pub mod JoinLooked
 pub mod JoinLooks
 pub mod JoinOrders
 pub mod JoinParts

@@ -13,6 +13,7 @@ use Rattle.vtl_tuples.specs.Keys.{item_at}
 use Rattle.vtl_meaning.specs.Agreement.{OperandPoint, first_agreeing, key_of, operand_point, operand_points, values_in}
 use Rattle.vtl_meaning.specs.Columns.{identifiers_of}
 use Rattle.vtl_meaning.specs.Joined.{Part, Tuple, is_whole, part_of, present, tuple_point}
+use Rattle.vtl_meaning.specs.LookUps.{part_for}
 use Rattle.vtl_meaning.specs.Made.{AreAmong}
 
 -- a data set whose identifiers the reference has
@@ -62,6 +63,10 @@ cross_with ts d = flat_map (λ t. map (and_crossed t) (operand_points d)) ts
 -- the point of a tuple, where no part is missing
 abbrev pub whole_point : Tuple → Option Row
 whole_point t = cond (is_whole t) (Some (tuple_point t)) None
+
+-- of each operand the point at its part of these identifiers, if there is one
+abbrev pub looked_tuple : Structure → List DataSet → Row → Tuple
+looked_tuple a ds k = record { identifiers = k; parts = map (λ d. part_of d (look (key_width d.structure) d.points (part_for a d.structure k))) ds }
 
 -- of each operand the point with its identifiers among these, one tuple of them for each operand, if all have one
 abbrev pub points_at : List DataSet → List Row → Option (List OperandPoint)
