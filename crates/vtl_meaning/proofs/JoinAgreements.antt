@@ -23,7 +23,7 @@ use Rattle.vtl_meaning.proofs.Agreements.{own_values}
 use Rattle.vtl_meaning.proofs.Kept.{both_all}
 use Rattle.vtl_meaning.proofs.Places.{all_filtered, all_more, same_name-is, same_name-refl}
 
-either_true : (b : Bool) → (b || true) ≡ true
+pub either_true : (b : Bool) → (b || true) ≡ true
 either_true true = refl
 either_true false = refl
 

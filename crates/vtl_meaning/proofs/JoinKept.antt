@@ -28,7 +28,7 @@ use Rattle.vtl_tuples.proofs.Onces.{once_apart}
 use Rattle.vtl_meaning.specs.Agreement.{OperandPoint, agree_in, key_of, operand_point, operand_points, values_in}
 use Rattle.vtl_meaning.specs.Columns.{identifiers_of, others_of, place_of}
 use Rattle.vtl_meaning.specs.JoinWords.{whole_point}
-use Rattle.vtl_meaning.specs.Joined.{Tuple, all_keys, cross_tuples, crossed, full_tuples, inner_tuples, is_whole, join_of, joined_of, keys_in, left_tuples, present, reference_place, structures_of, tuple_at, tuple_beside, tuple_point}
+use Rattle.vtl_meaning.specs.Joined.{all_keys, cross_tuples, crossed, full_tuples, inner_tuples, is_whole, join_of, joined_of, keys_in, left_tuples, present, reference_place, structures_of, tuple_at, tuple_beside, tuple_point}
 use Rattle.vtl_meaning.specs.LookUps.{value_named}
 use Rattle.vtl_meaning.specs.Made.{AreAmong, GoTogether, HasIdentifiers, IsColumnAt, IsJoined, component_kinds, kinds_of_all}
 use Rattle.vtl_meaning.proofs.Drawn.{AtMostOne, Keeps, drawn_kept, mapped_kept}
@@ -50,13 +50,14 @@ left_kept kind r ds s i e h all =
     (mapped_kept s (key_width a) f r.points i.well_formed (all_more (λ q. is_point (columns_of a) q ≡ true) (λ q. Keeps s (key_width a) q (f q)) (λ q w. beside_keeps kind a s ds q i e all w) r.points h.typed) h.distinct)
 
 -- ---- `inner_join`: of these the ones where no part is missing
-pub whole_points : (f : Row → Tuple) (d : List Row) → map tuple_point (filter is_whole (map f d)) ≡ flat_map (λ q. option_to_list (whole_point (f q))) d
-whole_points f [] = refl
-whole_points f (q ∷ d) = go (is_whole (f q)) (whole_points f d)
+-- what is made of the values that pass a test
+pub made_of_passing : {X Y Z : Type 0} (p : Y → Bool) (g : Y → Z) (f : X → Y) (xs : List X) → map g (filter p (map f xs)) ≡ flat_map (λ x. option_to_list (cond (p (f x)) (Some (g (f x))) None)) xs
+made_of_passing p g f [] = refl
+made_of_passing p g f (x ∷ xs) = go (p (f x)) (made_of_passing p g f xs)
   where
-    go : (b : Bool) → map tuple_point (filter is_whole (map f d)) ≡ flat_map (λ z. option_to_list (whole_point (f z))) d
-        → map tuple_point (cond b (f q ∷ filter is_whole (map f d)) (filter is_whole (map f d))) ≡ option_to_list (cond b (Some (tuple_point (f q))) None) ++ flat_map (λ z. option_to_list (whole_point (f z))) d
-    go true ih = ap (λ l. tuple_point (f q) ∷ l) ih
+    go : (b : Bool) → map g (filter p (map f xs)) ≡ flat_map (λ z. option_to_list (cond (p (f z)) (Some (g (f z))) None)) xs
+        → map g (cond b (f x ∷ filter p (map f xs)) (filter p (map f xs))) ≡ option_to_list (cond b (Some (g (f x))) None) ++ flat_map (λ z. option_to_list (cond (p (f z)) (Some (g (f z))) None)) xs
+    go true ih = ap (λ l. g (f x) ∷ l) ih
     go false ih = ih
 
 at_most : (P : Row → Type 0) (b : Bool) (r : Row) → P r → AtMostOne P (option_to_list (cond b (Some r) None))
@@ -67,7 +68,7 @@ inner_kept : (kind : JoinKind) (r : DataSet) (ds : List DataSet) (s : Structure)
 inner_kept kind r ds s i e h all =
     let a = r.structure in
     let g : Row → List Row = λ q. option_to_list (whole_point (tuple_beside a ds q)) in
-    subst (IsDataSet s) (sym (whole_points (tuple_beside a ds) r.points))
+    subst (IsDataSet s) (sym (made_of_passing is_whole tuple_point (tuple_beside a ds) r.points))
     (drawn_kept s (key_width a) g r.points i.well_formed
     (all_more (λ q. is_point (columns_of a) q ≡ true) (λ q. AtMostOne (Keeps s (key_width a) q) (g q))
     (λ q w. at_most (Keeps s (key_width a) q) (is_whole (tuple_beside a ds q)) (tuple_point (tuple_beside a ds q)) (beside_keeps kind a s ds q i e all w)) r.points h.typed) h.distinct)

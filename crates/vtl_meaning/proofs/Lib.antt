@@ -8,9 +8,9 @@ pub mod JoinExamples
 pub mod JoinGrows
 pub mod JoinInner
 pub mod JoinKept
-pub mod JoinLooked
 pub mod JoinLooks
 pub mod JoinOrders
+pub mod JoinPartners
 pub mod JoinParts
 pub mod JoinProfiles
 pub mod Kept

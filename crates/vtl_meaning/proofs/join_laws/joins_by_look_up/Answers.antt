@@ -1,4 +1,4 @@
-use Rattle.vtl_meaning.proofs.JoinLooked.{beside_looked}
+use Rattle.vtl_meaning.proofs.JoinPartners.{beside_looked}
 use Rattle.vtl_meaning.proofs.JoinLooks.{cross_look, full_look, full_looked, inner_look, left_look}
 use Rattle.vtl_meaning.proofs.join_laws.joins_by_look_up.Goals as goal
 

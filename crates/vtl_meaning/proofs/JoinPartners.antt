@@ -1,5 +1,5 @@
--- The parts of a join's tuples by look-up.
-use Rattle.std.proofs.Common.{◌≡◌, ℕ, zero, suc, Bool, true, false, ◌&&◌, List, [], ◌∷◌, ◌++◌, cond, length, map, take, Option, Some, None, refl, sym, ap, ◌∙◌, subst, arith}
+-- The parts of a join's tuples are found by look-up at their identifiers.
+use Rattle.std.proofs.Common.{◌≡◌, ℕ, zero, suc, Bool, true, false, List, [], ◌∷◌, cond, length, map, take, Some, refl, sym, ap, ◌∙◌, arith}
 use Rattle.std.specs.List.{AllByRecursion, filter, find}
 use Rattle.std.proofs.lemmas.List.{append-nil, take_all}
 use Rattle.vtl_cell.specs.Row.{Row, column_of, same_row}
@@ -9,13 +9,13 @@ use Rattle.vtl_cell.proofs.Rows.{same_row-is, same_row-refl}
 use Rattle.vtl_rows.specs.Tables.{cells_at}
 use Rattle.vtl_tree.specs.DataSet.{IsDataSet, is_point, look}
 use Rattle.vtl_tree.specs.Environment.{DataSet}
-use Rattle.vtl_tree.specs.Structure.{IsStructure, columns_of, key_width, names_of}
+use Rattle.vtl_tree.specs.Structure.{IsStructure, columns_of, key_width}
 use Rattle.vtl_tree.specs.declared.structure.Component.{Component}
 use Rattle.vtl_tree.specs.declared.structure.Structure.{Structure}
 use Rattle.vtl_meaning.specs.Agreement.{common_identifiers, first_agreeing, has_identifier, key_of, values_in}
 use Rattle.vtl_meaning.specs.Columns.{identifiers_of, others_of, place_of, places_in}
 use Rattle.vtl_meaning.specs.JoinWords.{IsWithin, looked_tuple, point_with}
-use Rattle.vtl_meaning.specs.Joined.{part_of, structures_of, tuple_at, tuple_beside}
+use Rattle.vtl_meaning.specs.Joined.{part_of, tuple_at, tuple_beside}
 use Rattle.vtl_meaning.specs.LookUps.{part_for, value_named, values_named}
 use Rattle.vtl_meaning.specs.Made.{AreAmong, IsColumnAt}
 use Rattle.vtl_meaning.proofs.Agreements.{found_by_key, own_values}
