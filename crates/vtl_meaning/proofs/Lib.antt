@@ -8,9 +8,11 @@ pub mod Kept
 pub mod LookUps
 pub mod Looks
 pub mod Orders
+pub mod OwnColumns
 pub mod Places
 pub mod Profiles
 pub mod ScriptsKept
 pub mod ScriptsOrders
 pub mod ScriptsProfiles
+pub mod SetsKept
 pub mod ValueKinds
