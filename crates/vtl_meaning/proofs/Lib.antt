@@ -15,4 +15,5 @@ pub mod ScriptsKept
 pub mod ScriptsOrders
 pub mod ScriptsProfiles
 pub mod SetsKept
+pub mod TurnedKept
 pub mod ValueKinds
