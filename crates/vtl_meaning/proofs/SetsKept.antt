@@ -126,7 +126,7 @@ has_any n (q ∷ d) r = go (same_key n q r) (has_any n d r)
     go true ih = refl
     go false ih = ih
 
-apart_append : {X : Type 0} (same : X → X → Bool) (xs ys : List X) → all_apart same xs ≡ true → all_apart same ys ≡ true → AllByRecursion (λ x. AllByRecursion (λ y. same x y ≡ false) ys) xs → all_apart same (xs ++ ys) ≡ true
+pub apart_append : {X : Type 0} (same : X → X → Bool) (xs ys : List X) → all_apart same xs ≡ true → all_apart same ys ≡ true → AllByRecursion (λ x. AllByRecursion (λ y. same x y ≡ false) ys) xs → all_apart same (xs ++ ys) ≡ true
 apart_append same [] ys e f all = f
 apart_append same (x ∷ xs) ys e f all =
     let parts = apart_parts same x xs e in
