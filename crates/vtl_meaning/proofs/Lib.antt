@@ -18,5 +18,6 @@ pub mod ScriptsKept
 pub mod ScriptsOrders
 pub mod ScriptsProfiles
 pub mod SetsKept
+pub mod SetsProfiles
 pub mod TurnedKept
 pub mod ValueKinds

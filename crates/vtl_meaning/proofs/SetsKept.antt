@@ -69,7 +69,7 @@ pub once_holds : {X : Type 0} (P : X → Type 0) (same : X → X → Bool) (xs :
 once_holds P same [] all = tt
 once_holds P same (x ∷ xs) all = (all.0, AllByRecursion-filter P (λ y. not (same x y)) (each_once same xs) (once_holds P same xs all.1))
 
-all_flat : {X : Type 0} (P : X → Type 0) (xss : List (List X)) → AllByRecursion (AllByRecursion P) xss → AllByRecursion P (flat_map (λ xs. xs) xss)
+pub all_flat : {X : Type 0} (P : X → Type 0) (xss : List (List X)) → AllByRecursion (AllByRecursion P) xss → AllByRecursion P (flat_map (λ xs. xs) xss)
 all_flat P [] all = tt
 all_flat P (xs ∷ xss) all = all_append P xs (flat_map (λ ys. ys) xss) all.0 (all_flat P xss all.1)
 
