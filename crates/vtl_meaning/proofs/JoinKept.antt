@@ -370,10 +370,10 @@ reference_is kind ds s i all =
     standing (d ∷ es) (suc n) a e h = standing es n a e h.1
 
 -- the join is the one with it
-pub join_with : (kind : JoinKind) (ds : List DataSet) (s : Structure) (r : DataSet) → IsReference kind ds s r → join_of kind ds ≡ joined_of kind r ds
-join_with kind ds s r h = ap (λ o. option_map_or (λ reference. joined_of kind reference ds) o []) h.there
+pub join_with : (kind : JoinKind) (ds : List DataSet) (r : DataSet) → slice_get ds (reference_place kind (structures_of ds)) ≡ Some r → join_of kind ds ≡ joined_of kind r ds
+join_with kind ds r there = ap (λ o. option_map_or (λ reference. joined_of kind reference ds) o []) there
 
 pub join_kept : (kind : JoinKind) (ds : List DataSet) (s : Structure) → IsJoined kind (structures_of ds) s → AllByRecursion (λ d. IsDataSet d.structure d.points) ds → IsDataSet s (join_of kind ds)
 join_kept kind ds s i all =
     let found = reference_is kind ds s i all in
-    subst (IsDataSet s) (sym (join_with kind ds s found.0 found.1)) (joined_kept kind found.0 ds s i found.1.together found.1.kept all)
+    subst (IsDataSet s) (sym (join_with kind ds found.0 found.1.there)) (joined_kept kind found.0 ds s i found.1.together found.1.kept all)

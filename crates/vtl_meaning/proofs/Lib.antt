@@ -3,8 +3,10 @@ mod Determined
 pub mod Drawn
 pub mod Examples
 pub mod Faults
+pub mod JoinAgreements
 pub mod JoinExamples
 pub mod JoinKept
+pub mod JoinOrders
 pub mod JoinParts
 pub mod JoinProfiles
 pub mod Kept
