@@ -20,6 +20,7 @@ pub mod ScriptsKept
 pub mod ScriptsOrders
 pub mod ScriptsProfiles
 pub mod SetsKept
+pub mod SetsLooks
 pub mod SetsProfiles
 pub mod TurnedKept
 pub mod ValueKinds

@@ -23,6 +23,8 @@ use Rattle.vtl_meaning.specs.Operators.{left_of}
 use Rattle.vtl_meaning.specs.Points.{with_points}
 use Rattle.vtl_meaning.specs.Sets.{all_left_of, difference_of, either_only, existence_of, has_point, intersection_of, is_retained, reduced, symmetric_difference_of, union_of, united, with_answer}
 use Rattle.vtl_meaning.proofs.Drawn.{Keeps, mapped_kept}
+use Rattle.vtl_meaning.proofs.JoinKept.{once_hold}
+use Rattle.vtl_meaning.proofs.JoinParts.{AreSets}
 use Rattle.vtl_meaning.proofs.Kept.{Tells, told_kept}
 use Rattle.vtl_meaning.proofs.OwnColumns.{among_front, column_any}
 use Rattle.vtl_meaning.proofs.Places.{all_append, all_filtered, all_more, are_others, columns_split, joined_point_is, key_for, key_of_joined, key_of_point}
@@ -52,10 +54,6 @@ alternative_tells b s w i = record {
 pub shown_kept : (b : DataSet) (s : Structure) → IsKeyed s → IsAlternative s b.structure s → IsDataSet b.structure b.points → IsDataSet s (left_of b s)
 shown_kept b s w i h = subst (λ l. IsDataSet s (left_of (with_points b.structure l) s)) (filter_true b.points) (told_kept [] b s (alternative_tells b.structure s w i) h)
 
--- each operand is one
-abbrev pub AreSets : List DataSet → Type 0
-AreSets ds = AllByRecursion (λ d. IsDataSet d.structure d.points) ds
-
 pub all_shown_kept : (ds : List DataSet) (s : Structure) → IsKeyed s → AllByRecursion (λ b. IsAlternative s b s) (structures_of ds) → AreSets ds → AllByRecursion (IsDataSet s) (all_left_of ds s)
 all_shown_kept [] s w i h = tt
 all_shown_kept (d ∷ ds) s w i h = (shown_kept d s w i.0 h.0, all_shown_kept ds s w i.1 h.1)
@@ -64,11 +62,6 @@ pub combined_is : (a : Structure) (bs : List Structure) (s : Structure) → IsCo
 combined_is a bs s i = (i.well_formed, i.no_attributes)
 
 -- ---- union
--- what holds of all holds of what is left of them
-pub once_holds : {X : Type 0} (P : X → Type 0) (same : X → X → Bool) (xs : List X) → AllByRecursion P xs → AllByRecursion P (each_once same xs)
-once_holds P same [] all = tt
-once_holds P same (x ∷ xs) all = (all.0, AllByRecursion-filter P (λ y. not (same x y)) (each_once same xs) (once_holds P same xs all.1))
-
 pub all_flat : {X : Type 0} (P : X → Type 0) (xss : List (List X)) → AllByRecursion (AllByRecursion P) xss → AllByRecursion P (flat_map (λ xs. xs) xss)
 all_flat P [] all = tt
 all_flat P (xs ∷ xss) all = all_append P xs (flat_map (λ ys. ys) xss) all.0 (all_flat P xss all.1)
@@ -77,7 +70,7 @@ pub united_kept : (s : Structure) (ds : List (List Row)) → IsStructure s → A
 united_kept s ds w all =
     let P : Row → Type 0 = λ r. is_point (columns_of s) r ≡ true in record {
       well_formed = w;
-      typed = once_holds P (same_key (key_width s)) (flat_map (λ d. d) ds) (all_flat P ds (all_more (IsDataSet s) (AllByRecursion P) (λ d h. h.typed) ds all));
+      typed = once_hold P (same_key (key_width s)) (flat_map (λ d. d) ds) (all_flat P ds (all_more (IsDataSet s) (AllByRecursion P) (λ d h. h.typed) ds all));
       distinct = once_apart (same_key (key_width s)) (flat_map (λ d. d) ds);
     }
 

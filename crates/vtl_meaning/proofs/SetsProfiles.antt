@@ -22,9 +22,10 @@ use Rattle.vtl_meaning.specs.LookUps.{value_named}
 use Rattle.vtl_meaning.specs.Operators.{left_of}
 use Rattle.vtl_meaning.specs.Sets.{all_left_of, difference_of, existence_of, has_point, intersection_of, is_retained, reduced, symmetric_difference_of, union_of, with_answer}
 use Rattle.vtl_meaning.specs.Turned.{coded_value, codes_of, is_coded, named_point, other_identifiers, pivot_of, pivoted_point, unpivot_of, unpivoted_points}
+use Rattle.vtl_meaning.proofs.JoinKept.{once_hold}
 use Rattle.vtl_meaning.proofs.Places.{all_append, all_map, all_more, each}
 use Rattle.vtl_meaning.proofs.Profiles.{IsRowOfProfile, cell_is, drawn_are, shown_are}
-use Rattle.vtl_meaning.proofs.SetsKept.{all_flat, once_holds}
+use Rattle.vtl_meaning.proofs.SetsKept.{all_flat}
 use Rattle.vtl_meaning.proofs.TurnedKept.{filter_map_drawn, find_is}
 
 module _ (p : Settings) where
@@ -39,7 +40,7 @@ module _ (p : Settings) where
   all_left_profile ds s all = all_map (λ d. left_of d s) (AreOfProfile p) ds (all_more (λ d. AreOfProfile p d.points) (λ d. AreOfProfile p (left_of d s)) (λ d h. left_profile d s h) ds all)
 
   pub union_profile : (ds : List DataSet) (s : Structure) → AllOfProfile ds → AreOfProfile p (union_of ds s)
-  union_profile ds s all = once_holds (IsRowOfProfile p) (same_key (key_width s)) (flat_map (λ d. d) (all_left_of ds s)) (all_flat (IsRowOfProfile p) (all_left_of ds s) (all_left_profile ds s all))
+  union_profile ds s all = once_hold (IsRowOfProfile p) (same_key (key_width s)) (flat_map (λ d. d) (all_left_of ds s)) (all_flat (IsRowOfProfile p) (all_left_of ds s) (all_left_profile ds s all))
 
   pub intersection_profile : (ds : List DataSet) (s : Structure) → AllOfProfile ds → AreOfProfile p (intersection_of ds s)
   intersection_profile [] s all = tt
@@ -85,7 +86,7 @@ module _ (p : Settings) where
     pivot_profile =
         let ids = other_identifiers id d.structure in
         let f = values_in d.structure ids in
-        let keys = once_holds (IsRowOfProfile p) same_row (map f d.points) (all_map f (IsRowOfProfile p) d.points (all_more (IsRowOfProfile p) (λ r. IsRowOfProfile p (f r)) (λ r i. values_are (columns_of d.structure) ids r i) d.points h)) in
+        let keys = once_hold (IsRowOfProfile p) same_row (map f d.points) (all_map f (IsRowOfProfile p) d.points (all_more (IsRowOfProfile p) (λ r. IsRowOfProfile p (f r)) (λ r i. values_are (columns_of d.structure) ids r i) d.points h)) in
         all_map (pivoted_point d id m) (IsRowOfProfile p) (each_once same_row (map f d.points)) (all_more (IsRowOfProfile p) (λ k. IsRowOfProfile p (pivoted_point d id m k)) pivoted_are (each_once same_row (map f d.points)) keys)
 
   -- ---- `unpivot`

@@ -29,11 +29,12 @@ use Rattle.vtl_meaning.specs.LookUps.{value_named}
 use Rattle.vtl_meaning.specs.Made.{AreAmong, IsColumnAt, IsPivoted, IsUnpivoted}
 use Rattle.vtl_meaning.specs.Turned.{coded_value, codes_of, is_coded, named_point, other_identifiers, pivot_of, pivoted_point, unpivot_of, unpivoted_points}
 use Rattle.vtl_meaning.proofs.Drawn.{drawn_all, drawn_apart, map_drawn}
+use Rattle.vtl_meaning.proofs.JoinKept.{once_hold}
 use Rattle.vtl_meaning.proofs.Kept.{both_all, some_identifiers}
 use Rattle.vtl_meaning.proofs.LookUps.{named_cells}
 use Rattle.vtl_meaning.proofs.OwnColumns.{own_identifiers, own_measures}
 use Rattle.vtl_meaning.proofs.Places.{IsIdentifier, all_append, all_map, all_more, are_identifiers, are_others, columns_split, each, joined_point_is, key_of_joined, key_of_point, point_append, point_of_identifiers, same_name-refl}
-use Rattle.vtl_meaning.proofs.SetsKept.{apart_append, once_holds}
+use Rattle.vtl_meaning.proofs.SetsKept.{apart_append}
 use Rattle.vtl_meaning.proofs.ValueKinds.{IsOf, cell_is_of, null_is_of}
 
 -- ---- `pivot`
@@ -104,7 +105,7 @@ module _ (id m : List ℕ) (d : DataSet) (s : Structure) (i : IsPivoted id m d.s
   keys_typed =
       let P : Row → Type 0 = λ k. is_point (other_identifiers id a) k ≡ true in
       let f = values_in a (other_identifiers id a) in
-      once_holds P same_row (map f d.points) (all_map f P d.points (all_more (λ r. is_point (columns_of a) r ≡ true) (λ r. P (f r)) (λ r t. other_key_is id a r h.well_formed t) d.points h.typed))
+      once_hold P same_row (map f d.points) (all_map f P d.points (all_more (λ r. is_point (columns_of a) r ≡ true) (λ r. P (f r)) (λ r t. other_key_is id a r h.well_formed t) d.points h.typed))
 
   pub pivot_kept : IsDataSet s (pivot_of d id m)
   pivot_kept =
