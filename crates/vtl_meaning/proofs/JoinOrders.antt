@@ -42,7 +42,7 @@ one_order (Some x) [] q = absurd (omega (arith, length-Perm q))
 one_order (Some x) (y ∷ []) q = ap (λ z. z ∷ []) (AllByRecursion-Perm (λ z. z ≡ x) q (refl, tt)).0
 one_order (Some x) (y ∷ z ∷ zs) q = absurd (omega (arith, length-Perm q))
 
-find_respects : {X : Type 0} (p : X → Bool) (xs ys : List X) → Perm xs ys → filter p xs ≡ option_to_list (find p xs) → find p xs ≡ find p ys
+pub find_respects : {X : Type 0} (p : X → Bool) (xs ys : List X) → Perm xs ys → filter p xs ≡ option_to_list (find p xs) → find p xs ≡ find p ys
 find_respects p xs ys q only =
     let same = one_order (find p xs) (filter p ys) (chain (Perm-same (option_to_list (find p xs)) (filter p xs) (sym only)) (Perm-filter p q)) in
     find_front p xs ∙ ap (λ l. slice_get l 0) (only ∙ sym same) ∙ sym (find_front p ys)

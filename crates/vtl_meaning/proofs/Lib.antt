@@ -21,6 +21,8 @@ pub mod ScriptsOrders
 pub mod ScriptsProfiles
 pub mod SetsKept
 pub mod SetsLooks
+pub mod SetsOrders
 pub mod SetsProfiles
 pub mod TurnedKept
+pub mod TurnedOrders
 pub mod ValueKinds
