@@ -13,7 +13,6 @@ use Rattle.vtl_tree.specs.DataSet.{IsDataSet, is_point, look}
 use Rattle.vtl_tree.specs.Environment.{DataSet}
 use Rattle.vtl_tree.specs.Structure.{IsStructure, columns_of, key_width, same_name}
 use Rattle.vtl_tree.specs.declared.structure.Structure.{Structure}
-use Rattle.vtl_tuples.specs.Keys.{each_once}
 use Rattle.vtl_tuples.proofs.Onces.{once_apart}
 use Rattle.vtl_meaning.specs.Agreement.{has_agreeing}
 use Rattle.vtl_meaning.specs.Columns.{identifiers_of, measures_of, others_of, place_of}

@@ -1,7 +1,7 @@
 -- Set operators by look-up.
-use Rattle.std.proofs.Common.{◌≡◌, ℕ, Bool, true, false, not, cond, ◌&&◌, List, [], ◌∷◌, ◌++◌, map, length, take, Option, Some, None, refl, sym, ap, ◌∙◌, subst, true≢false}
-use Rattle.std.specs.Prelude.{is_some, option_map}
-use Rattle.std.specs.List.{AllByRecursion, filter, flat_map, list_all}
+use Rattle.std.proofs.Common.{◌≡◌, ℕ, Bool, true, false, not, cond, List, [], ◌∷◌, ◌++◌, take, Option, Some, None, refl, sym, ap, ◌∙◌}
+use Rattle.std.specs.Prelude.{is_some}
+use Rattle.std.specs.List.{filter, flat_map, list_all}
 use Rattle.std.specs.Option.{option_or}
 use Rattle.vtl_cell.specs.Row.{Row, same_key, same_row}
 use Rattle.vtl_cell.proofs.Rows.{same_row-is}

@@ -1,14 +1,13 @@
 -- Set operators and `exists_in` do not depend on the order of points.
-use Rattle.std.proofs.Common.{◌≡◌, ℕ, Bool, true, false, not, cond, ◌&&◌, ◌||◌, List, [], ◌∷◌, ◌++◌, map, take, Option, Some, None, refl, sym, ap, ◌∙◌, subst}
+use Rattle.std.proofs.Common.{◌≡◌, ℕ, Bool, true, false, not, cond, ◌&&◌, ◌||◌, List, [], ◌∷◌, ◌++◌, map, take, Some, refl, sym, ap, ◌∙◌}
 use Rattle.std.specs.Prelude.{is_some}
 use Rattle.std.specs.List.{AllByRecursion, filter, find, flat_map, list_all, list_any}
 use Rattle.std.specs.Option.{option_or}
 use Rattle.vtl_cell.specs.Perm.{Perm, chain}
 use Rattle.vtl_cell.specs.Row.{Row, same_key}
 use Rattle.vtl_cell.specs.declared.cell.Cell.TheVariants as c
-use Rattle.vtl_cell.proofs.Aparts.{all_apart-Perm, list_any-Perm}
+use Rattle.vtl_cell.proofs.Aparts.{list_any-Perm}
 use Rattle.vtl_cell.proofs.Perms.{Perm-append, Perm-filter, Perm-map, Perm-same}
-use Rattle.vtl_cell.proofs.Rows.{same_key-sym}
 use Rattle.vtl_syntax.specs.declared.word_groups.Retain.{Retain}
 use Rattle.vtl_tree.specs.DataSet.{Distinct, IsDataSet, look}
 use Rattle.vtl_tree.specs.Environment.{DataSet}
@@ -22,12 +21,12 @@ use Rattle.vtl_meaning.specs.Joined.{structures_of}
 use Rattle.vtl_meaning.specs.Made.{AreCombined, IsCombined}
 use Rattle.vtl_meaning.specs.Operators.{left_of}
 use Rattle.vtl_meaning.specs.Orders.{SameOperands}
-use Rattle.vtl_meaning.specs.Points.{shown, with_points}
-use Rattle.vtl_meaning.specs.Sets.{all_left_of, difference_of, either_only, existence_of, has_point, intersected, intersection_of, is_retained, leftmost, reduced, symmetric_difference_of, union_of, united, with_answer}
+use Rattle.vtl_meaning.specs.Points.{with_points}
+use Rattle.vtl_meaning.specs.Sets.{all_left_of, difference_of, existence_of, has_point, intersection_of, is_retained, leftmost, reduced, symmetric_difference_of, union_of, united, with_answer}
 use Rattle.vtl_meaning.proofs.JoinParts.{AreSets}
 use Rattle.vtl_meaning.proofs.Orders.{shown_respects}
 use Rattle.vtl_meaning.proofs.Places.{all_more}
-use Rattle.vtl_meaning.proofs.SetsKept.{all_shown_kept, combined_is, first_shown, second_shown, shown_kept}
+use Rattle.vtl_meaning.proofs.SetsKept.{all_shown_kept, combined_is, first_shown, second_shown}
 use Rattle.vtl_meaning.proofs.SetsLooks.{has_at, united_look}
 
 -- ---- lists of points in other orders

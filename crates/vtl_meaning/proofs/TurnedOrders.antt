@@ -1,6 +1,6 @@
 -- `pivot` and `unpivot` do not depend on the order of points.
-use Rattle.std.proofs.Common.{◌≡◌, ℕ, Bool, true, false, not, cond, ◌||◌, List, [], ◌∷◌, ◌++◌, map, take, Option, Some, None, refl, sym, ap, ◌∙◌, subst}
-use Rattle.std.specs.List.{AllByRecursion, filter, find, list_any}
+use Rattle.std.proofs.Common.{◌≡◌, ℕ, Bool, true, false, not, cond, ◌||◌, List, [], ◌∷◌, ◌++◌, map, take, refl, sym, ap, ◌∙◌, subst}
+use Rattle.std.specs.List.{AllByRecursion, filter}
 use Rattle.std.specs.Option.{option_map_or}
 use Rattle.std.proofs.lemmas.Bool.{and_parts}
 use Rattle.vtl_cell.specs.Order.{same_cell}
