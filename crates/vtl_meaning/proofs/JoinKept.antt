@@ -29,6 +29,7 @@ use Rattle.vtl_tuples.proofs.Lists.{map-flat_map, map-map}
 use Rattle.vtl_tuples.proofs.Onces.{once_apart}
 use Rattle.vtl_meaning.specs.Agreement.{OperandPoint, agree_in, key_of, operand_point, operand_points, values_in}
 use Rattle.vtl_meaning.specs.Columns.{identifiers_of, others_of, place_of}
+use Rattle.vtl_meaning.specs.JoinWords.{whole_point}
 use Rattle.vtl_meaning.specs.Joined.{Tuple, all_keys, cross_tuples, crossed, full_tuples, inner_tuples, is_whole, join_of, joined_of, keys_in, left_tuples, present, reference_place, structures_of, tuple_at, tuple_beside, tuple_point}
 use Rattle.vtl_meaning.specs.LookUps.{value_named}
 use Rattle.vtl_meaning.specs.Made.{AreAmong, GoTogether, HasIdentifiers, IsColumnAt, IsJoined, component_kinds, kinds_of_all}
@@ -51,25 +52,23 @@ left_kept kind r ds s i e h all =
     (mapped_kept s (key_width a) f r.points i.well_formed (all_more (λ q. is_point (columns_of a) q ≡ true) (λ q. Keeps s (key_width a) q (f q)) (λ q w. beside_keeps kind a s ds q i e all w) r.points h.typed) h.distinct)
 
 -- ---- `inner_join`: of these the ones where no part is missing
-abbrev pub point_if_whole : Tuple → List Row
-point_if_whole t = cond (is_whole t) (tuple_point t ∷ []) []
-
-pub whole_points : (f : Row → Tuple) (d : List Row) → map tuple_point (filter is_whole (map f d)) ≡ flat_map (λ q. point_if_whole (f q)) d
+pub whole_points : (f : Row → Tuple) (d : List Row) → map tuple_point (filter is_whole (map f d)) ≡ flat_map (λ q. option_to_list (whole_point (f q))) d
 whole_points f [] = refl
 whole_points f (q ∷ d) = go (is_whole (f q)) (whole_points f d)
   where
-    go : (b : Bool) → map tuple_point (filter is_whole (map f d)) ≡ flat_map (λ z. point_if_whole (f z)) d → map tuple_point (cond b (f q ∷ filter is_whole (map f d)) (filter is_whole (map f d))) ≡ cond b (tuple_point (f q) ∷ []) [] ++ flat_map (λ z. point_if_whole (f z)) d
+    go : (b : Bool) → map tuple_point (filter is_whole (map f d)) ≡ flat_map (λ z. option_to_list (whole_point (f z))) d
+        → map tuple_point (cond b (f q ∷ filter is_whole (map f d)) (filter is_whole (map f d))) ≡ option_to_list (cond b (Some (tuple_point (f q))) None) ++ flat_map (λ z. option_to_list (whole_point (f z))) d
     go true ih = ap (λ l. tuple_point (f q) ∷ l) ih
     go false ih = ih
 
-at_most : (P : Row → Type 0) (b : Bool) (r : Row) → P r → AtMostOne P (cond b (r ∷ []) [])
+at_most : (P : Row → Type 0) (b : Bool) (r : Row) → P r → AtMostOne P (option_to_list (cond b (Some r) None))
 at_most P true r h = h
 at_most P false r h = tt
 
 inner_kept : (kind : JoinKind) (r : DataSet) (ds : List DataSet) (s : Structure) → IsJoined kind (structures_of ds) s → HasIdentifiers s (identifiers_of r.structure) → IsDataSet r.structure r.points → AreSets ds → IsDataSet s (map tuple_point (inner_tuples r ds))
 inner_kept kind r ds s i e h all =
     let a = r.structure in
-    let g : Row → List Row = λ q. point_if_whole (tuple_beside a ds q) in
+    let g : Row → List Row = λ q. option_to_list (whole_point (tuple_beside a ds q)) in
     subst (IsDataSet s) (sym (whole_points (tuple_beside a ds) r.points))
     (drawn_kept s (key_width a) g r.points i.well_formed
     (all_more (λ q. is_point (columns_of a) q ≡ true) (λ q. AtMostOne (Keeps s (key_width a) q) (g q))
@@ -90,7 +89,7 @@ identifier_cell zero name kind (x ∷ xs) (v ∷ vs) i all h = let parts = point
 identifier_cell (suc place) name kind (x ∷ xs) [] i all h = cc
 identifier_cell (suc place) name kind (x ∷ xs) (v ∷ vs) i all h = identifier_cell place name kind xs vs i all.1 (point_parts x xs v vs h).2
 
-front_place : (name : List ℕ) (kind : Kind) (xs ys : List Component) → IsColumnAt (place_of name xs) name kind xs → place_of name (xs ++ ys) ≡ place_of name xs
+pub front_place : (name : List ℕ) (kind : Kind) (xs ys : List Component) → IsColumnAt (place_of name xs) name kind xs → place_of name (xs ++ ys) ≡ place_of name xs
 front_place name kind [] ys i = absurd i
 front_place name kind (x ∷ xs) ys i = go (same_name x.name name) refl i (front_place name kind xs ys)
   where
@@ -98,7 +97,7 @@ front_place name kind (x ∷ xs) ys i = go (same_name x.name name) refl i (front
     go true e i ih = place_here name x (xs ++ ys) e ∙ sym (place_here name x xs e)
     go false e i ih = place_later name x (xs ++ ys) e ∙ ap suc (ih (subst (λ n. IsColumnAt n name kind (x ∷ xs)) (place_later name x xs e) i)) ∙ sym (place_later name x xs e)
 
-front_cell : (place : ℕ) (name : List ℕ) (kind : Kind) (xs : List Component) (r : Row) → IsColumnAt place name kind xs → column_of place r ≡ column_of place (take (length xs) r)
+pub front_cell : (place : ℕ) (name : List ℕ) (kind : Kind) (xs : List Component) (r : Row) → IsColumnAt place name kind xs → column_of place r ≡ column_of place (take (length xs) r)
 front_cell place name kind [] r i = absurd i
 front_cell zero name kind (x ∷ xs) [] i = refl
 front_cell zero name kind (x ∷ xs) (v ∷ r) i = refl
@@ -239,7 +238,7 @@ crossed_is kind ss s xs i e h =
     (point_of_identifiers (flat_map identifiers_of ss) (identifiers_of s) (keys_at xs) (all_identifiers ss) (are_identifiers s) same whole)
 
 -- ---- combinations differ in their identifiers
-same_row-append : (k j a b : Row) → length k ≡ length j → same_row (k ++ a) (j ++ b) ≡ (same_row k j && same_row a b)
+pub same_row-append : (k j a b : Row) → length k ≡ length j → same_row (k ++ a) (j ++ b) ≡ (same_row k j && same_row a b)
 same_row-append [] [] a b e = refl
 same_row-append [] (y ∷ j) a b e = absurd (omega (arith, e))
 same_row-append (x ∷ k) [] a b e = absurd (omega (arith, e))
@@ -339,7 +338,7 @@ cross_kept kind ds s i e all =
     })
 
 -- ---- all four
-have_them : (a : Structure) (ds : List DataSet) → AllByRecursion (λ b. AreAmong (identifiers_of b) (identifiers_of a) × AreAmong (identifiers_of a) (identifiers_of b)) (structures_of ds) → HaveThem (identifiers_of a) ds
+pub have_them : (a : Structure) (ds : List DataSet) → AllByRecursion (λ b. AreAmong (identifiers_of b) (identifiers_of a) × AreAmong (identifiers_of a) (identifiers_of b)) (structures_of ds) → HaveThem (identifiers_of a) ds
 have_them a [] all = tt
 have_them a (d ∷ ds) all = (all.0.1, have_them a ds all.1)
 

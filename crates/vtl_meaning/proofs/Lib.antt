@@ -5,7 +5,10 @@ pub mod Examples
 pub mod Faults
 pub mod JoinAgreements
 pub mod JoinExamples
+pub mod JoinGrows
+pub mod JoinInner
 pub mod JoinKept
+pub mod JoinLooks
 pub mod JoinOrders
 pub mod JoinParts
 pub mod JoinProfiles
