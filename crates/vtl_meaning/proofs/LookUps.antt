@@ -352,6 +352,13 @@ same_truth true y f g = sym (f refl)
 same_truth false true f g = g refl
 same_truth false false f g = refl
 
+-- a tuple of all identifiers
+pub whole_key : (a : Structure) → IsStructure a → (k : Row) → length k ≡ key_width a → cells_at (places_in (identifiers_of a) (identifiers_of a)) k ≡ k
+whole_key a w k h =
+    ap (λ xs. cells_at (places_in xs (identifiers_of a)) k) (sym (append-nil (identifiers_of a)))
+    ∙ first_cells (identifiers_of a) [] k (identifiers_apart a w) (omega (arith, h))
+    ∙ take_all (key_width a) k (omega (arith, h))
+
 -- each value is one of an identifier
 abbrev pub AreKeyValues : List SubItem → Structure → Type 0
 AreKeyValues items a = AllByRecursion (λ x. (is_of (kind_named x.id (identifiers_of a)) x.value ≡ true) × IsColumnAt (place_of x.id (identifiers_of a)) x.id (kind_named x.id (identifiers_of a)) (identifiers_of a)) items
@@ -380,13 +387,7 @@ module _ (items : List SubItem) (a s : Structure) (i : Tells items a s) (vs : Ar
         | inr m ↦ alike_by_values (identifiers_of a) j l items x.name hj hl m
       ] in
       let all = all_more (λ x. (list_any (λ y. same_name y.name x.name) (identifiers_of s) || list_any (λ y. same_name y.id x.name) items) ≡ true) (λ x. Alike (identifiers_of a) j l x.name) each_one (identifiers_of a) i.identifiers in
-      sym (whole j lj) ∙ alike_cells (identifiers_of a) j l (identifiers_of a) all ∙ whole l ll
-    where
-      whole : (m : Row) → length m ≡ key_width a → cells_at (places_in (identifiers_of a) (identifiers_of a)) m ≡ m
-      whole m h =
-          ap (λ xs. cells_at (places_in xs (identifiers_of a)) m) (sym (append-nil (identifiers_of a)))
-          ∙ first_cells (identifiers_of a) [] m (identifiers_apart a w) (omega (arith, h))
-          ∙ take_all (key_width a) m (omega (arith, h))
+      sym (whole_key a w j lj) ∙ alike_cells (identifiers_of a) j l (identifiers_of a) all ∙ whole_key a w l ll
 
   sub_key : (r : Row) → is_point (columns_of a) r ≡ true → has_values a items r ≡ true → take (key_width s) (cells_at (places_in (columns_of a) (columns_of s)) r) ≡ part_for a s (take (key_width a) r)
   sub_key r h v =

@@ -1,16 +1,33 @@
 -- Set operators by look-up.
-use Rattle.std.proofs.Common.{◌≡◌, ℕ, Bool, true, false, not, cond, List, [], ◌∷◌, ◌++◌, take, Option, Some, None, refl, sym, ap, ◌∙◌}
-use Rattle.std.specs.Prelude.{is_some}
+use Rattle.std.specs.Prelude.{is_some, option_map}
 use Rattle.std.specs.List.{filter, flat_map, list_all}
 use Rattle.std.specs.Option.{option_or}
-use Rattle.vtl_cell.specs.Row.{Row, same_key, same_row}
+use Rattle.std.proofs.Common.{◌≡◌, ℕ, Bool, true, false, not, cond, List, [], ◌∷◌, ◌++◌, take, Option, Some, None, refl, sym, ap, ◌∙◌, length, subst}
+use Rattle.std.proofs.lemmas.List.{length-map}
+use Rattle.vtl_cell.specs.Row.{Row, column_of, same_key, same_row}
+use Rattle.vtl_cell.specs.declared.cell.Cell.TheVariants as c
+use Rattle.vtl_cell.specs.declared.kind.Kind.{Kind}
 use Rattle.vtl_cell.proofs.Rows.{same_row-is}
-use Rattle.vtl_tree.specs.DataSet.{Distinct, look}
+use Rattle.vtl_syntax.specs.declared.word_groups.Retain.{Retain}
+use Rattle.vtl_tree.specs.DataSet.{Distinct, IsDataSet, is_point, look}
+use Rattle.vtl_tree.specs.Environment.{DataSet}
 use Rattle.vtl_tree.specs.Kept.{kept_row}
+use Rattle.vtl_tree.specs.Structure.{IsStructure, columns_of, key_width, same_name}
+use Rattle.vtl_tree.specs.declared.structure.Component.{Component}
+use Rattle.vtl_tree.specs.declared.structure.Structure.{Structure}
 use Rattle.vtl_tree.proofs.LookUps.{look-filter}
 use Rattle.vtl_tuples.specs.Keys.{each_once}
-use Rattle.vtl_meaning.specs.Sets.{either_only, has_point, intersected, leftmost, reduced, united}
-use Rattle.vtl_meaning.proofs.Looks.{look_key}
+use Rattle.vtl_meaning.specs.Agreement.{has_agreeing}
+use Rattle.vtl_meaning.specs.Columns.{identifiers_of, measures_of, others_of, place_of}
+use Rattle.vtl_meaning.specs.LookUps.{part_for, value_named, values_named}
+use Rattle.vtl_meaning.specs.Made.{AreAmong, IsAlternative, IsColumnAt, IsExistence}
+use Rattle.vtl_meaning.specs.Operators.{left_of}
+use Rattle.vtl_meaning.specs.Points.{with_points}
+use Rattle.vtl_meaning.specs.Sets.{either_only, existence_of, has_point, intersected, is_retained, leftmost, reduced, united, with_answer}
+use Rattle.vtl_meaning.proofs.LookUps.{named_cells, sub_look, whole_key}
+use Rattle.vtl_meaning.proofs.Looks.{found_map, look-map, look_key}
+use Rattle.vtl_meaning.proofs.Places.{all_more, place_here, place_later, same_name-is}
+use Rattle.vtl_meaning.proofs.SetsKept.{alternative_tells, answer_keeps, filter_true, some_kept}
 
 -- ---- lists behind each other
 pub look-append : (n : ℕ) (d e : List Row) (k : Row) → look n (d ++ e) k ≡ option_or (look n d k) (look n e k)
@@ -73,3 +90,50 @@ reduced_look n d e k h = kept_by_key n (λ r. not (has_point n e r)) (not (has_a
 
 pub either_only_look : (n : ℕ) (d e : List Row) (k : Row) → Distinct n d → Distinct n e → look n (either_only n d e) k ≡ option_or (cond (has_at n k e) None (look n d k)) (cond (has_at n k d) None (look n e k))
 either_only_look n d e k h i = look-append n (reduced n d e) (reduced n e d) k ∙ ap (λ o. option_or o (look n (reduced n e d) k)) (reduced_look n d e k h) ∙ ap (option_or (cond (has_at n k e) None (look n d k))) (reduced_look n e d k i)
+
+-- ---- an operand in the result's columns
+-- a value among values that are taken by name
+value_of_values : (xs ys : List Component) (k : Row) (name : List ℕ) (kind : Kind) → IsColumnAt (place_of name ys) name kind ys → value_named ys (values_named xs ys k) name ≡ value_named xs k name
+value_of_values xs [] k name kind i = absurd i
+value_of_values xs (y ∷ ys) k name kind i = go (same_name y.name name) refl (value_of_values xs ys k name kind)
+  where
+    vs : Row
+    vs = values_named xs (y ∷ ys) k
+
+    go : (b : Bool) → same_name y.name name ≡ b → (IsColumnAt (place_of name ys) name kind ys → value_named ys (values_named xs ys k) name ≡ value_named xs k name) → value_named (y ∷ ys) vs name ≡ value_named xs k name
+    go true e ih = ap (λ n. column_of n vs) (place_here name y ys e) ∙ ap (value_named xs k) (same_name-is y.name name e)
+    go false e ih =
+        let later = place_later name y ys e in
+        ap (λ n. column_of n vs) later ∙ ih (subst (λ n. IsColumnAt n name kind (y ∷ ys)) later i)
+
+-- a tuple of identifiers, in the order of another structure and back
+part_back : (s b : Structure) (k : Row) → IsStructure s → AreAmong (identifiers_of s) (identifiers_of b) → length k ≡ key_width s → part_for b s (part_for s b k) ≡ k
+part_back s b k w all len = each_back (identifiers_of s) all ∙ sym (named_cells (identifiers_of s) (identifiers_of s) k) ∙ whole_key s w k len
+  where
+    each_back : (ys : List Component) → AreAmong ys (identifiers_of b) → values_named (identifiers_of b) ys (part_for s b k) ≡ values_named (identifiers_of s) ys k
+    each_back [] i = refl
+    each_back (y ∷ ys) i =
+        ap (λ v. v ∷ values_named (identifiers_of b) ys (part_for s b k)) (value_of_values (identifiers_of s) (identifiers_of b) k y.name y.kind i.0)
+        ∙ ap (λ l. value_named (identifiers_of s) k y.name ∷ l) (each_back ys i.1)
+
+pub shown_look : (b : DataSet) (s : Structure) (k : Row) → IsStructure s → columns_of s ≡ identifiers_of s ++ measures_of s → IsAlternative s b.structure s → IsDataSet b.structure b.points → length k ≡ key_width s
+    → look (key_width s) (left_of b s) k ≡ option_map (λ r. k ++ values_named (columns_of b.structure) (others_of s) r) (look (key_width b.structure) b.points (part_for s b.structure k))
+shown_look b s k w n i h len =
+    let theirs = b.structure in
+    let j = part_for s theirs k in
+    let found = sub_look [] theirs s (alternative_tells theirs s (w, n) i) tt h.well_formed b.points h j (length-map (identifiers_of theirs) (λ y. value_named (identifiers_of s) k y.name)) refl in
+    subst (λ z. look (key_width s) (left_of b s) z ≡ option_map (λ r. z ++ values_named (columns_of theirs) (others_of s) r) (look (key_width theirs) b.points j)) (part_back s theirs k w i.back len)
+    (ap (λ l. look (key_width s) (left_of (with_points theirs l) s) (part_for theirs s j)) (sym (filter_true b.points)) ∙ found)
+
+-- ---- `exists_in`
+pub existence_look : (a b : DataSet) (kept : Retain) (s : Structure) (k : Row) → IsExistence a.structure b.structure s → IsDataSet a.structure a.points
+    → look (key_width s) (existence_of a b kept) k ≡ option_map (λ r. k ++ c.Bool (has_agreeing a.structure b r) ∷ []) (kept_row (λ r. is_retained kept (has_agreeing a.structure b r)) (look (key_width a.structure) a.points k))
+existence_look a b kept s k i h =
+    let ours = a.structure in
+    let n = key_width ours in
+    let test : Row → Bool = λ r. is_retained kept (has_agreeing ours b r) in
+    let P : Row → Type 0 = λ r. is_point (columns_of ours) r ≡ true in
+    let left = some_kept ours test a.points h in
+    look-map n (key_width s) (with_answer ours b) (filter test a.points) k k (all_more P (λ r. same_row (take (key_width s) (with_answer ours b r)) k ≡ same_row (take n r) k) (λ r w. ap (λ z. same_row z k) (answer_keeps ours b s r i w).1) (filter test a.points) left.typed)
+    ∙ found_map P n (filter test a.points) k (with_answer ours b) (λ r. k ++ c.Bool (has_agreeing ours b r) ∷ []) left.typed (λ r w key. ap (λ z. z ++ c.Bool (has_agreeing ours b r) ∷ []) key)
+    ∙ ap (option_map (λ r. k ++ c.Bool (has_agreeing ours b r) ∷ [])) (look-filter n test a.points k h.distinct)
