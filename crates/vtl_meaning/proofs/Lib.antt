@@ -22,6 +22,7 @@ pub mod Profiles
 pub mod ScriptsKept
 pub mod ScriptsOrders
 pub mod ScriptsProfiles
+pub mod SetsFolds
 pub mod SetsKept
 pub mod SetsLooks
 pub mod SetsOrders
