@@ -42,7 +42,7 @@ one_order (Some x) [] q = absurd (omega (arith, length-Perm q))
 one_order (Some x) (y ∷ []) q = ap (λ z. z ∷ []) (AllByRecursion-Perm (λ z. z ≡ x) q (refl, tt)).0
 one_order (Some x) (y ∷ z ∷ zs) q = absurd (omega (arith, length-Perm q))
 
-find_respects : {X : Type 0} (p : X → Bool) (xs ys : List X) → Perm xs ys → filter p xs ≡ option_to_list (find p xs) → find p xs ≡ find p ys
+pub find_respects : {X : Type 0} (p : X → Bool) (xs ys : List X) → Perm xs ys → filter p xs ≡ option_to_list (find p xs) → find p xs ≡ find p ys
 find_respects p xs ys q only =
     let same = one_order (find p xs) (filter p ys) (chain (Perm-same (option_to_list (find p xs)) (filter p xs) (sym only)) (Perm-filter p q)) in
     find_front p xs ∙ ap (λ l. slice_get l 0) (only ∙ sym same) ∙ sym (find_front p ys)
@@ -88,7 +88,7 @@ filters_turned p q (x ∷ xs) = go (p x) refl (q x) refl (filters_turned p q xs)
     go false e false f ih = ih
 
 -- items each once, from a list in another order
-once_respects : {X : Type 0} (same : X → X → Bool) {xs ys : List X} → TellsApart same → Perm xs ys → Perm (each_once same xs) (each_once same ys)
+pub once_respects : {X : Type 0} (same : X → X → Bool) {xs ys : List X} → TellsApart same → Perm xs ys → Perm (each_once same xs) (each_once same ys)
 once_respects same tells empty = empty
 once_respects same tells (keep x q) = keep x (Perm-filter (λ y. not (same x y)) (once_respects same tells q))
 once_respects {X = X} same tells (cross x y xs) = go (same x y) refl (same y x) refl
@@ -109,7 +109,7 @@ once_respects {X = X} same tells (cross x y xs) = go (same x y) refl (same y x) 
     go false e true f = absurd (true≢false (sym (ap (λ z. same z y) (sym (tells.is y x f)) ∙ tells.self y) ∙ e))
 once_respects same tells (chain p q) = chain (once_respects same tells p) (once_respects same tells q)
 
-rows_apart : TellsApart same_row
+pub rows_apart : TellsApart same_row
 rows_apart = record { is = same_row-is; self = same_row-refl }
 
 keys_respect : (ids : List Component) (ds es : List DataSet) → SameOperands ds es → Perm (flat_map (keys_in ids) ds) (flat_map (keys_in ids) es)
@@ -158,7 +158,7 @@ tuples_respect join.Left r t ds es s e q same all go = left_respects r t ds es e
 tuples_respect join.Full r t ds es s e q same all go = full_respects r t ds es e same all (covered_both r.structure ds go.1)
 tuples_respect join.Cross r t ds es s e q same all go = Perm-map crossed (combinations_respect ds es same)
 
-same_structures : (ds es : List DataSet) → SameOperands ds es → structures_of ds ≡ structures_of es
+pub same_structures : (ds es : List DataSet) → SameOperands ds es → structures_of ds ≡ structures_of es
 same_structures [] [] same = refl
 same_structures [] (e ∷ es) same = absurd same
 same_structures (d ∷ ds) [] same = absurd same

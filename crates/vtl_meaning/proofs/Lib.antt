@@ -17,6 +17,17 @@ pub mod Kept
 pub mod LookUps
 pub mod Looks
 pub mod Orders
+pub mod OwnColumns
 pub mod Places
 pub mod Profiles
+pub mod ScriptsKept
+pub mod ScriptsOrders
+pub mod ScriptsProfiles
+pub mod SetsFolds
+pub mod SetsKept
+pub mod SetsLooks
+pub mod SetsOrders
+pub mod SetsProfiles
+pub mod TurnedKept
+pub mod TurnedOrders
 pub mod ValueKinds
