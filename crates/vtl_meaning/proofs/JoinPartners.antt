@@ -1,38 +1,30 @@
 -- The parts of a join's tuples are found by look-up at their identifiers.
-use Rattle.std.proofs.Common.{◌≡◌, ℕ, zero, suc, Bool, true, false, List, [], ◌∷◌, cond, length, map, take, Some, refl, sym, ap, ◌∙◌, arith}
+use Rattle.std.proofs.Common.{◌≡◌, ℕ, zero, suc, Bool, true, false, List, [], ◌∷◌, cond, length, map, take, Some, refl, sym, ap, ◌∙◌}
 use Rattle.std.specs.List.{AllByRecursion, filter, find}
-use Rattle.std.proofs.lemmas.List.{append-nil, take_all}
 use Rattle.vtl_cell.specs.Row.{Row, column_of, same_row}
 use Rattle.vtl_cell.specs.declared.cell.Cell.{Cell}
 use Rattle.vtl_cell.specs.declared.kind.Kind.{Kind}
 use Rattle.vtl_cell.proofs.Rows.{same_row-is, same_row-refl}
-use Rattle.vtl_rows.specs.Tables.{cells_at}
 use Rattle.vtl_tree.specs.DataSet.{IsDataSet, is_point, look}
 use Rattle.vtl_tree.specs.Environment.{DataSet}
 use Rattle.vtl_tree.specs.Structure.{IsStructure, columns_of, key_width}
 use Rattle.vtl_tree.specs.declared.structure.Component.{Component}
 use Rattle.vtl_tree.specs.declared.structure.Structure.{Structure}
 use Rattle.vtl_meaning.specs.Agreement.{common_identifiers, first_agreeing, has_identifier, key_of, values_in}
-use Rattle.vtl_meaning.specs.Columns.{identifiers_of, others_of, place_of, places_in}
+use Rattle.vtl_meaning.specs.Columns.{identifiers_of, place_of}
 use Rattle.vtl_meaning.specs.JoinWords.{IsWithin, looked_tuple, point_with}
 use Rattle.vtl_meaning.specs.Joined.{part_of, tuple_at, tuple_beside}
 use Rattle.vtl_meaning.specs.LookUps.{part_for, value_named, values_named}
 use Rattle.vtl_meaning.specs.Made.{AreAmong, IsColumnAt}
 use Rattle.vtl_meaning.proofs.Agreements.{found_by_key, own_values}
 use Rattle.vtl_meaning.proofs.JoinAgreements.{covers, own_names}
-use Rattle.vtl_meaning.proofs.JoinKept.{front_cell, front_place}
-use Rattle.vtl_meaning.proofs.LookUps.{named_cells}
-use Rattle.vtl_meaning.proofs.Places.{all_more, columns_split, first_cells, identifiers_apart}
+use Rattle.vtl_meaning.proofs.LookUps.{among_within, named_cells, parts_named, whole_key}
+use Rattle.vtl_meaning.proofs.Places.{all_more}
 
 -- ---- identifiers of one structure among those of another
 -- the values of identifiers are those in the key
 named_in_key : (ys : List Component) (a : Structure) (q : Row) → AreAmong ys (identifiers_of a) → values_in a ys q ≡ values_named (identifiers_of a) ys (key_of a q)
-named_in_key [] a q all = refl
-named_in_key (y ∷ ys) a q all =
-    let xs = identifiers_of a in
-    let one : value_named (columns_of a) q y.name ≡ value_named xs (key_of a q) y.name =
-    ap (λ l. value_named l q y.name) (columns_split a) ∙ ap (λ n. column_of n q) (front_place y.name y.kind xs (others_of a) all.0) ∙ front_cell (place_of y.name xs) y.name y.kind xs q all.0 in
-    ap (λ v. v ∷ values_in a ys q) one ∙ ap (λ l. value_named xs (key_of a q) y.name ∷ l) (named_in_key ys a q all.1)
+named_in_key ys a q all = parts_named a ys q (among_within ys (identifiers_of a) all)
 
 -- the value of a name among the values of all
 read_back : (f : List ℕ → Cell) (place : ℕ) (name : List ℕ) (kind : Kind) (xs : List Component) → IsColumnAt place name kind xs → column_of place (map (λ x. f x.name) xs) ≡ f name
@@ -47,9 +39,7 @@ all_read_back f xs (y ∷ ys) all =
 
 -- the values of all identifiers in a key are the key
 whole_key_named : (a : Structure) (k : Row) → IsStructure a → length k ≡ key_width a → values_named (identifiers_of a) (identifiers_of a) k ≡ k
-whole_key_named a k w l =
-    let xs = identifiers_of a in
-    sym (named_cells xs xs k) ∙ ap (λ zs. cells_at (places_in zs xs) k) (sym (append-nil xs)) ∙ first_cells xs [] k (identifiers_apart a w) (omega (arith, l)) ∙ take_all (key_width a) k (omega (arith, l))
+whole_key_named a k w l = sym (named_cells (identifiers_of a) (identifiers_of a) k) ∙ whole_key a w k l
 
 -- ---- the point that agrees
 all_pass : (p : Component → Bool) (xs : List Component) → AllByRecursion (λ x. p x ≡ true) xs → filter p xs ≡ xs
