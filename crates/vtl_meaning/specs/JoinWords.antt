@@ -37,8 +37,8 @@ beside_part d p = option_and_then (first_agreeing p.structure d) p.point
 abbrev pub left_with : List Tuple → DataSet → List Tuple
 left_with ts d = map (λ t. and_part t (part_of d (option_and_then (beside_part d) (slice_get t.parts 0)))) ts
 
--- `full_join`: each tuple with the point of one more operand that has its identifiers, or a missing part; then each other point of
--- that operand, behind missing parts
+-- `full_join`: each tuple with the point of one more operand that has its identifiers, or a missing part; then each other point
+-- of that operand, behind missing parts
 abbrev pub point_with : List Component → DataSet → Row → Option Row
 point_with ids d k = item_at same_row (values_in d.structure ids) d.points k
 
