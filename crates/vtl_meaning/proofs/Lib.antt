@@ -29,5 +29,6 @@ pub mod SetsLooks
 pub mod SetsOrders
 pub mod SetsProfiles
 pub mod TurnedKept
+pub mod TurnedLooks
 pub mod TurnedOrders
 pub mod ValueKinds

@@ -53,7 +53,7 @@ named_cells xs [] r = refl
 named_cells xs (y ∷ ys) r = ap (λ l. value_named xs r y.name ∷ l) (named_cells xs ys r)
 
 -- the first columns of a row
-named_front : (xs ys : List Component) (r : Row) (name : List ℕ) → place_of name xs < length xs → value_named (xs ++ ys) r name ≡ value_named xs (take (length xs) r) name
+pub named_front : (xs ys : List Component) (r : Row) (name : List ℕ) → place_of name xs < length xs → value_named (xs ++ ys) r name ≡ value_named xs (take (length xs) r) name
 named_front xs ys r name h = ap (λ i. column_of i r) (place_front name xs ys h) ∙ sym (get_or-take (length xs) r (place_of name xs) c.Null h)
 
 pub parts_named : (a : Structure) (ys : List Component) (r : Row) → AllByRecursion (λ y. place_of y.name (identifiers_of a) < length (identifiers_of a)) ys → values_named (columns_of a) ys r ≡ values_named (identifiers_of a) ys (take (key_width a) r)
@@ -347,7 +347,7 @@ module _ (t a b : DataSet) (s : Structure) (k : Row) (i : IsChoice t.structure a
       (λ r w key. ap (λ o. cond (is_first_chosen t.structure r) o (Joined b r)) (joined_at a r i.first w key) ∙ ap (λ o. cond (is_first_chosen t.structure r) (chosen_at t.structure a s k) o) (joined_at b r i.second w key))
 
 -- ---- `sub`
-same_truth : (x y : Bool) → (x ≡ true → y ≡ true) → (y ≡ true → x ≡ true) → x ≡ y
+pub same_truth : (x y : Bool) → (x ≡ true → y ≡ true) → (y ≡ true → x ≡ true) → x ≡ y
 same_truth true y f g = sym (f refl)
 same_truth false true f g = g refl
 same_truth false false f g = refl

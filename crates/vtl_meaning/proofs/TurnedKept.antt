@@ -199,7 +199,7 @@ module _ (id m : List ℕ) (a s : Structure) (i : IsUnpivoted id m a s) (w : IsS
       go true = tt
       go false = (named_is r x.name (value_here r x) h (subst (λ z. IsOf z (value_here r x)) e (cell_is_of (place_of x.name (columns_of a)) x.name x.kind (columns_of a) r at h)), tt)
 
-  all_here : (r : Row) → is_point (columns_of a) r ≡ true → AllByRecursion (λ x. AllByRecursion (IsNamed r x.name) (points_here r x)) (measures_of a)
+  pub all_here : (r : Row) → is_point (columns_of a) r ≡ true → AllByRecursion (λ x. AllByRecursion (IsNamed r x.name) (points_here r x)) (measures_of a)
   all_here r h =
       both_all (λ x. IsColumnAt (place_of x.name (columns_of a)) x.name x.kind (columns_of a)) (λ x. x.kind ≡ first_kind (measures_of a)) (λ x. AllByRecursion (IsNamed r x.name) (points_here r x))
       (λ x at e. here_are r x h at e) (measures_of a) (own_measures a w) i.alike
@@ -208,10 +208,10 @@ module _ (id m : List ℕ) (a s : Structure) (i : IsUnpivoted id m a s) (w : IsS
   here_is r = filter_map_drawn (λ x. named_point a r x.name (value_here r x)) (measures_of a)
 
   -- a point of a row is one with its key
-  abbrev IsDrawn : Row → Row → Type 0
+  abbrev pub IsDrawn : Row → Row → Type 0
   IsDrawn r q = (name : List ℕ) × IsNamed r name q
 
-  drawn_here : (r : Row) → is_point (columns_of a) r ≡ true → AllByRecursion (IsDrawn r) (unpivoted_points a r)
+  pub drawn_here : (r : Row) → is_point (columns_of a) r ≡ true → AllByRecursion (IsDrawn r) (unpivoted_points a r)
   drawn_here r h =
       subst (AllByRecursion (IsDrawn r)) (sym (here_is r))
       (all_drawn (IsDrawn r) (points_here r) (measures_of a) (all_more (λ x. AllByRecursion (IsNamed r x.name) (points_here r x)) (λ x. AllByRecursion (IsDrawn r) (points_here r x)) (λ x all. all_more (IsNamed r x.name) (IsDrawn r) (λ q t. (x.name, t)) (points_here r x) all) (measures_of a) (all_here r h)))
