@@ -8,9 +8,14 @@
 //! Begin with specs/Operators.antt and Meaning.antt; LookUps.antt says the same in the words of the manual.
 #![tactic(auto)]
 
+mod join_laws;
 mod laws;
 mod structures;
 
+pub use join_laws::{
+    inner_joins_are_all_that_agree, joins_by_look_up, joins_do_not_see_order,
+    joins_grow_operand_by_operand, joins_keep_data_sets, left_and_full_joins_lose_nothing,
+};
 pub use laws::{
     faults_are_joined, meaning_does_not_see_order, operators_by_look_up,
     operators_do_not_see_order, operators_keep_data_sets, results_are_of_the_profile,
