@@ -1,8 +1,0 @@
-use Rattle.std.proofs.Common.{◌≡◌, drop, map}
-use Rattle.std.specs.List.{list_all}
-use Rattle.vtl_nodes.specs.View.{node_tree}
-use Rattle.vtl_meaning.specs.Meaning.{is_built}
-use Rattle.vtl_backend.proofs.built.is_built.Given as goal
-
-abbrev pub invariant-loop-node : goal.invariant-loop-node
-invariant-loop-node l = list_all is_built (map node_tree (drop l.node-index l.node-items)) ≡ list_all is_built (map node_tree l.node-items)
