@@ -89,7 +89,7 @@ no_measures others (x ∷ xs) all =
     skipped role.Measure e l = cc
     skipped role.Attribute e l = refl
 
-filter_once : {X : Type 0} (p : X → Bool) (xs : List X) → AllByRecursion (λ x. p x ≡ true) xs → filter p xs ≡ xs
+pub filter_once : {X : Type 0} (p : X → Bool) (xs : List X) → AllByRecursion (λ x. p x ≡ true) xs → filter p xs ≡ xs
 filter_once p [] all = refl
 filter_once p (x ∷ xs) all = ap (λ b. cond b (x ∷ filter p xs) (filter p xs)) all.0 ∙ ap (λ l. x ∷ l) (filter_once p xs all.1)
 
