@@ -43,8 +43,8 @@ alternative_tells b s w i = record {
   columns = subst (λ ys. AreAmong ys (columns_of b)) (sym w.1) (all_append (λ y. IsColumnAt (place_of y.name (columns_of b)) y.name y.kind (columns_of b)) (identifiers_of s) (measures_of s) identifiers i.measures);
   left = i.back;
   identifiers =
-    all_more (λ x. IsColumnAt (place_of x.name (identifiers_of s)) x.name x.kind (identifiers_of s)) (λ x. (list_any (λ y. same_name y.name x.name) (identifiers_of s) || false) ≡ true)
-    (λ x h. ap (λ z. z || false) (column_any (place_of x.name (identifiers_of s)) x.name x.kind (identifiers_of s) h)) (identifiers_of b) i.there;
+      all_more (λ x. IsColumnAt (place_of x.name (identifiers_of s)) x.name x.kind (identifiers_of s)) (λ x. (list_any (λ y. same_name y.name x.name) (identifiers_of s) || false) ≡ true)
+      (λ x h. ap (λ z. z || false) (column_any (place_of x.name (identifiers_of s)) x.name x.kind (identifiers_of s) h)) (identifiers_of b) i.there;
 }
   where
     identifiers : AreAmong (identifiers_of s) (columns_of b)
@@ -148,8 +148,8 @@ either_only_kept s d e h i =
       well_formed = h.well_formed;
       typed = all_append P (reduced n d e) (reduced n e d) first.typed second.typed;
       distinct =
-        apart_append (same_key n) (reduced n d e) (reduced n e d) first.distinct second.distinct
-        (AllByRecursion-filter (λ q. AllByRecursion (λ r. same_key n q r ≡ false) (reduced n e d)) (λ r. not (has_point n e r)) d apart);
+          apart_append (same_key n) (reduced n d e) (reduced n e d) first.distinct second.distinct
+          (AllByRecursion-filter (λ q. AllByRecursion (λ r. same_key n q r ≡ false) (reduced n e d)) (λ r. not (has_point n e r)) d apart);
     }
 
 pub symmetric_difference_kept : (d e : DataSet) (s : Structure) → IsCombined d.structure (e.structure ∷ []) s → IsDataSet d.structure d.points → IsDataSet e.structure e.points → IsDataSet s (symmetric_difference_of d e s)

@@ -12,6 +12,7 @@ use Rattle.vtl_cell.specs.declared.cell.Cell.{Cell}
 use Rattle.vtl_cell.specs.declared.cell.Cell.TheVariants as c
 use Rattle.vtl_cell.proofs.Aparts.{apart_parts}
 use Rattle.vtl_cell.proofs.Rows.{same_row-refl}
+use Rattle.vtl_rows.specs.Tables.{cells_at}
 use Rattle.vtl_tree.specs.DataSet.{Distinct, IsDataSet, is_point, look}
 use Rattle.vtl_tree.specs.Environment.{DataSet}
 use Rattle.vtl_tree.specs.Structure.{IsStructure, columns_of, key_width, names_of, same_name, same_role}
@@ -27,16 +28,16 @@ use Rattle.check_shapes.specs.Measures.{made}
 use Rattle.check_shapes.specs.Names.{component_of, is_among}
 use Rattle.check_shapes.specs.declared.choices.Choice.TheVariants as choice
 use Rattle.vtl_meaning.specs.Agreement.{values_in}
-use Rattle.vtl_meaning.specs.Columns.{identifiers_of, measures_of, place_of}
+use Rattle.vtl_meaning.specs.Columns.{identifiers_of, measures_of, place_of, places_in}
 use Rattle.vtl_meaning.specs.LookUps.{value_named, values_named}
 use Rattle.vtl_meaning.specs.Made.{IsColumnAt, IsUnpivoted}
 use Rattle.vtl_meaning.specs.Points.{with_points}
 use Rattle.vtl_meaning.specs.Turned.{coded_value, codes_of, named_point, other_identifiers, pivot_of, pivoted_point, unpivoted_points}
-use Rattle.vtl_meaning.proofs.Kept.{both_all, column_within}
+use Rattle.vtl_meaning.proofs.Kept.{both_all, cells_append, column_within}
 use Rattle.vtl_meaning.proofs.LookUps.{named_cells}
 use Rattle.vtl_meaning.proofs.OwnColumns.{own_identifiers}
-use Rattle.vtl_meaning.proofs.Places.{IsIdentifier, all_back, all_filtered, all_more, are_identifiers, first_cells, identifier_role, identifiers_apart, key_within, place_here, place_later, same_name-refl, same_name-sym}
-use Rattle.vtl_meaning.proofs.SetsFolds.{filter_once}
+use Rattle.vtl_meaning.proofs.Places.{IsIdentifier, all_back, all_filtered, all_more, are_identifiers, first_cells, identifier_role, identifiers_apart, key_cells, key_within, place_here, place_later, same_name-refl, same_name-sym}
+use Rattle.vtl_meaning.proofs.SetsFolds.{each_own, filter_once, own_cells}
 use Rattle.vtl_meaning.proofs.TurnedKept.{apart_map, here_is, points_here, unpivoted_kept}
 use Rattle.vtl_meaning.proofs.TurnedLooks.{coded_look, measure_names, unpivoted_look}
 
@@ -64,9 +65,10 @@ module _ {X K : Type 0} (same : K → K → Bool) (self : (k : K) → same k k �
 own_look : (n : ℕ) (d : List Row) → Distinct n d → AllByRecursion (λ r. look n d (take n r) ≡ Some r) d
 own_look n [] e = tt
 own_look n (r ∷ d) e =
-    let parts = apart_parts (same_key n) r d e in
-    (ap (λ b. cond b (Some r) (look n d (take n r))) (same_row-refl (take n r)),
-    both_all (λ q. same_key n r q ≡ false) (λ q. look n d (take n q) ≡ Some q) (λ q. look n (r ∷ d) (take n q) ≡ Some q) (λ q f g. ap (λ b. cond b (Some r) (look n d (take n q))) f ∙ g) d parts.0 (own_look n d parts.1))
+    let parts = apart_parts (same_key n) r d e in (
+      ap (λ b. cond b (Some r) (look n d (take n r))) (same_row-refl (take n r)),
+      both_all (λ q. same_key n r q ≡ false) (λ q. look n d (take n q) ≡ Some q) (λ q. look n (r ∷ d) (take n q) ≡ Some q) (λ q f g. ap (λ b. cond b (Some r) (look n d (take n q))) f ∙ g) d parts.0 (own_look n d parts.1),
+    )
 
 -- ---- columns behind others
 value_past : (xs ys : List Component) (k r : Row) (name : List ℕ) → length k ≡ length xs → AllByRecursion (λ n. same_name n name ≡ false) (names_of xs) → value_named (xs ++ ys) (k ++ r) name ≡ value_named ys r name
@@ -260,3 +262,17 @@ module _ (id m : List ℕ) (a s : Structure) (i : IsUnpivoted id m a s) (w : IsS
               ∙ map_same (λ x. code x.name) (λ x. value_named (columns_of a) r x.name) (measures_of a)
               (both_all (λ x. is_among x.name (names_of (measures_of a)) ≡ true) (λ x. is_null (value_named (columns_of a) r x.name) ≡ false) (λ x. code x.name ≡ value_named (columns_of a) r x.name)
               (λ x among f. value_at r x t found among f) (measures_of a) (measure_names id m a s i w) all))
+
+-- where there are no attributes, these are the points
+pub whole_points : (a : Structure) (d : List Row) → columns_of a ≡ identifiers_of a ++ measures_of a → IsDataSet a d → map (λ r. take (key_width a) r ++ values_in a (measures_of a) r) d ≡ d
+whole_points a d n h = each_own f d (all_more (λ r. is_point (columns_of a) r ≡ true) (λ r. f r ≡ r) whole d h.typed)
+  where
+    f : Row → Row
+    f r = take (key_width a) r ++ values_in a (measures_of a) r
+
+    whole : (r : Row) → is_point (columns_of a) r ≡ true → f r ≡ r
+    whole r w =
+        let xs = columns_of a in
+        ap (λ k. k ++ values_in a (measures_of a) r) (sym (key_cells a a r h.well_formed (refl, refl) (key_within a r w)))
+        ∙ ap (λ vs. cells_at (places_in xs (identifiers_of a)) r ++ vs) (sym (named_cells xs (measures_of a) r))
+        ∙ sym (cells_append xs (identifiers_of a) (measures_of a) r) ∙ ap (λ ys. cells_at (places_in xs ys) r) (sym n) ∙ own_cells a r h.well_formed w

@@ -245,9 +245,9 @@ module _ (id m : List ℕ) (a s : Structure) (i : IsUnpivoted id m a s) (w : IsS
         well_formed = i.well_formed;
         typed = all_drawn (λ q. is_point (columns_of s) q ≡ true) (unpivoted_points a) d (all_more (λ r. AllByRecursion (IsDrawn r) (unpivoted_points a r)) (λ r. AllByRecursion (λ q. is_point (columns_of s) q ≡ true) (unpivoted_points a r)) (λ r l. all_more (IsDrawn r) (λ q. is_point (columns_of s) q ≡ true) (λ q t. t.1.0) (unpivoted_points a r) l) d all);
         distinct =
-          each_apart IsDrawn (same_key (key_width a)) (same_key (key_width s))
-          (λ r t q z f g e. ap (same_row (take (key_width a) r)) (sym (names_back r t f.0 g.0 q z f.1 g.1 e).0) ∙ same_row-refl (take (key_width a) r))
-          (unpivoted_points a) d all (all_more P (λ r. all_apart (same_key (key_width s)) (unpivoted_points a r) ≡ true) here_apart d h.typed) h.distinct;
+            each_apart IsDrawn (same_key (key_width a)) (same_key (key_width s))
+            (λ r t q z f g e. ap (same_row (take (key_width a) r)) (sym (names_back r t f.0 g.0 q z f.1 g.1 e).0) ∙ same_row-refl (take (key_width a) r))
+            (unpivoted_points a) d all (all_more P (λ r. all_apart (same_key (key_width s)) (unpivoted_points a r) ≡ true) here_apart d h.typed) h.distinct;
       }
 
 pub unpivot_kept : (id m : List ℕ) (d : DataSet) (s : Structure) → IsUnpivoted id m d.structure s → IsDataSet d.structure d.points → IsDataSet s (unpivot_of d)

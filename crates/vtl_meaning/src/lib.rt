@@ -10,6 +10,7 @@
 
 mod join_laws;
 mod laws;
+mod set_laws;
 mod structures;
 
 pub use join_laws::{
@@ -20,5 +21,9 @@ pub use laws::{
     faults_are_joined, meaning_does_not_see_order, operators_by_look_up,
     operators_do_not_see_order, operators_keep_data_sets, results_are_of_the_profile,
     scripts_keep_data_sets, values_are_of_their_kind,
+};
+pub use set_laws::{
+    intersections_are_folds, pivot_undoes_unpivot, pivots_and_unpivots, set_operators_by_look_up,
+    set_operators_do_not_see_order, set_operators_keep_data_sets, unions_are_folds,
 };
 pub use structures::structures_are_determined;
