@@ -1,7 +1,6 @@
 -- Agreement of points, name by name; and the one point of an operand that agrees with a point that has all its identifiers.
-use Rattle.std.proofs.Common.{◌≡◌, ℕ, zero, suc, List, [], ◌∷◌, ◌++◌, Bool, true, false, ◌||◌, cond, map, take, Option, Some, None, refl, sym, ap, ◌∙◌, subst, append_assoc, true≢false}
-use Rattle.std.specs.Prelude.{option_map}
-use Rattle.std.specs.List.{AllByRecursion, filter, find, list_any}
+use Rattle.std.proofs.Common.{◌≡◌, ℕ, zero, suc, List, [], ◌∷◌, Bool, true, false, ◌||◌, cond, map, take, Some, refl, sym, ap, ◌∙◌, subst, true≢false}
+use Rattle.std.specs.List.{AllByRecursion, filter, find}
 use Rattle.std.specs.Option.{option_to_list}
 use Rattle.vtl_cell.specs.Apart.{all_apart}
 use Rattle.vtl_cell.specs.Row.{Row, same_key, same_row}
@@ -24,7 +23,7 @@ use Rattle.vtl_meaning.proofs.Agreements.{own_values}
 use Rattle.vtl_meaning.proofs.Kept.{both_all}
 use Rattle.vtl_meaning.proofs.Places.{all_filtered, all_more, same_name-is, same_name-refl}
 
-either_true : (b : Bool) → (b || true) ≡ true
+pub either_true : (b : Bool) → (b || true) ≡ true
 either_true true = refl
 either_true false = refl
 

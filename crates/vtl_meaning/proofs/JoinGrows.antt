@@ -1,5 +1,5 @@
 -- Joins grow by one operand.
-use Rattle.std.proofs.Common.{◌≡◌, List, [], ◌∷◌, ◌++◌, Bool, true, false, not, ◌||◌, cond, map, Option, Some, None, refl, sym, ap, ◌∙◌, subst, append_assoc, true≢false}
+use Rattle.std.proofs.Common.{◌≡◌, List, [], ◌∷◌, ◌++◌, Bool, true, false, not, ◌||◌, cond, map, Some, None, refl, sym, ap, ◌∙◌, true≢false}
 use Rattle.std.specs.Prelude.{slice_get}
 use Rattle.std.specs.List.{AllByRecursion, filter, flat_map, list_any}
 use Rattle.std.specs.Option.{option_and_then}
@@ -16,11 +16,11 @@ use Rattle.vtl_tree.specs.Structure.{columns_of, key_width}
 use Rattle.vtl_tree.specs.declared.structure.Component.{Component}
 use Rattle.vtl_tree.specs.declared.structure.Structure.{Structure}
 use Rattle.vtl_tuples.specs.Keys.{each_once, item_at}
-use Rattle.vtl_tuples.specs.Tuples.{and_item, combinations, crossed_with, matched_with, matching}
+use Rattle.vtl_tuples.specs.Tuples.{and_item, combinations, matched_with, matching}
 use Rattle.vtl_tuples.proofs.Folds.{combinations_more, matching_more}
 use Rattle.vtl_tuples.proofs.Lists.{filter-map, filter_each, flat_map_each, map-flat_map, map-map, map_each, map_same}
 use Rattle.vtl_tuples.proofs.Onces.{among_once, once_already, once_more}
-use Rattle.vtl_meaning.specs.Agreement.{OperandPoint, first_agreeing, key_of, operand_point, operand_points, points_agree, values_in}
+use Rattle.vtl_meaning.specs.Agreement.{OperandPoint, first_agreeing, key_of, operand_points, points_agree, values_in}
 use Rattle.vtl_meaning.specs.Columns.{identifiers_of}
 use Rattle.vtl_meaning.specs.JoinWords.{alone, and_crossed, and_part, beside_part, cross_with, full_with, is_there, left_with, point_with}
 use Rattle.vtl_meaning.specs.Joined.{Part, Tuple, agreeing, all_keys, cross_tuples, crossed, full_tuples, keys_in, left_tuples, part_of, present, tuple_at, tuple_beside}

@@ -1,7 +1,7 @@
 -- The inner join from the reference is the set of all tuples of points that agree.
 use Rattle.std.proofs.Common.{◌≡◌, ℕ, zero, suc, List, [], ◌∷◌, ◌++◌, Bool, true, false, ◌&&◌, cond, length, map, Option, Some, None, refl, sym, ap, ◌∙◌, subst}
 use Rattle.std.specs.Prelude.{is_some, option_map, slice_get}
-use Rattle.std.specs.List.{AllByRecursion, filter, find, flat_map, list_all}
+use Rattle.std.specs.List.{AllByRecursion, find, list_all}
 use Rattle.std.specs.Option.{option_map_or, option_to_list}
 use Rattle.std.proofs.lemmas.List.Folds.{flat_map-map}
 use Rattle.vtl_cell.specs.Each.{cons_if, each_some}
@@ -17,13 +17,13 @@ use Rattle.vtl_tuples.specs.Leads.{Finds, FindsOnly, Leads}
 use Rattle.vtl_tuples.specs.Tuples.{led}
 use Rattle.vtl_tuples.proofs.Leads.{led_is}
 use Rattle.vtl_tuples.proofs.Lists.{filter-map, flat_map_each, map-flat_map, map-map, map_same}
-use Rattle.vtl_meaning.specs.Agreement.{OperandPoint, agree_in, first_agreeing, key_of, operand_point, operand_points, points_agree}
+use Rattle.vtl_meaning.specs.Agreement.{OperandPoint, first_agreeing, key_of, operand_point, operand_points, points_agree}
 use Rattle.vtl_meaning.specs.Columns.{identifiers_of}
 use Rattle.vtl_meaning.specs.JoinWords.{IsWithin, agreed_tuple}
 use Rattle.vtl_meaning.specs.Joined.{Part, Tuple, agreeing, inner_tuples, is_whole, join_of, left_tuples, part_of, present, reference_place, structures_of, tuple_beside, tuple_point}
 use Rattle.vtl_meaning.specs.Made.{AreAmong, IsJoined}
 use Rattle.vtl_meaning.proofs.JoinAgreements.{Covers, agree-from, agree-gives, agreeing_only, agreeing_own, covers}
-use Rattle.vtl_meaning.proofs.JoinKept.{join_with, reference_is}
+use Rattle.vtl_meaning.proofs.JoinKept.{join_with, made_of_passing, reference_is}
 use Rattle.vtl_meaning.proofs.JoinParts.{AreSets}
 use Rattle.vtl_meaning.proofs.Places.{all_back, all_front, all_map, all_more, each}
 
@@ -80,18 +80,6 @@ whole_parts g (d ∷ ds) = go (g d) (each_some (λ e. option_map (operand_point 
     go (Some q) (Some xs) true ih = let same : map present xs ≡ map (λ e. part_of e (g e)) ds = cc in ap (λ l. Some (part_of d (Some q) ∷ l)) same
     go (Some q) (Some xs) false ih = cc
 
-filtered : {X Y : Type 0} (p : Y → Bool) (f : X → Y) (xs : List X) → filter p (map f xs) ≡ flat_map (λ x. option_to_list (cond (p (f x)) (Some (f x)) None)) xs
-filtered p f [] = refl
-filtered p f (x ∷ xs) = go (p (f x)) (filtered p f xs)
-  where
-    go : (b : Bool) → filter p (map f xs) ≡ flat_map (λ z. option_to_list (cond (p (f z)) (Some (f z)) None)) xs → cond b (f x ∷ filter p (map f xs)) (filter p (map f xs)) ≡ option_to_list (cond b (Some (f x)) None) ++ flat_map (λ z. option_to_list (cond (p (f z)) (Some (f z)) None)) xs
-    go true ih = ap (λ l. f x ∷ l) ih
-    go false ih = ih
-
-parts_if : (b : Bool) (t : Tuple) → map (λ u. u.parts) (option_to_list (cond b (Some t) None)) ≡ option_to_list (cond b (Some t.parts) None)
-parts_if true t = refl
-parts_if false t = refl
-
 led_parts : (r : DataSet) (ds : List DataSet) → map (map present) (led beside ds (operand_points r)) ≡ map (λ t. t.parts) (inner_tuples r ds)
 led_parts r ds =
     let a = r.structure in
@@ -102,9 +90,7 @@ led_parts r ds =
     (λ q. mapped_option (map present) (each_some (beside (operand_point a q)) ds)
     ∙ ap (λ (g : DataSet → Option OperandPoint). option_to_list (option_map (map present) (each_some g ds))) (λ i d. beside_is (operand_point a q) d i)
     ∙ ap option_to_list (whole_parts (λ d. first_agreeing a d q) ds)) r.points
-    ∙ sym (ap (map (λ t. t.parts)) (filtered is_whole (tuple_beside a ds) r.points)
-    ∙ map-flat_map (λ t. t.parts) (λ q. option_to_list (cond (is_whole (tuple_beside a ds q)) (Some (tuple_beside a ds q)) None)) r.points
-    ∙ flat_map_each (λ q. map (λ t. t.parts) (option_to_list (cond (is_whole (tuple_beside a ds q)) (Some (tuple_beside a ds q)) None))) one (λ q. parts_if (is_whole (tuple_beside a ds q)) (tuple_beside a ds q)) r.points)
+    ∙ sym (made_of_passing is_whole (λ t. t.parts) (tuple_beside a ds) r.points)
 
 -- ---- the reference may be any operand
 pub inner_is : (pre : List DataSet) (r : DataSet) (post : List DataSet) → AllByRecursion (IsWithin r.structure) (pre ++ r ∷ post)

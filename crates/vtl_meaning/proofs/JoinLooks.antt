@@ -1,11 +1,12 @@
 -- Joins by look-up.
-use Rattle.std.proofs.Common.{◌≡◌, ℕ, ◌≤◌, Bool, true, false, ◌&&◌, ◌||◌, List, [], ◌∷◌, ◌++◌, cond, length, map, take, Option, Some, None, refl, sym, ap, ◌∙◌, subst}
+use Rattle.std.proofs.Common.{◌≡◌, ℕ, Bool, true, false, ◌&&◌, ◌||◌, List, [], ◌∷◌, ◌++◌, cond, length, map, take, Option, Some, None, refl, sym, ap, ◌∙◌, subst}
 use Rattle.std.specs.Prelude.{IfSome, option_map, slice_get}
-use Rattle.std.specs.List.{AllByRecursion, filter, find, flat_map, list_any}
-use Rattle.std.specs.Option.{option_and_then, option_to_list}
+use Rattle.std.specs.List.{AllByRecursion, find, flat_map, list_any}
+use Rattle.std.specs.Option.{option_and_then}
 use Rattle.vtl_cell.specs.Each.{cons_if}
 use Rattle.vtl_cell.specs.Row.{Row, same_key, same_row}
-use Rattle.vtl_cell.proofs.Rows.{same_row-is, same_row-refl, same_row-sym}
+use Rattle.vtl_cell.proofs.Rows.{same_row-is, same_row-refl}
+use Rattle.vtl_syntax.specs.declared.word_groups.JoinKind.{JoinKind}
 use Rattle.vtl_syntax.specs.declared.word_groups.JoinKind.TheVariants as join
 use Rattle.vtl_tree.specs.DataSet.{Distinct, IsDataSet, is_point, look}
 use Rattle.vtl_tree.specs.Environment.{DataSet}
@@ -15,26 +16,26 @@ use Rattle.vtl_tree.specs.declared.structure.Structure.{Structure}
 use Rattle.vtl_tuples.specs.Tuples.{combinations}
 use Rattle.vtl_tuples.proofs.Lists.{map-map}
 use Rattle.vtl_tuples.proofs.Onces.{among_once}
-use Rattle.vtl_meaning.specs.Agreement.{OperandPoint, first_agreeing, key_of, operand_point, operand_points, values_in}
+use Rattle.vtl_meaning.specs.Agreement.{OperandPoint, key_of, operand_point, operand_points, values_in}
 use Rattle.vtl_meaning.specs.Columns.{identifiers_of}
-use Rattle.vtl_meaning.specs.JoinWords.{point_with, points_at, whole_point}
-use Rattle.vtl_meaning.specs.Joined.{Tuple, all_keys, crossed, is_whole, join_of, keys_in, reference_of, structures_of, tuple_at, tuple_beside, tuple_point}
-use Rattle.vtl_meaning.specs.Made.{AreAmong, GoTogether, HasIdentifiers, IsJoined}
-use Rattle.vtl_meaning.proofs.Agreements.{found_by_key}
-use Rattle.vtl_meaning.proofs.JoinAgreements.{own_found}
+use Rattle.vtl_meaning.specs.JoinWords.{looked_tuple, point_with, points_at, whole_point}
+use Rattle.vtl_meaning.specs.Joined.{all_keys, crossed, is_whole, join_of, keys_in, reference_of, reference_place, structures_of, tuple_at, tuple_beside, tuple_point}
+use Rattle.vtl_meaning.specs.Made.{AreAmong, GoTogether, IsJoined}
+use Rattle.vtl_meaning.proofs.JoinAgreements.{either_true, own_found}
 use Rattle.vtl_meaning.proofs.JoinGrows.{alike_rows, own_with}
 use Rattle.vtl_meaning.proofs.JoinInner.{find-map}
-use Rattle.vtl_meaning.proofs.JoinKept.{IsCombination, all_keys_are, beside_keeps, combinations_are, crossed_is, full_keeps, have_them, join_with, key_at, keys_at, reference_is, same_row-append, whole_key, whole_points}
+use Rattle.vtl_meaning.proofs.JoinKept.{IsCombination, all_keys_are, beside_keeps, combinations_are, crossed_is, full_keeps, have_them, join_with, key_at, keys_at, made_of_passing, reference_is, same_row-append, whole_key}
+use Rattle.vtl_meaning.proofs.JoinPartners.{HasThose, at_looked}
 use Rattle.vtl_meaning.proofs.JoinParts.{AreSets}
 use Rattle.vtl_meaning.proofs.Looks.{look-drawn, look-map}
-use Rattle.vtl_meaning.proofs.Places.{all_map, all_more, all_of_map, key_of_point, point_length}
+use Rattle.vtl_meaning.proofs.Places.{all_map, all_more, each, key_of_point, point_length}
 
--- ---- the reference of a typed join
-goes_with_first : (r : DataSet) (ds : List DataSet) (s : Structure) → IsJoined join.Left (structures_of (r ∷ ds)) s → GoTogether join.Left r.structure (structures_of (r ∷ ds)) s
-goes_with_first r ds s i = let same : r.structure ≡ i.reference = cc (i.there) in subst (λ a. GoTogether join.Left a (structures_of (r ∷ ds)) s) (sym same) i.identifiers
-
-goes_with_all : (r : DataSet) (ds : List DataSet) (s : Structure) → IsJoined join.Full (structures_of (r ∷ ds)) s → GoTogether join.Full r.structure (structures_of (r ∷ ds)) s
-goes_with_all r ds s i = let same : r.structure ≡ i.reference = cc (i.there) in subst (λ a. GoTogether join.Full a (structures_of (r ∷ ds)) s) (sym same) i.identifiers
+-- ---- the reference is the first operand where its place is the first
+goes_with_first : (kind : JoinKind) (r : DataSet) (ds : List DataSet) (s : Structure) → reference_place kind (structures_of (r ∷ ds)) ≡ 0 → IsJoined kind (structures_of (r ∷ ds)) s → GoTogether kind r.structure (structures_of (r ∷ ds)) s
+goes_with_first kind r ds s first i =
+    let there : slice_get (structures_of (r ∷ ds)) 0 ≡ Some i.reference = ap (slice_get (structures_of (r ∷ ds))) (sym first) ∙ i.there in
+    let same : r.structure ≡ i.reference = cc in
+    subst (λ a. GoTogether kind a (structures_of (r ∷ ds)) s) (sym same) i.identifiers
 
 -- ---- `left_join`
 pub left_look : (r : DataSet) (ds : List DataSet) (s : Structure) (k : Row) → IsJoined join.Left (structures_of (r ∷ ds)) s → AllByRecursion (λ d. IsDataSet d.structure d.points) (r ∷ ds)
@@ -45,7 +46,7 @@ left_look r ds s k i all =
     ap (λ l. look (key_width s) l k) (map-map tuple_point (tuple_beside a (r ∷ ds)) r.points)
     ∙ look-map (key_width a) (key_width s) f r.points k k
     (all_more (λ q. is_point (columns_of a) q ≡ true) (λ q. same_row (take (key_width s) (f q)) k ≡ same_row (take (key_width a) q) k)
-    (λ q w. ap (λ z. same_row z k) (beside_keeps join.Left a s (r ∷ ds) q i (goes_with_first r ds s i).0 all w).1) r.points all.0.typed)
+    (λ q w. ap (λ z. same_row z k) (beside_keeps join.Left a s (r ∷ ds) q i (goes_with_first join.Left r ds s refl i).0 all w).1) r.points all.0.typed)
 
 -- ---- `inner_join`
 pub inner_look : (ds : List DataSet) (r : DataSet) (s : Structure) (k : Row) → IsJoined join.Inner (structures_of ds) s → AllByRecursion (λ d. IsDataSet d.structure d.points) ds → reference_of join.Inner ds ≡ Some r
@@ -53,7 +54,7 @@ pub inner_look : (ds : List DataSet) (r : DataSet) (s : Structure) (k : Row) →
 inner_look ds r s k i all there =
     let found = reference_is join.Inner ds s i all in
     let same : found.0 ≡ r = cc (there, found.1.there) in
-    ap (λ l. look (key_width s) l k) (join_with join.Inner ds found.0 found.1.there ∙ whole_points (tuple_beside found.0.structure ds) found.0.points)
+    ap (λ l. look (key_width s) l k) (join_with join.Inner ds found.0 found.1.there ∙ made_of_passing is_whole tuple_point (tuple_beside found.0.structure ds) found.0.points)
     ∙ look-drawn (key_width found.0.structure) (key_width s) (λ q. whole_point (tuple_beside found.0.structure ds q)) found.0.points k
     (all_more (λ q. is_point (columns_of found.0.structure) q ≡ true) (λ q. IfSome (whole_point (tuple_beside found.0.structure ds q)) (λ z. take (key_width s) z ≡ take (key_width found.0.structure) q))
     (λ q w. if_whole (λ z. take (key_width s) z ≡ take (key_width found.0.structure) q) (is_whole (tuple_beside found.0.structure ds q)) (tuple_point (tuple_beside found.0.structure ds q)) (beside_keeps join.Inner found.0.structure s ds q i found.1.together.0 all w).1) found.0.points found.1.kept.typed) found.1.kept.distinct
@@ -64,6 +65,10 @@ inner_look ds r s k i all there =
     if_whole P false z h = tt
 
 -- ---- points that begin with given identifiers
+found_as_look : (n : ℕ) (d : List Row) (k : Row) → find (λ t. same_row (take n t) k) d ≡ look n d k
+found_as_look n [] k = refl
+found_as_look n (t ∷ d) k = ap (cond (same_row (take n t) k) (Some t)) (found_as_look n d k)
+
 pub look_find : {X : Type 0} (m : ℕ) (f g : X → Row) (xs : List X) (k : Row) → AllByRecursion (λ x. take m (f x) ≡ g x) xs → look m (map f xs) k ≡ option_map f (find (λ x. same_row (g x) k) xs)
 look_find m f g [] k all = refl
 look_find m f g (x ∷ xs) k all = ap (λ l. cond (same_row l k) (Some (f x)) (look m (map f xs) k)) all.0 ∙ go (same_row (g x) k) (look_find m f g xs k all.1)
@@ -88,7 +93,7 @@ full_look r ds s k i all =
     let ids = identifiers_of a in
     let keys = all_keys ids (r ∷ ds) in
     let f : Row → Row = λ j. tuple_point (tuple_at ids (r ∷ ds) j) in
-    let go = goes_with_all r ds s i in
+    let go = goes_with_first join.Full r ds s refl i in
     ap (λ l. look (key_width s) l k) (map-map tuple_point (tuple_at ids (r ∷ ds)) keys)
     ∙ look_find (key_width s) f (λ j. j) keys k
     (all_more (λ j. is_point ids j ≡ true) (λ j. take (key_width s) (f j) ≡ j) (λ j h. (full_keeps join.Full a s (r ∷ ds) j i go.0 all h).1 ∙ whole_key (key_width a) j (point_length ids j h)) keys (all_keys_are a (r ∷ ds) all (have_them a (r ∷ ds) go.1)))
@@ -160,12 +165,8 @@ found_combination (d ∷ ds) (k ∷ ks) all e =
     (all_map (operand_point a) (λ x. length (key_at x) ≡ length k) d.points
     (all_more (λ q. is_point (columns_of a) q ≡ true) (λ q. length (take (key_width a) q) ≡ length k) (λ q h. point_length (identifiers_of a) (key_of a q) (key_of_point a q h) ∙ sym here) d.points all.0.typed))
     ∙ ap (λ o. cons_if o (find (λ t. same_row (keys_at t) (flat_map (λ z. z) ks)) (combinations (map operand_points ds))))
-    (find-map (λ x. same_row (key_at x) k) (operand_point a) d.points ∙ ap (option_map (operand_point a)) (found_by_key (key_width a) (take (key_width a)) d.points k (same_each d.points)))
+    (find-map (λ x. same_row (key_at x) k) (operand_point a) d.points ∙ ap (option_map (operand_point a)) (found_as_look (key_width a) d.points k))
     ∙ ap (cons_if (option_map (operand_point a) (look (key_width a) d.points k))) (found_combination ds ks all.1 more)
-  where
-    same_each : (l : List Row) → AllByRecursion (λ q. take (key_width d.structure) q ≡ take (key_width d.structure) q) l
-    same_each [] = tt
-    same_each (q ∷ l) = (refl, same_each l)
 
 pub cross_look : (ds : List DataSet) (ks : List Row) (s : Structure) → IsJoined join.Cross (structures_of ds) s → AllByRecursion (λ d. IsDataSet d.structure d.points) ds → map length ks ≡ map (λ d. key_width d.structure) ds
     → look (key_width s) (join_of join.Cross ds) (flat_map (λ k. k) ks) ≡ option_map (λ xs. tuple_point (crossed xs)) (points_at ds ks)
@@ -181,16 +182,8 @@ cross_look ds ks s i all e =
 -- ---- nothing is lost
 look_own : (n : ℕ) (d : List Row) → Distinct n d → AllByRecursion (λ q. look n d (take n q) ≡ Some q) d
 look_own n d apart =
-    all_more (λ q. find (λ t. same_key n t q) d ≡ Some q) (λ q. look n d (take n q) ≡ Some q) (λ q e. sym (found_by_key n (take n) d (take n q) (same_each d)) ∙ e) d
-    (own_found (λ q. Unit {0}) (same_key n) (λ q t. same_key n t q) (λ q u. same_row-refl (take n q)) (λ q t u v e. e) d (anything d) apart)
-  where
-    same_each : (l : List Row) → AllByRecursion (λ q. take n q ≡ take n q) l
-    same_each [] = tt
-    same_each (q ∷ l) = (refl, same_each l)
-
-    anything : (l : List Row) → AllByRecursion (λ q. Unit {0}) l
-    anything [] = tt
-    anything (q ∷ l) = (tt, anything l)
+    all_more (λ q. find (λ t. same_key n t q) d ≡ Some q) (λ q. look n d (take n q) ≡ Some q) (λ q e. sym (found_as_look n d (take n q)) ∙ e) d
+    (own_found (λ q. Unit {0}) (same_key n) (λ q t. same_key n t q) (λ q u. same_row-refl (take n q)) (λ q t u v e. e) d (each (λ q. Unit {0}) (λ q. tt) d) apart)
 
 pub left_loses_nothing : (r : DataSet) (ds : List DataSet) (s : Structure) → IsJoined join.Left (structures_of (r ∷ ds)) s → AllByRecursion (λ d. IsDataSet d.structure d.points) (r ∷ ds)
     → AllByRecursion (λ q. look (key_width s) (join_of join.Left (r ∷ ds)) (key_of r.structure q) ≡ Some (tuple_point (tuple_beside r.structure (r ∷ ds) q))) r.points
@@ -212,11 +205,7 @@ each_among ids (d ∷ ds) = (own d.points, later ds (each_among ids ds))
     rest = flat_map (keys_in ids) ds
 
     before : (j k : Row) (l : List Row) → list_any (λ i. same_row i k) l ≡ true → list_any (λ i. same_row i k) (j ∷ l) ≡ true
-    before j k l e = ap (λ b. same_row j k || b) e ∙ either (same_row j k)
-      where
-        either : (b : Bool) → (b || true) ≡ true
-        either true = refl
-        either false = refl
+    before j k l e = ap (λ b. same_row j k || b) e ∙ either_true (same_row j k)
 
     own : (l : List Row) → AllByRecursion (λ q. list_any (λ j. same_row j (keys q)) (map keys l ++ rest) ≡ true) l
     own [] = tt
@@ -249,9 +238,18 @@ full_loses_nothing r ds s i all =
 -- and each point is the part of its operand there
 pub full_has_each : (r : DataSet) (ds : List DataSet) (s : Structure) → IsJoined join.Full (structures_of (r ∷ ds)) s → AllByRecursion (λ d. IsDataSet d.structure d.points) (r ∷ ds)
     → AllByRecursion (λ d. AllByRecursion (λ q. point_with (identifiers_of r.structure) d (values_in d.structure (identifiers_of r.structure) q) ≡ Some q) d.points) (r ∷ ds)
-full_has_each r ds s i all = each_own (r ∷ ds) all (goes_with_all r ds s i).1
+full_has_each r ds s i all = each_own (r ∷ ds) all (goes_with_first join.Full r ds s refl i).1
   where
     each_own : (es : List DataSet) → AreSets es → AllByRecursion (λ b. AreAmong (identifiers_of b) (identifiers_of r.structure) × AreAmong (identifiers_of r.structure) (identifiers_of b)) (structures_of es)
         → AllByRecursion (λ d. AllByRecursion (λ q. point_with (identifiers_of r.structure) d (values_in d.structure (identifiers_of r.structure) q) ≡ Some q) d.points) es
     each_own [] sets within = tt
     each_own (e ∷ es) sets within = (own_with r.structure e sets.0 within.0.0, each_own es sets.1 within.1)
+
+-- ---- the parts by look-up
+pub full_looked : (r : DataSet) (ds : List DataSet) (s : Structure) (k : Row) → IsJoined join.Full (structures_of (r ∷ ds)) s → AllByRecursion (λ d. IsDataSet d.structure d.points) (r ∷ ds) → length k ≡ key_width r.structure
+    → tuple_at (identifiers_of r.structure) (r ∷ ds) k ≡ looked_tuple r.structure (r ∷ ds) k
+full_looked r ds s k i all l = at_looked r.structure (r ∷ ds) k all.0.well_formed l (those (r ∷ ds) all (goes_with_first join.Full r ds s refl i).1)
+  where
+    those : (es : List DataSet) → AreSets es → AllByRecursion (λ b. AreAmong (identifiers_of b) (identifiers_of r.structure) × AreAmong (identifiers_of r.structure) (identifiers_of b)) (structures_of es) → AllByRecursion (HasThose r.structure) es
+    those [] sets within = tt
+    those (e ∷ es) sets within = (record { inside = record { kept = sets.0; within = within.0.0 }; back = within.0.1 }, those es sets.1 within.1)

@@ -1,5 +1,5 @@
 -- Joins do not depend on the order of points.
-use Rattle.std.proofs.Common.{◌≡◌, ℕ, zero, suc, Bool, true, false, not, ◌&&◌, List, [], ◌∷◌, ◌++◌, cond, length, map, Option, Some, None, refl, sym, ap, ◌∙◌, subst, arith, true≢false}
+use Rattle.std.proofs.Common.{◌≡◌, ℕ, zero, suc, Bool, true, false, not, List, [], ◌∷◌, cond, map, Option, Some, None, refl, sym, ap, ◌∙◌, subst, arith, true≢false}
 use Rattle.std.specs.Prelude.{slice_get}
 use Rattle.std.specs.List.{AllByRecursion, filter, find, flat_map}
 use Rattle.std.specs.Option.{option_to_list}
@@ -18,11 +18,11 @@ use Rattle.vtl_tuples.specs.Tuples.{combinations}
 use Rattle.vtl_tuples.proofs.Lists.{map_each}
 use Rattle.vtl_meaning.specs.Agreement.{OperandPoint, agree_in, key_of, operand_point, operand_points, values_in}
 use Rattle.vtl_meaning.specs.Columns.{identifiers_of}
-use Rattle.vtl_meaning.specs.Joined.{Part, Tuple, all_keys, crossed, full_tuples, inner_tuples, is_whole, join_of, joined_of, keys_in, left_tuples, part_of, reference_place, structures_of, tuple_at, tuple_beside, tuple_point, tuples_of}
+use Rattle.vtl_meaning.specs.Joined.{Part, all_keys, crossed, full_tuples, is_whole, join_of, joined_of, keys_in, left_tuples, part_of, reference_place, structures_of, tuple_at, tuple_beside, tuple_point, tuples_of}
 use Rattle.vtl_meaning.specs.Made.{AreAmong, GoTogether, IsJoined}
 use Rattle.vtl_meaning.specs.Orders.{SameOperands}
 use Rattle.vtl_meaning.proofs.JoinAgreements.{Covers, agreeing_only, covers, key_only}
-use Rattle.vtl_meaning.proofs.JoinKept.{IsReference, join_with, reference_is}
+use Rattle.vtl_meaning.proofs.JoinKept.{join_with, reference_is}
 use Rattle.vtl_meaning.proofs.JoinParts.{AreSets, parts_by}
 
 -- ---- what is found where one item at most passes

@@ -10,6 +10,7 @@ pub mod JoinInner
 pub mod JoinKept
 pub mod JoinLooks
 pub mod JoinOrders
+pub mod JoinPartners
 pub mod JoinParts
 pub mod JoinProfiles
 pub mod Kept

@@ -1,5 +1,5 @@
 -- Joins in the words of their laws: as tuples of points that agree, one operand after the other, and by look-up.
-use Rattle.std.specs.Prelude.{ℕ, Bool, not, List, [], ◌∷◌, ◌++◌, cond, filter, map, Option, Some, None, is_some, option_map, slice_get}
+use Rattle.std.specs.Prelude.{ℕ, Bool, not, List, [], ◌∷◌, ◌++◌, cond, filter, map, Option, Some, None, option_map, slice_get}
 use Rattle.std.specs.List.{flat_map, list_any}
 use Rattle.std.specs.Option.{option_and_then, option_map_or}
 use Rattle.vtl_cell.specs.Each.{cons_if}
@@ -13,6 +13,7 @@ use Rattle.vtl_tuples.specs.Keys.{item_at}
 use Rattle.vtl_meaning.specs.Agreement.{OperandPoint, first_agreeing, key_of, operand_point, operand_points, values_in}
 use Rattle.vtl_meaning.specs.Columns.{identifiers_of}
 use Rattle.vtl_meaning.specs.Joined.{Part, Tuple, is_whole, part_of, present, tuple_point}
+use Rattle.vtl_meaning.specs.LookUps.{part_for}
 use Rattle.vtl_meaning.specs.Made.{AreAmong}
 
 -- a data set whose identifiers the reference has
@@ -36,8 +37,8 @@ beside_part d p = option_and_then (first_agreeing p.structure d) p.point
 abbrev pub left_with : List Tuple → DataSet → List Tuple
 left_with ts d = map (λ t. and_part t (part_of d (option_and_then (beside_part d) (slice_get t.parts 0)))) ts
 
--- `full_join`: each tuple with the point of one more operand that has its identifiers, or a missing part; then each other point of
--- that operand, behind missing parts
+-- `full_join`: each tuple with the point of one more operand that has its identifiers, or a missing part; then each other point
+-- of that operand, behind missing parts
 abbrev pub point_with : List Component → DataSet → Row → Option Row
 point_with ids d k = item_at same_row (values_in d.structure ids) d.points k
 
@@ -62,6 +63,10 @@ cross_with ts d = flat_map (λ t. map (and_crossed t) (operand_points d)) ts
 -- the point of a tuple, where no part is missing
 abbrev pub whole_point : Tuple → Option Row
 whole_point t = cond (is_whole t) (Some (tuple_point t)) None
+
+-- of each operand the point at its part of these identifiers, if there is one
+abbrev pub looked_tuple : Structure → List DataSet → Row → Tuple
+looked_tuple a ds k = record { identifiers = k; parts = map (λ d. part_of d (look (key_width d.structure) d.points (part_for a d.structure k))) ds }
 
 -- of each operand the point with its identifiers among these, one tuple of them for each operand, if all have one
 abbrev pub points_at : List DataSet → List Row → Option (List OperandPoint)

@@ -14,9 +14,9 @@ ghost use Rattle.vtl_tree.specs.declared.structure.Structure.{Structure};
 ghost use Rattle.vtl_tuples.specs.Tuples.{matched_with};
 ghost use Rattle.vtl_meaning.specs.Agreement.{key_of, operand_points, points_agree, values_in};
 ghost use Rattle.vtl_meaning.specs.Columns.{identifiers_of};
-ghost use Rattle.vtl_meaning.specs.JoinWords.{IsWithin, agreed_tuple, cross_with, full_with, left_with, point_with, points_at, whole_point};
+ghost use Rattle.vtl_meaning.specs.JoinWords.{IsWithin, agreed_tuple, cross_with, full_with, left_with, looked_tuple, point_with, points_at, whole_point};
 ghost use Rattle.vtl_meaning.specs.Joined.{agreeing, cross_tuples, crossed, full_tuples, inner_tuples, join_of, keys_in, left_tuples, present, reference_of, reference_place, structures_of, tuple_at, tuple_beside, tuple_point};
-ghost use Rattle.vtl_meaning.specs.Made.{AreAmong, IsJoined};
+ghost use Rattle.vtl_meaning.specs.Made.{IsJoined};
 ghost use Rattle.vtl_meaning.specs.Orders.{SameOperands};
 
 /// A join of data sets is a data set of the structure that typing gives, and its integers are of the profile where
@@ -65,11 +65,16 @@ pub fn joins_grow_operand_by_operand()
 /// - `full_join`: a point where some operand has one with these identifiers, of the tuple of all of them.
 /// - `cross_join`: at a tuple of identifiers for each operand, one behind the other, the point of the combination of
 ///   the operands' points there, if each operand has one.
+///
+/// The parts of these tuples, beside a point of the reference (`beside`) and of a full join (`at`), are the operands'
+/// points at their parts of the identifiers.
 pub fn joins_by_look_up()
     ensures left { (r : DataSet) (ds : List DataSet) (s : Structure) (k : Row) → IsJoined join.Left (structures_of (r ∷ ds)) s → AllByRecursion (λ d. IsDataSet d.structure d.points) (r ∷ ds) → look (key_width s) (join_of join.Left (r ∷ ds)) k ≡ option_map (λ q. tuple_point (tuple_beside r.structure (r ∷ ds) q)) (look (key_width r.structure) r.points k) }
     ensures inner { (ds : List DataSet) (r : DataSet) (s : Structure) (k : Row) → IsJoined join.Inner (structures_of ds) s → AllByRecursion (λ d. IsDataSet d.structure d.points) ds → reference_of join.Inner ds ≡ Some r → look (key_width s) (join_of join.Inner ds) k ≡ option_and_then (λ q. whole_point (tuple_beside r.structure ds q)) (look (key_width r.structure) r.points k) }
     ensures full { (r : DataSet) (ds : List DataSet) (s : Structure) (k : Row) → IsJoined join.Full (structures_of (r ∷ ds)) s → AllByRecursion (λ d. IsDataSet d.structure d.points) (r ∷ ds) → look (key_width s) (join_of join.Full (r ∷ ds)) k ≡ cond (list_any (λ j. same_row j k) (flat_map (keys_in (identifiers_of r.structure)) (r ∷ ds))) (Some (tuple_point (tuple_at (identifiers_of r.structure) (r ∷ ds) k))) None }
     ensures cross { (ds : List DataSet) (ks : List Row) (s : Structure) → IsJoined join.Cross (structures_of ds) s → AllByRecursion (λ d. IsDataSet d.structure d.points) ds → map length ks ≡ map (λ d. key_width d.structure) ds → look (key_width s) (join_of join.Cross ds) (flat_map (λ k. k) ks) ≡ option_map (λ xs. tuple_point (crossed xs)) (points_at ds ks) }
+    ensures beside { (a : Structure) (ds : List DataSet) (q : Row) → AllByRecursion (IsWithin a) ds → tuple_beside a ds q ≡ looked_tuple a ds (key_of a q) }
+    ensures at { (r : DataSet) (ds : List DataSet) (s : Structure) (k : Row) → IsJoined join.Full (structures_of (r ∷ ds)) s → AllByRecursion (λ d. IsDataSet d.structure d.points) (r ∷ ds) → length k ≡ key_width r.structure → tuple_at (identifiers_of r.structure) (r ∷ ds) k ≡ looked_tuple r.structure (r ∷ ds) k }
 {}
 
 /// No point is lost where parts may be missing: a left join has a point for each point of the first operand, and a full

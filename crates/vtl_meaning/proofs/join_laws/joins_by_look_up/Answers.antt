@@ -1,4 +1,5 @@
-use Rattle.vtl_meaning.proofs.JoinLooks.{cross_look, full_look, inner_look, left_look}
+use Rattle.vtl_meaning.proofs.JoinPartners.{beside_looked}
+use Rattle.vtl_meaning.proofs.JoinLooks.{cross_look, full_look, full_looked, inner_look, left_look}
 use Rattle.vtl_meaning.proofs.join_laws.joins_by_look_up.Goals as goal
 
 pub returns-clause-left : goal.returns-clause-left
@@ -12,3 +13,9 @@ returns-clause-full c = full_look
 
 pub returns-clause-cross : goal.returns-clause-cross
 returns-clause-cross c = cross_look
+
+pub returns-clause-beside : goal.returns-clause-beside
+returns-clause-beside c = beside_looked
+
+pub returns-clause-at : goal.returns-clause-at
+returns-clause-at c = full_looked
