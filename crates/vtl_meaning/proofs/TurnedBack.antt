@@ -33,12 +33,13 @@ use Rattle.vtl_meaning.specs.LookUps.{value_named, values_named}
 use Rattle.vtl_meaning.specs.Made.{IsColumnAt, IsUnpivoted}
 use Rattle.vtl_meaning.specs.Points.{with_points}
 use Rattle.vtl_meaning.specs.Turned.{coded_value, codes_of, named_point, other_identifiers, pivot_of, pivoted_point, unpivoted_points}
+use Rattle.vtl_meaning.proofs.JoinKept.{apart_map}
 use Rattle.vtl_meaning.proofs.Kept.{both_all, cells_append, column_within}
 use Rattle.vtl_meaning.proofs.LookUps.{named_cells}
 use Rattle.vtl_meaning.proofs.OwnColumns.{own_identifiers}
 use Rattle.vtl_meaning.proofs.Places.{IsIdentifier, all_back, all_filtered, all_more, are_identifiers, first_cells, identifier_role, identifiers_apart, key_cells, key_within, place_here, place_later, same_name-refl, same_name-sym}
 use Rattle.vtl_meaning.proofs.SetsFolds.{each_own, filter_once, own_cells}
-use Rattle.vtl_meaning.proofs.TurnedKept.{apart_map, here_is, points_here, unpivoted_kept}
+use Rattle.vtl_meaning.proofs.TurnedKept.{here_is, points_here, unpivoted_kept}
 use Rattle.vtl_meaning.proofs.TurnedLooks.{coded_look, measure_names, unpivoted_look}
 
 -- ---- each item many times
@@ -241,7 +242,7 @@ module _ (id m : List ℕ) (a s : Structure) (i : IsUnpivoted id m a s) (w : IsS
         where
           once : (ys : List Component) → 1 ≤ length ys → each_once same_row (flat_map (λ r. map (λ x. key_at r) ys) d) ≡ map key_at d
           once [] few = absurd (omega (arith, few))
-          once (y ∷ ys) few = once_of_many same_row same_row-refl key_at y ys d (apart_map same_row key_at d ∙ h.distinct)
+          once (y ∷ ys) few = once_of_many same_row same_row-refl key_at y ys d (apart_map key_at same_row d ∙ h.distinct)
 
       pub pivoted_back : pivot_of turned id m ≡ map (λ r. key_at r ++ values_in a (measures_of a) r) d
       pivoted_back =

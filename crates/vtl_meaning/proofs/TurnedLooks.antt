@@ -25,6 +25,7 @@ use Rattle.vtl_meaning.specs.Columns.{identifiers_of, measures_of, others_of, pl
 use Rattle.vtl_meaning.specs.LookUps.{value_named, values_named}
 use Rattle.vtl_meaning.specs.Made.{IsColumnAt, IsPivoted, IsUnpivoted}
 use Rattle.vtl_meaning.specs.Turned.{coded_value, is_coded, named_point, other_identifiers, pivot_of, pivoted_point, unpivoted_points}
+use Rattle.vtl_meaning.proofs.JoinKept.{apart_map}
 use Rattle.vtl_meaning.proofs.JoinOrders.{rows_apart}
 use Rattle.vtl_meaning.proofs.Kept.{alike_cells, both_all, look_is}
 use Rattle.vtl_meaning.proofs.LookUps.{among_within, named_front, parts_named, same_truth, whole_key}
@@ -32,7 +33,7 @@ use Rattle.vtl_meaning.proofs.Looks.{behind_none, found_then, look_absent, look_
 use Rattle.vtl_meaning.proofs.OwnColumns.{column_any, own_among}
 use Rattle.vtl_meaning.proofs.Places.{all_more, columns_split, key_within, same_name-is, same_name-refl, same_name-sym}
 use Rattle.vtl_meaning.proofs.SetsLooks.{look-append}
-use Rattle.vtl_meaning.proofs.TurnedKept.{IsDrawn, IsNamed, all_drawn, all_here, apart_map, drawn_here, front_same, here_is, keys_typed, others_among, others_are, pivoted_is, points_here}
+use Rattle.vtl_meaning.proofs.TurnedKept.{IsDrawn, IsNamed, all_drawn, all_here, drawn_here, front_same, here_is, keys_typed, others_among, others_are, pivoted_is, points_here}
 use Rattle.vtl_meaning.proofs.TurnedOrders.{alike_others}
 
 -- ---- `pivot`: at each key that there is the point that is made for it
@@ -185,7 +186,7 @@ module _ (id m : List ℕ) (a s : Structure) (i : IsUnpivoted id m a s) (w : IsS
   measures_apart : all_apart same_name (names_of (measures_of a)) ≡ true
   measures_apart =
       let p : Component → Bool = λ x. same_role x.role role.Measure in
-      apart_map same_name (λ x. x.name) (measures_of a) ∙ all_apart-filter (λ x y. same_name x.name y.name) p a.components (sym (apart_map same_name (λ x. x.name) a.components) ∙ w.distinct)
+      apart_map (λ x. x.name) same_name (measures_of a) ∙ all_apart-filter (λ x y. same_name x.name y.name) p a.components (sym (apart_map (λ x. x.name) same_name a.components) ∙ w.distinct)
 
   row_look : (r : Row) (name : List ℕ) → is_point (columns_of a) r ≡ true → is_among name (names_of (measures_of a)) ≡ true → look (key_width s) (unpivoted_points a r) (key_at r name) ≡ there r name
   row_look r name h e = ap (λ l. look (key_width s) l (key_at r name)) (here_is id m a s i w r) ∙ here_look r name (measures_of a) (all_here id m a s i w r h) measures_apart e

@@ -5,7 +5,8 @@
 //! points, and agree with look-up by identifiers; conditions say which structure a result has, component by component
 //! (specs/Made.antt), and which operands are literals, not how typing found them.
 //! It knows no tables, no files and no program: `vtl_expr`, `vtl_clause` and `vtl_interp` compute this.
-//! Begin with specs/Operators.antt and Meaning.antt; LookUps.antt says the same in the words of the manual.
+//! Begin with specs/Operators.antt, Joined.antt, Sets.antt, Turned.antt and Meaning.antt; LookUps.antt says the same in
+//! the words of the manual.
 #![tactic(auto)]
 
 mod join_laws;
