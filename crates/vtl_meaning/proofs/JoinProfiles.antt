@@ -39,18 +39,18 @@ module _ (P : Cell → Type 0) (null : P c.Null) where
   all_flat f [] all = tt
   all_flat f (x ∷ xs) all = all_append P (f x) (flat_map f xs) all.0 (all_flat f xs all.1)
 
-  cell_holds : (place : ℕ) (r : Row) → Holds r → P (column_of place r)
+  pub cell_holds : (place : ℕ) (r : Row) → Holds r → P (column_of place r)
   cell_holds zero [] h = null
   cell_holds (suc place) [] h = null
   cell_holds zero (v ∷ r) h = h.0
   cell_holds (suc place) (v ∷ r) h = cell_holds place r h.1
 
-  front_holds : (n : ℕ) (r : Row) → Holds r → Holds (take n r)
+  pub front_holds : (n : ℕ) (r : Row) → Holds r → Holds (take n r)
   front_holds zero r h = tt
   front_holds (suc n) [] h = tt
   front_holds (suc n) (v ∷ r) h = (h.0, front_holds n r h.1)
 
-  values_hold : (xs ys : List Component) (r : Row) → Holds r → Holds (values_named xs ys r)
+  pub values_hold : (xs ys : List Component) (r : Row) → Holds r → Holds (values_named xs ys r)
   values_hold xs ys r h = all_map (λ y. column_of (place_of y.name xs) r) P ys (each (λ y. P (column_of (place_of y.name xs) r)) (λ y. cell_holds (place_of y.name xs) r h) ys)
 
   -- ---- tuples

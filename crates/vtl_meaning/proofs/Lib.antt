@@ -28,6 +28,7 @@ pub mod SetsKept
 pub mod SetsLooks
 pub mod SetsOrders
 pub mod SetsProfiles
+pub mod TurnedBack
 pub mod TurnedKept
 pub mod TurnedLooks
 pub mod TurnedOrders

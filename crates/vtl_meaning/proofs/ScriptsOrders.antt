@@ -1,6 +1,6 @@
 -- The meaning of a script does not depend on the order of points.
 use Rattle.std.proofs.Common.{◌≡◌, ℕ, Bool, true, false, cond, ◌&&◌, List, [], ◌∷◌, Some, Result, Ok, Err, refl, sym, ap, subst, true≢false}
-use Rattle.std.specs.List.{filter, list_all}
+use Rattle.std.specs.List.{list_all}
 use Rattle.std.specs.Option.{option_map_or}
 use Rattle.std.proofs.lemmas.Bool.{and_parts}
 use Rattle.vtl_cell.specs.Settings.{Settings}

@@ -10,7 +10,7 @@ use Rattle.vtl_cell.proofs.Rows.{same_row-is}
 use Rattle.vtl_rows.specs.Tables.{cells_at}
 use Rattle.vtl_tree.specs.DataSet.{IsDataSet, is_point}
 use Rattle.vtl_tree.specs.Environment.{DataSet}
-use Rattle.vtl_tree.specs.Structure.{columns_of, key_width, names_of, same_role}
+use Rattle.vtl_tree.specs.Structure.{IsStructure, columns_of, key_width, names_of, same_role}
 use Rattle.vtl_tree.specs.declared.structure.Component.{Component}
 use Rattle.vtl_tree.specs.declared.structure.Role.{Role}
 use Rattle.vtl_tree.specs.declared.structure.Role.TheVariants as role
@@ -28,7 +28,7 @@ use Rattle.vtl_meaning.specs.Points.{with_points}
 use Rattle.vtl_meaning.specs.Sets.{all_left_of, has_point, intersected, intersection_of, union_of, united}
 use Rattle.vtl_meaning.proofs.JoinParts.{AreSets}
 use Rattle.vtl_meaning.proofs.OwnColumns.{columns_apart}
-use Rattle.vtl_meaning.proofs.Places.{IsIdentifier, all_filtered, are_identifiers, first_cells, key_width_same, places_of_namesakes, point_length}
+use Rattle.vtl_meaning.proofs.Places.{IsIdentifier, all_filtered, all_more, are_identifiers, first_cells, key_width_same, places_of_namesakes, point_length}
 use Rattle.vtl_meaning.proofs.SetsKept.{filter_true, intersection_kept, union_kept}
 
 -- ---- on lists of points
@@ -89,7 +89,7 @@ no_measures others (x ∷ xs) all =
     skipped role.Measure e l = cc
     skipped role.Attribute e l = refl
 
-filter_once : {X : Type 0} (p : X → Bool) (xs : List X) → AllByRecursion (λ x. p x ≡ true) xs → filter p xs ≡ xs
+pub filter_once : {X : Type 0} (p : X → Bool) (xs : List X) → AllByRecursion (λ x. p x ≡ true) xs → filter p xs ≡ xs
 filter_once p [] all = refl
 filter_once p (x ∷ xs) all = ap (λ b. cond b (x ∷ filter p xs) (filter p xs)) all.0 ∙ ap (λ l. x ∷ l) (filter_once p xs all.1)
 
@@ -104,21 +104,24 @@ combined_names a bs s i =
     ap names_of i.no_attributes ∙ map-append (λ x. x.name) (identifiers_of s) (measures_of s)
     ∙ ap (λ l. l ++ names_of (measures_of s)) i.identifiers.0 ∙ ap (λ l. names_of (identifiers_of a) ++ names_of l) (combined_measures a bs s i)
 
+-- a point in its own columns
+pub own_cells : (t : Structure) (r : Row) → IsStructure t → is_point (columns_of t) r ≡ true → cells_at (places_in (columns_of t) (columns_of t)) r ≡ r
+own_cells t r w h =
+    let len = point_length (columns_of t) r h in
+    ap (λ xs. cells_at (places_in xs (columns_of t)) r) (sym (append-nil (columns_of t)))
+    ∙ first_cells (columns_of t) [] r (columns_apart t w) (omega (arith, len))
+    ∙ take_all (length (columns_of t)) r (omega (arith, len))
+
+pub each_own : (f : Row → Row) (d : List Row) → AllByRecursion (λ r. f r ≡ r) d → map f d ≡ d
+each_own f [] all = refl
+each_own f (r ∷ d) all = ap (λ q. q ∷ map f d) all.0 ∙ ap (λ l. r ∷ l) (each_own f d all.1)
+
 -- points in their own columns, which another structure names alike
 own_shown : (t s : Structure) (d : List Row) → names_of (columns_of t) ≡ names_of (columns_of s) → IsDataSet t d → left_of (with_points t d) s ≡ d
 own_shown t s d e h =
-    ap (λ ps. map (cells_at ps) d) (places_of_namesakes (columns_of t) (columns_of s) (columns_of t) (sym e)) ∙ each_own d h.typed
-  where
-    own : (r : Row) → is_point (columns_of t) r ≡ true → cells_at (places_in (columns_of t) (columns_of t)) r ≡ r
-    own r w =
-        let len = point_length (columns_of t) r w in
-        ap (λ xs. cells_at (places_in xs (columns_of t)) r) (sym (append-nil (columns_of t)))
-        ∙ first_cells (columns_of t) [] r (columns_apart t h.well_formed) (omega (arith, len))
-        ∙ take_all (length (columns_of t)) r (omega (arith, len))
-
-    each_own : (l : List Row) → AllByRecursion (λ r. is_point (columns_of t) r ≡ true) l → map (cells_at (places_in (columns_of t) (columns_of t))) l ≡ l
-    each_own [] all = refl
-    each_own (r ∷ l) all = ap (λ q. q ∷ map (cells_at (places_in (columns_of t) (columns_of t))) l) (own r all.0) ∙ ap (λ z. r ∷ z) (each_own l all.1)
+    let f = cells_at (places_in (columns_of t) (columns_of t)) in
+    ap (λ ps. map (cells_at ps) d) (places_of_namesakes (columns_of t) (columns_of s) (columns_of t) (sym e))
+    ∙ each_own f d (all_more (λ r. is_point (columns_of t) r ≡ true) (λ r. f r ≡ r) (λ r w. own_cells t r h.well_formed w) d h.typed)
 
 shown_alike : (t s : Structure) (ds : List DataSet) → names_of (columns_of t) ≡ names_of (columns_of s) → all_left_of ds t ≡ all_left_of ds s
 shown_alike t s [] e = refl

@@ -1,11 +1,10 @@
 -- Set operators and `exists_in` give data sets.
-use Rattle.std.proofs.Common.{◌≡◌, ℕ, Bool, true, false, not, cond, ◌||◌, List, [], ◌∷◌, ◌++◌, map, take, Some, refl, sym, ap, ◌∙◌, subst}
 use Rattle.std.specs.Prelude.{is_some}
 use Rattle.std.specs.List.{AllByRecursion, filter, flat_map, list_all, list_any}
-use Rattle.vtl_cell.specs.Apart.{all_apart}
+use Rattle.std.proofs.Common.{◌≡◌, ℕ, Bool, true, false, not, cond, ◌||◌, List, [], ◌∷◌, ◌++◌, map, take, Some, refl, sym, ap, ◌∙◌, subst}
 use Rattle.vtl_cell.specs.Row.{Row, same_key}
 use Rattle.vtl_cell.specs.declared.cell.Cell.TheVariants as c
-use Rattle.vtl_cell.proofs.Aparts.{all_apart-filter, apart_more, apart_parts, none_same}
+use Rattle.vtl_cell.proofs.Aparts.{all_apart-filter, none_same}
 use Rattle.vtl_cell.proofs.Sorts.{AllByRecursion-filter}
 use Rattle.vtl_rows.specs.Tables.{fits_kinds}
 use Rattle.vtl_syntax.specs.declared.word_groups.Retain.{Retain}
@@ -22,7 +21,7 @@ use Rattle.vtl_meaning.specs.Operators.{left_of}
 use Rattle.vtl_meaning.specs.Points.{with_points}
 use Rattle.vtl_meaning.specs.Sets.{all_left_of, difference_of, either_only, existence_of, has_point, intersection_of, is_retained, reduced, symmetric_difference_of, union_of, united, with_answer}
 use Rattle.vtl_meaning.proofs.Drawn.{Keeps, mapped_kept}
-use Rattle.vtl_meaning.proofs.JoinKept.{once_hold}
+use Rattle.vtl_meaning.proofs.JoinKept.{apart_append, once_hold}
 use Rattle.vtl_meaning.proofs.JoinParts.{AreSets}
 use Rattle.vtl_meaning.proofs.Kept.{Tells, told_kept}
 use Rattle.vtl_meaning.proofs.OwnColumns.{among_front, column_any}
@@ -117,12 +116,6 @@ has_any n (q ∷ d) r = go (same_key n q r) (has_any n d r)
     go : (b : Bool) → has_point n d r ≡ list_any (λ z. same_key n z r) d → is_some (cond b (Some q) (look n d (take n r))) ≡ (b || list_any (λ z. same_key n z r) d)
     go true ih = refl
     go false ih = ih
-
-pub apart_append : {X : Type 0} (same : X → X → Bool) (xs ys : List X) → all_apart same xs ≡ true → all_apart same ys ≡ true → AllByRecursion (λ x. AllByRecursion (λ y. same x y ≡ false) ys) xs → all_apart same (xs ++ ys) ≡ true
-apart_append same [] ys e f all = f
-apart_append same (x ∷ xs) ys e f all =
-    let parts = apart_parts same x xs e in
-    apart_more same x (xs ++ ys) (all_append (λ y. same x y ≡ false) xs ys parts.0 all.0) (apart_append same xs ys parts.1 f all.1)
 
 -- each of the first apart from each of the others, where none of these has a point of the first
 keys_apart : (n : ℕ) (d e : List Row) → AllByRecursion (λ r. AllByRecursion (λ q. same_key n q r ≡ false) d) e → AllByRecursion (λ q. AllByRecursion (λ r. same_key n q r ≡ false) e) d

@@ -1,7 +1,7 @@
 -- The points of set operators, `exists_in`, `pivot` and `unpivot` are of the profile where those of the operands are.
-use Rattle.std.proofs.Common.{◌≡◌, ℕ, zero, suc, Bool, true, false, cond, List, [], ◌∷◌, ◌++◌, map, not, take, Option, Some, None, refl, sym, subst}
 use Rattle.std.specs.List.{AllByRecursion, filter, find, flat_map, list_all}
 use Rattle.std.specs.Option.{option_map_or, option_to_list}
+use Rattle.std.proofs.Common.{◌≡◌, ℕ, Bool, true, false, cond, List, [], ◌∷◌, ◌++◌, map, not, take, Option, Some, None, refl, sym, subst}
 use Rattle.vtl_cell.specs.Kinds.{is_null}
 use Rattle.vtl_cell.specs.Profile.{IsOfProfile}
 use Rattle.vtl_cell.specs.Row.{Row, same_key, same_row}
@@ -23,6 +23,7 @@ use Rattle.vtl_meaning.specs.Operators.{left_of}
 use Rattle.vtl_meaning.specs.Sets.{all_left_of, difference_of, existence_of, has_point, intersection_of, is_retained, reduced, symmetric_difference_of, union_of, with_answer}
 use Rattle.vtl_meaning.specs.Turned.{coded_value, codes_of, is_coded, named_point, other_identifiers, pivot_of, pivoted_point, unpivot_of, unpivoted_points}
 use Rattle.vtl_meaning.proofs.JoinKept.{once_hold}
+use Rattle.vtl_meaning.proofs.JoinProfiles.{front_holds, values_hold}
 use Rattle.vtl_meaning.proofs.Places.{all_append, all_map, all_more, each}
 use Rattle.vtl_meaning.proofs.Profiles.{IsRowOfProfile, cell_is, drawn_are, shown_are}
 use Rattle.vtl_meaning.proofs.SetsKept.{all_flat}
@@ -54,23 +55,15 @@ module _ (p : Settings) where
       all_append (IsRowOfProfile p) (reduced (key_width s) (left_of d s) (left_of e s)) (reduced (key_width s) (left_of e s) (left_of d s)) (difference_profile d e s h) (difference_profile e d s i)
 
   -- ---- `exists_in`
-  key_is : (n : ℕ) (r : Row) → IsRowOfProfile p r → IsRowOfProfile p (take n r)
-  key_is zero r h = tt
-  key_is (suc n) [] h = tt
-  key_is (suc n) (v ∷ r) h = (h.0, key_is n r h.1)
-
   pub existence_profile : (a b : DataSet) (kept : Retain) → AreOfProfile p a.points → AreOfProfile p (existence_of a b kept)
   existence_profile a b kept h =
       let test : Row → Bool = λ r. is_retained kept (has_agreeing a.structure b r) in
       let f = with_answer a.structure b in
       all_map f (IsRowOfProfile p) (filter test a.points)
-      (all_more (IsRowOfProfile p) (λ r. IsRowOfProfile p (f r)) (λ r i. all_append (IsOfProfile p) (take (key_width a.structure) r) (c.Bool (has_agreeing a.structure b r) ∷ []) (key_is (key_width a.structure) r i) (tt, tt)) (filter test a.points)
+      (all_more (IsRowOfProfile p) (λ r. IsRowOfProfile p (f r)) (λ r i. all_append (IsOfProfile p) (take (key_width a.structure) r) (c.Bool (has_agreeing a.structure b r) ∷ []) (front_holds (IsOfProfile p) tt (key_width a.structure) r i) (tt, tt)) (filter test a.points)
       (AllByRecursion-filter (IsRowOfProfile p) test a.points h))
 
   -- ---- `pivot`
-  values_are : (xs ys : List Component) (r : Row) → IsRowOfProfile p r → IsRowOfProfile p (map (λ y. value_named xs r y.name) ys)
-  values_are xs ys r h = all_map (λ y. value_named xs r y.name) (IsOfProfile p) ys (each (λ y. IsOfProfile p (value_named xs r y.name)) (λ y. cell_is p (place_of y.name xs) r h) ys)
-
   module _ (d : DataSet) (id m : List ℕ) (h : AreOfProfile p d.points) where
     coded_is : (k : Row) (code : List ℕ) → IsOfProfile p (coded_value d id m k code)
     coded_is k code = go (find (is_coded d.structure id k code) d.points) refl
@@ -86,7 +79,7 @@ module _ (p : Settings) where
     pivot_profile =
         let ids = other_identifiers id d.structure in
         let f = values_in d.structure ids in
-        let keys = once_hold (IsRowOfProfile p) same_row (map f d.points) (all_map f (IsRowOfProfile p) d.points (all_more (IsRowOfProfile p) (λ r. IsRowOfProfile p (f r)) (λ r i. values_are (columns_of d.structure) ids r i) d.points h)) in
+        let keys = once_hold (IsRowOfProfile p) same_row (map f d.points) (all_map f (IsRowOfProfile p) d.points (all_more (IsRowOfProfile p) (λ r. IsRowOfProfile p (f r)) (λ r i. values_hold (IsOfProfile p) tt (columns_of d.structure) ids r i) d.points h)) in
         all_map (pivoted_point d id m) (IsRowOfProfile p) (each_once same_row (map f d.points)) (all_more (IsRowOfProfile p) (λ k. IsRowOfProfile p (pivoted_point d id m k)) pivoted_are (each_once same_row (map f d.points)) keys)
 
   -- ---- `unpivot`
@@ -101,7 +94,7 @@ module _ (p : Settings) where
 
           go : (b : Bool) → AreOfProfile p (option_to_list (cond b None (Some (take (key_width d.structure) r ++ c.Text x.name ∷ v ∷ []))))
           go true = tt
-          go false = (all_append (IsOfProfile p) (take (key_width d.structure) r) (c.Text x.name ∷ v ∷ []) (key_is (key_width d.structure) r i) (tt, (cell_is p (place_of x.name (columns_of d.structure)) r i, tt)), tt)
+          go false = (all_append (IsOfProfile p) (take (key_width d.structure) r) (c.Text x.name ∷ v ∷ []) (front_holds (IsOfProfile p) tt (key_width d.structure) r i) (tt, (cell_is p (place_of x.name (columns_of d.structure)) r i, tt)), tt)
 
       here : (r : Row) → IsRowOfProfile p r → AreOfProfile p (unpivoted_points d.structure r)
       here r i =

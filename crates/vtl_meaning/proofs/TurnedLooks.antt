@@ -1,7 +1,7 @@
 -- `pivot` and `unpivot` by look-up.
 use Rattle.std.specs.List.{AllByRecursion, find, flat_map, list_any}
 use Rattle.std.specs.Option.{option_and_then, option_map_or, option_or, option_to_list}
-use Rattle.std.proofs.Common.{◌≡◌, ℕ, Bool, true, false, cond, ◌&&◌, ◌||◌, List, [], ◌∷◌, map, length, take, Some, None, refl, sym, ap, ◌∙◌, subst, true≢false, ◌++◌, Option}
+use Rattle.std.proofs.Common.{◌≡◌, ℕ, Bool, true, false, cond, ◌&&◌, ◌||◌, List, [], ◌∷◌, map, length, take, Some, None, refl, sym, ap, ◌∙◌, subst, true≢false, ◌++◌, Option, ◌<◌}
 use Rattle.std.proofs.lemmas.Bool.{and_parts}
 use Rattle.std.proofs.lemmas.List.{length-take-le}
 use Rattle.vtl_cell.specs.Apart.{all_apart}
@@ -21,18 +21,19 @@ use Rattle.vtl_tuples.specs.Keys.{each_once}
 use Rattle.vtl_tuples.proofs.Onces.{alike, among_once}
 use Rattle.check_shapes.specs.Names.{is_among}
 use Rattle.vtl_meaning.specs.Agreement.{values_in}
-use Rattle.vtl_meaning.specs.Columns.{identifiers_of, kind_named, measures_of, others_of, place_of}
+use Rattle.vtl_meaning.specs.Columns.{identifiers_of, measures_of, others_of, place_of}
 use Rattle.vtl_meaning.specs.LookUps.{value_named, values_named}
 use Rattle.vtl_meaning.specs.Made.{IsColumnAt, IsPivoted, IsUnpivoted}
 use Rattle.vtl_meaning.specs.Turned.{coded_value, is_coded, named_point, other_identifiers, pivot_of, pivoted_point, unpivoted_points}
+use Rattle.vtl_meaning.proofs.JoinKept.{apart_map}
 use Rattle.vtl_meaning.proofs.JoinOrders.{rows_apart}
-use Rattle.vtl_meaning.proofs.Kept.{alike_cells, both_all, column_within, look_is}
+use Rattle.vtl_meaning.proofs.Kept.{alike_cells, both_all, look_is}
 use Rattle.vtl_meaning.proofs.LookUps.{among_within, named_front, parts_named, same_truth, whole_key}
 use Rattle.vtl_meaning.proofs.Looks.{behind_none, found_then, look_absent, look_key}
 use Rattle.vtl_meaning.proofs.OwnColumns.{column_any, own_among}
 use Rattle.vtl_meaning.proofs.Places.{all_more, columns_split, key_within, same_name-is, same_name-refl, same_name-sym}
 use Rattle.vtl_meaning.proofs.SetsLooks.{look-append}
-use Rattle.vtl_meaning.proofs.TurnedKept.{IsDrawn, IsNamed, all_drawn, all_here, apart_map, drawn_here, front_same, here_is, keys_typed, others_among, others_are, pivoted_is, points_here}
+use Rattle.vtl_meaning.proofs.TurnedKept.{IsDrawn, IsNamed, all_drawn, all_here, drawn_here, front_same, here_is, keys_typed, others_among, others_are, pivoted_is, points_here}
 use Rattle.vtl_meaning.proofs.TurnedOrders.{alike_others}
 
 -- ---- `pivot`: at each key that there is the point that is made for it
@@ -67,41 +68,48 @@ module _ (id m : List ℕ) (d : DataSet) (s : Structure) (i : IsPivoted id m d.s
       (all_more (λ j. is_point ids j ≡ true) (λ j. take (key_width s) (f j) ≡ j) (λ j t. (pivoted_is id m d s i h j t).1) (each_once same_row keys) (keys_typed id m d s i h))
       ∙ ap (λ b. cond b (Some (f k)) None) (among_once same_row (alike same_row rows_apart) keys k ∙ any_map (λ j. same_row j k) (values_in a ids) d.points)
 
-  -- the value at a code is that of the point with this code among its identifiers
-  pub coded_look : (code : List ℕ) (j : Row) → length j ≡ key_width a → value_named (identifiers_of a) j id ≡ c.Text code → coded_value d id m (values_named (identifiers_of a) ids j) code ≡ option_map_or (λ r. value_named (columns_of a) r m) (look (key_width a) d.points j) c.Null
+-- the value at a code is that of the point with this code among its identifiers
+module _ (id m : List ℕ) (d : DataSet) (within : place_of id (identifiers_of d.structure) < length (identifiers_of d.structure)) (h : IsDataSet d.structure d.points) where
+  abbrev ours : Structure
+  ours = d.structure
+
+  abbrev left : List Component
+  left = other_identifiers id ours
+
+  pub coded_look : (code : List ℕ) (j : Row) → length j ≡ key_width ours → value_named (identifiers_of ours) j id ≡ c.Text code → coded_value d id m (values_named (identifiers_of ours) left j) code ≡ option_map_or (λ r. value_named (columns_of ours) r m) (look (key_width ours) d.points j) c.Null
   coded_look code j len has =
-      ap (λ o. option_map_or (λ r. value_named (columns_of a) r m) o c.Null)
-      (found_where (is_coded a id k code) (key_width a) d.points j (all_more (λ q. is_point (columns_of a) q ≡ true) (λ q. is_coded a id k code q ≡ same_row (take (key_width a) q) j) each_one d.points h.typed))
+      ap (λ o. option_map_or (λ r. value_named (columns_of ours) r m) o c.Null)
+      (found_where (is_coded ours id k code) (key_width ours) d.points j (all_more (λ q. is_point (columns_of ours) q ≡ true) (λ q. is_coded ours id k code q ≡ same_row (take (key_width ours) q) j) each_one d.points h.typed))
     where
       k : Row
-      k = values_named (identifiers_of a) ids j
+      k = values_named (identifiers_of ours) left j
 
-      others : (q : Row) → values_in a ids q ≡ values_named (identifiers_of a) ids (take (key_width a) q)
-      others q = parts_named a ids q (among_within ids (identifiers_of a) (others_among id a h.well_formed))
+      others : (q : Row) → values_in ours left q ≡ values_named (identifiers_of ours) left (take (key_width ours) q)
+      others q = parts_named ours left q (among_within left (identifiers_of ours) (others_among id ours h.well_formed))
 
-      one : (q : Row) → value_named (columns_of a) q id ≡ value_named (identifiers_of a) (take (key_width a) q) id
-      one q = ap (λ xs. value_named xs q id) (columns_split a) ∙ named_front (identifiers_of a) (others_of a) q id (column_within (place_of id (identifiers_of a)) id (kind_named id (identifiers_of a)) (identifiers_of a) i.coded)
+      one : (q : Row) → value_named (columns_of ours) q id ≡ value_named (identifiers_of ours) (take (key_width ours) q) id
+      one q = ap (λ xs. value_named xs q id) (columns_split ours) ∙ named_front (identifiers_of ours) (others_of ours) q id within
 
-      there : (q : Row) → is_point (columns_of a) q ≡ true → is_coded a id k code q ≡ true → same_row (take (key_width a) q) j ≡ true
+      there : (q : Row) → is_point (columns_of ours) q ≡ true → is_coded ours id k code q ≡ true → same_row (take (key_width ours) q) j ≡ true
       there q w e =
-          let x = take (key_width a) q in
-          let parts = and_parts (same_row (values_in a ids q) k) (same_cell (value_named (columns_of a) q id) (c.Text code)) e in
-          let same_others : values_named (identifiers_of a) ids x ≡ k = sym (others q) ∙ same_row-is (values_in a ids q) k parts.0 in
-          let same_one : value_named (identifiers_of a) x id ≡ value_named (identifiers_of a) j id = sym (one q) ∙ same_cell-is (value_named (columns_of a) q id) (c.Text code) parts.1 ∙ sym has in
-          let all = alike_others id (identifiers_of a) x j (identifiers_of a) same_one (subst (λ ys. values_named (identifiers_of a) ys x ≡ values_named (identifiers_of a) ys j) (others_are id a.components) same_others) in
-          let same : x ≡ j = sym (whole_key a h.well_formed x (length-take-le (key_width a) q (key_within a q w))) ∙ alike_cells (identifiers_of a) x j (identifiers_of a) all ∙ whole_key a h.well_formed j len in
+          let x = take (key_width ours) q in
+          let parts = and_parts (same_row (values_in ours left q) k) (same_cell (value_named (columns_of ours) q id) (c.Text code)) e in
+          let same_others : values_named (identifiers_of ours) left x ≡ k = sym (others q) ∙ same_row-is (values_in ours left q) k parts.0 in
+          let same_one : value_named (identifiers_of ours) x id ≡ value_named (identifiers_of ours) j id = sym (one q) ∙ same_cell-is (value_named (columns_of ours) q id) (c.Text code) parts.1 ∙ sym has in
+          let all = alike_others id (identifiers_of ours) x j (identifiers_of ours) same_one (subst (λ ys. values_named (identifiers_of ours) ys x ≡ values_named (identifiers_of ours) ys j) (others_are id ours.components) same_others) in
+          let same : x ≡ j = sym (whole_key ours h.well_formed x (length-take-le (key_width ours) q (key_within ours q w))) ∙ alike_cells (identifiers_of ours) x j (identifiers_of ours) all ∙ whole_key ours h.well_formed j len in
           ap (same_row x) (sym same) ∙ same_row-refl x
 
-      back : (q : Row) → same_row (take (key_width a) q) j ≡ true → is_coded a id k code q ≡ true
+      back : (q : Row) → same_row (take (key_width ours) q) j ≡ true → is_coded ours id k code q ≡ true
       back q e =
-          let same = same_row-is (take (key_width a) q) j e in
-          let same_others : values_in a ids q ≡ k = others q ∙ ap (values_named (identifiers_of a) ids) same in
-          let same_one : value_named (columns_of a) q id ≡ c.Text code = one q ∙ ap (λ z. value_named (identifiers_of a) z id) same ∙ has in
-          ap (λ z. same_row z k && same_cell (value_named (columns_of a) q id) (c.Text code)) same_others ∙ ap (λ b. b && same_cell (value_named (columns_of a) q id) (c.Text code)) (same_row-refl k)
+          let same = same_row-is (take (key_width ours) q) j e in
+          let same_others : values_in ours left q ≡ k = others q ∙ ap (values_named (identifiers_of ours) left) same in
+          let same_one : value_named (columns_of ours) q id ≡ c.Text code = one q ∙ ap (λ z. value_named (identifiers_of ours) z id) same ∙ has in
+          ap (λ z. same_row z k && same_cell (value_named (columns_of ours) q id) (c.Text code)) same_others ∙ ap (λ b. b && same_cell (value_named (columns_of ours) q id) (c.Text code)) (same_row-refl k)
           ∙ ap (λ v. same_cell v (c.Text code)) same_one ∙ same_cell-refl (c.Text code)
 
-      each_one : (q : Row) → is_point (columns_of a) q ≡ true → is_coded a id k code q ≡ same_row (take (key_width a) q) j
-      each_one q w = same_truth (is_coded a id k code q) (same_row (take (key_width a) q) j) (there q w) (back q)
+      each_one : (q : Row) → is_point (columns_of ours) q ≡ true → is_coded ours id k code q ≡ same_row (take (key_width ours) q) j
+      each_one q w = same_truth (is_coded ours id k code q) (same_row (take (key_width ours) q) j) (there q w) (back q)
 
 -- ---- `unpivot`: many points from each
 or_none : {X : Type 0} (o : Option X) → option_or o None ≡ o
@@ -178,7 +186,7 @@ module _ (id m : List ℕ) (a s : Structure) (i : IsUnpivoted id m a s) (w : IsS
   measures_apart : all_apart same_name (names_of (measures_of a)) ≡ true
   measures_apart =
       let p : Component → Bool = λ x. same_role x.role role.Measure in
-      apart_map same_name (λ x. x.name) (measures_of a) ∙ all_apart-filter (λ x y. same_name x.name y.name) p a.components (sym (apart_map same_name (λ x. x.name) a.components) ∙ w.distinct)
+      apart_map (λ x. x.name) same_name (measures_of a) ∙ all_apart-filter (λ x y. same_name x.name y.name) p a.components (sym (apart_map (λ x. x.name) same_name a.components) ∙ w.distinct)
 
   row_look : (r : Row) (name : List ℕ) → is_point (columns_of a) r ≡ true → is_among name (names_of (measures_of a)) ≡ true → look (key_width s) (unpivoted_points a r) (key_at r name) ≡ there r name
   row_look r name h e = ap (λ l. look (key_width s) l (key_at r name)) (here_is id m a s i w r) ∙ here_look r name (measures_of a) (all_here id m a s i w r h) measures_apart e
@@ -209,7 +217,7 @@ module _ (id m : List ℕ) (a s : Structure) (i : IsUnpivoted id m a s) (w : IsS
   abbrev IsOfMeasure : Row → Type 0
   IsOfMeasure q = (k : Row) × (name : List ℕ) × (is_among name (names_of (measures_of a)) ≡ true) × (take (key_width s) q ≡ k ++ c.Text name ∷ [])
 
-  measure_names : AllByRecursion (λ x. is_among x.name (names_of (measures_of a)) ≡ true) (measures_of a)
+  pub measure_names : AllByRecursion (λ x. is_among x.name (names_of (measures_of a)) ≡ true) (measures_of a)
   measure_names =
       all_more (λ x. IsColumnAt (place_of x.name (measures_of a)) x.name x.kind (measures_of a)) (λ x. is_among x.name (names_of (measures_of a)) ≡ true)
       (λ x h. any_map (λ n. same_name n x.name) (λ y. y.name) (measures_of a) ∙ column_any (place_of x.name (measures_of a)) x.name x.kind (measures_of a) h) (measures_of a) (own_among (measures_of a) measures_apart)
