@@ -1,17 +1,25 @@
 -- What an expression evaluates to, from what its operands do.
-use Rattle.std.proofs.Common.{◌≡◌, List, Result, Ok, Err, sym, ap, ◌∙◌}
+use Rattle.std.proofs.Common.{◌≡◌, suc, Bor, List, [], ◌∷◌, ◌++◌, length, map, Result, Ok, Err, refl, sym, ap, subst, append_assoc, ◌∙◌}
+use Rattle.std.proofs.lemmas.List.{append-nil, length-map}
 use Rattle.vtl_cell.specs.Settings.{Settings}
-use Rattle.vtl_cell.specs.Outcome.{DivZero, Fault, Outcome, Range}
+use Rattle.vtl_cell.specs.Outcome.{DivZero, Fault, Outcome, Range, after}
 use Rattle.vtl_cell.specs.Row.{Row}
 use Rattle.vtl_scalar.specs.Answers.{AnswersBy}
 use Rattle.vtl_scalar.specs.declared.error.ScalarErr.{ScalarErr}
 use Rattle.vtl_scalar.specs.declared.error.ScalarErr.TheVariants as err
 use Rattle.vtl_tree.specs.Environment.{DataSet, Environment}
 use Rattle.vtl_tree.specs.declared.structure.Structure.{Structure}
-use Rattle.vtl_nodes.specs.Trees.{NodeTree, structure_of}
+use Rattle.vtl_nodes.specs.Trees as nodes
+use Rattle.vtl_nodes.specs.Trees.{NodeTree, NodeTrees, OperandTree, OperandTrees, operands_of, structure_of}
+use Rattle.check_joins.specs.Joins as joins
+use Rattle.check_joins.specs.declared.joins.Operand.{Operand}
 use Rattle.vtl_sets.specs.DataSets.{data_set, with_structure}
-use Rattle.vtl_meaning.specs.Meaning.{node_value, with_operand}
+use Rattle.vtl_meaning.specs.Joined.{structures_of}
+use Rattle.vtl_meaning.specs.Made.{node_structures, operands_in}
+use Rattle.vtl_meaning.specs.Meaning.{node_value, nodes_value, operands_value, with_first, with_operand}
 use Rattle.vtl_meaning.specs.Points.{with_points}
+use Rattle.vtl_join.specs.Joining.{sets_of, structures_in}
+use Rattle.vtl_join.specs.declared.joined.Operand as join
 use Rattle.vtl_interp.specs.Evaluated.{Evaluates, Gives}
 
 -- a function of a structure and a data set at others that are the same
@@ -50,3 +58,73 @@ stops view other p env a n err.OutOfMemory g h = tt
 -- what follows an operand that is evaluated
 pub then : (p : Settings) (env : Environment) (a : NodeTree) (d : DataSet) (f : DataSet → Outcome (List Row)) → Gives p env a d → with_operand a (node_value p env a) f ≡ f d
 then p env a d f g = ap (λ m. with_operand a m f) g.points ∙ ap (λ s. f (with_points s d.points)) (sym g.structure)
+
+-- ---- several operands, by what is given so far and what the rest gives
+pub none_given : (all : Outcome (List DataSet)) → all ≡ after all (λ ds. Ok ([] ++ ds))
+none_given (Ok ds) = refl
+none_given (Err f) = refl
+
+pub one_given : (p : Settings) (env : Environment) (n : NodeTree) (d : DataSet) (all rest : Outcome (List DataSet)) (done : List DataSet) → Gives p env n d
+    → all ≡ after (with_first n (node_value p env n) rest) (λ ds. Ok (done ++ ds)) → all ≡ after rest (λ ds. Ok ((done ++ d ∷ []) ++ ds))
+one_given p env n d all rest done g e =
+    e
+    ∙ ap (λ (m : Outcome (List Row)). after (with_first n m rest) (λ ds. Ok (done ++ ds))) g.points
+    ∙ ap (λ (s : Structure). after (after rest (λ ds. Ok (with_points s d.points ∷ ds))) (λ ds. Ok (done ++ ds))) (sym g.structure)
+    ∙ go rest
+  where
+    go : (rest : Outcome (List DataSet)) → after (after rest (λ ds. Ok (d ∷ ds))) (λ ds. Ok (done ++ ds)) ≡ after rest (λ ds. Ok ((done ++ d ∷ []) ++ ds))
+    go (Ok ds) = ap Ok (sym (append_assoc done (d ∷ []) ds))
+    go (Err f) = refl
+
+pub all_given : (all : Outcome (List DataSet)) (done : List DataSet) → all ≡ after (Ok []) (λ ds. Ok (done ++ ds)) → all ≡ Ok done
+all_given all done e = e ∙ ap Ok (append-nil done)
+
+-- one of them has the fault
+pub one_stops : {A B : Type 0} (view : A → DataSet) (views : B → List DataSet) (p : Settings) (env : Environment) (n : NodeTree) (all rest : Outcome (List DataSet)) (done : List DataSet) (e : ScalarErr)
+    → Evaluates view p env n (Err e) → all ≡ after (with_first n (node_value p env n) rest) (λ ds. Ok (done ++ ds)) → AnswersBy views (Err e) all
+one_stops view views p env n all rest done err.DivZero h e = e ∙ ap (λ (m : Outcome (List Row)). after (with_first n m rest) (λ ds. Ok (done ++ ds))) h
+one_stops view views p env n all rest done err.Range h e = e ∙ ap (λ (m : Outcome (List Row)). after (with_first n m rest) (λ ds. Ok (done ++ ds))) h
+one_stops view views p env n all rest done err.OutOfMemory h e = tt
+
+-- ---- the structures of what several operands give
+first_structure : (n : NodeTree) (m : Outcome (List Row)) (rest : Outcome (List DataSet)) (ss : List Structure) (ds : List DataSet) → ((es : List DataSet) → rest ≡ Ok es → structures_of es ≡ ss) → with_first n m rest ≡ Ok ds → structures_of ds ≡ structure_of n ∷ ss
+first_structure n (Ok points) (Ok es) ss ds ih e =
+    let same : with_points (structure_of n) points ∷ es ≡ ds = cc in
+    subst (λ (xs : List DataSet). structures_of xs ≡ structure_of n ∷ ss) same (ap (λ (xs : List Structure). structure_of n ∷ xs) (ih es refl))
+first_structure n (Ok points) (Err f) ss ds ih e = cc
+first_structure n (Err f) rest ss ds ih e = cc
+
+no_structures : (m : Outcome (List DataSet)) (ds : List DataSet) → m ≡ Ok [] → m ≡ Ok ds → structures_of ds ≡ []
+no_structures m ds none e = let same : [] ≡ ds = cc in subst (λ (xs : List DataSet). structures_of xs ≡ []) same refl
+
+pub nodes_structures : (p : Settings) (env : Environment) (ns : NodeTrees) (ds : List DataSet) → nodes_value p env ns ≡ Ok ds → structures_of ds ≡ node_structures ns
+nodes_structures p env nodes.no_nodes ds e = no_structures (nodes_value p env nodes.no_nodes) ds refl e
+nodes_structures p env (nodes.and_node n ns) ds e = first_structure n (node_value p env n) (nodes_value p env ns) (node_structures ns) ds (nodes_structures p env ns) e
+
+pub operands_structures : (p : Settings) (env : Environment) (os : OperandTrees) (ds : List DataSet) → operands_value p env os ≡ Ok ds → structures_of ds ≡ joins.structures_of (operands_in os)
+operands_structures p env nodes.no_operands ds e = no_structures (operands_value p env nodes.no_operands) ds refl e
+operands_structures p env (nodes.operand n alias os) ds e = first_structure n (node_value p env n) (operands_value p env os) (joins.structures_of (operands_in os)) ds (operands_structures p env os) e
+
+-- as many as there are operands
+operands_many : (os : List OperandTree) → length (operands_in (operands_of os)) ≡ length os
+operands_many [] = refl
+operands_many (o ∷ os) = ap suc (operands_many os)
+
+pub operands_named : (p : Settings) (env : Environment) (os : List OperandTree) (ds : List DataSet) → operands_value p env (operands_of os) ≡ Ok ds → length ds ≡ length os
+operands_named p env os ds e =
+    sym (length-map ds (λ (d : DataSet). d.structure))
+    ∙ ap length (operands_structures p env (operands_of os) ds e)
+    ∙ length-map (operands_in (operands_of os)) (λ (o : Operand). o.structure)
+    ∙ operands_many os
+
+-- ---- data sets that are lent
+pub lent_structures : (xs : List (Bor DataSet)) (ds : List DataSet) → map (λ d. d.now) xs ≡ ds → map (λ d. d.now.structure) xs ≡ structures_of ds
+lent_structures xs ds e = go xs ∙ ap structures_of e
+  where
+    go : (xs : List (Bor DataSet)) → map (λ d. d.now.structure) xs ≡ structures_of (map (λ d. d.now) xs)
+    go [] = refl
+    go (x ∷ xs) = ap (λ (ss : List Structure). x.now.structure ∷ ss) (go xs)
+
+pub operand_structures : (os : List join.Operand) → structures_in os ≡ structures_of (sets_of os)
+operand_structures [] = refl
+operand_structures (o ∷ os) = ap (λ (ss : List Structure). o.set.structure ∷ ss) (operand_structures os)

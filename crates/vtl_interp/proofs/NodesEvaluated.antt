@@ -1,6 +1,6 @@
 -- What nodes of the program evaluate to.
 use Rattle.std.proofs.Common.{◌≡◌, ℕ, List, [], map, Option, Some, None, Result, Ok, rules, sym, ap, subst, ◌∙◌}
-use Rattle.std.specs.Prelude.{Box, option_map}
+use Rattle.std.specs.Prelude.{Box, Vec, option_map}
 use Rattle.std.specs.declared.alloc.Global.{Global}
 use Rattle.std.specs.Option.{option_map_or}
 use Rattle.std.specs.Map.{lookup}
@@ -15,22 +15,26 @@ use Rattle.vtl_tree.specs.Environment.{DataSet, Environment, data_of}
 use Rattle.vtl_tree.specs.Structure.{same_name}
 use Rattle.vtl_tree.specs.declared.structure.Structure.{Structure}
 use Rattle.vtl_nodes.specs.Trees as nodes
-use Rattle.vtl_nodes.specs.Trees.{FormTree, NodeTree, structure_of}
-use Rattle.vtl_nodes.specs.View.{form_tree, item_tree, measure_tree, node_tree}
+use Rattle.vtl_nodes.specs.Trees.{FormTree, NodeTree, nodes_of, operands_of, structure_of}
+use Rattle.vtl_nodes.specs.View.{form_tree, item_tree, measure_tree, node_tree, operand_tree}
 use Rattle.vtl_nodes.specs.declared.clauses.CalcItem.{CalcItem}
 use Rattle.vtl_nodes.specs.declared.clauses.SubItem.{SubItem}
+use Rattle.vtl_nodes.specs.declared.nodes.JoinOperand.{JoinOperand}
 use Rattle.vtl_nodes.specs.declared.nodes.MeasureOp.{MeasureOp}
 use Rattle.vtl_nodes.specs.declared.nodes.Node as node
 use Rattle.vtl_nodes.specs.declared.nodes.Node.{Node}
 use Rattle.vtl_nodes.specs.declared.nodes.NodeForm.{NodeForm}
 use Rattle.vtl_nodes.specs.declared.nodes.NodeForm.TheVariants as form
 use Rattle.vtl_nodes.specs.declared.nodes.NodeForm as forms
+use Rattle.vtl_nodes.specs.declared.specifications.JoinSpec.{JoinSpec}
+use Rattle.vtl_syntax.specs.declared.word_groups.Retain.{Retain}
 use Rattle.vtl_sets.specs.DataSets.{with_structure}
-use Rattle.vtl_meaning.specs.Made.{IsChoice, IsMade, IsMeasured}
-use Rattle.vtl_meaning.specs.Meaning.{form_value, known_in, node_value, with_operand}
+use Rattle.vtl_meaning.specs.Joined.{structures_of}
+use Rattle.vtl_meaning.specs.Made.{AreCombined, IsChoice, IsJoined, IsMade, IsMadeForm, IsMeasured, node_structures}
+use Rattle.vtl_meaning.specs.Meaning.{form_value, known_in, node_value, nodes_value, operands_value, with_operand}
 use Rattle.vtl_interp.specs.Evaluated.{Evaluates, Gives}
 use Rattle.vtl_interp.proofs.Environments.{data_looked, known_looked}
-use Rattle.vtl_interp.proofs.Evaluates.{applied, then}
+use Rattle.vtl_interp.proofs.Evaluates.{applied, nodes_structures, operands_structures, then}
 
 -- the tree of a node, and of each form that is evaluated
 node_tree-is : (n : Node) → node_tree n ≡ nodes.node n.structure (form_tree n.form)
@@ -63,6 +67,30 @@ form_tree-DropNamed a names = search (rules, forms.the_lemmas)
 pub form_tree-Sub : (a : Box Node Global) (values : List SubItem) → form_tree (form.Sub a values) ≡ nodes.sub (node_tree a.value) values
 form_tree-Sub a values = search (rules, forms.the_lemmas)
 
+pub form_tree-Pivot : (a : Box Node Global) (id m : Txt) → form_tree (form.Pivot a id m) ≡ nodes.pivot (node_tree a.value) id m
+form_tree-Pivot a id m = search (rules, forms.the_lemmas)
+
+pub form_tree-Unpivot : (a : Box Node Global) (id m : Txt) → form_tree (form.Unpivot a id m) ≡ nodes.unpivot (node_tree a.value) id m
+form_tree-Unpivot a id m = search (rules, forms.the_lemmas)
+
+pub form_tree-Join : (os : Vec JoinOperand Global) (spec : JoinSpec) → form_tree (form.Join os spec) ≡ nodes.join (operands_of (map operand_tree os.items)) spec
+form_tree-Join os spec = search (rules, forms.the_lemmas)
+
+pub form_tree-Union : (ns : Vec Node Global) → form_tree (form.Union ns) ≡ nodes.union (nodes_of (map node_tree ns.items))
+form_tree-Union ns = search (rules, forms.the_lemmas)
+
+pub form_tree-Intersect : (ns : Vec Node Global) → form_tree (form.Intersect ns) ≡ nodes.intersect (nodes_of (map node_tree ns.items))
+form_tree-Intersect ns = search (rules, forms.the_lemmas)
+
+pub form_tree-SetDiff : (a b : Box Node Global) → form_tree (form.SetDiff a b) ≡ nodes.set_diff (node_tree a.value) (node_tree b.value)
+form_tree-SetDiff a b = search (rules, forms.the_lemmas)
+
+pub form_tree-SymDiff : (a b : Box Node Global) → form_tree (form.SymDiff a b) ≡ nodes.sym_diff (node_tree a.value) (node_tree b.value)
+form_tree-SymDiff a b = search (rules, forms.the_lemmas)
+
+pub form_tree-ExistsIn : (a b : Box Node Global) (r : Retain) → form_tree (form.ExistsIn a b r) ≡ nodes.exists_in (node_tree a.value) (node_tree b.value) r
+form_tree-ExistsIn a b r = search (rules, forms.the_lemmas)
+
 -- the tree of a node of this form
 tree_with : (n : Node) (f : NodeForm) (t : FormTree) → n.form ≡ f → form_tree f ≡ t → node_tree n ≡ nodes.node n.structure t
 tree_with n f t e d = node_tree-is n ∙ ap (λ (g : NodeForm). nodes.node n.structure (form_tree g)) e ∙ ap (nodes.node n.structure) d
@@ -79,6 +107,28 @@ choose_fits p env n c a b t d o e made gt gd go =
     (subst (λ (s : Structure). IsChoice (structure_of (node_tree c.value)) s o.structure n.structure) (sym gd.structure)
     (subst (λ (s : Structure). IsChoice (structure_of (node_tree c.value)) (structure_of (node_tree a.value)) s n.structure) (sym go.structure)
     (subst (IsMade p (known_in env)) (tree_with n (form.Choose c a b) (nodes.choose (node_tree c.value) (node_tree a.value) (node_tree b.value)) e (form_tree-Choose c a b)) made).1.3))
+
+made_form : (p : Settings) (env : Environment) (n : Node) (f : NodeForm) (t : FormTree) → n.form ≡ f → form_tree f ≡ t → IsMade p (known_in env) (node_tree n) → IsMadeForm p (known_in env) n.structure t
+made_form p env n f t e tree made = (subst (IsMade p (known_in env)) (tree_with n f t e tree) made).1
+
+pub two_fit : (Fits : Structure → Structure → Structure → Type 0) (p : Settings) (env : Environment) (n : Node) (f : NodeForm) (t : FormTree) (a b : NodeTree) (d e : DataSet)
+    → n.form ≡ f → form_tree f ≡ t → (IsMadeForm p (known_in env) n.structure t → Fits (structure_of a) (structure_of b) n.structure) → IsMade p (known_in env) (node_tree n) → Gives p env a d → Gives p env b e
+    → Fits d.structure e.structure n.structure
+two_fit Fits p env n f t a b d e is tree fits made g k =
+    subst (λ (s : Structure). Fits s e.structure n.structure) (sym g.structure)
+    (subst (λ (s : Structure). Fits (structure_of a) s n.structure) (sym k.structure) (fits (made_form p env n f t is tree made)))
+
+pub several_fit : (p : Settings) (env : Environment) (n : Node) (f : NodeForm) (ns : List Node) (ds : List DataSet) (t : FormTree)
+    → n.form ≡ f → form_tree f ≡ t → (IsMadeForm p (known_in env) n.structure t → AreCombined (node_structures (nodes_of (map node_tree ns))) n.structure) → IsMade p (known_in env) (node_tree n) → nodes_value p env (nodes_of (map node_tree ns)) ≡ Ok ds
+    → AreCombined (structures_of ds) n.structure
+several_fit p env n f ns ds t is tree fits made g =
+    subst (λ (ss : List Structure). AreCombined ss n.structure) (sym (nodes_structures p env (nodes_of (map node_tree ns)) ds g)) (fits (made_form p env n f t is tree made))
+
+pub join_fits : (p : Settings) (env : Environment) (n : Node) (os : Vec JoinOperand Global) (spec : JoinSpec) (ds : List DataSet)
+    → n.form ≡ form.Join os spec → IsMade p (known_in env) (node_tree n) → operands_value p env (operands_of (map operand_tree os.items)) ≡ Ok ds → IsJoined spec.kind (structures_of ds) n.structure
+join_fits p env n os spec ds is made g =
+    let trees = operands_of (map operand_tree os.items) in
+    subst (λ (ss : List Structure). IsJoined spec.kind ss n.structure) (sym (operands_structures p env trees ds g)) (made_form p env n (form.Join os spec) (nodes.join trees spec) is (form_tree-Join os spec) made).1
 
 -- an operator on one operand
 pub one_operand : {A : Type 0} (view : A → DataSet) (p : Settings) (env : Environment) (n : Node) (f : NodeForm) (t : FormTree) (a : NodeTree) (d : DataSet) (op : DataSet → Outcome (List Row)) (r : Result A ScalarErr)

@@ -1,0 +1,169 @@
+// The operators that combine data sets, joins among them, and those that turn values into measures and back.
+ghost use Rattle.std.specs.Prelude.{◌≡◌, ◌<◌, ◌∷◌, [], IfOk, Ok, length, map};
+ghost use Rattle.std.specs.Option.{IfSome};
+ghost use Rattle.vtl_scalar.specs.Answers.{AnswersBy};
+ghost use Rattle.vtl_sets.specs.DataSets.{data_set};
+ghost use Rattle.vtl_meaning.specs.Joined.{join_of, structures_of};
+ghost use Rattle.vtl_meaning.specs.Made.{AreCombined, IsCombined, IsExistence, IsJoined, IsPivoted, IsUnpivoted};
+ghost use Rattle.vtl_meaning.specs.Sets.{difference_of, existence_of, intersection_of, symmetric_difference_of, union_of};
+ghost use Rattle.vtl_meaning.specs.Turned.{pivot_of, unpivot_of};
+ghost use Rattle.vtl_join.specs.Joining.{sets_of};
+ghost use Rattle.vtl_interp.specs.Values.{value_view};
+
+use crate::value::Value;
+use std::alloc::{AllocError, Global};
+use vtl_cell::Txt;
+use vtl_join::Joined;
+use vtl_nodes::JoinOperand;
+use vtl_scalar::ScalarErr;
+use vtl_sets::DataSet;
+use vtl_syntax::{JoinKind, Retain};
+use vtl_tree::{Structure, share_structure};
+
+// The data sets, lent.
+fn lent<'v, 'a>(alloc: Global, values: &'v [Value<'a>]) -> Result<Vec<&'v DataSet>, AllocError>
+    ensures { IfOk result (λ v. map (λ d. d.now) v.items ≡ map value_view values.now) }
+{
+    let mut sets = Vec::with_capacity(alloc, values.len())?;
+    for value in values {
+        sets.push(value.data())?;
+    }
+    Ok(sets)
+}
+
+// The operands of a join, one joined after the other, each under its alias.
+fn joined<'a>(
+    alloc: Global,
+    kind: JoinKind,
+    values: &[Value<'a>],
+    operands: &[JoinOperand],
+) -> Result<Joined, AllocError>
+    requires some { 0 < length values.now }
+    requires named { length values.now ≡ length operands.now }
+    ensures kind { IfOk result (λ j. IfSome j.kind (λ before. before ≡ kind)) }
+    ensures operands { IfOk result (λ j. sets_of j.operands ≡ map value_view values.now) }
+{
+    let mut joined = vtl_join::open(alloc, values[0].data(), &operands[0].alias)?;
+    for i in 1..values.len() {
+        joined = vtl_join::step(alloc, kind, joined, values[i].data(), &operands[i].alias)?;
+    }
+    Ok(joined)
+}
+
+/// A join of operands, each under its alias.
+pub fn join<'a>(
+    alloc: Global,
+    kind: JoinKind,
+    values: &[Value<'a>],
+    operands: &[JoinOperand],
+    made: &Structure,
+) -> Result<Value<'a>, ScalarErr>
+    requires named { length values.now ≡ length operands.now }
+    requires joined { IsJoined kind (structures_of (map value_view values.now)) made.now }
+    ensures { AnswersBy value_view result (Ok (data_set made.now (join_of kind (map value_view values.now)))) }
+{
+    let made = share_structure(alloc, made)?;
+    let joined = joined(alloc, kind, values, operands)?;
+    Ok(Value::Made(vtl_join::close(alloc, joined, kind, made)?))
+}
+
+/// `union`
+pub fn union<'a>(
+    alloc: Global,
+    values: &[Value<'a>],
+    made: &Structure,
+) -> Result<Value<'a>, ScalarErr>
+    requires { AreCombined (structures_of (map value_view values.now)) made.now }
+    ensures { AnswersBy value_view result (Ok (data_set made.now (union_of (map value_view values.now) made.now))) }
+{
+    let made = share_structure(alloc, made)?;
+    let sets = lent(alloc, values)?;
+    Ok(Value::Made(vtl_combine::union_all(alloc, &sets, made)?))
+}
+
+/// `intersect`
+pub fn intersect<'a>(
+    alloc: Global,
+    values: &[Value<'a>],
+    made: &Structure,
+) -> Result<Value<'a>, ScalarErr>
+    requires { AreCombined (structures_of (map value_view values.now)) made.now }
+    ensures { AnswersBy value_view result (Ok (data_set made.now (intersection_of (map value_view values.now) made.now))) }
+{
+    let made = share_structure(alloc, made)?;
+    let sets = lent(alloc, values)?;
+    Ok(Value::Made(vtl_combine::intersect_all(alloc, &sets, made)?))
+}
+
+/// `setdiff`
+pub fn set_diff<'a>(
+    alloc: Global,
+    a: Value<'a>,
+    b: Value<'a>,
+    made: &Structure,
+) -> Result<Value<'a>, ScalarErr>
+    requires { IsCombined (value_view a).structure ((value_view b).structure ∷ []) made.now }
+    ensures { AnswersBy value_view result (Ok (data_set made.now (difference_of (value_view a.entry) (value_view b.entry) made.now))) }
+{
+    let made = share_structure(alloc, made)?;
+    Ok(Value::Made(vtl_combine::setdiff(alloc, a.data(), b.data(), made)?))
+}
+
+/// `symdiff`
+pub fn sym_diff<'a>(
+    alloc: Global,
+    a: Value<'a>,
+    b: Value<'a>,
+    made: &Structure,
+) -> Result<Value<'a>, ScalarErr>
+    requires { IsCombined (value_view a).structure ((value_view b).structure ∷ []) made.now }
+    ensures { AnswersBy value_view result (Ok (data_set made.now (symmetric_difference_of (value_view a.entry) (value_view b.entry) made.now))) }
+{
+    let made = share_structure(alloc, made)?;
+    Ok(Value::Made(vtl_combine::symdiff(alloc, a.data(), b.data(), made)?))
+}
+
+/// `exists_in`
+pub fn exists_in<'a>(
+    alloc: Global,
+    a: Value<'a>,
+    b: Value<'a>,
+    retain: Retain,
+    made: &Structure,
+) -> Result<Value<'a>, ScalarErr>
+    requires { IsExistence (value_view a).structure (value_view b).structure made.now }
+    ensures { AnswersBy value_view result (Ok (data_set made.now (existence_of (value_view a.entry) (value_view b.entry) retain))) }
+{
+    let made = share_structure(alloc, made)?;
+    Ok(Value::Made(vtl_combine::exists_in(alloc, a.data(), b.data(), retain, made)?))
+}
+
+/// `pivot`
+pub fn pivot<'a>(
+    alloc: Global,
+    a: Value<'a>,
+    id: &Txt,
+    m: &Txt,
+    made: &Structure,
+) -> Result<Value<'a>, ScalarErr>
+    requires { IsPivoted id.now m.now (value_view a).structure made.now }
+    ensures { AnswersBy value_view result (Ok (data_set made.now (pivot_of (value_view a.entry) id.now m.now))) }
+{
+    let made = share_structure(alloc, made)?;
+    Ok(Value::Made(vtl_combine::pivot(alloc, a.data(), id, m, made)?))
+}
+
+/// `unpivot`
+pub fn unpivot<'a>(
+    alloc: Global,
+    a: Value<'a>,
+    id: &Txt,
+    m: &Txt,
+    made: &Structure,
+) -> Result<Value<'a>, ScalarErr>
+    requires { IsUnpivoted id.now m.now (value_view a).structure made.now }
+    ensures { AnswersBy value_view result (Ok (data_set made.now (unpivot_of (value_view a.entry)))) }
+{
+    let made = share_structure(alloc, made)?;
+    Ok(Value::Made(vtl_combine::unpivot(alloc, a.data(), id, m, made)?))
+}
