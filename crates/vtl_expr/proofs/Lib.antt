@@ -1,3 +1,8 @@
+pub use Rattle.vtl_meaning.proofs.Kept
+pub use Rattle.vtl_meaning.proofs.LookUps
+pub use Rattle.vtl_meaning.proofs.Places
+pub use Rattle.vtl_meaning.proofs.SetsKept
+pub use Rattle.vtl_meaning.proofs.TurnedKept
 pub mod ChoiceLemmas
 pub mod ColumnLemmas
 pub mod FindingLemmas

@@ -1,3 +1,16 @@
+pub use Rattle.vtl_meaning.specs.Agreement
+pub use Rattle.vtl_meaning.specs.Columns
+pub use Rattle.vtl_meaning.specs.Joined
+pub use Rattle.vtl_meaning.specs.LookUps
+pub use Rattle.vtl_meaning.specs.Made
+pub use Rattle.vtl_meaning.specs.Meaning
+pub use Rattle.vtl_meaning.specs.Operators
+pub use Rattle.vtl_meaning.specs.Points
+pub use Rattle.vtl_meaning.specs.Profiles
+pub use Rattle.vtl_meaning.specs.Sets
+pub use Rattle.vtl_meaning.specs.Turned
+pub use Rattle.vtl_meaning.specs.View
+pub use Rattle.vtl_meaning.specs.clauses
 pub mod Choices
 pub mod Given
 pub mod Partners

@@ -36,3 +36,4 @@ pub use places::{places_in, push_cells};
 pub use points::each_point;
 pub use prepared::{Prepared, prepare, prepare_all};
 pub use seen::Seen;
+pub use vtl_meaning::{CalcItem, CalcValue, SubItem};

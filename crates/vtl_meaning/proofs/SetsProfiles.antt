@@ -27,7 +27,8 @@ use Rattle.vtl_meaning.proofs.JoinProfiles.{front_holds, values_hold}
 use Rattle.vtl_meaning.proofs.Places.{all_append, all_map, all_more, each}
 use Rattle.vtl_meaning.proofs.Profiles.{IsRowOfProfile, cell_is, drawn_are, shown_are}
 use Rattle.vtl_meaning.proofs.SetsKept.{all_flat}
-use Rattle.vtl_meaning.proofs.TurnedKept.{filter_map_drawn, find_is}
+use Rattle.vtl_meaning.proofs.JoinParts.{found_is}
+use Rattle.vtl_meaning.proofs.TurnedKept.{filter_map_drawn}
 
 module _ (p : Settings) where
   abbrev pub AllOfProfile : List DataSet → Type 0
@@ -70,7 +71,7 @@ module _ (p : Settings) where
       where
         go : (o : Option Row) → find (is_coded d.structure id k code) d.points ≡ o → IsOfProfile p (option_map_or (λ r. value_named (columns_of d.structure) r m) o c.Null)
         go None e = tt
-        go (Some r) e = cell_is p (place_of m (columns_of d.structure)) r (find_is (IsRowOfProfile p) (is_coded d.structure id k code) d.points r h e)
+        go (Some r) e = cell_is p (place_of m (columns_of d.structure)) r (found_is (IsRowOfProfile p) (is_coded d.structure id k code) d.points r h e)
 
     pivoted_are : (k : Row) → IsRowOfProfile p k → IsRowOfProfile p (pivoted_point d id m k)
     pivoted_are k i = all_append (IsOfProfile p) k (map (coded_value d id m k) (codes_of id d.structure)) i (all_map (coded_value d id m k) (IsOfProfile p) (codes_of id d.structure) (each (λ code. IsOfProfile p (coded_value d id m k code)) (coded_is k) (codes_of id d.structure)))

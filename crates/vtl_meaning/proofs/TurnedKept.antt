@@ -30,6 +30,7 @@ use Rattle.vtl_meaning.specs.Made.{AreAmong, IsColumnAt, IsPivoted, IsUnpivoted}
 use Rattle.vtl_meaning.specs.Turned.{coded_value, codes_of, is_coded, named_point, other_identifiers, pivot_of, pivoted_point, unpivot_of, unpivoted_points}
 use Rattle.vtl_meaning.proofs.Drawn.{drawn_all, drawn_apart, map_drawn}
 use Rattle.vtl_meaning.proofs.JoinKept.{apart_append, apart_map, key_is, once_hold}
+use Rattle.vtl_meaning.proofs.JoinParts.{found_is}
 use Rattle.vtl_meaning.proofs.Kept.{both_all}
 use Rattle.vtl_meaning.proofs.OwnColumns.{own_identifiers, own_measures}
 use Rattle.vtl_meaning.proofs.Places.{IsIdentifier, all_append, all_map, all_more, are_identifiers, are_others, columns_split, each, joined_point_is, key_of_joined, key_of_point, point_append, point_of_identifiers, same_name-refl}
@@ -59,15 +60,6 @@ others_identify id a = subst (AllByRecursion IsIdentifier) (sym (others_are id a
 pub other_key_is : (id : List ℕ) (a : Structure) (r : Row) → IsStructure a → is_point (columns_of a) r ≡ true → is_point (other_identifiers id a) (values_in a (other_identifiers id a) r) ≡ true
 other_key_is id a r w h = key_is (other_identifiers id a) a r (others_identify id a) (others_among id a w) h
 
--- what is found is one of them
-pub find_is : {X : Type 0} (P : X → Type 0) (p : X → Bool) (xs : List X) (x : X) → AllByRecursion P xs → find p xs ≡ Some x → P x
-find_is P p [] x all e = cc
-find_is P p (y ∷ xs) x all e = go (p y) e (find_is P p xs x all.1)
-  where
-    go : (b : Bool) → cond b (Some y) (find p xs) ≡ Some x → (find p xs ≡ Some x → P x) → P x
-    go true h ih = let same : y ≡ x = cc in subst P same all.0
-    go false h ih = ih h
-
 module _ (id m : List ℕ) (d : DataSet) (s : Structure) (i : IsPivoted id m d.structure s) (h : IsDataSet d.structure d.points) where
   abbrev a : Structure
   a = d.structure
@@ -79,7 +71,7 @@ module _ (id m : List ℕ) (d : DataSet) (s : Structure) (i : IsPivoted id m d.s
   values_fit : (k : Row) (codes : List (List ℕ)) → fits_kinds (map (λ code. kind_named m (columns_of a)) codes) (map (coded_value d id m k) codes) ≡ true
   values_fit k [] = refl
   values_fit k (code ∷ codes) =
-      let one : IsOf (kind_named m (columns_of a)) (coded_value d id m k code) = value_fits (find (is_coded a id k code) d.points) (λ r e. find_is (λ q. is_point (columns_of a) q ≡ true) (is_coded a id k code) d.points r h.typed e) in
+      let one : IsOf (kind_named m (columns_of a)) (coded_value d id m k code) = value_fits (find (is_coded a id k code) d.points) (λ r e. found_is (λ q. is_point (columns_of a) q ≡ true) (is_coded a id k code) d.points r h.typed e) in
       ap (λ b. b && fits_kinds (map (λ z. kind_named m (columns_of a)) codes) (map (coded_value d id m k) codes)) one ∙ values_fit k codes
 
   -- a point of the result with the key that it is made for

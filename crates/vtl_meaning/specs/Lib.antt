@@ -1,3 +1,10 @@
+pub use Rattle.vtl_nodes.specs.Nodes
+pub use Rattle.vtl_nodes.specs.Trees
+pub use Rattle.vtl_nodes.specs.View
+pub use Rattle.vtl_nodes.specs.declared.calls
+pub use Rattle.vtl_nodes.specs.declared.clauses
+pub use Rattle.vtl_nodes.specs.declared.nodes
+pub use Rattle.vtl_nodes.specs.declared.specifications
 pub mod Agreement
 pub mod Columns
 pub mod Faults
