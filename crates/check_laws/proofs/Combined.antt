@@ -62,18 +62,20 @@ combined-fits a bs ia ibs = tested-then Q (set_tests a bs) (λ u. shaped (ids ++
     other : (b : Structure) → Alike b → IsShaped b → IsAlternative result b result
     other b alike ib = let both = same-identifiers a b alike.0 in alternative b both.0 both.1 (same-measures a b ib alike.1)
 
+    alike : ArePassed (set_tests a bs) → AllByRecursion Alike bs
+    alike passed =
+        lists.both (λ b. agree compared.Kinds role.Identifier a.components b.components ≡ true) (λ b. agree compared.Kinds role.Measure a.components b.components ≡ true) bs
+        (lists.all_pass (λ b. agree compared.Kinds role.Identifier a.components b.components) bs (not-false (all_agree compared.Kinds role.Identifier a.components bs) passed.0))
+        (lists.all_pass (λ b. agree compared.Kinds role.Measure a.components b.components) bs (not-false (all_agree compared.Kinds role.Measure a.components bs) passed.1.0))
+
     fits : ArePassed (set_tests a bs) → IsShaped result → IsCombined a bs result
-    fits passed s =
-        let alike = lists.both (λ b. agree compared.Kinds role.Identifier a.components b.components ≡ true) (λ b. agree compared.Kinds role.Measure a.components b.components ≡ true) bs
-            (lists.all_pass (λ b. agree compared.Kinds role.Identifier a.components b.components) bs (not-false (all_agree compared.Kinds role.Identifier a.components bs) passed.0))
-            (lists.all_pass (λ b. agree compared.Kinds role.Measure a.components b.components) bs (not-false (all_agree compared.Kinds role.Measure a.components bs) passed.1.0)) in
-        record {
-          well_formed = s.well_formed;
-          identifiers = has-identifiers ids ms (identifiers_of a) are (agreed-names bs a.components) (agreed-kinds bs a.components);
-          operands = (alternative a (own-identifiers a ia) (own-identifiers a ia) (own-measures a ia), lists.joined Alike IsShaped (λ b. IsAlternative result b result) bs other alike ibs);
-          no_attributes = parts-columns ids ms are ∙ ap (λ l. l ++ ms) (sym (parts-identifiers ids ms are)) ∙ ap (λ l. identifiers_of result ++ l) (sym (parts-measures ids ms are));
-          shape = refl;
-        }
+    fits passed s = record {
+      well_formed = s.well_formed;
+      identifiers = has-identifiers ids ms (identifiers_of a) are (agreed-names bs a.components) (agreed-kinds bs a.components);
+      operands = (alternative a (own-identifiers a ia) (own-identifiers a ia) (own-measures a ia), lists.joined Alike IsShaped (λ b. IsAlternative result b result) bs other (alike passed) ibs);
+      no_attributes = parts-columns ids ms are ∙ ap (λ l. l ++ ms) (sym (parts-identifiers ids ms are)) ∙ ap (λ l. identifiers_of result ++ l) (sym (parts-measures ids ms are));
+      shape = refl;
+    }
 
 -- ---- `exists_in`
 -- a name among others is that of a component

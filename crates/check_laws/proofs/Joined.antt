@@ -82,15 +82,18 @@ each-goes : (P : Structure → Type 0) (test : Operand → Bool) (os : List Oper
     → (IsShaped r.structure → P r.structure) → ((o : Operand) → test o ≡ true → P o.structure) → AllByRecursion P (structures_of os)
 each-goes P test [] r are apart e go itself others = tt
 each-goes P test (o ∷ rest) r are apart e go itself others =
-    (
-      subst (λ x. P x.structure) (sym same) (itself (subst (λ x. IsShaped x.structure) same are.0)),
-      lists.mapped P (λ x. x.structure) rest (lists.joined (λ x. same_name o.alias x.alias ≡ false) (λ x. (same_name x.alias r.alias || test x) ≡ true) (λ x. P x.structure) rest
-      (λ x no yes. others x (ap (λ b. b || test x) (sym (ap (same_name x.alias) (ap (λ y. y.alias) (sym same)) ∙ same-symm x.alias o.alias ∙ no)) ∙ yes))
-      (lists.unmapped (λ alias. same_name o.alias alias ≡ false) (λ x. x.alias) rest (apart_parts same_name o.alias (aliases_of rest) apart).0) (lists.all_pass (λ x. same_name x.alias r.alias || test x) (o ∷ rest) go).1),
-    )
+    let aliases = lists.unmapped (λ alias. same_name o.alias alias ≡ false) (λ x. x.alias) rest (apart_parts same_name o.alias (aliases_of rest) apart).0 in
+    let tests = lists.all_pass (λ x. same_name x.alias r.alias || test x) (o ∷ rest) go in
+    (first, lists.mapped P (λ x. x.structure) rest (lists.joined (λ x. same_name o.alias x.alias ≡ false) (λ x. (same_name x.alias r.alias || test x) ≡ true) (λ x. P x.structure) rest other aliases tests.1))
   where
     same : o ≡ r
     same = cc
+
+    first : P o.structure
+    first = subst (λ x. P x.structure) (sym same) (itself (subst (λ x. IsShaped x.structure) same are.0))
+
+    other : (x : Operand) → same_name o.alias x.alias ≡ false → (same_name x.alias r.alias || test x) ≡ true → P x.structure
+    other x unlike goes = others x (ap (λ b. b || test x) (sym (ap (same_name x.alias) (ap (λ y. y.alias) (sym same)) ∙ same-symm x.alias o.alias ∙ unlike)) ∙ goes)
 
 module _ (listed : Option (List (List ℕ))) (os : List Operand) (r : Operand) (are : AllByRecursion (λ o. IsShaped o.structure) os) (apart : all_apart same_name (aliases_of os) ≡ true) where
   -- the operand's identifiers are among those of the reference, and in a full join those of the reference among the operand's too
