@@ -15,7 +15,7 @@ use Rattle.vtl_tree.specs.declared.structure.Component.{Component}
 use Rattle.vtl_tree.specs.declared.structure.Role.{Role}
 use Rattle.vtl_tree.specs.declared.structure.Role.TheVariants as role
 use Rattle.vtl_tree.specs.declared.structure.Structure.{Structure}
-use Rattle.vtl_nodes.specs.Trees.{ItemTree}
+use Rattle.vtl_meaning.specs.Trees.{ItemTree}
 use Rattle.check_shapes.specs.Choices.{is_identifier, is_identifier_name}
 use Rattle.check_shapes.specs.Clauses.{calc_form, calculated, is_new, retargeted, target_component}
 use Rattle.check_shapes.specs.Clauses as clauses

@@ -28,9 +28,9 @@ use Rattle.vtl_tree.specs.declared.structure.Component.{Component}
 use Rattle.vtl_tree.specs.declared.structure.Role.{Role}
 use Rattle.vtl_tree.specs.declared.structure.Role.TheVariants as role
 use Rattle.vtl_tree.specs.declared.structure.Structure.{Structure}
-use Rattle.vtl_nodes.specs.Trees as nodes
-use Rattle.vtl_nodes.specs.Trees.{FormTree, ItemTree, NodeTree, ValueTree, structure_of}
-use Rattle.vtl_nodes.specs.declared.clauses.SubItem.{SubItem}
+use Rattle.vtl_meaning.specs.Trees as nodes
+use Rattle.vtl_meaning.specs.Trees.{FormTree, ItemTree, NodeTree, ValueTree, structure_of}
+use Rattle.vtl_meaning.specs.clauses.SubItem.{SubItem}
 use Rattle.check_shapes.specs.Choices.{chosen, is_identifier_name}
 use Rattle.check_shapes.specs.Clauses.{aggr_form, calc_form, pivot_form, rename_form, target_tests, unpivot_form}
 use Rattle.check_shapes.specs.Names.{is_among, known}

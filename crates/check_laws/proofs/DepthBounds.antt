@@ -13,9 +13,9 @@ use Rattle.vtl_tree.specs.Structure.{columns_of, same_name}
 use Rattle.vtl_tree.specs.View.{comp_exps_of}
 use Rattle.vtl_tree.specs.declared.structure.Component.{Component}
 use Rattle.vtl_tree.specs.declared.structure.Structure.{Structure}
-use Rattle.vtl_nodes.specs.Nodes.{all_nodes, form_nodes, nodes_in}
-use Rattle.vtl_nodes.specs.Trees as nodes
-use Rattle.vtl_nodes.specs.Trees.{FormTree, ItemTree, MeasureTree, NodeTree, ValueTree}
+use Rattle.vtl_meaning.specs.Nodes.{all_nodes, form_nodes, nodes_in}
+use Rattle.vtl_meaning.specs.Trees as nodes
+use Rattle.vtl_meaning.specs.Trees.{FormTree, ItemTree, MeasureTree, NodeTree, ValueTree}
 use Rattle.check_shapes.specs.Pairs.{contains}
 use Rattle.check_operators.specs.Typed as typed
 use Rattle.check_operators.specs.Typed.{TypedTree, value, dataset}

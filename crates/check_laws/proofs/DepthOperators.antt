@@ -19,8 +19,8 @@ use Rattle.vtl_tree.specs.Structure.{same_name}
 use Rattle.vtl_tree.specs.View.{comp_exps_of}
 use Rattle.vtl_tree.specs.declared.structure.Component.{Component}
 use Rattle.vtl_tree.specs.declared.structure.Structure.{Structure}
-use Rattle.vtl_nodes.specs.Nodes.{nodes_in}
-use Rattle.vtl_nodes.specs.Trees.{NodeTree, choose, measures, named, pair, structure_of}
+use Rattle.vtl_meaning.specs.Nodes.{nodes_in}
+use Rattle.vtl_meaning.specs.Trees.{NodeTree, choose, measures, named, pair, structure_of}
 use Rattle.check_shapes.specs.Names.{is_among}
 use Rattle.check_values.specs.Calls.{call_form, call_kind, or_null}
 use Rattle.check_values.specs.Columns.{column_from, column_typed, name_of}

@@ -21,11 +21,11 @@ use Rattle.vtl_syntax.specs.declared.word_groups.SetOpName.{SetOpName}
 use Rattle.vtl_syntax.specs.declared.word_groups.SetOpName.TheVariants as set
 use Rattle.vtl_tree.specs.CompExp.{CompExp}
 use Rattle.vtl_tree.specs.declared.structure.Structure.{Structure}
-use Rattle.vtl_nodes.specs.Nodes.{maybe_nodes, nodes_in}
-use Rattle.vtl_nodes.specs.Trees as nodes
-use Rattle.vtl_nodes.specs.Trees.{NodeTree, maybe_node, nodes_of, structure_of}
-use Rattle.vtl_nodes.specs.declared.calls.Window.{Window}
-use Rattle.vtl_nodes.specs.declared.specifications.CheckSpec.{CheckSpec}
+use Rattle.vtl_meaning.specs.Nodes.{maybe_nodes, nodes_in}
+use Rattle.vtl_meaning.specs.Trees as nodes
+use Rattle.vtl_meaning.specs.Trees.{NodeTree, maybe_node, nodes_of, structure_of}
+use Rattle.vtl_meaning.specs.calls.Window.{Window}
+use Rattle.vtl_meaning.specs.specifications.CheckSpec.{CheckSpec}
 use Rattle.check_shapes.specs.Pairs as pairs
 use Rattle.check_values.specs.Columns.{name_of}
 use Rattle.check_values.specs.Groupings.{grouping_typed}

@@ -12,11 +12,11 @@ use Rattle.vtl_syntax.specs.declared.word_groups.AggregateName.{AggregateName}
 use Rattle.vtl_cell.specs.declared.kind.Kind.{Kind}
 use Rattle.vtl_tree.specs.CompExp.{CompExp}
 use Rattle.vtl_tree.specs.declared.structure.Component.{Component}
-use Rattle.vtl_nodes.specs.Trees as nodes
-use Rattle.vtl_nodes.specs.Trees.{NodeTree, ValueTree}
-use Rattle.vtl_nodes.specs.declared.calls.AnalyticOp.{AnalyticOp}
-use Rattle.vtl_nodes.specs.declared.calls.AnalyticOp.TheVariants as analytic
-use Rattle.vtl_nodes.specs.declared.calls.Window.{Window}
+use Rattle.vtl_meaning.specs.Trees as nodes
+use Rattle.vtl_meaning.specs.Trees.{NodeTree, ValueTree}
+use Rattle.vtl_meaning.specs.calls.AnalyticOp.{AnalyticOp}
+use Rattle.vtl_meaning.specs.calls.AnalyticOp.TheVariants as analytic
+use Rattle.vtl_meaning.specs.calls.Window.{Window}
 use Rattle.check_shapes.specs.Measures.{measured_form}
 use Rattle.check_shapes.specs.declared.choices.Choice.TheVariants as choice
 use Rattle.check_shapes.specs.declared.measures.Outcome.TheVariants as outcome

@@ -15,8 +15,8 @@ use Rattle.check_faults.specs.declared.rules.Rule.TheVariants as rule
 use Rattle.check_joins.specs.Joins as joins
 use Rattle.check_joins.specs.declared.joins.Operand.{Operand}
 use Rattle.check_shapes.specs.Names.{is_among}
-use Rattle.vtl_nodes.specs.Trees as nodes
-use Rattle.vtl_nodes.specs.Trees.{NodeTree, OperandTree, operands_of}
+use Rattle.vtl_meaning.specs.Trees as nodes
+use Rattle.vtl_meaning.specs.Trees.{NodeTree, OperandTree, operands_of}
 use Rattle.check_operators.specs.Places.{Env}
 use Rattle.check_operators.specs.Typed.{TypedTree, components_in, dataset_in}
 use Rattle.check_operators.specs.declared.places.Joined.{Joined}

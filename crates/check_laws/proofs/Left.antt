@@ -8,7 +8,7 @@ use Rattle.vtl_tree.specs.Structure.{columns_of, names_of, same_name}
 use Rattle.vtl_tree.specs.Structures.{structure_of}
 use Rattle.vtl_tree.specs.declared.structure.Component.{Component}
 use Rattle.vtl_tree.specs.declared.structure.Structure.{Structure}
-use Rattle.vtl_nodes.specs.declared.clauses.SubItem.{SubItem}
+use Rattle.vtl_meaning.specs.clauses.SubItem.{SubItem}
 use Rattle.check_shapes.specs.Choices.{choice_form, chosen, is_chosen, is_identifier}
 use Rattle.check_shapes.specs.Names.{all_known, component_of, is_among, known, known_as, name_tests, names_behind, serves}
 use Rattle.check_shapes.specs.Shape.{shaped}

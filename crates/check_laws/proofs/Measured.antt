@@ -16,7 +16,7 @@ use Rattle.vtl_tree.specs.View.{comp_exps_of}
 use Rattle.vtl_tree.specs.declared.structure.Component.{Component}
 use Rattle.vtl_tree.specs.declared.structure.Role.TheVariants as role
 use Rattle.vtl_tree.specs.declared.structure.Structure.{Structure}
-use Rattle.vtl_nodes.specs.Trees.{MeasureTree}
+use Rattle.vtl_meaning.specs.Trees.{MeasureTree}
 use Rattle.check_shapes.specs.Choices.{chosen, is_identifier}
 use Rattle.check_shapes.specs.Measures.{Gives as GivesKind, any_unmet, bool_var, given_measure, given_measures, is_measure, is_miscounted, is_unmet, measured_form, measured_tests, measures, namesake, paired}
 use Rattle.check_shapes.specs.Shape.{shaped}

@@ -22,7 +22,7 @@ use Rattle.vtl_tree.specs.Structure.{columns_of}
 use Rattle.vtl_tree.specs.View.{comp_exps_of}
 use Rattle.vtl_tree.specs.declared.structure.Component.{Component}
 use Rattle.vtl_tree.specs.declared.structure.Structure.{Structure}
-use Rattle.vtl_nodes.specs.Trees.{FormTree, NodeTree, choose, measures, pair, structure_of}
+use Rattle.vtl_meaning.specs.Trees.{FormTree, NodeTree, choose, measures, pair, structure_of}
 use Rattle.check_shapes.specs.Measures.{any_unmet, measured_form}
 use Rattle.check_shapes.specs.Pairs as pairs
 use Rattle.check_shapes.specs.declared.choices.Choice.TheVariants as choice

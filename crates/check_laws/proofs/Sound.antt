@@ -19,8 +19,8 @@ use Rattle.vtl_syntax.specs.declared.word_groups.BinaryOp.TheVariants as sign
 use Rattle.vtl_syntax.specs.declared.word_groups.UnaryOp.{UnaryOp}
 use Rattle.vtl_syntax.specs.declared.word_groups.UnaryOp.TheVariants as one_sign
 use Rattle.vtl_tree.specs.CompExp.{CompExps}
-use Rattle.vtl_nodes.specs.Trees as nodes
-use Rattle.vtl_nodes.specs.Trees.{ItemTree, NodeTree, OperandTree, ValueTree}
+use Rattle.vtl_meaning.specs.Trees as nodes
+use Rattle.vtl_meaning.specs.Trees.{ItemTree, NodeTree, OperandTree, ValueTree}
 use Rattle.check_values.specs.Groupings.{grouping_of, grouping_typed}
 use Rattle.check_values.specs.Operators.{exps_length, of_binary, of_function, of_unary, takes}
 use Rattle.check_values.specs.Literals.{literals_fit}
