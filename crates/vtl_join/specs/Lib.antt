@@ -1,0 +1,4 @@
+pub mod Finding
+pub mod Joining
+pub mod Keys
+pub mod Picks
