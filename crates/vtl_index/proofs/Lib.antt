@@ -10,5 +10,6 @@ pub mod Probes
 pub mod Putting
 pub mod Ranges
 pub mod RowSlotLemmas
+pub mod Seeking
 pub mod Slots
 pub mod Standing
