@@ -4,6 +4,8 @@ pub mod Drawn
 pub mod Examples
 pub mod Faults
 pub mod JoinExamples
+pub mod JoinKept
+pub mod JoinParts
 pub mod Kept
 pub mod LookUps
 pub mod Looks
