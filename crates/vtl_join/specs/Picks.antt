@@ -26,11 +26,11 @@ picks_at part places = map (λ place. record { part = part; column = place }) pl
 -- the columns of a role, part by part, from a first part on
 abbrev pub picks_from : Role → ℕ → List Structure → List Pick
 picks_from r n [] = []
-picks_from r n (a ∷ as) = picks_at n (places_of r a) ++ picks_from r (n + 1) as
+picks_from r n (a ∷ ss) = picks_at n (places_of r a) ++ picks_from r (n + 1) ss
 
 -- The cells of a joined set where a lead stands before the operands: identifiers, then the measures and the attributes of the operands.
 abbrev pub picks_behind : List Pick → List Structure → List Pick
-picks_behind identifiers as = identifiers ++ picks_from role.Measure 1 as ++ picks_from role.Attribute 1 as
+picks_behind identifiers ss = identifiers ++ picks_from role.Measure 1 ss ++ picks_from role.Attribute 1 ss
 
 -- a row for each tuple
 abbrev pub joined_rows : Listed → List DataSet → List Pick → List ℕ → List Row

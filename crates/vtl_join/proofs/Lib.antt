@@ -1,0 +1,3 @@
+pub mod Pieced
+pub mod Picked
+pub mod PickKinds
