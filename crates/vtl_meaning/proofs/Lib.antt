@@ -6,6 +6,7 @@ pub mod Faults
 pub mod JoinExamples
 pub mod JoinKept
 pub mod JoinParts
+pub mod JoinProfiles
 pub mod Kept
 pub mod LookUps
 pub mod Looks
