@@ -54,7 +54,7 @@ own_places (x ∷ xs) e =
     later [] h i = tt
     later (y ∷ ys) h i = (subst (λ n. IsColumnAt n y.name y.kind (x ∷ xs)) (sym (place_later y.name x xs h.0)) i.0, later ys h.1 i.1)
 
-own_columns : (a : Structure) → IsStructure a → AreAmong (columns_of a) (columns_of a)
+pub own_columns : (a : Structure) → IsStructure a → AreAmong (columns_of a) (columns_of a)
 own_columns a w = own_places (columns_of a) (columns_apart a w)
 
 own_measures : (a : Structure) → IsStructure a → AreAmong (measures_of a) (columns_of a)
