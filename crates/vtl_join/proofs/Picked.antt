@@ -21,7 +21,7 @@ use Rattle.vtl_meaning.proofs.LookUps.{named_cells}
 use Rattle.vtl_join.specs.Picks.{joined_rows, picks_at, picks_behind, picks_from, places_of, table_of}
 
 -- ---- parts by the numbers of their rows
-pub parts_at : List DataSet → List ℕ → List Part
+abbrev pub parts_at : List DataSet → List ℕ → List Part
 parts_at [] ns = []
 parts_at (d ∷ ds) [] = []
 parts_at (d ∷ ds) (n ∷ ns) = part_of d (slice_get d.points n) ∷ parts_at ds ns
@@ -58,7 +58,6 @@ number_behind (m ∷ front) n ns = number_behind front n ns
 -- those of a role, from the parts behind others
 picked_from : (r : Role) (pre : List Listed) (front : List ℕ) (ds : List DataSet) (ns : List ℕ) → length front ≡ length pre → length ns ≡ length ds
     → picked (pre ++ map table_of ds) (picks_from r (length pre) (structures_of ds)) (front ++ ns) ≡ flat_map (values_of r) (parts_at ds ns)
-unfolding parts_at
 picked_from r pre front [] ns e l = refl
 picked_from r pre front (d ∷ ds) [] e l = absurd (omega (arith, l))
 picked_from r pre front (d ∷ ds) (n ∷ ns) e l =

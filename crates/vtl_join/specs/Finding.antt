@@ -1,5 +1,5 @@
 -- The rows of operands that rows of a lead find, by their numbers.
-use Rattle.std.specs.Prelude.{◌≡◌, ℕ, zero, Bool, false, not, ◌||◌, cond, List, [], ◌∷◌, ◌++◌, map, length, nat_le, Option, Some, None}
+use Rattle.std.specs.Prelude.{ℕ, ◌+◌, Bool, false, not, ◌||◌, cond, List, [], ◌∷◌, ◌++◌, map, length, take, drop, nat_le, Option, Some, None}
 use Rattle.std.specs.List.{flat_map, list_all, range_with_len}
 use Rattle.vtl_cell.specs.Row.{Row}
 use Rattle.vtl_rows.specs.Places.{row_at}
@@ -18,6 +18,10 @@ sought_beside a d = let ids = common_identifiers a d.structure in record { own =
 -- the points of an operand by these identifiers, which are the first cells of the rows that ask
 abbrev pub sought_at : List Component → DataSet → Sought
 sought_at ids d = record { own = places_in (columns_of d.structure) ids; asked = range_with_len 0 (length ids); rows = d.points }
+
+-- what finds the points of operands for those of one of them, the lead, which has its own
+abbrev pub sources_around : Structure → List DataSet → ℕ → List (Option Sought)
+sources_around a ds place = map (λ d. Some (sought_beside a d)) (take place ds) ++ None ∷ map (λ d. Some (sought_beside a d)) (drop (place + 1) ds)
 
 -- The number of the row that a row of the lead finds in an operand, or how many rows there are. An operand that is the lead itself
 -- has the row.

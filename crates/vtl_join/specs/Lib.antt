@@ -1,3 +1,4 @@
+pub mod Crossing
 pub mod Finding
 pub mod Joining
 pub mod Keys

@@ -7,6 +7,10 @@
 //! Begin with specs/Joining.antt and `joined.rt`, then `close.rt`; specs/Finding.antt says which rows are found.
 #![tactic(auto)]
 
+mod columns;
+mod gathering;
 mod joined;
+mod sources;
+mod tuples;
 
 pub use joined::{Joined, Operand, open, step};
