@@ -5,3 +5,6 @@ pub mod Found
 pub mod Beside
 pub mod Crossed
 pub mod KeyRows
+pub mod Stepping
+pub mod Combining
+pub mod KeyTables

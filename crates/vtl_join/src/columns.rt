@@ -84,9 +84,10 @@ pub(crate) fn common_identifiers<'a>(
 {
     let known = structure.identifiers(alloc)?;
     let mut common = Vec::new(alloc);
-    for identifier in other.identifiers(alloc)? {
+    let identifiers = other.identifiers(alloc)?;
+    for identifier in &identifiers {
         if has_name(&known, &identifier.name) {
-            common.push(identifier)?;
+            common.push(*identifier)?;
         }
     }
     Ok(common)

@@ -4,13 +4,18 @@
 //! gathered, each of them once. What a join is, is defined in `vtl_meaning` (specs/Joined.antt) over all operands at once;
 //! the structure of the result is decided where scripts are checked, and passed in.
 //! It knows no clause of a join's body, no expression, no script, no file and no text format.
-//! Begin with specs/Joining.antt and `joined.rt`, then `close.rt`; specs/Finding.antt says which rows are found.
+//! Begin with specs/Joining.antt and `joined.rt`, then `closing.rt`; specs/Finding.antt says which rows are found.
 #![tactic(auto)]
 
+mod closing;
 mod columns;
+mod crossing;
 mod gathering;
 mod joined;
+mod keys;
+mod reference;
 mod sources;
 mod tuples;
 
+pub use closing::close;
 pub use joined::{Joined, Operand, open, step};
