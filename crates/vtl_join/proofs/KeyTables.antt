@@ -1,11 +1,11 @@
 -- Tables of the identifiers of operands.
 use Rattle.std.proofs.Common.{◌≡◌, ℕ, zero, suc, ◌+◌, ◌<◌, ◌≤◌, Bool, true, false, cond, List, [], ◌∷◌, ◌++◌, inl, inr, length, length-append, get_or, map, take, drop, refl, sym, ap, ◌∙◌, subst, All, append_assoc, arith, eqb, eq-eqb, ne_eqb, zero-add}
 use Rattle.std.specs.Borrow.{Bor}
-use Rattle.std.specs.List.{AllByRecursion, filter, flat_map, range_with_len}
+use Rattle.std.specs.List.{AllByRecursion, filter, flat_map, position_or_len, range_with_len}
 use Rattle.std.proofs.lemmas.Bool.{eqb-true}
 use Rattle.std.proofs.lemmas.Grind.{flat_map-append}
-use Rattle.std.proofs.lemmas.List.{append-nil, get_or_default, get_or_past, length-map, map-append, map_more}
-use Rattle.vtl_cell.specs.Row.{Row}
+use Rattle.std.proofs.lemmas.List.{append-nil, get_or_default, get_or_past, length-map, map-append, map_more, take_more}
+use Rattle.vtl_cell.specs.Row.{Row, same_row}
 use Rattle.vtl_cell.specs.declared.kind.Kind.{Kind}
 use Rattle.vtl_cell.specs.declared.kind.Kind.TheVariants as k
 use Rattle.vtl_rows.specs.Gathered.{part_at, picked, picked_kind, pieces}
@@ -14,6 +14,7 @@ use Rattle.vtl_rows.specs.Tables.{Listed, cells_at, column_at, column_kinds}
 use Rattle.vtl_rows.specs.declared.column.Column.{Column}
 use Rattle.vtl_rows.specs.declared.gather.Pick.{Pick}
 use Rattle.vtl_index.specs.Groups.{AreLeads, firsts, is_first, rows_led}
+use Rattle.vtl_index.specs.Leads.{leads_of}
 use Rattle.vtl_index.proofs.Ranges.{none_pass, passing, passing_at, passing_is}
 use Rattle.vtl_sets.specs.TableOf.{column_for, table_columns}
 use Rattle.vtl_tuples.proofs.Lists.{map-map}
@@ -132,3 +133,11 @@ firsts_within leads n e g d h =
     let same = get_or_default (firsts leads) g d 0 h in
     let within = p.0 in
     omega (arith, e, same, within)
+
+pub firsts_more : (leads : List ℕ) (are : AreLeads leads) (g : ℕ) (rows old new : List ℕ) → g < length (firsts leads) → rows ≡ rows_led leads (get_or (firsts leads) g 0) → old ≡ take g (firsts leads) → new ≡ old ++ get_or rows 0 0 ∷ [] → new ≡ take (g + 1) (firsts leads)
+firsts_more leads are g rows old new h is o n =
+    n ∙ ap (λ l. l ++ get_or rows 0 0 ∷ []) o ∙ ap (λ l. take g (firsts leads) ++ get_or l 0 0 ∷ []) is ∙ ap (λ f. take g (firsts leads) ++ f ∷ []) (led_first leads are g h).1
+    ∙ sym (take_more (firsts leads) g 0 h)
+
+pub groups_count : (key : Row → Row) (rows : List Row) (groups : List ℕ) → groups ≡ leads_of key rows → length groups ≡ length rows
+groups_count key rows groups e = ap length e ∙ length-map rows (λ r. position_or_len (λ s. same_row (key s) (key r)) rows)

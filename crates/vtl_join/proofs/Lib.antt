@@ -8,3 +8,5 @@ pub mod KeyRows
 pub mod Stepping
 pub mod Combining
 pub mod KeyTables
+pub mod Referring
+pub mod Closed

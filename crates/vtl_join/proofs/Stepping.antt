@@ -1,5 +1,6 @@
 -- One more item of a walk, and what is made of equal parts.
-use Rattle.std.proofs.Common.{◌≡◌, ℕ, zero, suc, ◌+◌, ◌<◌, ◌≤◌, Bool, List, [], ◌∷◌, ◌++◌, length, length-append, get_or, map, map-id, take, drop, Option, Some, None, refl, sym, ap, ◌∙◌, subst, All, append_assoc, arith}
+use Rattle.std.proofs.Common.{◌≡◌, ℕ, zero, suc, ◌+◌, ◌<◌, ◌≤◌, Bool, List, [], ◌∷◌, ◌++◌, length, length-append, get_or, map, map-id, take, drop, Option, Some, None, Result, Ok, Err, refl, sym, ap, ◌∙◌, subst, All, append_assoc, arith}
+use Rattle.std.specs.Prelude.{IfOk}
 use Rattle.std.specs.Borrow.{Bor}
 use Rattle.std.specs.List.{AllByRecursion, flat_map, range_with_len}
 use Rattle.std.proofs.lemmas.Grind.{flat_map-append}
@@ -128,3 +129,8 @@ rows_gathered parts lead os ids picks tuples e is =
     let count : length parts ≡ length ds + 1 = let l = parts_many parts lead os e in let m = length-map os (λ x. x.set) in omega (arith, l, m) in
     ap (λ ts. map (picked ts picks) (pieces (length parts) tuples)) e ∙ ap (λ ps. map (picked (lead ∷ map table_of ds) ps) (pieces (length parts) tuples)) is
     ∙ ap (λ n. map (picked (lead ∷ map table_of ds) (picks_behind ids (structures_of ds))) (pieces n tuples)) count
+
+-- ---- results
+pub if_ok : {T E : Type 0} (P Q : T → Type 0) (r : Result T E) → ((t : T) → P t → Q t) → IfOk r P → IfOk r Q
+if_ok P Q (Ok t) f h = f t h
+if_ok P Q (Err e) f h = tt

@@ -1,9 +1,11 @@
 -- The rows of operands that rows of a lead find, by their numbers.
-use Rattle.std.specs.Prelude.{ℕ, ◌+◌, Bool, false, not, ◌||◌, cond, List, [], ◌∷◌, ◌++◌, map, length, take, drop, nat_le, Option, Some, None}
+use Rattle.std.specs.Prelude.{ℕ, ◌+◌, Bool, true, false, not, ◌||◌, cond, List, [], ◌∷◌, ◌++◌, map, length, take, drop, nat_le, Option, Some, None}
 use Rattle.std.specs.List.{flat_map, list_all, range_with_len}
 use Rattle.vtl_cell.specs.Row.{Row}
 use Rattle.vtl_rows.specs.Places.{row_at}
 use Rattle.vtl_index.specs.Seekers.{Sought, first_meant}
+use Rattle.vtl_syntax.specs.declared.word_groups.JoinKind.{JoinKind}
+use Rattle.vtl_syntax.specs.declared.word_groups.JoinKind.TheVariants as join
 use Rattle.vtl_tree.specs.Environment.{DataSet}
 use Rattle.vtl_tree.specs.Structure.{columns_of}
 use Rattle.vtl_tree.specs.declared.structure.Component.{Component}
@@ -51,3 +53,8 @@ numbers_for whole xs i r = cond (is_kept whole xs i r) (numbers xs i r) []
 -- those of the rows of the lead at these places, one after the other
 abbrev pub all_numbers : Bool → List (Option Sought) → List Row → List ℕ → List ℕ
 all_numbers whole xs rows places = flat_map (λ i. numbers_for whole xs i (row_at rows i)) places
+
+-- a join that asks that each operand has a part
+abbrev pub wants_all : JoinKind → Bool
+wants_all join.Inner = true
+wants_all kind = false

@@ -1,14 +1,14 @@
 // The joined set.
-ghost use Rattle.std.specs.Prelude.{◌≡◌, ◌<◌, cond, length, map, slice_get, Some, IfOk};
+ghost use Rattle.std.specs.Prelude.{◌≡◌, ◌<◌, cond, map, slice_get, Some, IfOk};
 ghost use Rattle.std.specs.List.{AllByRecursion};
 ghost use Rattle.std.specs.Option.{IfSome};
 ghost use Rattle.vtl_sets.specs.DataSets.{data_set};
 ghost use Rattle.vtl_sets.specs.TableOf.{table_columns};
-ghost use Rattle.vtl_tree.specs.Environment.{DataSet as Set};
 ghost use Rattle.vtl_tree.specs.Structure.{columns_of};
 ghost use Rattle.vtl_meaning.specs.Columns.{identifiers_of};
 ghost use Rattle.vtl_meaning.specs.Joined.{cross_tuples, full_tuples, inner_tuples, join_of, left_tuples, structures_of, tuple_point};
-ghost use Rattle.vtl_meaning.specs.Made.{AreAmong, HasIdentifiers, IsJoined, component_kinds, kinds_of_all};
+ghost use Rattle.vtl_meaning.specs.Made.{AreAmong, HasIdentifiers, IsJoined};
+ghost use Rattle.vtl_join.specs.Finding.{wants_all};
 ghost use Rattle.vtl_join.specs.Joining.{sets_of};
 ghost use Rattle.vtl_join.specs.Picks.{picks_at};
 
@@ -38,30 +38,36 @@ fn lead_picks(alloc: Global, places: &[usize]) -> Result<Vec<Pick>, AllocError>
     Ok(picks)
 }
 
-// The table of a left join, or of an inner one, where each part is wanted. The reference leads.
+// Whether a part of each operand is wanted.
+fn wants_all(kind: JoinKind) -> bool
+    ensures { result ≡ wants_all kind }
+{
+    matches!(kind, JoinKind::Inner)
+}
+
+// The table of an inner or a left join. The reference leads, which stands at this place.
 fn beside_table<L: Ledger>(
     alloc: Global,
     kind: JoinKind,
-    whole: bool,
     operands: &[Operand],
     place: usize,
+    lead: &DataSet,
     made: &Structure,
     blank: Blank,
 ) -> Result<Table, AllocError>
     requires name { blank.name ≡ L.name }
     requires parts { blank.parts ≡ L.parts }
     requires some { 0 < L.parts }
-    requires place { place < length operands.now }
+    requires lead { slice_get (sets_of operands.now) place ≡ Some lead.now }
     requires made { IsJoined kind (structures_of (sets_of operands.now)) made.now }
-    requires identifiers { (r : DataSet) → slice_get (sets_of operands.now) place ≡ Some r → HasIdentifiers made.now (identifiers_of r.structure) }
+    requires identifiers { HasIdentifiers made.now (identifiers_of lead.now.structure) }
     ensures columns { IfOk result (λ t. t.columns ≡ table_columns made.now) }
-    ensures rows { (r : DataSet) → slice_get (sets_of operands.now) place ≡ Some r → IfOk result (λ t. t.rows ≡ map tuple_point (cond whole (inner_tuples r (sets_of operands.now)) (left_tuples r (sets_of operands.now)))) }
+    ensures rows { IfOk result (λ t. t.rows ≡ map tuple_point (cond (wants_all kind) (inner_tuples lead.now (sets_of operands.now)) (left_tuples lead.now (sets_of operands.now)))) }
 {
     let mut steps: Steps<L> = Steps::new(blank);
     operands_are_sets(operands);
-    let lead = &operands[place].set;
     let sources = sources_around(alloc, lead.structure(), operands, place, &mut steps)?;
-    let tuples = all_tuples(alloc, whole, &sources, lead.table(), &mut steps)?;
+    let tuples = all_tuples(alloc, wants_all(kind), &sources, lead.table(), &mut steps)?;
     let places = places_of(alloc, lead.structure(), Role::Identifier)?;
     let identifiers = lead_picks(alloc, &places)?;
     gathered(alloc, lead.table(), operands, identifiers, &tuples, made)
@@ -122,18 +128,16 @@ fn joined_table(
     ensures columns { IfOk result (λ t. t.columns ≡ table_columns made.now) }
     ensures rows { IfOk result (λ t. t.rows ≡ join_of kind (sets_of operands.now)) }
 {
+    operands_are_sets(operands);
     let place = reference_place(kind, operands);
+    let reference = &operands[place].set;
+    let blank = Blank::new(1);
     match kind {
-        JoinKind::Inner => {
-            beside_table::<Brand>(alloc, kind, true, operands, place, made, Blank::new(1))
+        JoinKind::Inner | JoinKind::Left => {
+            beside_table::<Brand>(alloc, kind, operands, place, reference, made, blank)
         }
-        JoinKind::Left => {
-            beside_table::<Brand>(alloc, kind, false, operands, place, made, Blank::new(1))
-        }
-        JoinKind::Full => {
-            full_table::<Brand>(alloc, operands, &operands[place].set, made, Blank::new(1))
-        }
-        JoinKind::Cross => cross_table(alloc, operands, operands[place].set.table(), made),
+        JoinKind::Full => full_table::<Brand>(alloc, operands, reference, made, blank),
+        JoinKind::Cross => cross_table(alloc, operands, reference.table(), made),
     }
 }
 
