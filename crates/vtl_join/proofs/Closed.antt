@@ -1,5 +1,5 @@
 -- What the tables of joined sets are made of.
-use Rattle.std.proofs.Common.{◌≡◌, ℕ, zero, suc, ◌+◌, ◌<◌, ◌≤◌, Bool, true, false, cond, List, [], ◌∷◌, ◌++◌, inl, inr, length, length-append, get_or, map, Option, Some, None, refl, sym, ap, ◌∙◌, subst, All, append_assoc, arith}
+use Rattle.std.proofs.Common.{◌≡◌, ℕ, zero, suc, ◌+◌, ◌<◌, ◌≤◌, Bool, true, false, cond, List, [], ◌∷◌, ◌++◌, ◌⊎◌, inl, inr, length, length-append, get_or, map, Option, Some, None, refl, sym, ap, ◌∙◌, subst, All, append_assoc, arith}
 use Rattle.std.specs.Prelude.{slice_get}
 use Rattle.std.specs.List.{AllByRecursion, range_with_len}
 use Rattle.std.specs.Option.{option_map_or}
@@ -28,7 +28,7 @@ use Rattle.vtl_meaning.specs.Joined.{inner_tuples, join_of, joined_of, left_tupl
 use Rattle.vtl_meaning.specs.Made.{AreAmong, GoTogether, HasIdentifiers, IsJoined, component_kinds}
 use Rattle.vtl_meaning.proofs.JoinKept.{reference_is}
 use Rattle.vtl_join.specs.declared.joined.Operand.{Operand}
-use Rattle.vtl_join.specs.Finding.{all_numbers, sources_around}
+use Rattle.vtl_join.specs.Finding.{all_numbers, sources_around, wants_all}
 use Rattle.vtl_join.specs.Joining.{sets_of}
 use Rattle.vtl_join.specs.Keys.{key_kinds}
 use Rattle.vtl_join.specs.Picks.{joined_rows, picks_at, picks_from, places_of, table_of}
@@ -126,3 +126,18 @@ refers kind os s place o i all is at =
 pub all_have : (a : Structure) (ds : List DataSet) → AllByRecursion (λ b. AreAmong (identifiers_of b) (identifiers_of a) × AreAmong (identifiers_of a) (identifiers_of b)) (structures_of ds) → AllByRecursion (λ d. AreAmong (identifiers_of a) (columns_of d.structure)) ds
 all_have a [] all = tt
 all_have a (d ∷ ds) all = (among_columns (identifiers_of a) d.structure all.0.1, all_have a ds all.1)
+
+pub table_is : (t : Listed) (d : DataSet) → t.columns ≡ table_columns d.structure → t.rows ≡ d.points → t ≡ table_of d
+table_is t d columns rows = λ i. record { columns = columns i; rows = rows i }
+
+-- ---- joins by their kinds
+abbrev pub IsBeside : JoinKind → Type 0
+IsBeside kind = (kind ≡ join.Inner) ⊎ (kind ≡ join.Left)
+
+pub beside_identifiers : (kind : JoinKind) (a s : Structure) (ss : List Structure) → IsBeside kind → GoTogether kind a ss s → HasIdentifiers s (identifiers_of a)
+beside_identifiers kind a s ss (inl e) go = (subst (λ k. GoTogether k a ss s) e go).0
+beside_identifiers kind a s ss (inr e) go = (subst (λ k. GoTogether k a ss s) e go).0
+
+pub beside_join : (kind : JoinKind) (r : DataSet) (ds : List DataSet) → IsBeside kind → map tuple_point (cond (wants_all kind) (inner_tuples r ds) (left_tuples r ds)) ≡ joined_of kind r ds
+beside_join kind r ds (inl e) = ap (λ k. map tuple_point (cond (wants_all k) (inner_tuples r ds) (left_tuples r ds))) e ∙ sym (ap (λ k. joined_of k r ds) e)
+beside_join kind r ds (inr e) = ap (λ k. map tuple_point (cond (wants_all k) (inner_tuples r ds) (left_tuples r ds))) e ∙ sym (ap (λ k. joined_of k r ds) e)
