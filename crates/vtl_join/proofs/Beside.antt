@@ -1,37 +1,34 @@
 -- The rows of a lead beside those that they find are the points of the join.
-use Rattle.std.proofs.Common.{◌≡◌, ℕ, zero, suc, ◌+◌, ◌<◌, ◌≤◌, Bool, true, false, not, ◌&&◌, ◌||◌, List, [], ◌∷◌, ◌++◌, inl, inr, cond, length, length-append, get_or, map, take, drop, Option, Some, None, refl, sym, ap, ◌∙◌, subst, arith, zero-add}
-use Rattle.std.specs.Prelude.{is_some, slice_get}
-use Rattle.std.specs.List.{AllByRecursion, filter, find, flat_map, list_all, range_with_len}
+use Rattle.std.proofs.Common.{◌≡◌, ℕ, ◌+◌, ◌<◌, Bool, true, false, not, ◌||◌, List, [], ◌∷◌, ◌++◌, length, length-append, get_or, map, take, drop, Option, Some, None, refl, sym, ap, ◌∙◌, subst, arith, zero-add}
+use Rattle.std.specs.Prelude.{slice_get}
+use Rattle.std.specs.List.{AllByRecursion, filter, find, flat_map, range_with_len}
 use Rattle.std.proofs.lemmas.List.{length-map}
 use Rattle.std.proofs.lemmas.Option.{slice_get-get_or}
 use Rattle.vtl_cell.specs.Row.{Row, same_row}
 use Rattle.vtl_cell.proofs.Sorts.{AllByRecursion-filter}
-use Rattle.vtl_rows.specs.Gathered.{picked, pieces}
+use Rattle.vtl_rows.specs.Gathered.{picked}
 use Rattle.vtl_rows.specs.Places.{row_at}
 use Rattle.vtl_rows.specs.Tables.{Listed, cells_at}
-use Rattle.vtl_rows.specs.declared.gather.Pick.{Pick}
 use Rattle.vtl_index.specs.Seekers.{Sought, is_meant}
-use Rattle.vtl_syntax.specs.declared.word_groups.JoinKind.{JoinKind}
-use Rattle.vtl_syntax.specs.declared.word_groups.JoinKind.TheVariants as join
 use Rattle.vtl_tree.specs.DataSet.{IsDataSet, is_point}
 use Rattle.vtl_tree.specs.Environment.{DataSet}
-use Rattle.vtl_tree.specs.Structure.{IsStructure, columns_of, key_width}
-use Rattle.vtl_tree.specs.declared.structure.Component.{Component}
+use Rattle.vtl_tree.specs.Structure.{columns_of}
 use Rattle.vtl_tree.specs.declared.structure.Role.TheVariants as role
 use Rattle.vtl_tree.specs.declared.structure.Structure.{Structure}
 use Rattle.vtl_tuples.proofs.Lists.{filter-map, map-map, map_same}
-use Rattle.vtl_meaning.specs.Agreement.{agree_in, common_identifiers, first_agreeing, key_of}
-use Rattle.vtl_meaning.specs.Columns.{identifiers_of, places_in}
-use Rattle.vtl_meaning.specs.Joined.{Part, Tuple, attributes_in, inner_tuples, is_whole, left_tuples, measures_in, part_of, structures_of, tuple_beside, tuple_point}
+use Rattle.vtl_meaning.specs.Agreement.{agree_in, common_identifiers, first_agreeing}
+use Rattle.vtl_meaning.specs.Columns.{identifiers_of}
+use Rattle.vtl_meaning.specs.Joined.{Tuple, attributes_in, inner_tuples, is_whole, left_tuples, measures_in, part_of, structures_of, tuple_beside, tuple_point}
 use Rattle.vtl_meaning.proofs.Agreements.{own_values}
 use Rattle.vtl_meaning.proofs.JoinAgreements.{agreeing_own}
 use Rattle.vtl_meaning.proofs.LookUps.{named_cells}
-use Rattle.vtl_meaning.proofs.Places.{all_back, all_front, each, all_more}
-use Rattle.vtl_join.specs.Finding.{all_numbers, is_found, is_kept, number, numbers, sought_beside, sources_around}
+use Rattle.vtl_meaning.proofs.JoinParts.{AreSets}
+use Rattle.vtl_meaning.proofs.Places.{all_back, each, all_more}
+use Rattle.vtl_join.specs.Finding.{all_numbers, is_kept, number, numbers, sought_beside, sources_around}
 use Rattle.vtl_join.specs.Picks.{joined_rows, picks_at, picks_behind, places_of, table_of}
 use Rattle.vtl_join.proofs.Found.{AllFind, Finds, all_found, as_many, find_append, find_each, own_finds, parts_found, sought_finds}
 use Rattle.vtl_join.proofs.Picked.{parts_at, picked_behind, picked_lead}
-use Rattle.vtl_join.proofs.Pieced.{all_at, around, by_places, pieces_of_tuples}
+use Rattle.vtl_join.proofs.Pieced.{all_at, around, by_places, every, pieces_of_tuples}
 
 -- ---- the rows that are joined, for any lead
 -- the identifiers of a row of the lead and the parts that it finds
@@ -66,10 +63,6 @@ module _ (lead : Listed) (ds : List DataSet) (xs : List (Option Sought)) (places
       (λ k h. ap (λ i. is_kept whole xs i (row_at lead.rows i)) (on k) ∙ kept_row whole k h)
       (λ k h. ap (λ i. row (numbers xs i (row_at lead.rows i))) (on k) ∙ one_row k h)
 
-every : {X : Type 0} (xs : List X) → filter (λ x. true) xs ≡ xs
-every [] = refl
-every (x ∷ xs) = ap (λ l. x ∷ l) (every xs)
-
 pub all_rows : {X Y : Type 0} (f : X → Y) (p : X → Bool) (xs : List X) → map f (filter (λ x. not false || p x) xs) ≡ map f xs
 all_rows f p xs = ap (map f) (every xs)
 
@@ -81,7 +74,7 @@ beside_finds i q a d =
     let test : is_meant (sought_beside a d) q ≡ agree_in a b q = λ j t. same_row (named_cells (columns_of b) ids t j) (named_cells (columns_of a) ids q j) in
     sought_finds i q (λ e. first_agreeing a e q) (sought_beside a d) d refl (ap (λ p. find p d.points) test)
 
-module _ (ds : List DataSet) (place : ℕ) (r : DataSet) (there : slice_get ds place ≡ Some r) (all : AllByRecursion (λ d. IsDataSet d.structure d.points) ds) where
+module _ (ds : List DataSet) (place : ℕ) (r : DataSet) (there : slice_get ds place ≡ Some r) (all : AreSets ds) where
   abbrev a : Structure
   a = r.structure
 

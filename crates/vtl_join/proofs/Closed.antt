@@ -1,23 +1,19 @@
 -- What the tables of joined sets are made of.
-use Rattle.std.proofs.Common.{◌≡◌, ℕ, zero, suc, ◌+◌, ◌<◌, ◌≤◌, Bool, true, false, cond, List, [], ◌∷◌, ◌++◌, ◌⊎◌, inl, inr, length, length-append, get_or, map, Option, Some, None, refl, sym, ap, ◌∙◌, subst, All, append_assoc, arith}
+use Rattle.std.proofs.Common.{◌≡◌, ℕ, zero, suc, ◌+◌, ◌<◌, Bool, true, false, cond, List, [], ◌∷◌, ◌++◌, ◌⊎◌, inl, inr, length, length-append, get_or, map, Some, None, refl, sym, ap, ◌∙◌, subst, All, append_assoc, arith}
 use Rattle.std.specs.Prelude.{slice_get}
 use Rattle.std.specs.List.{AllByRecursion, range_with_len}
 use Rattle.std.specs.Option.{option_map_or}
 use Rattle.std.proofs.lemmas.Bool.{cases_lt}
 use Rattle.std.proofs.lemmas.List.{length-map}
 use Rattle.std.proofs.lemmas.Option.{slice_get_past}
-use Rattle.vtl_cell.specs.Row.{Row}
 use Rattle.vtl_cell.specs.declared.kind.Kind.{Kind}
 use Rattle.vtl_cell.specs.declared.kind.Kind.TheVariants as k
-use Rattle.vtl_index.specs.Seekers.{Sought}
 use Rattle.vtl_rows.specs.Gathered.{picked_kind}
 use Rattle.vtl_rows.specs.Tables.{Listed, column_at, column_kinds}
 use Rattle.vtl_rows.specs.declared.column.Column.{Column}
-use Rattle.vtl_rows.specs.declared.gather.Pick.{Pick}
 use Rattle.vtl_sets.specs.TableOf.{table_columns}
 use Rattle.vtl_syntax.specs.declared.word_groups.JoinKind.{JoinKind}
 use Rattle.vtl_syntax.specs.declared.word_groups.JoinKind.TheVariants as join
-use Rattle.vtl_tree.specs.DataSet.{IsDataSet}
 use Rattle.vtl_tree.specs.Environment.{DataSet}
 use Rattle.vtl_tree.specs.Structure.{IsStructure, columns_of}
 use Rattle.vtl_tree.specs.declared.structure.Component.{Component}
@@ -27,6 +23,7 @@ use Rattle.vtl_meaning.specs.Columns.{identifiers_of}
 use Rattle.vtl_meaning.specs.Joined.{inner_tuples, join_of, joined_of, left_tuples, reference_place, structures_of, tuple_point}
 use Rattle.vtl_meaning.specs.Made.{AreAmong, GoTogether, HasIdentifiers, IsJoined, component_kinds}
 use Rattle.vtl_meaning.proofs.JoinKept.{reference_is}
+use Rattle.vtl_meaning.proofs.JoinParts.{AreSets}
 use Rattle.vtl_join.specs.declared.joined.Operand.{Operand}
 use Rattle.vtl_join.specs.Finding.{all_numbers, sources_around, wants_all}
 use Rattle.vtl_join.specs.Joining.{sets_of}
@@ -36,7 +33,6 @@ use Rattle.vtl_join.proofs.Beside as beside
 use Rattle.vtl_join.proofs.KeyTables.{among_columns}
 use Rattle.vtl_join.proofs.PickKinds.{all_below, at_below, from_below, named_kinds, own_role}
 use Rattle.vtl_join.proofs.Referring.{structures_many}
-use Rattle.vtl_join.proofs.Stepping.{AreSets}
 
 -- ---- places
 pub lead_below : (n : ℕ) (places : List ℕ) → All (λ p. p.part < n + 1) (picks_at 0 places)

@@ -1,27 +1,26 @@
 -- The combinations of row numbers are the points of the cross join.
-use Rattle.std.proofs.Common.{◌≡◌, ℕ, zero, suc, ◌+◌, ◌<◌, true, List, [], ◌∷◌, ◌++◌, length, map, Option, Some, None, refl, sym, ap, ◌∙◌, arith}
+use Rattle.std.proofs.Common.{◌≡◌, ℕ, suc, ◌+◌, true, List, [], ◌∷◌, ◌++◌, length, map, Option, refl, sym, ap, ◌∙◌, arith}
 use Rattle.std.specs.Prelude.{slice_get}
-use Rattle.std.specs.List.{AllByRecursion, filter, flat_map, range_with_len}
+use Rattle.std.specs.List.{AllByRecursion, flat_map}
 use Rattle.std.proofs.lemmas.List.{length-map}
 use Rattle.std.proofs.lemmas.List.Folds.{flat_map-map}
 use Rattle.vtl_cell.specs.Row.{Row}
 use Rattle.vtl_rows.specs.Gathered.{picked, pieces}
 use Rattle.vtl_rows.specs.Tables.{Listed}
-use Rattle.vtl_tree.specs.DataSet.{IsDataSet}
 use Rattle.vtl_tree.specs.Environment.{DataSet}
 use Rattle.vtl_tree.specs.declared.structure.Role.TheVariants as role
-use Rattle.vtl_tree.specs.declared.structure.Structure.{Structure}
 use Rattle.vtl_tuples.specs.Tuples.{combinations}
 use Rattle.vtl_tuples.proofs.Lists.{flat_map_each, map-flat_map, map-map, map_same}
 use Rattle.vtl_meaning.specs.Agreement.{OperandPoint, key_of, operand_point, operand_points}
 use Rattle.vtl_meaning.specs.Joined.{Part, attributes_in, cross_tuples, crossed, measures_in, part_of, present, structures_of, tuple_point}
 use Rattle.vtl_meaning.proofs.Agreements.{own_values}
 use Rattle.vtl_meaning.proofs.JoinKept.{IsCombination, IsOperandPoint, combinations_are}
-use Rattle.vtl_meaning.proofs.Places.{all_append, all_map, all_more, each}
+use Rattle.vtl_meaning.proofs.JoinParts.{AreSets}
+use Rattle.vtl_meaning.proofs.Places.{all_append, all_map, all_more}
 use Rattle.vtl_join.specs.Crossing.{all_combinations, row_numbers, up_to}
 use Rattle.vtl_join.specs.Picks.{joined_rows, picks_behind, picks_from, table_of}
 use Rattle.vtl_join.proofs.Picked.{parts_at, picked_behind, picked_identifiers, values_of}
-use Rattle.vtl_join.proofs.Pieced.{items_by_places, pieces_of_tuples}
+use Rattle.vtl_join.proofs.Pieced.{every, items_by_places, pieces_of_tuples}
 
 -- ---- combinations of numbers
 fronts_long : (n : ℕ) (ns : List ℕ) (ts : List (List ℕ)) → AllByRecursion (λ t. length t ≡ n) ts → AllByRecursion (λ t. length t ≡ suc n) (flat_map (λ m. map (λ t. m ∷ t) ts) ns)
@@ -33,10 +32,6 @@ fronts_long n (m ∷ ns) ts all =
 as_long : (nss : List (List ℕ)) → AllByRecursion (λ t. length t ≡ length nss) (combinations nss)
 as_long [] = (refl, tt)
 as_long (ns ∷ nss) = fronts_long (length nss) ns (combinations nss) (as_long nss)
-
-every : {X : Type 0} (xs : List X) → filter (λ x. true) xs ≡ xs
-every [] = refl
-every (x ∷ xs) = ap (λ l. x ∷ l) (every xs)
 
 -- row numbers by the counts of rows
 counted : (ds : List DataSet) → map up_to (map (λ d. length d.points) ds) ≡ map row_numbers ds
@@ -68,7 +63,7 @@ keys_are [] all = refl
 keys_are (x ∷ xs) all =
     ap (λ k. k ++ flat_map (values_of role.Identifier) (map present xs)) (own_values x.structure x.point all.0.well_formed all.0.typed) ∙ ap (λ l. key_of x.structure x.point ++ l) (keys_are xs all.1)
 
-module _ (lead : Listed) (ds : List DataSet) (all : AllByRecursion (λ d. IsDataSet d.structure d.points) ds) where
+module _ (lead : Listed) (ds : List DataSet) (all : AreSets ds) where
   abbrev C : List (List ℕ)
   C = combinations (map row_numbers ds)
 

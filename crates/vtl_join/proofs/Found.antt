@@ -1,16 +1,15 @@
 -- What a row of the lead finds in the operands.
-use Rattle.std.proofs.Common.{◌≡◌, ℕ, zero, suc, ◌+◌, ◌<◌, ◌≤◌, Bool, true, false, not, ◌&&◌, List, [], ◌∷◌, ◌++◌, inl, inr, length, get_or, map, Option, Some, None, refl, sym, ap, ◌∙◌, subst, arith}
+use Rattle.std.proofs.Common.{◌≡◌, ℕ, suc, not, ◌&&◌, List, [], ◌∷◌, ◌++◌, inl, inr, length, map, Option, Some, None, refl, sym, ap, ◌∙◌}
 use Rattle.std.specs.Prelude.{is_some, nat_le, slice_get}
 use Rattle.std.specs.List.{AllByRecursion, find, list_all, position_or_len}
 use Rattle.std.proofs.lemmas.Bool.{cases_lt, le-leb, lt-leb}
-use Rattle.std.proofs.lemmas.List.{length-map}
 use Rattle.std.proofs.lemmas.List.Folds.{find_at}
 use Rattle.std.proofs.lemmas.Option.{slice_get-get_or, slice_get_past}
 use Rattle.vtl_cell.specs.Row.{Row}
 use Rattle.vtl_index.specs.Seekers.{Sought, first_meant, is_meant}
 use Rattle.vtl_tree.specs.Environment.{DataSet}
-use Rattle.vtl_meaning.specs.Joined.{Part, part_of}
-use Rattle.vtl_join.specs.Finding.{is_found, is_past, number, numbers}
+use Rattle.vtl_meaning.specs.Joined.{part_of}
+use Rattle.vtl_join.specs.Finding.{is_found, number}
 use Rattle.vtl_join.proofs.Picked.{parts_at}
 
 -- a number is past the end where nothing stands there

@@ -1,6 +1,6 @@
 -- A full join is led by the tuples of identifiers that operands have, each once.
-use Rattle.std.proofs.Common.{◌≡◌, ℕ, zero, suc, ◌+◌, ◌<◌, ◌≤◌, Bool, true, false, not, ◌||◌, List, [], ◌∷◌, ◌++◌, length, length-append, get_or, map, take, Option, Some, None, refl, sym, ap, ◌∙◌, append_assoc, arith}
-use Rattle.std.specs.List.{AllByRecursion, filter, find, flat_map, range_with_len}
+use Rattle.std.proofs.Common.{◌≡◌, ℕ, ◌+◌, false, not, List, [], ◌∷◌, ◌++◌, length, length-append, get_or, map, Option, Some, refl, sym, ap, ◌∙◌, append_assoc, arith}
+use Rattle.std.specs.List.{filter, find, flat_map, range_with_len}
 use Rattle.std.proofs.lemmas.List.{length-map, map-append}
 use Rattle.vtl_cell.specs.Row.{Row, column_of, same_row}
 use Rattle.vtl_cell.specs.declared.cell.Cell.{Cell}
@@ -18,7 +18,7 @@ use Rattle.vtl_tuples.specs.Keys as tuples
 use Rattle.vtl_tuples.proofs.Lists.{map-flat_map, map-map, flat_map_each, map_each}
 use Rattle.vtl_meaning.specs.Agreement.{values_in}
 use Rattle.vtl_meaning.specs.Columns.{identifiers_of, places_in}
-use Rattle.vtl_meaning.specs.Joined.{all_keys, full_tuples, is_whole, keys_in, structures_of, tuple_at, tuple_point}
+use Rattle.vtl_meaning.specs.Joined.{all_keys, full_tuples, is_whole, keys_in, tuple_at, tuple_point}
 use Rattle.vtl_meaning.specs.LookUps.{value_named}
 use Rattle.vtl_meaning.proofs.LookUps.{named_cells}
 use Rattle.vtl_meaning.proofs.Places.{each}
@@ -26,7 +26,7 @@ use Rattle.vtl_join.specs.Finding.{all_numbers, sought_at}
 use Rattle.vtl_join.specs.Keys.{all_key_rows, key_cells, key_places, key_rows}
 use Rattle.vtl_join.specs.Picks.{joined_rows, picks_at}
 use Rattle.vtl_join.proofs.Beside.{all_rows, rows_by_lead, tuple_by}
-use Rattle.vtl_join.proofs.Found.{AllFind, Finds, find_each, sought_finds}
+use Rattle.vtl_join.proofs.Found.{Finds, find_each, sought_finds}
 
 -- ---- the identifiers of a row of keys
 cell_behind : (before : Row) (v : Cell) (more : Row) → column_of (length before) (before ++ v ∷ more) ≡ v

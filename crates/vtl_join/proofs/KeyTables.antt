@@ -1,6 +1,5 @@
 -- Tables of the identifiers of operands.
-use Rattle.std.proofs.Common.{◌≡◌, ℕ, zero, suc, ◌+◌, ◌<◌, ◌≤◌, Bool, true, false, cond, List, [], ◌∷◌, ◌++◌, inl, inr, length, length-append, get_or, map, take, drop, refl, sym, ap, ◌∙◌, subst, All, append_assoc, arith, eqb, eq-eqb, ne_eqb, zero-add}
-use Rattle.std.specs.Borrow.{Bor}
+use Rattle.std.proofs.Common.{◌≡◌, ℕ, zero, suc, ◌+◌, ◌<◌, ◌≤◌, Bool, true, cond, List, [], ◌∷◌, ◌++◌, length, length-append, get_or, map, take, refl, sym, ap, ◌∙◌, subst, All, arith, eqb, eq-eqb, ne_eqb, zero-add}
 use Rattle.std.specs.List.{AllByRecursion, filter, flat_map, position_or_len, range_with_len}
 use Rattle.std.proofs.lemmas.Bool.{eqb-true}
 use Rattle.std.proofs.lemmas.Grind.{flat_map-append}
@@ -8,8 +7,7 @@ use Rattle.std.proofs.lemmas.List.{append-nil, get_or_default, get_or_past, leng
 use Rattle.vtl_cell.specs.Row.{Row, same_row}
 use Rattle.vtl_cell.specs.declared.kind.Kind.{Kind}
 use Rattle.vtl_cell.specs.declared.kind.Kind.TheVariants as k
-use Rattle.vtl_rows.specs.Gathered.{part_at, picked, picked_kind, pieces}
-use Rattle.vtl_rows.specs.Places.{row_at}
+use Rattle.vtl_rows.specs.Gathered.{picked, picked_kind, pieces}
 use Rattle.vtl_rows.specs.Tables.{Listed, cells_at, column_at, column_kinds}
 use Rattle.vtl_rows.specs.declared.column.Column.{Column}
 use Rattle.vtl_rows.specs.declared.gather.Pick.{Pick}
@@ -29,10 +27,10 @@ use Rattle.vtl_meaning.proofs.Places.{columns_split, each}
 use Rattle.vtl_join.specs.declared.joined.Operand.{Operand}
 use Rattle.vtl_join.specs.Joining.{sets_of}
 use Rattle.vtl_join.specs.Keys.{all_key_rows, key_kinds, key_places, key_rows}
-use Rattle.vtl_join.specs.Picks.{picks_at, table_of}
+use Rattle.vtl_join.specs.Picks.{picks_at}
 use Rattle.vtl_join.proofs.PickKinds.{named_kinds}
 use Rattle.vtl_join.proofs.Picked.{picked_lead}
-use Rattle.vtl_join.proofs.Pieced.{by_places, pieces_of_tuples}
+use Rattle.vtl_join.proofs.Pieced.{by_places, every, pieces_of_tuples}
 
 -- ---- columns
 column_front : (place : ℕ) (name : List ℕ) (kind : Kind) (xs ys : List Component) → IsColumnAt place name kind xs → IsColumnAt place name kind (xs ++ ys)
@@ -73,10 +71,6 @@ key_kinds_are ids d t e all =
 singles : (xs : List ℕ) → flat_map (λ x. cond true (x ∷ []) []) xs ≡ xs
 singles [] = refl
 singles (x ∷ xs) = ap (λ l. x ∷ l) (singles xs)
-
-every : {X : Type 0} (xs : List X) → filter (λ x. true) xs ≡ xs
-every [] = refl
-every (x ∷ xs) = ap (λ l. x ∷ l) (every xs)
 
 pub rows_of_part : (t : Listed) (places : List ℕ) → map (picked (t ∷ []) (picks_at 0 places)) (pieces 1 (range_with_len 0 (length t.rows))) ≡ map (cells_at places) t.rows
 rows_of_part t places =

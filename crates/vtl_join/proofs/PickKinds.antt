@@ -1,16 +1,13 @@
 -- The kinds of the columns from which cells are picked, and that there are these parts.
-use Rattle.std.proofs.Common.{◌≡◌, ℕ, zero, suc, ◌+◌, ◌<◌, ◌≤◌, List, [], ◌∷◌, ◌++◌, length, length-append, get_or, map, All, refl, sym, ap, ◌∙◌, subst, arith}
-use Rattle.std.specs.List.{AllByRecursion, flat_map}
-use Rattle.std.proofs.lemmas.List.{append_assoc, map-append, length-map}
+use Rattle.std.proofs.Common.{◌≡◌, ℕ, zero, suc, ◌+◌, ◌<◌, ◌≤◌, List, [], ◌∷◌, ◌++◌, length, length-append, map, All, refl, sym, ap, ◌∙◌, arith}
+use Rattle.std.specs.List.{AllByRecursion}
+use Rattle.std.proofs.lemmas.List.{append_assoc, map-append}
 use Rattle.vtl_cell.specs.declared.kind.Kind.{Kind}
-use Rattle.vtl_cell.specs.declared.kind.Kind.TheVariants as k
 use Rattle.vtl_rows.specs.Gathered.{part_at, picked_kind}
-use Rattle.vtl_rows.specs.Tables.{Listed, column_at, column_kinds}
+use Rattle.vtl_rows.specs.Tables.{Listed, column_at}
 use Rattle.vtl_rows.specs.declared.column.Column.{Column}
 use Rattle.vtl_rows.specs.declared.gather.Pick.{Pick}
 use Rattle.vtl_sets.specs.TableOf.{column_for, table_columns}
-use Rattle.vtl_sets.proofs.ColumnLemmas.{kinds_of_columns}
-use Rattle.vtl_tree.specs.DataSet.{IsDataSet}
 use Rattle.vtl_tree.specs.Environment.{DataSet}
 use Rattle.vtl_tree.specs.Structure.{IsStructure, columns_of, of_role}
 use Rattle.vtl_tree.specs.declared.structure.Component.{Component}
@@ -20,9 +17,11 @@ use Rattle.vtl_tree.specs.declared.structure.Structure.{Structure}
 use Rattle.vtl_meaning.specs.Columns.{identifiers_of, measures_of, place_of, places_in}
 use Rattle.vtl_meaning.specs.Joined.{structures_of}
 use Rattle.vtl_meaning.specs.Made.{AreAmong, IsColumnAt, attributes_of, component_kinds, kinds_of_all}
-use Rattle.vtl_meaning.proofs.JoinParts.{own_columns}
-use Rattle.vtl_meaning.proofs.Places.{all_append, all_back, all_front, all_more}
-use Rattle.vtl_join.specs.Picks.{picks_at, picks_behind, picks_from, places_of, table_of}
+use Rattle.vtl_meaning.proofs.JoinParts.{AreSets}
+use Rattle.vtl_meaning.proofs.OwnColumns.{own_columns}
+use Rattle.vtl_meaning.proofs.Places.{all_append, all_back, all_front}
+use Rattle.vtl_join.specs.Picks.{picks_at, picks_from, places_of, table_of}
+use Rattle.vtl_join.proofs.Picked.{part_behind}
 
 -- ---- kinds
 kind_at : (place : ℕ) (name : List ℕ) (kind : Kind) (xs : List Component) → IsColumnAt place name kind xs → (column_at (map column_for xs) place).kind ≡ kind
@@ -46,11 +45,7 @@ own_role role.Identifier a w = all_front (IsOwn a) (identifiers_of a) (measures_
 own_role role.Measure a w = all_back (IsOwn a) (identifiers_of a) (measures_of a) (all_front (IsOwn a) (identifiers_of a ++ measures_of a) (attributes_of a) (own_columns a w))
 own_role role.Attribute a w = all_back (IsOwn a) (identifiers_of a ++ measures_of a) (attributes_of a) (own_columns a w)
 
-part_behind : (pre : List Listed) (t : Listed) (parts : List Listed) → part_at (pre ++ t ∷ parts) (length pre) ≡ t
-part_behind [] t parts = refl
-part_behind (p ∷ pre) t parts = part_behind pre t parts
-
-kinds_from : (r : Role) (pre : List Listed) (ds : List DataSet) → AllByRecursion (λ d. IsDataSet d.structure d.points) ds
+kinds_from : (r : Role) (pre : List Listed) (ds : List DataSet) → AreSets ds
     → map (picked_kind (pre ++ map table_of ds)) (picks_from r (length pre) (structures_of ds)) ≡ kinds_of_all (of_role r) (structures_of ds)
 kinds_from r pre [] all = refl
 kinds_from r pre (d ∷ ds) all =
@@ -67,7 +62,7 @@ kinds_from r pre (d ∷ ds) all =
     ∙ ap (λ l. l ++ map (picked_kind parts) (picks_from r (length pre + 1) ss)) (named_kinds parts (length pre) (columns_of a) (of_role r a) here (own_role r a all.0.well_formed))
     ∙ ap (λ l. component_kinds (of_role r a) ++ l) rest
 
-pub kinds_behind : (r : Role) (lead : Listed) (ds : List DataSet) → AllByRecursion (λ d. IsDataSet d.structure d.points) ds → map (picked_kind (lead ∷ map table_of ds)) (picks_from r 1 (structures_of ds)) ≡ kinds_of_all (of_role r) (structures_of ds)
+pub kinds_behind : (r : Role) (lead : Listed) (ds : List DataSet) → AreSets ds → map (picked_kind (lead ∷ map table_of ds)) (picks_from r 1 (structures_of ds)) ≡ kinds_of_all (of_role r) (structures_of ds)
 kinds_behind r lead ds all = kinds_from r (lead ∷ []) ds all
 
 -- ---- parts

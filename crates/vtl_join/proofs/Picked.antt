@@ -1,8 +1,8 @@
 -- The cells that are picked for a tuple of row numbers are those of the tuple's parts.
-use Rattle.std.proofs.Common.{◌≡◌, ℕ, zero, suc, ◌+◌, ◌<◌, List, [], ◌∷◌, ◌++◌, length, length-append, get_or, map, Option, Some, None, refl, sym, ap, ◌∙◌, subst, arith}
-use Rattle.std.specs.Prelude.{slice_get, slice_index, slice_index_or}
+use Rattle.std.proofs.Common.{◌≡◌, ℕ, zero, suc, ◌+◌, List, [], ◌∷◌, ◌++◌, length, length-append, map, None, refl, sym, ap, ◌∙◌, arith}
+use Rattle.std.specs.Prelude.{slice_get, slice_index}
 use Rattle.std.specs.List.{flat_map}
-use Rattle.std.proofs.lemmas.List.{append_assoc, get_or-append_right, map-append}
+use Rattle.std.proofs.lemmas.List.{append_assoc, map-append}
 use Rattle.vtl_cell.specs.Row.{Row, column_of}
 use Rattle.vtl_cell.specs.declared.cell.Cell.TheVariants as c
 use Rattle.vtl_rows.specs.Gathered.{part_at, picked, picked_cell}
@@ -18,7 +18,7 @@ use Rattle.vtl_tree.specs.declared.structure.Structure.{Structure}
 use Rattle.vtl_meaning.specs.Columns.{places_in}
 use Rattle.vtl_meaning.specs.Joined.{Part, attributes_in, measures_in, part_of, structures_of, values_or_nulls}
 use Rattle.vtl_meaning.proofs.LookUps.{named_cells}
-use Rattle.vtl_join.specs.Picks.{joined_rows, picks_at, picks_behind, picks_from, places_of, table_of}
+use Rattle.vtl_join.specs.Picks.{picks_at, picks_behind, picks_from, places_of, table_of}
 
 -- ---- parts by the numbers of their rows
 abbrev pub parts_at : List DataSet → List ℕ → List Part
@@ -47,7 +47,7 @@ picked_at parts n (p ∷ places) tuple = ap (λ l. column_of p (row_at (part_at 
 pub picked_more : (parts : List Listed) (ps qs : List Pick) (tuple : List ℕ) → picked parts (ps ++ qs) tuple ≡ picked parts ps tuple ++ picked parts qs tuple
 picked_more parts ps qs tuple = map-append (picked_cell parts tuple) ps qs
 
-part_behind : (pre : List Listed) (t : Listed) (parts : List Listed) → part_at (pre ++ t ∷ parts) (length pre) ≡ t
+pub part_behind : (pre : List Listed) (t : Listed) (parts : List Listed) → part_at (pre ++ t ∷ parts) (length pre) ≡ t
 part_behind [] t parts = refl
 part_behind (p ∷ pre) t parts = part_behind pre t parts
 

@@ -1,5 +1,5 @@
 -- One more item of a walk, and what is made of equal parts.
-use Rattle.std.proofs.Common.{◌≡◌, ℕ, zero, suc, ◌+◌, ◌<◌, ◌≤◌, Bool, List, [], ◌∷◌, ◌++◌, length, length-append, get_or, map, map-id, take, drop, Option, Some, None, Result, Ok, Err, refl, sym, ap, ◌∙◌, subst, All, append_assoc, arith}
+use Rattle.std.proofs.Common.{◌≡◌, ℕ, suc, ◌+◌, ◌<◌, ◌≤◌, Bool, List, [], ◌∷◌, ◌++◌, length, get_or, map, map-id, take, drop, Option, Some, None, Result, Ok, Err, sym, ap, ◌∙◌, subst, All, append_assoc, arith}
 use Rattle.std.specs.Prelude.{IfOk}
 use Rattle.std.specs.Borrow.{Bor}
 use Rattle.std.specs.List.{AllByRecursion, flat_map, range_with_len}
@@ -12,9 +12,8 @@ use Rattle.vtl_rows.specs.Places.{row_at}
 use Rattle.vtl_rows.specs.Tables.{Listed, column_kinds}
 use Rattle.vtl_rows.specs.declared.gather.Pick.{Pick}
 use Rattle.vtl_index.specs.Seekers.{Sought}
-use Rattle.vtl_sets.specs.TableOf.{column_for, table_columns}
+use Rattle.vtl_sets.specs.TableOf.{table_columns}
 use Rattle.vtl_sets.proofs.ColumnLemmas.{kinds_of_columns}
-use Rattle.vtl_tree.specs.DataSet.{IsDataSet}
 use Rattle.vtl_tree.specs.Environment.{DataSet}
 use Rattle.vtl_tree.specs.Structure.{columns_of}
 use Rattle.vtl_tree.specs.declared.structure.Role.{Role}
@@ -24,6 +23,7 @@ use Rattle.vtl_tuples.proofs.Lists.{map-map}
 use Rattle.vtl_meaning.specs.Columns.{identifiers_of, measures_of}
 use Rattle.vtl_meaning.specs.Joined.{structures_of}
 use Rattle.vtl_meaning.specs.Made.{attributes_of, component_kinds, kinds_of_all}
+use Rattle.vtl_meaning.proofs.JoinParts.{AreSets}
 use Rattle.vtl_meaning.proofs.Places.{all_append}
 use Rattle.vtl_join.specs.declared.joined.Operand.{Operand}
 use Rattle.vtl_join.specs.Finding.{all_numbers, numbers_for, sought_beside, sources_around}
@@ -82,9 +82,6 @@ picks_more r os i o places before old new h at p e n =
     ∙ append_assoc before (picks_from r 1 ss) (picks_at (1 + length ss) (places_of r (g o))) ∙ ap (λ l. before ++ l) (sym (from_more r 1 ss (g o)) ∙ ap (picks_from r 1) (sym more))
 
 -- ---- what is gathered
-abbrev pub AreSets : List DataSet → Type 0
-AreSets ds = AllByRecursion (λ d. IsDataSet d.structure d.points) ds
-
 pub kinds_all : (lead : Listed) (ds : List DataSet) (ids : List Pick) (s : Structure) → AreSets ds → map (picked_kind (lead ∷ map table_of ds)) ids ≡ component_kinds (identifiers_of s)
     → component_kinds (measures_of s) ≡ kinds_of_all measures_of (structures_of ds) → component_kinds (attributes_of s) ≡ kinds_of_all attributes_of (structures_of ds)
     → column_kinds (table_columns s) ≡ map (picked_kind (lead ∷ map table_of ds)) (picks_behind ids (structures_of ds))

@@ -51,7 +51,11 @@ fn key_places(
 }
 
 // The keys of an operand, one for each of its rows.
-fn keys_of(alloc: Global, identifiers: &[&Component], operand: &DataSet) -> Result<Table, AllocError>
+fn keys_of(
+    alloc: Global,
+    identifiers: &[&Component],
+    operand: &DataSet,
+) -> Result<Table, AllocError>
     requires { AreAmong (shown identifiers.now) (columns_of operand.now.structure) }
     ensures columns { IfOk result (λ t. column_kinds t.columns ≡ key_kinds (shown identifiers.now)) }
     ensures rows { IfOk result (λ t. t.rows ≡ key_rows (shown identifiers.now) operand.now) }
@@ -61,7 +65,13 @@ fn keys_of(alloc: Global, identifiers: &[&Component], operand: &DataSet) -> Resu
     let mut picks = Vec::with_capacity(alloc, places.len())?;
     push_picks(&mut picks, 0, &places)?;
     let rows = up_to(alloc, table.len())?;
-    gather_beside(alloc, &[table], &rows, &picks, key_columns(alloc, identifiers)?)
+    gather_beside(
+        alloc,
+        &[table],
+        &rows,
+        &picks,
+        key_columns(alloc, identifiers)?,
+    )
 }
 
 // The keys of all operands, operand by operand.

@@ -2,9 +2,9 @@ use Rattle.std.proofs.Common.{◌≡◌, List, sym, ap, subst, ◌∙◌}
 use Rattle.vtl_tree.specs.DataSet.{IsDataSet}
 use Rattle.vtl_meaning.specs.Joined.{join_of}
 use Rattle.vtl_meaning.proofs.JoinKept.{join_kept}
+use Rattle.vtl_meaning.proofs.JoinParts.{AreSets}
 use Rattle.vtl_join.specs.declared.joined.Operand.{Operand}
 use Rattle.vtl_join.specs.Joining.{Joining, sets_of}
-use Rattle.vtl_join.proofs.Stepping.{AreSets}
 use Rattle.vtl_join.proofs.closing.close.Goals as goal
 
 pub of-requires : goal.of-requires

@@ -1,6 +1,4 @@
-use Rattle.std.proofs.Common.{◌≡◌, ℕ, ◌∷◌, [], true, List, ap, sym, ◌∙◌}
-use Rattle.std.specs.Prelude.{nat_eq}
-use Rattle.std.specs.List.{list_any}
+use Rattle.std.proofs.Common.{◌∷◌, [], ap, sym, ◌∙◌}
 use Rattle.vtl_join.specs.Crossing.{combined}
 use Rattle.vtl_join.proofs.Combining.{none_combined}
 use Rattle.vtl_join.proofs.crossing.combinations.Goals as goal
