@@ -10,4 +10,7 @@ pub mod Looks
 pub mod Orders
 pub mod Places
 pub mod Profiles
+pub mod ScriptsKept
+pub mod ScriptsOrders
+pub mod ScriptsProfiles
 pub mod ValueKinds

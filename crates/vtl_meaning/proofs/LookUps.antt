@@ -38,11 +38,11 @@ use Rattle.check_shapes.specs.Pairs.{contains}
 use Rattle.check_shapes.specs.declared.operands.Compared.TheVariants as compared
 use Rattle.vtl_meaning.specs.Columns.{column_behind, column_named, columns_named, identifiers_of, kind_named, measures_of, others_of, place_of, places_in}
 use Rattle.vtl_meaning.specs.LookUps.{calculated_at, chosen_at, has_key_values, measured_at, of_both, paired_at, part_for, result_at, value_named, values_for, values_named}
-use Rattle.vtl_meaning.specs.Made.{AreAmong, AreFor, HasIdentifiers, IsAlternative, IsCalculated, IsChoice, IsColumnAt, IsFiltered, IsLeft, IsMeasured, IsPaired, IsRenamed, IsSub, IsTyped}
+use Rattle.vtl_meaning.specs.Made.{AreAmong, AreFor, HasIdentifiers, IsAlternative, IsCalculated, IsChoice, IsColumnAt, IsFiltered, IsLeft, IsMeasured, IsPaired, IsRenamed, IsTyped}
 use Rattle.vtl_meaning.specs.Operators.{calculated_exp, calculated_of, choice_of, for_measures, has_values, is_first_chosen, joined_point, left_of, measured_of, pair_of, sub_of, taken_at, target_named, value_exp, with_measure, with_namesake}
 use Rattle.vtl_meaning.specs.Points.{beside, cell_or_null, each_point, paired, partner, point_fault, point_of, with_points}
 use Rattle.vtl_meaning.proofs.Drawn.{drawn_all}
-use Rattle.vtl_meaning.proofs.Kept.{Alike, Pairs, alike_by_columns, alike_by_values, alike_cells, all_paired, both_all, calculated_split, column_within, exps_keep, exps_split, for_back, key_widths, joined_keeps, look_is, one_of, pairs_with, place_front, shown_keeps, shown_split, taken_key, unless_ok}
+use Rattle.vtl_meaning.proofs.Kept.{Alike, Pairs, Tells, alike_by_columns, alike_by_values, alike_cells, all_paired, both_all, calculated_split, column_within, exps_keep, exps_split, for_back, key_widths, joined_keeps, look_is, one_of, pairs_with, place_front, shown_keeps, shown_split, taken_key, unless_ok}
 use Rattle.vtl_meaning.proofs.Looks.{found_map, found_of_map, found_then, kept_all, look-drawn, look-map, look_key, map_then, map_twice, some_if, then_turned}
 use Rattle.vtl_meaning.proofs.Places.{IsIdentifier, all_filtered, all_more, are_identifiers, columns_split, first_cells, identifiers_apart, key_cells, key_of_point, key_within, place_here, place_later, point_append, point_length}
 use Rattle.vtl_meaning.proofs.ValueKinds.{IsOf, cell_is_of}
@@ -352,15 +352,19 @@ same_truth true y f g = sym (f refl)
 same_truth false true f g = g refl
 same_truth false false f g = refl
 
-module _ (items : List SubItem) (a s : Structure) (i : IsSub items a s) (w : IsStructure a) where
+-- each value is one of an identifier
+abbrev pub AreKeyValues : List SubItem → Structure → Type 0
+AreKeyValues items a = AllByRecursion (λ x. (is_of (kind_named x.id (identifiers_of a)) x.value ≡ true) × IsColumnAt (place_of x.id (identifiers_of a)) x.id (kind_named x.id (identifiers_of a)) (identifiers_of a)) items
+
+module _ (items : List SubItem) (a s : Structure) (i : Tells items a s) (vs : AreKeyValues items a) (w : IsStructure a) where
   within_key : (r : Row) (name : List ℕ) → place_of name (identifiers_of a) < length (identifiers_of a) → value_named (columns_of a) r name ≡ value_named (identifiers_of a) (take (key_width a) r) name
   within_key r name h = ap (λ xs. value_named xs r name) (columns_split a) ∙ named_front (identifiers_of a) (others_of a) r name h
 
   -- a point has these values where its key has them
   values_of_key : (r : Row) → has_values a items r ≡ has_key_values a items (take (key_width a) r)
-  values_of_key r = go items i.values
+  values_of_key r = go items vs
     where
-      go : (us : List SubItem) → AllByRecursion (λ x. (is_of (kind_named x.id (identifiers_of a)) x.value ≡ true) × IsColumnAt (place_of x.id (identifiers_of a)) x.id (kind_named x.id (identifiers_of a)) (identifiers_of a)) us → has_values a us r ≡ has_key_values a us (take (key_width a) r)
+      go : (us : List SubItem) → AreKeyValues us a → has_values a us r ≡ has_key_values a us (take (key_width a) r)
       go [] all = refl
       go (x ∷ us) all =
           ap (λ v. same_cell v x.value && has_values a us r) (within_key r x.id (column_within (place_of x.id (identifiers_of a)) x.id (kind_named x.id (identifiers_of a)) (identifiers_of a) all.0.1))

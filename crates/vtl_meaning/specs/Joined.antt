@@ -39,15 +39,15 @@ is_whole t = list_all (λ p. is_some p.point) t.parts
 
 -- ---- the reference, of which the joined set has the identifiers
 abbrev pub contains_all : List Structure → Structure → Bool
-contains_all as a = list_all (λ b. contains a b) as
+contains_all ss a = list_all (λ b. contains a b) ss
 
 -- Its place: in an inner join that of the first operand whose identifiers contain those of every other, in the other joins the
 -- first one.
 abbrev pub reference_place : JoinKind → List Structure → ℕ
-reference_place join.Inner as = position_or_len (contains_all as) as
-reference_place join.Left as = 0
-reference_place join.Full as = 0
-reference_place join.Cross as = 0
+reference_place join.Inner ss = position_or_len (contains_all ss) ss
+reference_place join.Left ss = 0
+reference_place join.Full ss = 0
+reference_place join.Cross ss = 0
 
 abbrev pub structures_of : List DataSet → List Structure
 structures_of ds = map (λ d. d.structure) ds

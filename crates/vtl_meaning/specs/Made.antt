@@ -150,12 +150,12 @@ pub record IsSub (items : List SubItem) (a s : Structure) : Type 0 where
   pub shape : s.components ≡ chosen choice.Drop (map (λ i. i.id) items) a.components
 
 -- ---- joins
-abbrev pub kinds_of : List Component → List Kind
-kinds_of xs = map (λ x. x.kind) xs
+abbrev pub component_kinds : List Component → List Kind
+component_kinds xs = map (λ x. x.kind) xs
 
 -- the kinds of some columns of all operands, operand by operand
 abbrev pub kinds_of_all : (Structure → List Component) → List Structure → List Kind
-kinds_of_all f as = flat_map (λ a. kinds_of (f a)) as
+kinds_of_all f ss = flat_map (λ a. component_kinds (f a)) ss
 
 abbrev pub attributes_of : Structure → List Component
 attributes_of s = of_role role.Attribute s
@@ -164,19 +164,19 @@ attributes_of s = of_role role.Attribute s
 -- left joins the reference has all of each operand's identifiers, in full joins the operands have the same; a cross join keeps
 -- those of every operand.
 abbrev pub GoTogether : JoinKind → (reference : Structure) → List Structure → Structure → Type 0
-GoTogether join.Inner r as s = HasIdentifiers s (identifiers_of r) × AllByRecursion (λ a. AreAmong (identifiers_of a) (identifiers_of r)) as
-GoTogether join.Left r as s = HasIdentifiers s (identifiers_of r) × AllByRecursion (λ a. AreAmong (identifiers_of a) (identifiers_of r)) as
-GoTogether join.Full r as s = HasIdentifiers s (identifiers_of r) × AllByRecursion (λ a. AreAmong (identifiers_of a) (identifiers_of r) × AreAmong (identifiers_of r) (identifiers_of a)) as
-GoTogether join.Cross r as s = kinds_of (identifiers_of s) ≡ kinds_of_all identifiers_of as
+GoTogether join.Inner r ss s = HasIdentifiers s (identifiers_of r) × AllByRecursion (λ a. AreAmong (identifiers_of a) (identifiers_of r)) ss
+GoTogether join.Left r ss s = HasIdentifiers s (identifiers_of r) × AllByRecursion (λ a. AreAmong (identifiers_of a) (identifiers_of r)) ss
+GoTogether join.Full r ss s = HasIdentifiers s (identifiers_of r) × AllByRecursion (λ a. AreAmong (identifiers_of a) (identifiers_of r) × AreAmong (identifiers_of r) (identifiers_of a)) ss
+GoTogether join.Cross r ss s = component_kinds (identifiers_of s) ≡ kinds_of_all identifiers_of ss
 
 -- The columns of a joined set. Their names, `IsJoinedFrom` says.
-pub record IsJoined (kind : JoinKind) (as : List Structure) (s : Structure) : Type 0 where
+pub record IsJoined (kind : JoinKind) (ss : List Structure) (s : Structure) : Type 0 where
   pub well_formed : IsStructure s
   pub reference : Structure
-  pub there : slice_get as (reference_place kind as) ≡ Some reference
-  pub identifiers : GoTogether kind reference as s
-  pub measures : kinds_of (measures_of s) ≡ kinds_of_all measures_of as
-  pub attributes : kinds_of (attributes_of s) ≡ kinds_of_all attributes_of as
+  pub there : slice_get ss (reference_place kind ss) ≡ Some reference
+  pub identifiers : GoTogether kind reference ss s
+  pub measures : component_kinds (measures_of s) ≡ kinds_of_all measures_of ss
+  pub attributes : component_kinds (attributes_of s) ≡ kinds_of_all attributes_of ss
 
 -- ---- set operators
 -- the first operand's identifiers and measures; each operand has them, in any order
@@ -195,7 +195,7 @@ AreCombined (a ∷ bs) s = IsCombined a bs s
 pub record IsExistence (a b s : Structure) : Type 0 where
   pub well_formed : IsStructure s
   pub identifiers : HasIdentifiers s (identifiers_of a)
-  pub truth : kinds_of (others_of s) ≡ k.Bool ∷ []
+  pub truth : component_kinds (others_of s) ≡ k.Bool ∷ []
   pub common : AreAmong (common_identifiers a b) (identifiers_of a)
   pub shape : s.components ≡ agreed_identifiers (b ∷ []) a.components ++ bool_var ∷ []
 
@@ -206,14 +206,14 @@ pub record IsPivoted (id m : List ℕ) (a s : Structure) : Type 0 where
   pub identifiers : HasIdentifiers s (other_identifiers id a)
   pub coded : IsColumnAt (place_of id (identifiers_of a)) id (kind_named id (identifiers_of a)) (identifiers_of a)
   pub measured : IsColumnAt (place_of m (columns_of a)) m (kind_named m (columns_of a)) (columns_of a)
-  pub measures : kinds_of (others_of s) ≡ map (λ code. kind_named m (columns_of a)) (codes_of id a)
+  pub measures : component_kinds (others_of s) ≡ map (λ code. kind_named m (columns_of a)) (codes_of id a)
   pub shape : s.components ≡ pivot_components id (kind_named m (columns_of a)) (codes_of id a) a.components
 
 -- the identifiers, one of texts behind them, and a measure of the kind that all measures have
 pub record IsUnpivoted (id m : List ℕ) (a s : Structure) : Type 0 where
   pub well_formed : IsStructure s
   pub identifiers : HasIdentifiers s (identifiers_of a ++ names_column id (measures_of a) ∷ [])
-  pub measured : kinds_of (others_of s) ≡ first_kind (measures_of a) ∷ []
+  pub measured : component_kinds (others_of s) ≡ first_kind (measures_of a) ∷ []
   pub alike : AllByRecursion (λ x. x.kind ≡ first_kind (measures_of a)) (measures_of a)
   pub shape : s.components ≡ chosen choice.Except [] a.components ++ names_column id (measures_of a) ∷ made m role.Measure (first_kind (measures_of a)) ∷ []
 
