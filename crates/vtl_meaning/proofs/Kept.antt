@@ -300,7 +300,7 @@ place_front name (x ∷ xs) ys h = go (same_name x.name name) refl (place_front 
         let later = place_later name x xs e in
         place_later name x (xs ++ ys) e ∙ ap suc (ih (omega (arith, h, later))) ∙ sym later
 
-column_front : (place : ℕ) (name : List ℕ) (kind : Kind) (xs ys : List Component) → IsColumnAt place name kind xs → IsColumnAt place name kind (xs ++ ys)
+pub column_front : (place : ℕ) (name : List ℕ) (kind : Kind) (xs ys : List Component) → IsColumnAt place name kind xs → IsColumnAt place name kind (xs ++ ys)
 column_front place name kind [] ys i = absurd i
 column_front zero name kind (x ∷ xs) ys i = i
 column_front (suc place) name kind (x ∷ xs) ys i = column_front place name kind xs ys i
@@ -317,7 +317,7 @@ identifier_filled (suc place) name kind (x ∷ xs) ys [] all i h = cc
 identifier_filled (suc place) name kind (x ∷ xs) ys (v ∷ r) all i h = identifier_filled place name kind xs ys r all.1 i (point_parts x (xs ++ ys) v r h).2
 
 -- cells of some of the identifiers
-some_identifiers : (ys xs others : List Component) (r : Row) → AllByRecursion IsIdentifier ys → AllByRecursion IsIdentifier xs → AreAmong ys xs → is_point (xs ++ others) r ≡ true → is_point ys (cells_at (places_in (xs ++ others) ys) r) ≡ true
+pub some_identifiers : (ys xs others : List Component) (r : Row) → AllByRecursion IsIdentifier ys → AllByRecursion IsIdentifier xs → AreAmong ys xs → is_point (xs ++ others) r ≡ true → is_point ys (cells_at (places_in (xs ++ others) ys) r) ≡ true
 some_identifiers [] xs others r a b i h = refl
 some_identifiers (y ∷ ys) xs others r a b i h =
     let at = place_of y.name xs in

@@ -1,5 +1,5 @@
 -- Expressions and scripts keep data sets.
-use Rattle.std.proofs.Common.{◌≡◌, ℕ, Bool, true, false, cond, ◌&&◌, List, [], ◌∷◌, Some, Ok, Err, refl, sym, subst, true≢false, Result}
+use Rattle.std.proofs.Common.{◌≡◌, ℕ, Bool, true, false, cond, ◌&&◌, List, [], ◌∷◌, Some, Ok, Err, Result, refl, sym, ap, subst, true≢false}
 use Rattle.std.specs.List.{filter, list_all}
 use Rattle.std.specs.Map.{lookup}
 use Rattle.std.specs.Option.{option_map_or}
@@ -13,13 +13,20 @@ use Rattle.vtl_tree.specs.Environment.{DataSet, Environment, data_of}
 use Rattle.vtl_tree.specs.Structure.{same_name}
 use Rattle.vtl_tree.specs.declared.structure.Structure.{Structure}
 use Rattle.vtl_nodes.specs.Trees as nodes
-use Rattle.vtl_nodes.specs.Trees.{FormTree, NodeTree, structure_of}
-use Rattle.vtl_meaning.specs.Made.{IsLeft, IsMade, IsMadeForm, AreMadeStatements}
-use Rattle.vtl_meaning.specs.Meaning.{AreDataSets, form_value, is_built, is_built_form, known_in, node_value, points_named, with_operand, Outputs, with_output, Statement, meaning, stated}
+use Rattle.vtl_nodes.specs.Trees.{FormTree, NodeTree, NodeTrees, OperandTrees, structure_of}
+use Rattle.check_joins.specs.Joins as joins
+use Rattle.vtl_meaning.specs.Joined.{join_of, structures_of}
+use Rattle.vtl_meaning.specs.Made.{AreCombined, AreMade, AreMadeOperands, AreMadeStatements, IsJoined, IsLeft, IsMade, IsMadeForm, node_structures, operands_in}
+use Rattle.vtl_meaning.specs.Meaning.{AreDataSets, Outputs, Statement, are_nodes_built, are_operands_built, form_value, is_built, is_built_form, known_in, meaning, node_value, nodes_value, operands_value, points_named, stated, with_first, with_operand, with_output}
 use Rattle.vtl_meaning.specs.Operators.{calculated_of, choice_of, left_of, measured_of, pair_of, sub_of}
 use Rattle.vtl_meaning.specs.Points.{with_points}
-use Rattle.vtl_meaning.proofs.Places.{same_name-sym}
+use Rattle.vtl_meaning.specs.Sets.{difference_of, existence_of, intersection_of, symmetric_difference_of, union_of}
+use Rattle.vtl_meaning.specs.Turned.{pivot_of, unpivot_of}
+use Rattle.vtl_meaning.proofs.JoinKept.{join_kept}
 use Rattle.vtl_meaning.proofs.Kept.{after_ok, calculated_kept, choice_kept, filtered_kept, left_kept, measured_kept, ok_is, operand_ok, pair_kept, renamed_kept, sub_kept}
+use Rattle.vtl_meaning.proofs.Places.{same_name-sym}
+use Rattle.vtl_meaning.proofs.SetsKept.{AreSets, difference_kept, existence_kept, intersection_kept, symmetric_difference_kept, union_kept}
+use Rattle.vtl_meaning.proofs.TurnedKept.{pivot_kept, unpivot_kept}
 
 -- ---- expressions
 named_kept : (name : List ℕ) (s : Structure) (env : Environment) → lookup (same_name name) (known_in env) ≡ Some s → AreDataSets env → IsDataSet s (points_named name env)
@@ -42,6 +49,26 @@ left_given a s m out i h e =
     let x = operand_ok a m (λ d. Ok (left_of d s)) out e in
     let d = with_points (structure_of a) x.0 in
     subst (λ l. IsDataSet s l) (ok_is (left_of d s) out x.2) (left_kept d s i (h x.0 x.1))
+
+-- the points of two operands
+two_ok : (a c : NodeTree) (m n : Outcome (List Row)) (f : DataSet → DataSet → List Row) (out : List Row) → with_operand a m (λ d. with_operand c n (λ q. Ok (f d q))) ≡ Ok out → (d : List Row) × (q : List Row) × (m ≡ Ok d) × (n ≡ Ok q) × (f (with_points (structure_of a) d) (with_points (structure_of c) q) ≡ out)
+two_ok a c m n f out e =
+    let x = operand_ok a m (λ d. with_operand c n (λ q. Ok (f d q))) out e in
+    let y = operand_ok c n (λ q. Ok (f (with_points (structure_of a) x.0) q)) out x.2 in
+    (x.0, y.0, x.1, y.1, ok_is (f (with_points (structure_of a) x.0) (with_points (structure_of c) y.0)) out y.2)
+
+-- the first of several operands, and the others
+pub first_ok : (n : NodeTree) (m : Outcome (List Row)) (rest : Outcome (List DataSet)) (ds : List DataSet) → with_first n m rest ≡ Ok ds → (points : List Row) × (others : List DataSet) × (m ≡ Ok points) × (rest ≡ Ok others) × (with_points (structure_of n) points ∷ others ≡ ds)
+first_ok n m rest ds e =
+    let x = after_ok m (λ points. after rest (λ others. Ok (with_points (structure_of n) points ∷ others))) ds e in
+    let y = after_ok rest (λ others. Ok (with_points (structure_of n) x.0 ∷ others)) ds x.2 in
+    (x.0, y.0, x.1, y.1, ok_is (with_points (structure_of n) x.0 ∷ y.0) ds y.2)
+
+no_operand : (ds : List DataSet) → [] ≡ ds → (structures_of ds ≡ []) × AreSets ds
+no_operand ds e = subst (λ l. (structures_of l ≡ []) × AreSets l) e (refl, tt)
+
+more_operands : (n : NodeTree) (points : List Row) (others ds : List DataSet) (ss : List Structure) → with_points (structure_of n) points ∷ others ≡ ds → IsDataSet (structure_of n) points → (structures_of others ≡ ss) × AreSets others → (structures_of ds ≡ structure_of n ∷ ss) × AreSets ds
+more_operands n points others ds ss e h i = subst (λ l. (structures_of l ≡ structure_of n ∷ ss) × AreSets l) e (ap (λ l. structure_of n ∷ l) i.0, (h, i.1))
 
 mutual
   -- of an expression over an environment of data sets
@@ -84,15 +111,54 @@ mutual
       let x = operand_ok a (node_value p env a) (λ d. Ok (sub_of items d s)) out e in
       let d = with_points (structure_of a) x.0 in
       subst (λ l. IsDataSet s l) (ok_is (sub_of items d s) out x.2) (sub_kept items d s i.1 (node_kept p env a x.0 b i.0 h x.1))
-  form_kept p env s (nodes.pivot a id m) out b i h e = ?
-  form_kept p env s (nodes.unpivot a id m) out b i h e = ?
-  form_kept p env s (nodes.join os spec) out b i h e = ?
-  form_kept p env s (nodes.union ns) out b i h e = ?
-  form_kept p env s (nodes.intersect ns) out b i h e = ?
-  form_kept p env s (nodes.set_diff a c) out b i h e = ?
-  form_kept p env s (nodes.sym_diff a c) out b i h e = ?
-  form_kept p env s (nodes.exists_in a c r) out b i h e = ?
+  form_kept p env s (nodes.pivot a id m) out b i h e =
+      let x = operand_ok a (node_value p env a) (λ d. Ok (pivot_of d id m)) out e in
+      let d = with_points (structure_of a) x.0 in
+      subst (λ l. IsDataSet s l) (ok_is (pivot_of d id m) out x.2) (pivot_kept id m d s i.1 (node_kept p env a x.0 b i.0 h x.1))
+  form_kept p env s (nodes.unpivot a id m) out b i h e =
+      let x = operand_ok a (node_value p env a) (λ d. Ok (unpivot_of d)) out e in
+      let d = with_points (structure_of a) x.0 in
+      subst (λ l. IsDataSet s l) (ok_is (unpivot_of d) out x.2) (unpivot_kept id m d s i.1 (node_kept p env a x.0 b i.0 h x.1))
+  form_kept p env s (nodes.join os spec) out b i h e =
+      let x = after_ok (operands_value p env os) (λ ds. Ok (join_of spec.kind ds)) out e in
+      let sets = operands_kept p env os x.0 b i.0 h x.1 in
+      subst (λ l. IsDataSet s l) (ok_is (join_of spec.kind x.0) out x.2) (join_kept spec.kind x.0 s (subst (λ ss. IsJoined spec.kind ss s) (sym sets.0) i.1) sets.1)
+  form_kept p env s (nodes.union ns) out b i h e =
+      let x = after_ok (nodes_value p env ns) (λ ds. Ok (union_of ds s)) out e in
+      let sets = nodes_kept p env ns x.0 b i.0 h x.1 in
+      subst (λ l. IsDataSet s l) (ok_is (union_of x.0 s) out x.2) (union_kept x.0 s (subst (λ ss. AreCombined ss s) (sym sets.0) i.1) sets.1)
+  form_kept p env s (nodes.intersect ns) out b i h e =
+      let x = after_ok (nodes_value p env ns) (λ ds. Ok (intersection_of ds s)) out e in
+      let sets = nodes_kept p env ns x.0 b i.0 h x.1 in
+      subst (λ l. IsDataSet s l) (ok_is (intersection_of x.0 s) out x.2) (intersection_kept x.0 s (subst (λ ss. AreCombined ss s) (sym sets.0) i.1) sets.1)
+  form_kept p env s (nodes.set_diff a c) out b i h e =
+      let built = both_built (is_built a) (is_built c) b in
+      let x = two_ok a c (node_value p env a) (node_value p env c) (λ d q. difference_of d q s) out e in
+      subst (λ l. IsDataSet s l) x.4 (difference_kept (with_points (structure_of a) x.0) (with_points (structure_of c) x.1) s i.2 (node_kept p env a x.0 built.0 i.0 h x.2) (node_kept p env c x.1 built.1 i.1 h x.3))
+  form_kept p env s (nodes.sym_diff a c) out b i h e =
+      let built = both_built (is_built a) (is_built c) b in
+      let x = two_ok a c (node_value p env a) (node_value p env c) (λ d q. symmetric_difference_of d q s) out e in
+      subst (λ l. IsDataSet s l) x.4 (symmetric_difference_kept (with_points (structure_of a) x.0) (with_points (structure_of c) x.1) s i.2 (node_kept p env a x.0 built.0 i.0 h x.2) (node_kept p env c x.1 built.1 i.1 h x.3))
+  form_kept p env s (nodes.exists_in a c r) out b i h e =
+      let built = both_built (is_built a) (is_built c) b in
+      let x = two_ok a c (node_value p env a) (node_value p env c) (λ d q. existence_of d q r) out e in
+      subst (λ l. IsDataSet s l) x.4 (existence_kept (with_points (structure_of a) x.0) (with_points (structure_of c) x.1) r s i.2 (node_kept p env a x.0 built.0 i.0 h x.2))
   form_kept p env s other out b i h e = cc
+
+  -- the operands have the structures of their expressions, and are data sets
+  pub nodes_kept : (p : Settings) (env : Environment) (ns : NodeTrees) (ds : List DataSet) → are_nodes_built ns ≡ true → AreMade p (known_in env) ns → AreDataSets env → nodes_value p env ns ≡ Ok ds → (structures_of ds ≡ node_structures ns) × AreSets ds
+  nodes_kept p env nodes.no_nodes ds b i h e = no_operand ds (ok_is [] ds e)
+  nodes_kept p env (nodes.and_node n ns) ds b i h e =
+      let built = both_built (is_built n) (are_nodes_built ns) b in
+      let x = first_ok n (node_value p env n) (nodes_value p env ns) ds e in
+      more_operands n x.0 x.1 ds (node_structures ns) x.4 (node_kept p env n x.0 built.0 i.0 h x.2) (nodes_kept p env ns x.1 built.1 i.1 h x.3)
+
+  pub operands_kept : (p : Settings) (env : Environment) (os : OperandTrees) (ds : List DataSet) → are_operands_built os ≡ true → AreMadeOperands p (known_in env) os → AreDataSets env → operands_value p env os ≡ Ok ds → (structures_of ds ≡ joins.structures_of (operands_in os)) × AreSets ds
+  operands_kept p env nodes.no_operands ds b i h e = no_operand ds (ok_is [] ds e)
+  operands_kept p env (nodes.operand n alias os) ds b i h e =
+      let built = both_built (is_built n) (are_operands_built os) b in
+      let x = first_ok n (node_value p env n) (operands_value p env os) ds e in
+      more_operands n x.0 x.1 ds (joins.structures_of (operands_in os)) x.4 (node_kept p env n x.0 built.0 i.0 h x.2) (operands_kept p env os x.1 built.1 i.1 h x.3)
 
 -- ---- statements
 -- each output is a data set
