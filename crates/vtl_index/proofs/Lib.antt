@@ -6,6 +6,7 @@ pub mod KeyForms
 pub mod KeyGroups
 pub mod KeyOrder
 pub mod LeadLemmas
+pub mod LeadWalk
 pub mod Probes
 pub mod Putting
 pub mod Ranges

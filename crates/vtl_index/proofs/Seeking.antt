@@ -3,7 +3,6 @@ use Rattle.std.proofs.Common.{◌≡◌, ℕ, zero, suc, ◌+◌, Bool, true, fa
 use Rattle.std.specs.Prelude.{nat_lt, slice_get}
 use Rattle.std.specs.List.{list_any, position_or_len, range_with_len}
 use Rattle.std.specs.Option.{unwrap_or}
-use Rattle.std.proofs.lemmas.List.FromFn.{fill_by_all}
 use Rattle.vtl_cell.specs.Row.{Row}
 use Rattle.vtl_rows.specs.Places.{row_at}
 use Rattle.vtl_rows.specs.Tables.{cells_at}
@@ -15,6 +14,7 @@ use Rattle.vtl_index.specs.declared.row_keys.KeyColumn.{KeyColumn}
 use Rattle.vtl_index.specs.declared.row_keys.NullKeys.TheVariants.{Found}
 use Rattle.vtl_index.proofs.KeyForms.{plain_keys}
 use Rattle.vtl_index.proofs.KeyOrder.{list_any_map}
+use Rattle.vtl_index.proofs.Ranges.{all_indexed}
 
 -- ---- the numbers that pass a test
 first_number : (p : ℕ → Bool) (a n : ℕ) → unwrap_or (slice_get (filter p (range_with_len a n)) 0) (a + n) ≡ a + position_or_len p (range_with_len a n)
@@ -42,22 +42,19 @@ position_map p at [] = refl
 position_map p at (i ∷ is) = ap (λ n. cond (not (p (at i))) (1 + n) 0) (position_map p at is)
 
 module _ {X : Type 0} (p : X → Bool) (xs : List X) (d : X) where
-  all_read : map (λ i. get_or xs i d) (range_with_len 0 (length xs)) ≡ xs
-  all_read = sym (fill_by_all (λ i. get_or xs i d) xs (length xs) d refl (λ i h. refl))
-
   first_place : unwrap_or (slice_get (filter (λ i. p (get_or xs i d)) (range_with_len 0 (length xs))) 0) (length xs) ≡ position_or_len p xs
   first_place =
       ap (unwrap_or (slice_get (filter (λ i. p (get_or xs i d)) (range_with_len 0 (length xs))) 0)) (sym (zero-add (length xs)))
       ∙ first_number (λ i. p (get_or xs i d)) 0 (length xs)
       ∙ zero-add (position_or_len (λ i. p (get_or xs i d)) (range_with_len 0 (length xs)))
       ∙ position_map p (λ i. get_or xs i d) (range_with_len 0 (length xs))
-      ∙ ap (position_or_len p) all_read
+      ∙ ap (position_or_len p) (all_indexed xs d)
 
   any_place : nat_lt 0 (length (filter (λ i. p (get_or xs i d)) (range_with_len 0 (length xs)))) ≡ list_any p xs
   any_place =
       any_number (λ i. p (get_or xs i d)) (range_with_len 0 (length xs))
       ∙ sym (list_any_map p (λ i. get_or xs i d) (range_with_len 0 (length xs)))
-      ∙ ap (list_any p) all_read
+      ∙ ap (list_any p) (all_indexed xs d)
 
 -- ---- the rows that are found by cells as they are
 abbrev sought_of : List ℕ → List ℕ → List Row → Sought
