@@ -13,7 +13,7 @@ use Rattle.vtl_meaning.specs.Meaning.{is_built_form}
 pub same_shape : (s t : Structure) (xs : List Component) → s.components ≡ xs → t.components ≡ xs → s ≡ t
 same_shape s t xs h k = ap structure_of (h ∙ sym k)
 
-pub combined_shape : (as : List Structure) (s t : Structure) → AreCombined ss s → AreCombined ss t → s ≡ t
+pub combined_shape : (ss : List Structure) (s t : Structure) → AreCombined ss s → AreCombined ss t → s ≡ t
 combined_shape [] s t h k = absurd h
 combined_shape (a ∷ bs) s t h k = same_shape s t _ h.shape k.shape
 

@@ -1,41 +1,37 @@
 -- Joins of data sets give data sets.
-use Rattle.std.proofs.Common.{◌≡◌, ℕ, zero, suc, Bool, true, false, not, ◌&&◌, ◌||◌, List, [], ◌∷◌, ◌++◌, cond, length, map, take, Option, Some, None, refl, sym, ap, ◌∙◌, subst, arith}
+use Rattle.std.proofs.Common.{◌≡◌, ℕ, zero, suc, Bool, true, false, not, ◌&&◌, ◌||◌, List, [], ◌∷◌, ◌++◌, cond, length, map, take, Some, None, refl, sym, ap, ◌∙◌, subst, arith}
 use Rattle.std.specs.Prelude.{slice_get}
 use Rattle.std.specs.List.{AllByRecursion, filter, flat_map, list_any}
 use Rattle.std.specs.Option.{option_map_or, option_to_list}
-use Rattle.std.proofs.lemmas.Bool.{and_parts}
 use Rattle.std.proofs.lemmas.List.{take_all}
 use Rattle.vtl_cell.specs.Apart.{all_apart}
-use Rattle.vtl_cell.specs.Kinds.{is_null, is_of}
 use Rattle.vtl_cell.specs.Order.{same_cell}
-use Rattle.vtl_cell.specs.Row.{Row, column_of, same_key, same_row}
-use Rattle.vtl_cell.specs.declared.cell.Cell.{Cell}
-use Rattle.vtl_cell.specs.declared.kind.Kind.{Kind}
-use Rattle.vtl_cell.proofs.Aparts.{apart_more, apart_parts, none_is, none_same}
-use Rattle.vtl_cell.proofs.Cells.{same_cell-refl}
+use Rattle.vtl_cell.specs.Row.{Row, same_key, same_row}
+use Rattle.vtl_cell.proofs.Aparts.{apart_more, apart_parts}
 use Rattle.vtl_cell.proofs.Rows.{same_row-refl}
 use Rattle.vtl_cell.proofs.Sorts.{AllByRecursion-filter}
+use Rattle.vtl_rows.specs.Tables.{cells_at}
 use Rattle.vtl_syntax.specs.declared.word_groups.JoinKind.{JoinKind}
 use Rattle.vtl_syntax.specs.declared.word_groups.JoinKind.TheVariants as join
 use Rattle.vtl_tree.specs.DataSet.{Distinct, IsDataSet, is_point}
 use Rattle.vtl_tree.specs.Environment.{DataSet}
-use Rattle.vtl_tree.specs.Structure.{IsStructure, columns_of, key_width, same_name, same_role}
+use Rattle.vtl_tree.specs.Structure.{IsStructure, columns_of, key_width}
 use Rattle.vtl_tree.specs.declared.structure.Component.{Component}
-use Rattle.vtl_tree.specs.declared.structure.Role.TheVariants as role
 use Rattle.vtl_tree.specs.declared.structure.Structure.{Structure}
 use Rattle.vtl_tuples.specs.Keys.{each_once}
 use Rattle.vtl_tuples.specs.Tuples.{combinations}
 use Rattle.vtl_tuples.proofs.Lists.{map-flat_map, map-map}
 use Rattle.vtl_tuples.proofs.Onces.{once_apart}
 use Rattle.vtl_meaning.specs.Agreement.{OperandPoint, agree_in, key_of, operand_point, operand_points, values_in}
-use Rattle.vtl_meaning.specs.Columns.{identifiers_of, others_of, place_of}
-use Rattle.vtl_meaning.specs.Joined.{Tuple, all_keys, cross_tuples, crossed, full_tuples, inner_tuples, is_whole, join_of, joined_of, keys_in, left_tuples, present, reference_place, structures_of, tuple_at, tuple_beside, tuple_point}
-use Rattle.vtl_meaning.specs.LookUps.{value_named}
-use Rattle.vtl_meaning.specs.Made.{AreAmong, GoTogether, HasIdentifiers, IsColumnAt, IsJoined, component_kinds, kinds_of_all}
+use Rattle.vtl_meaning.specs.Columns.{identifiers_of, others_of, places_in}
+use Rattle.vtl_meaning.specs.JoinWords.{whole_point}
+use Rattle.vtl_meaning.specs.Joined.{all_keys, cross_tuples, crossed, full_tuples, inner_tuples, is_whole, join_of, joined_of, keys_in, left_tuples, present, reference_place, structures_of, tuple_at, tuple_beside, tuple_point}
+use Rattle.vtl_meaning.specs.Made.{AreAmong, GoTogether, HasIdentifiers, IsJoined, component_kinds, kinds_of_all}
 use Rattle.vtl_meaning.proofs.Drawn.{AtMostOne, Keeps, drawn_kept, mapped_kept}
 use Rattle.vtl_meaning.proofs.JoinParts.{AreSets, IsPart, parts_are, parts_of_operands, tuple_is}
-use Rattle.vtl_meaning.proofs.Places.{IsIdentifier, all_append, all_map, all_more, all_of_map, are_identifiers, columns_split, key_for, key_of_point, place_here, place_later, point_append, point_length, point_of_identifiers}
-use Rattle.vtl_meaning.proofs.ValueKinds.{IsOf, point_from, point_parts}
+use Rattle.vtl_meaning.proofs.Kept.{some_identifiers}
+use Rattle.vtl_meaning.proofs.LookUps.{named_cells}
+use Rattle.vtl_meaning.proofs.Places.{IsIdentifier, all_append, all_map, all_more, are_identifiers, columns_split, key_for, key_of_point, point_append, point_length, point_of_identifiers}
 
 -- ---- `left_join`: a point for each point of the reference
 pub beside_keeps : (kind : JoinKind) (a s : Structure) (ds : List DataSet) (q : Row) → IsJoined kind (structures_of ds) s → HasIdentifiers s (identifiers_of a) → AreSets ds → is_point (columns_of a) q ≡ true → Keeps s (key_width a) q (tuple_point (tuple_beside a ds q))
@@ -51,77 +47,36 @@ left_kept kind r ds s i e h all =
     (mapped_kept s (key_width a) f r.points i.well_formed (all_more (λ q. is_point (columns_of a) q ≡ true) (λ q. Keeps s (key_width a) q (f q)) (λ q w. beside_keeps kind a s ds q i e all w) r.points h.typed) h.distinct)
 
 -- ---- `inner_join`: of these the ones where no part is missing
-abbrev pub point_if_whole : Tuple → List Row
-point_if_whole t = cond (is_whole t) (tuple_point t ∷ []) []
-
-pub whole_points : (f : Row → Tuple) (d : List Row) → map tuple_point (filter is_whole (map f d)) ≡ flat_map (λ q. point_if_whole (f q)) d
-whole_points f [] = refl
-whole_points f (q ∷ d) = go (is_whole (f q)) (whole_points f d)
+-- what is made of the values that pass a test
+pub made_of_passing : {X Y Z : Type 0} (p : Y → Bool) (g : Y → Z) (f : X → Y) (xs : List X) → map g (filter p (map f xs)) ≡ flat_map (λ x. option_to_list (cond (p (f x)) (Some (g (f x))) None)) xs
+made_of_passing p g f [] = refl
+made_of_passing p g f (x ∷ xs) = go (p (f x)) (made_of_passing p g f xs)
   where
-    go : (b : Bool) → map tuple_point (filter is_whole (map f d)) ≡ flat_map (λ z. point_if_whole (f z)) d → map tuple_point (cond b (f q ∷ filter is_whole (map f d)) (filter is_whole (map f d))) ≡ cond b (tuple_point (f q) ∷ []) [] ++ flat_map (λ z. point_if_whole (f z)) d
-    go true ih = ap (λ l. tuple_point (f q) ∷ l) ih
+    go : (b : Bool) → map g (filter p (map f xs)) ≡ flat_map (λ z. option_to_list (cond (p (f z)) (Some (g (f z))) None)) xs
+        → map g (cond b (f x ∷ filter p (map f xs)) (filter p (map f xs))) ≡ option_to_list (cond b (Some (g (f x))) None) ++ flat_map (λ z. option_to_list (cond (p (f z)) (Some (g (f z))) None)) xs
+    go true ih = ap (λ l. g (f x) ∷ l) ih
     go false ih = ih
 
-at_most : (P : Row → Type 0) (b : Bool) (r : Row) → P r → AtMostOne P (cond b (r ∷ []) [])
+at_most : (P : Row → Type 0) (b : Bool) (r : Row) → P r → AtMostOne P (option_to_list (cond b (Some r) None))
 at_most P true r h = h
 at_most P false r h = tt
 
 inner_kept : (kind : JoinKind) (r : DataSet) (ds : List DataSet) (s : Structure) → IsJoined kind (structures_of ds) s → HasIdentifiers s (identifiers_of r.structure) → IsDataSet r.structure r.points → AreSets ds → IsDataSet s (map tuple_point (inner_tuples r ds))
 inner_kept kind r ds s i e h all =
     let a = r.structure in
-    let g : Row → List Row = λ q. point_if_whole (tuple_beside a ds q) in
-    subst (IsDataSet s) (sym (whole_points (tuple_beside a ds) r.points))
+    let g : Row → List Row = λ q. option_to_list (whole_point (tuple_beside a ds q)) in
+    subst (IsDataSet s) (sym (made_of_passing is_whole tuple_point (tuple_beside a ds) r.points))
     (drawn_kept s (key_width a) g r.points i.well_formed
     (all_more (λ q. is_point (columns_of a) q ≡ true) (λ q. AtMostOne (Keeps s (key_width a) q) (g q))
     (λ q w. at_most (Keeps s (key_width a) q) (is_whole (tuple_beside a ds q)) (tuple_point (tuple_beside a ds q)) (beside_keeps kind a s ds q i e all w)) r.points h.typed) h.distinct)
 
--- ---- the values of identifiers
-no_null : (x : Component) (v : Cell) → IsIdentifier x → not (same_role x.role role.Identifier && is_null v) ≡ true → is_null v ≡ false
-no_null x v i e = go (is_null v) (ap (λ b. not (b && is_null v)) (sym i) ∙ e)
-  where
-    go : (b : Bool) → not b ≡ true → b ≡ false
-    go true h = sym h
-    go false h = refl
-
-identifier_cell : (place : ℕ) (name : List ℕ) (kind : Kind) (xs : List Component) (r : Row) → IsColumnAt place name kind xs → AllByRecursion IsIdentifier xs → is_point xs r ≡ true → IsOf kind (column_of place r) × (is_null (column_of place r) ≡ false)
-identifier_cell place name kind [] r i all h = absurd i
-identifier_cell zero name kind (x ∷ xs) [] i all h = cc
-identifier_cell zero name kind (x ∷ xs) (v ∷ vs) i all h = let parts = point_parts x xs v vs h in (subst (λ y. IsOf y v) i.1 parts.0, no_null x v all.0 parts.1)
-identifier_cell (suc place) name kind (x ∷ xs) [] i all h = cc
-identifier_cell (suc place) name kind (x ∷ xs) (v ∷ vs) i all h = identifier_cell place name kind xs vs i all.1 (point_parts x xs v vs h).2
-
-front_place : (name : List ℕ) (kind : Kind) (xs ys : List Component) → IsColumnAt (place_of name xs) name kind xs → place_of name (xs ++ ys) ≡ place_of name xs
-front_place name kind [] ys i = absurd i
-front_place name kind (x ∷ xs) ys i = go (same_name x.name name) refl i (front_place name kind xs ys)
-  where
-    go : (b : Bool) → same_name x.name name ≡ b → IsColumnAt (place_of name (x ∷ xs)) name kind (x ∷ xs) → (IsColumnAt (place_of name xs) name kind xs → place_of name (xs ++ ys) ≡ place_of name xs) → place_of name (x ∷ xs ++ ys) ≡ place_of name (x ∷ xs)
-    go true e i ih = place_here name x (xs ++ ys) e ∙ sym (place_here name x xs e)
-    go false e i ih = place_later name x (xs ++ ys) e ∙ ap suc (ih (subst (λ n. IsColumnAt n name kind (x ∷ xs)) (place_later name x xs e) i)) ∙ sym (place_later name x xs e)
-
-front_cell : (place : ℕ) (name : List ℕ) (kind : Kind) (xs : List Component) (r : Row) → IsColumnAt place name kind xs → column_of place r ≡ column_of place (take (length xs) r)
-front_cell place name kind [] r i = absurd i
-front_cell zero name kind (x ∷ xs) [] i = refl
-front_cell zero name kind (x ∷ xs) (v ∷ r) i = refl
-front_cell (suc place) name kind (x ∷ xs) [] i = refl
-front_cell (suc place) name kind (x ∷ xs) (v ∷ r) i = front_cell place name kind xs r i
-
+-- ---- `full_join`: a point for each tuple of identifiers that some operand has
 -- the values of identifiers that an operand has make a point of them
 pub key_is : (ys : List Component) (a : Structure) (q : Row) → AllByRecursion IsIdentifier ys → AreAmong ys (identifiers_of a) → is_point (columns_of a) q ≡ true → is_point ys (values_in a ys q) ≡ true
-key_is [] a q i all h = refl
-key_is (y ∷ ys) a q i all h =
-    let xs = identifiers_of a in
-    let n = place_of y.name xs in
-    let at : value_named (columns_of a) q y.name ≡ column_of n (take (key_width a) q) =
-    ap (λ l. value_named l q y.name) (columns_split a) ∙ ap (λ m. column_of m q) (front_place y.name y.kind xs (others_of a) all.0) ∙ front_cell n y.name y.kind xs q all.0 in
-    let cell = identifier_cell n y.name y.kind xs (take (key_width a) q) all.0 (are_identifiers a) (key_of_point a q h) in
-    point_from y ys (value_named (columns_of a) q y.name) (values_in a ys q) (ap (is_of y.kind) at ∙ cell.0)
-    (ap (λ b. not (same_role y.role role.Identifier && b)) (ap is_null at ∙ cell.1) ∙ ap not (and_false (same_role y.role role.Identifier))) (key_is ys a q i.1 all.1 h)
-  where
-    and_false : (b : Bool) → (b && false) ≡ false
-    and_false true = refl
-    and_false false = refl
+key_is ys a q i all h =
+    ap (is_point ys) (sym (named_cells (columns_of a) ys q))
+    ∙ subst (λ xs. is_point ys (cells_at (places_in xs ys) q) ≡ true) (sym (columns_split a)) (some_identifiers ys (identifiers_of a) (others_of a) q i (are_identifiers a) all (subst (λ xs. is_point xs q ≡ true) (columns_split a) h))
 
--- ---- `full_join`: a point for each tuple of identifiers that some operand has
 pub once_hold : {X : Type 0} (P : X → Type 0) (same : X → X → Bool) (xs : List X) → AllByRecursion P xs → AllByRecursion P (each_once same xs)
 once_hold P same [] all = tt
 once_hold P same (x ∷ xs) all = (all.0, AllByRecursion-filter P (λ y. not (same x y)) (each_once same xs) (once_hold P same xs all.1))
@@ -239,7 +194,7 @@ crossed_is kind ss s xs i e h =
     (point_of_identifiers (flat_map identifiers_of ss) (identifiers_of s) (keys_at xs) (all_identifiers ss) (are_identifiers s) same whole)
 
 -- ---- combinations differ in their identifiers
-same_row-append : (k j a b : Row) → length k ≡ length j → same_row (k ++ a) (j ++ b) ≡ (same_row k j && same_row a b)
+pub same_row-append : (k j a b : Row) → length k ≡ length j → same_row (k ++ a) (j ++ b) ≡ (same_row k j && same_row a b)
 same_row-append [] [] a b e = refl
 same_row-append [] (y ∷ j) a b e = absurd (omega (arith, e))
 same_row-append (x ∷ k) [] a b e = absurd (omega (arith, e))
@@ -339,7 +294,7 @@ cross_kept kind ds s i e all =
     })
 
 -- ---- all four
-have_them : (a : Structure) (ds : List DataSet) → AllByRecursion (λ b. AreAmong (identifiers_of b) (identifiers_of a) × AreAmong (identifiers_of a) (identifiers_of b)) (structures_of ds) → HaveThem (identifiers_of a) ds
+pub have_them : (a : Structure) (ds : List DataSet) → AllByRecursion (λ b. AreAmong (identifiers_of b) (identifiers_of a) × AreAmong (identifiers_of a) (identifiers_of b)) (structures_of ds) → HaveThem (identifiers_of a) ds
 have_them a [] all = tt
 have_them a (d ∷ ds) all = (all.0.1, have_them a ds all.1)
 
@@ -370,10 +325,10 @@ reference_is kind ds s i all =
     standing (d ∷ es) (suc n) a e h = standing es n a e h.1
 
 -- the join is the one with it
-pub join_with : (kind : JoinKind) (ds : List DataSet) (s : Structure) (r : DataSet) → IsReference kind ds s r → join_of kind ds ≡ joined_of kind r ds
-join_with kind ds s r h = ap (λ o. option_map_or (λ reference. joined_of kind reference ds) o []) h.there
+pub join_with : (kind : JoinKind) (ds : List DataSet) (r : DataSet) → slice_get ds (reference_place kind (structures_of ds)) ≡ Some r → join_of kind ds ≡ joined_of kind r ds
+join_with kind ds r there = ap (λ o. option_map_or (λ reference. joined_of kind reference ds) o []) there
 
 pub join_kept : (kind : JoinKind) (ds : List DataSet) (s : Structure) → IsJoined kind (structures_of ds) s → AllByRecursion (λ d. IsDataSet d.structure d.points) ds → IsDataSet s (join_of kind ds)
 join_kept kind ds s i all =
     let found = reference_is kind ds s i all in
-    subst (IsDataSet s) (sym (join_with kind ds s found.0 found.1)) (joined_kept kind found.0 ds s i found.1.together found.1.kept all)
+    subst (IsDataSet s) (sym (join_with kind ds found.0 found.1.there)) (joined_kept kind found.0 ds s i found.1.together found.1.kept all)

@@ -1,69 +1,27 @@
 -- The point of a tuple fits the columns of the joined set, where its parts are points of the operands.
-use Rattle.std.proofs.Common.{◌≡◌, ℕ, Bool, true, false, ◌&&◌, List, [], ◌∷◌, ◌++◌, cond, map, take, Option, Some, None, refl, sym, ap, ◌∙◌, subst, append_assoc}
-use Rattle.std.specs.List.{AllByRecursion, filter, find, flat_map}
+use Rattle.std.proofs.Common.{◌≡◌, Bool, true, false, ◌&&◌, List, [], ◌∷◌, ◌++◌, cond, map, take, Option, Some, None, refl, sym, ap, ◌∙◌, subst, append_assoc}
+use Rattle.std.specs.List.{AllByRecursion, find, flat_map}
 use Rattle.std.proofs.lemmas.Bool.{and_parts}
 use Rattle.std.proofs.lemmas.List.{map-append}
-use Rattle.vtl_cell.specs.Apart.{all_apart}
 use Rattle.vtl_cell.specs.Kinds.{is_of}
-use Rattle.vtl_cell.specs.Perm.{Perm, empty, keep, chain}
 use Rattle.vtl_cell.specs.Row.{Row}
 use Rattle.vtl_cell.specs.declared.kind.Kind.{Kind}
-use Rattle.vtl_cell.proofs.Aparts.{all_apart-Perm, apart_parts}
-use Rattle.vtl_cell.proofs.Perms.{Perm-append_back, Perm-map, Perm-middle}
 use Rattle.vtl_rows.specs.Tables.{fits_kinds}
 use Rattle.vtl_syntax.specs.declared.word_groups.JoinKind.{JoinKind}
 use Rattle.vtl_tree.specs.DataSet.{IsDataSet, is_point}
 use Rattle.vtl_tree.specs.Environment.{DataSet}
-use Rattle.vtl_tree.specs.Structure.{IsStructure, columns_of, key_width, names_of, of_role, same_name, same_role}
+use Rattle.vtl_tree.specs.Structure.{IsStructure, columns_of, key_width}
 use Rattle.vtl_tree.specs.declared.structure.Component.{Component}
-use Rattle.vtl_tree.specs.declared.structure.Role.{Role}
-use Rattle.vtl_tree.specs.declared.structure.Role.TheVariants as role
 use Rattle.vtl_tree.specs.declared.structure.Structure.{Structure}
 use Rattle.vtl_tuples.proofs.Lists.{map-map}
 use Rattle.vtl_meaning.specs.Columns.{identifiers_of, measures_of, others_of, place_of}
 use Rattle.vtl_meaning.specs.Joined.{Part, Tuple, attributes_in, measures_in, part_of, structures_of, tuple_point, values_or_nulls}
 use Rattle.vtl_meaning.specs.LookUps.{values_named}
 use Rattle.vtl_meaning.specs.Made.{AreAmong, IsColumnAt, IsJoined, attributes_of, component_kinds, kinds_of_all}
-use Rattle.vtl_meaning.proofs.Places.{all_back, all_front, all_more, are_others, columns_split, joined_point_is, key_of_joined, place_here, place_later, same_name-refl, same_name-sym}
-use Rattle.vtl_meaning.proofs.ValueKinds.{cell_is_of, null_is_of}
-
--- ---- a structure's own columns
--- the columns are the components in another order
-role_takes : (x : Component) (ids mes ats xs : List Component) (r : Role) → Perm (ids ++ mes ++ ats) xs
-    → Perm (cond (same_role r role.Identifier) (x ∷ ids) ids ++ cond (same_role r role.Measure) (x ∷ mes) mes ++ cond (same_role r role.Attribute) (x ∷ ats) ats) (x ∷ xs)
-role_takes x ids mes ats xs role.Identifier h = keep x h
-role_takes x ids mes ats xs role.Measure h = chain (Perm-append_back ats (Perm-middle ids x mes)) (keep x h)
-role_takes x ids mes ats xs role.Attribute h = chain (Perm-middle (ids ++ mes) x ats) (keep x h)
-
-by_role : (xs : List Component) → Perm (filter (λ x. same_role x.role role.Identifier) xs ++ filter (λ x. same_role x.role role.Measure) xs ++ filter (λ x. same_role x.role role.Attribute) xs) xs
-by_role [] = empty
-by_role (x ∷ xs) =
-    role_takes x (filter (λ y. same_role y.role role.Identifier) xs) (filter (λ y. same_role y.role role.Measure) xs) (filter (λ y. same_role y.role role.Attribute) xs) xs x.role (by_role xs)
-
-columns_apart : (a : Structure) → IsStructure a → all_apart same_name (names_of (columns_of a)) ≡ true
-columns_apart a w = all_apart-Perm same_name same_name-sym (Perm-map (λ x. x.name) (by_role a.components)) ∙ w.distinct
-
--- columns of different names are found at their own places
-own_places : (xs : List Component) → all_apart same_name (names_of xs) ≡ true → AreAmong xs xs
-own_places [] e = tt
-own_places (x ∷ xs) e =
-    let parts = apart_parts same_name x.name (names_of xs) e in
-    (subst (λ n. IsColumnAt n x.name x.kind (x ∷ xs)) (sym (place_here x.name x xs (same_name-refl x.name))) (refl, refl), later xs parts.0 (own_places xs parts.1))
-  where
-    later : (ys : List Component) → AllByRecursion (λ n. same_name x.name n ≡ false) (names_of ys) → AreAmong ys xs → AreAmong ys (x ∷ xs)
-    later [] h i = tt
-    later (y ∷ ys) h i = (subst (λ n. IsColumnAt n y.name y.kind (x ∷ xs)) (sym (place_later y.name x xs h.0)) i.0, later ys h.1 i.1)
-
-own_columns : (a : Structure) → IsStructure a → AreAmong (columns_of a) (columns_of a)
-own_columns a w = own_places (columns_of a) (columns_apart a w)
-
-own_measures : (a : Structure) → IsStructure a → AreAmong (measures_of a) (columns_of a)
-own_measures a w =
-    let P : Component → Type 0 = λ y. IsColumnAt (place_of y.name (columns_of a)) y.name y.kind (columns_of a) in
-    all_back P (identifiers_of a) (measures_of a) (all_front P (identifiers_of a ++ measures_of a) (attributes_of a) (own_columns a w))
-
-own_attributes : (a : Structure) → IsStructure a → AreAmong (attributes_of a) (columns_of a)
-own_attributes a w = all_back (λ y. IsColumnAt (place_of y.name (columns_of a)) y.name y.kind (columns_of a)) (identifiers_of a ++ measures_of a) (attributes_of a) (own_columns a w)
+use Rattle.vtl_meaning.proofs.LookUps.{named_cells}
+use Rattle.vtl_meaning.proofs.OwnColumns.{own_columns, own_measures}
+use Rattle.vtl_meaning.proofs.Places.{all_back, all_more, are_others, cells_fit, columns_split, joined_point_is, key_of_joined}
+use Rattle.vtl_meaning.proofs.ValueKinds.{null_is_of}
 
 -- ---- cells of their kinds
 pub fits_append : (ks ls : List Kind) (r q : Row) → fits_kinds ks r ≡ true → fits_kinds ls q ≡ true → fits_kinds (ks ++ ls) (r ++ q) ≡ true
@@ -75,8 +33,7 @@ fits_append (x ∷ ks) ls (v ∷ r) q h i =
     ap (λ b. b && fits_kinds (ks ++ ls) (r ++ q)) parts.0 ∙ fits_append ks ls r q parts.1 i
 
 named_fit : (ys xs : List Component) (r : Row) → AreAmong ys xs → is_point xs r ≡ true → fits_kinds (component_kinds ys) (values_named xs ys r) ≡ true
-named_fit [] xs r all h = refl
-named_fit (y ∷ ys) xs r all h = ap (λ b. b && fits_kinds (component_kinds ys) (values_named xs ys r)) (cell_is_of (place_of y.name xs) y.name y.kind xs r all.0 h) ∙ named_fit ys xs r all.1 h
+named_fit ys xs r all h = ap (fits_kinds (component_kinds ys)) (sym (named_cells xs ys r)) ∙ cells_fit ys xs r all h
 
 nulls_fit : (a : Structure) (ys : List Component) → fits_kinds (component_kinds ys) (values_or_nulls a ys None) ≡ true
 nulls_fit a [] = refl
@@ -87,6 +44,9 @@ nulls_fit a (y ∷ ys) = ap (λ b. b && fits_kinds (component_kinds ys) (values_
 pub record IsPart (p : Part) : Type 0 where
   pub well_formed : IsStructure p.structure
   pub typed : (q : Row) → p.point ≡ Some q → is_point (columns_of p.structure) q ≡ true
+
+own_attributes : (a : Structure) → IsStructure a → AreAmong (attributes_of a) (columns_of a)
+own_attributes a w = all_back (λ y. IsColumnAt (place_of y.name (columns_of a)) y.name y.kind (columns_of a)) (identifiers_of a ++ measures_of a) (attributes_of a) (own_columns a w)
 
 part_fits : (ys : List Component) (a : Structure) (o : Option Row) → AreAmong ys (columns_of a) → ((q : Row) → o ≡ Some q → is_point (columns_of a) q ≡ true) → fits_kinds (component_kinds ys) (values_or_nulls a ys o) ≡ true
 part_fits ys a None i h = nulls_fit a ys

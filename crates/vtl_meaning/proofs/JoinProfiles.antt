@@ -1,7 +1,7 @@
 -- The cells of joins: they are those of the operands, or null.
-use Rattle.std.proofs.Common.{◌≡◌, ℕ, zero, suc, Bool, List, [], ◌∷◌, ◌++◌, map, take, Option, Some, None, refl, sym, subst}
+use Rattle.std.proofs.Common.{◌≡◌, ℕ, zero, suc, Bool, List, [], ◌∷◌, ◌++◌, map, take, Option, Some, None, refl, subst}
 use Rattle.std.specs.Prelude.{slice_get}
-use Rattle.std.specs.List.{AllByRecursion, filter, find, flat_map}
+use Rattle.std.specs.List.{AllByRecursion, flat_map}
 use Rattle.std.specs.Option.{option_map_or}
 use Rattle.vtl_cell.specs.Profile.{IsOfProfile}
 use Rattle.vtl_cell.specs.Row.{Row, column_of, same_row}
@@ -17,12 +17,12 @@ use Rattle.vtl_tree.specs.Structure.{columns_of, key_width}
 use Rattle.vtl_tree.specs.declared.structure.Component.{Component}
 use Rattle.vtl_tree.specs.declared.structure.Structure.{Structure}
 use Rattle.vtl_tuples.specs.Tuples.{combinations}
-use Rattle.vtl_meaning.specs.Agreement.{OperandPoint, agree_in, key_of, operand_point, operand_points, values_in}
+use Rattle.vtl_meaning.specs.Agreement.{OperandPoint, agree_in, operand_point, operand_points, values_in}
 use Rattle.vtl_meaning.specs.Columns.{identifiers_of, measures_of, place_of}
 use Rattle.vtl_meaning.specs.Joined.{Part, Tuple, all_keys, attributes_in, crossed, is_whole, join_of, joined_of, keys_in, left_tuples, measures_in, present, reference_of, reference_place, structures_of, tuple_at, tuple_beside, tuple_point, tuples_of, values_or_nulls}
 use Rattle.vtl_meaning.specs.LookUps.{values_named}
 use Rattle.vtl_meaning.specs.Made.{attributes_of}
-use Rattle.vtl_meaning.proofs.JoinKept.{fronts, key_at, keys_at, once_hold}
+use Rattle.vtl_meaning.proofs.JoinKept.{fronts, key_at, once_hold}
 use Rattle.vtl_meaning.proofs.JoinParts.{found_is, parts_by}
 use Rattle.vtl_meaning.proofs.Places.{all_append, all_map, all_more, each}
 
@@ -39,18 +39,18 @@ module _ (P : Cell → Type 0) (null : P c.Null) where
   all_flat f [] all = tt
   all_flat f (x ∷ xs) all = all_append P (f x) (flat_map f xs) all.0 (all_flat f xs all.1)
 
-  cell_holds : (place : ℕ) (r : Row) → Holds r → P (column_of place r)
+  pub cell_holds : (place : ℕ) (r : Row) → Holds r → P (column_of place r)
   cell_holds zero [] h = null
   cell_holds (suc place) [] h = null
   cell_holds zero (v ∷ r) h = h.0
   cell_holds (suc place) (v ∷ r) h = cell_holds place r h.1
 
-  front_holds : (n : ℕ) (r : Row) → Holds r → Holds (take n r)
+  pub front_holds : (n : ℕ) (r : Row) → Holds r → Holds (take n r)
   front_holds zero r h = tt
   front_holds (suc n) [] h = tt
   front_holds (suc n) (v ∷ r) h = (h.0, front_holds n r h.1)
 
-  values_hold : (xs ys : List Component) (r : Row) → Holds r → Holds (values_named xs ys r)
+  pub values_hold : (xs ys : List Component) (r : Row) → Holds r → Holds (values_named xs ys r)
   values_hold xs ys r h = all_map (λ y. column_of (place_of y.name xs) r) P ys (each (λ y. P (column_of (place_of y.name xs) r)) (λ y. cell_holds (place_of y.name xs) r h) ys)
 
   -- ---- tuples

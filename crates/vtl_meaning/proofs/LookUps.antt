@@ -53,10 +53,10 @@ named_cells xs [] r = refl
 named_cells xs (y ∷ ys) r = ap (λ l. value_named xs r y.name ∷ l) (named_cells xs ys r)
 
 -- the first columns of a row
-named_front : (xs ys : List Component) (r : Row) (name : List ℕ) → place_of name xs < length xs → value_named (xs ++ ys) r name ≡ value_named xs (take (length xs) r) name
+pub named_front : (xs ys : List Component) (r : Row) (name : List ℕ) → place_of name xs < length xs → value_named (xs ++ ys) r name ≡ value_named xs (take (length xs) r) name
 named_front xs ys r name h = ap (λ i. column_of i r) (place_front name xs ys h) ∙ sym (get_or-take (length xs) r (place_of name xs) c.Null h)
 
-parts_named : (a : Structure) (ys : List Component) (r : Row) → AllByRecursion (λ y. place_of y.name (identifiers_of a) < length (identifiers_of a)) ys → values_named (columns_of a) ys r ≡ values_named (identifiers_of a) ys (take (key_width a) r)
+pub parts_named : (a : Structure) (ys : List Component) (r : Row) → AllByRecursion (λ y. place_of y.name (identifiers_of a) < length (identifiers_of a)) ys → values_named (columns_of a) ys r ≡ values_named (identifiers_of a) ys (take (key_width a) r)
 parts_named a [] r all = refl
 parts_named a (y ∷ ys) r all =
     let one : value_named (columns_of a) r y.name ≡ value_named (identifiers_of a) (take (key_width a) r) y.name = ap (λ xs. value_named xs r y.name) (columns_split a) ∙ named_front (identifiers_of a) (others_of a) r y.name all.0 in
@@ -66,7 +66,7 @@ parts_named a (y ∷ ys) r all =
 part_of_point : (a other : Structure) (r k : Row) → AllByRecursion (λ y. place_of y.name (identifiers_of a) < length (identifiers_of a)) (identifiers_of other) → take (key_width a) r ≡ k → cells_at (places_in (columns_of a) (identifiers_of other)) r ≡ part_for a other k
 part_of_point a other r k all e = named_cells (columns_of a) (identifiers_of other) r ∙ parts_named a (identifiers_of other) r all ∙ ap (part_for a other) e
 
-among_within : (ys xs : List Component) → AreAmong ys xs → AllByRecursion (λ y. place_of y.name xs < length xs) ys
+pub among_within : (ys xs : List Component) → AreAmong ys xs → AllByRecursion (λ y. place_of y.name xs < length xs) ys
 among_within ys xs all = all_more (λ y. IsColumnAt (place_of y.name xs) y.name y.kind xs) (λ y. place_of y.name xs < length xs) (λ y i. column_within (place_of y.name xs) y.name y.kind xs i) ys all
 
 -- ---- one operand
@@ -347,10 +347,17 @@ module _ (t a b : DataSet) (s : Structure) (k : Row) (i : IsChoice t.structure a
       (λ r w key. ap (λ o. cond (is_first_chosen t.structure r) o (Joined b r)) (joined_at a r i.first w key) ∙ ap (λ o. cond (is_first_chosen t.structure r) (chosen_at t.structure a s k) o) (joined_at b r i.second w key))
 
 -- ---- `sub`
-same_truth : (x y : Bool) → (x ≡ true → y ≡ true) → (y ≡ true → x ≡ true) → x ≡ y
+pub same_truth : (x y : Bool) → (x ≡ true → y ≡ true) → (y ≡ true → x ≡ true) → x ≡ y
 same_truth true y f g = sym (f refl)
 same_truth false true f g = g refl
 same_truth false false f g = refl
+
+-- a tuple of all identifiers
+pub whole_key : (a : Structure) → IsStructure a → (k : Row) → length k ≡ key_width a → cells_at (places_in (identifiers_of a) (identifiers_of a)) k ≡ k
+whole_key a w k h =
+    ap (λ xs. cells_at (places_in xs (identifiers_of a)) k) (sym (append-nil (identifiers_of a)))
+    ∙ first_cells (identifiers_of a) [] k (identifiers_apart a w) (omega (arith, h))
+    ∙ take_all (key_width a) k (omega (arith, h))
 
 -- each value is one of an identifier
 abbrev pub AreKeyValues : List SubItem → Structure → Type 0
@@ -380,13 +387,7 @@ module _ (items : List SubItem) (a s : Structure) (i : Tells items a s) (vs : Ar
         | inr m ↦ alike_by_values (identifiers_of a) j l items x.name hj hl m
       ] in
       let all = all_more (λ x. (list_any (λ y. same_name y.name x.name) (identifiers_of s) || list_any (λ y. same_name y.id x.name) items) ≡ true) (λ x. Alike (identifiers_of a) j l x.name) each_one (identifiers_of a) i.identifiers in
-      sym (whole j lj) ∙ alike_cells (identifiers_of a) j l (identifiers_of a) all ∙ whole l ll
-    where
-      whole : (m : Row) → length m ≡ key_width a → cells_at (places_in (identifiers_of a) (identifiers_of a)) m ≡ m
-      whole m h =
-          ap (λ xs. cells_at (places_in xs (identifiers_of a)) m) (sym (append-nil (identifiers_of a)))
-          ∙ first_cells (identifiers_of a) [] m (identifiers_apart a w) (omega (arith, h))
-          ∙ take_all (key_width a) m (omega (arith, h))
+      sym (whole_key a w j lj) ∙ alike_cells (identifiers_of a) j l (identifiers_of a) all ∙ whole_key a w l ll
 
   sub_key : (r : Row) → is_point (columns_of a) r ≡ true → has_values a items r ≡ true → take (key_width s) (cells_at (places_in (columns_of a) (columns_of s)) r) ≡ part_for a s (take (key_width a) r)
   sub_key r h v =

@@ -40,13 +40,13 @@ use Rattle.vtl_meaning.proofs.ValueKinds.{after_if, branch_if}
 abbrev pub IsRowOfProfile : Settings → Row → Type 0
 IsRowOfProfile p r = AllByRecursion (IsOfProfile p) r
 
-cell_is : (p : Settings) (place : ℕ) (r : Row) → IsRowOfProfile p r → IsOfProfile p (column_of place r)
+pub cell_is : (p : Settings) (place : ℕ) (r : Row) → IsRowOfProfile p r → IsOfProfile p (column_of place r)
 cell_is p zero [] h = tt
 cell_is p (suc place) [] h = tt
 cell_is p zero (v ∷ r) h = h.0
 cell_is p (suc place) (v ∷ r) h = cell_is p place r h.1
 
-cells_are : (p : Settings) (places : List ℕ) (r : Row) → IsRowOfProfile p r → IsRowOfProfile p (cells_at places r)
+pub cells_are : (p : Settings) (places : List ℕ) (r : Row) → IsRowOfProfile p r → IsRowOfProfile p (cells_at places r)
 cells_are p places r h = all_map (λ i. column_of i r) (IsOfProfile p) places (each (λ i. IsOfProfile p (column_of i r)) (λ i. cell_is p i r h) places)
 
 -- ---- values

@@ -1,6 +1,6 @@
 -- Expressions and scripts keep data sets.
 use Rattle.std.proofs.Common.{◌≡◌, ℕ, Bool, true, false, cond, ◌&&◌, List, [], ◌∷◌, Some, Ok, Err, Result, refl, sym, ap, subst, true≢false}
-use Rattle.std.specs.List.{filter, list_all}
+use Rattle.std.specs.List.{list_all}
 use Rattle.std.specs.Map.{lookup}
 use Rattle.std.specs.Option.{option_map_or}
 use Rattle.std.proofs.lemmas.Bool.{and_parts}
@@ -23,9 +23,10 @@ use Rattle.vtl_meaning.specs.Points.{with_points}
 use Rattle.vtl_meaning.specs.Sets.{difference_of, existence_of, intersection_of, symmetric_difference_of, union_of}
 use Rattle.vtl_meaning.specs.Turned.{pivot_of, unpivot_of}
 use Rattle.vtl_meaning.proofs.JoinKept.{join_kept}
+use Rattle.vtl_meaning.proofs.JoinParts.{AreSets}
 use Rattle.vtl_meaning.proofs.Kept.{after_ok, calculated_kept, choice_kept, filtered_kept, left_kept, measured_kept, ok_is, operand_ok, pair_kept, renamed_kept, sub_kept}
 use Rattle.vtl_meaning.proofs.Places.{same_name-sym}
-use Rattle.vtl_meaning.proofs.SetsKept.{AreSets, difference_kept, existence_kept, intersection_kept, symmetric_difference_kept, union_kept}
+use Rattle.vtl_meaning.proofs.SetsKept.{difference_kept, existence_kept, intersection_kept, symmetric_difference_kept, union_kept}
 use Rattle.vtl_meaning.proofs.TurnedKept.{pivot_kept, unpivot_kept}
 
 -- ---- expressions

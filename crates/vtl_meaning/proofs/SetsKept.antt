@@ -1,11 +1,10 @@
 -- Set operators and `exists_in` give data sets.
-use Rattle.std.proofs.Common.{◌≡◌, ℕ, Bool, true, false, not, cond, ◌||◌, List, [], ◌∷◌, ◌++◌, map, take, Some, refl, sym, ap, ◌∙◌, subst}
 use Rattle.std.specs.Prelude.{is_some}
 use Rattle.std.specs.List.{AllByRecursion, filter, flat_map, list_all, list_any}
-use Rattle.vtl_cell.specs.Apart.{all_apart}
+use Rattle.std.proofs.Common.{◌≡◌, ℕ, Bool, true, false, not, cond, ◌||◌, List, [], ◌∷◌, ◌++◌, map, take, Some, refl, sym, ap, ◌∙◌, subst}
 use Rattle.vtl_cell.specs.Row.{Row, same_key}
 use Rattle.vtl_cell.specs.declared.cell.Cell.TheVariants as c
-use Rattle.vtl_cell.proofs.Aparts.{all_apart-filter, apart_more, apart_parts, none_same}
+use Rattle.vtl_cell.proofs.Aparts.{all_apart-filter, none_same}
 use Rattle.vtl_cell.proofs.Sorts.{AllByRecursion-filter}
 use Rattle.vtl_rows.specs.Tables.{fits_kinds}
 use Rattle.vtl_syntax.specs.declared.word_groups.Retain.{Retain}
@@ -13,7 +12,6 @@ use Rattle.vtl_tree.specs.DataSet.{IsDataSet, is_point, look}
 use Rattle.vtl_tree.specs.Environment.{DataSet}
 use Rattle.vtl_tree.specs.Structure.{IsStructure, columns_of, key_width, same_name}
 use Rattle.vtl_tree.specs.declared.structure.Structure.{Structure}
-use Rattle.vtl_tuples.specs.Keys.{each_once}
 use Rattle.vtl_tuples.proofs.Onces.{once_apart}
 use Rattle.vtl_meaning.specs.Agreement.{has_agreeing}
 use Rattle.vtl_meaning.specs.Columns.{identifiers_of, measures_of, others_of, place_of}
@@ -23,6 +21,8 @@ use Rattle.vtl_meaning.specs.Operators.{left_of}
 use Rattle.vtl_meaning.specs.Points.{with_points}
 use Rattle.vtl_meaning.specs.Sets.{all_left_of, difference_of, either_only, existence_of, has_point, intersection_of, is_retained, reduced, symmetric_difference_of, union_of, united, with_answer}
 use Rattle.vtl_meaning.proofs.Drawn.{Keeps, mapped_kept}
+use Rattle.vtl_meaning.proofs.JoinKept.{apart_append, once_hold}
+use Rattle.vtl_meaning.proofs.JoinParts.{AreSets}
 use Rattle.vtl_meaning.proofs.Kept.{Tells, told_kept}
 use Rattle.vtl_meaning.proofs.OwnColumns.{among_front, column_any}
 use Rattle.vtl_meaning.proofs.Places.{all_append, all_filtered, all_more, are_others, columns_split, joined_point_is, key_for, key_of_joined, key_of_point}
@@ -42,8 +42,8 @@ alternative_tells b s w i = record {
   columns = subst (λ ys. AreAmong ys (columns_of b)) (sym w.1) (all_append (λ y. IsColumnAt (place_of y.name (columns_of b)) y.name y.kind (columns_of b)) (identifiers_of s) (measures_of s) identifiers i.measures);
   left = i.back;
   identifiers =
-    all_more (λ x. IsColumnAt (place_of x.name (identifiers_of s)) x.name x.kind (identifiers_of s)) (λ x. (list_any (λ y. same_name y.name x.name) (identifiers_of s) || false) ≡ true)
-    (λ x h. ap (λ z. z || false) (column_any (place_of x.name (identifiers_of s)) x.name x.kind (identifiers_of s) h)) (identifiers_of b) i.there;
+      all_more (λ x. IsColumnAt (place_of x.name (identifiers_of s)) x.name x.kind (identifiers_of s)) (λ x. (list_any (λ y. same_name y.name x.name) (identifiers_of s) || false) ≡ true)
+      (λ x h. ap (λ z. z || false) (column_any (place_of x.name (identifiers_of s)) x.name x.kind (identifiers_of s) h)) (identifiers_of b) i.there;
 }
   where
     identifiers : AreAmong (identifiers_of s) (columns_of b)
@@ -51,10 +51,6 @@ alternative_tells b s w i = record {
 
 pub shown_kept : (b : DataSet) (s : Structure) → IsKeyed s → IsAlternative s b.structure s → IsDataSet b.structure b.points → IsDataSet s (left_of b s)
 shown_kept b s w i h = subst (λ l. IsDataSet s (left_of (with_points b.structure l) s)) (filter_true b.points) (told_kept [] b s (alternative_tells b.structure s w i) h)
-
--- each operand is one
-abbrev pub AreSets : List DataSet → Type 0
-AreSets ds = AllByRecursion (λ d. IsDataSet d.structure d.points) ds
 
 pub all_shown_kept : (ds : List DataSet) (s : Structure) → IsKeyed s → AllByRecursion (λ b. IsAlternative s b s) (structures_of ds) → AreSets ds → AllByRecursion (IsDataSet s) (all_left_of ds s)
 all_shown_kept [] s w i h = tt
@@ -64,12 +60,7 @@ pub combined_is : (a : Structure) (bs : List Structure) (s : Structure) → IsCo
 combined_is a bs s i = (i.well_formed, i.no_attributes)
 
 -- ---- union
--- what holds of all holds of what is left of them
-pub once_holds : {X : Type 0} (P : X → Type 0) (same : X → X → Bool) (xs : List X) → AllByRecursion P xs → AllByRecursion P (each_once same xs)
-once_holds P same [] all = tt
-once_holds P same (x ∷ xs) all = (all.0, AllByRecursion-filter P (λ y. not (same x y)) (each_once same xs) (once_holds P same xs all.1))
-
-all_flat : {X : Type 0} (P : X → Type 0) (xss : List (List X)) → AllByRecursion (AllByRecursion P) xss → AllByRecursion P (flat_map (λ xs. xs) xss)
+pub all_flat : {X : Type 0} (P : X → Type 0) (xss : List (List X)) → AllByRecursion (AllByRecursion P) xss → AllByRecursion P (flat_map (λ xs. xs) xss)
 all_flat P [] all = tt
 all_flat P (xs ∷ xss) all = all_append P xs (flat_map (λ ys. ys) xss) all.0 (all_flat P xss all.1)
 
@@ -77,7 +68,7 @@ pub united_kept : (s : Structure) (ds : List (List Row)) → IsStructure s → A
 united_kept s ds w all =
     let P : Row → Type 0 = λ r. is_point (columns_of s) r ≡ true in record {
       well_formed = w;
-      typed = once_holds P (same_key (key_width s)) (flat_map (λ d. d) ds) (all_flat P ds (all_more (IsDataSet s) (AllByRecursion P) (λ d h. h.typed) ds all));
+      typed = once_hold P (same_key (key_width s)) (flat_map (λ d. d) ds) (all_flat P ds (all_more (IsDataSet s) (AllByRecursion P) (λ d h. h.typed) ds all));
       distinct = once_apart (same_key (key_width s)) (flat_map (λ d. d) ds);
     }
 
@@ -126,12 +117,6 @@ has_any n (q ∷ d) r = go (same_key n q r) (has_any n d r)
     go true ih = refl
     go false ih = ih
 
-pub apart_append : {X : Type 0} (same : X → X → Bool) (xs ys : List X) → all_apart same xs ≡ true → all_apart same ys ≡ true → AllByRecursion (λ x. AllByRecursion (λ y. same x y ≡ false) ys) xs → all_apart same (xs ++ ys) ≡ true
-apart_append same [] ys e f all = f
-apart_append same (x ∷ xs) ys e f all =
-    let parts = apart_parts same x xs e in
-    apart_more same x (xs ++ ys) (all_append (λ y. same x y ≡ false) xs ys parts.0 all.0) (apart_append same xs ys parts.1 f all.1)
-
 -- each of the first apart from each of the others, where none of these has a point of the first
 keys_apart : (n : ℕ) (d e : List Row) → AllByRecursion (λ r. AllByRecursion (λ q. same_key n q r ≡ false) d) e → AllByRecursion (λ q. AllByRecursion (λ r. same_key n q r ≡ false) e) d
 keys_apart n [] e all = tt
@@ -156,8 +141,8 @@ either_only_kept s d e h i =
       well_formed = h.well_formed;
       typed = all_append P (reduced n d e) (reduced n e d) first.typed second.typed;
       distinct =
-        apart_append (same_key n) (reduced n d e) (reduced n e d) first.distinct second.distinct
-        (AllByRecursion-filter (λ q. AllByRecursion (λ r. same_key n q r ≡ false) (reduced n e d)) (λ r. not (has_point n e r)) d apart);
+          apart_append (same_key n) (reduced n d e) (reduced n e d) first.distinct second.distinct
+          (AllByRecursion-filter (λ q. AllByRecursion (λ r. same_key n q r ≡ false) (reduced n e d)) (λ r. not (has_point n e r)) d apart);
     }
 
 pub symmetric_difference_kept : (d e : DataSet) (s : Structure) → IsCombined d.structure (e.structure ∷ []) s → IsDataSet d.structure d.points → IsDataSet e.structure e.points → IsDataSet s (symmetric_difference_of d e s)

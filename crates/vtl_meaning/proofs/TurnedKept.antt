@@ -1,7 +1,7 @@
 -- `pivot` and `unpivot` give data sets.
-use Rattle.std.proofs.Common.{◌≡◌, ℕ, arith, length, length-append, append_assoc, ◌||◌, Bool, true, false, not, cond, ◌&&◌, List, [], ◌∷◌, ◌++◌, map, take, Option, Some, None, refl, sym, ap, ◌∙◌, subst, true≢false}
-use Rattle.std.specs.List.{AllByRecursion, cons_option, filter, filter_map, find, flat_map, list_any}
+use Rattle.std.specs.List.{AllByRecursion, cons_option, filter, filter_map, find, flat_map}
 use Rattle.std.specs.Option.{option_map_or, option_to_list}
+use Rattle.std.proofs.Common.{◌≡◌, ℕ, arith, length, length-append, append_assoc, Bool, true, false, not, cond, ◌&&◌, List, [], ◌∷◌, ◌++◌, map, take, Option, Some, None, refl, sym, ap, ◌∙◌, subst, true≢false}
 use Rattle.vtl_cell.specs.Apart.{all_apart}
 use Rattle.vtl_cell.specs.Kinds.{is_null}
 use Rattle.vtl_cell.specs.Row.{Row, same_key, same_row}
@@ -10,7 +10,7 @@ use Rattle.vtl_cell.specs.declared.cell.Cell.TheVariants as c
 use Rattle.vtl_cell.proofs.Aparts.{all_apart-filter, apart_parts}
 use Rattle.vtl_cell.proofs.Rows.{same_row-is, same_row-refl}
 use Rattle.vtl_cell.proofs.Sorts.{AllByRecursion-filter}
-use Rattle.vtl_rows.specs.Tables.{cells_at, fits_kinds}
+use Rattle.vtl_rows.specs.Tables.{fits_kinds}
 use Rattle.vtl_tree.specs.DataSet.{IsDataSet, is_point}
 use Rattle.vtl_tree.specs.Environment.{DataSet}
 use Rattle.vtl_tree.specs.Structure.{IsStructure, columns_of, key_width, same_name, same_role}
@@ -24,16 +24,15 @@ use Rattle.check_shapes.specs.Clauses.{first_kind, names_column}
 use Rattle.check_shapes.specs.Names.{is_among}
 use Rattle.check_shapes.specs.declared.choices.Choice.TheVariants as choice
 use Rattle.vtl_meaning.specs.Agreement.{key_of, values_in}
-use Rattle.vtl_meaning.specs.Columns.{identifiers_of, kind_named, measures_of, others_of, place_of, places_in}
+use Rattle.vtl_meaning.specs.Columns.{identifiers_of, kind_named, measures_of, others_of, place_of}
 use Rattle.vtl_meaning.specs.LookUps.{value_named}
 use Rattle.vtl_meaning.specs.Made.{AreAmong, IsColumnAt, IsPivoted, IsUnpivoted}
 use Rattle.vtl_meaning.specs.Turned.{coded_value, codes_of, is_coded, named_point, other_identifiers, pivot_of, pivoted_point, unpivot_of, unpivoted_points}
 use Rattle.vtl_meaning.proofs.Drawn.{drawn_all, drawn_apart, map_drawn}
-use Rattle.vtl_meaning.proofs.Kept.{both_all, some_identifiers}
-use Rattle.vtl_meaning.proofs.LookUps.{named_cells}
+use Rattle.vtl_meaning.proofs.JoinKept.{apart_append, apart_map, key_is, once_hold}
+use Rattle.vtl_meaning.proofs.Kept.{both_all}
 use Rattle.vtl_meaning.proofs.OwnColumns.{own_identifiers, own_measures}
 use Rattle.vtl_meaning.proofs.Places.{IsIdentifier, all_append, all_map, all_more, are_identifiers, are_others, columns_split, each, joined_point_is, key_of_joined, key_of_point, point_append, point_of_identifiers, same_name-refl}
-use Rattle.vtl_meaning.proofs.SetsKept.{apart_append, once_holds}
 use Rattle.vtl_meaning.proofs.ValueKinds.{IsOf, cell_is_of, null_is_of}
 
 -- ---- `pivot`
@@ -58,10 +57,7 @@ pub others_identify : (id : List ℕ) (a : Structure) → AllByRecursion IsIdent
 others_identify id a = subst (AllByRecursion IsIdentifier) (sym (others_are id a.components)) (AllByRecursion-filter IsIdentifier (λ x. not (is_among x.name (id ∷ []))) (identifiers_of a) (are_identifiers a))
 
 pub other_key_is : (id : List ℕ) (a : Structure) (r : Row) → IsStructure a → is_point (columns_of a) r ≡ true → is_point (other_identifiers id a) (values_in a (other_identifiers id a) r) ≡ true
-other_key_is id a r w h =
-    let ids = other_identifiers id a in
-    let cells = some_identifiers ids (identifiers_of a) (others_of a) r (others_identify id a) (are_identifiers a) (others_among id a w) (subst (λ xs. is_point xs r ≡ true) (columns_split a) h) in
-    subst (λ k. is_point ids k ≡ true) (named_cells (columns_of a) ids r) (subst (λ xs. is_point ids (cells_at (places_in xs ids) r) ≡ true) (sym (columns_split a)) cells)
+other_key_is id a r w h = key_is (other_identifiers id a) a r (others_identify id a) (others_among id a w) h
 
 -- what is found is one of them
 pub find_is : {X : Type 0} (P : X → Type 0) (p : X → Bool) (xs : List X) (x : X) → AllByRecursion P xs → find p xs ≡ Some x → P x
@@ -104,7 +100,7 @@ module _ (id m : List ℕ) (d : DataSet) (s : Structure) (i : IsPivoted id m d.s
   keys_typed =
       let P : Row → Type 0 = λ k. is_point (other_identifiers id a) k ≡ true in
       let f = values_in a (other_identifiers id a) in
-      once_holds P same_row (map f d.points) (all_map f P d.points (all_more (λ r. is_point (columns_of a) r ≡ true) (λ r. P (f r)) (λ r t. other_key_is id a r h.well_formed t) d.points h.typed))
+      once_hold P same_row (map f d.points) (all_map f P d.points (all_more (λ r. is_point (columns_of a) r ≡ true) (λ r. P (f r)) (λ r t. other_key_is id a r h.well_formed t) d.points h.typed))
 
   pub pivot_kept : IsDataSet s (pivot_of d id m)
   pivot_kept =
@@ -140,14 +136,6 @@ all_drawn P g [] all = tt
 all_drawn P g (x ∷ xs) all = all_append P (g x) (flat_map g xs) all.0 (all_drawn P g xs all.1)
 
 -- ---- `unpivot`
-pub apart_map : {X Y : Type 0} (same : Y → Y → Bool) (f : X → Y) (xs : List X) → all_apart same (map f xs) ≡ all_apart (λ x y. same (f x) (f y)) xs
-apart_map same f [] = refl
-apart_map {X = X} same f (x ∷ xs) = ap (λ b. not b && all_apart same (map f xs)) (none xs) ∙ ap (λ b. not (list_any (λ y. same (f x) (f y)) xs) && b) (apart_map same f xs)
-  where
-    none : (l : List X) → list_any (same (f x)) (map f l) ≡ list_any (λ y. same (f x) (f y)) l
-    none [] = refl
-    none (y ∷ l) = ap (λ b. same (f x) (f y) || b) (none l)
-
 pub filter_map_drawn : {X Y : Type 0} (h : X → Option Y) (xs : List X) → filter_map h xs ≡ flat_map (λ x. option_to_list (h x)) xs
 filter_map_drawn h [] = refl
 filter_map_drawn {Y = Y} h (x ∷ xs) = go (h x) ∙ ap (λ l. option_to_list (h x) ++ l) (filter_map_drawn h xs)
@@ -198,7 +186,7 @@ module _ (id m : List ℕ) (a s : Structure) (i : IsUnpivoted id m a s) (w : IsS
       go true = tt
       go false = (named_is r x.name (value_here r x) h (subst (λ z. IsOf z (value_here r x)) e (cell_is_of (place_of x.name (columns_of a)) x.name x.kind (columns_of a) r at h)), tt)
 
-  all_here : (r : Row) → is_point (columns_of a) r ≡ true → AllByRecursion (λ x. AllByRecursion (IsNamed r x.name) (points_here r x)) (measures_of a)
+  pub all_here : (r : Row) → is_point (columns_of a) r ≡ true → AllByRecursion (λ x. AllByRecursion (IsNamed r x.name) (points_here r x)) (measures_of a)
   all_here r h =
       both_all (λ x. IsColumnAt (place_of x.name (columns_of a)) x.name x.kind (columns_of a)) (λ x. x.kind ≡ first_kind (measures_of a)) (λ x. AllByRecursion (IsNamed r x.name) (points_here r x))
       (λ x at e. here_are r x h at e) (measures_of a) (own_measures a w) i.alike
@@ -207,10 +195,10 @@ module _ (id m : List ℕ) (a s : Structure) (i : IsUnpivoted id m a s) (w : IsS
   here_is r = filter_map_drawn (λ x. named_point a r x.name (value_here r x)) (measures_of a)
 
   -- a point of a row is one with its key
-  abbrev IsDrawn : Row → Row → Type 0
+  abbrev pub IsDrawn : Row → Row → Type 0
   IsDrawn r q = (name : List ℕ) × IsNamed r name q
 
-  drawn_here : (r : Row) → is_point (columns_of a) r ≡ true → AllByRecursion (IsDrawn r) (unpivoted_points a r)
+  pub drawn_here : (r : Row) → is_point (columns_of a) r ≡ true → AllByRecursion (IsDrawn r) (unpivoted_points a r)
   drawn_here r h =
       subst (AllByRecursion (IsDrawn r)) (sym (here_is r))
       (all_drawn (IsDrawn r) (points_here r) (measures_of a) (all_more (λ x. AllByRecursion (IsNamed r x.name) (points_here r x)) (λ x. AllByRecursion (IsDrawn r) (points_here r x)) (λ x all. all_more (IsNamed r x.name) (IsDrawn r) (λ q t. (x.name, t)) (points_here r x) all) (measures_of a) (all_here r h)))
@@ -229,7 +217,7 @@ module _ (id m : List ℕ) (a s : Structure) (i : IsUnpivoted id m a s) (w : IsS
   here_apart r h =
       ap (all_apart (same_key (key_width s))) (here_is r)
       ∙ each_apart (λ x q. IsNamed r x.name q) (λ x y. same_name x.name y.name) (same_key (key_width s)) same_names (points_here r) (measures_of a) (all_here r h) (each (λ x. all_apart (same_key (key_width s)) (points_here r x) ≡ true) (one_apart r) (measures_of a))
-      (all_apart-filter (λ x y. same_name x.name y.name) (λ x. same_role x.role role.Measure) a.components (sym (apart_map same_name (λ x. x.name) a.components) ∙ w.distinct))
+      (all_apart-filter (λ x y. same_name x.name y.name) (λ x. same_role x.role role.Measure) a.components (sym (apart_map (λ x. x.name) same_name a.components) ∙ w.distinct))
     where
       same_names : (x y : Component) (q z : Row) → IsNamed r x.name q → IsNamed r y.name z → same_key (key_width s) q z ≡ true → same_name x.name y.name ≡ true
       same_names x y q z f g e =
@@ -244,9 +232,9 @@ module _ (id m : List ℕ) (a s : Structure) (i : IsUnpivoted id m a s) (w : IsS
         well_formed = i.well_formed;
         typed = all_drawn (λ q. is_point (columns_of s) q ≡ true) (unpivoted_points a) d (all_more (λ r. AllByRecursion (IsDrawn r) (unpivoted_points a r)) (λ r. AllByRecursion (λ q. is_point (columns_of s) q ≡ true) (unpivoted_points a r)) (λ r l. all_more (IsDrawn r) (λ q. is_point (columns_of s) q ≡ true) (λ q t. t.1.0) (unpivoted_points a r) l) d all);
         distinct =
-          each_apart IsDrawn (same_key (key_width a)) (same_key (key_width s))
-          (λ r t q z f g e. ap (same_row (take (key_width a) r)) (sym (names_back r t f.0 g.0 q z f.1 g.1 e).0) ∙ same_row-refl (take (key_width a) r))
-          (unpivoted_points a) d all (all_more P (λ r. all_apart (same_key (key_width s)) (unpivoted_points a r) ≡ true) here_apart d h.typed) h.distinct;
+            each_apart IsDrawn (same_key (key_width a)) (same_key (key_width s))
+            (λ r t q z f g e. ap (same_row (take (key_width a) r)) (sym (names_back r t f.0 g.0 q z f.1 g.1 e).0) ∙ same_row-refl (take (key_width a) r))
+            (unpivoted_points a) d all (all_more P (λ r. all_apart (same_key (key_width s)) (unpivoted_points a r) ≡ true) here_apart d h.typed) h.distinct;
       }
 
 pub unpivot_kept : (id m : List ℕ) (d : DataSet) (s : Structure) → IsUnpivoted id m d.structure s → IsDataSet d.structure d.points → IsDataSet s (unpivot_of d)
