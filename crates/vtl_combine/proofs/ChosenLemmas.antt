@@ -5,20 +5,11 @@ use Rattle.std.specs.List.{filter, find, flat_map, list_all, list_any}
 use Rattle.std.proofs.lemmas.Grind.{flat_map-append}
 use Rattle.std.proofs.lemmas.List.{append-nil, take_more}
 use Rattle.std.proofs.lemmas.List.Folds.{list_all_more}
-use Rattle.vtl_cell.specs.Row.{Row, same_row}
-use Rattle.vtl_tree.specs.DataSet.{look}
+use Rattle.vtl_cell.specs.Row.{Row}
 use Rattle.vtl_tuples.proofs.Lists.{filter_each}
 use Rattle.vtl_combine.proofs.RowLemmas.{filter-filter}
 
--- a look-up finds a point where one has the identifiers
-pub found_by_key : (n : ℕ) (d : List Row) (k : Row) → is_some (look n d k) ≡ list_any (λ q. same_row (take n q) k) d
-found_by_key n [] k = refl
-found_by_key n (q ∷ d) k = go (same_row (take n q) k) (found_by_key n d k)
-  where
-    go : (b : Bool) → is_some (look n d k) ≡ list_any (λ r. same_row (take n r) k) d → is_some (cond b (Some q) (look n d k)) ≡ (b || list_any (λ r. same_row (take n r) k) d)
-    go true ih = refl
-    go false ih = ih
-
+-- one is found where there is one
 pub found_by_test : {X : Type 0} (p : X → Bool) (xs : List X) → is_some (find p xs) ≡ list_any p xs
 found_by_test p [] = refl
 found_by_test p (x ∷ xs) = go (p x) (found_by_test p xs)

@@ -11,14 +11,13 @@ use Rattle.vtl_cell.specs.Row.{Row, same_key, same_row}
 use Rattle.vtl_cell.proofs.Rows.{same_row-refl}
 use Rattle.vtl_index.specs.Groups.{AreLeads, firsts, is_first, rows_led}
 use Rattle.vtl_index.specs.Leads.{leads_of}
-use Rattle.vtl_index.proofs.Ranges.{passing_at, passing_is, same_tests}
+use Rattle.vtl_index.proofs.Ranges.{all_indexed, passing_at, passing_is, same_tests}
 use Rattle.vtl_rows.specs.Places.{row_at}
 use Rattle.vtl_rows.specs.Tables.{cells_at}
 use Rattle.vtl_tuples.specs.Keys.{each_once}
 use Rattle.vtl_tuples.proofs.Lists.{filter_each, filter_same}
 use Rattle.vtl_meaning.proofs.Places.{all_more}
-use Rattle.vtl_meaning.proofs.SetsKept.{once_holds}
-use Rattle.vtl_expr.proofs.Ranges.{all_indexed}
+use Rattle.vtl_meaning.proofs.JoinKept.{once_hold}
 use Rattle.vtl_combine.proofs.RowLemmas.{all_below, filter-filter, first_cells}
 
 -- ---- the first row of a group is the one by which it is known
@@ -128,7 +127,7 @@ by_first_cells n key (r ∷ rows) all =
     ap (λ l. r ∷ filter (λ q. not (same_by key r q)) l) (by_first_cells n key rows all.1)
     ∙ ap (λ l. r ∷ l) (filter_same (λ q. not (same_by key r q)) (λ q. not (same_key n r q)) (each_once (same_key n) rows)
     (all_more (λ q. key q ≡ take n q) (λ q. not (same_by key r q) ≡ not (same_key n r q)) (λ q e. ap (λ k. not (same_row k (key q))) all.0 ∙ ap (λ k. not (same_row (take n r) k)) e) (each_once (same_key n) rows)
-    (once_holds (λ q. key q ≡ take n q) (same_key n) rows all.1)))
+    (once_hold (λ q. key q ≡ take n q) (same_key n) rows all.1)))
 
 -- the first rows of groups by the first cells
 pub firsts_once : (n : ℕ) (rows : List Row) → AllByRecursion (λ r. n ≤ length r) rows → map (row_at rows) (firsts (leads_of (cells_at (range_with_len 0 n)) rows)) ≡ each_once (same_key n) rows

@@ -5,7 +5,7 @@ use Rattle.std.specs.List.{AllByRecursion, flat_map, list_all, list_any, range_w
 use Rattle.std.proofs.lemmas.List.{length-map, take_all, take_at}
 use Rattle.std.proofs.lemmas.List.Elements.{All-from_recursion}
 use Rattle.std.proofs.lemmas.List.Folds.{list_all-map}
-use Rattle.vtl_cell.specs.Row.{Row, column_of, same_row}
+use Rattle.vtl_cell.specs.Row.{Row, column_of, same_key, same_row}
 use Rattle.vtl_rows.specs.Places.{row_at}
 use Rattle.vtl_rows.specs.Tables.{cells_at, column_at}
 use Rattle.vtl_rows.specs.declared.column.Column.{Column}
@@ -27,10 +27,10 @@ use Rattle.vtl_meaning.specs.Operators.{left_of}
 use Rattle.vtl_meaning.specs.Sets.{all_left_of, has_point, intersected, is_retained}
 use Rattle.vtl_meaning.proofs.Kept.{shown_split}
 use Rattle.vtl_meaning.proofs.Places.{all_append, all_map, each}
-use Rattle.vtl_meaning.proofs.SetsKept.{IsKeyed, alternative_tells, combined_is}
+use Rattle.vtl_meaning.proofs.SetsKept.{IsKeyed, alternative_tells, combined_is, has_any}
 use Rattle.vtl_expr.proofs.ColumnLemmas.{chosen_columns}
 use Rattle.vtl_combine.specs.Operands.{HasColumns, left_at, retained, sought_by_key}
-use Rattle.vtl_combine.proofs.ChosenLemmas.{found_by_key, list_any-map}
+use Rattle.vtl_combine.proofs.ChosenLemmas.{list_any-map}
 use Rattle.vtl_combine.proofs.RowLemmas.{chosen_rows}
 
 -- ---- an operand has the columns of the result
@@ -84,9 +84,9 @@ asked_is d e s r =
     let n = key_width s in
     let xs = columns_of d.structure in
     let ys = columns_of e.structure in
-    let k = take n (cells_at (places_in xs (columns_of s)) r) in
-    sym (found_by_key n (left_of e s) k ∙ list_any-map (λ q. same_row (take n q) k) (cells_at (places_in ys (columns_of s))) e.points
-    ∙ ap (λ (f : Row → Bool). list_any f e.points) (λ j q. same_row (key_shown ys s q j) (key_shown xs s r j)))
+    let q = cells_at (places_in xs (columns_of s)) r in
+    sym (has_any n (left_of e s) q ∙ list_any-map (λ z. same_key n z q) (cells_at (places_in ys (columns_of s))) e.points
+    ∙ ap (λ (f : Row → Bool). list_any f e.points) (λ j z. same_row (key_shown ys s z j) (key_shown xs s r j)))
 
 pub retained_is : (kept : Retain) (d e : DataSet) (s : Structure) (x : Sought) (rows : List Row) (is : List ℕ) → x ≡ sought_by_key d e s → rows ≡ d.points → filter (λ i. is_retained kept (is_any_meant x (row_at rows i))) is ≡ retained kept d e s is
 retained_is kept d e s x rows is found at =

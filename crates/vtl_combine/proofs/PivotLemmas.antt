@@ -28,7 +28,7 @@ use Rattle.vtl_meaning.specs.Turned.{coded_value, codes_of, is_coded, other_iden
 use Rattle.vtl_meaning.proofs.LookUps.{named_cells}
 use Rattle.vtl_meaning.proofs.Places.{all_more, all_of_map}
 use Rattle.vtl_meaning.proofs.TurnedKept.{pivot_kept}
-use Rattle.vtl_expr.proofs.Ranges.{all_indexed}
+use Rattle.vtl_index.proofs.Ranges.{all_indexed}
 use Rattle.vtl_combine.specs.Pivots.{AreCoded, coded, other_places, pivoted, sought_codes}
 use Rattle.vtl_combine.specs.declared.pivoting.CodedPoints.{CodedPoints}
 use Rattle.vtl_combine.proofs.RowLemmas.{at_first}

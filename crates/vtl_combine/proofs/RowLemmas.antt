@@ -13,7 +13,7 @@ use Rattle.vtl_rows.specs.Tables.{Listed, cells_at, column_at, column_kinds}
 use Rattle.vtl_rows.specs.declared.gather.Pick.{Pick}
 use Rattle.vtl_rows.proofs.Gathered.{pieces-next}
 use Rattle.vtl_tuples.proofs.Lists.{filter-map, map-map}
-use Rattle.vtl_expr.proofs.Ranges.{all_indexed}
+use Rattle.vtl_index.proofs.Ranges.{all_indexed}
 use Rattle.vtl_combine.specs.Operands.{pick_at}
 
 -- one test after the other
