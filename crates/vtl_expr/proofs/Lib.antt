@@ -1,3 +1,4 @@
+pub use Rattle.vtl_meaning.proofs.JoinKept
 pub use Rattle.vtl_meaning.proofs.Kept
 pub use Rattle.vtl_meaning.proofs.LookUps
 pub use Rattle.vtl_meaning.proofs.Places
