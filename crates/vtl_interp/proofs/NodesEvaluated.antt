@@ -32,7 +32,7 @@ use Rattle.vtl_sets.specs.DataSets.{with_structure}
 use Rattle.vtl_meaning.specs.Joined.{structures_of}
 use Rattle.vtl_meaning.specs.Made.{AreCombined, IsChoice, IsJoined, IsMade, IsMadeForm, IsMeasured, node_structures}
 use Rattle.vtl_meaning.specs.Meaning.{form_value, known_in, node_value, nodes_value, operands_value, with_operand}
-use Rattle.vtl_interp.specs.Evaluated.{Evaluates, Gives}
+use Rattle.vtl_interp.specs.Evaluated.{Evaluates, Gives, GivesOne, GivesTwo}
 use Rattle.vtl_interp.proofs.Environments.{data_looked, known_looked}
 use Rattle.vtl_interp.proofs.Evaluates.{applied, nodes_structures, operands_structures, then}
 
@@ -95,7 +95,6 @@ form_tree-ExistsIn a b r = search (rules, forms.the_lemmas)
 tree_with : (n : Node) (f : NodeForm) (t : FormTree) → n.form ≡ f → form_tree f ≡ t → node_tree n ≡ nodes.node n.structure t
 tree_with n f t e d = node_tree-is n ∙ ap (λ (g : NodeForm). nodes.node n.structure (form_tree g)) e ∙ ap (nodes.node n.structure) d
 
--- what is made of a node's form holds of the data sets that its operands give
 pub measures_fit : (p : Settings) (env : Environment) (n : Node) (op : MeasureOp) (a : Box Node Global) (d : DataSet) → n.form ≡ form.Measures op a → IsMade p (known_in env) (node_tree n) → Gives p env (node_tree a.value) d → IsMeasured p (measure_tree op) d.structure n.structure
 measures_fit p env n op a d e made g =
     subst (λ (s : Structure). IsMeasured p (measure_tree op) s n.structure) (sym g.structure)
@@ -108,9 +107,18 @@ choose_fits p env n c a b t d o e made gt gd go =
     (subst (λ (s : Structure). IsChoice (structure_of (node_tree c.value)) (structure_of (node_tree a.value)) s n.structure) (sym go.structure)
     (subst (IsMade p (known_in env)) (tree_with n (form.Choose c a b) (nodes.choose (node_tree c.value) (node_tree a.value) (node_tree b.value)) e (form_tree-Choose c a b)) made).1.3))
 
+-- what is made of a node's form
 made_form : (p : Settings) (env : Environment) (n : Node) (f : NodeForm) (t : FormTree) → n.form ≡ f → form_tree f ≡ t → IsMade p (known_in env) (node_tree n) → IsMadeForm p (known_in env) n.structure t
 made_form p env n f t e tree made = (subst (IsMade p (known_in env)) (tree_with n f t e tree) made).1
 
+-- what is given of a node's form
+pub one_given_at : (p : Settings) (env : Environment) (n : Node) (f : NodeForm) (t : FormTree) (d : DataSet) → n.form ≡ f → form_tree f ≡ t → GivesOne p env (form_tree n.form) d → GivesOne p env t d
+one_given_at p env n f t d is tree g = subst (λ (x : FormTree). GivesOne p env x d) (ap form_tree is ∙ tree) g
+
+pub two_given_at : (p : Settings) (env : Environment) (n : Node) (f : NodeForm) (t : FormTree) (d e : DataSet) → n.form ≡ f → form_tree f ≡ t → GivesTwo p env (form_tree n.form) d e → GivesTwo p env t d e
+two_given_at p env n f t d e is tree g = subst (λ (x : FormTree). GivesTwo p env x d e) (ap form_tree is ∙ tree) g
+
+-- what is made of a node's form holds of the data sets that its operands give
 pub two_fit : (Fits : Structure → Structure → Structure → Type 0) (p : Settings) (env : Environment) (n : Node) (f : NodeForm) (t : FormTree) (a b : NodeTree) (d e : DataSet)
     → n.form ≡ f → form_tree f ≡ t → (IsMadeForm p (known_in env) n.structure t → Fits (structure_of a) (structure_of b) n.structure) → IsMade p (known_in env) (node_tree n) → Gives p env a d → Gives p env b e
     → Fits d.structure e.structure n.structure

@@ -7,6 +7,8 @@
 //! Begin with vtl_backend/specs/Runs.antt, which it meets, then src/statements.rt and src/evaluation.rt.
 #![tactic(auto)]
 
+mod applied;
+mod combinations;
 mod evaluation;
 mod held;
 mod inputs;
