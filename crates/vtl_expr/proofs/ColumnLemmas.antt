@@ -12,6 +12,7 @@ use Rattle.vtl_cell.specs.declared.kind.Kind.{Kind}
 use Rattle.vtl_cell.specs.declared.kind.Kind.TheVariants as k
 use Rattle.vtl_rows.specs.Tables.{cells_at, column_at}
 use Rattle.vtl_rows.specs.declared.column.Column.{Column}
+use Rattle.vtl_index.proofs.Ranges.{all_indexed}
 use Rattle.vtl_tree.specs.DataSet.{is_point}
 use Rattle.vtl_tree.specs.Shown.{shown}
 use Rattle.vtl_tree.specs.Structure.{columns_of, same_name}
@@ -22,7 +23,6 @@ use Rattle.vtl_sets.proofs.ColumnLemmas.{some_columns}
 use Rattle.vtl_meaning.specs.Columns.{kind_named, place_of, places_in}
 use Rattle.vtl_meaning.specs.Made.{AreAmong, IsColumnAt}
 use Rattle.vtl_meaning.proofs.Places.{point_length}
-use Rattle.vtl_expr.proofs.Ranges.{all_indexed}
 
 -- ---- the kind of a column by its name
 there : (xs : List (Bor Component)) (i : ℕ) (x : Bor Component) → i < length xs → x ≡ get_or xs i x → slice_get (shown xs) i ≡ Some x.now

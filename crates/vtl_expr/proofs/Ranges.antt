@@ -1,16 +1,7 @@
--- Numbers in a row, as the places of a list.
-use Rattle.std.proofs.Common.{◌≡◌, ℕ, zero, suc, ◌+◌, ◌<◌, ◌≤◌, List, [], ◌∷◌, length, map, get_or, refl, sym, ap, ◌∙◌, arith}
-use Rattle.std.specs.Prelude.{slice_index_or}
-use Rattle.std.specs.List.{AllByRecursion, range_with_len}
+-- Numbers in a row.
+use Rattle.std.proofs.Common.{◌≡◌, ℕ, ◌<◌, List, [], ◌∷◌, length, map, get_or, refl, ap, ◌∙◌}
+use Rattle.std.specs.List.{range_with_len}
 use Rattle.std.proofs.lemmas.List.FromFn.{fill_by_all}
-
-pub all_in_range : (P : ℕ → Type 0) (a n : ℕ) → ((i : ℕ) → a ≤ i → i < a + n → P i) → AllByRecursion P (range_with_len a n)
-all_in_range P a zero h = tt
-all_in_range P a (suc n) h = (h a (omega arith) (omega arith), all_in_range P (a + 1) n (λ i l m. h i (omega (arith, l)) (omega (arith, m))))
-
--- what stands at each place of a list, in order, is the list
-pub all_indexed : {X : Type 0} (xs : List X) (d : X) → map (λ i. slice_index_or xs i d) (range_with_len 0 (length xs)) ≡ xs
-all_indexed xs d = sym (fill_by_all (λ i. slice_index_or xs i d) xs (length xs) d refl (λ i h. refl))
 
 -- places that stand for themselves
 map_same : (places : List ℕ) → map (λ i. i) places ≡ places

@@ -1,14 +1,10 @@
 -- Points that are found by the cells of other rows.
-use Rattle.std.specs.Prelude.{◌≡◌, ◌++◌, ℕ, true, List, length, map, take, Option, Some, option_map}
+use Rattle.std.specs.Prelude.{◌≡◌, ◌++◌, ℕ, true, List, length, take, Option, Some, option_map}
 use Rattle.std.specs.List.{AllByRecursion}
 use Rattle.std.specs.Option.{option_to_list}
 use Rattle.vtl_cell.specs.Row.{Row}
 use Rattle.vtl_rows.specs.Tables.{cells_at, fits}
 use Rattle.vtl_rows.specs.declared.column.Column.{Column}
-use Rattle.vtl_index.specs.RowIndex.{RowLookup}
-use Rattle.vtl_index.specs.RowKeys.{key_at}
-use Rattle.vtl_index.specs.declared.row_keys.KeyColumn.{KeyColumn}
-use Rattle.vtl_index.specs.declared.row_keys.NullKeys.TheVariants.{Found}
 use Rattle.vtl_tree.specs.DataSet.{look}
 use Rattle.vtl_tree.specs.Environment.{DataSet}
 use Rattle.vtl_tree.specs.Structure.{columns_of}
@@ -36,12 +32,6 @@ with_found f sought r = option_to_list (option_map (f r) (found sought r))
 abbrev pub AllFit : (Row → Row) → List Column → Sought → List Row → Type 0
 AllFit f columns sought rows = AllByRecursion (λ r. (q : Row) → found sought r ≡ Some q → fits columns (f (r ++ q)) ≡ true) rows
 
--- the columns of a key
-abbrev pub columns_in : List KeyColumn → List ℕ
-columns_in key = map (λ k. k.column) key
-
--- the index finds rows by their first n cells
-pub record IsIndexBy (n : ℕ) (points : List Row) (x : RowLookup) : Type 0 where
-  pub rows : x.rows ≡ points
-  pub nulls : x.nulls ≡ Found
-  pub keys : AllByRecursion (λ r. key_at x.p x.key r ≡ take n r) points
+-- the cells of points at these columns are their first n
+abbrev pub AreFirst : List ℕ → ℕ → List Row → Type 0
+AreFirst own n points = AllByRecursion (λ r. cells_at own r ≡ take n r) points

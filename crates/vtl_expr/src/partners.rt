@@ -1,15 +1,14 @@
 // The points of a data set by their identifiers.
-ghost use Rattle.std.specs.Prelude.{◌≡◌, map, IfOk};
+ghost use Rattle.std.specs.Prelude.{◌≡◌, IfOk};
 ghost use Rattle.std.specs.Option.{option_copied};
-ghost use Rattle.vtl_index.specs.RowKeys.{as_it_is};
 ghost use Rattle.vtl_expr.specs.Partners.{found, sought_by};
 
 use crate::places::places_in;
 use std::alloc::{AllocError, Global};
 use std::marker::Model;
 use std::sync::ledger::Ledger;
-use vtl_cell::{Cell, Profile, Rounding};
-use vtl_index::{KeyColumn, KeyForm, NullKeys, RowIndex, Steps};
+use vtl_cell::Cell;
+use vtl_index::{Seeker, Steps};
 use vtl_rows::Table;
 use vtl_sets::DataSet;
 use vtl_tree::Structure;
@@ -17,8 +16,7 @@ use vtl_tree::Structure;
 // The points of a data set, found by rows that have its identifiers at these places.
 pub(crate) struct Partners<'a> {
     table: &'a Table,
-    index: RowIndex<'a>,
-    places: Vec<KeyColumn>,
+    seeker: Seeker<'a>,
 }
 
 // Written out, so that each owner sees one call and not the drop of each part.
@@ -26,43 +24,20 @@ impl<'a> Drop for Partners<'a> {
     fn drop(self) {
         let Partners {
             table: _table,
-            index: _index,
-            places: _places,
+            seeker: _seeker,
         } = self;
     }
 }
 
 impl<'a> Model for Partners<'a> {
-    ghost use Rattle.std.specs.Prelude.{◌≡◌, length, map};
-    ghost use Rattle.vtl_index.specs.RowKeys.{as_it_is};
-    ghost use Rattle.vtl_expr.specs.Partners.{IsIndexBy, Sought, columns_in};
+    ghost use Rattle.std.specs.Prelude.{◌≡◌, length};
+    ghost use Rattle.vtl_expr.specs.Partners.{AreFirst, Sought};
 
     ghost Value = { Sought };
 
-    ghost view = { λ p. record { places = columns_in p.places.items; points = p.table.now.rows } };
+    ghost view = { λ p. record { places = p.seeker.asked; points = p.seeker.rows } };
 
-    ghost invariant = { λ p. (p.places.items ≡ map as_it_is (columns_in p.places.items)) × IsIndexBy (length (columns_in p.places.items)) p.table.now.rows p.index };
-}
-
-// The columns of a key whose cells count as they are.
-fn key_of(alloc: Global, places: &[usize]) -> Result<Vec<KeyColumn>, AllocError>
-    ensures { IfOk result (λ v. v.items ≡ map as_it_is places.now) }
-{
-    places
-        .iter()
-        .map(|place| KeyColumn {
-            column: *place,
-            form: KeyForm::AsIs,
-        })
-        .collect(alloc)
-}
-
-// Settings for keys whose cells count as they are: none of them is used.
-fn unused() -> Profile {
-    match Profile::new(0, Rounding::Down) {
-        Some(profile) => profile,
-        None => unreachable!(),
-    }
+    ghost invariant = { λ p. (p.table.now.rows ≡ p.seeker.rows) × AreFirst p.seeker.own (length p.seeker.asked) p.seeker.rows };
 }
 
 impl<'a> Partners<'a> {
@@ -77,15 +52,11 @@ impl<'a> Partners<'a> {
     {
         let structure = other.structure();
         let identifiers = structure.identifiers(alloc)?;
-        let places = key_of(alloc, &places_in(alloc, asking, &identifiers)?)?;
-        let key = key_of(alloc, &places_in(alloc, structure, &identifiers)?)?;
+        let asked = places_in(alloc, asking, &identifiers)?;
+        let own = places_in(alloc, structure, &identifiers)?;
         let table = other.table();
-        let index = RowIndex::of(alloc, table, key, NullKeys::Found, &unused(), steps)?;
-        Ok(Partners {
-            table,
-            index,
-            places,
-        })
+        let seeker = Seeker::of(alloc, table, &own, &asked, steps)?;
+        Ok(Partners { table, seeker })
     }
 
     // The point with the identifiers of a row.
@@ -93,9 +64,11 @@ impl<'a> Partners<'a> {
         ensures { option_copied result ≡ found self.now row.now }
     {
         let table = self.table;
-        match self.index.probe(row, &self.places, steps).first() {
-            Some(place) => Some(table.row(*place)),
-            None => None,
+        let place = self.seeker.first(row, steps);
+        if place < table.len() {
+            Some(table.row(place))
+        } else {
+            None
         }
     }
 }

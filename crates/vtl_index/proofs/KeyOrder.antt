@@ -15,7 +15,7 @@ use Rattle.std.proofs.lemmas.List.Sorted.{All-permutation, Contains-permutation,
 use Rattle.vtl_cell.specs.Order.{cell_cmp, same_cell}
 use Rattle.vtl_cell.specs.Row.{Row, row_cmp, same_row}
 use Rattle.vtl_cell.specs.declared.cell.Cell.{Cell}
-use Rattle.vtl_cell.proofs.Rows.{row_cmp_total, same_row-is}
+use Rattle.vtl_cell.proofs.Rows.{row_cmp_total, same_row-is, same_row-refl}
 use Rattle.vtl_index.specs.FirstRows.{IsFirst, IsKeyOrder}
 
 -- ---- two keys
@@ -99,12 +99,12 @@ module _ (keys : ℕ → Row) where
         is_lowest (row_cmp (keys (get_or order i d)) key) (omega (arith, high, low))
 
     -- every row has a place in the order
-    place_of : (j : ℕ) → j < n → Contains order j
+    pub place_of : (j : ℕ) → j < n → Contains order j
     place_of j h =
         let l = length-range_with_len 0 n in
         Contains-permutation (range_with_len 0 n) order j is.all (j, omega (arith, l, h), get_or-range_with_len 0 n j j h ∙ (let z : 0 + j ≡ j = omega arith in z))
 
-    within : (q : ℕ) → q < length order → get_or order q 0 < n
+    pub within : (q : ℕ) → q < length order → get_or order q 0 < n
     within q h = All-permutation (λ i. i < n) (range_with_len 0 n) order is.all below q 0 h
       where
         below : All (λ i. i < n) (range_with_len 0 n)
@@ -166,3 +166,46 @@ module _ (keys : ℕ → Row) where
               let one : ordering_index (row_cmp (keys (get_or order at.0 0)) key) ≡ 1 = ap ordering_index tie in
               let tied = is_tie (row_cmp (keys (get_or order place 0)) key) (point.1 place 0 (omega arith) short) (omega (arith, level, one)) in
               absurd (true≢false (sym (sym (ties_same (keys (get_or order place 0)) key) ∙ tied) ∙ unlike short))
+
+    -- ---- a row whose key is not that of the row in front of it
+    module _ (place : ℕ) (h : place < length order) (apart : (q : ℕ) → place ≡ q + 1 → same_row (keys (get_or order q 0)) (keys (get_or order place 0)) ≡ false) where
+      level_here : ordering_index (row_cmp (keys (get_or order place 0)) (keys (get_or order place 0))) ≡ 1
+      level_here = ap ordering_index (tied_itself row_cmp_total (keys (get_or order place 0)))
+
+      level_front : (q : ℕ) → place ≡ q + 1 → is_lt (row_cmp (keys (get_or order q 0)) (keys (get_or order place 0))) ≡ true
+      level_front q e = go (is_lt (row_cmp (keys (get_or order q 0)) (keys (get_or order place 0)))) refl
+        where
+          go : (b : Bool) → is_lt (row_cmp (keys (get_or order q 0)) (keys (get_or order place 0))) ≡ b → is_lt (row_cmp (keys (get_or order q 0)) (keys (get_or order place 0))) ≡ true
+          go true up = up
+          go false up =
+              let level = rises (keys (get_or order place 0)) q place 0 (omega (arith, e)) h in
+              let tied = is_tie (row_cmp (keys (get_or order q 0)) (keys (get_or order place 0))) up (omega (arith, level, level_here)) in
+              absurd (true≢false (sym (sym (ties_same (keys (get_or order q 0)) (keys (get_or order place 0))) ∙ tied) ∙ apart q e))
+
+      less_before : (q : ℕ) → q < place → is_lt (row_cmp (keys (get_or order q 0)) (keys (get_or order place 0))) ≡ true
+      less_before q less =
+          let e : place ≡ place - 1 + 1 = omega (arith, less) in
+          let low = lowest (row_cmp (keys (get_or order (place - 1) 0)) (keys (get_or order place 0))) (level_front (place - 1) e) in
+          let level = rises (keys (get_or order place 0)) q (place - 1) 0 (omega (arith, less)) (omega (arith, h, less)) in
+          is_lowest (row_cmp (keys (get_or order q 0)) (keys (get_or order place 0))) (omega (arith, low, level))
+
+      not_less_from : (q : ℕ) → place ≤ q → q < length order → is_lt (row_cmp (keys (get_or order q 0)) (keys (get_or order place 0))) ≡ false
+      not_less_from q le lt = go (is_lt (row_cmp (keys (get_or order q 0)) (keys (get_or order place 0)))) refl
+        where
+          go : (b : Bool) → is_lt (row_cmp (keys (get_or order q 0)) (keys (get_or order place 0))) ≡ b → is_lt (row_cmp (keys (get_or order q 0)) (keys (get_or order place 0))) ≡ false
+          go false up = up
+          go true up =
+              let low = lowest (row_cmp (keys (get_or order q 0)) (keys (get_or order place 0))) up in
+              let level = rises (keys (get_or order place 0)) place q 0 le lt in
+              absurd (omega (arith, low, level, level_here))
+
+      -- it is the first that has its key
+      pub starts_key : IsFirst keys n (keys (get_or order place 0)) (get_or order place 0)
+      starts_key =
+          found_there (keys (get_or order place 0)) place (λ q d from to. any_default_less q d to, λ q d from to. any_default_not q d from to) h (same_row-refl (keys (get_or order place 0)))
+        where
+          any_default_less : (q d : ℕ) → q < place → is_lt (row_cmp (keys (get_or order q d)) (keys (get_or order place 0))) ≡ true
+          any_default_less q d less = ap (λ i. is_lt (row_cmp (keys i) (keys (get_or order place 0)))) (get_or_default order q d 0 (omega (arith, less, h))) ∙ less_before q less
+
+          any_default_not : (q d : ℕ) → place ≤ q → q < length order → is_lt (row_cmp (keys (get_or order q d)) (keys (get_or order place 0))) ≡ false
+          any_default_not q d le lt = ap (λ i. is_lt (row_cmp (keys i) (keys (get_or order place 0)))) (get_or_default order q d 0 lt) ∙ not_less_from q le lt

@@ -20,7 +20,7 @@ module _ (key : Row → Row) (rows : List Row) where
   abbrev pub lead_of : Row → ℕ
   lead_of r = position_or_len (λ s. same_row (key s) (key r)) rows
 
-  lead_is : (i lead : ℕ) → IsFirst (λ j. key (row_at rows j)) (length rows) (key (row_at rows i)) lead → lead_of (row_at rows i) ≡ lead
+  pub lead_is : (i lead : ℕ) → IsFirst (λ j. key (row_at rows j)) (length rows) (key (row_at rows i)) lead → lead_of (row_at rows i) ≡ lead
   lead_is i lead first =
       let within : lead ≤ length rows = omega (arith, first.within) in
       position_or_len_is (λ s. same_row (key s) (key (row_at rows i))) rows lead [] within first.before (λ h. first.here)

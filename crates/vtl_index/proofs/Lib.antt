@@ -6,9 +6,11 @@ pub mod KeyForms
 pub mod KeyGroups
 pub mod KeyOrder
 pub mod LeadLemmas
+pub mod LeadWalk
 pub mod Probes
 pub mod Putting
 pub mod Ranges
 pub mod RowSlotLemmas
+pub mod Seeking
 pub mod Slots
 pub mod Standing

@@ -1,10 +1,15 @@
--- The numbers below a bound that pass a test.
-use Rattle.std.proofs.Common.{◌≡◌, ℕ, zero, suc, ◌+◌, ◌<◌, ◌≤◌, Bool, true, false, cond, List, [], ◌∷◌, ◌++◌, length, get_or, filter, refl, sym, ap, ◌∙◌, subst, arith, inl, inr, map-id, append-nil, eqb, eq-eqb, ne_eqb}
+-- The numbers below a bound, as the places of a list, and those that pass a test.
+use Rattle.std.proofs.Common.{◌≡◌, ℕ, zero, suc, ◌+◌, ◌<◌, ◌≤◌, Bool, true, false, cond, List, [], ◌∷◌, ◌++◌, length, map, get_or, filter, refl, sym, ap, ◌∙◌, subst, arith, inl, inr, map-id, append-nil, eqb, eq-eqb, ne_eqb}
 use Rattle.std.specs.List.{range_with_len}
 use Rattle.std.proofs.lemmas.Bool.{cases_eq, cases_lt}
 use Rattle.std.proofs.lemmas.List.{get_or_append_left, get_or_push, length_push}
-use Rattle.std.proofs.lemmas.List.FromFn.{filter_of_map_range_with_len_more, length-range_with_len}
+use Rattle.std.specs.Prelude.{slice_index_or}
+use Rattle.std.proofs.lemmas.List.FromFn.{fill_by_all, filter_of_map_range_with_len_more, length-range_with_len}
 use Rattle.std.proofs.lemmas.List.Sums.{length-filter, count_by-le-length}
+
+-- what stands at each place of a list, in order, is the list
+pub all_indexed : {X : Type 0} (xs : List X) (d : X) → map (λ i. slice_index_or xs i d) (range_with_len 0 (length xs)) ≡ xs
+all_indexed xs d = sym (fill_by_all (λ i. slice_index_or xs i d) xs (length xs) d refl (λ i h. refl))
 
 abbrev pub passing : (ℕ → Bool) → ℕ → List ℕ
 passing p n = filter p (range_with_len 0 n)

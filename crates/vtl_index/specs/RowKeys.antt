@@ -1,5 +1,5 @@
 -- Keys of rows: the cells of listed columns, as they count there.
-use Rattle.std.specs.Prelude.{ℕ, ◌/◌, ◌^◌, Bool, Ok, Err, List, map, length}
+use Rattle.std.specs.Prelude.{ℕ, ◌/◌, ◌^◌, Bool, false, Ok, Err, List, map, length, nat_lt}
 use Rattle.std.specs.List.{fold, list_any}
 use Rattle.std.specs.Hash.FoldHasher as folding
 use Rattle.vtl_cell.specs.Conversion.{as_kind}
@@ -12,6 +12,7 @@ use Rattle.vtl_cell.specs.declared.cell.Cell.{Cell}
 use Rattle.vtl_cell.specs.declared.cell.Cell.TheVariants as c
 use Rattle.vtl_cell.specs.declared.kind.Kind.TheVariants as k
 use Rattle.vtl_rows.specs.Places.{row_at}
+use Rattle.vtl_rows.specs.declared.column.SortKey.{SortKey}
 use Rattle.vtl_index.specs.declared.row_keys.KeyColumn.{KeyColumn}
 use Rattle.vtl_index.specs.declared.row_keys.KeyForm.{KeyForm}
 use Rattle.vtl_index.specs.declared.row_keys.KeyForm.TheVariants.{AsIs, AsNumber}
@@ -52,6 +53,14 @@ keys_in keyed i = key_at keyed.p.now keyed.columns.now (row_at keyed.table.now.r
 
 abbrev pub count_in : KeyedRows → ℕ
 count_in keyed = length keyed.table.now.rows
+
+-- ---- columns to sort by
+-- whether the column is one of so many
+abbrev pub is_within : ℕ → KeyColumn → Bool
+is_within width at = nat_lt at.column width
+
+abbrev pub rising_by : KeyColumn → SortKey
+rising_by at = record { column = at.column; falling = false }
 
 -- ---- hashes
 -- a hasher that takes in one more cell, by how it takes in bytes

@@ -71,7 +71,7 @@ fn led_by_hash(alloc: Global, keyed: &KeyedRows) -> Result<Option<Led>, AllocErr
     }))
 }
 
-// The leads by an order of the rows.
+// The leads by an order of the rows, in which those of one key stand together, the first of them in front.
 fn leads_in_order(
     alloc: Global,
     keyed: &KeyedRows,
@@ -80,9 +80,13 @@ fn leads_in_order(
     requires { IsKeyOrder (keys_in keyed.now) (count_in keyed.now) order.now }
     ensures { IfOk result (λ leads. leads.items ≡ leads_in keyed.now) }
 {
-    let mut leads = Vec::with_capacity(alloc, keyed.len())?;
-    for i in 0..keyed.len() {
-        leads.push(find_in_order(order, keyed, &keyed.key(i)).unwrap_or(i))?;
+    let mut leads = vec![in alloc; 0; keyed.len()]?;
+    let mut lead = 0;
+    for row in order {
+        if !keyed.has(lead, &keyed.key(*row)) {
+            lead = *row;
+        }
+        leads[*row] = lead;
     }
     Ok(leads)
 }

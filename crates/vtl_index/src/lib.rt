@@ -7,10 +7,11 @@
 //! `Index` knows no tables: a number is whatever the caller means by it.
 //!
 //! `Groups` holds which rows have one key, each known by its lead, the first row that has its key; `Marks` holds which
-//! rows were met. `RowIndex` finds the rows of a table by the cells of listed columns, and keeps no cells. Leads are
-//! found by hash, and by a sort where cells were chosen to have like hashes, so no choice of cells makes them slow.
+//! rows were met. `RowIndex` finds the rows of a table by the cells of listed columns, and keeps no cells; `Seeker` tells
+//! the first of them. Leads are found by hash, and by a sort where cells were chosen to have like hashes, so no choice of
+//! cells makes them slow.
 //! Begin with specs/Lookup.antt, then specs/Index.antt; for groups with specs/Leads.antt, then specs/Groups.antt; for
-//! keys of tables with specs/RowKeys.antt, then specs/RowIndex.antt.
+//! keys of tables with specs/RowKeys.antt, then specs/RowIndex.antt, and specs/Seekers.antt for the first row of a key.
 #![tactic(auto)]
 
 mod bucket;

@@ -17,7 +17,6 @@ use vtl_rows::Table;
 pub struct Seeker<'t> {
     index: RowIndex<'t>,
     asked: Vec<KeyColumn>,
-    count: usize,
 }
 
 // Written out, so that a proof above sees one call and not the drop of each part.
@@ -26,13 +25,12 @@ impl<'t> Drop for Seeker<'t> {
         let Seeker {
             index: _index,
             asked: _asked,
-            count: _count,
         } = self;
     }
 }
 
 impl<'t> Model for Seeker<'t> {
-    ghost use Rattle.std.specs.Prelude.{◌≡◌, length, map};
+    ghost use Rattle.std.specs.Prelude.{◌≡◌, map};
     ghost use Rattle.vtl_index.specs.RowKeys.{as_it_is};
     ghost use Rattle.vtl_index.specs.Seekers.{Sought, columns_in};
     ghost use Rattle.vtl_index.specs.declared.row_keys.NullKeys.TheVariants.{Found};
@@ -41,7 +39,7 @@ impl<'t> Model for Seeker<'t> {
 
     ghost view = { λ x. record { own = columns_in x.index.key; asked = columns_in x.asked.items; rows = x.index.rows } };
 
-    ghost invariant = { λ x. (x.count ≡ length x.index.rows) × (x.index.nulls ≡ Found) × (x.index.key ≡ map as_it_is (columns_in x.index.key)) × (x.asked.items ≡ map as_it_is (columns_in x.asked.items)) };
+    ghost invariant = { λ x. (x.index.nulls ≡ Found) × (x.index.key ≡ map as_it_is (columns_in x.index.key)) × (x.asked.items ≡ map as_it_is (columns_in x.asked.items)) };
 }
 
 impl<'t> Seeker<'t> {
@@ -60,11 +58,7 @@ impl<'t> Seeker<'t> {
         let asked = key_of_columns(alloc, asked)?;
         let key = key_of_columns(alloc, own)?;
         let index = RowIndex::of(alloc, table, key, NullKeys::Found, &any_profile(), steps)?;
-        Ok(Seeker {
-            index,
-            asked,
-            count: table.len(),
-        })
+        Ok(Seeker { index, asked })
     }
 
     /// The number of the first row that a row asks for, or how many rows there are. It takes one step, and no memory.
@@ -72,17 +66,18 @@ impl<'t> Seeker<'t> {
         ensures place { result ≡ first_meant self.now row.now }
         ensures steps { steps.new ≡ steps.old + 1 }
     {
-        match self.index.probe(row, &self.asked, steps).first() {
-            Some(place) => *place,
-            None => self.count,
-        }
+        self.index
+            .probe(row, &self.asked, steps)
+            .first()
+            .copied()
+            .unwrap_or(self.len())
     }
 
     /// How many rows there are.
     pub fn len(&self) -> usize
         ensures { result ≡ length self.now.rows }
     {
-        self.count
+        self.index.table().len()
     }
 
     /// Whether there is a row that a row asks for. It takes one step, and no memory.

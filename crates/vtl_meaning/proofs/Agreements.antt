@@ -63,7 +63,7 @@ common_of_contained a b e = all_common a (identifiers_of b) (all_filtered (λ x.
 pub own_values : (a : Structure) (r : Row) → IsStructure a → is_point (columns_of a) r ≡ true → values_in a (identifiers_of a) r ≡ take (key_width a) r
 own_values a r s h = sym (named_cells (columns_of a) (identifiers_of a) r) ∙ key_cells a a r s (refl, refl) (key_within a r h)
 
-found_by_key : (n : ℕ) (f : Row → Row) (d : List Row) (k : Row) → AllByRecursion (λ q. f q ≡ take n q) d → find (λ q. same_row (f q) k) d ≡ look n d k
+pub found_by_key : (n : ℕ) (f : Row → Row) (d : List Row) (k : Row) → AllByRecursion (λ q. f q ≡ take n q) d → find (λ q. same_row (f q) k) d ≡ look n d k
 found_by_key n f [] k all = refl
 found_by_key n f (q ∷ d) k all =
     ap (λ v. cond (same_row v k) (Some q) (find (λ z. same_row (f z) k) d)) all.0 ∙ ap (λ o. cond (same_row (take n q) k) (Some q) o) (found_by_key n f d k all.1)

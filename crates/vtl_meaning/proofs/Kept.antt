@@ -1,7 +1,6 @@
 -- The operators keep what makes a data set: widths, kinds and keys.
-use Rattle.std.proofs.Common.{◌≡◌, ℕ, zero, suc, ◌<◌, ◌≤◌, Bool, true, false, not, cond, ◌&&◌, ◌||◌, List, [], ◌∷◌, ◌++◌, length, map, take, Option, Some, None, Ok, Err, ◌⊎◌, inl, inr, refl, sym, ap, ◌∙◌, subst, arith, true≢false, length-append}
+use Rattle.std.proofs.Common.{◌≡◌, ℕ, zero, suc, ◌<◌, ◌≤◌, Bool, true, false, not, cond, ◌&&◌, ◌||◌, List, [], ◌∷◌, ◌++◌, length, map, take, Option, Some, None, Ok, Err, ◌⊎◌, inl, inr, refl, sym, ap, ◌∙◌, subst, arith, length-append}
 use Rattle.std.specs.List.{AllByRecursion, filter, list_all, list_any}
-use Rattle.std.specs.Map.{lookup}
 use Rattle.std.specs.Option.{option_map_or}
 use Rattle.std.proofs.lemmas.Bool.{and_parts}
 use Rattle.std.proofs.lemmas.List.{length-map, map-append, take-append-le}
@@ -21,25 +20,24 @@ use Rattle.vtl_rows.specs.Tables.{cells_at, fits_kinds}
 use Rattle.vtl_tree.specs.Clauses.{filter_of, is_true, kept}
 use Rattle.vtl_tree.specs.CompExp.{CompExp}
 use Rattle.vtl_tree.specs.DataSet.{Distinct, IsDataSet, is_point, look}
-use Rattle.vtl_tree.specs.Environment.{DataSet, Environment, data_of}
+use Rattle.vtl_tree.specs.Environment.{DataSet}
 use Rattle.vtl_tree.specs.Structure.{IsStructure, columns_of, key_width, names_of, same_name, same_role}
 use Rattle.vtl_tree.specs.Value.{value}
 use Rattle.vtl_tree.specs.declared.structure.Component.{Component}
 use Rattle.vtl_tree.specs.declared.structure.Role.{Role}
 use Rattle.vtl_tree.specs.declared.structure.Role.TheVariants as role
 use Rattle.vtl_tree.specs.declared.structure.Structure.{Structure}
-use Rattle.vtl_nodes.specs.Trees as nodes
-use Rattle.vtl_nodes.specs.Trees.{FormTree, ItemTree, MeasureTree, NodeTree, structure_of}
+use Rattle.vtl_nodes.specs.Trees.{ItemTree, MeasureTree, NodeTree, structure_of}
 use Rattle.vtl_nodes.specs.declared.clauses.SubItem.{SubItem}
 use Rattle.check_shapes.specs.Pairs.{contains}
 use Rattle.check_values.specs.Kinds.{exp_kind}
 use Rattle.vtl_meaning.specs.Columns.{column_behind, column_named, columns_named, identifiers_of, measures_of, others_of, place_of, places_in}
-use Rattle.vtl_meaning.specs.Made.{AreAmong, AreFor, HasIdentifiers, IsAlternative, IsCalculated, IsChoice, IsColumnAt, IsFiltered, IsLeft, IsMade, IsMadeForm, IsMeasured, IsPaired, IsRenamed, IsSub}
-use Rattle.vtl_meaning.specs.Meaning.{AreDataSets, form_value, is_built, is_built_form, known_in, node_value, points_named, with_operand}
+use Rattle.vtl_meaning.specs.Made.{AreAmong, AreFor, HasIdentifiers, IsAlternative, IsCalculated, IsChoice, IsColumnAt, IsFiltered, IsLeft, IsMeasured, IsPaired, IsRenamed, IsSub}
+use Rattle.vtl_meaning.specs.Meaning.{with_operand}
 use Rattle.vtl_meaning.specs.Operators.{calculated_exp, calculated_exps, calculated_of, choice_of, for_measures, has_values, is_first_chosen, joined_point, left_of, measured_of, pair_of, sub_of, taken_at, taken_from, target_named, value_exp, with_measure, with_namesake}
 use Rattle.vtl_meaning.specs.Points.{beside, cell_or_null, each_point, paired, partner, point_fault, point_of, with_points}
 use Rattle.vtl_meaning.proofs.Drawn.{AreDrawn, AtMostOne, Keeps, drawn_all, drawn_apart, drawn_kept, map_drawn, mapped_kept, one_of_option, same_keys_back}
-use Rattle.vtl_meaning.proofs.Places.{IsIdentifier, IsOther, all_back, all_filtered, all_map, all_more, are_identifiers, are_measures, are_others, cells_fit, columns_split, joined_point_is, key_cells, key_for, key_of_joined, key_of_point, key_within, place_here, place_later, point_append, point_of_same, same_name-is, same_name-sym}
+use Rattle.vtl_meaning.proofs.Places.{IsIdentifier, IsOther, all_back, all_filtered, all_map, all_more, are_identifiers, are_measures, are_others, cells_fit, columns_split, joined_point_is, key_cells, key_for, key_of_joined, key_of_point, key_within, place_here, place_later, point_append, point_of_same, same_name-is}
 use Rattle.vtl_meaning.proofs.ValueKinds.{GivesOf, IsOf, cell_is_of, null_is_of, point_from, point_parts, value_is_of}
 
 -- ---- outcomes
@@ -302,7 +300,7 @@ place_front name (x ∷ xs) ys h = go (same_name x.name name) refl (place_front 
         let later = place_later name x xs e in
         place_later name x (xs ++ ys) e ∙ ap suc (ih (omega (arith, h, later))) ∙ sym later
 
-column_front : (place : ℕ) (name : List ℕ) (kind : Kind) (xs ys : List Component) → IsColumnAt place name kind xs → IsColumnAt place name kind (xs ++ ys)
+pub column_front : (place : ℕ) (name : List ℕ) (kind : Kind) (xs ys : List Component) → IsColumnAt place name kind xs → IsColumnAt place name kind (xs ++ ys)
 column_front place name kind [] ys i = absurd i
 column_front zero name kind (x ∷ xs) ys i = i
 column_front (suc place) name kind (x ∷ xs) ys i = column_front place name kind xs ys i
@@ -319,7 +317,7 @@ identifier_filled (suc place) name kind (x ∷ xs) ys [] all i h = cc
 identifier_filled (suc place) name kind (x ∷ xs) ys (v ∷ r) all i h = identifier_filled place name kind xs ys r all.1 i (point_parts x (xs ++ ys) v r h).2
 
 -- cells of some of the identifiers
-some_identifiers : (ys xs others : List Component) (r : Row) → AllByRecursion IsIdentifier ys → AllByRecursion IsIdentifier xs → AreAmong ys xs → is_point (xs ++ others) r ≡ true → is_point ys (cells_at (places_in (xs ++ others) ys) r) ≡ true
+pub some_identifiers : (ys xs others : List Component) (r : Row) → AllByRecursion IsIdentifier ys → AllByRecursion IsIdentifier xs → AreAmong ys xs → is_point (xs ++ others) r ≡ true → is_point ys (cells_at (places_in (xs ++ others) ys) r) ≡ true
 some_identifiers [] xs others r a b i h = refl
 some_identifiers (y ∷ ys) xs others r a b i h =
     let at = place_of y.name xs in
@@ -371,8 +369,19 @@ pub one_of : (a b : Bool) → (a || b) ≡ true → (a ≡ true) ⊎ (b ≡ true
 one_of true b e = inl refl
 one_of false b e = inr e
 
+-- Columns with some of the identifiers: each identifier is one of them, or has one of these values. `sub` gives such columns, and so
+-- do the columns of a result that has all identifiers of an operand in its own order, with no value at all.
+pub record Tells (items : List SubItem) (a s : Structure) : Type 0 where
+  pub well_formed : IsStructure s
+  pub columns : AreAmong (columns_of s) (columns_of a)
+  pub left : AreAmong (identifiers_of s) (identifiers_of a)
+  pub identifiers : AllByRecursion (λ x. list_any (λ y. same_name y.name x.name) (identifiers_of s) || list_any (λ i. same_name i.id x.name) items ≡ true) (identifiers_of a)
+
+pub sub_tells : (items : List SubItem) (a s : Structure) → IsSub items a s → Tells items a s
+sub_tells items a s i = record { well_formed = i.well_formed; columns = i.columns; left = i.left; identifiers = i.identifiers }
+
 -- points with these values that agree on the identifiers that are left agree on all of them
-module _ (items : List SubItem) (a s : Structure) (w : IsStructure a) (i : IsSub items a s) where
+module _ (items : List SubItem) (a s : Structure) (w : IsStructure a) (i : Tells items a s) where
   pub sub_keys : (r : Row) → is_point (columns_of a) r ≡ true → is_point (identifiers_of s) (cells_at (places_in (columns_of a) (identifiers_of s)) r) ≡ true
   sub_keys r h =
       subst (λ xs. is_point (identifiers_of s) (cells_at (places_in xs (identifiers_of s)) r) ≡ true) (sym (columns_split a))
@@ -410,8 +419,8 @@ pub both_all : {X : Type 0} (P Q R : X → Type 0) → ((x : X) → P x → Q x 
 both_all P Q R f [] p q = tt
 both_all P Q R f (x ∷ xs) p q = (f x p.0 q.0, both_all P Q R f xs p.1 q.1)
 
-pub sub_kept : (items : List SubItem) (a : DataSet) (s : Structure) → IsSub items a.structure s → IsDataSet a.structure a.points → IsDataSet s (sub_of items a s)
-sub_kept items a s i h =
+pub told_kept : (items : List SubItem) (a : DataSet) (s : Structure) → Tells items a.structure s → IsDataSet a.structure a.points → IsDataSet s (sub_of items a s)
+told_kept items a s i h =
     let ours = a.structure in
     let w = h.well_formed in
     let f : Row → Row = cells_at (places_in (columns_of ours) (columns_of s)) in
@@ -425,75 +434,5 @@ sub_kept items a s i h =
       distinct = drawn_apart (Taken items ours s w i) (same_key (key_width ours)) (same_key (key_width s)) (taken_back items ours s w i) (λ r. f r ∷ []) rows all (all_apart-filter (same_key (key_width ours)) (has_values ours items) a.points h.distinct);
     })
 
--- ---- expressions
-named_kept : (name : List ℕ) (s : Structure) (env : Environment) → lookup (same_name name) (known_in env) ≡ Some s → AreDataSets env → IsDataSet s (points_named name env)
-named_kept name s [] e h = cc
-named_kept name s (d ∷ env) e h = go (same_name name d.0) (same_name d.0 name) (same_name-sym name d.0) e (named_kept name s env)
-  where
-    go : (x y : Bool) → x ≡ y → cond x (Some d.1.structure) (lookup (same_name name) (known_in env)) ≡ Some s
-        → (lookup (same_name name) (known_in env) ≡ Some s → AreDataSets env → IsDataSet s (points_named name env))
-        → IsDataSet s (option_map_or (λ z. z.points) (cond y (Some d.1) (data_of name env)) [])
-    go true true q f ih = let same : d.1.structure ≡ s = cc in subst (λ x. IsDataSet x d.1.points) same h.0
-    go false false q f ih = ih f h.1
-    go true false q f ih = absurd (true≢false q)
-    go false true q f ih = absurd (true≢false (sym q))
-
-both_built : (x y : Bool) → (x && y) ≡ true → (x ≡ true) × (y ≡ true)
-both_built x y e = and_parts x y e
-
-left_given : (a : NodeTree) (s : Structure) (m : Outcome (List Row)) (out : List Row) → IsLeft (structure_of a) s → ((points : List Row) → m ≡ Ok points → IsDataSet (structure_of a) points) → with_operand a m (λ d. Ok (left_of d s)) ≡ Ok out → IsDataSet s out
-left_given a s m out i h e =
-    let x = operand_ok a m (λ d. Ok (left_of d s)) out e in
-    let d = with_points (structure_of a) x.0 in
-    subst (λ l. IsDataSet s l) (ok_is (left_of d s) out x.2) (left_kept d s i (h x.0 x.1))
-
-mutual
-  -- of an expression over an environment of data sets
-  pub node_kept : (p : Settings) (env : Environment) (n : NodeTree) (out : List Row) → is_built n ≡ true → IsMade p (known_in env) n → AreDataSets env → node_value p env n ≡ Ok out → IsDataSet (structure_of n) out
-  node_kept p env (nodes.node s form) out b i h e = form_kept p env s form out b i.1 h e
-
-  form_kept : (p : Settings) (env : Environment) (s : Structure) (form : FormTree) (out : List Row) → is_built_form form ≡ true → IsMadeForm p (known_in env) s form → AreDataSets env → form_value p env s form ≡ Ok out → IsDataSet s out
-  form_kept p env s (nodes.named name) out b i h e = subst (λ l. IsDataSet s l) (ok_is (points_named name env) out e) (named_kept name s env i h)
-  form_kept p env s (nodes.measures m a) out b i h e =
-      let x = operand_ok a (node_value p env a) (λ d. measured_of p m d s) out e in
-      measured_kept p m (with_points (structure_of a) x.0) s out i.1 (node_kept p env a x.0 b i.0 h x.1) x.2
-  form_kept p env s (nodes.pair o a c) out b i h e =
-      let built = both_built (is_built a) (is_built c) b in
-      let x = operand_ok a (node_value p env a) (λ d. with_operand c (node_value p env c) (λ q. pair_of p o d q s)) out e in
-      let d = with_points (structure_of a) x.0 in
-      let y = operand_ok c (node_value p env c) (λ q. pair_of p o d q s) out x.2 in
-      pair_kept p o d (with_points (structure_of c) y.0) s out i.2 (node_kept p env a x.0 built.0 i.0 h x.1) (node_kept p env c y.0 built.1 i.1 h y.1) y.2
-  form_kept p env s (nodes.choose t a c) out b i h e =
-      let built = both_built (is_built t) (is_built a && is_built c) b in
-      let others = both_built (is_built a) (is_built c) built.1 in
-      let w = operand_ok t (node_value p env t) (λ tests. with_operand a (node_value p env a) (λ d. with_operand c (node_value p env c) (λ q. Ok (choice_of tests d q s)))) out e in
-      let tests = with_points (structure_of t) w.0 in
-      let x = operand_ok a (node_value p env a) (λ d. with_operand c (node_value p env c) (λ q. Ok (choice_of tests d q s))) out w.2 in
-      let d = with_points (structure_of a) x.0 in
-      let y = operand_ok c (node_value p env c) (λ q. Ok (choice_of tests d q s)) out x.2 in
-      let q = with_points (structure_of c) y.0 in
-      subst (λ l. IsDataSet s l) (ok_is (choice_of tests d q s) out y.2)
-      (choice_kept tests d q s i.3 (node_kept p env t w.0 built.0 i.0 h w.1) (node_kept p env a x.0 others.0 i.1 h x.1) (node_kept p env c y.0 others.1 i.2 h y.1))
-  form_kept p env s (nodes.member a m) out b i h e = left_given a s (node_value p env a) out i.1 (λ points is. node_kept p env a points b i.0 h is) e
-  form_kept p env s (nodes.filter a q) out b i h e =
-      let x = after_ok (node_value p env a) (filter_of p q) out e in
-      filtered_kept p q (structure_of a) s x.0 out i.1 (node_kept p env a x.0 b i.0 h x.1) x.2
-  form_kept p env s (nodes.calc a items) out b i h e =
-      let x = operand_ok a (node_value p env a) (λ d. calculated_of p items d s) out e in
-      calculated_kept p items (with_points (structure_of a) x.0) s out i.1 (node_kept p env a x.0 b i.0 h x.1) x.2
-  form_kept p env s (nodes.keep a names) out b i h e = left_given a s (node_value p env a) out i.1 (λ points is. node_kept p env a points b i.0 h is) e
-  form_kept p env s (nodes.drop_named a names) out b i h e = left_given a s (node_value p env a) out i.1 (λ points is. node_kept p env a points b i.0 h is) e
-  form_kept p env s (nodes.rename a pairs) out b i h e = renamed_kept (structure_of a) s out i.1 (node_kept p env a out b i.0 h e)
-  form_kept p env s (nodes.sub a items) out b i h e =
-      let x = operand_ok a (node_value p env a) (λ d. Ok (sub_of items d s)) out e in
-      let d = with_points (structure_of a) x.0 in
-      subst (λ l. IsDataSet s l) (ok_is (sub_of items d s) out x.2) (sub_kept items d s i.1 (node_kept p env a x.0 b i.0 h x.1))
-  form_kept p env s (nodes.pivot a id m) out b i h e = ?
-  form_kept p env s (nodes.unpivot a id m) out b i h e = ?
-  form_kept p env s (nodes.join os spec) out b i h e = ?
-  form_kept p env s (nodes.union ns) out b i h e = ?
-  form_kept p env s (nodes.intersect ns) out b i h e = ?
-  form_kept p env s (nodes.set_diff a c) out b i h e = ?
-  form_kept p env s (nodes.sym_diff a c) out b i h e = ?
-  form_kept p env s (nodes.exists_in a c r) out b i h e = ?
-  form_kept p env s other out b i h e = cc
+pub sub_kept : (items : List SubItem) (a : DataSet) (s : Structure) → IsSub items a.structure s → IsDataSet a.structure a.points → IsDataSet s (sub_of items a s)
+sub_kept items a s i h = told_kept items a s (sub_tells items a.structure s i) h

@@ -38,11 +38,11 @@ use Rattle.check_shapes.specs.Pairs.{contains}
 use Rattle.check_shapes.specs.declared.operands.Compared.TheVariants as compared
 use Rattle.vtl_meaning.specs.Columns.{column_behind, column_named, columns_named, identifiers_of, kind_named, measures_of, others_of, place_of, places_in}
 use Rattle.vtl_meaning.specs.LookUps.{calculated_at, chosen_at, has_key_values, measured_at, of_both, paired_at, part_for, result_at, value_named, values_for, values_named}
-use Rattle.vtl_meaning.specs.Made.{AreAmong, AreFor, HasIdentifiers, IsAlternative, IsCalculated, IsChoice, IsColumnAt, IsFiltered, IsLeft, IsMeasured, IsPaired, IsRenamed, IsSub, IsTyped}
+use Rattle.vtl_meaning.specs.Made.{AreAmong, AreFor, HasIdentifiers, IsAlternative, IsCalculated, IsChoice, IsColumnAt, IsFiltered, IsLeft, IsMeasured, IsPaired, IsRenamed, IsTyped}
 use Rattle.vtl_meaning.specs.Operators.{calculated_exp, calculated_of, choice_of, for_measures, has_values, is_first_chosen, joined_point, left_of, measured_of, pair_of, sub_of, taken_at, target_named, value_exp, with_measure, with_namesake}
 use Rattle.vtl_meaning.specs.Points.{beside, cell_or_null, each_point, paired, partner, point_fault, point_of, with_points}
 use Rattle.vtl_meaning.proofs.Drawn.{drawn_all}
-use Rattle.vtl_meaning.proofs.Kept.{Alike, Pairs, alike_by_columns, alike_by_values, alike_cells, all_paired, both_all, calculated_split, column_within, exps_keep, exps_split, for_back, key_widths, joined_keeps, look_is, one_of, pairs_with, place_front, shown_keeps, shown_split, taken_key, unless_ok}
+use Rattle.vtl_meaning.proofs.Kept.{Alike, Pairs, Tells, alike_by_columns, alike_by_values, alike_cells, all_paired, both_all, calculated_split, column_within, exps_keep, exps_split, for_back, key_widths, joined_keeps, look_is, one_of, pairs_with, place_front, shown_keeps, shown_split, taken_key, unless_ok}
 use Rattle.vtl_meaning.proofs.Looks.{found_map, found_of_map, found_then, kept_all, look-drawn, look-map, look_key, map_then, map_twice, some_if, then_turned}
 use Rattle.vtl_meaning.proofs.Places.{IsIdentifier, all_filtered, all_more, are_identifiers, columns_split, first_cells, identifiers_apart, key_cells, key_of_point, key_within, place_here, place_later, point_append, point_length}
 use Rattle.vtl_meaning.proofs.ValueKinds.{IsOf, cell_is_of}
@@ -53,10 +53,10 @@ named_cells xs [] r = refl
 named_cells xs (y ∷ ys) r = ap (λ l. value_named xs r y.name ∷ l) (named_cells xs ys r)
 
 -- the first columns of a row
-named_front : (xs ys : List Component) (r : Row) (name : List ℕ) → place_of name xs < length xs → value_named (xs ++ ys) r name ≡ value_named xs (take (length xs) r) name
+pub named_front : (xs ys : List Component) (r : Row) (name : List ℕ) → place_of name xs < length xs → value_named (xs ++ ys) r name ≡ value_named xs (take (length xs) r) name
 named_front xs ys r name h = ap (λ i. column_of i r) (place_front name xs ys h) ∙ sym (get_or-take (length xs) r (place_of name xs) c.Null h)
 
-parts_named : (a : Structure) (ys : List Component) (r : Row) → AllByRecursion (λ y. place_of y.name (identifiers_of a) < length (identifiers_of a)) ys → values_named (columns_of a) ys r ≡ values_named (identifiers_of a) ys (take (key_width a) r)
+pub parts_named : (a : Structure) (ys : List Component) (r : Row) → AllByRecursion (λ y. place_of y.name (identifiers_of a) < length (identifiers_of a)) ys → values_named (columns_of a) ys r ≡ values_named (identifiers_of a) ys (take (key_width a) r)
 parts_named a [] r all = refl
 parts_named a (y ∷ ys) r all =
     let one : value_named (columns_of a) r y.name ≡ value_named (identifiers_of a) (take (key_width a) r) y.name = ap (λ xs. value_named xs r y.name) (columns_split a) ∙ named_front (identifiers_of a) (others_of a) r y.name all.0 in
@@ -66,7 +66,7 @@ parts_named a (y ∷ ys) r all =
 part_of_point : (a other : Structure) (r k : Row) → AllByRecursion (λ y. place_of y.name (identifiers_of a) < length (identifiers_of a)) (identifiers_of other) → take (key_width a) r ≡ k → cells_at (places_in (columns_of a) (identifiers_of other)) r ≡ part_for a other k
 part_of_point a other r k all e = named_cells (columns_of a) (identifiers_of other) r ∙ parts_named a (identifiers_of other) r all ∙ ap (part_for a other) e
 
-among_within : (ys xs : List Component) → AreAmong ys xs → AllByRecursion (λ y. place_of y.name xs < length xs) ys
+pub among_within : (ys xs : List Component) → AreAmong ys xs → AllByRecursion (λ y. place_of y.name xs < length xs) ys
 among_within ys xs all = all_more (λ y. IsColumnAt (place_of y.name xs) y.name y.kind xs) (λ y. place_of y.name xs < length xs) (λ y i. column_within (place_of y.name xs) y.name y.kind xs i) ys all
 
 -- ---- one operand
@@ -347,20 +347,31 @@ module _ (t a b : DataSet) (s : Structure) (k : Row) (i : IsChoice t.structure a
       (λ r w key. ap (λ o. cond (is_first_chosen t.structure r) o (Joined b r)) (joined_at a r i.first w key) ∙ ap (λ o. cond (is_first_chosen t.structure r) (chosen_at t.structure a s k) o) (joined_at b r i.second w key))
 
 -- ---- `sub`
-same_truth : (x y : Bool) → (x ≡ true → y ≡ true) → (y ≡ true → x ≡ true) → x ≡ y
+pub same_truth : (x y : Bool) → (x ≡ true → y ≡ true) → (y ≡ true → x ≡ true) → x ≡ y
 same_truth true y f g = sym (f refl)
 same_truth false true f g = g refl
 same_truth false false f g = refl
 
-module _ (items : List SubItem) (a s : Structure) (i : IsSub items a s) (w : IsStructure a) where
+-- a tuple of all identifiers
+pub whole_key : (a : Structure) → IsStructure a → (k : Row) → length k ≡ key_width a → cells_at (places_in (identifiers_of a) (identifiers_of a)) k ≡ k
+whole_key a w k h =
+    ap (λ xs. cells_at (places_in xs (identifiers_of a)) k) (sym (append-nil (identifiers_of a)))
+    ∙ first_cells (identifiers_of a) [] k (identifiers_apart a w) (omega (arith, h))
+    ∙ take_all (key_width a) k (omega (arith, h))
+
+-- each value is one of an identifier
+abbrev pub AreKeyValues : List SubItem → Structure → Type 0
+AreKeyValues items a = AllByRecursion (λ x. (is_of (kind_named x.id (identifiers_of a)) x.value ≡ true) × IsColumnAt (place_of x.id (identifiers_of a)) x.id (kind_named x.id (identifiers_of a)) (identifiers_of a)) items
+
+module _ (items : List SubItem) (a s : Structure) (i : Tells items a s) (vs : AreKeyValues items a) (w : IsStructure a) where
   within_key : (r : Row) (name : List ℕ) → place_of name (identifiers_of a) < length (identifiers_of a) → value_named (columns_of a) r name ≡ value_named (identifiers_of a) (take (key_width a) r) name
   within_key r name h = ap (λ xs. value_named xs r name) (columns_split a) ∙ named_front (identifiers_of a) (others_of a) r name h
 
   -- a point has these values where its key has them
   values_of_key : (r : Row) → has_values a items r ≡ has_key_values a items (take (key_width a) r)
-  values_of_key r = go items i.values
+  values_of_key r = go items vs
     where
-      go : (us : List SubItem) → AllByRecursion (λ x. (is_of (kind_named x.id (identifiers_of a)) x.value ≡ true) × IsColumnAt (place_of x.id (identifiers_of a)) x.id (kind_named x.id (identifiers_of a)) (identifiers_of a)) us → has_values a us r ≡ has_key_values a us (take (key_width a) r)
+      go : (us : List SubItem) → AreKeyValues us a → has_values a us r ≡ has_key_values a us (take (key_width a) r)
       go [] all = refl
       go (x ∷ us) all =
           ap (λ v. same_cell v x.value && has_values a us r) (within_key r x.id (column_within (place_of x.id (identifiers_of a)) x.id (kind_named x.id (identifiers_of a)) (identifiers_of a) all.0.1))
@@ -376,13 +387,7 @@ module _ (items : List SubItem) (a s : Structure) (i : IsSub items a s) (w : IsS
         | inr m ↦ alike_by_values (identifiers_of a) j l items x.name hj hl m
       ] in
       let all = all_more (λ x. (list_any (λ y. same_name y.name x.name) (identifiers_of s) || list_any (λ y. same_name y.id x.name) items) ≡ true) (λ x. Alike (identifiers_of a) j l x.name) each_one (identifiers_of a) i.identifiers in
-      sym (whole j lj) ∙ alike_cells (identifiers_of a) j l (identifiers_of a) all ∙ whole l ll
-    where
-      whole : (m : Row) → length m ≡ key_width a → cells_at (places_in (identifiers_of a) (identifiers_of a)) m ≡ m
-      whole m h =
-          ap (λ xs. cells_at (places_in xs (identifiers_of a)) m) (sym (append-nil (identifiers_of a)))
-          ∙ first_cells (identifiers_of a) [] m (identifiers_apart a w) (omega (arith, h))
-          ∙ take_all (key_width a) m (omega (arith, h))
+      sym (whole_key a w j lj) ∙ alike_cells (identifiers_of a) j l (identifiers_of a) all ∙ whole_key a w l ll
 
   sub_key : (r : Row) → is_point (columns_of a) r ≡ true → has_values a items r ≡ true → take (key_width s) (cells_at (places_in (columns_of a) (columns_of s)) r) ≡ part_for a s (take (key_width a) r)
   sub_key r h v =

@@ -57,7 +57,7 @@ look_absent n [] k all = refl
 look_absent n (r ∷ d) k all = rw all.0 (look_absent n d k all.1)
 
 -- the key of a first point is found nowhere behind it
-behind_none : (n : ℕ) (r : Row) (d : List Row) (k : Row) → Distinct n (r ∷ d) → same_row (take n r) k ≡ true → look n d k ≡ None
+pub behind_none : (n : ℕ) (r : Row) (d : List Row) (k : Row) → Distinct n (r ∷ d) → same_row (take n r) k ≡ true → look n d k ≡ None
 behind_none n r d k apart e = look_absent n d k (others d (apart_parts (same_key n) r d apart).0)
   where
     others : (l : List Row) → AllByRecursion (λ s. same_key n r s ≡ false) l → AllByRecursion (λ s. same_row (take n s) k ≡ false) l

@@ -148,7 +148,7 @@ IsIdentifier x = same_role x.role role.Identifier ≡ true
 abbrev pub IsOther : Component → Type 0
 IsOther x = same_role x.role role.Identifier ≡ false
 
-identifier_role : (r : Role) → same_role r role.Identifier ≡ true → r ≡ role.Identifier
+pub identifier_role : (r : Role) → same_role r role.Identifier ≡ true → r ≡ role.Identifier
 identifier_role role.Identifier h = refl
 identifier_role role.Measure h = cc
 identifier_role role.Attribute h = cc

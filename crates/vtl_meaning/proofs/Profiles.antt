@@ -1,8 +1,8 @@
 -- The points of results are of the profile where those of the data sets are.
-use Rattle.std.proofs.Common.{◌≡◌, ℕ, zero, suc, Bool, true, false, cond, List, [], ◌∷◌, ◌++◌, map, Result, Ok, Err, Option, Some, None, refl}
+use Rattle.std.proofs.Common.{◌≡◌, ℕ, zero, suc, Bool, true, false, cond, List, [], ◌∷◌, ◌++◌, map, Ok, Err, Option, Some, None, refl}
 use Rattle.std.specs.Prelude.{IfOk, option_map}
 use Rattle.std.specs.List.{AllByRecursion, filter, flat_map}
-use Rattle.std.specs.Option.{option_map_or, option_to_list}
+use Rattle.std.specs.Option.{option_to_list}
 use Rattle.vtl_cell.specs.Conversion.{as_kind}
 use Rattle.vtl_cell.specs.Outcome.{Fault, Outcome, after, fault_in, faults_by, unless}
 use Rattle.vtl_cell.specs.Profile.{IsOfProfile}
@@ -23,20 +23,15 @@ use Rattle.vtl_scalar.proofs.ProfileLemmas.{Gives, number_gives, value_is_of_pro
 use Rattle.vtl_tree.specs.Clauses.{filter_of, is_true}
 use Rattle.vtl_tree.specs.CompExp.{CompExp, CompExps, column, const, call, aggregate, no_comp_exps, comp_exp}
 use Rattle.vtl_tree.specs.DataSet.{AreOfProfile, look}
-use Rattle.vtl_tree.specs.Environment.{DataSet, Environment, data_of}
-use Rattle.vtl_tree.specs.Structure.{columns_of, key_width, same_name}
+use Rattle.vtl_tree.specs.Structure.{columns_of, key_width}
 use Rattle.vtl_tree.specs.Value.{all_of, branch, called, first_chosen, result_of, value, values}
 use Rattle.vtl_tree.specs.declared.structure.Component.{Component}
 use Rattle.vtl_tree.specs.declared.structure.Structure.{Structure}
-use Rattle.vtl_nodes.specs.Trees as nodes
-use Rattle.vtl_nodes.specs.Trees.{FormTree, NodeTree, structure_of}
 use Rattle.check_shapes.specs.Pairs.{contains}
 use Rattle.vtl_meaning.specs.Columns.{identifiers_of, measures_of, places_in}
-use Rattle.vtl_meaning.specs.Made.{AreFor, AreMadeStatements, AreTyped, IsMade, IsMadeForm, IsTyped}
-use Rattle.vtl_meaning.specs.Meaning.{Outputs, Statement, form_value, known_in, meaning, node_value, points_named, stated, with_output}
-use Rattle.vtl_meaning.specs.Operators.{calculated_exps, has_values, is_first_chosen, joined_point, measured_exps, pair_columns, pair_exps}
+use Rattle.vtl_meaning.specs.Made.{AreFor, AreTyped, IsTyped}
+use Rattle.vtl_meaning.specs.Operators.{is_first_chosen, joined_point}
 use Rattle.vtl_meaning.specs.Points.{cell_or_null, each_point, point_fault, point_of}
-use Rattle.vtl_meaning.specs.Profiles.{AllAreOfProfile}
 use Rattle.vtl_meaning.proofs.Kept.{look_is}
 use Rattle.vtl_meaning.proofs.Places.{all_append, all_map, all_more, each}
 use Rattle.vtl_meaning.proofs.ValueKinds.{after_if, branch_if}
@@ -45,13 +40,13 @@ use Rattle.vtl_meaning.proofs.ValueKinds.{after_if, branch_if}
 abbrev pub IsRowOfProfile : Settings → Row → Type 0
 IsRowOfProfile p r = AllByRecursion (IsOfProfile p) r
 
-cell_is : (p : Settings) (place : ℕ) (r : Row) → IsRowOfProfile p r → IsOfProfile p (column_of place r)
+pub cell_is : (p : Settings) (place : ℕ) (r : Row) → IsRowOfProfile p r → IsOfProfile p (column_of place r)
 cell_is p zero [] h = tt
 cell_is p (suc place) [] h = tt
 cell_is p zero (v ∷ r) h = h.0
 cell_is p (suc place) (v ∷ r) h = cell_is p place r h.1
 
-cells_are : (p : Settings) (places : List ℕ) (r : Row) → IsRowOfProfile p r → IsRowOfProfile p (cells_at places r)
+pub cells_are : (p : Settings) (places : List ℕ) (r : Row) → IsRowOfProfile p r → IsRowOfProfile p (cells_at places r)
 cells_are p places r h = all_map (λ i. column_of i r) (IsOfProfile p) places (each (λ i. IsOfProfile p (column_of i r)) (λ i. cell_is p i r h) places)
 
 -- ---- values
@@ -110,24 +105,24 @@ unless_if P None x h = h
 unless_if P (Some f) x h = tt
 
 -- the points of an expression, where it has no fault
-abbrev GivePoints : Settings → Outcome (List Row) → Type 0
+abbrev pub GivePoints : Settings → Outcome (List Row) → Type 0
 GivePoints p m = IfOk m (AreOfProfile p)
 
-each_gives : (p : Settings) (xs : List Component) (es : List CompExp) (ys : List Component) (d : List Row) → AreFor p xs es ys → AreOfProfile p d → GivePoints p (each_point p es d)
+pub each_gives : (p : Settings) (xs : List Component) (es : List CompExp) (ys : List Component) (d : List Row) → AreFor p xs es ys → AreOfProfile p d → GivePoints p (each_point p es d)
 each_gives p xs es ys d i h =
     unless_if (AreOfProfile p) (faults_by (point_fault p es) d) (map (point_of p es) d)
     (all_map (point_of p es) (IsRowOfProfile p) d (all_more (IsRowOfProfile p) (λ r. IsRowOfProfile p (point_of p es r)) (λ r k. point_is p xs es ys r i k) d h))
 
-filter_gives : (p : Settings) (e : CompExp) (d : List Row) → AreOfProfile p d → GivePoints p (filter_of p e d)
+pub filter_gives : (p : Settings) (e : CompExp) (d : List Row) → AreOfProfile p d → GivePoints p (filter_of p e d)
 filter_gives p e d h =
     let test : Row → Bool = λ r. is_true (value p e r) in
     unless_if (AreOfProfile p) (faults_by (λ r. fault_in (value p e r)) d) (filter test d) (AllByRecursion-filter (IsRowOfProfile p) test d h)
 
-shown_are : (p : Settings) (places : List ℕ) (d : List Row) → AreOfProfile p d → AreOfProfile p (map (cells_at places) d)
+pub shown_are : (p : Settings) (places : List ℕ) (d : List Row) → AreOfProfile p d → AreOfProfile p (map (cells_at places) d)
 shown_are p places d h = all_map (cells_at places) (IsRowOfProfile p) d (all_more (IsRowOfProfile p) (λ r. IsRowOfProfile p (cells_at places r)) (λ r k. cells_are p places r k) d h)
 
 -- points that are drawn from points
-drawn_are : (p : Settings) (g : Row → List Row) (d : List Row) → ((r : Row) → IsRowOfProfile p r → AreOfProfile p (g r)) → AreOfProfile p d → AreOfProfile p (flat_map g d)
+pub drawn_are : (p : Settings) (g : Row → List Row) (d : List Row) → ((r : Row) → IsRowOfProfile p r → AreOfProfile p (g r)) → AreOfProfile p d → AreOfProfile p (flat_map g d)
 drawn_are p g [] f h = tt
 drawn_are p g (r ∷ d) f h = all_append (IsRowOfProfile p) (g r) (flat_map g d) (f r h.0) (drawn_are p g d f h.1)
 
@@ -153,10 +148,10 @@ module _ (a b : Structure) (e : List Row) where
       drawn_are p with_partner d
       (λ r j. found_are p (λ q. r ++ q) (key_width b) e (cells_at (places_in (columns_of a) (identifiers_of b)) r) (λ q l. all_append (IsOfProfile p) r q j l) i) h
 
-abbrev pairs : Structure → Structure → List Row → List Row → List Row
+abbrev pub pairs : Structure → Structure → List Row → List Row → List Row
 pairs a b d e = cond (contains a b) (flat_map (with_partner a b e) d) (flat_map (with_partner b a d) e)
 
-pairs_are : (p : Settings) (a b : Structure) (d e : List Row) → AreOfProfile p d → AreOfProfile p e → AreOfProfile p (pairs a b d e)
+pub pairs_are : (p : Settings) (a b : Structure) (d e : List Row) → AreOfProfile p d → AreOfProfile p e → AreOfProfile p (pairs a b d e)
 pairs_are p a b d e h i = chosen (contains a b) (List Row) (AreOfProfile p) (flat_map (with_partner a b e) d) (flat_map (with_partner b a d) e) (paired_are a b e p d h i) (paired_are b a d p e i h)
 
 -- `if`: points that are joined of the condition's and of the chosen operand's
@@ -169,98 +164,9 @@ module _ (t s : Structure) where
       found_are p (joined_point t other s r) (key_width other) points (cells_at (places_in (columns_of t) (identifiers_of other)) r)
       (λ q j. all_append (IsOfProfile p) (cells_at (places_in (columns_of t) (identifiers_of s)) r) (cells_at (places_in (columns_of other) (measures_of s)) q) (cells_are p (places_in (columns_of t) (identifiers_of s)) r i) (cells_are p (places_in (columns_of other) (measures_of s)) q j)) h
 
-  abbrev taken_at : Structure → Structure → List Row → List Row → Row → List Row
+  abbrev pub taken_at : Structure → Structure → List Row → List Row → Row → List Row
   taken_at a b d e r = cond (is_first_chosen t r) (taken a d r) (taken b e r)
 
-  choice_are : (p : Settings) (a b : Structure) (tests d e : List Row) → AreOfProfile p tests → AreOfProfile p d → AreOfProfile p e → AreOfProfile p (flat_map (taken_at a b d e) tests)
+  pub choice_are : (p : Settings) (a b : Structure) (tests d e : List Row) → AreOfProfile p tests → AreOfProfile p d → AreOfProfile p e → AreOfProfile p (flat_map (taken_at a b d e) tests)
   choice_are p a b tests d e h i j =
       drawn_are p (taken_at a b d e) tests (λ r l. chosen (is_first_chosen t r) (List Row) (AreOfProfile p) (taken a d r) (taken b e r) (taken_are p a d r i l) (taken_are p b e r j l)) h
-
--- ---- expressions
-named_are : (p : Settings) (name : List ℕ) (env : Environment) → AllAreOfProfile p env → AreOfProfile p (points_named name env)
-named_are p name [] h = tt
-named_are p name (d ∷ env) h = go (same_name d.0 name) (named_are p name env h.1)
-  where
-    go : (b : Bool) → AreOfProfile p (points_named name env) → AreOfProfile p (option_map_or (λ z. z.points) (cond b (Some d.1) (data_of name env)) [])
-    go true ih = h.0
-    go false ih = ih
-
-module _ (p : Settings) (env : Environment) (h : AllAreOfProfile p env) where
-  -- what comes of an operand of the profile
-  onward : (m : Outcome (List Row)) (f : List Row → Outcome (List Row)) → GivePoints p m → ((d : List Row) → AreOfProfile p d → GivePoints p (f d)) → GivePoints p (after m f)
-  onward m f i g = after_if m f (AreOfProfile p) (AreOfProfile p) i g
-
-  -- columns that are left
-  left_gives : (a : NodeTree) (s : Structure) → GivePoints p (node_value p env a) → GivePoints p (after (node_value p env a) (λ d. Ok (map (cells_at (places_in (columns_of (structure_of a)) (columns_of s))) d)))
-  left_gives a s i =
-      let places = places_in (columns_of (structure_of a)) (columns_of s) in
-      onward (node_value p env a) (λ d. Ok (map (cells_at places) d)) i (λ d k. shown_are p places d k)
-
-  mutual
-    pub node_gives : (n : NodeTree) → IsMade p (known_in env) n → GivePoints p (node_value p env n)
-    node_gives (nodes.node s form) i = form_gives s form i.1
-
-    form_gives : (s : Structure) (form : FormTree) → IsMadeForm p (known_in env) s form → GivePoints p (form_value p env s form)
-    form_gives s (nodes.named name) i = named_are p name env h
-    form_gives s (nodes.measures m a) i =
-        onward (node_value p env a) (each_point p (measured_exps m (structure_of a) s)) (node_gives a i.0)
-        (λ d k. each_gives p (columns_of (structure_of a)) (measured_exps m (structure_of a) s) (columns_of s) d i.1.columns k)
-    form_gives s (nodes.pair o a b) i =
-        let x = structure_of a in
-        let y = structure_of b in
-        onward (node_value p env a) (λ d. after (node_value p env b) (λ e. each_point p (pair_exps o x y s) (pairs x y d e))) (node_gives a i.0)
-        (λ d k. onward (node_value p env b) (λ e. each_point p (pair_exps o x y s) (pairs x y d e)) (node_gives b i.1)
-        (λ e l. each_gives p (pair_columns x y) (pair_exps o x y s) (columns_of s) (pairs x y d e) i.2.columns (pairs_are p x y d e k l)))
-    form_gives s (nodes.choose t a b) i =
-        let w = structure_of t in
-        let x = structure_of a in
-        let y = structure_of b in
-        onward (node_value p env t) (λ tests. after (node_value p env a) (λ d. after (node_value p env b) (λ e. Ok (flat_map (taken_at w s x y d e) tests)))) (node_gives t i.0)
-        (λ tests j. onward (node_value p env a) (λ d. after (node_value p env b) (λ e. Ok (flat_map (taken_at w s x y d e) tests))) (node_gives a i.1)
-        (λ d k. onward (node_value p env b) (λ e. Ok (flat_map (taken_at w s x y d e) tests)) (node_gives b i.2)
-        (λ e l. choice_are w s p x y tests d e j k l)))
-    form_gives s (nodes.member a m) i = left_gives a s (node_gives a i.0)
-    form_gives s (nodes.filter a e) i = onward (node_value p env a) (filter_of p e) (node_gives a i.0) (λ d k. filter_gives p e d k)
-    form_gives s (nodes.calc a items) i =
-        onward (node_value p env a) (each_point p (calculated_exps items (structure_of a) s)) (node_gives a i.0)
-        (λ d k. each_gives p (columns_of (structure_of a)) (calculated_exps items (structure_of a) s) (columns_of s) d i.1.columns k)
-    form_gives s (nodes.keep a names) i = left_gives a s (node_gives a i.0)
-    form_gives s (nodes.drop_named a names) i = left_gives a s (node_gives a i.0)
-    form_gives s (nodes.rename a pairs) i = node_gives a i.0
-    form_gives s (nodes.sub a items) i =
-        let places = places_in (columns_of (structure_of a)) (columns_of s) in
-        let test = has_values (structure_of a) items in
-        onward (node_value p env a) (λ d. Ok (map (cells_at places) (filter test d))) (node_gives a i.0)
-        (λ d k. shown_are p places (filter test d) (AllByRecursion-filter (IsRowOfProfile p) test d k))
-    form_gives s (nodes.pivot a id m) i = ?
-    form_gives s (nodes.unpivot a id m) i = ?
-    form_gives s (nodes.join os spec) i = ?
-    form_gives s (nodes.union ns) i = ?
-    form_gives s (nodes.intersect ns) i = ?
-    form_gives s (nodes.set_diff a c) i = ?
-    form_gives s (nodes.sym_diff a c) i = ?
-    form_gives s (nodes.exists_in a c r) i = ?
-    form_gives s other i = tt
-
--- ---- statements
-with_gives : (p : Settings) (name : List ℕ) (d : DataSet) (m : Result Outputs (Fault × List ℕ)) → AreOfProfile p d.points → IfOk m (AllAreOfProfile p) → IfOk (with_output name d m) (AllAreOfProfile p)
-with_gives p name d (Ok out) h i = (h, i)
-with_gives p name d (Err f) h i = tt
-
-kept_gives : (p : Settings) (b : Bool) (name : List ℕ) (d : DataSet) (m : Result Outputs (Fault × List ℕ)) → AreOfProfile p d.points → IfOk m (AllAreOfProfile p) → IfOk (cond b (with_output name d m) m) (AllAreOfProfile p)
-kept_gives p true name d m h i = with_gives p name d m h i
-kept_gives p false name d m h i = i
-
-pub meaning_gives : (p : Settings) (ss : List Statement) (env : Environment) → AreMadeStatements p (known_in env) ss → AllAreOfProfile p env → IfOk (meaning p ss env) (AllAreOfProfile p)
-meaning_gives p [] env i h = tt
-meaning_gives p (s ∷ rest) env i h = go (node_value p env s.node) (node_gives p env h s.node i.0) (λ d k. meaning_gives p rest ((s.result, data_with d) ∷ env) i.1 (k, h))
-  where
-    data_with : List Row → DataSet
-    data_with d = record { structure = structure_of s.node; points = d }
-
-    Rest : DataSet → Result Outputs (Fault × List ℕ)
-    Rest d = meaning p rest ((s.result, d) ∷ env)
-
-    go : (m : Outcome (List Row)) → GivePoints p m → ((d : List Row) → AreOfProfile p d → IfOk (Rest (data_with d)) (AllAreOfProfile p)) → IfOk (stated s (after m (λ d. Ok (data_with d))) Rest) (AllAreOfProfile p)
-    go (Ok d) k ih = kept_gives p s.persistent s.result (data_with d) (Rest (data_with d)) k (ih d k)
-    go (Err f) k ih = tt

@@ -1,6 +1,7 @@
 pub mod Agreement
 pub mod Columns
 pub mod Faults
+pub mod JoinWords
 pub mod Joined
 pub mod Literals
 pub mod LookUps

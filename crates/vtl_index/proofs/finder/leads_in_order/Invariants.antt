@@ -1,9 +1,6 @@
-use Rattle.std.proofs.Common.{◌≡◌, map, take}
-use Rattle.std.specs.List.{position_or_len}
-use Rattle.vtl_cell.specs.Row.{same_row}
-use Rattle.vtl_index.specs.RowKeys.{key_at}
+use Rattle.vtl_index.specs.RowKeys.{count_in, keys_in}
+use Rattle.vtl_index.proofs.LeadWalk.{Walked}
 use Rattle.vtl_index.proofs.finder.leads_in_order.Given as goal
 
-abbrev pub invariant-loop-i : goal.invariant-loop-i
-invariant-loop-i l =
-    l.leads.items ≡ map (λ r. position_or_len (λ s. same_row (key_at l.keyed.p.now l.keyed.columns.now s) (key_at l.keyed.p.now l.keyed.columns.now r)) l.keyed.table.now.rows) (take l.i l.keyed.table.now.rows)
+abbrev pub invariant-loop-row : goal.invariant-loop-row
+invariant-loop-row l = Walked (keys_in l.keyed) (count_in l.keyed) l.order l.row-index l.lead l.leads.items

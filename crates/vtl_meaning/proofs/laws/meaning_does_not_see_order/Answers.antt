@@ -1,4 +1,4 @@
-use Rattle.vtl_meaning.proofs.Orders.{meaning_respects, node_respects}
+use Rattle.vtl_meaning.proofs.ScriptsOrders.{meaning_respects, node_respects}
 use Rattle.vtl_meaning.proofs.laws.meaning_does_not_see_order.Goals as goal
 
 pub returns-clause-expression : goal.returns-clause-expression

@@ -1,3 +1,4 @@
+use Rattle.vtl_meaning.proofs.Kept.{sub_tells}
 use Rattle.vtl_meaning.proofs.LookUps.{calculated_look, choice_look, filtered_look, left_look, measured_look, pair_look, pair_look_right, renamed_look, sub_look, sub_look_only}
 use Rattle.vtl_meaning.proofs.laws.operators_by_look_up.Goals as goal
 
@@ -26,7 +27,7 @@ pub returns-clause-rename : goal.returns-clause-rename
 returns-clause-rename c = λ a s k. renamed_look a.structure s a.points k
 
 pub returns-clause-sub : goal.returns-clause-sub
-returns-clause-sub c = λ items a s j i h. sub_look items a.structure s i h.well_formed a.points h j
+returns-clause-sub c = λ items a s j i h. sub_look items a.structure s (sub_tells items a.structure s i) i.values h.well_formed a.points h j
 
 pub returns-clause-sub_only : goal.returns-clause-sub_only
-returns-clause-sub_only c = λ items a s k q i h. sub_look_only items a.structure s i h.well_formed a.points h k q
+returns-clause-sub_only c = λ items a s k q i h. sub_look_only items a.structure s (sub_tells items a.structure s i) i.values h.well_formed a.points h k q

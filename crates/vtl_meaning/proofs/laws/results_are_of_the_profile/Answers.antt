@@ -1,4 +1,4 @@
-use Rattle.vtl_meaning.proofs.Profiles.{meaning_gives, node_gives}
+use Rattle.vtl_meaning.proofs.ScriptsProfiles.{meaning_gives, node_gives}
 use Rattle.vtl_meaning.proofs.laws.results_are_of_the_profile.Goals as goal
 
 pub returns-clause-expression : goal.returns-clause-expression

@@ -1,5 +1,4 @@
-use Rattle.vtl_meaning.proofs.Kept.{node_kept}
-use Rattle.vtl_meaning.proofs.Orders.{meaning_kept}
+use Rattle.vtl_meaning.proofs.ScriptsKept.{meaning_kept, node_kept}
 use Rattle.vtl_meaning.proofs.laws.scripts_keep_data_sets.Goals as goal
 
 pub returns-clause-expression : goal.returns-clause-expression

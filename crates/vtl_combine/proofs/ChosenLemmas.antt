@@ -1,0 +1,45 @@
+-- Points that are chosen by the identifiers that another operand has.
+use Rattle.std.proofs.Common.{◌≡◌, ℕ, ◌+◌, ◌<◌, length, get_or, List, [], ◌∷◌, ◌++◌, Bool, true, false, ◌||◌, ◌&&◌, cond, map, take, Some, refl, sym, ap, ◌∙◌}
+use Rattle.std.specs.Prelude.{is_some}
+use Rattle.std.specs.List.{filter, find, flat_map, list_all, list_any}
+use Rattle.std.proofs.lemmas.Grind.{flat_map-append}
+use Rattle.std.proofs.lemmas.List.{append-nil, take_more}
+use Rattle.std.proofs.lemmas.List.Folds.{list_all_more}
+use Rattle.vtl_cell.specs.Row.{Row}
+use Rattle.vtl_tuples.proofs.Lists.{filter_each}
+use Rattle.vtl_combine.proofs.RowLemmas.{filter-filter}
+
+-- one is found where there is one
+pub found_by_test : {X : Type 0} (p : X → Bool) (xs : List X) → is_some (find p xs) ≡ list_any p xs
+found_by_test p [] = refl
+found_by_test p (x ∷ xs) = go (p x) (found_by_test p xs)
+  where
+    go : (b : Bool) → is_some (find p xs) ≡ list_any p xs → is_some (cond b (Some x) (find p xs)) ≡ (b || list_any p xs)
+    go true ih = refl
+    go false ih = ih
+
+pub list_any-map : {X Y : Type 0} (p : Y → Bool) (f : X → Y) (xs : List X) → list_any p (map f xs) ≡ list_any (λ x. p (f x)) xs
+list_any-map p f [] = refl
+list_any-map p f (x ∷ xs) = ap (λ b. p (f x) || b) (list_any-map p f xs)
+
+-- one item more
+pub each_more : {X Y : Type 0} (f : X → List Y) (xs : List X) (i : ℕ) (x : X) → i < length xs → x ≡ get_or xs i x → flat_map f (take (i + 1) xs) ≡ flat_map f (take i xs) ++ f x
+each_more f xs i x h at =
+    ap (flat_map f) (take_more xs i x h) ∙ flat_map-append f (take i xs) (get_or xs i x ∷ []) ∙ ap (λ l. flat_map f (take i xs) ++ l) (append-nil (f (get_or xs i x)))
+    ∙ ap (λ z. flat_map f (take i xs) ++ f z) (sym at)
+
+-- items that pass one test more
+pub all_more_tests : {X Y : Type 0} (test : X → Y → Bool) (ys : List Y) (i : ℕ) (y : Y) (xs old new : List X) → i < length ys → y ≡ get_or ys i y → old ≡ filter (λ x. list_all (test x) (take i ys)) xs → new ≡ filter (λ x. test x y) old
+    → new ≡ filter (λ x. list_all (test x) (take (i + 1) ys)) xs
+all_more_tests test ys i y xs old new h at o n =
+    n ∙ ap (filter (λ x. test x y)) o ∙ filter-filter (λ x. test x y) (λ x. list_all (test x) (take i ys)) xs
+    ∙ filter_each (λ x. list_all (test x) (take i ys) && test x y) (λ x. list_all (test x) (take (i + 1) ys)) (λ x. sym (list_all_more (test x) ys i y h ∙ ap (λ z. list_all (test x) (take i ys) && test x z) (sym at))) xs
+
+-- what comes of each row that passes a test
+pub taken_where : {X : Type 0} (p : Row → Bool) (f : Row → X) (rows : List Row) → flat_map (λ r. cond (p r) (f r ∷ []) []) rows ≡ map f (filter p rows)
+taken_where p f [] = refl
+taken_where p f (r ∷ rows) = go (p r) (taken_where p f rows)
+  where
+    go : (b : Bool) → flat_map (λ q. cond (p q) (f q ∷ []) []) rows ≡ map f (filter p rows) → cond b (f r ∷ []) [] ++ flat_map (λ q. cond (p q) (f q ∷ []) []) rows ≡ map f (cond b (r ∷ filter p rows) (filter p rows))
+    go true ih = ap (λ l. f r ∷ l) ih
+    go false ih = ih

@@ -1,0 +1,4 @@
+pub mod Existence
+pub mod Operands
+pub mod Pivots
+pub mod Unpivots

@@ -1,0 +1,80 @@
+// `intersect`
+ghost use Rattle.std.specs.List.{list_all, range_with_len};
+ghost use Rattle.std.specs.Prelude.{◌≡◌, [], ◌∷◌, filter, length, IfOk};
+ghost use Rattle.vtl_tree.specs.Shown.{shown};
+ghost use Rattle.vtl_tree.specs.Structure.{key_width};
+ghost use Rattle.vtl_sets.specs.DataSets.{data_set};
+ghost use Rattle.vtl_sets.specs.TableOf.{IsTableOf};
+ghost use Rattle.vtl_meaning.specs.Joined.{structures_of};
+ghost use Rattle.vtl_meaning.specs.Made.{AreCombined, IsCombined};
+ghost use Rattle.vtl_meaning.specs.Operators.{left_of};
+ghost use Rattle.vtl_meaning.specs.Sets.{has_point, intersection_of};
+ghost use Rattle.vtl_combine.specs.Operands.{left_at};
+
+use crate::retaining::retained;
+use crate::rows::{are_data_sets, chosen_rows, numbers};
+use std::alloc::{AllocError, Global};
+use vtl_rows::Table;
+use vtl_sets::DataSet;
+use vtl_syntax::Retain;
+use vtl_tree::Structure;
+
+// The row numbers of an operand whose identifiers all others have. Each of the others is asked only for rows that the
+// ones before it have, so all questions are no more than the points of all operands.
+fn common_rows(
+    alloc: Global,
+    operand: &DataSet,
+    others: &[&DataSet],
+    made: &Structure,
+) -> Result<Vec<usize>, AllocError>
+    ensures { IfOk result (λ v. v.items ≡ filter (λ i. list_all (λ e. has_point (key_width made.now) (left_of e.now made.now) (left_at operand.now made.now i)) others.now) (range_with_len 0 (length operand.now.points))) }
+{
+    let mut rows = numbers(alloc, operand.table().len())?;
+    for other in others {
+        rows = retained(alloc, Retain::True, operand, &rows, other, made)?;
+    }
+    Ok(rows)
+}
+
+fn intersection_table(
+    alloc: Global,
+    operand: &DataSet,
+    others: &[&DataSet],
+    made: &Structure,
+) -> Result<Table, AllocError>
+    requires { IsCombined operand.now.structure (structures_of (shown others.now)) made.now }
+    ensures table { IfOk result (IsTableOf made.now) }
+    ensures rows { IfOk result (λ t. t.rows ≡ intersection_of (operand.now ∷ shown others.now) made.now) }
+{
+    are_data_sets(&[operand]);
+    are_data_sets(others);
+    let rows = common_rows(alloc, operand, others, made)?;
+    chosen_rows(alloc, operand, &rows, made)
+}
+
+/// The points of the first operand whose identifiers all others have; as a data set of the structure that typing
+/// gives. It takes time that is linear in the number of all points. It fails only if memory runs out.
+pub fn intersect_all(
+    alloc: Global,
+    operands: &[&DataSet],
+    made: Structure,
+) -> Result<DataSet, AllocError>
+    requires { AreCombined (structures_of (shown operands.now)) made }
+    ensures { IfOk result (λ d. d ≡ data_set made (intersection_of (shown operands.now) made)) }
+{
+    let table = intersection_table(alloc, operands[0], &operands[1..], &made)?;
+    DataSet::of(alloc, made, table)
+}
+
+/// The same of two operands.
+pub fn intersect(
+    alloc: Global,
+    a: &DataSet,
+    b: &DataSet,
+    made: Structure,
+) -> Result<DataSet, AllocError>
+    requires { IsCombined a.now.structure (b.now.structure ∷ []) made }
+    ensures { IfOk result (λ d. d ≡ data_set made (intersection_of (a.now ∷ b.now ∷ []) made)) }
+{
+    intersect_all(alloc, &[a, b], made)
+}

@@ -1,0 +1,86 @@
+// The points of an operand whose identifiers another operand has, or lacks.
+ghost use Rattle.std.specs.Prelude.{◌≡◌, ◌<◌, filter, length, All, IfOk};
+ghost use Rattle.vtl_index.specs.Seekers.{is_any_meant};
+ghost use Rattle.vtl_rows.specs.Places.{row_at};
+ghost use Rattle.vtl_meaning.specs.Sets.{is_retained};
+ghost use Rattle.vtl_combine.specs.Operands.{retained};
+
+use crate::rows::key_places;
+use std::alloc::{AllocError, Global};
+use std::marker::Brand;
+use std::sync::ledger::{Blank, Ledger};
+use vtl_index::{Seeker, Steps};
+use vtl_rows::Table;
+use vtl_sets::DataSet;
+use vtl_syntax::Retain;
+use vtl_tree::Structure;
+
+// Whether what has this answer is retained.
+pub(crate) fn is_retained(retain: Retain, answer: bool) -> bool
+    ensures { result ≡ is_retained retain answer }
+{
+    match retain {
+        Retain::All => true,
+        Retain::True => answer,
+        Retain::False => !answer,
+    }
+}
+
+// The numbers of rows, among these, that are retained by whether there is a row that they ask for.
+fn retained_by<L: Ledger>(
+    alloc: Global,
+    retain: Retain,
+    table: &Table,
+    rows: &[usize],
+    seeker: &Seeker<'_>,
+    steps: &mut Steps<L>,
+) -> Result<Vec<usize>, AllocError>
+    requires { All (λ i. i < length table.now.rows) rows.now }
+    ensures { IfOk result (λ v. v.items ≡ filter (λ i. is_retained retain (is_any_meant seeker.now (row_at table.now.rows i))) rows.now) }
+{
+    let mut kept = Vec::new(alloc);
+    for row in rows {
+        if is_retained(retain, seeker.has(table.row(*row), steps)) {
+            kept.push(*row)?;
+        }
+    }
+    Ok(kept)
+}
+
+fn retained_in<L: Ledger>(
+    alloc: Global,
+    retain: Retain,
+    operand: &DataSet,
+    rows: &[usize],
+    other: &DataSet,
+    made: &Structure,
+    blank: Blank,
+) -> Result<Vec<usize>, AllocError>
+    requires name { blank.name ≡ L.name }
+    requires parts { blank.parts ≡ L.parts }
+    requires some { 0 < L.parts }
+    requires within { All (λ i. i < length operand.now.points) rows.now }
+    ensures { IfOk result (λ v. v.items ≡ retained retain operand.now other.now made.now rows.now) }
+{
+    let mut steps: Steps<L> = Steps::new(blank);
+    let own = key_places(alloc, other, made)?;
+    let asked = key_places(alloc, operand, made)?;
+    let seeker = Seeker::of(alloc, other.table(), &own, &asked, &mut steps)?;
+    retained_by(alloc, retain, operand.table(), rows, &seeker, &mut steps)
+}
+
+// Of these row numbers of an operand, those that are retained by whether another operand has a point with the same
+// identifiers. It takes time that is linear in the numbers and the other operand's points.
+pub(crate) fn retained(
+    alloc: Global,
+    retain: Retain,
+    operand: &DataSet,
+    rows: &[usize],
+    other: &DataSet,
+    made: &Structure,
+) -> Result<Vec<usize>, AllocError>
+    requires { All (λ i. i < length operand.now.points) rows.now }
+    ensures { IfOk result (λ v. v.items ≡ retained retain operand.now other.now made.now rows.now) }
+{
+    retained_in::<Brand>(alloc, retain, operand, rows, other, made, Blank::new(1))
+}

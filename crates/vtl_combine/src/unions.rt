@@ -1,0 +1,72 @@
+// `union`
+ghost use Rattle.std.specs.List.{flat_map};
+ghost use Rattle.std.specs.Prelude.{◌≡◌, [], ◌∷◌, All, IfOk};
+ghost use Rattle.vtl_tree.specs.Shown.{shown};
+ghost use Rattle.vtl_tree.specs.Structure.{IsStructure};
+ghost use Rattle.vtl_sets.specs.DataSets.{data_set};
+ghost use Rattle.vtl_sets.specs.TableOf.{IsTableOf, table_columns};
+ghost use Rattle.vtl_meaning.specs.Joined.{structures_of};
+ghost use Rattle.vtl_meaning.specs.Made.{AreCombined, IsCombined};
+ghost use Rattle.vtl_meaning.specs.Operators.{left_of};
+ghost use Rattle.vtl_meaning.specs.Sets.{union_of};
+ghost use Rattle.vtl_combine.specs.Operands.{HasColumns};
+
+use crate::firsts::once_by_key;
+use crate::rows::{all_rows, are_data_sets, key_width};
+use std::alloc::{AllocError, Global};
+use vtl_rows::Table;
+use vtl_sets::{DataSet, new_table};
+use vtl_tree::Structure;
+
+// The points of all operands, one operand after the other.
+fn all_points(alloc: Global, operands: &[&DataSet], made: &Structure) -> Result<Table, AllocError>
+    requires made { IsStructure made.now }
+    requires columns { All (λ d. HasColumns made.now d.now.structure) operands.now }
+    ensures columns { IfOk result (λ t. t.columns ≡ table_columns made.now) }
+    ensures rows { IfOk result (λ t. t.rows ≡ flat_map (λ d. left_of d.now made.now) operands.now) }
+{
+    let mut all = new_table(alloc, made)?;
+    for operand in operands {
+        all.append(all_rows(alloc, operand, made)?)?;
+    }
+    Ok(all)
+}
+
+fn union_table(alloc: Global, operands: &[&DataSet], made: &Structure) -> Result<Table, AllocError>
+    requires { AreCombined (structures_of (shown operands.now)) made.now }
+    ensures table { IfOk result (IsTableOf made.now) }
+    ensures rows { IfOk result (λ t. t.rows ≡ union_of (shown operands.now) made.now) }
+{
+    are_data_sets(operands);
+    let all = all_points(alloc, operands, made)?;
+    let width = key_width(alloc, made)?;
+    once_by_key(alloc, all, width)
+}
+
+/// The points of all operands in order, without those whose identifiers an earlier one has; as a data set of the
+/// structure that typing gives. It takes time that is linear in the number of all points. It fails only if memory runs
+/// out.
+pub fn union_all(
+    alloc: Global,
+    operands: &[&DataSet],
+    made: Structure,
+) -> Result<DataSet, AllocError>
+    requires { AreCombined (structures_of (shown operands.now)) made }
+    ensures { IfOk result (λ d. d ≡ data_set made (union_of (shown operands.now) made)) }
+{
+    let table = union_table(alloc, operands, &made)?;
+    DataSet::of(alloc, made, table)
+}
+
+/// The same of two operands.
+pub fn union(
+    alloc: Global,
+    a: &DataSet,
+    b: &DataSet,
+    made: Structure,
+) -> Result<DataSet, AllocError>
+    requires { IsCombined a.now.structure (b.now.structure ∷ []) made }
+    ensures { IfOk result (λ d. d ≡ data_set made (union_of (a.now ∷ b.now ∷ []) made)) }
+{
+    union_all(alloc, &[a, b], made)
+}
