@@ -1,0 +1,12 @@
+pub mod Pieced
+pub mod Picked
+pub mod PickKinds
+pub mod Found
+pub mod Beside
+pub mod Crossed
+pub mod KeyRows
+pub mod Stepping
+pub mod Combining
+pub mod KeyTables
+pub mod Referring
+pub mod Closed

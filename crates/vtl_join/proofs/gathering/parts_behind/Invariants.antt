@@ -1,0 +1,7 @@
+use Rattle.std.proofs.Common.{◌≡◌, ◌∷◌, map, take}
+use Rattle.vtl_join.specs.Joining.{sets_of}
+use Rattle.vtl_join.specs.Picks.{table_of}
+use Rattle.vtl_join.proofs.gathering.parts_behind.Given as goal
+
+abbrev pub invariant-loop-operand : goal.invariant-loop-operand
+invariant-loop-operand l = map (λ t. t.now) l.parts.items ≡ l.lead ∷ map table_of (sets_of (take l.operand-index l.operands))

@@ -1,0 +1,159 @@
+// The joined set.
+ghost use Rattle.std.specs.Prelude.{◌≡◌, ◌<◌, cond, map, slice_get, Some, IfOk};
+ghost use Rattle.std.specs.List.{AllByRecursion};
+ghost use Rattle.std.specs.Option.{IfSome};
+ghost use Rattle.vtl_sets.specs.DataSets.{data_set};
+ghost use Rattle.vtl_sets.specs.TableOf.{table_columns};
+ghost use Rattle.vtl_tree.specs.Structure.{columns_of};
+ghost use Rattle.vtl_meaning.specs.Columns.{identifiers_of};
+ghost use Rattle.vtl_meaning.specs.Joined.{cross_tuples, full_tuples, inner_tuples, join_of, left_tuples, structures_of, tuple_point};
+ghost use Rattle.vtl_meaning.specs.Made.{AreAmong, HasIdentifiers, IsJoined};
+ghost use Rattle.vtl_join.specs.Finding.{wants_all};
+ghost use Rattle.vtl_join.specs.Joining.{sets_of};
+ghost use Rattle.vtl_join.specs.Picks.{picks_at};
+
+use crate::columns::places_of;
+use crate::crossing::combinations;
+use crate::gathering::{gathered, operands_are_sets, push_picks, push_role};
+use crate::joined::{Joined, Operand};
+use crate::keys::lead_of_keys;
+use crate::reference::reference_place;
+use crate::sources::{sources_around, sources_at};
+use crate::tuples::{all_tuples, up_to};
+use std::alloc::{AllocError, Global};
+use std::marker::Brand;
+use std::sync::ledger::{Blank, Ledger};
+use vtl_index::Steps;
+use vtl_rows::{Pick, Table};
+use vtl_sets::DataSet;
+use vtl_syntax::JoinKind;
+use vtl_tree::{Role, Structure};
+
+// The cells at places of the lead.
+fn lead_picks(alloc: Global, places: &[usize]) -> Result<Vec<Pick>, AllocError>
+    ensures { IfOk result (λ v. v.items ≡ picks_at 0 places.now) }
+{
+    let mut picks = Vec::with_capacity(alloc, places.len())?;
+    push_picks(&mut picks, 0, places)?;
+    Ok(picks)
+}
+
+// Whether a part of each operand is wanted.
+fn wants_all(kind: JoinKind) -> bool
+    ensures { result ≡ wants_all kind }
+{
+    matches!(kind, JoinKind::Inner)
+}
+
+// The table of an inner or a left join. The reference leads, which stands at this place.
+fn beside_table<L: Ledger>(
+    alloc: Global,
+    kind: JoinKind,
+    operands: &[Operand],
+    place: usize,
+    lead: &DataSet,
+    made: &Structure,
+    blank: Blank,
+) -> Result<Table, AllocError>
+    requires name { blank.name ≡ L.name }
+    requires parts { blank.parts ≡ L.parts }
+    requires some { 0 < L.parts }
+    requires lead { slice_get (sets_of operands.now) place ≡ Some lead.now }
+    requires made { IsJoined kind (structures_of (sets_of operands.now)) made.now }
+    requires identifiers { HasIdentifiers made.now (identifiers_of lead.now.structure) }
+    ensures columns { IfOk result (λ t. t.columns ≡ table_columns made.now) }
+    ensures rows { IfOk result (λ t. t.rows ≡ map tuple_point (cond (wants_all kind) (inner_tuples lead.now (sets_of operands.now)) (left_tuples lead.now (sets_of operands.now)))) }
+{
+    let mut steps: Steps<L> = Steps::new(blank);
+    operands_are_sets(operands);
+    let sources = sources_around(alloc, lead.structure(), operands, place, &mut steps)?;
+    let tuples = all_tuples(alloc, wants_all(kind), &sources, lead.table(), &mut steps)?;
+    let places = places_of(alloc, lead.structure(), Role::Identifier)?;
+    let identifiers = lead_picks(alloc, &places)?;
+    gathered(alloc, lead.table(), operands, identifiers, &tuples, made)
+}
+
+// The table of a full join, whose identifiers are those of a reference. The tuples of identifiers of all operands lead.
+fn full_table<L: Ledger>(
+    alloc: Global,
+    operands: &[Operand],
+    reference: &DataSet,
+    made: &Structure,
+    blank: Blank,
+) -> Result<Table, AllocError>
+    requires name { blank.name ≡ L.name }
+    requires parts { blank.parts ≡ L.parts }
+    requires some { 0 < L.parts }
+    requires made { IsJoined JoinKind.Full (structures_of (sets_of operands.now)) made.now }
+    requires identifiers { HasIdentifiers made.now (identifiers_of reference.now.structure) }
+    requires all { AllByRecursion (λ d. AreAmong (identifiers_of reference.now.structure) (columns_of d.structure)) (sets_of operands.now) }
+    ensures columns { IfOk result (λ t. t.columns ≡ table_columns made.now) }
+    ensures rows { IfOk result (λ t. t.rows ≡ map tuple_point (full_tuples reference.now (sets_of operands.now))) }
+{
+    let mut steps: Steps<L> = Steps::new(blank);
+    let identifiers = reference.structure().identifiers(alloc)?;
+    let lead = lead_of_keys(alloc, &identifiers, operands)?;
+    let sources = sources_at(alloc, &identifiers, operands, &mut steps)?;
+    let tuples = all_tuples(alloc, false, &sources, &lead, &mut steps)?;
+    let picks = lead_picks(alloc, &up_to(alloc, identifiers.len())?)?;
+    gathered(alloc, &lead, operands, picks, &tuples, made)
+}
+
+// The table of a cross join. A table leads of which nothing is asked.
+fn cross_table(
+    alloc: Global,
+    operands: &[Operand],
+    lead: &Table,
+    made: &Structure,
+) -> Result<Table, AllocError>
+    requires made { IsJoined JoinKind.Cross (structures_of (sets_of operands.now)) made.now }
+    ensures columns { IfOk result (λ t. t.columns ≡ table_columns made.now) }
+    ensures rows { IfOk result (λ t. t.rows ≡ map tuple_point (cross_tuples (sets_of operands.now))) }
+{
+    operands_are_sets(operands);
+    let tuples = combinations(alloc, operands)?;
+    let mut identifiers = Vec::new(alloc);
+    push_role(alloc, &mut identifiers, Role::Identifier, operands)?;
+    gathered(alloc, lead, operands, identifiers, &tuples, made)
+}
+
+// The table of the joined set.
+fn joined_table(
+    alloc: Global,
+    kind: JoinKind,
+    operands: &[Operand],
+    made: &Structure,
+) -> Result<Table, AllocError>
+    requires { IsJoined kind (structures_of (sets_of operands.now)) made.now }
+    ensures columns { IfOk result (λ t. t.columns ≡ table_columns made.now) }
+    ensures rows { IfOk result (λ t. t.rows ≡ join_of kind (sets_of operands.now)) }
+{
+    operands_are_sets(operands);
+    let place = reference_place(kind, operands);
+    let reference = &operands[place].set;
+    let blank = Blank::new(1);
+    match kind {
+        JoinKind::Inner | JoinKind::Left => {
+            beside_table::<Brand>(alloc, kind, operands, place, reference, made, blank)
+        }
+        JoinKind::Full => full_table::<Brand>(alloc, operands, reference, made, blank),
+        JoinKind::Cross => cross_table(alloc, operands, reference.table(), made),
+    }
+}
+
+/// The joined set, as a data set of the structure that typing gives. The kind is that of the steps; a join of one operand
+/// has none. It fails only if memory runs out.
+pub fn close(
+    alloc: Global,
+    kind: JoinKind,
+    j: Joined,
+    made: Structure,
+) -> Result<DataSet, AllocError>
+    requires kind { IfSome j.kind (λ before. before ≡ kind) }
+    requires made { IsJoined kind (structures_of (sets_of j.operands)) made }
+    ensures { IfOk result (λ d. d ≡ data_set made (join_of kind (sets_of j.operands))) }
+{
+    operands_are_sets(&j.operands);
+    let table = joined_table(alloc, kind, &j.operands, &made)?;
+    DataSet::of(alloc, made, table)
+}

@@ -1,0 +1,56 @@
+// Combinations of row numbers, one of each operand.
+ghost use Rattle.std.specs.Prelude.{◌≡◌, ◌++◌, length, map, IfOk, OnOk};
+ghost use Rattle.vtl_join.specs.Crossing.{all_combinations, combined};
+ghost use Rattle.vtl_join.specs.Joining.{sets_of};
+
+use crate::joined::Operand;
+use std::alloc::{AllocError, Global};
+
+// How many rows each operand has.
+fn counts(alloc: Global, operands: &[Operand]) -> Result<Vec<usize>, AllocError>
+    ensures { IfOk result (λ v. v.items ≡ map (λ d. length d.points) (sets_of operands.now)) }
+{
+    let mut counts = Vec::with_capacity(alloc, operands.len())?;
+    for operand in operands {
+        counts.push(operand.set.table().len())?;
+    }
+    Ok(counts)
+}
+
+// Adds every combination of numbers below these counts, each behind what stands in front of it; the first numbers are
+// the slowest. It leaves the front as it was.
+fn push_combined(
+    tuples: &mut Vec<usize>,
+    front: &mut Vec<usize>,
+    counts: &[usize],
+) -> Result<(), AllocError>
+    ensures tuples { OnOk result (tuples.new.items ≡ tuples.old.items ++ combined front.old.items counts.now) }
+    ensures front { OnOk result (front.new.items ≡ front.old.items) }
+{
+    let Some((count, rest)) = counts.split_first() else {
+        return tuples.extend_from_slice(front);
+    };
+    let width = front.len();
+    for i in 0..*count {
+        front.push(i)?;
+        push_combined(tuples, front, rest)?;
+        front.truncate(width);
+    }
+    Ok(())
+}
+
+// Every combination of a row of each operand, behind a number of the lead, which nothing asks for. Where an operand has
+// no rows there is none, and no step is taken.
+pub(crate) fn combinations(alloc: Global, operands: &[Operand]) -> Result<Vec<usize>, AllocError>
+    ensures { IfOk result (λ v. v.items ≡ all_combinations (sets_of operands.now)) }
+{
+    let counts = counts(alloc, operands)?;
+    let mut tuples = Vec::new(alloc);
+    if counts.contains(&0) {
+        return Ok(tuples);
+    }
+    let mut front = Vec::with_capacity(alloc, operands.len().saturating_add(1))?;
+    front.push(0)?;
+    push_combined(&mut tuples, &mut front, &counts)?;
+    Ok(tuples)
+}

@@ -1,0 +1,115 @@
+// The table of a joined set, gathered from a lead and the tables of the operands.
+ghost use Rattle.std.specs.Prelude.{◌≡◌, ◌+◌, ◌<◌, ◌++◌, ◌∷◌, length, map, All, IfOk, OnOk};
+ghost use Rattle.std.specs.List.{AllByRecursion};
+ghost use Rattle.vtl_rows.specs.Gathered.{picked_kind};
+ghost use Rattle.vtl_sets.specs.TableOf.{table_columns};
+ghost use Rattle.vtl_tree.specs.DataSet.{IsDataSet};
+ghost use Rattle.vtl_tree.specs.Structure.{IsStructure};
+ghost use Rattle.vtl_meaning.specs.Columns.{identifiers_of, measures_of};
+ghost use Rattle.vtl_meaning.specs.Joined.{structures_of};
+ghost use Rattle.vtl_meaning.specs.Made.{attributes_of, component_kinds, kinds_of_all};
+ghost use Rattle.vtl_join.specs.Joining.{sets_of};
+ghost use Rattle.vtl_join.specs.Picks.{joined_rows, picks_at, picks_behind, picks_from, table_of};
+
+use crate::columns::places_of;
+use crate::joined::Operand;
+use std::alloc::{AllocError, Global};
+use vtl_rows::{Pick, Table, gather_beside};
+use vtl_sets::table_columns;
+use vtl_tree::{Role, Structure};
+
+// The operands are data sets, as each tells of itself.
+pub(crate) fn operands_are_sets(operands: &[Operand])
+    ensures { AllByRecursion (λ d. IsDataSet d.structure d.points) (sets_of operands.now) }
+{
+    for operand in operands {
+        operand.set.structure();
+    }
+}
+
+// The tables of the operands behind one that leads.
+fn parts_behind<'a>(
+    alloc: Global,
+    lead: &'a Table,
+    operands: &'a [Operand],
+) -> Result<Vec<&'a Table>, AllocError>
+    ensures { IfOk result (λ v. map (λ t. t.now) v.items ≡ lead.now ∷ map table_of (sets_of operands.now)) }
+{
+    let mut parts = Vec::new(alloc);
+    parts.push(lead)?;
+    for operand in operands {
+        parts.push(operand.set.table())?;
+    }
+    Ok(parts)
+}
+
+// Adds the cells at places of a part.
+pub(crate) fn push_picks(
+    picks: &mut Vec<Pick>,
+    part: usize,
+    places: &[usize],
+) -> Result<(), AllocError>
+    ensures { OnOk result (picks.new.items ≡ picks.old.items ++ picks_at part places.now) }
+{
+    for place in places {
+        picks.push(Pick {
+            part,
+            column: *place,
+        })?;
+    }
+    Ok(())
+}
+
+// Adds the cells of a role, operand by operand; their tables stand behind the lead.
+pub(crate) fn push_role(
+    alloc: Global,
+    picks: &mut Vec<Pick>,
+    role: Role,
+    operands: &[Operand],
+) -> Result<(), AllocError>
+    ensures { OnOk result (picks.new.items ≡ picks.old.items ++ picks_from role 1 (structures_of (sets_of operands.now))) }
+{
+    for i in 0..operands.len() {
+        let places = places_of(alloc, operands[i].set.structure(), role)?;
+        push_picks(picks, i + 1, &places)?;
+    }
+    Ok(())
+}
+
+// The identifiers, and then the measures and the attributes of the operands.
+fn picks_behind(
+    alloc: Global,
+    identifiers: Vec<Pick>,
+    operands: &[Operand],
+) -> Result<Vec<Pick>, AllocError>
+    ensures { IfOk result (λ v. v.items ≡ picks_behind identifiers.items (structures_of (sets_of operands.now))) }
+{
+    let mut picks = identifiers;
+    push_role(alloc, &mut picks, Role::Measure, operands)?;
+    push_role(alloc, &mut picks, Role::Attribute, operands)?;
+    Ok(picks)
+}
+
+// The table of the joined set: for each tuple of row numbers, that of the lead and those of the operands, the cells of
+// its identifiers, and then those of the measures and the attributes of the operands.
+pub(crate) fn gathered(
+    alloc: Global,
+    lead: &Table,
+    operands: &[Operand],
+    identifiers: Vec<Pick>,
+    tuples: &[usize],
+    made: &Structure,
+) -> Result<Table, AllocError>
+    requires within { All (λ p. p.part < length operands.now + 1) identifiers.items }
+    requires identifiers { map (picked_kind (lead.now ∷ map table_of (sets_of operands.now))) identifiers.items ≡ component_kinds (identifiers_of made.now) }
+    requires well_formed { IsStructure made.now }
+    requires measures { component_kinds (measures_of made.now) ≡ kinds_of_all measures_of (structures_of (sets_of operands.now)) }
+    requires attributes { component_kinds (attributes_of made.now) ≡ kinds_of_all attributes_of (structures_of (sets_of operands.now)) }
+    ensures columns { IfOk result (λ t. t.columns ≡ table_columns made.now) }
+    ensures rows { IfOk result (λ t. t.rows ≡ joined_rows lead.now (sets_of operands.now) identifiers.items tuples.now) }
+{
+    operands_are_sets(operands);
+    let parts = parts_behind(alloc, lead, operands)?;
+    let picks = picks_behind(alloc, identifiers, operands)?;
+    gather_beside(alloc, &parts, tuples, &picks, table_columns(alloc, made)?)
+}
