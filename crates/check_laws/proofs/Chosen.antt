@@ -1,7 +1,7 @@
 -- `if` on data sets.
-use Rattle.std.proofs.Common.{◌≡◌, true, false, ◌&&◌, not, List, [], ◌∷◌, ◌++◌, length, map, Some, None, refl, sym, ap, ◌∙◌, subst, true≢false, arith}
+use Rattle.std.proofs.Common.{◌≡◌, true, false, ◌&&◌, not, List, [], ◌∷◌, ◌++◌, length, map, refl, sym, ap, ◌∙◌, subst, true≢false, arith}
 use Rattle.std.proofs.lemmas.Bool.{eqb-true, false≢true}
-use Rattle.std.specs.List.{AllByRecursion, filter}
+use Rattle.std.specs.List.{AllByRecursion}
 use Rattle.std.specs.Prelude.{nat_eq}
 use Rattle.vtl_cell.specs.ScalarKinds.{meets}
 use Rattle.vtl_cell.specs.declared.kind.Kind.{Kind}
@@ -11,25 +11,22 @@ use Rattle.vtl_tree.specs.Structures.{is_null_kind, structure_of}
 use Rattle.vtl_tree.specs.declared.structure.Component.{Component}
 use Rattle.vtl_tree.specs.declared.structure.Role.TheVariants as role
 use Rattle.vtl_tree.specs.declared.structure.Structure.{Structure}
-use Rattle.check_shapes.specs.Choices.{is_identifier}
 use Rattle.check_shapes.specs.Measures.{is_measure, measures}
-use Rattle.check_shapes.specs.Names.{component_of}
-use Rattle.check_shapes.specs.Operands.{agree, agreed_identifiers, all_agree, all_meet, is_within}
+use Rattle.check_shapes.specs.Operands.{agree, agreed_identifiers, all_agree, all_meet}
 use Rattle.check_shapes.specs.Pairs.{are_choices, if_form, if_tests}
 use Rattle.check_shapes.specs.Shape.{shaped}
 use Rattle.check_shapes.specs.declared.operands.Compared.TheVariants as compared
-use Rattle.vtl_meaning.specs.Columns.{identifiers_of, place_of}
-use Rattle.vtl_meaning.specs.Made.{AreAmong, IsChoice, IsColumnAt}
+use Rattle.vtl_meaning.specs.Columns.{identifiers_of}
+use Rattle.vtl_meaning.specs.Made.{AreAmong, IsAlternative, IsChoice}
 use Rattle.vtl_meaning.specs.Shapes.{IsShaped}
 use Rattle.check_laws.specs.Gives.{ArePassed, Gives}
-use Rattle.check_laws.proofs.Columns.{IsFound, at-place, found-filter, in-columns, into-columns}
+use Rattle.check_laws.proofs.Among.{own-measures, same-identifiers, same-measures}
 use Rattle.check_laws.proofs.Lists as lists
 use Rattle.check_laws.proofs.Measured.{has-identifiers}
 use Rattle.check_laws.proofs.Shapes.{AreParts, measure-roles, parts-columns, parts-identifiers, parts-measures, shaped-gives}
 use Rattle.check_laws.proofs.Steps.{tested-then}
 use Rattle.check_laws.proofs.Tests.{and-true, not-false}
-use Rattle.check_shapes.proofs.Twins.{HasTwin}
-use Rattle.check_laws.proofs.Twins.{agreed-kinds, agreed-names, agreed-roles, within-twins}
+use Rattle.check_laws.proofs.Twins.{agreed-kinds, agreed-names, agreed-roles}
 
 -- one measure that is boolean
 boolean-measure : (ms : List Component) → nat_eq (length ms) 1 ≡ true → AllByRecursion (λ x. meets k.Bool x.kind ≡ true) ms → AllByRecursion (λ x. is_null_kind x.kind ≡ false) ms → map (λ x. x.kind) ms ≡ k.Bool ∷ []
@@ -45,27 +42,6 @@ boolean-measure (x ∷ y ∷ ms) e h n = let two : length (x ∷ y ∷ ms) ≡ 1
 meet-all : (kind : Kind) (xs : List Component) → all_meet kind xs ≡ true → AllByRecursion (λ x. meets kind x.kind ≡ true) (measures xs)
 unfolding all_meet
 meet-all kind xs e = lists.all_pass (λ x. meets kind x.kind) (measures xs) e
-
--- a column with a twin among others
-pub twin-at : (ys : List Component) (x : Component) → (t : HasTwin compared.Kinds ys x) → (zs : List Component) → component_of x.name zs ≡ Some t.twin → IsColumnAt (place_of x.name zs) x.name x.kind zs
-twin-at ys x t zs e = subst (λ kind. IsColumnAt (place_of x.name zs) x.name kind zs) (sym t.kind) (at-place x.name zs t.twin e)
-
--- the same identifiers
-same-identifiers : (xs ys : List Component) → is_within compared.Kinds role.Identifier xs ys ≡ true → AreAmong (filter is_identifier xs) (filter is_identifier ys)
-same-identifiers xs ys e =
-    lists.joined (HasTwin compared.Kinds ys) (λ x. is_identifier x ≡ true) (λ x. IsColumnAt (place_of x.name (filter is_identifier ys)) x.name x.kind (filter is_identifier ys)) (filter is_identifier xs)
-    (λ x t yes. twin-at ys x t (filter is_identifier ys) (found-filter is_identifier x.name ys t.twin t.found (ap (λ r. is_identifier (record { name = x.name; role = r; kind = x.kind; codes = None })) (sym t.role) ∙ yes)))
-    (within-twins compared.Kinds role.Identifier xs ys e) (lists.passing is_identifier xs)
-
-same-measures : (a b : Structure) → IsShaped b → is_within compared.Kinds role.Measure a.components b.components ≡ true → AreAmong (filter is_measure a.components) (columns_of b)
-same-measures a b ib e =
-    lists.weaker (HasTwin compared.Kinds b.components) (λ x. IsColumnAt (place_of x.name (columns_of b)) x.name x.kind (columns_of b)) (filter is_measure a.components)
-    (λ x t. twin-at b.components x t (columns_of b) (into-columns b ib.well_formed x.name t.twin t.found))
-    (within-twins compared.Kinds role.Measure a.components b.components e)
-
--- components among their own columns
-pub own-columns : (a : Structure) → IsShaped a → AllByRecursion (λ x. IsColumnAt (place_of x.name (columns_of a)) x.name x.kind (columns_of a)) a.components
-own-columns a ia = lists.weaker (IsFound (columns_of a)) (λ x. IsColumnAt (place_of x.name (columns_of a)) x.name x.kind (columns_of a)) a.components (λ x e. at-place x.name (columns_of a) x e) (in-columns a ia.well_formed)
 
 pub chosen-fits : (t a b : Structure) → IsShaped t → IsShaped a → IsShaped b → Gives (λ s. IsShaped s × IsChoice t a b s) (if_form t a b)
 chosen-fits t a b it ia ib =
@@ -83,25 +59,19 @@ chosen-fits t a b it ia ib =
     are : AreParts ids ms
     are = record { identifiers = agreed-roles (a ∷ b ∷ []) t.components; measures = measure-roles a.components }
 
-    agreeing : (x : Structure) → agree compared.Kinds role.Identifier t.components x.components ≡ true → AreAmong (identifiers_of x) (identifiers_of t) × AreAmong (identifiers_of t) (identifiers_of x)
-    agreeing x e =
-        let both = and-true (is_within compared.Kinds role.Identifier t.components x.components) (is_within compared.Kinds role.Identifier x.components t.components) e in
-        (same-identifiers x.components t.components both.1, same-identifiers t.components x.components both.0)
-
-    own : AreAmong ms (columns_of a)
-    own = lists.filtered (λ x. IsColumnAt (place_of x.name (columns_of a)) x.name x.kind (columns_of a)) is_measure a.components (own-columns a ia)
+    alternative : (x : Structure) → agree compared.Kinds role.Identifier t.components x.components ≡ true → AreAmong ms (columns_of x) → IsAlternative t x (structure_of (ids ++ ms))
+    alternative x e own = let both = same-identifiers t x e in record { there = both.0; back = both.1; measures = subst (λ l. AreAmong l (columns_of x)) (sym (parts-measures ids ms are)) own }
 
     fits : ArePassed (if_tests t a b) → IsShaped (structure_of (ids ++ ms)) → IsChoice t a b (structure_of (ids ++ ms))
     fits passed s =
         let one = and-true (nat_eq (length (measures t.components)) 1 && not (nat_eq (length (measures a.components)) 0)) (agree compared.Kinds role.Measure a.components b.components) (not-false (are_choices t a b) passed.1.1.0) in
         let single = and-true (nat_eq (length (measures t.components)) 1) (not (nat_eq (length (measures a.components)) 0)) one.0 in
-        let within = and-true (is_within compared.Kinds role.Measure a.components b.components) (is_within compared.Kinds role.Measure b.components a.components) one.1 in
         let agreed = lists.all_pass (λ x. agree compared.Kinds role.Identifier t.components x.components) (a ∷ b ∷ []) (not-false (all_agree compared.Kinds role.Identifier t.components (a ∷ b ∷ [])) passed.1.0) in
         record {
           well_formed = s.well_formed;
           tested = boolean-measure (measures t.components) single.0 (meet-all k.Bool t.components (not-false (all_meet k.Bool t.components) passed.0)) (lists.filtered (λ x. is_null_kind x.kind ≡ false) is_measure t.components it.kinds);
-          first = record { there = (agreeing a agreed.0).0; back = (agreeing a agreed.0).1; measures = subst (λ l. AreAmong l (columns_of a)) (sym (parts-measures ids ms are)) own };
-          second = record { there = (agreeing b agreed.1.0).0; back = (agreeing b agreed.1.0).1; measures = subst (λ l. AreAmong l (columns_of b)) (sym (parts-measures ids ms are)) (same-measures a b ib within.0) };
+          first = alternative a agreed.0 (own-measures a ia);
+          second = alternative b agreed.1.0 (same-measures a b ib one.1);
           identifiers = has-identifiers ids ms (identifiers_of t) are (agreed-names (a ∷ b ∷ []) t.components) (agreed-kinds (a ∷ b ∷ []) t.components);
           alike = one.1;
           shape = refl;

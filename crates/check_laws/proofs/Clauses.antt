@@ -50,7 +50,7 @@ use Rattle.check_operators.specs.declared.places.Place.TheVariants as place
 use Rattle.vtl_check.specs.Clauses.{cell_as, filter_form, kept_of, keeping_form, made_of, name_known, names_typed, pivot_names, pivot_of, references_in, renamed_of, renaming_form, renamings_typed, sub_form, sub_item, sub_known, sub_names, sub_of, sub_value, subs_typed, unpivot_of}
 use Rattle.vtl_check.specs.Targets.{aggr_clause, aggr_tree, calc_clause, calc_name, is_analytic, is_analytic_value, item_names, item_of, made_target, role_of, target_of, value_kind}
 use Rattle.vtl_check.specs.targets.Made.{Made}
-use Rattle.vtl_meaning.specs.Made.{IsCalculated, IsFiltered, IsLeft, IsMade, IsRenamed, IsSub, IsTyped}
+use Rattle.vtl_meaning.specs.Made.{IsCalculated, IsFiltered, IsLeft, IsMade, IsPivoted, IsRenamed, IsSub, IsTyped, IsUnpivoted}
 use Rattle.vtl_meaning.specs.Operators.{value_exp}
 use Rattle.vtl_meaning.specs.Reaches.{IsNear, IsNearValue}
 use Rattle.vtl_meaning.specs.Shapes.{IsChosen, IsRenamedBy, IsShaped}
@@ -64,9 +64,10 @@ use Rattle.check_laws.proofs.Lists as lists
 use Rattle.check_laws.proofs.Literals.{literal-as, valued-gives, kind-met}
 use Rattle.check_laws.proofs.Operators.{IsMadeWith}
 use Rattle.check_laws.proofs.Renamed.{renamed-fits}
-use Rattle.check_laws.proofs.OtherForms.{aggr-shaped, calc-shaped, pivot-shaped, unpivot-shaped}
+use Rattle.check_laws.proofs.OtherForms.{aggr-shaped, calc-shaped}
 use Rattle.check_laws.proofs.Steps.{after, tested, then, weaker}
 use Rattle.check_laws.proofs.Tests.{not-false}
+use Rattle.check_laws.proofs.Turned.{pivot-fits, unpivot-fits}
 
 pub node-gives : (env : Env) (form : FormTree) (r : Result Structure Rule) → Gives (IsMadeWith env form) r → Gives (IsMade env.settings env.known) (r >>= made_of form)
 node-gives env form (Ok s) h = h
@@ -143,13 +144,13 @@ pub pivot-gives : (env : Env) (id m : Comp) (n : NodeTree) → IsMade env.settin
 unfolding pivot_of
 pivot-gives env id m n is =
     after (IsMade env.settings env.known) (pivot_names (name_of id) (name_of m) (components_in n)) (λ u. pivot_form (name_of id) (name_of m) (components_in n) >>= made_of (nodes.pivot n (name_of id) (name_of m)))
-    (λ u. node-gives env (nodes.pivot n (name_of id) (name_of m)) (pivot_form (name_of id) (name_of m) (components_in n)) (weaker IsShaped (IsMadeWith env (nodes.pivot n (name_of id) (name_of m))) (pivot_form (name_of id) (name_of m) (components_in n)) (λ s f. (f, is))
-    (pivot-shaped (name_of id) (name_of m) (components_in n))))
+    (λ u. node-gives env (nodes.pivot n (name_of id) (name_of m)) (pivot_form (name_of id) (name_of m) (components_in n)) (weaker (λ s. IsShaped s × IsPivoted (name_of id) (name_of m) (structure_of n) s) (IsMadeWith env (nodes.pivot n (name_of id) (name_of m))) (pivot_form (name_of id) (name_of m) (components_in n)) (λ s f. (f.0, (is, f.1)))
+    (pivot-fits (name_of id) (name_of m) (structure_of n) (made-shaped env.settings env.known n is))))
 
 pub unpivot-gives : (env : Env) (id m : Comp) (n : NodeTree) → IsMade env.settings env.known n → Gives (IsMade env.settings env.known) (unpivot_of id m n)
 unfolding unpivot_of
 unpivot-gives env id m n is =
-    node-gives env (nodes.unpivot n (name_of id) (name_of m)) (unpivot_form (name_of id) (name_of m) (components_in n)) (weaker IsShaped (IsMadeWith env (nodes.unpivot n (name_of id) (name_of m))) (unpivot_form (name_of id) (name_of m) (components_in n)) (λ s f. (f, is)) (unpivot-shaped (name_of id) (name_of m) (components_in n)))
+    node-gives env (nodes.unpivot n (name_of id) (name_of m)) (unpivot_form (name_of id) (name_of m) (components_in n)) (weaker (λ s. IsShaped s × IsUnpivoted (name_of id) (name_of m) (structure_of n) s) (IsMadeWith env (nodes.unpivot n (name_of id) (name_of m))) (unpivot_form (name_of id) (name_of m) (components_in n)) (λ s f. (f.0, (is, f.1))) (unpivot-fits (name_of id) (name_of m) (structure_of n)))
 
 -- ---- `calc`
 -- a value of a target: an expression that is typed over the operand's columns, or an analytic call that does not reach too far
@@ -178,7 +179,7 @@ written-role None q e = e
 written-role (Some written.Measure) q e = cc
 written-role (Some written.Attribute) q e = cc
 
-among-any : (name : List ℕ) (names : List (List ℕ)) → is_among name names ≡ list_any (same_name name) names
+pub among-any : (name : List ℕ) (names : List (List ℕ)) → is_among name names ≡ list_any (same_name name) names
 among-any name [] = refl
 among-any name (n ∷ names) = ap (λ b. b || is_among name names) (same-symm n name) ∙ ap (λ b. same_name name n || b) (among-any name names)
 

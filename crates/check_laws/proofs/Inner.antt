@@ -34,11 +34,11 @@ module _ (p : Settings) (known : Named) where
     form-made s (nodes.drop_named a names) m = inner-made a m.0
     form-made s (nodes.rename a pairs) m = inner-made a m.0
     form-made s (nodes.sub a items) m = inner-made a m.0
-    form-made s (nodes.pivot a id name) m = inner-made a m
-    form-made s (nodes.unpivot a id name) m = inner-made a m
-    form-made s (nodes.join os spec) m = operands-made os m
-    form-made s (nodes.union ns) m = all-made ns m
-    form-made s (nodes.intersect ns) m = all-made ns m
+    form-made s (nodes.pivot a id name) m = inner-made a m.0
+    form-made s (nodes.unpivot a id name) m = inner-made a m.0
+    form-made s (nodes.join os spec) m = operands-made os m.0
+    form-made s (nodes.union ns) m = all-made ns m.0
+    form-made s (nodes.intersect ns) m = all-made ns m.0
     form-made s (nodes.set_diff a b) m = two (nodes_in a) (nodes_in b) (inner-made a m.0) (inner-made b m.1)
     form-made s (nodes.sym_diff a b) m = two (nodes_in a) (nodes_in b) (inner-made a m.0) (inner-made b m.1)
     form-made s (nodes.exists_in a b r) m = two (nodes_in a) (nodes_in b) (inner-made a m.0) (inner-made b m.1)

@@ -1,5 +1,5 @@
 -- Clauses that leave some of the components: `keep`, `drop`, `sub`, and `a#m`.
-use Rattle.std.proofs.Common.{◌≡◌, ℕ, Bool, true, false, cond, ◌||◌, not, List, [], ◌∷◌, ◌++◌, map, Option, Some, None, refl, sym, ap, ◌∙◌, subst}
+use Rattle.std.proofs.Common.{◌≡◌, ℕ, Bool, true, false, ◌||◌, not, List, [], ◌∷◌, ◌++◌, map, Option, Some, None, refl, sym, ap, ◌∙◌, subst}
 use Rattle.std.proofs.lemmas.Bool.{false≢true}
 use Rattle.std.specs.List.{AllByRecursion, filter, list_any}
 use Rattle.std.specs.Option.{option_map_or}
@@ -20,10 +20,10 @@ use Rattle.vtl_meaning.specs.Columns.{identifiers_of, kind_named, place_of}
 use Rattle.vtl_meaning.specs.Made.{AreAmong, IsColumnAt, IsLeft, IsSub}
 use Rattle.vtl_meaning.specs.Shapes.{IsChosen, IsShaped, is_known}
 use Rattle.check_laws.specs.Gives.{Gives}
-use Rattle.check_laws.proofs.Chosen.{own-columns}
+use Rattle.check_laws.proofs.Among.{IsAmong, found-among, own-columns}
 use Rattle.check_laws.proofs.Columns.{HasName, IsFound, all-found, at-place, found-filter, has-itself, kind-found, of-columns, same-true}
 use Rattle.check_laws.proofs.Lists as lists
-use Rattle.check_laws.proofs.Shapes.{shaped-gives}
+use Rattle.check_laws.proofs.Shapes.{filter-within, shaped-gives}
 use Rattle.check_laws.proofs.Steps.{tested, then, weaker}
 use Rattle.check_laws.proofs.Tests.{not-false}
 
@@ -43,19 +43,8 @@ known-gives w xs before name = go (component_of name xs) refl
     go (Some x) e = tested (IsNamed w xs name) (name_tests w before name x.role) x (λ passed. (e, not-false (serves w x.role) passed.1.0))
 
 -- ---- the components that are left
--- where all identifiers are left
-left-identifiers : (p : Component → Bool) (xs : List Component) → AllByRecursion (λ x. is_identifier x ≡ true → p x ≡ true) xs → filter is_identifier (filter p xs) ≡ filter is_identifier xs
-left-identifiers p [] h = refl
-left-identifiers p (x ∷ xs) h = go (p x) refl (is_identifier x) refl (left-identifiers p xs h.1)
-  where
-    go : (b : Bool) → p x ≡ b → (c : Bool) → is_identifier x ≡ c → filter is_identifier (filter p xs) ≡ filter is_identifier xs → filter is_identifier (cond b (x ∷ filter p xs) (filter p xs)) ≡ cond c (x ∷ filter is_identifier xs) (filter is_identifier xs)
-    go true e true d ih = ap (λ b. cond b (x ∷ filter is_identifier (filter p xs)) (filter is_identifier (filter p xs))) d ∙ ap (λ l. x ∷ l) ih
-    go true e false d ih = ap (λ b. cond b (x ∷ filter is_identifier (filter p xs)) (filter is_identifier (filter p xs))) d ∙ ih
-    go false e true d ih = absurd (false≢true (sym e ∙ h.0 d))
-    go false e false d ih = ih
-
 left-columns : (p : Component → Bool) (a : Structure) → IsShaped a → AreAmong (columns_of (structure_of (filter p a.components))) (columns_of a)
-left-columns p a ia = of-columns (λ x. IsColumnAt (place_of x.name (columns_of a)) x.name x.kind (columns_of a)) (structure_of (filter p a.components)) (lists.filtered (λ x. IsColumnAt (place_of x.name (columns_of a)) x.name x.kind (columns_of a)) p a.components (own-columns a ia))
+left-columns p a ia = of-columns (IsAmong (columns_of a)) (structure_of (filter p a.components)) (lists.filtered (IsAmong (columns_of a)) p a.components (own-columns a ia))
 
 -- a name that stands for a component whose role serves
 name-known : (w : Wanted) (xs : List Component) (name : List ℕ) → IsName w xs name → is_known w xs name ≡ true
@@ -75,7 +64,7 @@ left-fits w c names a ia all are =
     ))
   where
     same : filter is_identifier (chosen c names a.components) ≡ filter is_identifier a.components
-    same = left-identifiers (is_chosen c names) a.components all
+    same = filter-within is_identifier (is_chosen c names) a.components all
 
 pub keep-fits : (w : Wanted) (names : List (List ℕ)) (a : Structure) → IsShaped a → AllByRecursion (IsName w a.components) names → Gives (λ s. IsShaped s × IsLeft a s × IsChosen w choice.Keep names a s) (shaped (chosen choice.Keep names a.components))
 keep-fits w names a ia h = left-fits w choice.Keep names a ia (lists.every (λ x. is_identifier x ≡ true → is_chosen choice.Keep names x ≡ true) a.components (λ x e. ap (λ b. b || is_among x.name names) e)) h
@@ -139,12 +128,9 @@ sub-fits items a ia h =
     ids : List Component
     ids = filter is_identifier (filter left a.components)
 
-    at : Component → Type 0
-    at x = IsColumnAt (place_of x.name (identifiers_of a)) x.name x.kind (identifiers_of a)
-
     some : AreAmong ids (identifiers_of a)
     some =
-        lists.joined (IsFound a.components) (λ x. is_identifier x ≡ true) at ids (λ x found is. at-place x.name (identifiers_of a) x (found-filter is_identifier x.name a.components x found is))
+        lists.joined (IsFound a.components) (λ x. is_identifier x ≡ true) (IsAmong (identifiers_of a)) ids (found-among is_identifier a.components)
         (lists.filtered (IsFound a.components) is_identifier (filter left a.components) (lists.filtered (IsFound a.components) left a.components (all-found a ia.well_formed)))
         (lists.passing is_identifier (filter left a.components))
 

@@ -1,8 +1,10 @@
 pub mod Alike
+pub mod Among
 pub mod Calculated
 pub mod Chosen
 pub mod Clauses
 pub mod Columns
+pub mod Combined
 pub mod DepthBounds
 pub mod DepthClauses
 pub mod DepthOperators
@@ -12,6 +14,7 @@ pub mod DepthTyping
 pub mod Expressions
 pub mod Groups
 pub mod Inner
+pub mod Joined
 pub mod Joins
 pub mod Left
 pub mod Lists
@@ -30,6 +33,7 @@ pub mod Shapes
 pub mod Sound
 pub mod Steps
 pub mod Tests
+pub mod Turned
 pub mod Twins
 pub mod ValueKinds
 pub mod Values

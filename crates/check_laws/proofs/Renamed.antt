@@ -1,5 +1,5 @@
 -- `rename`.
-use Rattle.std.proofs.Common.{◌≡◌, Bool, true, false, cond, List, [], ◌∷◌, ◌++◌, map, refl, sym, ap, ◌∙◌}
+use Rattle.std.proofs.Common.{◌≡◌, List, ◌++◌, map, refl, sym, ap, ◌∙◌}
 use Rattle.std.proofs.lemmas.List.{map-append}
 use Rattle.std.specs.List.{filter}
 use Rattle.vtl_tree.specs.Structure.{columns_of, of_role, same_role}
@@ -13,17 +13,11 @@ use Rattle.check_shapes.specs.declared.renaming.Renaming.{Renaming}
 use Rattle.vtl_meaning.specs.Made.{IsRenamed}
 use Rattle.vtl_meaning.specs.Shapes.{IsRenamedBy, IsShaped}
 use Rattle.check_laws.specs.Gives.{Gives}
-use Rattle.check_laws.proofs.Shapes.{shaped-gives}
+use Rattle.check_laws.proofs.Shapes.{filter-mapped, shaped-gives}
 use Rattle.check_laws.proofs.Twins.{maps-same}
 
 filter-renamed : (rs : List Renaming) (r : Role) (xs : List Component) → filter (λ x. same_role x.role r) (map (renamed rs) xs) ≡ map (renamed rs) (filter (λ x. same_role x.role r) xs)
-filter-renamed rs r [] = refl
-filter-renamed rs r (x ∷ xs) = go (same_role x.role r) (filter-renamed rs r xs)
-  where
-    go : (b : Bool) → filter (λ x. same_role x.role r) (map (renamed rs) xs) ≡ map (renamed rs) (filter (λ x. same_role x.role r) xs)
-        → cond b (renamed rs x ∷ filter (λ x. same_role x.role r) (map (renamed rs) xs)) (filter (λ x. same_role x.role r) (map (renamed rs) xs)) ≡ map (renamed rs) (cond b (x ∷ filter (λ x. same_role x.role r) xs) (filter (λ x. same_role x.role r) xs))
-    go true ih = ap (λ l. renamed rs x ∷ l) ih
-    go false ih = ih
+filter-renamed rs r xs = filter-mapped (λ x. same_role x.role r) (renamed rs) xs (λ x. refl)
 
 renamed-columns : (rs : List Renaming) (a : Structure) → columns_of (structure_of (map (renamed rs) a.components)) ≡ map (renamed rs) (columns_of a)
 renamed-columns rs a =

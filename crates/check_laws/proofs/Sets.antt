@@ -1,5 +1,5 @@
 -- Operators on whole data sets, aggregates and analytic calls.
-use Rattle.std.proofs.Common.{List, [], ◌∷◌, ◌++◌, Option, Some, None, Result, Ok}
+use Rattle.std.proofs.Common.{◌≡◌, List, [], ◌∷◌, ◌++◌, Option, Some, None, Result, Ok, refl, sym, ap, subst}
 use Rattle.std.specs.List.{AllByRecursion}
 use Rattle.std.specs.Option.{IfSome}
 use Rattle.std.specs.Prelude.{option_to_list, unwrap_or}
@@ -16,7 +16,7 @@ use Rattle.vtl_syntax.specs.declared.word_groups.SetOpName.TheVariants as set
 use Rattle.vtl_tree.specs.Structures.{Named}
 use Rattle.vtl_tree.specs.declared.structure.Structure.{Structure}
 use Rattle.vtl_nodes.specs.Trees as nodes
-use Rattle.vtl_nodes.specs.Trees.{NodeTree, maybe_node, nodes_of, structure_of}
+use Rattle.vtl_nodes.specs.Trees.{NodeTree, NodeTrees, maybe_node, nodes_of, structure_of}
 use Rattle.vtl_nodes.specs.declared.specifications.CheckSpec.{CheckSpec}
 use Rattle.check_shapes.specs.Choices.{choice_form}
 use Rattle.check_shapes.specs.Pairs as pairs
@@ -28,15 +28,16 @@ use Rattle.check_operators.specs.Sets.{check_form, datasets_behind, datasets_in,
 use Rattle.check_operators.specs.Typed.{TypedTree, value, dataset, components_in, dataset_in, made_of}
 use Rattle.check_operators.specs.declared.places.Place.{Place}
 use Rattle.check_operators.specs.declared.places.Place.TheVariants as place
-use Rattle.vtl_meaning.specs.Made.{AreMade, IsLeft, IsMade, IsMadeMaybe}
+use Rattle.vtl_meaning.specs.Made.{AreCombined, AreMade, IsCombined, IsExistence, IsLeft, IsMade, IsMadeMaybe, node_structures}
 use Rattle.vtl_meaning.specs.Shapes.{IsChosen, IsShaped}
 use Rattle.check_laws.specs.Gives.{Gives}
 use Rattle.check_laws.specs.WellTyped.{IsWellTyped}
+use Rattle.check_laws.proofs.Combined.{combined-fits, exists-fits}
 use Rattle.check_laws.proofs.Inner.{made-shaped}
 use Rattle.check_laws.proofs.Left.{member-fits}
 use Rattle.check_laws.proofs.Lists as lists
 use Rattle.check_laws.proofs.Operators.{IsMadeWith, made-gives}
-use Rattle.check_laws.proofs.OtherForms.{check-shaped, exists-shaped, set-shaped}
+use Rattle.check_laws.proofs.OtherForms.{check-shaped}
 use Rattle.check_laws.proofs.Steps.{then, weaker}
 
 -- where a data set is needed
@@ -67,37 +68,51 @@ all-made : (p : Settings) (known : Named) (ns : List NodeTree) → AllByRecursio
 all-made p known [] h = tt
 all-made p known (n ∷ ns) h = (h.0, all-made p known ns h.1)
 
-set-structure : (ns : List NodeTree) → Gives IsShaped (set_structure ns)
-set-structure [] = tt
-set-structure (n ∷ ns) = set-shaped (structure_of n) (structures_in ns)
+all-shaped : (p : Settings) (known : Named) (ns : List NodeTree) → AllByRecursion (IsMade p known) ns → AllByRecursion IsShaped (structures_in ns)
+all-shaped p known ns h = lists.mapped IsShaped structure_of ns (lists.weaker (IsMade p known) (λ n. IsShaped (structure_of n)) ns (made-shaped p known) h)
+
+same-structures : (ns : List NodeTree) → node_structures (nodes_of ns) ≡ structures_in ns
+same-structures [] = refl
+same-structures (n ∷ ns) = ap (λ ss. structure_of n ∷ ss) (same-structures ns)
+
+abbrev AreCombinedOf : NodeTrees → Structure → Type 0
+AreCombinedOf ns s = IsShaped s × AreCombined (node_structures ns) s
+
+set-structure : (p : Settings) (known : Named) (ns : List NodeTree) → AllByRecursion (IsMade p known) ns → Gives (AreCombinedOf (nodes_of ns)) (set_structure ns)
+set-structure p known [] h = tt
+set-structure p known (n ∷ ns) h =
+    subst (λ ss. Gives (λ s. IsShaped s × IsCombined (structure_of n) ss s) (set_structure (n ∷ ns))) (sym (same-structures ns))
+    (combined-fits (structure_of n) (structures_in ns) (made-shaped p known n h.0) (all-shaped p known ns h.1))
 
 pub sets-give : (env : Env) (at : Place) (f : SetOpName) (xs : List TypedTree) → AllByRecursion (IsWellTyped env place.Outside) xs → Gives (IsWellTyped env at) (sets_form f xs)
 unfolding sets_form
 sets-give env at f xs h =
     then (AllByRecursion (IsMade env.settings env.known)) (IsWellTyped env at) (datasets_in xs) (set_of f) (datasets-behind env [] xs tt h)
-    (λ ns all. shape-gives env at (set_tree f (nodes_of ns)) (set_structure ns) (set-structure ns) (made f ns all))
+    (λ ns all. made-gives env at (set_tree f (nodes_of ns)) (set_structure ns) (weaker (AreCombinedOf (nodes_of ns)) (IsMadeWith env (set_tree f (nodes_of ns))) (set_structure ns) (made f ns all) (set-structure env.settings env.known ns all)))
   where
-    made : (f : SetOpName) (ns : List NodeTree) → AllByRecursion (IsMade env.settings env.known) ns → (s : Structure) → IsShaped s → IsMadeWith env (set_tree f (nodes_of ns)) s
-    made set.Union ns all s is = (is, all-made env.settings env.known ns all)
-    made set.Intersect ns all s is = (is, all-made env.settings env.known ns all)
+    made : (f : SetOpName) (ns : List NodeTree) → AllByRecursion (IsMade env.settings env.known) ns → (s : Structure) → AreCombinedOf (nodes_of ns) s → IsMadeWith env (set_tree f (nodes_of ns)) s
+    made set.Union ns all s h = (h.0, (all-made env.settings env.known ns all, h.1))
+    made set.Intersect ns all s h = (h.0, (all-made env.settings env.known ns all, h.1))
 
 pub difference-gives : (env : Env) (at : Place) (f : DifferenceName) (x y : TypedTree) → IsWellTyped env place.Outside x → IsWellTyped env place.Outside y → Gives (IsWellTyped env at) (difference_form f x y)
 unfolding difference_form
 difference-gives env at f x y hx hy =
     then (IsMade env.settings env.known) (IsWellTyped env at) (dataset_in x) (λ a. dataset_in y >>= λ b. pairs.set_form (structure_of a) (structure_of b ∷ []) >>= made_of (difference_tree f a b)) (dataset-gives env place.Outside x hx)
     (λ a ia. then (IsMade env.settings env.known) (IsWellTyped env at) (dataset_in y) (λ b. pairs.set_form (structure_of a) (structure_of b ∷ []) >>= made_of (difference_tree f a b)) (dataset-gives env place.Outside y hy)
-    (λ b ib. shape-gives env at (difference_tree f a b) (pairs.set_form (structure_of a) (structure_of b ∷ [])) (set-shaped (structure_of a) (structure_of b ∷ [])) (made f a b ia ib)))
+    (λ b ib. made-gives env at (difference_tree f a b) (pairs.set_form (structure_of a) (structure_of b ∷ [])) (weaker (λ s. IsShaped s × IsCombined (structure_of a) (structure_of b ∷ []) s) (IsMadeWith env (difference_tree f a b)) (pairs.set_form (structure_of a) (structure_of b ∷ [])) (made f a b ia ib)
+    (combined-fits (structure_of a) (structure_of b ∷ []) (made-shaped env.settings env.known a ia) (made-shaped env.settings env.known b ib, tt)))))
   where
-    made : (f : DifferenceName) (a b : NodeTree) → IsMade env.settings env.known a → IsMade env.settings env.known b → (s : Structure) → IsShaped s → IsMadeWith env (difference_tree f a b) s
-    made difference.Setdiff a b ia ib s is = (is, (ia, ib))
-    made difference.Symdiff a b ia ib s is = (is, (ia, ib))
+    made : (f : DifferenceName) (a b : NodeTree) → IsMade env.settings env.known a → IsMade env.settings env.known b → (s : Structure) → IsShaped s × IsCombined (structure_of a) (structure_of b ∷ []) s → IsMadeWith env (difference_tree f a b) s
+    made difference.Setdiff a b ia ib s h = (h.0, (ia, ib, h.1))
+    made difference.Symdiff a b ia ib s h = (h.0, (ia, ib, h.1))
 
 pub exists-gives : (env : Env) (at : Place) (r : Option Retain) (x y : TypedTree) → IsWellTyped env place.Outside x → IsWellTyped env place.Outside y → Gives (IsWellTyped env at) (exists_form r x y)
 unfolding exists_form
 exists-gives env at r x y hx hy =
     then (IsMade env.settings env.known) (IsWellTyped env at) (dataset_in x) (λ a. dataset_in y >>= λ b. pairs.exists_form (structure_of a) (structure_of b) >>= made_of (nodes.exists_in a b (unwrap_or r retain.All))) (dataset-gives env place.Outside x hx)
     (λ a ia. then (IsMade env.settings env.known) (IsWellTyped env at) (dataset_in y) (λ b. pairs.exists_form (structure_of a) (structure_of b) >>= made_of (nodes.exists_in a b (unwrap_or r retain.All))) (dataset-gives env place.Outside y hy)
-    (λ b ib. shape-gives env at (nodes.exists_in a b (unwrap_or r retain.All)) (pairs.exists_form (structure_of a) (structure_of b)) (exists-shaped (structure_of a) (structure_of b)) (λ s is. (is, (ia, ib)))))
+    (λ b ib. made-gives env at (nodes.exists_in a b (unwrap_or r retain.All)) (pairs.exists_form (structure_of a) (structure_of b))
+    (weaker (λ s. IsShaped s × IsExistence (structure_of a) (structure_of b) s) (IsMadeWith env (nodes.exists_in a b (unwrap_or r retain.All))) (pairs.exists_form (structure_of a) (structure_of b)) (λ s h. (h.0, (ia, ib, h.1))) (exists-fits (structure_of a) (structure_of b) (made-shaped env.settings env.known b ib)))))
 
 -- ---- `check`
 imbalance-gives : (env : Env) (i : Option TypedTree) → IfSome i (IsWellTyped env place.Outside) → Gives (λ b. IfSome b (IsMade env.settings env.known)) (imbalance_in i)

@@ -45,7 +45,7 @@ use Rattle.check_laws.specs.Gives.{ArePassed, Gives}
 use Rattle.check_laws.specs.WellTyped.{AreShaped, IsWellTyped}
 use Rattle.check_laws.proofs.Clauses.{AreTargets, IsTargetValue, aggr-gives, calc-gives, filter-gives, item-more, keeping-gives, name-free, pivot-gives, renaming-gives, sub-gives, unpivot-gives}
 use Rattle.check_laws.proofs.Groups.{IsAnalytic, aggregate-gives, count-call-gives, over-gives, target-analytic, value-call-gives}
-use Rattle.check_laws.proofs.Joins.{IsOperand, IsPart, joined-gives, last-gives, operands-give, part-gives}
+use Rattle.check_laws.proofs.Joins.{AreJoinOperands, AreJoinParts, joined-gives, last-gives, operands-give, part-gives}
 use Rattle.check_laws.proofs.Lists as lists
 use Rattle.check_laws.proofs.LiteralOperands.{free-gives, functions-give}
 use Rattle.check_laws.proofs.Operators.{AreFit, operator-gives, set-form-gives}
@@ -178,8 +178,8 @@ mutual
   sound env are at (tree.check_hierarchy e n r m d o) = after (IsWellTyped env at) (typed env place.Outside e) (λ x. Err rule.UnknownRuleset) (λ x. tt)
   sound env are at (tree.hierarchy e n r m i o) = after (IsWellTyped env at) (typed env place.Outside e) (λ x. Err rule.UnknownRuleset) (λ x. tt)
   sound env are at (tree.join kind ps u f m k rs) =
-      then (AllByRecursion (IsOperand env)) (IsWellTyped env at) (parts_typed env [] ps >>= operands_in) (λ os. filtered_join env (Some (joined_of kind os)) f kind u os >>= join_end env (Some (joined_of kind os)) m k rs)
-      (then (AllByRecursion (IsPart env)) (AllByRecursion (IsOperand env)) (parts_typed env [] ps) operands_in (sound-parts env are [] ps tt) (operands-give env))
+      then (AreJoinOperands env) (IsWellTyped env at) (parts_typed env [] ps >>= operands_in) (λ os. filtered_join env (Some (joined_of kind os)) f kind u os >>= join_end env (Some (joined_of kind os)) m k rs)
+      (then (AreJoinParts env) (AreJoinOperands env) (parts_typed env [] ps) operands_in (sound-parts env are [] ps (record { each = tt; apart = refl })) (operands-give env))
       (λ os hos. then (IsMade env.settings env.known) (IsWellTyped env at) (filtered_join env (Some (joined_of kind os)) f kind u os) (join_end env (Some (joined_of kind os)) m k rs)
       (then (IsMade env.settings env.known) (IsMade env.settings env.known) (joined_node kind u os) (λ n. filter_step env (Some (joined_of kind os)) n f) (joined-gives env kind u os hos) (λ n is. sound-filter env are (Some (joined_of kind os)) n f is))
       (λ a ia. then (IsMade env.settings env.known) (IsWellTyped env at) (targets_step env (Some (joined_of kind os)) a m) (body_end (Some (joined_of kind os)) k rs) (sound-step env are (Some (joined_of kind os)) a m ia) (end-gives env at (Some (joined_of kind os)) k rs)))
@@ -218,11 +218,11 @@ mutual
       (λ v is. item-more env.settings n r c done v hd passed is))
       (λ items h. sound-calcs env are j n items cs h))
 
-  sound-parts : (env : Env) → AreShaped env.known → (done : List PartTyped) (ps : Parts) → AllByRecursion (IsPart env) done → Gives (AllByRecursion (IsPart env)) (parts_typed env done ps)
+  sound-parts : (env : Env) → AreShaped env.known → (done : List PartTyped) (ps : Parts) → AreJoinParts env done → Gives (AreJoinParts env) (parts_typed env done ps)
   sound-parts env are done tree.no_parts hd = hd
   sound-parts env are done (tree.join_part e alias ps) hd =
-      then (AllByRecursion (IsPart env)) (AllByRecursion (IsPart env)) (typed env place.Outside e >>= with_part done e alias) (λ xs. parts_typed env xs ps)
-      (then (IsWellTyped env place.Outside) (AllByRecursion (IsPart env)) (typed env place.Outside e) (with_part done e alias) (sound env are place.Outside e) (λ x h. part-gives env done e alias x hd h))
+      then (AreJoinParts env) (AreJoinParts env) (typed env place.Outside e >>= with_part done e alias) (λ xs. parts_typed env xs ps)
+      (then (IsWellTyped env place.Outside) (AreJoinParts env) (typed env place.Outside e) (with_part done e alias) (sound env are place.Outside e) (λ x h. part-gives env done e alias x hd h))
       (λ xs h. sound-parts env are xs ps h)
 
   sound-filter : (env : Env) → AreShaped env.known → (j : Option Joined) (n : NodeTree) (e : MaybeExp) → IsMade env.settings env.known n → Gives (IsMade env.settings env.known) (filter_step env j n e)
