@@ -7,8 +7,8 @@ ghost use Rattle.vtl_tree.specs.Structure.{columns_of};
 ghost use Rattle.vtl_tree.specs.View.{comp_exp_of};
 ghost use Rattle.vtl_nodes.specs.View.{item_tree, value_tree};
 ghost use Rattle.vtl_sets.specs.DataSets.{with_structure};
-ghost use Rattle.vtl_meaning.specs.Made.{IsCalculated};
-ghost use Rattle.vtl_meaning.specs.Operators.{calculated_exp, calculated_of, target_named, value_exp};
+ghost use Rattle.vtl_expr.specs.Made.{IsCalculated};
+ghost use Rattle.vtl_expr.specs.Operators.{calculated_exp, calculated_of, target_named, value_exp};
 ghost use Rattle.vtl_sets.specs.TableOf.{IsTableOf};
 
 use std::alloc::{AllocError, Global};

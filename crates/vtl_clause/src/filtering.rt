@@ -7,7 +7,7 @@ ghost use Rattle.vtl_tree.specs.Clauses.{filter_of, is_true};
 ghost use Rattle.vtl_tree.specs.Value.{value};
 ghost use Rattle.vtl_tree.specs.View.{comp_exp_of};
 ghost use Rattle.vtl_sets.specs.DataSets.{with_structure};
-ghost use Rattle.vtl_meaning.specs.Made.{IsFiltered};
+ghost use Rattle.vtl_expr.specs.Made.{IsFiltered};
 ghost use Rattle.vtl_sets.specs.TableOf.{IsTableOf};
 ghost use Rattle.vtl_expr.specs.Prepared.{prepared_exp};
 ghost use Rattle.vtl_expr.specs.Seen.{seen_of};

@@ -1,7 +1,7 @@
 // `rename`
 ghost use Rattle.std.specs.Prelude.{◌≡◌, IfOk};
 ghost use Rattle.vtl_sets.specs.DataSets.{data_set};
-ghost use Rattle.vtl_meaning.specs.Made.{IsRenamed};
+ghost use Rattle.vtl_expr.specs.Made.{IsRenamed};
 ghost use Rattle.vtl_sets.specs.TableOf.{IsTableOf};
 
 use std::alloc::{AllocError, Global};

@@ -5,8 +5,8 @@ ghost use Rattle.vtl_cell.specs.Order.{same_cell};
 ghost use Rattle.vtl_rows.specs.Tables.{cells_at, fits};
 ghost use Rattle.vtl_tree.specs.Structure.{columns_of};
 ghost use Rattle.vtl_sets.specs.DataSets.{data_set};
-ghost use Rattle.vtl_meaning.specs.Made.{IsSub};
-ghost use Rattle.vtl_meaning.specs.Operators.{sub_of};
+ghost use Rattle.vtl_expr.specs.Made.{IsSub};
+ghost use Rattle.vtl_expr.specs.Operators.{sub_of};
 ghost use Rattle.vtl_sets.specs.TableOf.{IsTableOf};
 ghost use Rattle.vtl_clause.specs.Pins.{are_met, wanted_by, wanted_in};
 

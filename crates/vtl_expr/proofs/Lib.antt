@@ -1,3 +1,4 @@
+pub use Rattle.vtl_meaning.proofs.Kept
 pub mod ChoiceLemmas
 pub mod ColumnLemmas
 pub mod FindingLemmas

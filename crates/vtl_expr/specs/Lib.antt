@@ -1,3 +1,7 @@
+pub use Rattle.vtl_meaning.specs.Columns
+pub use Rattle.vtl_meaning.specs.Made
+pub use Rattle.vtl_meaning.specs.Operators
+pub use Rattle.vtl_meaning.specs.Points
 pub mod Choices
 pub mod Given
 pub mod Partners

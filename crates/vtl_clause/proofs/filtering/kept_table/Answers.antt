@@ -10,7 +10,7 @@ use Rattle.vtl_tree.specs.Value.{value}
 use Rattle.vtl_tree.specs.View.{comp_exp_of}
 use Rattle.vtl_sets.specs.TableOf.{table_columns}
 use Rattle.vtl_sets.proofs.TableLemmas.{answered_is_table, point_fits}
-use Rattle.vtl_meaning.proofs.Kept.{filtered_kept}
+use Rattle.vtl_expr.proofs.Kept.{filtered_kept}
 use Rattle.vtl_expr.specs.Seen.{seen_of}
 use Rattle.vtl_expr.proofs.PointLemmas.{answered_keeps, finished, holds_at}
 use Rattle.vtl_expr.proofs.Walks.{kept_more, seen_more}

@@ -1,17 +1,17 @@
 use Rattle.std.proofs.Common.{◌≡◌, [], ◌∷◌, Ok, ap, length, map, refl, subst, sym, ◌∙◌}
 use Rattle.std.proofs.lemmas.List.{length-map}
 use Rattle.vtl_scalar.specs.Answers.{AnswersBy}
-use Rattle.vtl_nodes.specs.Trees as nodes
-use Rattle.vtl_nodes.specs.Trees.{nodes_of, operands_of}
-use Rattle.vtl_nodes.specs.View.{item_tree, measure_tree, node_tree, operand_tree}
-use Rattle.vtl_nodes.specs.declared.nodes.NodeForm.TheVariants as form
-use Rattle.vtl_sets.specs.DataSets.{data_set, with_structure}
-use Rattle.vtl_meaning.specs.Joined.{structures_of}
-use Rattle.vtl_meaning.specs.Made.{AreCombined, IsCombined, IsExistence, IsJoined}
-use Rattle.vtl_meaning.specs.Meaning.{nodes_value, operands_value}
-use Rattle.vtl_meaning.specs.Sets.{difference_of, symmetric_difference_of}
-use Rattle.vtl_meaning.specs.Turned.{pivot_of}
-use Rattle.vtl_meaning.specs.Operators.{calculated_of, left_of, measured_of, pair_of, sub_of}
+use Rattle.vtl_backend.specs.Trees as nodes
+use Rattle.vtl_backend.specs.Trees.{nodes_of, operands_of}
+use Rattle.vtl_backend.specs.View.{item_tree, measure_tree, node_tree, operand_tree}
+use Rattle.vtl_backend.specs.nodes.NodeForm.TheVariants as form
+use Rattle.vtl_backend.specs.DataSets.{data_set, with_structure}
+use Rattle.vtl_backend.specs.Joined.{structures_of}
+use Rattle.vtl_backend.specs.Made.{AreCombined, IsCombined, IsExistence, IsJoined}
+use Rattle.vtl_backend.specs.Meaning.{nodes_value, operands_value}
+use Rattle.vtl_backend.specs.Sets.{difference_of, symmetric_difference_of}
+use Rattle.vtl_backend.specs.Turned.{pivot_of}
+use Rattle.vtl_backend.specs.Operators.{calculated_of, left_of, measured_of, pair_of, sub_of}
 use Rattle.vtl_interp.specs.Evaluated.{Gives}
 use Rattle.vtl_interp.specs.Values.{value_view, values_view}
 use Rattle.vtl_interp.proofs.Evaluates.{operands_named}
@@ -52,7 +52,7 @@ evaluate-join-requires-clause-named t c =
     ap length c.deref-in-Join-2.ensures.value
     ∙ sym (length-map sets.items value_view)
     ∙ operands_named c.args.p.now env (map operand_tree os.items) (values_view sets)
-      (subst (λ xs. operands_value c.args.p.now env (operands_of (map operand_tree xs)) ≡ Ok (values_view sets)) c.deref-in-Join.ensures.value c.in_ok-sets-in-Join.ensures)
+    (subst (λ xs. operands_value c.args.p.now env (operands_of (map operand_tree xs)) ≡ Ok (values_view sets)) c.deref-in-Join.ensures.value c.in_ok-sets-in-Join.ensures)
     ∙ length-map os.items operand_tree
     ∙ sym (ap length c.deref-in-Join-3.ensures.value)
 
