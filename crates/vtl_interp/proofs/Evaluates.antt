@@ -1,5 +1,5 @@
 -- What an expression evaluates to, from what its operands do.
-use Rattle.std.proofs.Common.{◌≡◌, suc, Bor, List, [], ◌∷◌, ◌++◌, length, map, Result, Ok, Err, refl, sym, ap, subst, append_assoc, ◌∙◌}
+use Rattle.std.proofs.Common.{◌≡◌, suc, List, [], ◌∷◌, ◌++◌, length, map, Result, Ok, Err, refl, sym, ap, subst, append_assoc, ◌∙◌}
 use Rattle.std.proofs.lemmas.List.{append-nil, length-map}
 use Rattle.vtl_cell.specs.Settings.{Settings}
 use Rattle.vtl_cell.specs.Outcome.{DivZero, Fault, Outcome, Range, after}
@@ -9,17 +9,13 @@ use Rattle.vtl_scalar.specs.declared.error.ScalarErr.{ScalarErr}
 use Rattle.vtl_scalar.specs.declared.error.ScalarErr.TheVariants as err
 use Rattle.vtl_tree.specs.Environment.{DataSet, Environment}
 use Rattle.vtl_tree.specs.declared.structure.Structure.{Structure}
-use Rattle.vtl_nodes.specs.Trees as nodes
-use Rattle.vtl_nodes.specs.Trees.{NodeTree, NodeTrees, OperandTree, OperandTrees, operands_of, structure_of}
-use Rattle.check_joins.specs.Joins as joins
-use Rattle.check_joins.specs.declared.joins.Operand.{Operand}
-use Rattle.vtl_sets.specs.DataSets.{data_set, with_structure}
-use Rattle.vtl_meaning.specs.Joined.{structures_of}
-use Rattle.vtl_meaning.specs.Made.{node_structures, operands_in}
-use Rattle.vtl_meaning.specs.Meaning.{node_value, nodes_value, operands_value, with_first, with_operand}
-use Rattle.vtl_meaning.specs.Points.{with_points}
-use Rattle.vtl_join.specs.Joining.{sets_of, structures_in}
-use Rattle.vtl_join.specs.declared.joined.Operand as join
+use Rattle.vtl_backend.specs.Trees as nodes
+use Rattle.vtl_backend.specs.Trees.{NodeTree, NodeTrees, OperandTree, OperandTrees, operands_of, structure_of}
+use Rattle.vtl_backend.specs.DataSets.{data_set, with_structure}
+use Rattle.vtl_backend.specs.Joined.{structures_of}
+use Rattle.vtl_backend.specs.Made.{node_structures, operands_in}
+use Rattle.vtl_backend.specs.Meaning.{node_value, nodes_value, operands_value, with_first, with_operand}
+use Rattle.vtl_backend.specs.Points.{with_points}
 use Rattle.vtl_interp.specs.Evaluated.{Evaluates, Gives}
 
 -- a function of a structure and a data set at others that are the same
@@ -101,9 +97,9 @@ pub nodes_structures : (p : Settings) (env : Environment) (ns : NodeTrees) (ds :
 nodes_structures p env nodes.no_nodes ds e = no_structures (nodes_value p env nodes.no_nodes) ds refl e
 nodes_structures p env (nodes.and_node n ns) ds e = first_structure n (node_value p env n) (nodes_value p env ns) (node_structures ns) ds (nodes_structures p env ns) e
 
-pub operands_structures : (p : Settings) (env : Environment) (os : OperandTrees) (ds : List DataSet) → operands_value p env os ≡ Ok ds → structures_of ds ≡ joins.structures_of (operands_in os)
+pub operands_structures : (p : Settings) (env : Environment) (os : OperandTrees) (ds : List DataSet) → operands_value p env os ≡ Ok ds → structures_of ds ≡ map (λ o. o.structure) (operands_in os)
 operands_structures p env nodes.no_operands ds e = no_structures (operands_value p env nodes.no_operands) ds refl e
-operands_structures p env (nodes.operand n alias os) ds e = first_structure n (node_value p env n) (operands_value p env os) (joins.structures_of (operands_in os)) ds (operands_structures p env os) e
+operands_structures p env (nodes.operand n alias os) ds e = first_structure n (node_value p env n) (operands_value p env os) (map (λ o. o.structure) (operands_in os)) ds (operands_structures p env os) e
 
 -- as many as there are operands
 operands_many : (os : List OperandTree) → length (operands_in (operands_of os)) ≡ length os
@@ -114,17 +110,5 @@ pub operands_named : (p : Settings) (env : Environment) (os : List OperandTree) 
 operands_named p env os ds e =
     sym (length-map ds (λ (d : DataSet). d.structure))
     ∙ ap length (operands_structures p env (operands_of os) ds e)
-    ∙ length-map (operands_in (operands_of os)) (λ (o : Operand). o.structure)
+    ∙ length-map (operands_in (operands_of os)) (λ o. o.structure)
     ∙ operands_many os
-
--- ---- data sets that are lent
-pub lent_structures : (xs : List (Bor DataSet)) (ds : List DataSet) → map (λ d. d.now) xs ≡ ds → map (λ d. d.now.structure) xs ≡ structures_of ds
-lent_structures xs ds e = go xs ∙ ap structures_of e
-  where
-    go : (xs : List (Bor DataSet)) → map (λ d. d.now.structure) xs ≡ structures_of (map (λ d. d.now) xs)
-    go [] = refl
-    go (x ∷ xs) = ap (λ (ss : List Structure). x.now.structure ∷ ss) (go xs)
-
-pub operand_structures : (os : List join.Operand) → structures_in os ≡ structures_of (sets_of os)
-operand_structures [] = refl
-operand_structures (o ∷ os) = ap (λ (ss : List Structure). o.set.structure ∷ ss) (operand_structures os)

@@ -10,13 +10,13 @@ use Rattle.vtl_tree.specs.Structures.{Named, has_name}
 use Rattle.vtl_tree.specs.declared.structure.Structure.{Structure}
 use Rattle.vtl_text.proofs.Apart.{apart_push}
 use Rattle.vtl_tree.proofs.StructuresLemmas.{not_found, not_there}
-use Rattle.vtl_nodes.specs.Trees.{NodeTree}
+use Rattle.vtl_backend.specs.Trees.{NodeTree}
 use Rattle.vtl_backend.specs.Names.{names_of}
 use Rattle.vtl_backend.specs.Uses.{read_behind, reads, with_declared, with_new}
-use Rattle.vtl_meaning.specs.Meaning.{known_in}
+use Rattle.vtl_backend.specs.Meaning.{known_in}
 use Rattle.vtl_backend.specs.Inputs.{input_of}
+use Rattle.check_laws.specs.Scripts.{AreKnownAlike}
 use Rattle.vtl_interp.proofs.Environments.{found_behind, found_in_front}
-use Rattle.vtl_interp.proofs.NamesRead.{SameKnown}
 
 -- the data sets of inputs have the structures that are read
 pub known_inputs : (tables : NamedTables) (es : Named) → known_in (map (input_of tables) es) ≡ es
@@ -127,7 +127,7 @@ settled_behind : (declared known : Named) (names : List (List ℕ)) (name : List
 settled_behind declared known [] name h = h
 settled_behind declared known (x ∷ xs) name h = settled_behind declared (with_declared known x (lookup (same_name x) declared)) xs name (settled_step declared known x name h)
 
-read_same : (declared known : Named) (names : List (List ℕ)) → IsPart known declared → SameKnown (read_behind declared known names) declared names
+read_same : (declared known : Named) (names : List (List ℕ)) → IsPart known declared → AreKnownAlike (read_behind declared known names) declared names
 read_same declared known [] part = tt
 read_same declared known (x ∷ xs) part =
     let more = with_declared known x (lookup (same_name x) declared) in
@@ -138,7 +138,7 @@ unfolding IsPart
 nothing_part declared name s e = cc
 
 -- the names that expressions read have the same structures among all that are declared and among those that are read
-pub reads_same : (declared : Named) (ns : List NodeTree) → SameKnown (reads declared ns) declared (names_of ns)
+pub reads_same : (declared : Named) (ns : List NodeTree) → AreKnownAlike (reads declared ns) declared (names_of ns)
 reads_same declared ns = read_same declared [] (names_of ns) (nothing_part declared)
 
 -- ---- a name that is not declared is not read

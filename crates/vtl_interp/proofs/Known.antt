@@ -13,11 +13,11 @@ use Rattle.vtl_tree.specs.Structure.{same_name}
 use Rattle.vtl_tree.specs.Structures.{Named}
 use Rattle.vtl_tree.specs.declared.structure.Structure.{Structure}
 use Rattle.vtl_tree.proofs.StructuresLemmas.{not_found}
-use Rattle.vtl_nodes.specs.Trees.{NodeTree, structure_of}
+use Rattle.vtl_backend.specs.Trees.{NodeTree, structure_of}
 use Rattle.vtl_backend.specs.Checked.{IsTyped, TypedScript, known_of, nodes_of, tree_of}
 use Rattle.vtl_backend.specs.Transformations.{Transformation, transformations}
 use Rattle.vtl_backend.specs.Uses.{results_behind, with_new}
-use Rattle.vtl_meaning.specs.Meaning.{Outputs, meaning, node_value, stated, with_output}
+use Rattle.vtl_backend.specs.Meaning.{Outputs, meaning, node_value, stated, with_output}
 use Rattle.vtl_backend.specs.Inputs.{environment_of, inputs_of}
 use Rattle.vtl_backend.specs.Runs.{script_meaning}
 use Rattle.vtl_backend.specs.Statements.{is_written, statements_of, with_nodes}

@@ -14,25 +14,25 @@ use Rattle.vtl_scalar.specs.declared.error.ScalarErr.{ScalarErr}
 use Rattle.vtl_tree.specs.Environment.{DataSet, Environment, data_of}
 use Rattle.vtl_tree.specs.Structure.{same_name}
 use Rattle.vtl_tree.specs.declared.structure.Structure.{Structure}
-use Rattle.vtl_nodes.specs.Trees as nodes
-use Rattle.vtl_nodes.specs.Trees.{FormTree, NodeTree, nodes_of, operands_of, structure_of}
-use Rattle.vtl_nodes.specs.View.{form_tree, item_tree, measure_tree, node_tree, operand_tree}
-use Rattle.vtl_nodes.specs.declared.clauses.CalcItem.{CalcItem}
-use Rattle.vtl_nodes.specs.declared.clauses.SubItem.{SubItem}
-use Rattle.vtl_nodes.specs.declared.nodes.JoinOperand.{JoinOperand}
-use Rattle.vtl_nodes.specs.declared.nodes.MeasureOp.{MeasureOp}
-use Rattle.vtl_nodes.specs.declared.nodes.Node as node
-use Rattle.vtl_nodes.specs.declared.nodes.Node.{Node}
-use Rattle.vtl_nodes.specs.declared.nodes.NodeForm.{NodeForm}
-use Rattle.vtl_nodes.specs.declared.nodes.NodeForm.TheVariants as form
-use Rattle.vtl_nodes.specs.declared.nodes.NodeForm as forms
-use Rattle.vtl_nodes.specs.declared.specifications.JoinSpec.{JoinSpec}
+use Rattle.vtl_backend.specs.Trees as nodes
+use Rattle.vtl_backend.specs.Trees.{FormTree, NodeTree, nodes_of, operands_of, structure_of}
+use Rattle.vtl_backend.specs.View.{form_tree, item_tree, measure_tree, node_tree, operand_tree}
+use Rattle.vtl_backend.specs.clauses.CalcItem.{CalcItem}
+use Rattle.vtl_backend.specs.clauses.SubItem.{SubItem}
+use Rattle.vtl_backend.specs.nodes.JoinOperand.{JoinOperand}
+use Rattle.vtl_backend.specs.nodes.MeasureOp.{MeasureOp}
+use Rattle.vtl_backend.specs.nodes.Node as node
+use Rattle.vtl_backend.specs.nodes.Node.{Node}
+use Rattle.vtl_backend.specs.nodes.NodeForm.{NodeForm}
+use Rattle.vtl_backend.specs.nodes.NodeForm.TheVariants as form
+use Rattle.vtl_backend.specs.nodes.NodeForm as forms
+use Rattle.vtl_backend.specs.specifications.JoinSpec.{JoinSpec}
 use Rattle.vtl_syntax.specs.declared.word_groups.Retain.{Retain}
-use Rattle.vtl_sets.specs.DataSets.{with_structure}
-use Rattle.vtl_meaning.specs.Joined.{structures_of}
-use Rattle.vtl_meaning.specs.Made.{AreCombined, IsChoice, IsJoined, IsMade, IsMadeForm, IsMeasured, node_structures}
-use Rattle.vtl_meaning.specs.Meaning.{form_value, known_in, node_value, nodes_value, operands_value, with_operand}
-use Rattle.vtl_interp.specs.Evaluated.{Evaluates, Gives}
+use Rattle.vtl_backend.specs.DataSets.{with_structure}
+use Rattle.vtl_backend.specs.Joined.{structures_of}
+use Rattle.vtl_backend.specs.Made.{AreCombined, IsChoice, IsJoined, IsMade, IsMadeForm, IsMeasured, node_structures}
+use Rattle.vtl_backend.specs.Meaning.{form_value, known_in, node_value, nodes_value, operands_value, with_operand}
+use Rattle.vtl_interp.specs.Evaluated.{Evaluates, Gives, GivesOne, GivesTwo}
 use Rattle.vtl_interp.proofs.Environments.{data_looked, known_looked}
 use Rattle.vtl_interp.proofs.Evaluates.{applied, nodes_structures, operands_structures, then}
 
@@ -95,7 +95,6 @@ form_tree-ExistsIn a b r = search (rules, forms.the_lemmas)
 tree_with : (n : Node) (f : NodeForm) (t : FormTree) → n.form ≡ f → form_tree f ≡ t → node_tree n ≡ nodes.node n.structure t
 tree_with n f t e d = node_tree-is n ∙ ap (λ (g : NodeForm). nodes.node n.structure (form_tree g)) e ∙ ap (nodes.node n.structure) d
 
--- what is made of a node's form holds of the data sets that its operands give
 pub measures_fit : (p : Settings) (env : Environment) (n : Node) (op : MeasureOp) (a : Box Node Global) (d : DataSet) → n.form ≡ form.Measures op a → IsMade p (known_in env) (node_tree n) → Gives p env (node_tree a.value) d → IsMeasured p (measure_tree op) d.structure n.structure
 measures_fit p env n op a d e made g =
     subst (λ (s : Structure). IsMeasured p (measure_tree op) s n.structure) (sym g.structure)
@@ -108,9 +107,18 @@ choose_fits p env n c a b t d o e made gt gd go =
     (subst (λ (s : Structure). IsChoice (structure_of (node_tree c.value)) (structure_of (node_tree a.value)) s n.structure) (sym go.structure)
     (subst (IsMade p (known_in env)) (tree_with n (form.Choose c a b) (nodes.choose (node_tree c.value) (node_tree a.value) (node_tree b.value)) e (form_tree-Choose c a b)) made).1.3))
 
+-- what is made of a node's form
 made_form : (p : Settings) (env : Environment) (n : Node) (f : NodeForm) (t : FormTree) → n.form ≡ f → form_tree f ≡ t → IsMade p (known_in env) (node_tree n) → IsMadeForm p (known_in env) n.structure t
 made_form p env n f t e tree made = (subst (IsMade p (known_in env)) (tree_with n f t e tree) made).1
 
+-- what is given of a node's form
+pub one_given_at : (p : Settings) (env : Environment) (n : Node) (f : NodeForm) (t : FormTree) (d : DataSet) → n.form ≡ f → form_tree f ≡ t → GivesOne p env (form_tree n.form) d → GivesOne p env t d
+one_given_at p env n f t d is tree g = subst (λ (x : FormTree). GivesOne p env x d) (ap form_tree is ∙ tree) g
+
+pub two_given_at : (p : Settings) (env : Environment) (n : Node) (f : NodeForm) (t : FormTree) (d e : DataSet) → n.form ≡ f → form_tree f ≡ t → GivesTwo p env (form_tree n.form) d e → GivesTwo p env t d e
+two_given_at p env n f t d e is tree g = subst (λ (x : FormTree). GivesTwo p env x d e) (ap form_tree is ∙ tree) g
+
+-- what is made of a node's form holds of the data sets that its operands give
 pub two_fit : (Fits : Structure → Structure → Structure → Type 0) (p : Settings) (env : Environment) (n : Node) (f : NodeForm) (t : FormTree) (a b : NodeTree) (d e : DataSet)
     → n.form ≡ f → form_tree f ≡ t → (IsMadeForm p (known_in env) n.structure t → Fits (structure_of a) (structure_of b) n.structure) → IsMade p (known_in env) (node_tree n) → Gives p env a d → Gives p env b e
     → Fits d.structure e.structure n.structure

@@ -8,7 +8,7 @@ use Rattle.vtl_syntax.specs.Trees.{Exp}
 use Rattle.vtl_tree.specs.Structure.{same_name}
 use Rattle.vtl_tree.specs.Structures.{has_name}
 use Rattle.vtl_tree.specs.declared.structure.Structure.{Structure}
-use Rattle.vtl_nodes.specs.Trees.{NodeTree, structure_of}
+use Rattle.vtl_backend.specs.Trees.{NodeTree, structure_of}
 use Rattle.vtl_cell.specs.Results.{◌>>=◌}
 use Rattle.check_faults.specs.Rules.{ruled}
 use Rattle.check_faults.specs.declared.rules.Rule.{Rule}
@@ -19,12 +19,15 @@ use Rattle.vtl_backend.specs.Count.{count}
 use Rattle.vtl_backend.specs.Names.{names_in, names_of}
 use Rattle.vtl_backend.specs.Script.{assigned, at, is_too_much, transformations_typed, value_typed, with_result}
 use Rattle.vtl_backend.specs.Transformations.{Transformation, transformations}
-use Rattle.vtl_meaning.specs.Meaning.{Statement, is_built}
+use Rattle.vtl_backend.specs.Meaning.{Statement, is_built}
 use Rattle.vtl_backend.specs.Statements.{statements_of, with_nodes}
 use Rattle.vtl_interp.specs.Results.{AreNew}
-use Rattle.vtl_interp.proofs.NamesRead.{all_back, all_both, all_front, are_built, names_read}
+use Rattle.vtl_interp.proofs.NamesRead.{all_back, all_both, all_front, names_read}
 
 -- ---- the nodes of statements are nodes of the script
+abbrev pub are_built : List Statement → Bool
+are_built ss = list_all (λ s. is_built s.node) ss
+
 pub built_statements : (ts : List Transformation) (ns : List NodeTree) → list_all is_built ns ≡ true → are_built (with_nodes ts ns) ≡ true
 built_statements [] ns h = refl
 built_statements (t ∷ ts) [] h = refl

@@ -5,22 +5,23 @@ use Rattle.vtl_cell.specs.Settings.{Settings}
 use Rattle.vtl_rows.specs.Named.{NamedTables}
 use Rattle.vtl_syntax.specs.View.{statement_tree}
 use Rattle.vtl_syntax.specs.declared.statements.Statement.{Statement}
-use Rattle.vtl_nodes.specs.View.{node_tree}
-use Rattle.vtl_nodes.specs.declared.nodes.Node.{Node}
+use Rattle.vtl_backend.specs.View.{node_tree}
+use Rattle.vtl_backend.specs.nodes.Node.{Node}
 use Rattle.vtl_tree.specs.Environment.{Environment}
 use Rattle.vtl_tree.specs.Structure.{same_name}
 use Rattle.vtl_tree.specs.Structures.{Named}
 use Rattle.vtl_backend.specs.Checked.{IsTyped, TypedScript, nodes_of, tree_of}
 use Rattle.vtl_backend.specs.Names.{names_of}
-use Rattle.vtl_meaning.specs.Made.{AreMadeStatements}
-use Rattle.vtl_meaning.specs.Meaning.{known_in, meaning}
+use Rattle.vtl_backend.specs.Made.{AreMadeStatements}
+use Rattle.vtl_backend.specs.Meaning.{known_in, meaning}
 use Rattle.vtl_backend.specs.Inputs.{environment_of, inputs_of}
 use Rattle.vtl_backend.specs.Runs.{script_meaning}
 use Rattle.vtl_backend.specs.Statements.{is_script_built, statements_of, with_nodes}
 use Rattle.vtl_backend.specs.Transformations.{transformations}
+use Rattle.check_laws.specs.Scripts.{AreKnownAlike}
 use Rattle.vtl_interp.specs.Results.{AreReady}
 use Rattle.vtl_interp.proofs.InputsRead.{known_inputs, reads_same}
-use Rattle.vtl_interp.proofs.NamesRead.{SameKnown, all_so, statements_made_same}
+use Rattle.vtl_interp.proofs.NamesRead.{all_so, statements_made_same}
 use Rattle.vtl_interp.proofs.Scripts.{built_statements, names_statements, new_among_fewer, results_new}
 
 known_loaded : (t : TypedScript) (tables : NamedTables) (env : Environment) → env ≡ environment_of t tables → known_in env ≡ inputs_of t
@@ -30,11 +31,11 @@ pub ready_at_start : (t : TypedScript) (tables : NamedTables) (env : Environment
 ready_at_start t tables env typed built made loaded =
     let ss = statements_of t in
     let all_built = built_statements (transformations (tree_of t)) (nodes_of t) built in
-    let same : SameKnown t.declared (inputs_of t) (names_of (nodes_of t)) =
+    let same : AreKnownAlike t.declared (inputs_of t) (names_of (nodes_of t)) =
     all_so (λ name. lookup (same_name name) (inputs_of t) ≡ lookup (same_name name) t.declared) (λ name. lookup (same_name name) t.declared ≡ lookup (same_name name) (inputs_of t)) (λ name e. sym e) (names_of (nodes_of t)) (reads_same t.declared (nodes_of t)) in
     let read = names_statements (λ name. lookup (same_name name) t.declared ≡ lookup (same_name name) (inputs_of t)) (transformations (tree_of t)) (nodes_of t) same in
     record {
-      made = subst (λ (k : Named). AreMadeStatements t.settings k ss) (sym (known_loaded t tables env loaded)) (statements_made_same t.settings ss t.declared (inputs_of t) all_built read made);
+      made = subst (λ (k : Named). AreMadeStatements t.settings k ss) (sym (known_loaded t tables env loaded)) (statements_made_same t.settings ss t.declared (inputs_of t) read made);
       built = all_built;
       new_names = new_among_fewer [] (keys_of t.declared) ss (λ name h. refl) (results_new t typed);
     }

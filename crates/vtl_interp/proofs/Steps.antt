@@ -14,16 +14,17 @@ use Rattle.vtl_rows.specs.Tables.{Listed}
 use Rattle.vtl_tree.specs.Environment.{DataSet, Environment, data_of}
 use Rattle.vtl_tree.specs.Structure.{same_name}
 use Rattle.vtl_tree.specs.declared.structure.Structure.{Structure}
-use Rattle.vtl_nodes.specs.Trees.{structure_of}
-use Rattle.vtl_meaning.specs.Meaning.{Outputs, Statement, data_set_of, is_built, kept_output, known_in, meaning, node_value, stated, with_output}
+use Rattle.vtl_backend.specs.Trees.{structure_of}
+use Rattle.vtl_backend.specs.Meaning.{Outputs, Statement, data_set_of, is_built, kept_output, known_in, meaning, node_value, stated, with_output}
+use Rattle.check_laws.specs.Scripts.{AreKnownAlike}
 use Rattle.vtl_backend.specs.Runs.{ShowAll, ShowMeaning}
 use Rattle.vtl_backend.specs.Tables.{Shows}
 use Rattle.vtl_interp.specs.Evaluated.{Gives}
 use Rattle.vtl_interp.specs.Results.{AreNew, AreReady, Remain, behind}
 use Rattle.vtl_interp.specs.Written.{IsBehind, IsWritten}
 use Rattle.vtl_interp.proofs.Environments.{data_looked, known_looked}
-use Rattle.vtl_interp.proofs.NamesRead.{SameData, SameKnown, all_so, are_built, meaning_same, names_read, statements_made_same}
-use Rattle.vtl_interp.proofs.Scripts.{new_among_fewer, none_of_each}
+use Rattle.vtl_interp.proofs.NamesRead.{SameData, all_so, meaning_same, names_read, statements_made_same}
+use Rattle.vtl_interp.proofs.Scripts.{are_built, new_among_fewer, none_of_each}
 
 -- what a statement leaves of the data sets: those that the statements behind it read
 pub record IsStep (p : Settings) (before now : Environment) (tables more : NamedTables) (s : Statement) (rest : List Statement) : Type 0 where
@@ -33,7 +34,7 @@ pub record IsStep (p : Settings) (before now : Environment) (tables more : Named
   pub written : IsWritten s.persistent s.result made tables more
 
 -- the same data sets have the same structures
-known_same : (e f : Environment) (names : List (List ℕ)) → SameData e f names → SameKnown (known_in e) (known_in f) names
+known_same : (e f : Environment) (names : List (List ℕ)) → SameData e f names → AreKnownAlike (known_in e) (known_in f) names
 known_same e f names h =
     all_so (λ name. data_of name e ≡ data_of name f) (λ name. lookup (same_name name) (known_in e) ≡ lookup (same_name name) (known_in f))
     (λ name same. known_looked name e ∙ ap (λ (o : Option DataSet). option_map (λ d. d.structure) o) (sym (data_looked name e) ∙ same ∙ data_looked name f) ∙ sym (known_looked name f)) names h
@@ -110,11 +111,11 @@ meaning_ends whole rest tables none r =
 pub ready_step : (p : Settings) (before now : Environment) (tables more : NamedTables) (s : Statement) (rest : List Statement) → IsStep p before now tables more s rest → AreReady p before (keys_of tables) (s ∷ rest) → AreReady p now (keys_of more) rest
 ready_step p before now tables more s rest step ready =
     let built = and_parts (is_built s.node) (are_built rest) ready.built in
-    let same : SameKnown ((s.result, structure_of s.node) ∷ known_in before) (known_in now) (names_read rest) =
-    subst (λ (u : Structure). SameKnown ((s.result, u) ∷ known_in before) (known_in now) (names_read rest)) step.gives.structure
+    let same : AreKnownAlike ((s.result, structure_of s.node) ∷ known_in before) (known_in now) (names_read rest) =
+    subst (λ (u : Structure). AreKnownAlike ((s.result, u) ∷ known_in before) (known_in now) (names_read rest)) step.gives.structure
     (known_same ((s.result, step.made) ∷ before) now (names_read rest) step.kept) in
     record {
-      made = statements_made_same p rest ((s.result, structure_of s.node) ∷ known_in before) (known_in now) built.1 same ready.made.1;
+      made = statements_made_same p rest ((s.result, structure_of s.node) ∷ known_in before) (known_in now) same ready.made.1;
       built = built.1;
       new_names = still_new s step.made tables more rest step.written ready.new_names.1;
     }

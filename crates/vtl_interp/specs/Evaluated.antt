@@ -5,8 +5,9 @@ use Rattle.vtl_cell.specs.Outcome.{DivZero, Range}
 use Rattle.vtl_scalar.specs.declared.error.ScalarErr.{ScalarErr}
 use Rattle.vtl_scalar.specs.declared.error.ScalarErr.TheVariants as err
 use Rattle.vtl_tree.specs.Environment.{DataSet, Environment}
-use Rattle.vtl_nodes.specs.Trees.{NodeTree, structure_of}
-use Rattle.vtl_meaning.specs.Meaning.{node_value}
+use Rattle.vtl_backend.specs.Trees as nodes
+use Rattle.vtl_backend.specs.Trees.{FormTree, NodeTree, structure_of}
+use Rattle.vtl_backend.specs.Meaning.{node_value}
 
 -- the data set of an expression, with its structure and its points
 pub record Gives (p : Settings) (env : Environment) (n : NodeTree) (d : DataSet) : Type 0 where
@@ -19,3 +20,24 @@ Evaluates view p env n (Ok x) = Gives p env n (view x)
 Evaluates view p env n (Err err.DivZero) = node_value p env n ≡ Err DivZero
 Evaluates view p env n (Err err.Range) = node_value p env n ≡ Err Range
 Evaluates view p env n (Err err.OutOfMemory) = Unit {0}
+
+-- ---- the operands of a form with one, or with two between which it works, give these data sets
+abbrev pub GivesOne : Settings → Environment → FormTree → DataSet → Type 0
+GivesOne p env (nodes.measures m a) d = Gives p env a d
+GivesOne p env (nodes.member a m) d = Gives p env a d
+GivesOne p env (nodes.filter a e) d = Gives p env a d
+GivesOne p env (nodes.calc a items) d = Gives p env a d
+GivesOne p env (nodes.keep a names) d = Gives p env a d
+GivesOne p env (nodes.drop_named a names) d = Gives p env a d
+GivesOne p env (nodes.rename a pairs) d = Gives p env a d
+GivesOne p env (nodes.sub a items) d = Gives p env a d
+GivesOne p env (nodes.pivot a id m) d = Gives p env a d
+GivesOne p env (nodes.unpivot a id m) d = Gives p env a d
+GivesOne p env other d = ⊥
+
+abbrev pub GivesTwo : Settings → Environment → FormTree → (d e : DataSet) → Type 0
+GivesTwo p env (nodes.pair o a b) d e = Gives p env a d × Gives p env b e
+GivesTwo p env (nodes.set_diff a b) d e = Gives p env a d × Gives p env b e
+GivesTwo p env (nodes.sym_diff a b) d e = Gives p env a d × Gives p env b e
+GivesTwo p env (nodes.exists_in a b r) d e = Gives p env a d × Gives p env b e
+GivesTwo p env other d e = ⊥

@@ -1,6 +1,8 @@
 pub use Rattle.vtl_backend.specs.Checked
 pub use Rattle.vtl_backend.specs.Inputs
+pub use Rattle.vtl_backend.specs.Meaning
 pub use Rattle.vtl_backend.specs.Names
+pub use Rattle.vtl_backend.specs.Profiles
 pub use Rattle.vtl_backend.specs.Runs
 pub use Rattle.vtl_backend.specs.Script
 pub use Rattle.vtl_backend.specs.Statements
@@ -8,8 +10,6 @@ pub use Rattle.vtl_backend.specs.Tables
 pub use Rattle.vtl_backend.specs.Transformations
 pub use Rattle.vtl_backend.specs.Uses
 pub use Rattle.vtl_backend.specs.declared.error
-pub use Rattle.vtl_meaning.specs.Meaning
-pub use Rattle.vtl_meaning.specs.Profiles
 pub mod Evaluated
 pub mod Held
 pub mod Loaded

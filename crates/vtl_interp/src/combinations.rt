@@ -1,28 +1,28 @@
-// The operators that combine data sets, joins among them, and those that turn values into measures and back.
-ghost use Rattle.std.specs.Prelude.{◌≡◌, ◌<◌, ◌∷◌, [], IfOk, Ok, length, map};
+// Joins, set operators and `exists_in`, `pivot` and `unpivot`, each on the data sets of its operands.
+ghost use Rattle.std.specs.Prelude.{◌≡◌, ◌<◌, ◌∷◌, [], ℕ, IfOk, List, Ok, length, map};
 ghost use Rattle.std.specs.Option.{IfSome};
 ghost use Rattle.vtl_scalar.specs.Answers.{AnswersBy};
-ghost use Rattle.vtl_sets.specs.DataSets.{data_set};
-ghost use Rattle.vtl_meaning.specs.Joined.{join_of, structures_of};
-ghost use Rattle.vtl_meaning.specs.Made.{AreCombined, IsCombined, IsExistence, IsJoined, IsPivoted, IsUnpivoted};
-ghost use Rattle.vtl_meaning.specs.Sets.{difference_of, existence_of, intersection_of, symmetric_difference_of, union_of};
-ghost use Rattle.vtl_meaning.specs.Turned.{pivot_of, unpivot_of};
+ghost use Rattle.vtl_tree.specs.Shown.{shown};
+ghost use Rattle.vtl_backend.specs.DataSets.{data_set};
+ghost use Rattle.vtl_backend.specs.Joined.{join_of, structures_of};
+ghost use Rattle.vtl_backend.specs.Made.{AreCombined, IsCombined, IsExistence, IsJoined, IsPivoted, IsUnpivoted};
+ghost use Rattle.vtl_backend.specs.Sets.{difference_of, existence_of, intersection_of, symmetric_difference_of, union_of};
+ghost use Rattle.vtl_backend.specs.Turned.{pivot_of, unpivot_of};
 ghost use Rattle.vtl_join.specs.Joining.{sets_of};
 ghost use Rattle.vtl_interp.specs.Values.{value_view};
 
 use crate::value::Value;
 use std::alloc::{AllocError, Global};
+use vtl_backend::{DataSet, JoinOperand};
 use vtl_cell::Txt;
 use vtl_join::Joined;
-use vtl_nodes::JoinOperand;
 use vtl_scalar::ScalarErr;
-use vtl_sets::DataSet;
 use vtl_syntax::{JoinKind, Retain};
 use vtl_tree::{Structure, share_structure};
 
 // The data sets, lent.
 fn lent<'v, 'a>(alloc: Global, values: &'v [Value<'a>]) -> Result<Vec<&'v DataSet>, AllocError>
-    ensures { IfOk result (λ v. map (λ d. d.now) v.items ≡ map value_view values.now) }
+    ensures { IfOk result (λ v. shown v.items ≡ map value_view values.now) }
 {
     let mut sets = Vec::with_capacity(alloc, values.len())?;
     for value in values {
@@ -64,7 +64,7 @@ pub fn join<'a>(
 {
     let made = share_structure(alloc, made)?;
     let joined = joined(alloc, kind, values, operands)?;
-    Ok(Value::Made(vtl_join::close(alloc, joined, kind, made)?))
+    Ok(Value::Made(vtl_join::close(alloc, kind, joined, made)?))
 }
 
 /// `union`
@@ -154,16 +154,10 @@ pub fn pivot<'a>(
 }
 
 /// `unpivot`
-pub fn unpivot<'a>(
-    alloc: Global,
-    a: Value<'a>,
-    id: &Txt,
-    m: &Txt,
-    made: &Structure,
-) -> Result<Value<'a>, ScalarErr>
-    requires { IsUnpivoted id.now m.now (value_view a).structure made.now }
+pub fn unpivot<'a>(alloc: Global, a: Value<'a>, made: &Structure) -> Result<Value<'a>, ScalarErr>
+    requires { (id : List ℕ) × (measure : List ℕ) × IsUnpivoted id measure (value_view a).structure made.now }
     ensures { AnswersBy value_view result (Ok (data_set made.now (unpivot_of (value_view a.entry)))) }
 {
     let made = share_structure(alloc, made)?;
-    Ok(Value::Made(vtl_combine::unpivot(alloc, a.data(), id, m, made)?))
+    Ok(Value::Made(vtl_combine::unpivot(alloc, a.data(), made)?))
 }
