@@ -12,7 +12,7 @@ mod tests;
 ghost use Rattle.std.specs.Prelude.{◌≡◌, ◌≢◌, ◌⊎◌, drop, IfErr, IfOk};
 ghost use Rattle.std.specs.Process.{exit_status};
 ghost use Rattle.std.specs.Vec.Iter.{into_iter_items};
-ghost use Rattle.vtl_status.specs.StatusLine.{code_of};
+ghost use Rattle.vtl_top.specs.StatusLine.{code_of};
 
 use std::alloc::{AllocError, Global};
 use std::env::{self, Args, Env};

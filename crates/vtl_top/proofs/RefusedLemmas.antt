@@ -13,7 +13,7 @@ use Rattle.vtl_tree.specs.Structures.{Named}
 use Rattle.vtl_tree.specs.declared.structure.Structure.{Structure}
 use Rattle.vtl_csv.specs.InputFile.{Fault, dataset_rows}
 use Rattle.vtl_csv.specs.StructuresFile.{Fault as StructuresFault, structures_of_file}
-use Rattle.vtl_nodes.specs.Trees.{NodeTree}
+use Rattle.vtl_interp.specs.Trees.{NodeTree}
 use Rattle.vtl_interp.specs.Meaning.{Outputs, is_built}
 use Rattle.vtl_interp.specs.Checked.{env_over}
 use Rattle.vtl_interp.specs.Script.{has_definitions, script_typed}

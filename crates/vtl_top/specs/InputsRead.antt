@@ -6,7 +6,7 @@ use Rattle.vtl_rows.specs.Named.{NamedTables}
 use Rattle.vtl_rows.specs.Tables.{Listed}
 use Rattle.vtl_tree.specs.DataSet.{AreOfProfile}
 use Rattle.vtl_tree.specs.declared.structure.Structure.{Structure}
-use Rattle.vtl_sets.specs.TableOf.{IsTableOf}
+use Rattle.vtl_interp.specs.TableOf.{IsTableOf}
 
 abbrev pub rows_in : Listed → List Row
 rows_in t = t.rows

@@ -1,3 +1,4 @@
+pub use Rattle.vtl_status.specs.StatusLine
 pub mod Answered
 pub mod Complete
 pub mod Expected

@@ -13,7 +13,7 @@ use Rattle.vtl_rows.specs.Tables.{Listed}
 use Rattle.vtl_interp.specs.error.RunErr.{RunErr}
 use Rattle.vtl_interp.specs.error.RunErr.TheVariants as run
 use Rattle.vtl_tree.specs.declared.structure.Structure.{Structure}
-use Rattle.vtl_sets.specs.TableOf.{IsTableOf}
+use Rattle.vtl_interp.specs.TableOf.{IsTableOf}
 use Rattle.vtl_csv.specs.InputFile.{Fault}
 use Rattle.vtl_csv.specs.declared.input.InputErr.{InputErr}
 use Rattle.vtl_csv.specs.declared.input.InputErr.TheVariants as input

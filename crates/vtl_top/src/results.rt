@@ -1,7 +1,7 @@
 // The outputs of the results.
 ghost use Rattle.std.specs.Prelude.{◌≡◌, ◌<◌, true, length, map, slice_index_or, IfOk};
 ghost use Rattle.std.specs.List.{AllByRecursion};
-ghost use Rattle.vtl_sets.specs.TableOf.{IsTableOf};
+ghost use Rattle.vtl_interp.specs.TableOf.{IsTableOf};
 ghost use Rattle.vtl_interp.specs.Checked.{known_of};
 ghost use Rattle.vtl_interp.specs.Inputs.{AreInRange, AreInputs};
 ghost use Rattle.vtl_interp.specs.Runs.{script_meaning};
