@@ -13,12 +13,6 @@ pub use Rattle.vtl_meaning.specs.Points
 pub use Rattle.vtl_meaning.specs.Profiles
 pub use Rattle.vtl_meaning.specs.Sets
 pub use Rattle.vtl_meaning.specs.Turned
-pub use Rattle.vtl_nodes.specs.Nodes
-pub use Rattle.vtl_nodes.specs.Trees
-pub use Rattle.vtl_nodes.specs.View
-pub use Rattle.vtl_nodes.specs.declared.clauses
-pub use Rattle.vtl_nodes.specs.declared.nodes
-pub use Rattle.vtl_nodes.specs.declared.specifications
 pub use Rattle.vtl_sets.specs.DataSets
 pub use Rattle.vtl_sets.specs.TableOf
 pub mod Agree
