@@ -8,17 +8,11 @@ pub use Rattle.vtl_check.specs.Uses
 pub use Rattle.vtl_meaning.specs.Joined
 pub use Rattle.vtl_meaning.specs.Made
 pub use Rattle.vtl_meaning.specs.Meaning
-pub use Rattle.vtl_meaning.specs.Nodes
 pub use Rattle.vtl_meaning.specs.Operators
 pub use Rattle.vtl_meaning.specs.Points
 pub use Rattle.vtl_meaning.specs.Profiles
 pub use Rattle.vtl_meaning.specs.Sets
-pub use Rattle.vtl_meaning.specs.Trees
 pub use Rattle.vtl_meaning.specs.Turned
-pub use Rattle.vtl_meaning.specs.View
-pub use Rattle.vtl_meaning.specs.clauses
-pub use Rattle.vtl_meaning.specs.nodes
-pub use Rattle.vtl_meaning.specs.specifications
 pub use Rattle.vtl_sets.specs.DataSets
 pub use Rattle.vtl_sets.specs.TableOf
 pub mod Agree

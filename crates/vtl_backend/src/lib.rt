@@ -17,5 +17,4 @@ pub use built::is_built;
 pub use error::RunErr;
 pub use laws::answers_agree;
 pub use vtl_check::{CheckErr, Checked, check, defines_rulesets, read_names};
-pub use vtl_meaning::{CalcItem, JoinOperand, MeasureOp, Node, NodeForm, SubItem};
 pub use vtl_sets::DataSet;

@@ -9,8 +9,8 @@ use Rattle.vtl_tree.specs.DataSet.{IsDataSet, is_point}
 use Rattle.vtl_tree.specs.Structure.{columns_of}
 use Rattle.vtl_tree.specs.declared.structure.Structure.{Structure}
 use Rattle.vtl_expr.specs.clauses.SubItem.{SubItem}
-use Rattle.vtl_sets.specs.TableOf.{table_columns}
-use Rattle.vtl_sets.proofs.TableLemmas.{point_fits}
+use Rattle.vtl_expr.specs.TableOf.{table_columns}
+use Rattle.vtl_expr.proofs.TableLemmas.{point_fits}
 use Rattle.vtl_expr.specs.Columns.{places_in}
 use Rattle.vtl_expr.specs.Made.{IsSub}
 use Rattle.vtl_expr.specs.Operators.{has_values}

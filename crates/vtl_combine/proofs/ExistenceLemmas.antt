@@ -12,8 +12,8 @@ use Rattle.vtl_tree.specs.Environment.{DataSet}
 use Rattle.vtl_tree.specs.Structure.{columns_of, key_width}
 use Rattle.vtl_tree.specs.declared.structure.Structure.{Structure}
 use Rattle.vtl_tuples.proofs.Lists.{flat_map_same}
-use Rattle.vtl_sets.specs.TableOf.{table_columns}
-use Rattle.vtl_sets.proofs.TableLemmas.{point_fits}
+use Rattle.vtl_expr.specs.TableOf.{table_columns}
+use Rattle.vtl_expr.proofs.TableLemmas.{point_fits}
 use Rattle.vtl_expr.specs.Agreement.{agree_in, common_identifiers, has_agreeing, key_of}
 use Rattle.vtl_expr.specs.Made.{IsExistence}
 use Rattle.vtl_expr.specs.Points.{with_points}

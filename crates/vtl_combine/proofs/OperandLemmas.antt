@@ -18,8 +18,8 @@ use Rattle.vtl_tree.specs.Structure.{IsStructure, columns_of, key_width}
 use Rattle.vtl_tree.specs.declared.structure.Component.{Component}
 use Rattle.vtl_tree.specs.declared.structure.Structure.{Structure}
 use Rattle.vtl_tuples.proofs.Lists.{filter-map, filter_each}
-use Rattle.vtl_sets.specs.TableOf.{table_columns}
-use Rattle.vtl_sets.proofs.ColumnLemmas.{few_keys}
+use Rattle.vtl_expr.specs.TableOf.{table_columns}
+use Rattle.vtl_expr.proofs.ColumnLemmas.{few_keys}
 use Rattle.vtl_expr.specs.Columns.{identifiers_of, others_of, place_of, places_in}
 use Rattle.vtl_expr.specs.Joined.{structures_of}
 use Rattle.vtl_expr.specs.Made.{AreCombined, IsAlternative, IsCombined}
@@ -28,7 +28,7 @@ use Rattle.vtl_expr.specs.Sets.{all_left_of, has_point, intersected, is_retained
 use Rattle.vtl_expr.proofs.Kept.{shown_split}
 use Rattle.vtl_expr.proofs.Places.{all_append, all_map, each}
 use Rattle.vtl_expr.proofs.SetsKept.{IsKeyed, alternative_tells, combined_is, has_any}
-use Rattle.vtl_expr.proofs.ColumnLemmas.{chosen_columns}
+use Rattle.vtl_expr.proofs.ColumnPlaces.{chosen_columns}
 use Rattle.vtl_combine.specs.Operands.{HasColumns, left_at, retained, sought_by_key}
 use Rattle.vtl_combine.proofs.ChosenLemmas.{list_any-map}
 use Rattle.vtl_combine.proofs.RowLemmas.{chosen_rows}

@@ -18,8 +18,8 @@ use Rattle.vtl_tree.specs.Structure.{columns_of}
 use Rattle.vtl_tree.specs.declared.structure.Structure.{Structure}
 use Rattle.vtl_tuples.specs.Keys.{each_once}
 use Rattle.vtl_tuples.proofs.Lists.{map-map, map_each}
-use Rattle.vtl_sets.specs.TableOf.{table_columns}
-use Rattle.vtl_sets.proofs.TableLemmas.{point_fits}
+use Rattle.vtl_expr.specs.TableOf.{table_columns}
+use Rattle.vtl_expr.proofs.TableLemmas.{point_fits}
 use Rattle.vtl_expr.specs.Agreement.{values_in}
 use Rattle.vtl_expr.specs.Columns.{place_of}
 use Rattle.vtl_expr.specs.LookUps.{value_named}

@@ -14,8 +14,8 @@ use Rattle.vtl_tree.specs.Environment.{DataSet}
 use Rattle.vtl_tree.specs.Structure.{columns_of, key_width}
 use Rattle.vtl_tree.specs.declared.structure.Structure.{Structure}
 use Rattle.vtl_tuples.proofs.Lists.{flat_map_same}
-use Rattle.vtl_sets.specs.TableOf.{table_columns}
-use Rattle.vtl_sets.proofs.TableLemmas.{point_fits}
+use Rattle.vtl_expr.specs.TableOf.{table_columns}
+use Rattle.vtl_expr.proofs.TableLemmas.{point_fits}
 use Rattle.vtl_expr.specs.Columns.{measures_of}
 use Rattle.vtl_expr.specs.LookUps.{value_named}
 use Rattle.vtl_expr.specs.Made.{IsUnpivoted}

@@ -3,8 +3,8 @@ ghost use Rattle.std.specs.Prelude.{◌≡◌, ◌<◌, true, ◌++◌, ◌∷�
 ghost use Rattle.vtl_rows.specs.Tables.{cells_at, fits};
 ghost use Rattle.vtl_tree.specs.Shown.{shown};
 ghost use Rattle.vtl_tree.specs.Structure.{names_of};
-ghost use Rattle.vtl_sets.specs.DataSets.{data_set};
-ghost use Rattle.vtl_sets.specs.TableOf.{IsTableOf};
+ghost use Rattle.vtl_expr.specs.DataSets.{data_set};
+ghost use Rattle.vtl_expr.specs.TableOf.{IsTableOf};
 ghost use Rattle.check_shapes.specs.Names.{is_among};
 ghost use Rattle.vtl_expr.specs.Agreement.{common_identifiers};
 ghost use Rattle.vtl_expr.specs.Made.{IsExistence};
@@ -17,10 +17,9 @@ use std::alloc::{AllocError, Global};
 use std::marker::Brand;
 use std::sync::ledger::{Blank, Ledger};
 use vtl_cell::{Cell, Txt};
-use vtl_expr::{places_in, push_cells};
+use vtl_expr::{DataSet, new_table, places_in, push_cells};
 use vtl_index::{Seeker, Steps};
 use vtl_rows::Table;
-use vtl_sets::{DataSet, new_table};
 use vtl_syntax::Retain;
 use vtl_tree::{Component, Structure};
 

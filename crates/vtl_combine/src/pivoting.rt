@@ -2,8 +2,8 @@
 ghost use Rattle.std.specs.Prelude.{◌≡◌, ◌<◌, true, ◌++◌, ◌∷◌, [], map, IfOk, OnOk};
 ghost use Rattle.vtl_rows.specs.Tables.{cells_at, fits};
 ghost use Rattle.vtl_tree.specs.Shown.{shown};
-ghost use Rattle.vtl_sets.specs.DataSets.{data_set};
-ghost use Rattle.vtl_sets.specs.TableOf.{IsTableOf};
+ghost use Rattle.vtl_expr.specs.DataSets.{data_set};
+ghost use Rattle.vtl_expr.specs.TableOf.{IsTableOf};
 ghost use Rattle.vtl_expr.specs.Made.{IsPivoted};
 ghost use Rattle.vtl_expr.specs.Turned.{codes_of, other_identifiers, pivot_of};
 ghost use Rattle.vtl_combine.specs.Pivots.{AreCoded, coded, pivoted};
@@ -16,10 +16,9 @@ use std::marker::Brand;
 use std::slice;
 use std::sync::ledger::{Blank, Ledger};
 use vtl_cell::{Cell, Txt};
-use vtl_expr::{place_of, places_in, push_cells};
+use vtl_expr::{DataSet, new_table, place_of, places_in, push_cells};
 use vtl_index::{Groups, Seeker, Steps};
 use vtl_rows::Table;
-use vtl_sets::{DataSet, new_table};
 use vtl_tree::{Component, Structure};
 
 // What a pivot takes its points from: a table, the places of the other identifiers, the rows by these and by the

@@ -9,9 +9,9 @@ use crate::rows::key_places;
 use std::alloc::{AllocError, Global};
 use std::marker::Brand;
 use std::sync::ledger::{Blank, Ledger};
+use vtl_expr::DataSet;
 use vtl_index::{Seeker, Steps};
 use vtl_rows::Table;
-use vtl_sets::DataSet;
 use vtl_syntax::Retain;
 use vtl_tree::Structure;
 

@@ -4,8 +4,10 @@ pub use Rattle.vtl_meaning.proofs.LookUps
 pub use Rattle.vtl_meaning.proofs.Places
 pub use Rattle.vtl_meaning.proofs.SetsKept
 pub use Rattle.vtl_meaning.proofs.TurnedKept
+pub use Rattle.vtl_sets.proofs.ColumnLemmas
+pub use Rattle.vtl_sets.proofs.TableLemmas
 pub mod ChoiceLemmas
-pub mod ColumnLemmas
+pub mod ColumnPlaces
 pub mod FindingLemmas
 pub mod MeasureLemmas
 pub mod PairLemmas

@@ -11,6 +11,8 @@ pub use Rattle.vtl_meaning.specs.Sets
 pub use Rattle.vtl_meaning.specs.Turned
 pub use Rattle.vtl_meaning.specs.View
 pub use Rattle.vtl_meaning.specs.clauses
+pub use Rattle.vtl_sets.specs.DataSets
+pub use Rattle.vtl_sets.specs.TableOf
 pub mod Choices
 pub mod Given
 pub mod Partners

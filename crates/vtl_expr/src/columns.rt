@@ -22,7 +22,7 @@ pub fn place_of(columns: &[&Component], name: &Txt) -> usize
 }
 
 // The kind of the column of this name, or that of null where there is none.
-#[tactic(auto, using(crate::proofs::ColumnLemmas::kind_there, crate::proofs::ColumnLemmas::kind_gone))]
+#[tactic(auto, using(crate::proofs::ColumnPlaces::kind_there, crate::proofs::ColumnPlaces::kind_gone))]
 pub(crate) fn kind_named(columns: &[&Component], name: &Txt) -> Kind
     ensures { result ≡ kind_named name.now (shown columns.now) }
 {

@@ -37,3 +37,4 @@ pub use points::each_point;
 pub use prepared::{Prepared, prepare, prepare_all};
 pub use seen::Seen;
 pub use vtl_meaning::{CalcItem, CalcValue, SubItem};
+pub use vtl_sets::{DataSet, new_table, table_columns};

@@ -11,11 +11,11 @@ use Rattle.vtl_tree.specs.Environment.{DataSet, Environment, data_of}
 use Rattle.vtl_tree.specs.Structure.{same_name}
 use Rattle.vtl_tree.specs.Structures.{Named}
 use Rattle.vtl_tree.specs.declared.structure.Structure.{Structure}
-use Rattle.vtl_backend.specs.Trees as nodes
-use Rattle.vtl_backend.specs.Trees.{FormTree, NodeTree, NodeTrees, OperandTrees, structure_of}
+use Rattle.vtl_nodes.specs.Trees as nodes
+use Rattle.vtl_nodes.specs.Trees.{FormTree, NodeTree, NodeTrees, OperandTrees, structure_of}
 use Rattle.vtl_backend.proofs.NameLemmas.{names_append}
 use Rattle.vtl_backend.specs.Names.{name_at_form, names_at, names_in}
-use Rattle.vtl_backend.specs.Nodes.{all_nodes, form_nodes, nodes_in, operand_nodes}
+use Rattle.vtl_nodes.specs.Nodes.{all_nodes, form_nodes, nodes_in, operand_nodes}
 use Rattle.vtl_backend.specs.Joined.{join_of}
 use Rattle.vtl_backend.specs.Made.{AreMadeStatements}
 use Rattle.vtl_backend.specs.Meaning.{Statement, data_set_of, form_value, kept_output, meaning, node_value, nodes_value, operands_value, stated, with_first, with_operand}
@@ -65,6 +65,10 @@ known_more k l new s names h =
     all_so (λ name. lookup (same_name name) k ≡ lookup (same_name name) l) (λ name. lookup (same_name name) ((new, s) ∷ k) ≡ lookup (same_name name) ((new, s) ∷ l)) (λ name same. ap (cond (same_name name new) (Some s)) same) names h
 
 -- ---- the value of an expression
+-- of an operator between two
+pair_same : (a b : NodeTree) (op : DataSet → DataSet → Outcome (List Row)) (l m : Outcome (List Row)) (q r : Outcome (List Row)) → l ≡ m → q ≡ r → with_operand a l (λ d. with_operand b q (op d)) ≡ with_operand a m (λ d. with_operand b r (op d))
+pair_same a b op l m q r same too = ap (λ x. with_operand a x (λ d. with_operand b q (op d))) same ∙ ap (λ x. with_operand a m (λ d. with_operand b x (op d))) too
+
 mutual
   pub node_same : (p : Settings) (e f : Environment) (n : NodeTree) → SameData e f (names_in n) → node_value p e n ≡ node_value p f n
   node_same p e f (nodes.node s form) h = form_same p e f s form h
@@ -72,7 +76,9 @@ mutual
   form_same : (p : Settings) (e f : Environment) (s : Structure) (form : FormTree) → SameData e f (name_at_form form ++ names_at (form_nodes form)) → form_value p e s form ≡ form_value p f s form
   form_same p e f s (nodes.named name) h = ap (λ (o : Option DataSet). Ok (option_map_or (λ d. d.points) o [])) h.0
   form_same p e f s (nodes.measures m a) h = ap (λ r. with_operand a r (λ d. measured_of p m d s)) (node_same p e f a h)
-  form_same p e f s (nodes.pair o a b) h = pair_same p e f a b (λ d q. pair_of p o d q s) h
+  form_same p e f s (nodes.pair o a b) h =
+      let parts = data_parts e f (nodes_in a) (nodes_in b) h in
+      pair_same a b (λ d q. pair_of p o d q s) (node_value p e a) (node_value p f a) (node_value p e b) (node_value p f b) (node_same p e f a parts.0) (node_same p e f b parts.1)
   form_same p e f s (nodes.choose t a b) h =
       let parts = data_parts e f (nodes_in t) (nodes_in a ++ nodes_in b) h in
       let more = data_parts e f (nodes_in a) (nodes_in b) parts.1 in
@@ -91,18 +97,16 @@ mutual
   form_same p e f s (nodes.join os spec) h = ap (λ r. after r (λ ds. Ok (join_of spec.kind ds))) (operands_same p e f os h)
   form_same p e f s (nodes.union ns) h = ap (λ r. after r (λ ds. Ok (union_of ds s))) (nodes_same p e f ns h)
   form_same p e f s (nodes.intersect ns) h = ap (λ r. after r (λ ds. Ok (intersection_of ds s))) (nodes_same p e f ns h)
-  form_same p e f s (nodes.set_diff a b) h = pair_same p e f a b (λ d q. Ok (difference_of d q s)) h
-  form_same p e f s (nodes.sym_diff a b) h = pair_same p e f a b (λ d q. Ok (symmetric_difference_of d q s)) h
-  form_same p e f s (nodes.exists_in a b r) h = pair_same p e f a b (λ d q. Ok (existence_of d q r)) h
-  form_same p e f s other h = refl
-
-  -- an operator between two
-  pair_same : (p : Settings) (e f : Environment) (a b : NodeTree) (op : DataSet → DataSet → Outcome (List Row)) → SameData e f (names_at (nodes_in a ++ nodes_in b))
-      → with_operand a (node_value p e a) (λ d. with_operand b (node_value p e b) (op d)) ≡ with_operand a (node_value p f a) (λ d. with_operand b (node_value p f b) (op d))
-  pair_same p e f a b op h =
+  form_same p e f s (nodes.set_diff a b) h =
       let parts = data_parts e f (nodes_in a) (nodes_in b) h in
-      ap (λ r. with_operand a r (λ d. with_operand b (node_value p e b) (op d))) (node_same p e f a parts.0)
-      ∙ ap (λ r. with_operand a (node_value p f a) (λ d. with_operand b r (op d))) (node_same p e f b parts.1)
+      pair_same a b (λ d q. Ok (difference_of d q s)) (node_value p e a) (node_value p f a) (node_value p e b) (node_value p f b) (node_same p e f a parts.0) (node_same p e f b parts.1)
+  form_same p e f s (nodes.sym_diff a b) h =
+      let parts = data_parts e f (nodes_in a) (nodes_in b) h in
+      pair_same a b (λ d q. Ok (symmetric_difference_of d q s)) (node_value p e a) (node_value p f a) (node_value p e b) (node_value p f b) (node_same p e f a parts.0) (node_same p e f b parts.1)
+  form_same p e f s (nodes.exists_in a b r) h =
+      let parts = data_parts e f (nodes_in a) (nodes_in b) h in
+      pair_same a b (λ d q. Ok (existence_of d q r)) (node_value p e a) (node_value p f a) (node_value p e b) (node_value p f b) (node_same p e f a parts.0) (node_same p e f b parts.1)
+  form_same p e f s other h = refl
 
   nodes_same : (p : Settings) (e f : Environment) (ns : NodeTrees) → SameData e f (names_at (all_nodes ns)) → nodes_value p e ns ≡ nodes_value p f ns
   nodes_same p e f nodes.no_nodes h = refl

@@ -9,8 +9,8 @@ use Rattle.vtl_syntax.specs.declared.expressions.Expr.{Expr}
 use Rattle.vtl_syntax.specs.declared.statements.Statement.{Statement}
 use Rattle.vtl_syntax.specs.declared.word_groups.AssignKind.{AssignKind}
 use Rattle.vtl_tree.specs.Environment.{Environment, data_of}
-use Rattle.vtl_backend.specs.View.{node_tree}
-use Rattle.vtl_backend.specs.nodes.Node.{Node}
+use Rattle.vtl_nodes.specs.View.{node_tree}
+use Rattle.vtl_nodes.specs.declared.nodes.Node.{Node}
 use Rattle.vtl_backend.specs.Meaning as meant
 use Rattle.vtl_backend.specs.Meaning.{Outputs, meaning}
 use Rattle.vtl_backend.specs.Statements.{with_nodes}

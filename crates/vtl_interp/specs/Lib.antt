@@ -9,7 +9,7 @@ pub use Rattle.vtl_backend.specs.Statements
 pub use Rattle.vtl_backend.specs.TableOf
 pub use Rattle.vtl_backend.specs.Tables
 pub use Rattle.vtl_backend.specs.Transformations
-pub use Rattle.vtl_backend.specs.Trees
+pub use Rattle.vtl_nodes.specs.Trees
 pub use Rattle.vtl_backend.specs.Uses
 pub use Rattle.vtl_backend.specs.declared.error
 pub mod Evaluated

@@ -1,7 +1,7 @@
 // The operator of a node, on the data sets that its operands give.
 ghost use Rattle.std.specs.Prelude.{◌≡◌};
 ghost use Rattle.vtl_tree.specs.Environment.{Environment};
-ghost use Rattle.vtl_backend.specs.View.{form_tree, node_tree};
+ghost use Rattle.vtl_nodes.specs.View.{form_tree, node_tree};
 ghost use Rattle.vtl_backend.specs.Made.{IsMade};
 ghost use Rattle.vtl_backend.specs.Meaning.{known_in};
 ghost use Rattle.vtl_interp.specs.Evaluated.{Evaluates, GivesOne, GivesTwo};
@@ -11,8 +11,8 @@ use crate::combinations::{exists_in, pivot, set_diff, sym_diff, unpivot};
 use crate::operators::{calc, columns, filter, measures, pair, rename, sub};
 use crate::value::Value;
 use std::alloc::Global;
-use vtl_backend::{Node, NodeForm};
 use vtl_cell::Profile;
+use vtl_nodes::{Node, NodeForm};
 use vtl_scalar::ScalarErr;
 
 /// An operator or a clause on one data set, which the node's operand gives over some data sets: then it is what the node

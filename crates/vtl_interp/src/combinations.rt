@@ -13,9 +13,10 @@ ghost use Rattle.vtl_interp.specs.Values.{value_view};
 
 use crate::value::Value;
 use std::alloc::{AllocError, Global};
-use vtl_backend::{DataSet, JoinOperand};
+use vtl_backend::DataSet;
 use vtl_cell::Txt;
 use vtl_join::Joined;
+use vtl_nodes::JoinOperand;
 use vtl_scalar::ScalarErr;
 use vtl_syntax::{JoinKind, Retain};
 use vtl_tree::{Structure, share_structure};

@@ -1,7 +1,7 @@
 // The evaluation of expressions on data sets.
 ghost use Rattle.std.specs.Prelude.{◌≡◌, map, true};
-ghost use Rattle.vtl_backend.specs.Trees.{nodes_of, operands_of};
-ghost use Rattle.vtl_backend.specs.View.{node_tree, operand_tree};
+ghost use Rattle.vtl_nodes.specs.Trees.{nodes_of, operands_of};
+ghost use Rattle.vtl_nodes.specs.View.{node_tree, operand_tree};
 ghost use Rattle.vtl_scalar.specs.Answers.{AnswersBy};
 ghost use Rattle.vtl_backend.specs.Made.{AreMade, AreMadeOperands, IsMade};
 ghost use Rattle.vtl_backend.specs.Meaning.{are_nodes_built, are_operands_built, is_built, known_in, nodes_value, operands_value};
@@ -14,8 +14,8 @@ use crate::held::Known;
 use crate::operators::choose;
 use crate::value::Value;
 use std::alloc::Global;
-use vtl_backend::{JoinOperand, Node, NodeForm};
 use vtl_cell::Profile;
+use vtl_nodes::{JoinOperand, Node, NodeForm};
 use vtl_scalar::ScalarErr;
 
 /// The data set of an expression, or the fault of the first of its parts that has one: operands before operators, from

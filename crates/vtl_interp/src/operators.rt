@@ -3,7 +3,7 @@ ghost use Rattle.std.specs.Prelude.{Ok, map};
 ghost use Rattle.vtl_scalar.specs.Answers.{AnswersBy};
 ghost use Rattle.vtl_tree.specs.Clauses.{filter_of};
 ghost use Rattle.vtl_tree.specs.View.{comp_exp_of};
-ghost use Rattle.vtl_backend.specs.View.{item_tree, measure_tree};
+ghost use Rattle.vtl_nodes.specs.View.{item_tree, measure_tree};
 ghost use Rattle.vtl_backend.specs.DataSets.{data_set, with_structure};
 ghost use Rattle.vtl_backend.specs.Made.{IsCalculated, IsChoice, IsFiltered, IsLeft, IsMeasured, IsPaired, IsRenamed, IsSub};
 ghost use Rattle.vtl_backend.specs.Operators.{calculated_of, choice_of, left_of, measured_of, pair_of, sub_of};
@@ -11,8 +11,8 @@ ghost use Rattle.vtl_interp.specs.Values.{value_view};
 
 use crate::value::Value;
 use std::alloc::Global;
-use vtl_backend::{CalcItem, MeasureOp, SubItem};
 use vtl_cell::{Profile, ScalarOp};
+use vtl_nodes::{CalcItem, MeasureOp, SubItem};
 use vtl_scalar::ScalarErr;
 use vtl_tree::{CompExpr, Structure, share_structure};
 

@@ -1,7 +1,7 @@
 // The statements, one after the other.
 ghost use Rattle.std.specs.Prelude.{◌≡◌, ◌∷◌, [], None, true, length, map, OnOk};
 ghost use Rattle.vtl_syntax.specs.View.{statement_tree};
-ghost use Rattle.vtl_backend.specs.View.{node_tree};
+ghost use Rattle.vtl_nodes.specs.View.{node_tree};
 ghost use Rattle.vtl_backend.specs.Made.{IsMade};
 ghost use Rattle.vtl_backend.specs.Meaning.{is_built, known_in, meaning};
 ghost use Rattle.vtl_backend.specs.Transformations.{transformations};
@@ -17,8 +17,9 @@ use crate::evaluation::evaluate;
 use crate::held::{Held, Known};
 use crate::last_reads::{LastReads, last_reads, let_go};
 use std::alloc::{AllocError, Global};
-use vtl_backend::{DataSet, Node, RunErr};
+use vtl_backend::{DataSet, RunErr};
 use vtl_cell::{Profile, Txt};
+use vtl_nodes::Node;
 use vtl_rows::Outputs;
 use vtl_scalar::ScalarErr;
 use vtl_syntax::{AssignKind, Statement};

@@ -7,7 +7,7 @@ use Rattle.vtl_tree.specs.Structure.{columns_of}
 use Rattle.vtl_tree.specs.View.{comp_exp_of}
 use Rattle.vtl_tree.specs.declared.structure.Structure.{Structure}
 use Rattle.vtl_expr.specs.View.{item_tree}
-use Rattle.vtl_sets.proofs.TableLemmas.{answered_is_table}
+use Rattle.vtl_expr.proofs.TableLemmas.{answered_is_table}
 use Rattle.vtl_expr.specs.Made.{AreFor}
 use Rattle.vtl_expr.specs.Operators.{calculated_exp, calculated_of}
 use Rattle.vtl_expr.specs.Points.{each_point}

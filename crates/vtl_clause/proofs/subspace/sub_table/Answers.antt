@@ -8,7 +8,7 @@ use Rattle.vtl_tree.specs.Shown.{shown}
 use Rattle.vtl_tree.specs.Structure.{columns_of}
 use Rattle.vtl_tree.specs.declared.structure.Component.{Component}
 use Rattle.vtl_tree.specs.declared.structure.Structure.{Structure}
-use Rattle.vtl_sets.specs.TableOf.{table_columns}
+use Rattle.vtl_expr.specs.TableOf.{table_columns}
 use Rattle.vtl_expr.specs.Columns.{places_in}
 use Rattle.vtl_expr.specs.Operators.{has_values}
 use Rattle.vtl_expr.proofs.Kept.{sub_kept}

@@ -6,7 +6,7 @@ use Rattle.vtl_rows.specs.Tables.{Listed}
 use Rattle.vtl_tree.specs.DataSet.{IsDataSet}
 use Rattle.vtl_tree.specs.Environment.{DataSet}
 use Rattle.vtl_tree.specs.Shown.{shown}
-use Rattle.vtl_sets.proofs.TableLemmas.{made_is_table}
+use Rattle.vtl_expr.proofs.TableLemmas.{made_is_table}
 use Rattle.vtl_expr.specs.Joined.{structures_of}
 use Rattle.vtl_expr.specs.Sets.{intersection_of}
 use Rattle.vtl_expr.proofs.SetsKept.{combined_is, intersection_kept}

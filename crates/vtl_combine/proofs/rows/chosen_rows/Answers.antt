@@ -5,7 +5,7 @@ use Rattle.vtl_rows.specs.Gathered.{picked, picked_kind, pieces}
 use Rattle.vtl_rows.specs.Places.{row_at}
 use Rattle.vtl_rows.specs.Tables.{Listed, cells_at, column_kinds}
 use Rattle.vtl_rows.specs.declared.gather.Pick.{Pick}
-use Rattle.vtl_sets.proofs.ColumnLemmas.{some_table_columns}
+use Rattle.vtl_expr.proofs.ColumnLemmas.{some_table_columns}
 use Rattle.vtl_tree.specs.Structure.{columns_of}
 use Rattle.vtl_expr.specs.Columns.{places_in}
 use Rattle.vtl_combine.specs.Operands.{left_at, pick_at}

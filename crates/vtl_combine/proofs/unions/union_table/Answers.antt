@@ -9,8 +9,8 @@ use Rattle.vtl_tree.specs.DataSet.{IsDataSet}
 use Rattle.vtl_tree.specs.Environment.{DataSet}
 use Rattle.vtl_tree.specs.Shown.{shown}
 use Rattle.vtl_tree.specs.Structure.{key_width}
-use Rattle.vtl_sets.specs.TableOf.{table_columns}
-use Rattle.vtl_sets.proofs.TableLemmas.{made_is_table}
+use Rattle.vtl_expr.specs.TableOf.{table_columns}
+use Rattle.vtl_expr.proofs.TableLemmas.{made_is_table}
 use Rattle.vtl_tuples.specs.Keys.{each_once}
 use Rattle.vtl_expr.specs.Sets.{union_of}
 use Rattle.vtl_expr.proofs.SetsKept.{union_kept}

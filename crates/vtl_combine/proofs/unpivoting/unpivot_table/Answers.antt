@@ -7,7 +7,7 @@ use Rattle.vtl_rows.specs.declared.column.Column.{Column}
 use Rattle.vtl_tree.specs.DataSet.{IsDataSet}
 use Rattle.vtl_tree.specs.Structure.{columns_of, key_width}
 use Rattle.vtl_tree.specs.declared.structure.Structure.{Structure}
-use Rattle.vtl_sets.specs.TableOf.{table_columns}
+use Rattle.vtl_expr.specs.TableOf.{table_columns}
 use Rattle.vtl_expr.specs.Columns.{measures_of}
 use Rattle.vtl_expr.proofs.TurnedKept.{unpivot_kept}
 use Rattle.vtl_combine.specs.Unpivots.{Named, measure_by, measure_in, unpivoted}

@@ -15,7 +15,7 @@ use Rattle.vtl_meaning.specs.Columns.{places_in}
 use Rattle.vtl_meaning.specs.Operators.{left_of}
 use Rattle.vtl_meaning.specs.Points.{with_points}
 use Rattle.vtl_meaning.proofs.Kept.{left_kept}
-use Rattle.vtl_expr.proofs.ColumnLemmas.{all_within, chosen_columns, same_columns, same_rows, some_places}
+use Rattle.vtl_expr.proofs.ColumnPlaces.{all_within, chosen_columns, same_columns, same_rows, some_places}
 use Rattle.vtl_expr.proofs.kept_columns.kept_table.Goals as goal
 
 pub project-requires-clause-some : goal.project-requires-clause-some

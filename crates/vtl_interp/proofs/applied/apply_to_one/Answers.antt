@@ -1,8 +1,8 @@
 use Rattle.std.proofs.Common.{Ok, map, refl, subst}
 use Rattle.vtl_scalar.specs.Answers.{AnswersBy}
-use Rattle.vtl_backend.specs.Trees as nodes
-use Rattle.vtl_backend.specs.View.{item_tree, measure_tree, node_tree}
-use Rattle.vtl_backend.specs.nodes.NodeForm.TheVariants as form
+use Rattle.vtl_nodes.specs.Trees as nodes
+use Rattle.vtl_nodes.specs.View.{item_tree, measure_tree, node_tree}
+use Rattle.vtl_nodes.specs.declared.nodes.NodeForm.TheVariants as form
 use Rattle.vtl_backend.specs.DataSets.{data_set, with_structure}
 use Rattle.vtl_backend.specs.Operators.{calculated_of, left_of, measured_of, sub_of}
 use Rattle.vtl_backend.specs.Turned.{pivot_of}

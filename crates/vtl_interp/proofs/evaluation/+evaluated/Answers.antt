@@ -1,10 +1,10 @@
 use Rattle.std.proofs.Common.{◌≡◌, [], ◌∷◌, Ok, ap, length, map, refl, subst, sym, ◌∙◌}
 use Rattle.std.proofs.lemmas.List.{length-map}
 use Rattle.vtl_scalar.specs.Answers.{AnswersBy}
-use Rattle.vtl_backend.specs.Trees as nodes
-use Rattle.vtl_backend.specs.Trees.{nodes_of, operands_of}
-use Rattle.vtl_backend.specs.View.{item_tree, measure_tree, node_tree, operand_tree}
-use Rattle.vtl_backend.specs.nodes.NodeForm.TheVariants as form
+use Rattle.vtl_nodes.specs.Trees as nodes
+use Rattle.vtl_nodes.specs.Trees.{nodes_of, operands_of}
+use Rattle.vtl_nodes.specs.View.{item_tree, measure_tree, node_tree, operand_tree}
+use Rattle.vtl_nodes.specs.declared.nodes.NodeForm.TheVariants as form
 use Rattle.vtl_backend.specs.DataSets.{data_set, with_structure}
 use Rattle.vtl_backend.specs.Joined.{structures_of}
 use Rattle.vtl_backend.specs.Made.{AreCombined, IsCombined, IsExistence, IsJoined}

@@ -5,14 +5,14 @@ use Rattle.std.proofs.lemmas.List.{drop_all}
 use Rattle.vtl_rows.specs.Named.{NamedTables}
 use Rattle.vtl_syntax.specs.View.{statement_tree}
 use Rattle.vtl_syntax.specs.declared.statements.Statement.{Statement}
-use Rattle.vtl_backend.specs.View.{node_tree}
+use Rattle.vtl_nodes.specs.View.{node_tree}
 use Rattle.vtl_backend.specs.Meaning.{is_built, meaning}
 use Rattle.vtl_backend.specs.Statements.{with_nodes}
 use Rattle.vtl_backend.specs.Transformations.{transformations_from}
 use Rattle.vtl_backend.proofs.LeftLemmas.{assigned_at, left, one_left}
 use Rattle.vtl_interp.specs.Results.{AreReady}
-use Rattle.vtl_interp.proofs.NamesRead.{are_built}
 use Rattle.vtl_interp.proofs.Steps.{meaning_begins, meaning_ends}
+use Rattle.vtl_interp.proofs.Scripts.{are_built}
 use Rattle.vtl_interp.proofs.Turns.{fault_told, left_from, ready_now, still_many, still_meant, still_ready, still_reads}
 use Rattle.vtl_interp.proofs.Writes.{no_table}
 use Rattle.vtl_interp.proofs.statements.run_each.Goals as goal
