@@ -1,21 +1,16 @@
-use Rattle.std.proofs.Common.{◌≡◌, [], ◌∷◌, Ok, ap, length, map, refl, subst, sym, ◌∙◌}
+use Rattle.std.proofs.Common.{◌≡◌, Ok, ap, length, map, subst, sym, ◌∙◌}
 use Rattle.std.proofs.lemmas.List.{length-map}
-use Rattle.vtl_scalar.specs.Answers.{AnswersBy}
 use Rattle.vtl_nodes.specs.Trees as nodes
 use Rattle.vtl_nodes.specs.Trees.{nodes_of, operands_of}
-use Rattle.vtl_nodes.specs.View.{item_tree, measure_tree, node_tree, operand_tree}
+use Rattle.vtl_nodes.specs.View.{node_tree, operand_tree}
 use Rattle.vtl_nodes.specs.declared.nodes.NodeForm.TheVariants as form
-use Rattle.vtl_backend.specs.DataSets.{data_set, with_structure}
 use Rattle.vtl_backend.specs.Joined.{structures_of}
-use Rattle.vtl_backend.specs.Made.{AreCombined, IsCombined, IsExistence, IsJoined}
+use Rattle.vtl_backend.specs.Made.{AreCombined, IsJoined}
 use Rattle.vtl_backend.specs.Meaning.{nodes_value, operands_value}
-use Rattle.vtl_backend.specs.Sets.{difference_of, symmetric_difference_of}
-use Rattle.vtl_backend.specs.Turned.{pivot_of}
-use Rattle.vtl_backend.specs.Operators.{calculated_of, left_of, measured_of, pair_of, sub_of}
 use Rattle.vtl_interp.specs.Evaluated.{Gives}
 use Rattle.vtl_interp.specs.Values.{value_view, values_view}
 use Rattle.vtl_interp.proofs.Evaluates.{operands_named}
-use Rattle.vtl_interp.proofs.NodesEvaluated.{choose_fits, form_tree-Calc, form_tree-DropNamed, form_tree-Keep, form_tree-Measures, form_tree-Member, form_tree-Intersect, form_tree-Pair, form_tree-ExistsIn, form_tree-Pivot, form_tree-SetDiff, form_tree-Sub, form_tree-SymDiff, form_tree-Union, join_fits, measures_fit, name_gives, name_is_held, one_operand, several_fit, two_fit, two_operands}
+use Rattle.vtl_interp.proofs.NodesEvaluated.{choose_fits, form_tree-Intersect, form_tree-Union, join_fits, name_gives, name_is_held, several_fit}
 use Rattle.vtl_interp.proofs.evaluation.+evaluated.Goals as goal
 
 pub evaluate-unreachable-requires : goal.evaluate-unreachable-requires
