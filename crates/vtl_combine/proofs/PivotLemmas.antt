@@ -49,6 +49,10 @@ same_with_last (x ∷ r) [] v w e = absurd (omega arith)
 same_with_last (x ∷ r) (y ∷ s) v w e = ap (λ b. same_cell x y && b) (same_with_last r s v w (omega arith)) ∙ and_assoc (same_cell x y) (same_row r s) (same_cell v w)
 
 -- ---- the points of a pivot
+-- the first rows of groups by the other identifiers
+pub led_by_others : (d : DataSet) (id : List ℕ) (rows : List Row) (places leads : List ℕ) → leads ≡ leads_of (cells_at places) rows → places ≡ other_places id d.structure → rows ≡ d.points → firsts leads ≡ firsts (leads_of (cells_at (other_places id d.structure)) d.points)
+led_by_others d id rows places leads by ps at = ap firsts (by ∙ ap (λ l. leads_of (cells_at l) rows) ps ∙ ap (leads_of (cells_at (other_places id d.structure))) at)
+
 module _ (d : DataSet) (id m : List ℕ) (x : CodedPoints) (is : AreCoded d id m x) where
   abbrev a : Structure
   a = d.structure
