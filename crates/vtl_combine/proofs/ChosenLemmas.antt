@@ -3,7 +3,7 @@ use Rattle.std.proofs.Common.{◌≡◌, ℕ, ◌+◌, ◌<◌, length, get_or, 
 use Rattle.std.specs.Prelude.{is_some}
 use Rattle.std.specs.List.{filter, find, flat_map, list_all, list_any}
 use Rattle.std.proofs.lemmas.Grind.{flat_map-append}
-use Rattle.std.proofs.lemmas.List.{append-nil, take_more}
+use Rattle.std.proofs.lemmas.List.{append-nil, append_assoc, map_more, take_more}
 use Rattle.std.proofs.lemmas.List.Folds.{list_all-map, list_all_more}
 use Rattle.vtl_cell.specs.Row.{Row}
 use Rattle.vtl_tuples.proofs.Lists.{filter_each}
@@ -27,6 +27,11 @@ pub each_more : {X Y : Type 0} (f : X → List Y) (xs : List X) (i : ℕ) (x : X
 each_more f xs i x h at =
     ap (flat_map f) (take_more xs i x h) ∙ flat_map-append f (take i xs) (get_or xs i x ∷ []) ∙ ap (λ l. flat_map f (take i xs) ++ l) (append-nil (f (get_or xs i x)))
     ∙ ap (λ z. flat_map f (take i xs) ++ f z) (sym at)
+
+pub mapped_more : {X Y : Type 0} (f : X → Y) (xs : List X) (i : ℕ) (x : X) (front old new : List Y) → i < length xs → x ≡ get_or xs i x → old ≡ front ++ map f (take i xs) → new ≡ old ++ f x ∷ [] → new ≡ front ++ map f (take (i + 1) xs)
+mapped_more f xs i x front old new h at o n =
+    n ∙ ap (λ l. l ++ f x ∷ []) o ∙ append_assoc front (map f (take i xs)) (f x ∷ [])
+    ∙ ap (λ l. front ++ l) (sym (map_more f xs i x h ∙ ap (λ z. map f (take i xs) ++ f z ∷ []) (sym at)))
 
 -- items that pass one test more
 pub all_more_tests : {X Y Z : Type 0} (test : X → Z → Bool) (f : Y → Z) (ys : List Y) (i : ℕ) (y : Y) (xs old new : List X) → i < length ys → y ≡ get_or ys i y → old ≡ filter (λ x. list_all (test x) (map f (take i ys))) xs → new ≡ filter (λ x. test x (f y)) old
