@@ -3,8 +3,8 @@ use Rattle.std.proofs.Common.{◌≡◌, ℕ, ◌+◌, ◌<◌, length, get_or, 
 use Rattle.std.specs.Prelude.{is_some}
 use Rattle.std.specs.List.{filter, find, flat_map, list_all, list_any}
 use Rattle.std.proofs.lemmas.Grind.{flat_map-append}
-use Rattle.std.proofs.lemmas.List.{append-nil, take_more}
-use Rattle.std.proofs.lemmas.List.Folds.{list_all_more}
+use Rattle.std.proofs.lemmas.List.{append-nil, append_assoc, map_more, take_more}
+use Rattle.std.proofs.lemmas.List.Folds.{list_all-map, list_all_more}
 use Rattle.vtl_cell.specs.Row.{Row}
 use Rattle.vtl_tuples.proofs.Lists.{filter_each}
 use Rattle.vtl_combine.proofs.RowLemmas.{filter-filter}
@@ -28,12 +28,22 @@ each_more f xs i x h at =
     ap (flat_map f) (take_more xs i x h) ∙ flat_map-append f (take i xs) (get_or xs i x ∷ []) ∙ ap (λ l. flat_map f (take i xs) ++ l) (append-nil (f (get_or xs i x)))
     ∙ ap (λ z. flat_map f (take i xs) ++ f z) (sym at)
 
+pub mapped_more : {X Y : Type 0} (f : X → Y) (xs : List X) (i : ℕ) (x : X) (front old new : List Y) → i < length xs → x ≡ get_or xs i x → old ≡ front ++ map f (take i xs) → new ≡ old ++ f x ∷ [] → new ≡ front ++ map f (take (i + 1) xs)
+mapped_more f xs i x front old new h at o n =
+    n ∙ ap (λ l. l ++ f x ∷ []) o ∙ append_assoc front (map f (take i xs)) (f x ∷ [])
+    ∙ ap (λ l. front ++ l) (sym (map_more f xs i x h ∙ ap (λ z. map f (take i xs) ++ f z ∷ []) (sym at)))
+
 -- items that pass one test more
-pub all_more_tests : {X Y : Type 0} (test : X → Y → Bool) (ys : List Y) (i : ℕ) (y : Y) (xs old new : List X) → i < length ys → y ≡ get_or ys i y → old ≡ filter (λ x. list_all (test x) (take i ys)) xs → new ≡ filter (λ x. test x y) old
-    → new ≡ filter (λ x. list_all (test x) (take (i + 1) ys)) xs
-all_more_tests test ys i y xs old new h at o n =
-    n ∙ ap (filter (λ x. test x y)) o ∙ filter-filter (λ x. test x y) (λ x. list_all (test x) (take i ys)) xs
-    ∙ filter_each (λ x. list_all (test x) (take i ys) && test x y) (λ x. list_all (test x) (take (i + 1) ys)) (λ x. sym (list_all_more (test x) ys i y h ∙ ap (λ z. list_all (test x) (take i ys) && test x z) (sym at))) xs
+pub all_more_tests : {X Y Z : Type 0} (test : X → Z → Bool) (f : Y → Z) (ys : List Y) (i : ℕ) (y : Y) (xs old new : List X) → i < length ys → y ≡ get_or ys i y → old ≡ filter (λ x. list_all (test x) (map f (take i ys))) xs → new ≡ filter (λ x. test x (f y)) old
+    → new ≡ filter (λ x. list_all (test x) (map f (take (i + 1) ys))) xs
+all_more_tests {X = X} test f ys i y xs old new h at o n =
+    n ∙ ap (filter (λ x. test x (f y))) o ∙ filter-filter (λ x. test x (f y)) (λ x. list_all (test x) (map f (take i ys))) xs
+    ∙ filter_each (λ x. list_all (test x) (map f (take i ys)) && test x (f y)) (λ x. list_all (test x) (map f (take (i + 1) ys))) (λ x. sym (one x)) xs
+  where
+    one : (x : X) → list_all (test x) (map f (take (i + 1) ys)) ≡ (list_all (test x) (map f (take i ys)) && test x (f y))
+    one x =
+        list_all-map (test x) f (take (i + 1) ys) ∙ list_all_more (λ z. test x (f z)) ys i y h
+        ∙ ap (λ b. b && test x (f (get_or ys i y))) (sym (list_all-map (test x) f (take i ys))) ∙ ap (λ z. list_all (test x) (map f (take i ys)) && test x (f z)) (sym at)
 
 -- what comes of each row that passes a test
 pub taken_where : {X : Type 0} (p : Row → Bool) (f : Row → X) (rows : List Row) → flat_map (λ r. cond (p r) (f r ∷ []) []) rows ≡ map f (filter p rows)

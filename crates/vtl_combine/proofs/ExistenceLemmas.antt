@@ -63,8 +63,9 @@ answer_fits d e kept s rows i r is h l at has =
     ap (λ b. fits (table_columns s) (cells_at (range_with_len 0 (key_width a)) r ++ c.Bool b ∷ [])) (agreeing_is a e r)
     ∙ ap (λ k. fits (table_columns s) (k ++ c.Bool answer ∷ [])) (own_key a r own) ∙ point_fits (columns_of s) (with_answer a e r) taken.0
 
-pub answer_fits_at : (d e : DataSet) (kept : Retain) (s : Structure) (rows : List Row) (i : ℕ) (r : Row) (columns : List Column) (identifiers : List ℕ) (x : Sought) (answer : Bool) → IsExistence d.structure e.structure s → IsDataSet d.structure rows → i < length rows → r ≡ get_or rows i r
-    → columns ≡ table_columns s → identifiers ≡ range_with_len 0 (key_width d.structure) → x ≡ sought_common d.structure e → answer ≡ is_any_meant x r → is_retained kept answer ≡ true → fits columns (cells_at identifiers r ++ c.Bool answer ∷ []) ≡ true
+pub answer_fits_at : (d e : DataSet) (kept : Retain) (s : Structure) (rows : List Row) (i : ℕ) (r : Row) (columns : List Column) (identifiers : List ℕ) (x : Sought) (answer : Bool)
+    → IsExistence d.structure e.structure s → IsDataSet d.structure rows → i < length rows → r ≡ get_or rows i r → columns ≡ table_columns s → identifiers ≡ range_with_len 0 (key_width d.structure) → x ≡ sought_common d.structure e → answer ≡ is_any_meant x r → is_retained kept answer ≡ true
+    → fits columns (cells_at identifiers r ++ c.Bool answer ∷ []) ≡ true
 answer_fits_at d e kept s rows i r columns identifiers x answer is h l at cs ids found same has =
     let ours = is_any_meant (sought_common d.structure e) r in
     let one : answer ≡ ours = same ∙ ap (λ (y : Sought). is_any_meant y r) found in

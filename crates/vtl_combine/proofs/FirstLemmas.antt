@@ -1,7 +1,7 @@
 -- The first rows of groups.
 use Rattle.std.proofs.Common.{◌≡◌, ℕ, suc, ◌+◌, ◌<◌, ◌≤◌, Bool, true, false, not, cond, ◌&&◌, ◌||◌, All, List, [], ◌∷◌, ◌++◌, length, get_or, map, take, refl, sym, ap, ◌∙◌, subst, arith, inl, inr, append_assoc, eqb, eqb-true, ne_eqb}
 use Rattle.std.specs.List.{AllByRecursion, filter, list_any, position_or_len, range_with_len}
-use Rattle.std.proofs.lemmas.List.{get_or-map, get_or_at, length-append, length-map, length_push}
+use Rattle.std.proofs.lemmas.List.{get_or-map, get_or_at, length-append, length-map, length_push, take_more}
 use Rattle.std.proofs.lemmas.Bool.{cases_lt}
 use Rattle.std.proofs.lemmas.List.Elements.{All-filter}
 use Rattle.std.proofs.lemmas.List.FromFn.{length-range_with_len}
@@ -45,6 +45,12 @@ module _ (leads : List ℕ) (are : AreLeads leads) (g : ℕ) (within : g < lengt
         | inl less ↦ let at = passing_at in_group x lead less is.1 in absurd (omega (arith, at.0, one.2))
         | inr up ↦ omega (arith, up, led, before)
       ]
+
+  -- one group more
+  pub first_more : (rows old new : List ℕ) → rows ≡ rows_led leads lead → old ≡ take g (firsts leads) → new ≡ old ++ get_or rows 0 0 ∷ [] → new ≡ take (g + 1) (firsts leads)
+  first_more rows old new led o n =
+      n ∙ ap (λ l. l ++ get_or rows 0 0 ∷ []) o ∙ ap (λ x. take g (firsts leads) ++ x ∷ []) (ap (λ (l : List ℕ). get_or l 0 0) led ∙ first_led)
+      ∙ sym (take_more (firsts leads) g 0 within)
 
 -- ---- the first rows are those whose keys no row before has
 -- the lead of the rows of a key

@@ -3,7 +3,7 @@ use Rattle.std.proofs.Common.{◌≡◌, ℕ, ◌≤◌, List, [], ◌∷◌, �
 use Rattle.std.specs.Borrow.{Bor}
 use Rattle.std.specs.List.{AllByRecursion, flat_map, list_all, list_any, range_with_len}
 use Rattle.std.proofs.lemmas.List.{length-map, take_all, take_at}
-use Rattle.std.proofs.lemmas.List.Elements.{All-from_recursion}
+use Rattle.std.proofs.lemmas.List.Elements.{All-from_recursion, recursion_from_All}
 use Rattle.std.proofs.lemmas.List.Folds.{list_all-map}
 use Rattle.vtl_cell.specs.Row.{Row, column_of, same_key, same_row}
 use Rattle.vtl_rows.specs.Places.{row_at}
@@ -29,7 +29,7 @@ use Rattle.vtl_expr.proofs.Kept.{shown_split}
 use Rattle.vtl_expr.proofs.Places.{all_append, all_map, each}
 use Rattle.vtl_expr.proofs.SetsKept.{IsKeyed, alternative_tells, combined_is, has_any}
 use Rattle.vtl_expr.proofs.ColumnPlaces.{chosen_columns}
-use Rattle.vtl_combine.specs.Operands.{HasColumns, left_at, retained, sought_by_key}
+use Rattle.vtl_combine.specs.Operands.{HasColumns, all_have, left_at, retained, retained_by, sought_by_key}
 use Rattle.vtl_combine.proofs.ChosenLemmas.{list_any-map}
 use Rattle.vtl_combine.proofs.RowLemmas.{chosen_rows}
 
@@ -41,8 +41,8 @@ each_has : (s : Structure) (ds : List (Bor DataSet)) → IsKeyed s → AllByRecu
 each_has s [] w all = tt
 each_has s (d ∷ ds) w all = (has_columns s d.now.structure w all.0, each_has s ds w all.1)
 
-pub all_have : (s : Structure) (ds : List (Bor DataSet)) → IsKeyed s → AllByRecursion (λ b. IsAlternative s b s) (structures_of (shown ds)) → All (λ (d : Bor DataSet). HasColumns s d.now.structure) ds
-all_have s ds w all = All-from_recursion (λ (d : Bor DataSet). HasColumns s d.now.structure) ds (each_has s ds w all)
+pub each_operand_has : (s : Structure) (ds : List (Bor DataSet)) → IsKeyed s → AllByRecursion (λ b. IsAlternative s b s) (structures_of (shown ds)) → All (λ (d : Bor DataSet). HasColumns s d.now.structure) ds
+each_operand_has s ds w all = All-from_recursion (λ (d : Bor DataSet). HasColumns s d.now.structure) ds (each_has s ds w all)
 
 pub left_columns : (s a : Structure) (columns : List Column) (places : List ℕ) → HasColumns s a → columns ≡ table_columns a → places ≡ places_in (columns_of a) (columns_of s) → map (column_at columns) places ≡ table_columns s
 left_columns s a columns places has cs ps = ap (λ (l : List Column). map (column_at l) places) cs ∙ ap (map (column_at (table_columns a))) ps ∙ chosen_columns (columns_of a) (columns_of s) has.columns
@@ -50,7 +50,7 @@ left_columns s a columns places has cs ps = ap (λ (l : List Column). map (colum
 -- of a list of operands
 pub combined_have : (ds : List (Bor DataSet)) (s : Structure) → AreCombined (structures_of (shown ds)) s → All (λ (d : Bor DataSet). HasColumns s d.now.structure) ds
 combined_have [] s i = absurd i
-combined_have (d ∷ ds) s i = all_have s (d ∷ ds) (combined_is d.now.structure (structures_of (shown ds)) s i) i.operands
+combined_have (d ∷ ds) s i = each_operand_has s (d ∷ ds) (combined_is d.now.structure (structures_of (shown ds)) s i) i.operands
 
 pub combined_made : (ss : List Structure) (s : Structure) → AreCombined ss s → IsStructure s
 combined_made [] s i = absurd i
@@ -88,10 +88,10 @@ asked_is d e s r =
     sym (has_any n (left_of e s) q ∙ list_any-map (λ z. same_key n z q) (cells_at (places_in ys (columns_of s))) e.points
     ∙ ap (λ (f : Row → Bool). list_any f e.points) (λ j z. same_row (key_shown ys s z j) (key_shown xs s r j)))
 
-pub retained_is : (kept : Retain) (d e : DataSet) (s : Structure) (x : Sought) (rows : List Row) (is : List ℕ) → x ≡ sought_by_key d e s → rows ≡ d.points → filter (λ i. is_retained kept (is_any_meant x (row_at rows i))) is ≡ retained kept d e s is
+pub retained_is : (kept : Retain) (d e : DataSet) (s : Structure) (x : Sought) (rows : List Row) (is : List ℕ) → x ≡ sought_by_key d e s → rows ≡ d.points → retained_by kept x rows is ≡ retained kept d e s is
 retained_is kept d e s x rows is found at =
-    ap (λ (y : Sought). filter (λ i. is_retained kept (is_any_meant y (row_at rows i))) is) found
-    ∙ ap (λ (l : List Row). filter (λ i. is_retained kept (is_any_meant (sought_by_key d e s) (row_at l i))) is) at
+    ap (λ (y : Sought). retained_by kept y rows is) found
+    ∙ ap (λ (l : List Row). retained_by kept (sought_by_key d e s) l is) at
     ∙ filter_each (λ i. is_retained kept (is_any_meant (sought_by_key d e s) (row_at d.points i))) (λ i. is_retained kept (has_point (key_width s) (left_of e s) (left_at d s i))) (λ i. ap (is_retained kept) (asked_is d e s (row_at d.points i))) is
 
 -- ---- the points that pass a test
@@ -100,14 +100,11 @@ chosen_left d s p =
     let f : Row → Row = cells_at (places_in (columns_of d.structure) (columns_of s)) in
     chosen_rows f (λ r. p (f r)) d.points ∙ sym (filter-map p f d.points)
 
-pub chosen_by_all : (d : DataSet) (es : List (Bor DataSet)) (s : Structure)
-    → map (left_at d s) (filter (λ i. list_all (λ (e : Bor DataSet). has_point (key_width s) (left_of e.now s) (left_at d s i)) es) (range_with_len 0 (length d.points)))
-    ≡ intersected (key_width s) (left_of d s) (all_left_of (shown es) s)
+pub chosen_by_all : (d : DataSet) (es : List DataSet) (s : Structure) → map (left_at d s) (filter (all_have d es s) (range_with_len 0 (length d.points))) ≡ intersected (key_width s) (left_of d s) (all_left_of es s)
 chosen_by_all d es s =
     let n = key_width s in
-    chosen_left d s (λ r. list_all (λ (e : Bor DataSet). has_point n (left_of e.now s) r) es)
-    ∙ filter_each (λ r. list_all (λ (e : Bor DataSet). has_point n (left_of e.now s) r) es) (λ r. list_all (λ e. has_point n e r) (all_left_of (shown es) s))
-    (λ r. sym (list_all-map (λ e. has_point n e r) (λ (e : DataSet). left_of e s) (shown es) ∙ list_all-map (λ (e : DataSet). has_point n (left_of e s) r) (λ (b : Bor DataSet). b.now) es)) (left_of d s)
+    chosen_left d s (λ r. list_all (λ e. has_point n (left_of e s) r) es)
+    ∙ filter_each (λ r. list_all (λ e. has_point n (left_of e s) r) es) (λ r. list_all (λ e. has_point n e r) (all_left_of es s)) (λ r. sym (list_all-map (λ e. has_point n e r) (λ e. left_of e s) es)) (left_of d s)
 
 -- ---- the points of all operands
 pub all_points_are : (ds : List (Bor DataSet)) (s : Structure) → flat_map (λ (d : Bor DataSet). left_of d.now s) ds ≡ flat_map (λ d. d) (all_left_of (shown ds) s)
@@ -124,10 +121,13 @@ all_points_wide (d ∷ ds) s =
     (all_points_wide ds s)
 
 -- each is a data set
-pub all_are_sets : (ds : List (Bor DataSet)) → AllByRecursion (λ (d : Bor DataSet). IsDataSet d.now.structure d.now.points) ds → AllByRecursion (λ (d : DataSet). IsDataSet d.structure d.points) (shown ds)
-all_are_sets [] all = tt
-all_are_sets (d ∷ ds) all = (all.0, all_are_sets ds all.1)
+each_is_set : (ds : List (Bor DataSet)) → AllByRecursion (λ (d : Bor DataSet). IsDataSet d.now.structure d.now.points) ds → AllByRecursion (λ d. IsDataSet d.structure d.points) (shown ds)
+each_is_set [] all = tt
+each_is_set (d ∷ ds) all = (all.0, each_is_set ds all.1)
 
-pub sought_is : (d e : DataSet) (s : Structure) (x : Sought) (own asked : List ℕ) (rows : List Row) → x ≡ record { own = own; asked = asked; rows = rows } → own ≡ places_in (columns_of e.structure) (identifiers_of s) → asked ≡ places_in (columns_of d.structure) (identifiers_of s) → rows ≡ e.points
-    → x ≡ sought_by_key d e s
+pub all_are_sets : (ds : List (Bor DataSet)) → All (λ (d : Bor DataSet). IsDataSet d.now.structure d.now.points) ds → AllByRecursion (λ d. IsDataSet d.structure d.points) (shown ds)
+all_are_sets ds all = each_is_set ds (recursion_from_All (λ (d : Bor DataSet). IsDataSet d.now.structure d.now.points) ds all)
+
+pub sought_is : (d e : DataSet) (s : Structure) (x : Sought) (own asked : List ℕ) (rows : List Row) → x ≡ record { own = own; asked = asked; rows = rows } → own ≡ places_in (columns_of e.structure) (identifiers_of s)
+    → asked ≡ places_in (columns_of d.structure) (identifiers_of s) → rows ≡ e.points → x ≡ sought_by_key d e s
 sought_is d e s x own asked rows found o a r = found ∙ (λ i. record { own = o i; asked = a i; rows = r i })

@@ -1,5 +1,5 @@
 -- What a pivot makes of keys and codes.
-use Rattle.std.proofs.Common.{◌≡◌, ℕ, ◌+◌, List, [], ◌∷◌, ◌++◌, Bool, true, false, ◌&&◌, length, map, refl, sym, ap, ◌∙◌, subst, arith}
+use Rattle.std.proofs.Common.{◌≡◌, ℕ, ◌+◌, ◌<◌, get_or, take, List, [], ◌∷◌, ◌++◌, Bool, true, false, ◌&&◌, length, map, refl, sym, ap, ◌∙◌, subst, arith}
 use Rattle.std.specs.List.{AllByRecursion, position_or_len, range_with_len}
 use Rattle.std.proofs.lemmas.List.{length-map, length_push, map-append}
 use Rattle.vtl_cell.specs.Order.{same_cell}
@@ -31,6 +31,7 @@ use Rattle.vtl_expr.proofs.TurnedKept.{pivot_kept}
 use Rattle.vtl_index.proofs.Ranges.{all_indexed}
 use Rattle.vtl_combine.specs.Pivots.{AreCoded, coded, other_places, pivoted, sought_codes}
 use Rattle.vtl_combine.specs.declared.pivoting.CodedPoints.{CodedPoints}
+use Rattle.vtl_combine.proofs.ChosenLemmas.{mapped_more}
 use Rattle.vtl_combine.proofs.RowLemmas.{at_first}
 
 -- ---- keys with a cell behind them
@@ -48,7 +49,16 @@ same_with_last [] (y ∷ s) v w e = absurd (omega arith)
 same_with_last (x ∷ r) [] v w e = absurd (omega arith)
 same_with_last (x ∷ r) (y ∷ s) v w e = ap (λ b. same_cell x y && b) (same_with_last r s v w (omega arith)) ∙ and_assoc (same_cell x y) (same_row r s) (same_cell v w)
 
+-- one code more
+pub coded_more : (x : CodedPoints) (key same : Row) (i : ℕ) (code : List ℕ) (front old new : Row) → i < length x.codes.now → code ≡ get_or x.codes.now i code → same ≡ key → old ≡ front ++ map (coded x key) (take i x.codes.now) → new ≡ old ++ coded x same code ∷ []
+    → new ≡ front ++ map (coded x key) (take (i + 1) x.codes.now)
+coded_more x key same i code front old new h at e o n = mapped_more (coded x key) x.codes.now i code front old new h at o (n ∙ ap (λ k. old ++ coded x k code ∷ []) e)
+
 -- ---- the points of a pivot
+-- the first rows of groups by the other identifiers
+pub led_by_others : (d : DataSet) (id : List ℕ) (rows : List Row) (places leads : List ℕ) → leads ≡ leads_of (cells_at places) rows → places ≡ other_places id d.structure → rows ≡ d.points → firsts leads ≡ firsts (leads_of (cells_at (other_places id d.structure)) d.points)
+led_by_others d id rows places leads by ps at = ap firsts (by ∙ ap (λ l. leads_of (cells_at l) rows) ps ∙ ap (leads_of (cells_at (other_places id d.structure))) at)
+
 module _ (d : DataSet) (id m : List ℕ) (x : CodedPoints) (is : AreCoded d id m x) where
   abbrev a : Structure
   a = d.structure

@@ -1,5 +1,5 @@
 -- What `unpivot` makes of rows.
-use Rattle.std.proofs.Common.{◌≡◌, ℕ, zero, suc, ◌+◌, ◌<◌, List, [], ◌∷◌, ◌++◌, true, cond, map, take, length, get_or, Option, Some, None, refl, sym, ap, ◌∙◌, subst, arith}
+use Rattle.std.proofs.Common.{◌≡◌, ℕ, zero, suc, ◌+◌, ◌<◌, List, [], ◌∷◌, ◌++◌, true, cond, map, take, length, get_or, Option, Some, None, refl, sym, ap, ◌∙◌, subst, arith, append_assoc}
 use Rattle.std.specs.Prelude.{IfSome}
 use Rattle.std.specs.List.{AllByRecursion, cons_option, filter_map, flat_map, range_with_len}
 use Rattle.std.specs.Option.{option_to_list}
@@ -46,7 +46,7 @@ drawn_holds P h f (y ∷ xs) zero x all l at = subst (λ z. IfSome (h (f z)) P) 
 drawn_holds P h f (y ∷ xs) (suc i) x all l at = drawn_holds P h f xs i x (all_drawn P h (f y) (filter_map h (map f xs)) (h (f y)) all).1 (omega arith) at
 
 -- one item more
-pub drawn_next : {X Y Z : Type 0} (h : Y → Option Z) (f : X → Y) (xs : List X) (i : ℕ) (x : X) → i < length xs → x ≡ get_or xs i x → filter_map h (map f (take (i + 1) xs)) ≡ filter_map h (map f (take i xs)) ++ option_to_list (h (f x))
+drawn_next : {X Y Z : Type 0} (h : Y → Option Z) (f : X → Y) (xs : List X) (i : ℕ) (x : X) → i < length xs → x ≡ get_or xs i x → filter_map h (map f (take (i + 1) xs)) ≡ filter_map h (map f (take i xs)) ++ option_to_list (h (f x))
 drawn_next {Z = Z} h f xs i x l at =
     ap (filter_map h) (map_more f xs i x l) ∙ filter_map-append h (map f (take i xs)) (f (get_or xs i x) ∷ [])
     ∙ ap (λ z. filter_map h (map f (take i xs)) ++ cons_option (h (f z)) []) (sym at) ∙ ap (λ l. filter_map h (map f (take i xs)) ++ l) (one (h (f x)))
@@ -54,6 +54,11 @@ drawn_next {Z = Z} h f xs i x l at =
     one : (o : Option Z) → cons_option o [] ≡ option_to_list o
     one None = refl
     one (Some z) = refl
+
+pub drawn_next_behind : {X Y Z : Type 0} (h : Y → Option Z) (f : X → Y) (xs : List X) (i : ℕ) (x : X) (front old new : List Z) → i < length xs → x ≡ get_or xs i x → old ≡ front ++ filter_map h (map f (take i xs)) → new ≡ old ++ option_to_list (h (f x))
+    → new ≡ front ++ filter_map h (map f (take (i + 1) xs))
+drawn_next_behind h f xs i x front old new l at o n =
+    n ∙ ap (λ r. r ++ option_to_list (h (f x))) o ∙ append_assoc front (filter_map h (map f (take i xs))) (option_to_list (h (f x))) ∙ ap (λ r. front ++ r) (sym (drawn_next h f xs i x l at))
 
 -- ---- the points of a row
 abbrev keys : Structure → List ℕ

@@ -1,10 +1,11 @@
 -- Operands, of which a result takes its columns by their names.
-use Rattle.std.specs.Prelude.{ℕ, filter, List}
+use Rattle.std.specs.Prelude.{ℕ, Bool, filter, List}
+use Rattle.std.specs.List.{list_all}
 use Rattle.vtl_cell.specs.Row.{Row}
 use Rattle.vtl_rows.specs.Places.{row_at}
 use Rattle.vtl_rows.specs.Tables.{cells_at}
 use Rattle.vtl_rows.specs.declared.gather.Pick.{Pick}
-use Rattle.vtl_index.specs.Seekers.{Sought}
+use Rattle.vtl_index.specs.Seekers.{Sought, is_any_meant}
 use Rattle.vtl_syntax.specs.declared.word_groups.Retain.{Retain}
 use Rattle.vtl_tree.specs.Environment.{DataSet}
 use Rattle.vtl_tree.specs.Structure.{IsStructure, columns_of, key_width}
@@ -35,6 +36,14 @@ sought_by_key d e s = record {
   rows = e.points;
 }
 
+-- of these row numbers, those that are retained by whether there is a row that they ask for
+abbrev pub retained_by : Retain → Sought → List Row → List ℕ → List ℕ
+retained_by kept x rows is = filter (λ i. is_retained kept (is_any_meant x (row_at rows i))) is
+
 -- of these row numbers of an operand, those whose identifiers another one has, or lacks
 abbrev pub retained : Retain → DataSet → DataSet → Structure → List ℕ → List ℕ
 retained kept d e s is = filter (λ i. is_retained kept (has_point (key_width s) (left_of e s) (left_at d s i))) is
+
+-- all others have the identifiers of the point of a row number
+abbrev pub all_have : DataSet → List DataSet → Structure → ℕ → Bool
+all_have d es s i = list_all (λ e. has_point (key_width s) (left_of e s) (left_at d s i)) es

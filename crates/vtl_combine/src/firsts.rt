@@ -22,8 +22,8 @@ pub(crate) fn first_rows(alloc: Global, groups: &Groups) -> Result<Vec<usize>, A
     Ok(first_rows)
 }
 
-// The rows of a table whose first cells, of which there are so many, no row before has. No cell is copied where that
-// are all rows.
+// The rows of a table whose first cells, of which there are so many, no row before has. It is the same table where all
+// rows are such.
 pub(crate) fn once_by_key(alloc: Global, table: Table, width: usize) -> Result<Table, AllocError>
     requires { AllByRecursion (λ r. width ≤ length r) table.rows }
     ensures columns { IfOk result (λ t. t.columns ≡ table.columns) }

@@ -1,15 +1,13 @@
 // `intersect`
-ghost use Rattle.std.specs.List.{list_all, range_with_len};
+ghost use Rattle.std.specs.List.{range_with_len};
 ghost use Rattle.std.specs.Prelude.{◌≡◌, [], ◌∷◌, filter, length, IfOk};
 ghost use Rattle.vtl_tree.specs.Shown.{shown};
-ghost use Rattle.vtl_tree.specs.Structure.{key_width};
 ghost use Rattle.vtl_expr.specs.DataSets.{data_set};
 ghost use Rattle.vtl_expr.specs.TableOf.{IsTableOf};
 ghost use Rattle.vtl_expr.specs.Joined.{structures_of};
 ghost use Rattle.vtl_expr.specs.Made.{AreCombined, IsCombined};
-ghost use Rattle.vtl_expr.specs.Operators.{left_of};
-ghost use Rattle.vtl_expr.specs.Sets.{has_point, intersection_of};
-ghost use Rattle.vtl_combine.specs.Operands.{left_at};
+ghost use Rattle.vtl_expr.specs.Sets.{intersection_of};
+ghost use Rattle.vtl_combine.specs.Operands.{all_have};
 
 use crate::retaining::retained;
 use crate::rows::{are_data_sets, chosen_rows, numbers};
@@ -27,7 +25,7 @@ fn common_rows(
     others: &[&DataSet],
     made: &Structure,
 ) -> Result<Vec<usize>, AllocError>
-    ensures { IfOk result (λ v. v.items ≡ filter (λ i. list_all (λ e. has_point (key_width made.now) (left_of e.now made.now) (left_at operand.now made.now i)) others.now) (range_with_len 0 (length operand.now.points))) }
+    ensures { IfOk result (λ v. v.items ≡ filter (all_have operand.now (shown others.now) made.now) (range_with_len 0 (length operand.now.points))) }
 {
     let mut rows = numbers(alloc, operand.table().len())?;
     for other in others {

@@ -1,9 +1,7 @@
 // The points of an operand whose identifiers another operand has, or lacks.
-ghost use Rattle.std.specs.Prelude.{◌≡◌, ◌<◌, filter, length, All, IfOk};
-ghost use Rattle.vtl_index.specs.Seekers.{is_any_meant};
-ghost use Rattle.vtl_rows.specs.Places.{row_at};
+ghost use Rattle.std.specs.Prelude.{◌≡◌, ◌<◌, length, All, IfOk};
 ghost use Rattle.vtl_expr.specs.Sets.{is_retained};
-ghost use Rattle.vtl_combine.specs.Operands.{retained};
+ghost use Rattle.vtl_combine.specs.Operands.{retained, retained_by};
 
 use crate::rows::key_places;
 use std::alloc::{AllocError, Global};
@@ -36,7 +34,7 @@ fn retained_by<L: Ledger>(
     steps: &mut Steps<L>,
 ) -> Result<Vec<usize>, AllocError>
     requires { All (λ i. i < length table.now.rows) rows.now }
-    ensures { IfOk result (λ v. v.items ≡ filter (λ i. is_retained retain (is_any_meant seeker.now (row_at table.now.rows i))) rows.now) }
+    ensures { IfOk result (λ v. v.items ≡ retained_by retain seeker.now table.now.rows rows.now) }
 {
     let mut kept = Vec::new(alloc);
     for row in rows {

@@ -1,14 +1,15 @@
 use Rattle.std.proofs.Common.{◌<◌, ◌≤◌, ◌∙◌, ap, sym, length, take, List, ℕ, Bool, Bor}
-use Rattle.std.specs.List.{filter, list_all, range_with_len}
+use Rattle.std.specs.List.{filter, range_with_len}
 use Rattle.std.proofs.lemmas.List.{take_all}
 use Rattle.std.proofs.lemmas.List.Elements.{All-filter, All-same}
 use Rattle.vtl_tree.specs.Environment.{DataSet}
+use Rattle.vtl_tree.specs.Shown.{shown}
 use Rattle.vtl_tree.specs.Structure.{key_width}
 use Rattle.vtl_syntax.specs.declared.word_groups.Retain.TheVariants as retain
 use Rattle.vtl_expr.specs.Operators.{left_of}
 use Rattle.vtl_expr.specs.Sets.{has_point}
 use Rattle.vtl_expr.proofs.SetsKept.{filter_true}
-use Rattle.vtl_combine.specs.Operands.{left_at, retained}
+use Rattle.vtl_combine.specs.Operands.{all_have, left_at, retained}
 use Rattle.vtl_combine.proofs.ChosenLemmas.{all_more_tests}
 use Rattle.vtl_combine.proofs.RowLemmas.{all_below}
 use Rattle.vtl_combine.proofs.intersections.common_rows.Goals as goal
@@ -21,22 +22,22 @@ loop-other-init c =
 pub retained-requires : goal.retained-requires
 retained-requires c =
     let d = c.args.operand.now in
-    let s = c.args.made.now in
     let n = length d.points in
-    let test : ℕ → Bool = λ i. list_all (λ (e : Bor DataSet). has_point (key_width s) (left_of e.now s) (left_at d s i)) (take c.loop-other.other-index c.args.others.now) in
+    let test : ℕ → Bool = all_have d (shown (take c.loop-other.other-index c.args.others.now)) c.args.made.now in
     All-same (λ i. i < n) c.deref.result.now (filter test (range_with_len 0 n)) (c.deref.ensures.value ∙ c.loop-other.invariant) (All-filter test (λ i. i < n) (range_with_len 0 n) (all_below n))
 
 pub loop-other-preserved : goal.loop-other-preserved
 loop-other-preserved c =
     let d = c.args.operand.now in
     let s = c.args.made.now in
-    let test : ℕ → Bor DataSet → Bool = λ i e. has_point (key_width s) (left_of e.now s) (left_at d s i) in
-    all_more_tests test c.args.others.now c.loop-other.other-index c.other-item.result (range_with_len 0 (length d.points)) c.loop-other.rows.items c.in_ok-rows-2.rows.items c.loop-other-test.true c.other-item.is c.loop-other.invariant
-    (c.in_ok-rows-2.ensures ∙ ap (retained retain.True d c.other-item.result.now s) c.deref.ensures.value)
+    let test : ℕ → DataSet → Bool = λ i e. has_point (key_width s) (left_of e s) (left_at d s i) in
+    let now : Bor DataSet → DataSet = λ e. e.now in
+    all_more_tests test now c.args.others.now c.loop-other.other-index c.other-item.result (range_with_len 0 (length d.points)) c.loop-other.rows.items c.in_ok-rows-2.rows.items
+    c.loop-other-test.true c.other-item.is c.loop-other.invariant (c.in_ok-rows-2.ensures ∙ ap (retained retain.True d c.other-item.result.now s) c.deref.ensures.value)
 
 pub returns : goal.returns
 returns c =
     let d = c.args.operand.now in
-    let s = c.args.made.now in
-    let past : length c.args.others.now ≤ c.loop-other.other-index = c.loop-other-test.false in
-    c.loop-other.invariant ∙ ap (λ (l : List (Bor DataSet)). filter (λ i. list_all (λ (e : Bor DataSet). has_point (key_width s) (left_of e.now s) (left_at d s i)) l) (range_with_len 0 (length d.points))) (take_all c.loop-other.other-index c.args.others.now past)
+    let others = c.args.others.now in
+    let past : length others ≤ c.loop-other.other-index = c.loop-other-test.false in
+    c.loop-other.invariant ∙ ap (λ (l : List (Bor DataSet)). filter (all_have d (shown l) c.args.made.now) (range_with_len 0 (length d.points))) (take_all c.loop-other.other-index others past)

@@ -1,10 +1,6 @@
 use Rattle.std.proofs.Common.{◌≡◌, ◌∷◌, ◌∙◌, ap, map, arith}
 use Rattle.std.proofs.lemmas.Result.{IfOk-weaker}
-use Rattle.std.proofs.lemmas.List.Elements.{recursion_from_All}
-use Rattle.std.specs.Borrow.{Bor}
 use Rattle.vtl_rows.specs.Tables.{Listed}
-use Rattle.vtl_tree.specs.DataSet.{IsDataSet}
-use Rattle.vtl_tree.specs.Environment.{DataSet}
 use Rattle.vtl_tree.specs.Shown.{shown}
 use Rattle.vtl_expr.proofs.TableLemmas.{made_is_table}
 use Rattle.vtl_expr.specs.Joined.{structures_of}
@@ -25,7 +21,7 @@ returns-clause-rows c =
     let s = c.args.made.now in
     let others = c.args.others.now in
     IfOk-weaker c.chosen_rows.result (λ (t : Listed). t.rows ≡ map (left_at d s) c.deref.result.now) (λ (t : Listed). t.rows ≡ intersection_of (d ∷ shown others) s)
-    (λ t e. e ∙ ap (map (left_at d s)) (c.deref.ensures.value ∙ c.in_ok-rows.ensures) ∙ chosen_by_all d others s) c.chosen_rows.ensures.rows
+    (λ t e. e ∙ ap (map (left_at d s)) (c.deref.ensures.value ∙ c.in_ok-rows.ensures) ∙ chosen_by_all d (shown others) s) c.chosen_rows.ensures.rows
 
 pub returns-clause-table : goal.returns-clause-table
 returns-clause-table c =
@@ -33,4 +29,4 @@ returns-clause-table c =
     let s = c.args.made.now in
     let others = c.args.others.now in
     made_is_table s c.chosen_rows.result (intersection_of (d ∷ shown others) s) c.chosen_rows.ensures.columns (returns-clause-rows c)
-    (intersection_kept (d ∷ shown others) s c.requires (c.are_data_sets.ensures 0 c.args.operand (omega arith), all_are_sets others (recursion_from_All (λ (e : Bor DataSet). IsDataSet e.now.structure e.now.points) others c.are_data_sets-2.ensures)))
+    (intersection_kept (d ∷ shown others) s c.requires (c.are_data_sets.ensures 0 c.args.operand (omega arith), all_are_sets others c.are_data_sets-2.ensures))

@@ -13,7 +13,7 @@ use Rattle.vtl_tree.specs.DataSet.{IsDataSet}
 use Rattle.vtl_expr.specs.TableOf.{table_columns}
 use Rattle.vtl_expr.proofs.TurnedKept.{pivot_kept}
 use Rattle.vtl_combine.specs.Pivots.{other_places, pivoted}
-use Rattle.vtl_combine.proofs.PivotLemmas.{all_pivoted, all_pivoted_fit}
+use Rattle.vtl_combine.proofs.PivotLemmas.{all_pivoted, all_pivoted_fit, led_by_others}
 use Rattle.vtl_combine.proofs.pivoting.pivot_table.Goals as goal
 
 pub first_rows-requires : goal.first_rows-requires
@@ -29,7 +29,8 @@ push_point-requires g c =
     let rows = c.table-table.result.now.rows in
     let items = c.deref-first-items.result.now in
     let first = get_or items c.loop-first.first-index 0 in
-    let firsts_are = c.deref-first-items.ensures.value ∙ c.in_ok-firsts.ensures ∙ ap firsts (c.in_ok-by.ensures ∙ ap (λ ps. leads_of (cells_at ps) rows) (c.deref.ensures.value ∙ is.others) ∙ ap (leads_of (cells_at (other_places id d.structure))) c.table-table.ensures.points) in
+    let led = led_by_others d id rows c.deref.result.now c.in_ok-by.field-0 c.in_ok-by.ensures (c.deref.ensures.value ∙ is.others) c.table-table.ensures.points in
+    let firsts_are = c.deref-first-items.ensures.value ∙ c.in_ok-firsts.ensures ∙ led in
     let P : ℕ → Type 0 = λ f. fits (table_columns s) (pivoted x (row_at d.points f)) ≡ true in
     let all = subst (AllByRecursion P) (sym firsts_are) (all_pivoted_fit d id c.args.measure.now x is s c.requires.made (subst (λ (l : List Row). IsDataSet d.structure l) c.table-table.ensures.points c.table-table.ensures.table.points)) in
     ap (λ (l : List Column). fits l (pivoted x c.row_or_none-row.result.now)) c.loop-first.invariant.columns
@@ -58,7 +59,8 @@ returns-clause-rows g c =
     let is = c.in_ok-pivot.ensures in
     let rows = c.table-table.result.now.rows in
     let items = c.deref-first-items.result.now in
-    let firsts_are = c.deref-first-items.ensures.value ∙ c.in_ok-firsts.ensures ∙ ap firsts (c.in_ok-by.ensures ∙ ap (λ ps. leads_of (cells_at ps) rows) (c.deref.ensures.value ∙ is.others) ∙ ap (leads_of (cells_at (other_places id d.structure))) c.table-table.ensures.points) in
+    let led = led_by_others d id rows c.deref.result.now c.in_ok-by.field-0 c.in_ok-by.ensures (c.deref.ensures.value ∙ is.others) c.table-table.ensures.points in
+    let firsts_are = c.deref-first-items.ensures.value ∙ c.in_ok-firsts.ensures ∙ led in
     c.loop-first.invariant.rows ∙ ap (map (λ k. pivoted x (row_at rows k))) (take_all c.loop-first.first-index items c.loop-first-test.false ∙ firsts_are)
     ∙ ap (λ (l : List Row). map (λ k. pivoted x (row_at l k)) (firsts (leads_of (cells_at (other_places id d.structure)) d.points))) c.table-table.ensures.points
     ∙ all_pivoted d id c.args.measure.now x is

@@ -1,9 +1,6 @@
-use Rattle.std.proofs.Common.{◌≡◌, ◌∙◌, filter}
+use Rattle.std.proofs.Common.{◌≡◌, ◌∙◌}
 use Rattle.std.proofs.lemmas.Result.{IfOk-weaker}
-use Rattle.vtl_index.specs.Seekers.{is_any_meant}
-use Rattle.vtl_rows.specs.Places.{row_at}
-use Rattle.vtl_expr.specs.Sets.{is_retained}
-use Rattle.vtl_combine.specs.Operands.{retained}
+use Rattle.vtl_combine.specs.Operands.{retained, retained_by}
 use Rattle.vtl_combine.proofs.OperandLemmas.{retained_is, sought_is}
 use Rattle.vtl_combine.proofs.retaining.retained_in.Goals as goal
 
@@ -13,6 +10,8 @@ returns g c =
     let e = c.args.other.now in
     let s = c.args.made.now in
     let rows = c.table-2.result.now.rows in
-    let found = sought_is d e s c.in_ok-seeker.seeker c.deref.result.now c.deref-2.result.now c.table.result.now.rows c.in_ok-seeker.ensures.value (c.deref.ensures.value ∙ c.in_ok-own.ensures) (c.deref-2.ensures.value ∙ c.in_ok-asked.ensures) c.table.ensures.points in
-    IfOk-weaker c.retained_by.result (λ v. v.items ≡ filter (λ i. is_retained c.args.retain (is_any_meant c.in_ok-seeker.seeker (row_at rows i))) c.args.rows.now) (λ v. v.items ≡ retained c.args.retain d e s c.args.rows.now)
-    (λ v h. h ∙ retained_is c.args.retain d e s c.in_ok-seeker.seeker rows c.args.rows.now found c.table-2.ensures.points) c.retained_by.ensures
+    let x = c.in_ok-seeker.seeker in
+    let found = sought_is d e s x c.deref.result.now c.deref-2.result.now c.table.result.now.rows c.in_ok-seeker.ensures.value
+    (c.deref.ensures.value ∙ c.in_ok-own.ensures) (c.deref-2.ensures.value ∙ c.in_ok-asked.ensures) c.table.ensures.points in
+    IfOk-weaker c.retained_by.result (λ v. v.items ≡ retained_by c.args.retain x rows c.args.rows.now) (λ v. v.items ≡ retained c.args.retain d e s c.args.rows.now)
+    (λ v h. h ∙ retained_is c.args.retain d e s x rows c.args.rows.now found c.table-2.ensures.points) c.retained_by.ensures

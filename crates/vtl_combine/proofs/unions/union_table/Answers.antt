@@ -1,12 +1,8 @@
 use Rattle.std.proofs.Common.{◌≡◌, ◌≤◌, ◌∙◌, ap, sym, subst, length, List}
-use Rattle.std.specs.Borrow.{Bor}
 use Rattle.std.specs.List.{AllByRecursion}
 use Rattle.std.proofs.lemmas.Result.{IfOk-weaker}
-use Rattle.std.proofs.lemmas.List.Elements.{recursion_from_All}
 use Rattle.vtl_cell.specs.Row.{Row, same_key}
 use Rattle.vtl_rows.specs.Tables.{Listed}
-use Rattle.vtl_tree.specs.DataSet.{IsDataSet}
-use Rattle.vtl_tree.specs.Environment.{DataSet}
 use Rattle.vtl_tree.specs.Shown.{shown}
 use Rattle.vtl_tree.specs.Structure.{key_width}
 use Rattle.vtl_expr.specs.TableOf.{table_columns}
@@ -46,4 +42,4 @@ returns-clause-table c =
     made_is_table s c.once_by_key.result (union_of (shown ds) s)
     (IfOk-weaker c.once_by_key.result (λ (t : Listed). t.columns ≡ c.in_ok-all.all.columns) (λ (t : Listed). t.columns ≡ table_columns s) (λ t e. e ∙ c.in_ok-all.ensures.columns) c.once_by_key.ensures.columns)
     (returns-clause-rows c)
-    (union_kept (shown ds) s c.requires (all_are_sets ds (recursion_from_All (λ (d : Bor DataSet). IsDataSet d.now.structure d.now.points) ds c.are_data_sets.ensures)))
+    (union_kept (shown ds) s c.requires (all_are_sets ds c.are_data_sets.ensures))

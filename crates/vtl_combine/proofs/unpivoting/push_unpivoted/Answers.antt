@@ -1,12 +1,11 @@
-use Rattle.std.proofs.Common.{◌≡◌, ◌∙◌, ◌++◌, true, ap, sym, subst, map, take, append_assoc}
+use Rattle.std.proofs.Common.{◌≡◌, ◌∙◌, true, sym, subst}
 use Rattle.std.specs.Prelude.{IfSome}
-use Rattle.std.specs.Option.{option_to_list}
 use Rattle.vtl_cell.specs.Row.{Row}
 use Rattle.vtl_rows.specs.Tables.{fits}
 use Rattle.vtl_rows.specs.declared.column.Column.{Column}
 use Rattle.std.specs.Prelude.{List}
-use Rattle.vtl_combine.specs.Unpivots.{measure_by, named_row, unpivoted}
-use Rattle.vtl_combine.proofs.UnpivotLemmas.{drawn_holds, drawn_next}
+use Rattle.vtl_combine.specs.Unpivots.{measure_by, named_row}
+use Rattle.vtl_combine.proofs.UnpivotLemmas.{drawn_holds, drawn_next_behind}
 use Rattle.vtl_combine.proofs.unpivoting.push_unpivoted.Goals as goal
 
 pub push_value-requires : goal.push_value-requires
@@ -18,14 +17,9 @@ push_value-requires c =
 pub loop-measure-preserved : goal.loop-measure-preserved
 loop-measure-preserved c =
     let h = named_row c.args.identifiers.now c.args.row.now in
-    let measures = c.args.measures.now in
-    let i = c.loop-measure.measure-index in
-    let old = c.args.out.now.rows in
-    let before = unpivoted c.args.identifiers.now (map measure_by (take i measures)) c.args.row.now in
-    let one = option_to_list (h (measure_by c.measure-item.result)) in
     record {
       columns = c.push_value.ensures.columns ∙ c.loop-measure.invariant.columns;
       rows =
-          c.in_ok-push_value.ensures.rows ∙ ap (λ l. l ++ one) c.loop-measure.invariant.rows ∙ append_assoc old before one
-          ∙ ap (λ l. old ++ l) (sym (drawn_next h measure_by measures i c.measure-item.result c.loop-measure-test.true c.measure-item.is));
+          drawn_next_behind h measure_by c.args.measures.now c.loop-measure.measure-index c.measure-item.result c.args.out.now.rows c.loop-measure.out.rows c.push_value.new.out.rows c.loop-measure-test.true
+          c.measure-item.is c.loop-measure.invariant.rows c.in_ok-push_value.ensures.rows;
     }
