@@ -1,0 +1,5 @@
+pub mod AmountLemmas
+pub mod FirstLemmas
+pub mod KnownLemmas
+pub mod MeanLemmas
+pub mod MiddleLemmas
