@@ -1,5 +1,5 @@
 -- What is known after one value more, and the value of an aggregate by what is known.
-use Rattle.std.proofs.Common.{◌≡◌, ℕ, ◌-◌, ◌<◌, ◌≤◌, ◌^◌, pos, ℤ, List, [], ◌∷◌, ◌++◌, length, map, Bool, true, false, not, cond, refl, sym, ap, ◌∙◌, Ok, Some, arith, subst}
+use Rattle.std.proofs.Common.{◌≡◌, ℕ, ◌-◌, ◌<◌, ◌≤◌, ◌^◌, pos, ℤ, List, [], ◌∷◌, ◌++◌, length, map, Bool, true, false, not, cond, refl, sym, ap, ◌∙◌, Ok, Some, arith, subst, true≢false}
 use Rattle.std.specs.Prelude.{◌==◌, ◌+ℤ◌, ◌*ℤ◌, fold}
 use Rattle.std.specs.Int.RustNames.{int_le}
 use Rattle.std.specs.List.{AllByRecursion}
@@ -25,8 +25,8 @@ use Rattle.vtl_cell.specs.declared.kind.Kind.TheVariants as k
 use Rattle.vtl_cell.specs.declared.operator.AggKind.{AggKind}
 use Rattle.vtl_cell.specs.declared.operator.AggKind.TheVariants as agg
 use Rattle.vtl_cell.proofs.Aggregates.{rising_order, falling_order}
-use Rattle.vtl_agg.specs.Added.{Added, IsAdded, HasRoom, Known, counted, totalled, first, listed, amount_of, known_of, known_with, factor_of, sum_value, mean_units, total_value, median_value}
-use Rattle.vtl_agg.specs.States.{IsRoomy}
+use Rattle.vtl_agg.specs.Added.{Added, takes_memory, IsAdded, HasRoom, Known, counted, totalled, first, listed, amount_of, known_of, known_with, factor_of, sum_value, mean_units, total_value, median_value}
+use Rattle.vtl_agg.specs.States.{IsRoomy, is_small}
 use Rattle.vtl_agg.proofs.AmountLemmas.{AreWhole, all_whole, are_whole, numbers_are, times_one, total_in_units, wholes_are}
 use Rattle.vtl_agg.proofs.FirstLemmas.{NoNulls, first_with}
 
@@ -71,6 +71,15 @@ pub is_roomy : (a : Added) → HasRoom a → IsRoomy a.known
 is_roomy a r =
     let few : length (values_of r.0) < 2 ^ 63 = omega (arith, r.2, fewer r.0) in
     subst IsRoomy (sym r.1.knows) (room_for a.kind (values_of r.0) few)
+
+small_known : (kind : AggKind) (xs : List Cell) → takes_memory kind ≡ false → is_small (known_of kind xs) ≡ true
+small_known agg.Sum xs e = refl
+small_known agg.Avg xs e = refl
+small_known agg.Count xs e = refl
+small_known other xs e = absurd (true≢false e)
+
+pub stays_small : (a : Added) → HasRoom a → takes_memory a.kind ≡ false → is_small a.known ≡ true
+stays_small a r e = ap is_small r.1.knows ∙ small_known a.kind (values_of r.0) e
 
 -- ---- one value more
 tally_at_end : (ns : List ℤ) (n : ℤ) → tally_with (tally_of ns) n ≡ tally_of (ns ++ n ∷ [])
@@ -131,13 +140,13 @@ sum_is p false x xs all =
     (ap (λ n. number (fit_number n)) (times_one (fold ◌+ℤ◌ (pos 0) (map amount_of (x ∷ xs))) ∙ sym (total_in_units p.scale false (map amount_of (x ∷ xs))))
     ∙ ap (λ ns. number (fit_number (tally_of ns).total)) (sym (numbers_are p.scale false (x ∷ xs) all)))
 
-some_count : (n : ℤ) (ns : List ℤ) → (length (n ∷ ns) == 0) ≡ false
+pub some_count : (n : ℤ) (ns : List ℤ) → (length (n ∷ ns) == 0) ≡ false
 some_count n ns = grind arith
 
 of_some : {A : Type 0} (n : ℕ) (a b : A) → (n == 0) ≡ false → cond (n == 0) a b ≡ b
 of_some n a b e = rw e refl
 
-mean_of_some : (m : Rounding) (n : ℕ) (total : ℤ) → (n == 0) ≡ false → mean_of m (record { count = n; total = total }) ≡ Some (rounded_quotient m total (pos n))
+pub mean_of_some : (m : Rounding) (n : ℕ) (total : ℤ) → (n == 0) ≡ false → mean_of m (record { count = n; total = total }) ≡ Some (rounded_quotient m total (pos n))
 mean_of_some m n total e = rw e refl
 
 mean_is : (p : Settings) (whole : Bool) (x : Cell) (xs : List Cell) → AreWhole whole (x ∷ xs) → number (fit_number (mean_units p whole (tally_of (map amount_of (x ∷ xs))))) ≡ mean_value p (x ∷ xs)

@@ -3,3 +3,4 @@ pub mod FirstLemmas
 pub mod KnownLemmas
 pub mod MeanLemmas
 pub mod MiddleLemmas
+pub mod RangeLemmas

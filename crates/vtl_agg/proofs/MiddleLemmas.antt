@@ -74,7 +74,7 @@ int_one_way (pos a) (negsuc b) = inr refl
 int_one_way (negsuc a) (pos b) = inl refl
 int_one_way (negsuc a) (negsuc b) = nat_one_way b a
 
-int_order : IsOrder int_le
+pub int_order : IsOrder int_le
 int_order = record {
   total = int_one_way;
   trans = λ x y z e h. grind (arith, ints);

@@ -8,9 +8,11 @@ use Rattle.vtl_decimal.specs.Rounding.{rounded_quotient}
 use Rattle.vtl_decimal.specs.Settings.{Settings}
 use Rattle.vtl_decimal.specs.Tally.{Tally, tally_of, tally_with}
 use Rattle.vtl_cell.specs.Groups.{values_of, middle_of, least, greatest}
+use Rattle.vtl_cell.specs.Held.{IsHeld}
 use Rattle.vtl_cell.specs.Kinds.{is_null, is_of}
 use Rattle.vtl_cell.specs.Order.{cell_cmp}
 use Rattle.vtl_cell.specs.Outcome.{Outcome}
+use Rattle.vtl_cell.specs.Profile.{IsOfProfile}
 use Rattle.vtl_cell.specs.ScalarArithmetic.{integer, number}
 use Rattle.vtl_cell.specs.Sorting.{sorted_by}
 use Rattle.vtl_cell.specs.declared.cell.Cell.{Cell}
@@ -54,6 +56,23 @@ pub record IsAdded (a : Added) (cells : List Cell) : Type 0 where
 -- fewer than 2 ^ 63 cells were added
 abbrev pub HasRoom : Added → Type 0
 HasRoom a = (cells : List Cell) × IsAdded a cells × (length cells < 2 ^ 63)
+
+-- the least and the greatest keep a cell, and the median keeps all amounts
+abbrev pub takes_memory : AggKind → Bool
+takes_memory agg.Min = true
+takes_memory agg.Max = true
+takes_memory agg.Median = true
+takes_memory other = false
+
+-- a total and a count may be out of range, whatever the values are
+abbrev pub may_be_out_of_range : AggKind → Bool
+may_be_out_of_range agg.Sum = true
+may_be_out_of_range agg.Count = true
+may_be_out_of_range other = false
+
+-- a cell that a program holds, of the profile if it is an integer
+abbrev pub IsProper : Settings → Cell → Type 0
+IsProper p x = IsHeld x × IsOfProfile p x
 
 -- ---- one value more
 

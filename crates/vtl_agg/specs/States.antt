@@ -1,5 +1,5 @@
 -- What is known by what an accumulator keeps.
-use Rattle.std.specs.Prelude.{◌<◌, ◌^◌}
+use Rattle.std.specs.Prelude.{Bool, true, false, ◌<◌, ◌^◌}
 use Rattle.vtl_agg.specs.Added.{Known, counted, totalled, first, listed}
 use Rattle.vtl_agg.specs.declared.state.State.{State}
 use Rattle.vtl_agg.specs.declared.state.State.TheVariants as s
@@ -15,3 +15,9 @@ abbrev pub IsRoomy : Known → Type 0
 IsRoomy (counted n) = n < 2 ^ 63
 IsRoomy (totalled t) = t.count < 2 ^ 63
 IsRoomy other = Unit {0}
+
+-- it is kept in a few words
+abbrev pub is_small : Known → Bool
+is_small (counted n) = true
+is_small (totalled t) = true
+is_small other = false

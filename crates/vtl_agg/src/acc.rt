@@ -1,6 +1,6 @@
 // The accumulator of an aggregate.
-ghost use Rattle.std.specs.Prelude.{◌≡◌, true, List, [], ◌∷◌, ◌++◌, OnOk, OnErr};
-ghost use Rattle.vtl_agg.specs.Added.{HasRoom, IsAdded};
+ghost use Rattle.std.specs.Prelude.{◌≡◌, true, false, IsOk, List, [], ◌∷◌, ◌++◌, OnOk, OnErr};
+ghost use Rattle.vtl_agg.specs.Added.{HasRoom, IsAdded, takes_memory};
 ghost use Rattle.vtl_cell.specs.Groups.{group_value};
 ghost use Rattle.vtl_cell.specs.Kinds.{is_of};
 ghost use Rattle.vtl_cell.specs.declared.cell.Cell as cells;
@@ -63,6 +63,7 @@ impl Acc {
         ensures of { self.new.of ≡ self.old.of }
         ensures added { OnOk result ((xs : List cells.Cell) → IsAdded self.old xs → IsAdded self.new (xs ++ c.now ∷ [])) }
         ensures err { OnErr result (self.new ≡ self.old) }
+        ensures sure { takes_memory self.old.kind ≡ false → IsOk result }
     {
         if let Cell::Null = c {
             return Ok(());

@@ -7,8 +7,10 @@
 #![tactic(auto)]
 
 mod acc;
+mod laws;
 mod numbers;
 mod state;
 mod total;
 
 pub use acc::Acc;
+pub use laws::only_totals_and_counts_are_out_of_range;

@@ -1,7 +1,7 @@
 // What is kept of the cells.
-ghost use Rattle.std.specs.Prelude.{◌≡◌, ◌^◌, ◌<◌, ◌≤◌, ◌*ℤ◌, [], length, map, pos, unsigned_abs, OnOk, OnErr};
+ghost use Rattle.std.specs.Prelude.{◌≡◌, ◌^◌, ◌<◌, ◌≤◌, ◌*ℤ◌, [], true, IsOk, length, map, pos, unsigned_abs, OnOk, OnErr};
 ghost use Rattle.vtl_agg.specs.Added.{Known, known_of, known_with, amount_of, is_before, median_value};
-ghost use Rattle.vtl_agg.specs.States.{known, IsRoomy};
+ghost use Rattle.vtl_agg.specs.States.{known, IsRoomy, is_small};
 ghost use Rattle.vtl_cell.specs.Groups.{middle_of};
 ghost use Rattle.vtl_cell.specs.ScalarArithmetic.{integer, number};
 ghost use Rattle.vtl_decimal.specs.Range.{fit_integer, fit_number};
@@ -59,6 +59,7 @@ pub(crate) fn add_value(state: &mut State, kind: AggKind, c: &Cell) -> Result<()
     requires { IsRoomy (known state.old) }
     ensures added { OnOk result (known state.new ≡ known_with kind (known state.old) c.now) }
     ensures err { OnErr result (known state.new ≡ known state.old) }
+    ensures sure { is_small (known state.old) ≡ true → IsOk result }
 {
     match state {
         State::Count(count) => *count += 1,

@@ -2,8 +2,8 @@ use Rattle.std.proofs.Common.{◌≡◌, false, sym, ap, ◌∙◌, subst}
 use Rattle.std.proofs.lemmas.Result.{on_ok_weaker, on_err_weaker}
 use Rattle.vtl_cell.specs.Kinds.{is_null}
 use Rattle.vtl_agg.specs.Added.{known_with}
-use Rattle.vtl_agg.specs.States.{IsRoomy, known}
-use Rattle.vtl_agg.proofs.KnownLemmas.{added_value, is_roomy, not_null, seen}
+use Rattle.vtl_agg.specs.States.{IsRoomy, is_small, known}
+use Rattle.vtl_agg.proofs.KnownLemmas.{added_value, is_roomy, stays_small, not_null, seen}
 use Rattle.vtl_agg.proofs.acc.Acc.add.Goals as goal
 
 pub add_value-requires : goal.add_value-requires
@@ -30,3 +30,6 @@ returns-clause-err c =
     on_err_weaker c.add_value.result
     (λ e. ap (λ k. seen c.self.inside.kind c.self.inside.of k) e ∙ c.self.view_is)
     c.add_value.ensures.err
+
+pub returns-clause-sure : goal.returns-clause-sure
+returns-clause-sure c = λ e. c.add_value.ensures.sure (ap (λ a. is_small a.known) c.self.view_is ∙ stays_small c.args.self.now c.requires.room e)
