@@ -234,7 +234,7 @@ fi
 if wanted sentences; then
     compared README.md status '| status | code |' '4 3 2' '3 4 6'
     compared docs/USING.md status '| status | what to do |' 2 5
-    compared docs/USING.md syntax '| a text is no script where' '2 3' '4 5'
+    compared docs/USING.md syntax '| a text is no script where' '2 3 4' '3 4 5'
     compared docs/TYPES.md types '| rule | is broken where |' '2 3 4' '3 4 5'
     compared docs/FILES.md structures '| rule | is broken where |' '2 3 4' '3 4 5'
     compared docs/FILES.md input '| kind | where |' '2 3 4' '3 4 5'

@@ -42,7 +42,7 @@ function tell_place(key) {
     if (key == "deep" || key == "long") return
     if (far > tokens && fault != "") tell("read", "up to " place_in_words(row, at))
     else if (far > tokens) tell("read", "up to the end of the file")
-    else tell("read", "up to " code(token_text[far]) " at " place_in_words(token_row[far], token_at[far]))
+    else tell("read", "up to " code(token_text[far]) " at " place_of_token(far))
     if (fault == "" || far <= tokens) tell("expected", shown(expected(), 200))
 }
 
@@ -129,7 +129,7 @@ function names_here(number, rule,    token, name, told, unknown, seen) {
 # What helps to know of a name in a statement that breaks a rule.
 function fact_of(name, rule) {
     if (rule == 4 && name in holders) return code(name) " is in " shown(holders[name], 80)
-    if (rule >= 6 && rule <= 8 && name in holders) return code(name) " is " (sort_of[name] ~ /^[ia]/ ? "an " : "a ") sort_of[name]
+    if (rule >= 6 && rule <= 8 && name in holders) return code(name) " is " (sort_of[name] ~ /^m/ ? "a " : "an ") sort_of[name]
     if (rule == 9 && name in declared) return code(name) " has the identifiers " shown(of_role[name, "identifier"], 80)
     if (rule == 10 && name in declared) return code(name) " has " measures_of(name)
     return ""
@@ -160,7 +160,9 @@ function unknown_set(name,    other, known) {
 
 # An identifier without codes in one of the data sets.
 function without_codes(name, sets,    set) {
-    for (set in sets) if (role[set, name] == "identifier" && codes[set, name] == "") return code(name) " has no codes in " code(set)
+    for (set in sets) {
+        if (role[set, name] == "identifier" && codes[set, name] == "") return code(name) " has no codes in " code(set)
+    }
     return ""
 }
 
@@ -275,7 +277,7 @@ function unbuilt_line(    token, number) {
         for (token = first_token[number]; token <= last_token[number]; token++) {
             if (!(symbol[token] in unbuilt)) continue
             tell_statement(script, number)
-            tell("here", code(token_text[token]) " at " place_in_words(token_row[token], token_at[token]) " is of a form that is not run yet")
+            tell("here", code(token_text[token]) " at " place_of_token(token) " is of a form that is not run yet")
             tell_status("Unbuilt")
             return
         }
@@ -321,14 +323,16 @@ function not_text_line(path,    line, number) {
 # `error: usage`
 function usage_line(    paths) {
     paths = ARGV[1] == "check" ? 2 : 4
-    tell("here", ARGC < 2 ? "no words" : ARGV[1] !~ /^(run|check)$/ ? quoted(ARGV[1]) " is no command" : words_fact(paths))
+    tell("here", words_fact(paths))
     tell_status("Usage")
 }
 
 # The first word that has no place.
 function words_fact(paths,    i, seen) {
+    if (ARGC < 2) return "no words"
+    if (ARGV[1] !~ /^(run|check)$/) return quoted(ARGV[1]) " is no command"
     for (i = 1; i < ARGC; i++) if (!is_text(ARGV[i])) return "a word is not UTF-8"
-    for (i = 2; i < ARGC && i < paths + 2; i++) if (ARGV[i] ~ /^--(scale|round)$/) return quoted(ARGV[i]) " stands where a path is wanted"
+    for (i = 2; i < ARGC && i < paths + 2; i++) if (ARGV[i] ~ /^--(scale|round)$/) return quoted(ARGV[i]) " stands for a path"
     if (ARGC < paths + 2) return (ARGC - 2) " of " paths " paths"
     for (i = paths + 2; i < ARGC; i += 2) {
         if (ARGV[i] !~ /^--(scale|round)$/) return quoted(ARGV[i]) " is no option"
@@ -336,7 +340,7 @@ function words_fact(paths,    i, seen) {
         seen[ARGV[i]]
         if (i + 1 == ARGC) return quoted(ARGV[i]) " has nothing after it"
         if (ARGV[i] == "--scale" && ARGV[i + 1] !~ /^[0-9]$/) return quoted(ARGV[i + 1]) " is no number of digits, 0 to 9"
-        if (ARGV[i] == "--round" && ARGV[i + 1] !~ /^(half_up|half_even|down)$/) return quoted(ARGV[i + 1]) " is none of `half_up`, `half_even`, `down`"
+        if (ARGV[i] == "--round" && ARGV[i + 1] !~ /^(half_up|half_even|down)$/) return quoted(ARGV[i + 1]) " is no rounding"
     }
     return ""
 }

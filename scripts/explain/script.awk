@@ -163,6 +163,8 @@ function place_in_words(line, from,    front) {
     return "line " line ", column " characters(front) + 1
 }
 
+function place_of_token(token) { return place_in_words(token_row[token], token_at[token]) }
+
 # What stands in the script from a place to the end of the line or of the statement, which may go on.
 function text_from(line, from, last,    text, ends) {
     text = substr(script_line[line], from, 400)
@@ -175,6 +177,6 @@ function text_from(line, from, last,    text, ends) {
 # Where a statement stands, and its first line.
 function tell_statement(path, number,    token) {
     token = first_token[number]
-    tell("where", shown(path, 200) ", " place_in_words(token_row[token], token_at[token]) ", statement " number)
+    tell("where", shown(path, 200) ", " place_of_token(token) ", statement " number)
     tell("", text_from(token_row[token], token_at[token], number == statements && fault != "" ? 0 : last_token[number]))
 }
