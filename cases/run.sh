@@ -6,6 +6,8 @@ vtl=$top/crates/vtl/out/vtl
 probe=$top/crates/vtl_probe/out/vtl_probe
 made=$(mktemp -d) || exit 1
 trap 'chmod -R u+rwx "$made"; rm -rf "$made"' EXIT
+newline='
+'
 passed=0
 failed=0
 unset VTL_EXPLAIN
@@ -151,6 +153,18 @@ compared() {
     fi
 }
 
+# The line of a case and what is told of it, as they stand on a page.
+transcribed() {
+    cat "$2/line" "$2/told" >"$made/wanted"
+    if awk 'FNR == NR { wanted = wanted $0 "\n"; next }
+        { page = page $0 "\n" }
+        END { exit !index(page, "```\n" wanted "```\n") }' "$made/wanted" "$1"; then
+        pass
+    else
+        fail "$1: not what $2 tells"
+    fi
+}
+
 # Whether the folder written to holds exactly the files that are wanted.
 written() {
     if [ -d "$1" ]; then
@@ -169,6 +183,17 @@ refused() {
     else
         fail "$1: check: exit code $code: $(head -n 1 "$made/said") $(head -n 1 "$made/told")"
     fi
+}
+
+# A table of texts, read by the grammar that the launcher takes from its page.
+read_by_page() {
+    parts=scripts/explain
+    LC_ALL=C awk -f $parts/text.awk -f $parts/script.awk -f $parts/grammar.awk -f $parts/records.awk \
+        -f cases/explain/syntax.awk -- "$1" >"$made/said" 2>&1
+    case $(tail -n 1 "$made/said") in
+        [1-9]*' passed, 0 failed') pass ;;
+        *) fail "$1: read otherwise by docs/LANGUAGE.md: $(head -n 3 "$made/said")" ;;
+    esac
 }
 
 # A number that has a bound.
@@ -194,6 +219,7 @@ for folder in cases/*/; do
             VTL_EXPLAIN=1
             export VTL_EXPLAIN
             for case in cases/explain/*/; do explained "$top/${case%/}"; done
+            for file in cases/syntax/*.csv; do read_by_page "$file"; done
             unset VTL_EXPLAIN
             program=$vtl
             ;;
@@ -229,6 +255,11 @@ fi
 if wanted launcher && [ -x "$vtl" ]; then
     program=$top/vtl
     for case in words_none no_script filter_keeps_points_above_five; do run "$top/cases/run/$case"; done
+    VTL_EXPLAIN=0
+    export VTL_EXPLAIN
+    run "$top/cases/run/no_script"
+    unset VTL_EXPLAIN
+    if [ "$("$program" --version | sed 's/,* .*//')" = "vtl${newline}proved" ]; then pass; else fail "vtl --version"; fi
 fi
 # The pages have the sentences of which explanations are made.
 if wanted sentences; then
@@ -239,6 +270,7 @@ if wanted sentences; then
     compared docs/FILES.md structures '| rule | is broken where |' '2 3 4' '3 4 5'
     compared docs/FILES.md input '| kind | where |' '2 3 4' '3 4 5'
     compared docs/FILES.md type '| type | what a field may say |' 2 3
+    for case in cases/explain/mistake_*/; do transcribed docs/USING.md "${case%/}"; done
 fi
 if wanted check && [ -x "$probe" ]; then
     for case in cases/run/*/; do

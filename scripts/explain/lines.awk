@@ -304,8 +304,22 @@ function read_unbuilt(path,    line, part, count, i, word) {
 # A status that names a path, with what the launcher saw there.
 function path_line(status, path) {
     tell("where", shown(path, 200))
-    tell("here", fact)
+    tell("here", shown(fact, 200) (status == "NoFile" ? near_file(path) : ""))
     tell_status(status)
+}
+
+# The file of its folder that has nearly the name, and is none of another data set.
+function near_file(path,    name, count, i, set, names, other) {
+    sub(/.*\//, "", path)
+    read_structures(structures)
+    count = split(ENVIRON["VTL_NAMES"], name, "\n")
+    for (i = 1; i <= count; i++) {
+        set = name[i]
+        sub(/[.]csv$/, "", set)
+        if (!(set in declared)) names[name[i]]
+    }
+    other = nearest(path, names)
+    return other == "" ? "" : "; is " code(other) " meant?"
 }
 
 # `error: not text: PATH`: the first line that is not UTF-8.
