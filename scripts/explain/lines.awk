@@ -99,8 +99,8 @@ function type_line(number, rule) {
     tell_rule("types", rule)
 }
 
-# The results of statements, and the names that the script makes: targets, new names, aliases.
-function gather_names(last,    number, token) {
+# The results of statements, and the names that the script makes: targets, new names, aliases, and codes by `pivot`.
+function gather_names(last,    number, token, component) {
     for (number = 1; number <= statements; number++) {
         token = first_token[number]
         if (!(token_text[token] in made_by)) made_by[token_text[token]] = number
@@ -110,7 +110,8 @@ function gather_names(last,    number, token) {
         if (symbol[token + 1] ~ /^(:=|<-)$/ || symbol[token - 1] ~ /^(to|as|unpivot)$/) named_in[token_text[token]]
         if (symbol[token - 1] == "," && symbol[token - 3] == "unpivot") named_in[token_text[token]]
     }
-    named_in["bool_var"] named_in["int_var"]
+    include(named_in, "bool_var int_var errorcode errorlevel imbalance")
+    for (component in codes) include(named_in, codes[component], "[|]")
 }
 
 # What is known of the names that stand in a statement, as far as it helps with the rule.
@@ -250,21 +251,22 @@ function header_fact(dataset,    i, present, names, count, told) {
         else if (!((dataset, header[i]) in type)) told = with_fact(told, quoted(header[i]) " is no component of " code(dataset))
         present[header[i]]
     }
-    count = split(declared[dataset], names, ", ")
-    for (i = 1; i <= count; i++) if (!(names[i] in present)) told = with_fact(told, code(names[i]) " is missing")
+    count = split(declared[dataset], names, "\n")
+    for (i = 1; i < count; i++) if (!(names[i] in present)) told = with_fact(told, code(names[i]) " is missing")
     return shown(told, 300)
 }
 
 # The first point before this one whose identifiers stand as the same texts.
-function earlier_point(path, dataset, number,    i, key, wanted) {
+function earlier_point(path, dataset, number,    i, key, same) {
+    if (!(dataset in declared)) return ""
     for (i = 1; i <= headers; i++) if (role[dataset, header[i]] == "identifier") key[i] = field[i]
     begin_records(path)
     next_record()
     while (record_number < number - 1 && next_record()) {
         split_record()
-        wanted = 1
-        for (i in key) if (field[i] != key[i]) wanted = 0
-        if (wanted) return "line " record_line " has the same identifiers: " shown(record, 80)
+        same = 1
+        for (i in key) if (field[i] != key[i]) same = 0
+        if (same) return "line " record_line " has the same identifiers: " shown(record, 80)
     }
     return "an earlier point has the same identifiers, written otherwise"
 }

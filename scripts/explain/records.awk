@@ -104,7 +104,7 @@ function read_structures(path,    set, name) {
         if (record_number == 1 || fields != 5) continue
         set = field[1]
         name = field[2]
-        declared[set] = joined(declared[set], name)
+        declared[set] = declared[set] name "\n"
         role[set, name] = field[3]
         type[set, name] = field[4]
         codes[set, name] = field[5]

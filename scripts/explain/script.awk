@@ -16,29 +16,31 @@ function read_script(path,    line, start) {
 }
 
 # Reads the tokens up to the first byte from which none starts, whose kind of fault is `fault`.
-function read_tokens(    piece) {
+function read_tokens(    first) {
+    include(long_signs, ":= <- <> <= >= ||")
     row = 1
     at = substr(script_line[1], 1, 3) == "\357\273\277" ? 4 : 1
     while (fault == "" && to_token()) {
-        piece = substr(script_line[row], at, window())
-        if (piece ~ /^"/) string_token()
-        else if (piece ~ /^'/) quoted_token(piece)
-        else if (match(piece, /^[A-Za-z][A-Za-z0-9_.]*/)) word_token(substr(piece, 1, RLENGTH))
-        else if (piece ~ /^[0-9]/) number_token(piece)
-        else if (match(piece, /^(:=|<-|<>|<=|>=|[|][|]|[][<>=+*\/(){},;:#-])/)) add_token(substr(piece, 1, RLENGTH), RLENGTH)
+        first = substr(script_line[row], at, 1)
+        if (substr(script_line[row], at, 2) in long_signs) add_token(substr(script_line[row], at, 2), 2)
+        else if (index("[]<>=+*/(){},;:#-", first)) add_token(first, 1)
+        else if (first == "\"") string_token()
+        else if (first == "'") quoted_token(substr(script_line[row], at, window()))
+        else if (first ~ /[A-Za-z]/) word_token(substr(script_line[row], at, window()))
+        else if (first ~ /[0-9]/) number_token(substr(script_line[row], at, window()))
         else fault = "character"
     }
 }
 
 # Goes past white space and comments; whether a token follows.
-function to_token(    piece) {
+function to_token(    first) {
     while (row <= rows) {
-        piece = substr(script_line[row], at, window())
-        if (match(piece, /^[ \t\r]+/)) at += RLENGTH
-        else if (piece == "" || piece ~ /^\/\//) {
+        first = substr(script_line[row], at, 1)
+        if (first == " " || first == "\t" || first == "\r") at++
+        else if (first == "" || (first == "/" && substr(script_line[row], at, 2) == "//")) {
             row++
             at = 1
-        } else if (piece !~ /^\/[*]/) return 1
+        } else if (first != "/" || substr(script_line[row], at, 2) != "/*") return 1
         else if (!past("*/", row, at + 2)) {
             fault = "comment"
             return 0
@@ -83,13 +85,14 @@ function add_token(form, width) {
     at += width
 }
 
-function word_token(word) {
-    if (length(word) > 64) {
+function word_token(piece) {
+    match(piece, /^[A-Za-z0-9_.]+/)
+    if (RLENGTH > 64) {
         fault = "word"
         return
     }
-    add_token(word, length(word))
-    if (!(word in reserved)) symbol[tokens] = "NAME"
+    add_token(substr(piece, 1, RLENGTH), RLENGTH)
+    if (!(symbol[tokens] in reserved)) symbol[tokens] = "NAME"
 }
 
 function number_token(piece) {

@@ -118,5 +118,11 @@ function file_path(path) {
 # A list, and one more.
 function joined(list, item) { return list == "" ? item : list ", " item }
 
+# Puts words that are parted by a mark into a set.
+function include(set, words, mark,    word, count) {
+    count = split(words, word, mark == "" ? " " : mark)
+    while (count > 0) set[word[count--]]
+}
+
 # Facts, and one more.
 function with_fact(told, more) { return more == "" ? told : (told == "" ? "" : told "; ") more }
