@@ -179,9 +179,18 @@ function structures_line(number, rule) {
     if (to_record(structures, number)) tell_record(structures)
     else tell("where", shown(structures, 200))
     if (rule == 1) tell("header", "dataset,component,role,type,codes")
-    else if (rule == 2) tell("here", fields " fields")
     else if (rule == 7) tell_earlier(structures, number, 1, 2)
+    else tell("here", declaration_fact(rule))
     tell_rule("structures", rule)
+}
+
+# The field of a declaration that breaks a rule, and the role or type that may be meant.
+function declaration_fact(rule,    place, known) {
+    if (rule == 2) return fields " fields"
+    if (rule == 5) include(known, "identifier measure attribute")
+    if (rule == 6) include(known, "integer number string boolean date time_period")
+    place = rule == 8 ? 5 : rule - 2
+    return rule < 9 ? "field " place " is " with_nearest(field[place], known) : ""
 }
 
 # Where a record stands, and its text.
