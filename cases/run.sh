@@ -1,13 +1,16 @@
 #!/bin/sh
 # Runs all of cases/ and examples/ by the built programs, in a few seconds: cases/run.sh [NAME ..], where a NAME is a folder
-# of cases/, `examples`, `launcher`, `check` or `ways`. Prints what differs, and at the end 'N passed, M failed'.
+# of cases/, `examples`, `launcher`, `sentences`, `check` or `ways`. Prints what differs, and at the end 'N passed, M failed'.
 top=$(CDPATH='' cd -- "$(dirname -- "$0")/.." && pwd) || exit 1
 vtl=$top/crates/vtl/out/vtl
 probe=$top/crates/vtl_probe/out/vtl_probe
 made=$(mktemp -d) || exit 1
 trap 'chmod -R u+rwx "$made"; rm -rf "$made"' EXIT
+newline='
+'
 passed=0
 failed=0
+unset VTL_EXPLAIN
 
 pass() { passed=$((passed + 1)); }
 
@@ -61,7 +64,8 @@ run() {
     folder=$made/folder
     rm -rf "$folder"
     cp -R "$case" "$folder"
-    rm -rf "$folder/expected" "$folder/line" "$folder/code" "$folder/words" "$folder/setup" "$folder/out"
+    [ -e "$folder/structures.csv" ] || [ ! -e "$case/../structures.csv" ] || cp "$case/../structures.csv" "$folder"
+    rm -rf "$folder/expected" "$folder/line" "$folder/code" "$folder/told" "$folder/words" "$folder/setup" "$folder/out"
     mkdir "$folder/out"
     if [ -e "$case/setup" ] && ! (cd "$folder" && sh "$case/setup"); then
         fail "$case: setup failed"
@@ -77,14 +81,87 @@ run() {
     wanted_code=$(cat "$case/code" 2>/dev/null || echo 0)
     wanted_line=$case/line
     [ -e "$wanted_line" ] || wanted_line=/dev/null
+    wanted_told=$case/told
+    [ -e "$wanted_told" ] || wanted_told=/dev/null
     if [ "$code" != "$wanted_code" ]; then
         fail "$case: exit code $code, wanted $wanted_code: $(head -n 1 "$made/said")"
-    elif ! cmp -s "$wanted_line" "$made/said" || [ -s "$made/told" ]; then
-        fail "$case: printed $(head -n 1 "$made/said") $(head -n 1 "$made/told")"
+    elif ! cmp -s "$wanted_line" "$made/said"; then
+        fail "$case: printed $(head -n 1 "$made/said")"
+    elif ! cmp -s "$wanted_told" "$made/told"; then
+        fail "$case: other words on standard error"
+        diff "$wanted_told" "$made/told"
     elif ! written "$case/expected" "$folder/out"; then
         fail "$case: other files were written"
     else
         pass
+    fi
+}
+
+# A run by the launcher, which explains its line; without a structures file of its own it has the one beside the cases.
+# Where a case gives a line, that is explained, and nothing is run.
+explained() {
+    case=$1
+    if [ ! -e "$case/said" ]; then
+        run "$case"
+    elif (cd "$case" && "$top/scripts/explain.sh" "$(cat said)" run script.vtl ../structures.csv in out) >"$made/said" 2>&1 &&
+        cmp -s "$case/told" "$made/said"; then
+        pass
+    else
+        fail "$case: explained otherwise"
+        diff "$case/told" "$made/said"
+    fi
+}
+
+# The rows of tables on a page, as docs/sentences.tsv has them.
+rows_of() {
+    awk -v table="$2" -v header="$3" -v order="$4" '
+        index($0, header) == 1 { inside = 1; getline; next }
+        !/^[|]/ { inside = 0 }
+        inside {
+            sub(/^[|] /, "")
+            sub(/ [|]$/, "")
+            while (sub(/[|] [|]/, "|  |")) ;
+            split($0, cell, / [|] /)
+            gsub(/`/, "", cell[1])
+            row = table "\t" cell[1]
+            count = split(order, place, " ")
+            for (i = 1; i <= count; i++) row = row "\t" (place[i] ? cell[place[i]] : "")
+            print row
+        }' "$1"
+}
+
+# The rows of docs/sentences.tsv of a table, with some of their cells.
+sentences_of() {
+    awk -F '\t' -v table="$1" -v order="$2" '
+        $1 == table {
+            row = $1 "\t" $2
+            count = split(order, place, " ")
+            for (i = 1; i <= count; i++) row = row "\t" $place[i]
+            print row
+        }' docs/sentences.tsv
+}
+
+# A table of a page beside docs/sentences.tsv: the page, the table, the header, the columns of both.
+compared() {
+    rows_of "$1" "$2" "$3" "$4" >"$made/page"
+    sentences_of "$2" "$5" >"$made/sentences"
+    if [ -s "$made/page" ] && cmp -s "$made/page" "$made/sentences"; then
+        pass
+    else
+        fail "$1 and docs/sentences.tsv differ in the table $2"
+        diff "$made/page" "$made/sentences"
+    fi
+}
+
+# The line of a case and what is told of it, as they stand on a page.
+transcribed() {
+    cat "$2/line" "$2/told" >"$made/wanted"
+    if awk 'FNR == NR { wanted = wanted $0 "\n"; next }
+        { page = page $0 "\n" }
+        END { exit !index(page, "```\n" wanted "```\n") }' "$made/wanted" "$1"; then
+        pass
+    else
+        fail "$1: not what $2 tells"
     fi
 }
 
@@ -108,6 +185,17 @@ refused() {
     fi
 }
 
+# A table of texts, read by the grammar that the launcher takes from its page.
+read_by_page() {
+    parts=scripts/explain
+    LC_ALL=C awk -f $parts/text.awk -f $parts/script.awk -f $parts/grammar.awk -f $parts/records.awk \
+        -f cases/explain/syntax.awk -- "$1" >"$made/said" 2>&1
+    case $(tail -n 1 "$made/said") in
+        [1-9]*' passed, 0 failed') pass ;;
+        *) fail "$1: read otherwise by docs/LANGUAGE.md: $(head -n 3 "$made/said")" ;;
+    esac
+}
+
 # A number that has a bound.
 within() {
     if [ "$1" -le "$2" ]; then pass; else fail "$3: $1, and at most $2 are wanted"; fi
@@ -126,6 +214,15 @@ for folder in cases/*/; do
     wanted "$word" || continue
     case $word in
         run) for case in cases/run/*/; do run "$top/${case%/}"; done ;;
+        explain)
+            program=$top/vtl
+            VTL_EXPLAIN=1
+            export VTL_EXPLAIN
+            for case in cases/explain/*/; do explained "$top/${case%/}"; done
+            for file in cases/syntax/*.csv; do read_by_page "$file"; done
+            unset VTL_EXPLAIN
+            program=$vtl
+            ;;
         sql)
             for file in cases/sql/syntax/*.csv; do
                 table sql_syntax "$file"
@@ -158,6 +255,22 @@ fi
 if wanted launcher && [ -x "$vtl" ]; then
     program=$top/vtl
     for case in words_none no_script filter_keeps_points_above_five; do run "$top/cases/run/$case"; done
+    VTL_EXPLAIN=0
+    export VTL_EXPLAIN
+    run "$top/cases/run/no_script"
+    unset VTL_EXPLAIN
+    if [ "$("$program" --version | sed 's/,* .*//')" = "vtl${newline}proved" ]; then pass; else fail "vtl --version"; fi
+fi
+# The pages have the sentences of which explanations are made.
+if wanted sentences; then
+    compared README.md status '| status | code |' '4 3 2' '3 4 6'
+    compared docs/USING.md status '| status | what to do |' 2 5
+    compared docs/USING.md syntax '| a text is no script where' '2 3 4' '3 4 5'
+    compared docs/TYPES.md types '| rule | is broken where |' '2 3 4' '3 4 5'
+    compared docs/FILES.md structures '| rule | is broken where |' '2 3 4' '3 4 5'
+    compared docs/FILES.md input '| kind | where |' '2 3 4' '3 4 5'
+    compared docs/FILES.md type '| type | what a field may say |' 2 3
+    for case in cases/explain/mistake_*/; do transcribed docs/USING.md "${case%/}"; done
 fi
 if wanted check && [ -x "$probe" ]; then
     for case in cases/run/*/; do

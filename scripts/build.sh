@@ -126,4 +126,6 @@ if [ ! -x "$top/crates/$name/out/$name" ]; then
     exit 1
 fi
 touch -- "$top/crates/$name/out/$name"
+# The kit that it was proved with, for `./vtl --version`.
+rt version >"$top/crates/$name/out/kit"
 say "$name: done"
