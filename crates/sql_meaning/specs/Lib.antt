@@ -1,0 +1,10 @@
+pub mod Outcomes
+pub mod Tables
+pub mod Values
+pub mod From
+pub mod Groups
+pub mod Windows
+pub mod Selects
+pub mod Scripts
+pub mod Orders
+pub mod Fitting
