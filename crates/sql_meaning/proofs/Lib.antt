@@ -1,0 +1,3 @@
+pub mod ExampleParts
+pub mod ScriptExamples
+pub mod SelectExamples
