@@ -57,8 +57,8 @@ abbrev pub all_values : {X : Type 0} → (X → Outcome Cell) → List X → Out
 all_values f xs = unless (faults_by (λ x. fault_in (f x)) xs) (map (λ x. cell_or_null (f x)) xs)
 
 -- the values of some items at one place, and their fault
-abbrev pub row_of : {I X : Type 0} → (I → X → Outcome Cell) → List I → X → Row
-row_of f items x = map (λ i. cell_or_null (f i x)) items
+abbrev pub row_at : {I X : Type 0} → (I → X → Outcome Cell) → List I → X → Row
+row_at f items x = map (λ i. cell_or_null (f i x)) items
 
 abbrev pub row_fault : {I X : Type 0} → (I → X → Outcome Cell) → List I → X → Option Fault
 row_fault f items x = faults_by (λ i. fault_in (f i x)) items

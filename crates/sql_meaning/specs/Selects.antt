@@ -13,7 +13,7 @@ use Rattle.sql_tree.specs.declared.parts.Column.{Column}
 use Rattle.sql_check_parts.specs.Queries.{is_grouped, query_columns, scope_of}
 use Rattle.sql_meaning.specs.From.{source_rows}
 use Rattle.sql_meaning.specs.Groups.{keys_by, rows_with}
-use Rattle.sql_meaning.specs.Outcomes.{is_true, row_fault, row_of}
+use Rattle.sql_meaning.specs.Outcomes.{is_true, row_fault, row_at}
 use Rattle.sql_meaning.specs.Tables.{Base, kinds_of}
 use Rattle.sql_meaning.specs.Values.{View, at_groups, at_rows, value}
 use Rattle.sql_meaning.specs.Windows.{told_apart, window_value}
@@ -38,7 +38,7 @@ item_value v rows i x = as_wanted v i (row_value v rows i.0.value x)
 -- a row of the items for each row
 abbrev pub plain_rows : View → List Wanted → List Row → Outcome (List Row)
 plain_rows v items rows =
-    unless (faults_by (row_fault (item_value v rows) items) (told_apart rows)) (map (row_of (item_value v rows) items) (told_apart rows))
+    unless (faults_by (row_fault (item_value v rows) items) (told_apart rows)) (map (row_at (item_value v rows) items) (told_apart rows))
 
 -- ---- a grouped select
 
@@ -67,7 +67,7 @@ having_fault v members (Some e) keys = faults_by (λ key. fault_in (at_key v mem
 abbrev pub group_rows : View → List Wanted → Option Exp → (Row → List Row) → List Row → Outcome (List Row)
 group_rows v items having members keys =
     unless (join (having_fault v members having keys) (faults_by (row_fault (group_item v members) items) (kept_keys v members having keys)))
-    (map (row_of (group_item v members) items) (kept_keys v members having keys))
+    (map (row_at (group_item v members) items) (kept_keys v members having keys))
 
 abbrev pub grouped_rows : View → List Wanted → List Column → Option Exp → List Row → Outcome (List Row)
 grouped_rows v items group having rows =

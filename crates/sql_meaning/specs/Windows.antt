@@ -63,8 +63,8 @@ keys_of v o = map (key_of v) o.order
 
 -- The place of a row in its partition in order, which is by the listed keys and then by all columns: up to it stand the rows that are
 -- not above it, but for those that are the same and come behind it.
-abbrev pub place_in : List Key → List Row → Row × ℕ → ℕ
-place_in keys partition x = count_by (λ q. le_by (window_cmp keys []) q x.0) partition - (x.1 + 1)
+abbrev pub place_within : List Key → List Row → Row × ℕ → ℕ
+place_within keys partition x = count_by (λ q. le_by (window_cmp keys []) q x.0) partition - (x.1 + 1)
 
 -- ---- frames
 
@@ -107,7 +107,7 @@ pub record Stand : Type 0 where
   pub ordered : List Row
 
 abbrev pub stand_in : List Key → List Row → Row × ℕ → Stand
-stand_in keys partition x = record { row = x.0; place = place_in keys partition x; ordered = in_order keys [] partition }
+stand_in keys partition x = record { row = x.0; place = place_within keys partition x; ordered = in_order keys [] partition }
 
 -- of the cell at the row and the cells of the partition
 abbrev pub value_in : Settings → Option Frame → ValueFunction → Cell → ℕ → List Cell → Outcome Cell
