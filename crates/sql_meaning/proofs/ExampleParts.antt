@@ -1,8 +1,7 @@
 -- Short forms in which the examples write trees, rows and tables.
-use Rattle.std.proofs.Common.{ℕ, pos, List, [], ◌∷◌, None, Some}
+use Rattle.std.proofs.Common.{ℕ, pos, List, [], ◌∷◌, None}
 use Rattle.std.specs.Prelude.{Option, codes, if◌then◌else◌}
 use Rattle.vtl_cell.specs.Row.{Row}
-use Rattle.vtl_cell.specs.Settings.{Settings}
 use Rattle.vtl_cell.specs.Texts.{same_text}
 use Rattle.vtl_cell.specs.declared.cell.Cell.{Cell}
 use Rattle.vtl_cell.specs.declared.cell.Cell.TheVariants.{Int}

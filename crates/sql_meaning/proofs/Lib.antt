@@ -1,3 +1,4 @@
+pub mod Lists
 pub mod ExampleParts
 pub mod ScriptExamples
 pub mod SelectExamples
@@ -5,3 +6,22 @@ pub mod UpToOrder
 pub mod Orders
 pub mod Places
 pub mod ScriptOrders
+pub mod OperatorKinds
+pub mod ExpressionKinds
+pub mod SourceKinds
+pub mod WindowKinds
+pub mod SharedKinds
+pub mod QueryKinds
+pub mod ScriptFits
+pub mod ScriptFronts
+pub mod Faulted
+pub mod UnionParts
+pub mod Planned
+pub mod Readings
+pub mod HeldTables
+pub mod IndexedJoins
+pub mod Profiled
+pub mod SafeValues
+pub mod LeftValues
+pub mod EarlyTried
+pub mod EarlyPlans

@@ -35,7 +35,7 @@ use Rattle.sql_meaning.specs.Values.{View, at_groups, at_rows, chosen, is_tied, 
 use Rattle.sql_meaning.specs.From.{Joined, condition_fault, fault_at, beside, holds, is_met, joined, joined_by, joined_rows, kept, kept_of, or_alone, pairs, pairs_by, partners, partners_or_alone, nulls, source_rows, unmet, with_join}
 use Rattle.sql_meaning.specs.Groups.{keys_by, rows_with}
 use Rattle.sql_meaning.specs.Orders.{SameRows, with_rows}
-use Rattle.sql_meaning.specs.Selects.{Wanted, at_key, group_item, grouped_rows, having_fault, item_value, kept_keys, key_value, plain_rows, query_value, row_value, rows_in, second_phase, select_value}
+use Rattle.sql_meaning.specs.Selects.{Wanted, appended, at_key, group_item, grouped_rows, having_fault, item_value, kept_keys, key_value, plain_rows, query_value, row_value, rows_in, second_phase, select_value}
 use Rattle.sql_meaning.specs.Windows.{call_value, keys_of, told_apart, partition_of, partition_places, place_within, window_value}
 use Rattle.sql_meaning.proofs.UpToOrder.{Same_after, Same_unless, all_values_same, count_by-Perm, faults_by-Perm, once-Perm, told_apart-Perm}
 
@@ -71,6 +71,43 @@ module _ {A B C : Type 0} (test : A → B → Bool) (both : A → B → C) (alon
   joined_by-Perm joining.Inner = inner-Perm
   joined_by-Perm joining.Left = padded-Perm
   joined_by-Perm joining.Full = Perm-append padded-Perm unmet-Perm
+
+-- ---- queries of many selects
+
+abbrev pub EachSame : List (Outcome (List Row)) → List (Outcome (List Row)) → Type 0
+EachSame [] [] = Unit {0}
+EachSame [] (n ∷ ns) = ⊥
+EachSame (m ∷ ms) [] = ⊥
+EachSame (m ∷ ms) (n ∷ ns) = Same m n × EachSame ms ns
+
+fault_same : (m n : Outcome (List Row)) → Same m n → fault_in m ≡ fault_in n
+fault_same (Ok d) (Ok e) s = refl
+fault_same (Err x) (Err y) s = ap Some s
+fault_same (Ok d) (Err y) s = absurd s
+fault_same (Err x) (Ok e) s = absurd s
+
+rows_in-Perm : (m n : Outcome (List Row)) → Same m n → Perm (rows_in m) (rows_in n)
+rows_in-Perm (Ok d) (Ok e) s = s
+rows_in-Perm (Err x) (Err y) s = empty
+rows_in-Perm (Ok d) (Err y) s = absurd s
+rows_in-Perm (Err x) (Ok e) s = absurd s
+
+each_fault : (ms ns : List (Outcome (List Row))) → EachSame ms ns → faults_by fault_in ms ≡ faults_by fault_in ns
+each_fault [] [] s = refl
+each_fault [] (n ∷ ns) s = absurd s
+each_fault (m ∷ ms) [] s = absurd s
+each_fault (m ∷ ms) (n ∷ ns) s = λ i. join (fault_same m n s.0 i) (each_fault ms ns s.1 i)
+
+each_rows : (ms ns : List (Outcome (List Row))) → EachSame ms ns → Perm (flat_map rows_in ms) (flat_map rows_in ns)
+each_rows [] [] s = empty
+each_rows [] (n ∷ ns) s = absurd s
+each_rows (m ∷ ms) [] s = absurd s
+each_rows (m ∷ ms) (n ∷ ns) s = Perm-append (rows_in-Perm m n s.0) (each_rows ms ns s.1)
+
+pub appended_same : (ms ns : List (Outcome (List Row))) → EachSame ms ns → Same (appended ms) (appended ns)
+appended_same ms ns s = Same_unless (faults_by fault_in ms) (faults_by fault_in ns) (flat_map rows_in ms) (flat_map rows_in ns) (each_fault ms ns s) (each_rows ms ns s)
+
+-- ---- FROM
 
 record SameJoined (f g : Joined) : Type 0 where
   scope : f.scope ≡ g.scope
@@ -236,7 +273,7 @@ module _ (b : Base) (other : Text → List Row) (same : SameRows b.rows other) w
           (subst (λ w. Perm (map (row_at v items) ks) (map (row_at w items) ks')) group_items_same (Perm-map (row_at v items) q))
 
   -- ---- selects and queries
-  second_same : (scope : Scope) (items : List Wanted) (s : SelectTree) (rows rows' : List Row) → Perm rows rows' → Same (second_phase (at_rows b scope) items s rows) (second_phase (at_rows o scope) items s rows')
+  pub second_same : (scope : Scope) (items : List Wanted) (s : SelectTree) (rows rows' : List Row) → Perm rows rows' → Same (second_phase (at_rows b scope) items s rows) (second_phase (at_rows o scope) items s rows')
   second_same scope items s rows rows' p = go (is_grouped s)
     where
       go : (t : Bool) → Same (cond t (grouped_rows (at_rows b scope) items s.group s.having rows) (plain_rows (at_rows b scope) items rows)) (cond t (grouped_rows (at_rows o scope) items s.group s.having rows') (plain_rows (at_rows o scope) items rows'))
@@ -248,29 +285,12 @@ module _ (b : Base) (other : Text → List Row) (same : SameRows b.rows other) w
       Same_after (source_rows b s) (source_rows o s) (second_phase (at_rows b (scope_of b.tables s)) (zip s.items kinds) s) (second_phase (at_rows o (scope_of b.tables s)) (zip s.items kinds) s) (source_rows_same s)
       (λ d e p. second_same (scope_of b.tables s) (zip s.items kinds) s d e p)
 
-  fault_same : (m n : Outcome (List Row)) → Same m n → fault_in m ≡ fault_in n
-  fault_same (Ok d) (Ok e) s = refl
-  fault_same (Err x) (Err y) s = ap Some s
-  fault_same (Ok d) (Err y) s = absurd s
-  fault_same (Err x) (Ok e) s = absurd s
-
-  rows_in-Perm : (m n : Outcome (List Row)) → Same m n → Perm (rows_in m) (rows_in n)
-  rows_in-Perm (Ok d) (Ok e) s = s
-  rows_in-Perm (Err x) (Err y) s = empty
-  rows_in-Perm (Ok d) (Err y) s = absurd s
-  rows_in-Perm (Err x) (Ok e) s = absurd s
-
-  selects_fault : (kinds : List Kind) (q : QueryTree) → faults_by fault_in (map (select_value b kinds) q) ≡ faults_by fault_in (map (select_value o kinds) q)
-  selects_fault kinds [] = refl
-  selects_fault kinds (s ∷ ss) = λ i. join (fault_same (select_value b kinds s) (select_value o kinds s) (select_same kinds s) i) (selects_fault kinds ss i)
-
-  selects_rows : (kinds : List Kind) (q : QueryTree) → Perm (flat_map rows_in (map (select_value b kinds) q)) (flat_map rows_in (map (select_value o kinds) q))
-  selects_rows kinds [] = empty
-  selects_rows kinds (s ∷ ss) = Perm-append (rows_in-Perm (select_value b kinds s) (select_value o kinds s) (select_same kinds s)) (selects_rows kinds ss)
+  selects_same : (kinds : List Kind) (q : QueryTree) → EachSame (map (select_value b kinds) q) (map (select_value o kinds) q)
+  selects_same kinds [] = tt
+  selects_same kinds (s ∷ ss) = (select_same kinds s, selects_same kinds ss)
 
   -- the same rows up to order, or the same fault
   pub query_same : (q : QueryTree) → Same (query_value b q) (query_value o q)
   query_same q =
       let kinds = kinds_of (query_columns b.tables q) in
-      Same_unless (faults_by fault_in (map (select_value b kinds) q)) (faults_by fault_in (map (select_value o kinds) q)) (flat_map rows_in (map (select_value b kinds) q)) (flat_map rows_in (map (select_value o kinds) q))
-      (selects_fault kinds q) (selects_rows kinds q)
+      appended_same (map (select_value b kinds) q) (map (select_value o kinds) q) (selects_same kinds q)

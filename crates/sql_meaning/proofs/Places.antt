@@ -9,12 +9,8 @@ use Rattle.vtl_cell.specs.Sorted.{Key, in_order, window_cmp}
 use Rattle.vtl_cell.proofs.Keys.{window_order}
 use Rattle.vtl_cell.proofs.Rows.{same_row-is, same_row-refl}
 use Rattle.sql_meaning.specs.Windows.{place_within}
+use Rattle.sql_meaning.proofs.Lists.{all_at}
 use Rattle.sql_meaning.proofs.UpToOrder.{count_by-Perm}
-
-all_at : {X : Type 0} (P : X → Type 0) (xs : List X) (i : ℕ) (d : X) → i < length xs → AllByRecursion P xs → P (get_or xs i d)
-all_at P [] i d h all = absurd (omega arith)
-all_at P (x ∷ xs) zero d h all = all.0
-all_at P (x ∷ xs) (suc i) d h all = all_at P xs i d (omega arith) all.1
 
 abbrev bit : Bool → ℕ
 bit b = cond b 1 0

@@ -1,8 +1,8 @@
 -- What the definitions give for whole scripts, by computing it.
-use Rattle.std.proofs.Common.{◌≡◌, pos, List, [], ◌∷◌, None, Some, Ok, Err, refl}
+use Rattle.std.proofs.Common.{◌≡◌, [], ◌∷◌, None, Some, Ok, Err, refl}
 use Rattle.std.specs.Prelude.{codes}
 use Rattle.vtl_cell.specs.Outcome.{DivZero}
-use Rattle.vtl_cell.specs.declared.cell.Cell.TheVariants.{Int, Null}
+use Rattle.vtl_cell.specs.declared.cell.Cell.TheVariants.{Null}
 use Rattle.vtl_cell.specs.declared.kind.Kind.TheVariants as k
 use Rattle.vtl_cell.specs.declared.operator.AggKind.TheVariants as agg
 use Rattle.vtl_cell.specs.declared.operator.ScalarOp.TheVariants as op
@@ -11,8 +11,8 @@ use Rattle.sql_tree.specs.Trees as tree
 use Rattle.sql_tree.specs.Trees.{ScriptTree, SelectTree, StatementTree, Text}
 use Rattle.sql_tree.specs.declared.statements.InputColumn.{InputColumn}
 use Rattle.sql_tree.specs.declared.word_groups.JoinKind.TheVariants as joining
-use Rattle.sql_meaning.specs.Scripts.{Export, Inputs, script_value}
-use Rattle.sql_meaning.proofs.ExampleParts.{in_s, in_t, int, item, number, one_by_zero, plain, source, t}
+use Rattle.sql_meaning.specs.Scripts.{Inputs, script_value}
+use Rattle.sql_meaning.proofs.ExampleParts.{in_s, in_t, int, item, number, one_by_zero, plain, source}
 
 abbrev a : Text
 a = codes "a"

@@ -1,5 +1,5 @@
 -- What the definitions give for single queries, by computing it.
-use Rattle.std.proofs.Common.{◌≡◌, pos, false, List, [], ◌∷◌, Some, None, Ok, Err, refl}
+use Rattle.std.proofs.Common.{◌≡◌, pos, negsuc, true, false, List, [], ◌∷◌, Some, None, Ok, Err, refl}
 use Rattle.std.specs.Prelude.{codes}
 use Rattle.vtl_cell.specs.Outcome.{DivZero, Range}
 use Rattle.vtl_cell.specs.Row.{Row}
@@ -8,14 +8,18 @@ use Rattle.vtl_cell.specs.declared.operator.AggKind.TheVariants as agg
 use Rattle.vtl_cell.specs.declared.operator.ScalarOp.TheVariants as op
 use Rattle.sql_tree.specs.Trees as tree
 use Rattle.sql_tree.specs.Trees.{Exp, SelectTree}
+use Rattle.sql_tree.specs.declared.parts.Literal.TheVariants as literal
+use Rattle.sql_tree.specs.declared.parts.Numeral.TheVariants as numeral
 use Rattle.sql_tree.specs.declared.windows.Bound.TheVariants as bound
 use Rattle.sql_tree.specs.declared.windows.Over.{Over}
 use Rattle.sql_tree.specs.declared.windows.Window.{Window}
 use Rattle.sql_tree.specs.declared.windows.WindowCall.TheVariants as call
+use Rattle.sql_tree.specs.declared.word_groups.Direction.TheVariants as direction
 use Rattle.sql_tree.specs.declared.word_groups.JoinKind.{JoinKind}
 use Rattle.sql_tree.specs.declared.word_groups.JoinKind.TheVariants as joining
 use Rattle.sql_tree.specs.declared.word_groups.ShiftFunction.TheVariants as shift
 use Rattle.sql_tree.specs.declared.word_groups.Side.TheVariants as side
+use Rattle.sql_tree.specs.declared.word_groups.ValueFunction.TheVariants as value
 use Rattle.sql_meaning.specs.Selects.{query_value}
 use Rattle.sql_meaning.proofs.ExampleParts.{base, false_exp, in_s, in_t, int, item, num, number, of_s, of_t, one_by_zero, pair_of, plain, s, window}
 
@@ -43,6 +47,13 @@ full_keeps_both_sides = refl
 cross_keeps_all : query_value (base two_and_null two_and_null) (plain (item (codes "a") (in_t (codes "v")) ∷ item (codes "b") (in_s (codes "v")) ∷ []) (tree.cross s ∷ []) None ∷ [])
     ≡ Ok (pair_of (number 200) (number 200) ∷ pair_of (number 200) (number 300) ∷ pair_of (number 300) (number 200) ∷ pair_of (number 300) (number 300) ∷ [])
 cross_keeps_all = refl
+
+-- ---- WHERE
+
+-- .. WHERE "t"."k" <> 2: at a null key this is null, which is not true
+where_keeps_what_is_true : query_value (base three_rows []) (plain (item (codes "v") (in_t (codes "v")) ∷ []) [] (Some (tree.binary (in_t (codes "k")) op.NotEqual (int (codes "2")))) ∷ []) ≡ Ok ((number 10 ∷ []) ∷ [])
+unfolding lib.Utf8.encode
+where_keeps_what_is_true = refl
 
 -- ---- faults
 
@@ -166,3 +177,22 @@ alike_rows_stand_apart = refl
 windows_see_kept_rows : query_value (base (pair_of (number 1) (number 5) ∷ pair_of (number 2) (number 3) ∷ pair_of (number 3) (number 2) ∷ []) []) (plain (window (codes "s") running ∷ []) [] (Some (tree.binary (in_t (codes "k")) op.NotEqual (int (codes "2")))) ∷ []) ≡ Ok ((number 7 ∷ []) ∷ (number 2 ∷ []) ∷ [])
 unfolding lib.Utf8.encode
 windows_see_kept_rows = refl
+
+-- SUM("t"."v") OVER (PARTITION BY "t"."k" ROWS BETWEEN UNBOUNDED PRECEDING AND UNBOUNDED FOLLOWING)
+abbrev of_partition : Window
+of_partition = record { call = call.Aggregate agg.Sum (of_t (codes "v")); over = record { partition = of_t (codes "k") ∷ []; order = []; frame = Some (record { first = bound.Unbounded side.Preceding; last = bound.Unbounded side.Following }) } }
+
+-- null is equal to null in partitions, too
+nulls_are_one_partition : query_value (base (pair_of Null (number 1) ∷ pair_of (number 7) (number 2) ∷ pair_of Null (number 3) ∷ []) []) (plain (window (codes "s") of_partition ∷ []) [] None ∷ []) ≡ Ok ((number 4 ∷ []) ∷ (number 2 ∷ []) ∷ (number 4 ∷ []) ∷ [])
+nulls_are_one_partition = refl
+
+-- LEAD("t"."v", 1, -1) OVER (ORDER BY "t"."k" DESC), and RATIO_TO_REPORT("t"."v") OVER ()
+abbrev led_and_shared : SelectTree
+led_and_shared =
+    plain (window (codes "l") (record { call = call.Shift shift.Lead (of_t (codes "v")) (codes "1") (Some (literal.Number true (numeral.Int (codes "1")))); over = record { partition = []; order = record { column = of_t (codes "k"); direction = Some direction.Descending } ∷ []; frame = None } })
+    ∷ window (codes "r") (record { call = call.Value value.RatioToReport (of_t (codes "v")); over = record { partition = []; order = []; frame = None } }) ∷ []) [] None
+
+-- falling, null comes last; a value is divided by the total of its partition
+shifts_and_ratios : query_value (base (pair_of (number 1) (number 10) ∷ pair_of (number 2) (number 30) ∷ pair_of Null (number 40) ∷ []) []) (led_and_shared ∷ []) ≡ Ok ((number 40 ∷ Num (pos 13) ∷ []) ∷ (number 10 ∷ Num (pos 38) ∷ []) ∷ (Int (negsuc 0) ∷ Num (pos 50) ∷ []) ∷ [])
+unfolding lib.Utf8.encode
+shifts_and_ratios = refl

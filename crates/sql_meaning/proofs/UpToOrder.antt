@@ -1,5 +1,5 @@
 -- Lists, faults and results up to order.
-use Rattle.std.proofs.Common.{◌≡◌, ℕ, ◌+◌, List, [], ◌∷◌, map, Bool, true, false, cond, not, Option, Some, None, Ok, Err, refl, sym, ap, ◌∙◌, subst, true≢false, arith}
+use Rattle.std.proofs.Common.{◌≡◌, ℕ, ◌+◌, List, [], ◌∷◌, ◌++◌, map, Bool, true, false, cond, not, Option, Some, None, Ok, Err, refl, sym, ap, ◌∙◌, subst, true≢false, arith}
 use Rattle.std.specs.List.{filter, count_by, fold}
 use Rattle.vtl_lists.specs.Perm.{Perm, empty, keep, cross, chain}
 use Rattle.vtl_lists.proofs.Perms.{Perm-refl, Perm-same, Perm-map, Perm-filter}
@@ -13,7 +13,7 @@ use Rattle.sql_meaning.specs.Windows.{told_apart}
 
 -- ---- faults
 
-join_swap : (f g h : Option Fault) → join f (join g h) ≡ join g (join f h)
+pub join_swap : (f g h : Option Fault) → join f (join g h) ≡ join g (join f h)
 join_swap None g h = refl
 join_swap (Some DivZero) None h = refl
 join_swap (Some DivZero) (Some DivZero) h = refl
@@ -27,6 +27,24 @@ faults_by-Perm f empty = refl
 faults_by-Perm f (keep x p) = ap (join (f x)) (faults_by-Perm f p)
 faults_by-Perm f (cross x y xs) = join_swap (f x) (f y) (faults_by f xs)
 faults_by-Perm f (chain p q) = faults_by-Perm f p ∙ faults_by-Perm f q
+
+pub join_assoc : (f g h : Option Fault) → join (join f g) h ≡ join f (join g h)
+join_assoc None g h = refl
+join_assoc (Some DivZero) g h = refl
+join_assoc (Some Range) None None = refl
+join_assoc (Some Range) None (Some h) = refl
+join_assoc (Some Range) (Some DivZero) h = refl
+join_assoc (Some Range) (Some Range) None = refl
+join_assoc (Some Range) (Some Range) (Some h) = refl
+
+pub join_none : (f : Option Fault) → join f None ≡ f
+join_none None = refl
+join_none (Some DivZero) = refl
+join_none (Some Range) = refl
+
+pub faults_by-append : {X : Type 0} (f : X → Option Fault) (xs ys : List X) → faults_by f (xs ++ ys) ≡ join (faults_by f xs) (faults_by f ys)
+faults_by-append f [] ys = refl
+faults_by-append f (x ∷ xs) ys = ap (join (f x)) (faults_by-append f xs ys) ∙ sym (join_assoc (f x) (faults_by f xs) (faults_by f ys))
 
 -- ---- results
 

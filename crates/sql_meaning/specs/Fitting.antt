@@ -1,5 +1,5 @@
 -- Tables and exports of a script whose rows fit their columns.
-use Rattle.std.specs.Prelude.{◌≡◌, Result, Ok, Err, List}
+use Rattle.std.specs.Prelude.{◌≡◌, List}
 use Rattle.std.specs.List.{AllByRecursion}
 use Rattle.sql_tree.specs.Trees as tree
 use Rattle.sql_tree.specs.Trees.{StatementTree}

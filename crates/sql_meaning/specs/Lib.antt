@@ -5,6 +5,13 @@ pub mod From
 pub mod Groups
 pub mod Windows
 pub mod Selects
+pub mod Inputs
 pub mod Scripts
 pub mod Orders
 pub mod Fitting
+pub mod Profiles
+pub mod Fronts
+pub mod Faults
+pub mod Unions
+pub mod Plans
+pub mod Early

@@ -5,7 +5,7 @@ use Rattle.vtl_cell.specs.Row.{Row}
 use Rattle.vtl_cell.specs.Settings.{Settings}
 use Rattle.vtl_cell.specs.declared.kind.Kind.{Kind}
 use Rattle.vtl_rows.specs.Named.{NamedTables, table_of}
-use Rattle.vtl_rows.specs.Tables.{Listed, fits_kinds}
+use Rattle.vtl_rows.specs.Tables.{Listed, column_kinds, fits_kinds}
 use Rattle.vtl_rows.specs.declared.column.Column.{Column}
 use Rattle.sql_tree.specs.Trees.{Text}
 use Rattle.sql_check_parts.specs.Scopes.{Columns, Tables, columns_of, or_nothing}
@@ -48,6 +48,10 @@ HasTable columns (Some t) = map column_entry t.columns ≡ columns
 -- and kinds.
 abbrev pub HasColumns : Tables → NamedTables → Type 0
 HasColumns given held = (name : Text) (columns : Columns) → columns_of given name ≡ Some columns → HasTable columns (table_of name held)
+
+-- the rows of each fit its own columns
+abbrev pub AreHeldFit : NamedTables → Type 0
+AreHeldFit held = (name : Text) (t : Listed) → table_of name held ≡ Some t → RowsFit (column_kinds t.columns) t.rows
 
 abbrev pub rows_of : Option Listed → List Row
 rows_of None = []
