@@ -1,0 +1,17 @@
+pub mod Outcomes
+pub mod Tables
+pub mod Values
+pub mod From
+pub mod Groups
+pub mod Windows
+pub mod Selects
+pub mod Inputs
+pub mod Scripts
+pub mod Orders
+pub mod Fitting
+pub mod Profiles
+pub mod Fronts
+pub mod Faults
+pub mod Unions
+pub mod Plans
+pub mod Early
