@@ -1,5 +1,5 @@
 -- Expressions with places in place of names, and their value at a row and at a group of rows.
-use Rattle.std.specs.Prelude.{ℕ, Bool, true, false, List, [], ◌∷◌, map, Option, Ok}
+use Rattle.std.specs.Prelude.{ℕ, Bool, true, false, List, [], ◌∷◌, Option, Ok}
 use Rattle.std.specs.List.{list_all, list_any}
 use Rattle.vtl_cell.specs.Conversion.{as_kind}
 use Rattle.vtl_cell.specs.Groups.{count_of_points, group_value}
