@@ -1,0 +1,5 @@
+pub mod Answered
+pub mod Operands
+pub mod Views
+pub mod Tests
+pub mod ResolvedParts

@@ -1,0 +1,4 @@
+pub mod Given
+pub mod Placed
+pub mod View
+pub mod Resolves

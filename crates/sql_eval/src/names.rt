@@ -1,0 +1,67 @@
+// Where the cells of columns stand.
+ghost use Rattle.std.specs.List.{position_or_len};
+ghost use Rattle.std.specs.Prelude.{◌≡◌};
+ghost use Rattle.sql_check_parts.specs.Exists.{inner_of};
+ghost use Rattle.sql_check_parts.specs.Scopes.{Scope, Tables, found};
+ghost use Rattle.sql_meaning.specs.Values.{inner_scope, place_in, same_column};
+ghost use Rattle.sql_eval.specs.Resolves.{place_at};
+
+use sql_tree::{Column, Source};
+use vtl_cell::Kind;
+
+/// The tables before a statement, and the sources of a select: which kinds the columns have, and where their cells
+/// stand.
+pub trait Names {
+    ghost tables: { Self → Tables };
+
+    ghost scope: { Self → Scope };
+
+    /// The kind of a column of the sources, if there is such a one.
+    fn kind(&self, column: &Column) -> Option<Kind>
+        ensures { result ≡ found (scope self.now) column.now };
+
+    /// The place of a column in a row of FROM; of one that no source has, past the last cell.
+    fn place(&self, column: &Column) -> usize
+        ensures { result ≡ place_in (scope self.now) column.now };
+
+    /// The place of a column in a row of the table of EXISTS; of one that it has not, past the last cell.
+    fn inner_place(&self, source: &Source, column: &Column) -> usize
+        ensures { result ≡ place_in (inner_scope (inner_of (tables self.now) source.now)) column.now };
+}
+
+/// What an expression stands at.
+#[derive(Clone, Copy)]
+pub enum Level<'a> {
+    /// Rows of FROM.
+    Rows,
+    /// Groups, by the columns of GROUP BY: a row holds their cells.
+    Groups(&'a [Column]),
+}
+
+fn is_same_column(a: &Column, b: &Column) -> bool
+    ensures { result ≡ same_column a.now b.now }
+{
+    a.source == b.source && a.name == b.name
+}
+
+// The place of a column among others; past the last one where it is not there.
+fn position(columns: &[Column], column: &Column) -> usize
+    ensures { result ≡ position_or_len (same_column column.now) columns.now }
+{
+    for i in 0..columns.len() {
+        if is_same_column(column, &columns[i]) {
+            return i;
+        }
+    }
+    columns.len()
+}
+
+/// The place of a column in the row that an expression sees.
+pub(crate) fn place_at<N: Names>(names: &N, level: &Level<'_>, column: &Column) -> usize
+    ensures { result ≡ place_at (N.scope names.now) level.now column.now }
+{
+    match level {
+        Level::Rows => names.place(column),
+        Level::Groups(columns) => position(columns, column),
+    }
+}
