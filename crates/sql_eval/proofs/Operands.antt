@@ -1,13 +1,14 @@
 -- The values of operators on operands, and of CASE on its branches.
 use Rattle.std.proofs.Common.{◌≡◌, arith, List, [], ◌∷◌, ◌++◌, length, get_or, map, Ok, Err, refl, sym, ap, ◌∙◌}
 use Rattle.vtl_cell.specs.Outcome.{Outcome, after}
+use Rattle.vtl_cell.specs.Outcomes.{all_of, result_of}
 use Rattle.vtl_cell.specs.Row.{Row}
 use Rattle.vtl_cell.specs.Settings.{Settings}
 use Rattle.vtl_cell.specs.declared.cell.Cell.{Cell}
 use Rattle.vtl_cell.specs.declared.kind.Kind.{Kind}
 use Rattle.vtl_cell.specs.declared.operator.ScalarOp.{ScalarOp}
 use Rattle.sql_tree.specs.Trees.{Text}
-use Rattle.sql_meaning.specs.Outcomes.{all_of, operated, result_of}
+use Rattle.sql_meaning.specs.Outcomes.{operated}
 use Rattle.sql_eval.specs.Placed.{placed_choice, placed_value, placed_values}
 use Rattle.sql_eval.specs.View.{branch_of, branches_of, placed_of, placeds_of}
 use Rattle.sql_eval.specs.declared.resolved.Resolved.{Resolved}

@@ -5,6 +5,7 @@ use Rattle.std.specs.List.{list_all, list_any}
 use Rattle.vtl_cell.specs.Conversion.{as_kind}
 use Rattle.vtl_cell.specs.Groups.{group_value}
 use Rattle.vtl_cell.specs.Outcome.{Outcome, after}
+use Rattle.vtl_cell.specs.Outcomes.{all_of, branch, first_chosen, is_true, result_of}
 use Rattle.vtl_cell.specs.Perm.{Perm}
 use Rattle.vtl_cell.specs.Row.{Row}
 use Rattle.vtl_cell.specs.ScalarComparison.{truth}
@@ -34,7 +35,7 @@ use Rattle.sql_tree.specs.declared.parts.Source.{Source}
 use Rattle.sql_check_parts.specs.Exists.{Inner, inner_of, is_inner}
 use Rattle.sql_check_parts.specs.Kinds.{given_kind, kind_in, kinds_in, value_kinds}
 use Rattle.sql_check_parts.specs.Scopes.{Scope, Tables, or_null}
-use Rattle.sql_meaning.specs.Outcomes.{all_of, all_values, branch, first_chosen, is_true, operated, result_of}
+use Rattle.sql_meaning.specs.Outcomes.{all_values, operated}
 use Rattle.sql_meaning.specs.Values as meaning
 use Rattle.sql_meaning.specs.Values.{View, chosen, inner_scope, literal_cell, null_test, place_in, set_operator, value, values}
 use Rattle.sql_eval.specs.Placed.{Placed, aggregate, apply, asked, choose, const, is_tied, membership, membership_value, placed_choice, placed_value, placed_values, side_cell, there}

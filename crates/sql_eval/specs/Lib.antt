@@ -1,4 +1,3 @@
-pub mod Given
 pub mod Placed
 pub mod View
 pub mod Resolves

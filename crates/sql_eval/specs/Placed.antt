@@ -5,6 +5,7 @@ use Rattle.vtl_cell.specs.Conversion.{as_kind}
 use Rattle.vtl_cell.specs.Groups.{count_of_points, group_value}
 use Rattle.vtl_cell.specs.Logic.{not_of}
 use Rattle.vtl_cell.specs.Outcome.{Outcome, after}
+use Rattle.vtl_cell.specs.Outcomes.{branch, first_chosen, is_true}
 use Rattle.vtl_cell.specs.Row.{Row, column_of}
 use Rattle.vtl_cell.specs.ScalarComparison.{membership_of, truth}
 use Rattle.vtl_cell.specs.Scalars.{scalar_of}
@@ -16,7 +17,7 @@ use Rattle.vtl_cell.specs.declared.operator.AggKind.{AggKind}
 use Rattle.vtl_cell.specs.declared.operator.ScalarOp.{ScalarOp}
 use Rattle.vtl_cell.specs.declared.operator.ScalarOp.TheVariants as op
 use Rattle.sql_tree.specs.Trees.{Text}
-use Rattle.sql_meaning.specs.Outcomes.{all_values, branch, first_chosen, is_true, operated}
+use Rattle.sql_meaning.specs.Outcomes.{all_values, operated}
 use Rattle.sql_eval.specs.declared.resolved.Side.{Side}
 use Rattle.sql_eval.specs.declared.resolved.Side.TheVariants as side
 use Rattle.sql_eval.specs.declared.resolved.Tie.{Tie}

@@ -1,18 +1,21 @@
 // The value of an expression at a row or at a group.
-ghost use Rattle.std.specs.Prelude.{◌≡◌, ◌∷◌, [], Ok, map};
-ghost use Rattle.vtl_cell.specs.Conversion.{as_kind};
+ghost use Rattle.std.specs.Prelude.{map};
 ghost use Rattle.vtl_cell.specs.Outcome.{Outcome, after};
+ghost use Rattle.vtl_cell.specs.Outcomes.{all_of};
 ghost use Rattle.vtl_cell.specs.declared.cell.Cell.{Cell};
-ghost use Rattle.vtl_scalar.specs.Answers.{Answers, AnswersBy};
-ghost use Rattle.sql_meaning.specs.Outcomes.{all_of, first_chosen, operated, result_of};
-ghost use Rattle.sql_eval.specs.Given.{given_cell};
+ghost use Rattle.vtl_scalar.specs.Answers.{AnswersBy};
+ghost use Rattle.vtl_scalar.specs.Given.{given_cell};
+ghost use Rattle.sql_meaning.specs.Outcomes.{operated};
 ghost use Rattle.sql_eval.specs.Placed.{membership_value, placed_choice, placed_value, placed_values};
 ghost use Rattle.sql_eval.specs.View.{branch_of, branches_of, placed_of, placeds_of};
 
-use crate::{Cells, Given, Resolved, ResolvedBranch};
+use crate::{Cells, Resolved, ResolvedBranch};
 use std::alloc::Global;
 use vtl_cell::{Cell, Kind, Profile, ScalarOp, not3};
-use vtl_scalar::{Members, ScalarErr, apply, apply_one, apply_three, apply_two, to_kind, truth};
+use vtl_scalar::{
+    Given, Members, ScalarErr, apply, first_chosen, given_of_kind, made_of_kind, truth, value_of_one,
+    value_of_three, value_of_two,
+};
 
 /// The value of an expression at a row, or at a group: all operands are evaluated, and the first fault from the left is
 /// the answer; of CASE the conditions are evaluated up to the first that is true, and then the value behind it alone.
@@ -36,7 +39,7 @@ pub fn value_at<'v, R: Cells>(
             negated,
             members,
         } => asked(*negated, value_at(alloc, operand, at, p), members, p),
-        Resolved::Choose { kind, branches } => of_kind(chosen(alloc, branches, at, p), *kind, p),
+        Resolved::Choose { kind, branches } => given_of_kind(chosen(alloc, branches, at, p), *kind, p),
         Resolved::Exists(test) => Ok(Given::Made(Cell::Bool(at.is_there(alloc, test, p)?))),
         Resolved::CountAll => Ok(Given::Made(at.count_all(p)?)),
         Resolved::Aggregate { function, operand } => {
@@ -60,22 +63,22 @@ fn called<'v, R: Cells>(
     match args.len() {
         1 => {
             let a = value_at(alloc, &args[0], at, p);
-            of_one(alloc, op, kind, a, p)
+            value_of_one(alloc, op, kind, a, p)
         }
         2 => {
             let a = value_at(alloc, &args[0], at, p);
             let b = value_at(alloc, &args[1], at, p);
-            of_two(alloc, op, kind, a, b, p)
+            value_of_two(alloc, op, kind, a, b, p)
         }
         3 => {
             let a = value_at(alloc, &args[0], at, p);
             let b = value_at(alloc, &args[1], at, p);
             let c = value_at(alloc, &args[2], at, p);
-            of_three(alloc, op, kind, a, b, c, p)
+            value_of_three(alloc, op, kind, a, b, c, p)
         }
         _ => {
             let values = all_values(alloc, args, at, p)?;
-            made(apply(alloc, op, &values, p), kind, p)
+            made_of_kind(apply(alloc, op, &values, p), kind, p)
         }
     }
 }
@@ -119,17 +122,6 @@ fn chosen<'v, R: Cells>(
     Ok(Given::Made(Cell::Null))
 }
 
-// Whether a condition chooses its branch. A value that is no boolean chooses none.
-fn first_chosen(test: &Cell) -> Option<bool>
-    ensures { result ≡ first_chosen test.now }
-{
-    match test {
-        Cell::Bool(b) => Some(*b),
-        Cell::Null => Some(false),
-        _ => None,
-    }
-}
-
 // The answer to the question whether a value is in a set, or whether it is not.
 fn asked<'v>(
     negated: bool,
@@ -141,76 +133,4 @@ fn asked<'v>(
 {
     let found = members.has(answer?.cell(), p);
     Ok(Given::Made(truth(if negated { not3(found) } else { found })))
-}
-
-// A new value, as one of the kind.
-fn made<'v>(
-    answer: Result<Cell, ScalarErr>,
-    kind: Kind,
-    p: &Profile,
-) -> Result<Given<'v>, ScalarErr>
-    ensures { (m : Outcome Cell) → Answers answer m → AnswersBy given_cell result (after m (as_kind p.now kind)) }
-{
-    Ok(Given::Made(to_kind(kind, answer?, p)?))
-}
-
-// The answer, as a value of the kind. One that is of it stays where it is.
-fn of_kind<'v>(
-    answer: Result<Given<'v>, ScalarErr>,
-    kind: Kind,
-    p: &Profile,
-) -> Result<Given<'v>, ScalarErr>
-    ensures { (m : Outcome Cell) → AnswersBy given_cell answer.entry m → AnswersBy given_cell result (after m (as_kind p.now kind)) }
-{
-    let given = answer?;
-    if let (Kind::Num, Cell::Int(n)) = (kind, given.cell()) {
-        return made(Ok(Cell::Int(*n)), kind, p);
-    }
-    Ok(given)
-}
-
-// The value of an operator on one operand.
-fn of_one<'v>(
-    alloc: Global,
-    op: ScalarOp,
-    kind: Kind,
-    a: Result<Given<'v>, ScalarErr>,
-    p: &Profile,
-) -> Result<Given<'v>, ScalarErr>
-    ensures { (m : Outcome Cell) → AnswersBy given_cell a.entry m → AnswersBy given_cell result (after m (λ x. result_of p.now op kind (x ∷ []))) }
-{
-    made(apply_one(alloc, op, a?.cell(), p), kind, p)
-}
-
-// The value of an operator on two operands.
-fn of_two<'v>(
-    alloc: Global,
-    op: ScalarOp,
-    kind: Kind,
-    a: Result<Given<'v>, ScalarErr>,
-    b: Result<Given<'v>, ScalarErr>,
-    p: &Profile,
-) -> Result<Given<'v>, ScalarErr>
-    ensures { (m n : Outcome Cell) → AnswersBy given_cell a.entry m → AnswersBy given_cell b.entry n → AnswersBy given_cell result (after m (λ x. after n (λ y. result_of p.now op kind (x ∷ y ∷ [])))) }
-{
-    made(apply_two(alloc, op, a?.cell(), b?.cell(), p), kind, p)
-}
-
-// The value of an operator on three operands.
-fn of_three<'v>(
-    alloc: Global,
-    op: ScalarOp,
-    kind: Kind,
-    a: Result<Given<'v>, ScalarErr>,
-    b: Result<Given<'v>, ScalarErr>,
-    c: Result<Given<'v>, ScalarErr>,
-    p: &Profile,
-) -> Result<Given<'v>, ScalarErr>
-    ensures { (m n o : Outcome Cell) → AnswersBy given_cell a.entry m → AnswersBy given_cell b.entry n → AnswersBy given_cell c.entry o → AnswersBy given_cell result (after m (λ x. after n (λ y. after o (λ z. result_of p.now op kind (x ∷ y ∷ z ∷ []))))) }
-{
-    made(
-        apply_three(alloc, op, a?.cell(), b?.cell(), c?.cell(), p),
-        kind,
-        p,
-    )
 }

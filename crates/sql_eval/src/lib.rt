@@ -13,7 +13,6 @@ mod cells;
 mod constants;
 mod evaluation;
 mod existence;
-mod given;
 mod kinded;
 mod names;
 mod parts;
@@ -22,7 +21,6 @@ mod resolving;
 
 pub use cells::Cells;
 pub use evaluation::value_at;
-pub use given::Given;
 pub use kinded::Kinded;
 pub use names::{Level, Names};
 pub use resolved::{Existence, Resolved, ResolvedBranch, Side, Tie};

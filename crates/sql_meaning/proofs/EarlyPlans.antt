@@ -10,6 +10,7 @@ use Rattle.vtl_cell.specs.Outcome.{faults_by, join, unless}
 use Rattle.vtl_cell.specs.Row.{Row}
 use Rattle.vtl_rows.specs.Tables.{fits_kinds}
 use Rattle.vtl_cell.specs.Kinds.{is_of}
+use Rattle.vtl_cell.specs.Outcomes.{Same, is_true}
 use Rattle.vtl_cell.specs.declared.kind.Kind.{Kind}
 use Rattle.vtl_cell.specs.declared.operator.ScalarOp.TheVariants as op
 use Rattle.sql_tree.specs.Trees as tree
@@ -23,7 +24,6 @@ use Rattle.sql_check_parts.specs.Scopes.{Scope, is_among, row_of, with_source}
 use Rattle.sql_check_laws.specs.Selects.{AreJoinsTyped, IsSelectTyped, IsSourceTyped}
 use Rattle.sql_meaning.specs.Early.{IsSafe, MayBeEarly, NamesEarly, NamesOnly, aliases_left, columns_in, is_full, is_safe, is_safe_condition, is_safe_join, join_alias}
 use Rattle.sql_meaning.specs.From.{Joined, beside, fault_at, first_of, holds, joined, joined_rows, kept_of, nulls, pairs, source_rows, with_join}
-use Rattle.sql_meaning.specs.Outcomes.{Same, is_true}
 use Rattle.sql_meaning.specs.Plans.{IsAt, IsEqualityJoin, IsFirst, IsPlan, NamesConjunct, NamesJoin, SelectsStand, Ways, conjuncts, conjuncts_of, early_at, early_in, indexed_in, is_indexed, planned_joins, planned_source_rows, try_early, with_index}
 use Rattle.sql_meaning.specs.Profiles.{AreOfProfile, IsLawful, IsRowOfProfile}
 use Rattle.sql_meaning.specs.Tables.{Base, RowsFit, columns_named, kinds_of}

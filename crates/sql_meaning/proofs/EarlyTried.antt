@@ -8,6 +8,7 @@ use Rattle.vtl_cell.specs.Conversion.{as_kind}
 use Rattle.vtl_cell.specs.Outcome.{Outcome}
 use Rattle.vtl_cell.specs.Row.{Row}
 use Rattle.vtl_cell.specs.Logic.{and_of}
+use Rattle.vtl_cell.specs.Outcomes.{is_true}
 use Rattle.vtl_cell.specs.ScalarChoice.{on_truths, truth_in}
 use Rattle.vtl_cell.specs.Settings.{Settings}
 use Rattle.vtl_cell.specs.declared.cell.Cell.{Cell}
@@ -21,7 +22,7 @@ use Rattle.sql_tree.specs.declared.word_groups.JoinKind.TheVariants as joining
 use Rattle.sql_check_parts.specs.Kinds.{kind_in}
 use Rattle.sql_meaning.specs.Early.{is_full_kind}
 use Rattle.sql_meaning.specs.From.{holds, joined_by, or_alone, pairs_by, partners, partners_or_alone}
-use Rattle.sql_meaning.specs.Outcomes.{is_true, operated}
+use Rattle.sql_meaning.specs.Outcomes.{operated}
 use Rattle.sql_meaning.specs.Plans.{conjuncts}
 use Rattle.sql_meaning.specs.Values.{View, value}
 use Rattle.sql_meaning.proofs.IndexedJoins.{truth_stays}

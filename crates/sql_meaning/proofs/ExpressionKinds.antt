@@ -5,6 +5,7 @@ use Rattle.std.specs.List.{AllByRecursion}
 use Rattle.vtl_cell.specs.Conversion.{as_kind}
 use Rattle.vtl_cell.specs.Groups.{group_value}
 use Rattle.vtl_cell.specs.Outcome.{Outcome, fault_in, faults_by}
+use Rattle.vtl_cell.specs.Outcomes.{branch, first_chosen}
 use Rattle.vtl_cell.specs.Range.{fit_integer}
 use Rattle.vtl_cell.specs.Row.{Row, column_of}
 use Rattle.vtl_cell.specs.ScalarKinds.{common_kind}
@@ -21,7 +22,7 @@ use Rattle.sql_check_parts.specs.Expressions.{Site, site}
 use Rattle.sql_check_parts.specs.Kinds.{kind_in, kinds_in, operator_kind, value_kinds}
 use Rattle.sql_check_parts.specs.Scopes.{Grouping, Scope, column_kind}
 use Rattle.sql_check_laws.specs.Fits.{AllFit, BranchesFit, Fits, IsSeen}
-use Rattle.sql_meaning.specs.Outcomes.{all_values, branch, cell_or_null, first_chosen, operated}
+use Rattle.sql_meaning.specs.Outcomes.{all_values, cell_or_null, operated}
 use Rattle.sql_meaning.specs.Tables.{Base}
 use Rattle.sql_meaning.specs.Values.{View, at_rows, chosen, literal_cell, place_in, value, values}
 use Rattle.sql_meaning.proofs.Lists.{under}

@@ -5,6 +5,7 @@ use Rattle.std.specs.Ordering.{is_eq}
 use Rattle.vtl_cell.specs.Conversion.{as_kind}
 use Rattle.vtl_cell.specs.Logic.{and_of}
 use Rattle.vtl_cell.specs.Outcome.{Fault, Outcome, fault_in, faults_by, join}
+use Rattle.vtl_cell.specs.Outcomes.{is_true}
 use Rattle.vtl_cell.specs.Row.{Row}
 use Rattle.vtl_cell.specs.ScalarChoice.{on_truths, truth_in}
 use Rattle.vtl_cell.specs.ScalarComparison.{compared, truth}
@@ -18,7 +19,7 @@ use Rattle.sql_tree.specs.Trees.{Exp, JoinTree, Text}
 use Rattle.sql_check_parts.specs.Kinds.{kind_in}
 use Rattle.sql_check_parts.specs.Scopes.{row_of, with_source}
 use Rattle.sql_meaning.specs.From.{Joined, fault_at, holds, joined_rows, pairs, with_join}
-use Rattle.sql_meaning.specs.Outcomes.{is_true, operated}
+use Rattle.sql_meaning.specs.Outcomes.{operated}
 use Rattle.sql_meaning.specs.Plans.{IsEqualityJoin, are_sides, conjuncts, is_side_equality, with_index}
 use Rattle.sql_meaning.specs.Tables.{Base, columns_named}
 use Rattle.sql_meaning.specs.Values.{View, at_rows, cell_at, value}

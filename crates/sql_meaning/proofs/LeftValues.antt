@@ -6,6 +6,7 @@ use Rattle.std.specs.Map.{keys_of, lookup}
 use Rattle.std.proofs.lemmas.List.{length-map}
 use Rattle.vtl_cell.specs.Conversion.{as_kind}
 use Rattle.vtl_cell.specs.Outcome.{Outcome, after}
+use Rattle.vtl_cell.specs.Outcomes.{branch, first_chosen, is_true}
 use Rattle.vtl_cell.specs.Row.{Row, column_of}
 use Rattle.vtl_cell.specs.ScalarKinds.{common_kind}
 use Rattle.vtl_cell.specs.Scalars.{scalar_of}
@@ -24,7 +25,7 @@ use Rattle.sql_check_parts.specs.Exists.{Inner, inner_of, is_inner}
 use Rattle.sql_check_parts.specs.Kinds.{given_kind, kind_in, kinds_in, value_kinds}
 use Rattle.sql_check_parts.specs.Scopes.{Named, Scope, Sources, found, is_among, numbered, or_null, placed, placed_from, row_of, value_among}
 use Rattle.sql_meaning.specs.Early.{NamesOnly, columns_in, columns_of, columns_within, outer_columns, outer_of}
-use Rattle.sql_meaning.specs.Outcomes.{branch, first_chosen, is_true, operated}
+use Rattle.sql_meaning.specs.Outcomes.{operated}
 use Rattle.sql_meaning.specs.Tables.{Base}
 use Rattle.sql_meaning.specs.Values.{View, at_rows, cell_at, chosen, inner_scope, is_tied, literal_cell, null_test, place_in, set_operator, side_cell, value, values}
 use Rattle.sql_meaning.proofs.Lists.{all_parted}

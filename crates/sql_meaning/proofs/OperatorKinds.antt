@@ -12,6 +12,7 @@ use Rattle.vtl_cell.specs.Conversion.{as_kind}
 use Rattle.vtl_cell.specs.Groups.{aggregate, greatest, group_value, is_integer, least, mean_value, median_of, middle_of, number_or_null, numbers_of, of_nothing, of_values, total_of, values_of, wholes_of}
 use Rattle.vtl_cell.specs.Kinds.{is_null, is_of, kind_of}
 use Rattle.vtl_cell.specs.Outcome.{Fault, Outcome, after, unless}
+use Rattle.vtl_cell.specs.Outcomes.{all_of, branch, result_of}
 use Rattle.vtl_cell.specs.ScalarArithmetic.{integer, number, units}
 use Rattle.vtl_cell.specs.ScalarKinds.{common_kind, kinds_of, meet, meets, shared_kind}
 use Rattle.vtl_cell.specs.Scalars.{scalar_of}
@@ -39,7 +40,7 @@ use Rattle.sql_tree.specs.declared.parts.Numeral.TheVariants as numeral
 use Rattle.sql_check_parts.specs.Kinds.{operator_kind}
 use Rattle.sql_check_parts.specs.Literals.{constant_kind}
 use Rattle.sql_check_parts.specs.Scopes.{or_null}
-use Rattle.sql_meaning.specs.Outcomes.{all_of, branch, cell_or_null, operated, result_of}
+use Rattle.sql_meaning.specs.Outcomes.{cell_or_null, operated}
 use Rattle.sql_meaning.specs.Values.{constant_cell}
 use Rattle.sql_meaning.proofs.Lists.{all_at}
 

@@ -14,6 +14,7 @@ use Rattle.vtl_cell.specs.declared.kind.Kind.TheVariants as k
 use Rattle.vtl_cell.specs.Conversion.{as_kind}
 use Rattle.vtl_cell.specs.Groups.{group_value}
 use Rattle.vtl_cell.specs.Outcome.{Fault, Outcome, after, fault_in, faults_by, join, unless}
+use Rattle.vtl_cell.specs.Outcomes.{Same, branch, first_chosen, is_true}
 use Rattle.vtl_cell.specs.Row.{Row, same_row}
 use Rattle.vtl_cell.specs.Sorted.{Key, window_cmp}
 use Rattle.vtl_cell.proofs.Aggregates.{count-Perm, group-Perm}
@@ -29,7 +30,7 @@ use Rattle.sql_check_parts.specs.Kinds.{kind_in}
 use Rattle.sql_check_parts.specs.Queries.{is_grouped, query_columns, scope_of}
 use Rattle.sql_check_parts.specs.Scopes.{Scope, row_of, with_source}
 use Rattle.sql_check_parts.specs.Exists.{inner_of}
-use Rattle.sql_meaning.specs.Outcomes.{Same, branch, first_chosen, is_true, operated, row_at, row_fault}
+use Rattle.sql_meaning.specs.Outcomes.{operated, row_at, row_fault}
 use Rattle.sql_meaning.specs.Tables.{Base, columns_named, kinds_of}
 use Rattle.sql_meaning.specs.Values.{View, at_groups, at_rows, chosen, is_tied, literal_cell, null_test, place_in, set_operator, value, values}
 use Rattle.sql_meaning.specs.From.{Joined, condition_fault, fault_at, beside, holds, is_met, joined, joined_by, joined_rows, kept, kept_of, or_alone, pairs, pairs_by, partners, partners_or_alone, nulls, source_rows, unmet, with_join}

@@ -5,12 +5,12 @@ use Rattle.std.specs.List.{AllByRecursion}
 use Rattle.std.proofs.lemmas.Bool.{eqb-true}
 use Rattle.vtl_lists.proofs.Perms.{Perm-refl}
 use Rattle.vtl_cell.specs.Outcome.{Outcome}
+use Rattle.vtl_cell.specs.Outcomes.{Same}
 use Rattle.vtl_cell.specs.declared.kind.Kind.{Kind}
 use Rattle.sql_tree.specs.Trees.{JoinTree, QueryTree, SelectTree}
 use Rattle.sql_check_parts.specs.Queries.{query_columns, scope_of}
 use Rattle.sql_check_laws.specs.Selects.{IsQueryTyped, IsSelectTyped}
 use Rattle.sql_meaning.specs.From.{Joined, first_of, kept_of, source_rows, with_join}
-use Rattle.sql_meaning.specs.Outcomes.{Same}
 use Rattle.sql_meaning.specs.Plans.{IsAt, IsEqualityJoin, IsFirst, IsPlan, SelectsStand, Ways, as_written, is_indexed, planned_joins, planned_selects, planned_source, planned_value, with_index}
 use Rattle.sql_meaning.specs.declared.plan.Indexed.{Indexed}
 use Rattle.sql_meaning.specs.Profiles.{IsLawful}

@@ -17,6 +17,7 @@ use Rattle.vtl_cell.specs.Groups.{aggregate, greatest, group_value, is_integer, 
 use Rattle.vtl_cell.specs.Kinds.{is_null, is_of}
 use Rattle.vtl_cell.specs.Numeral.{Numeral as Spelled, denominator, integer_of, number_spelled, numeral_of, numerator, signed}
 use Rattle.vtl_cell.specs.Outcome.{Outcome, Range, after, fault_in, faults_by, join}
+use Rattle.vtl_cell.specs.Outcomes.{all_of, branch, first_chosen, is_true, result_of}
 use Rattle.vtl_cell.specs.Profile.{IsOfProfile}
 use Rattle.vtl_cell.specs.Range.{fit_integer, fit_number}
 use Rattle.vtl_cell.specs.Results.{◌>>=◌}
@@ -59,7 +60,7 @@ use Rattle.sql_check_parts.specs.Queries.{is_grouped, query_columns, scope_of}
 use Rattle.sql_check_parts.specs.Scopes.{Scope, row_of, with_source}
 use Rattle.sql_meaning.specs.From.{Joined, beside, condition_fault, first_of, holds, joined, kept, nulls, source_rows, with_join}
 use Rattle.sql_meaning.specs.Groups.{keys_by, rows_with}
-use Rattle.sql_meaning.specs.Outcomes.{all_of, all_values, branch, cell_or_null, first_chosen, is_true, operated, result_of, row_at, row_fault}
+use Rattle.sql_meaning.specs.Outcomes.{all_values, cell_or_null, operated, row_at, row_fault}
 use Rattle.sql_meaning.specs.Profiles.{AreOfProfile, HeldOfProfile, InputsOfProfile, IsRowOfProfile, TablesOfProfile}
 use Rattle.sql_meaning.specs.Scripts.{Data, Inputs, Made, NamedFault, Table, and_table, base_of, created, input_table, no_table, or_named, rows_read, statement_made, statements_made, table_named}
 use Rattle.sql_meaning.specs.Selects.{Wanted, at_key, group_item, grouped_rows, having_fault, item_value, kept_keys, key_value, plain_rows, query_value, row_value, rows_in, second_phase, select_value}

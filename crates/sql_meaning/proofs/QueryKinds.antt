@@ -6,6 +6,7 @@ use Rattle.vtl_lists.proofs.Sorts.{AllByRecursion-filter}
 use Rattle.vtl_cell.specs.Conversion.{as_kind}
 use Rattle.vtl_cell.specs.Kinds.{is_of}
 use Rattle.vtl_cell.specs.Outcome.{Outcome, after, fault_in, faults_by, join}
+use Rattle.vtl_cell.specs.Outcomes.{is_true}
 use Rattle.vtl_cell.specs.Row.{Row, same_row}
 use Rattle.vtl_cell.specs.Settings.{Settings}
 use Rattle.vtl_cell.specs.declared.cell.Cell.{Cell}
@@ -22,7 +23,7 @@ use Rattle.sql_check_parts.specs.Scopes.{Scope, grouping_of, row_of}
 use Rattle.sql_check_laws.specs.Selects.{IsItemTyped, IsQueryTyped, IsSelectTyped, IsValueTyped}
 use Rattle.sql_meaning.specs.From.{nulls, source_rows}
 use Rattle.sql_meaning.specs.Groups.{keys_by, rows_with}
-use Rattle.sql_meaning.specs.Outcomes.{cell_or_null, is_true, row_at, row_fault}
+use Rattle.sql_meaning.specs.Outcomes.{cell_or_null, row_at, row_fault}
 use Rattle.sql_meaning.specs.Selects.{Wanted, at_key, group_item, group_rows, grouped_rows, having_fault, item_value, kept_keys, key_value, plain_rows, query_value, row_value, rows_in, second_phase, select_value}
 use Rattle.sql_meaning.specs.Tables.{Base, RowsFit, TablesFit, kinds_of}
 use Rattle.sql_meaning.specs.Values.{View, at_groups, at_rows, place_in, same_column}

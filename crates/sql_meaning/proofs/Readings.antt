@@ -6,6 +6,7 @@ use Rattle.vtl_cell.specs.Conversion.{as_kind}
 use Rattle.vtl_cell.specs.Kinds.{is_null}
 use Rattle.vtl_cell.specs.Outcome.{Outcome, after, faults_by, join}
 use Rattle.vtl_cell.specs.Apart.{all_apart}
+use Rattle.vtl_cell.specs.Outcomes.{is_true}
 use Rattle.vtl_cell.specs.Row.{Row, same_key}
 use Rattle.vtl_cell.specs.declared.cell.Cell.{Cell}
 use Rattle.vtl_cell.specs.declared.kind.Kind.{Kind}
@@ -20,7 +21,7 @@ use Rattle.sql_meaning.specs.From.{holds, source_rows}
 use Rattle.sql_meaning.specs.Inputs.{IsInputData, key_width}
 use Rattle.sql_tree.specs.declared.statements.SqlInput.{SqlInput}
 use Rattle.sql_meaning.specs.Groups.{rows_with}
-use Rattle.sql_meaning.specs.Outcomes.{is_true, row_at, row_fault}
+use Rattle.sql_meaning.specs.Outcomes.{row_at, row_fault}
 use Rattle.sql_meaning.specs.Selects.{Wanted, group_item, grouped_rows, plain_rows, second_phase, select_value}
 use Rattle.sql_meaning.specs.Tables.{Base}
 use Rattle.sql_meaning.specs.Values.{View, at_groups, at_rows, cell_at}

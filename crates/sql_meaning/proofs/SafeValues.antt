@@ -5,6 +5,7 @@ use Rattle.std.specs.List.{AllByRecursion}
 use Rattle.std.proofs.lemmas.Bool.{and_parts}
 use Rattle.vtl_cell.specs.Conversion.{as_kind}
 use Rattle.vtl_cell.specs.Outcome.{Outcome, after, fault_in, faults_by, join}
+use Rattle.vtl_cell.specs.Outcomes.{all_of, branch, first_chosen, result_of}
 use Rattle.vtl_cell.specs.Profile.{IsOfProfile}
 use Rattle.vtl_cell.specs.Row.{Row}
 use Rattle.vtl_cell.specs.ScalarArithmetic.{number, units}
@@ -26,7 +27,7 @@ use Rattle.sql_check_parts.specs.Kinds.{kind_in}
 use Rattle.sql_check_parts.specs.Scopes.{Scope}
 use Rattle.sql_meaning.specs.Early.{are_safe, have_safe, is_safe}
 use Rattle.sql_meaning.specs.From.{fault_at}
-use Rattle.sql_meaning.specs.Outcomes.{all_of, branch, first_chosen, operated, result_of}
+use Rattle.sql_meaning.specs.Outcomes.{operated}
 use Rattle.sql_meaning.specs.Profiles.{AreOfProfile, IsRowOfProfile}
 use Rattle.sql_meaning.specs.Tables.{Base}
 use Rattle.sql_meaning.specs.Values.{View, at_rows, cell_at, chosen, constant_cell, is_there, literal_cell, place_in, set_operator, value, values}

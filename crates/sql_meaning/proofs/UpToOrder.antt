@@ -5,10 +5,11 @@ use Rattle.vtl_lists.specs.Perm.{Perm, empty, keep, cross, chain}
 use Rattle.vtl_lists.proofs.Perms.{Perm-refl, Perm-same, Perm-map, Perm-filter}
 use Rattle.vtl_tuples.specs.Keys.{each_once}
 use Rattle.vtl_cell.specs.Outcome.{Fault, Outcome, DivZero, Range, after, fault_in, faults_by, join, unless}
+use Rattle.vtl_cell.specs.Outcomes.{Same}
 use Rattle.vtl_cell.specs.Row.{Row, same_row}
 use Rattle.vtl_cell.specs.declared.cell.Cell.{Cell}
 use Rattle.vtl_cell.proofs.Rows.{same_row-is, same_row-sym}
-use Rattle.sql_meaning.specs.Outcomes.{Same, all_values, cell_or_null}
+use Rattle.sql_meaning.specs.Outcomes.{all_values, cell_or_null}
 use Rattle.sql_meaning.specs.Windows.{told_apart}
 
 -- ---- faults

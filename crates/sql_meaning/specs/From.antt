@@ -2,6 +2,7 @@
 use Rattle.std.specs.Prelude.{ℕ, Bool, not, List, [], ◌∷◌, ◌++◌, map, filter, fold, length, replicate, Option, Some, None}
 use Rattle.std.specs.List.{flat_map, list_any}
 use Rattle.vtl_cell.specs.Outcome.{Fault, Outcome, fault_in, faults_by, join, unless}
+use Rattle.vtl_cell.specs.Outcomes.{is_true}
 use Rattle.vtl_cell.specs.Row.{Row}
 use Rattle.vtl_cell.specs.declared.cell.Cell.TheVariants as c
 use Rattle.sql_tree.specs.Trees as tree
@@ -10,7 +11,6 @@ use Rattle.sql_tree.specs.declared.parts.Source.{Source}
 use Rattle.sql_tree.specs.declared.word_groups.JoinKind.{JoinKind}
 use Rattle.sql_tree.specs.declared.word_groups.JoinKind.TheVariants as joining
 use Rattle.sql_check_parts.specs.Scopes.{Scope, row_of, with_source}
-use Rattle.sql_meaning.specs.Outcomes.{is_true}
 use Rattle.sql_meaning.specs.Tables.{Base, columns_named}
 use Rattle.sql_meaning.specs.Values.{View, at_rows, value}
 

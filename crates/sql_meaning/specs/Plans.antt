@@ -2,6 +2,7 @@
 use Rattle.std.specs.Prelude.{◌≡◌, ℕ, suc, ◌==◌, Bool, true, false, not, cond, List, [], ◌∷◌, ◌++◌, filter, fold, take, drop, length, zip, Option, Some, None, if◌then◌else◌}
 use Rattle.std.specs.List.{AllByRecursion, flat_map, list_all, list_any}
 use Rattle.vtl_cell.specs.Outcome.{Outcome, after, faults_by, join}
+use Rattle.vtl_cell.specs.Outcomes.{Same}
 use Rattle.vtl_cell.specs.Row.{Row}
 use Rattle.vtl_cell.specs.Texts.{same_text}
 use Rattle.vtl_cell.specs.declared.kind.Kind.{Kind}
@@ -14,7 +15,6 @@ use Rattle.sql_check_parts.specs.Queries.{query_columns, scope_of}
 use Rattle.sql_check_parts.specs.Scopes.{row_of, with_source}
 use Rattle.sql_check_laws.specs.Selects.{IsSelectTyped}
 use Rattle.sql_meaning.specs.From.{Joined, fault_at, first_of, holds, joined_rows, kept_of, source_rows, with_join}
-use Rattle.sql_meaning.specs.Outcomes.{Same}
 use Rattle.sql_meaning.specs.Profiles.{IsLawful}
 use Rattle.sql_meaning.specs.Selects.{appended, second_phase}
 use Rattle.sql_meaning.specs.Tables.{Base, columns_named, kinds_of}

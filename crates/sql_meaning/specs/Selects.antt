@@ -3,6 +3,7 @@ use Rattle.std.specs.Prelude.{ℕ, cond, List, [], map, filter, zip, Option, Som
 use Rattle.std.specs.List.{flat_map}
 use Rattle.vtl_cell.specs.Conversion.{as_kind}
 use Rattle.vtl_cell.specs.Outcome.{Fault, Outcome, after, fault_in, faults_by, join, unless}
+use Rattle.vtl_cell.specs.Outcomes.{is_true}
 use Rattle.vtl_cell.specs.Row.{Row}
 use Rattle.vtl_cell.specs.declared.cell.Cell.{Cell}
 use Rattle.vtl_cell.specs.declared.cell.Cell.TheVariants as c
@@ -13,7 +14,7 @@ use Rattle.sql_tree.specs.declared.parts.Column.{Column}
 use Rattle.sql_check_parts.specs.Queries.{is_grouped, query_columns, scope_of}
 use Rattle.sql_meaning.specs.From.{source_rows}
 use Rattle.sql_meaning.specs.Groups.{keys_by, rows_with}
-use Rattle.sql_meaning.specs.Outcomes.{is_true, row_fault, row_at}
+use Rattle.sql_meaning.specs.Outcomes.{row_fault, row_at}
 use Rattle.sql_meaning.specs.Tables.{Base, kinds_of}
 use Rattle.sql_meaning.specs.Values.{View, at_groups, at_rows, value}
 use Rattle.sql_meaning.specs.Windows.{told_apart, window_value}

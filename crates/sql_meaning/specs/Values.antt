@@ -4,6 +4,7 @@ use Rattle.std.specs.List.{list_all, list_any, position_or_len}
 use Rattle.vtl_cell.specs.Conversion.{as_kind}
 use Rattle.vtl_cell.specs.Groups.{count_of_points, group_value}
 use Rattle.vtl_cell.specs.Outcome.{Outcome, after}
+use Rattle.vtl_cell.specs.Outcomes.{branch, first_chosen, is_true}
 use Rattle.vtl_cell.specs.Row.{Row, column_of}
 use Rattle.vtl_cell.specs.Scalars.{scalar_of}
 use Rattle.vtl_cell.specs.Settings.{Settings}
@@ -24,7 +25,7 @@ use Rattle.sql_check_parts.specs.Exists.{Inner, inner_of, is_inner}
 use Rattle.sql_check_parts.specs.Kinds.{kind_in}
 use Rattle.sql_check_parts.specs.Literals.{constant_value, literal_value}
 use Rattle.sql_check_parts.specs.Scopes.{Scope, found, or_nothing, placed, row_of}
-use Rattle.sql_meaning.specs.Outcomes.{all_values, branch, first_chosen, is_true, operated}
+use Rattle.sql_meaning.specs.Outcomes.{all_values, operated}
 use Rattle.sql_meaning.specs.Tables.{Base}
 
 -- ---- places

@@ -3,6 +3,7 @@ ghost use Rattle.std.specs.Prelude.{◌≡◌, ◌⊎◌, ◌<◌, ◌≤◌, �
 ghost use Rattle.std.specs.List.{AllByRecursion};
 ghost use Rattle.vtl_cell.specs.Kinds.{is_null};
 ghost use Rattle.vtl_cell.specs.Outcome.{after, fault_in};
+ghost use Rattle.vtl_cell.specs.Outcomes.{Same};
 ghost use Rattle.vtl_cell.specs.Perm.{Perm};
 ghost use Rattle.vtl_cell.specs.Row.{Row, same_row};
 ghost use Rattle.vtl_cell.specs.Settings.{Settings};
@@ -33,7 +34,6 @@ ghost use Rattle.sql_meaning.specs.From.{holds, source_rows};
 ghost use Rattle.sql_meaning.specs.Fronts.{IsFrontOf};
 ghost use Rattle.sql_meaning.specs.Inputs.{IsInputData, key_width};
 ghost use Rattle.sql_meaning.specs.Orders.{SameInputs, SameRows, with_rows};
-ghost use Rattle.sql_meaning.specs.Outcomes.{Same};
 ghost use Rattle.sql_meaning.specs.Plans.{IsPlan, NamesJoin, Ways, as_written, planned_value};
 ghost use Rattle.sql_meaning.specs.Profiles.{AreOfProfile, HeldOfProfile, InputsOfProfile, IsLawful, TablesOfProfile};
 ghost use Rattle.sql_meaning.specs.Scripts.{Inputs, Made, script_value, statements_made};

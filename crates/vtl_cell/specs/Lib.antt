@@ -21,6 +21,7 @@ pub mod Kinds
 pub mod Logic
 pub mod Order
 pub mod Outcome
+pub mod Outcomes
 pub mod Profile
 pub mod Reading
 pub mod Row

@@ -1,9 +1,10 @@
 // `filter`
 ghost use Rattle.std.specs.Prelude.{◌≡◌, true, ◌++◌, ◌∷◌, [], Ok, IfOk, IfErr, if◌then◌else◌};
 ghost use Rattle.vtl_cell.specs.Outcome.{fault_in, join};
+ghost use Rattle.vtl_cell.specs.Outcomes.{is_true};
 ghost use Rattle.vtl_rows.specs.Tables.{fits};
 ghost use Rattle.vtl_scalar.specs.Answers.{Answers, AnswersBy};
-ghost use Rattle.vtl_tree.specs.Clauses.{filter_of, is_true};
+ghost use Rattle.vtl_tree.specs.Clauses.{filter_of};
 ghost use Rattle.vtl_tree.specs.Value.{value};
 ghost use Rattle.vtl_tree.specs.View.{comp_exp_of};
 ghost use Rattle.vtl_expr.specs.DataSets.{with_structure};

@@ -3,6 +3,7 @@ use Rattle.std.proofs.Common.{rules, Box, Global, ◌≡◌, Bool, true, false, 
 use Rattle.std.proofs.lemmas.List.{map_more, map-append}
 use Rattle.vtl_cell.specs.Conversion.{as_kind}
 use Rattle.vtl_cell.specs.Outcome.{Outcome, after, fault_in, faults_by, join}
+use Rattle.vtl_cell.specs.Outcomes.{all_of, result_of}
 use Rattle.vtl_cell.specs.Perm.{Perm}
 use Rattle.vtl_cell.specs.Row.{Row}
 use Rattle.vtl_cell.specs.ScalarComparison.{membership_of, truth}
@@ -12,7 +13,7 @@ use Rattle.vtl_cell.specs.declared.kind.Kind.{Kind}
 use Rattle.vtl_cell.specs.declared.kind.Kind.TheVariants as k
 use Rattle.vtl_scalar.proofs.MemberLemmas.{membership_of_perm}
 use Rattle.vtl_tree.specs.CompExp.{CompExp, call, comp_exp, const}
-use Rattle.vtl_tree.specs.Value.{all_of, is_choice, result_of, value, values}
+use Rattle.vtl_tree.specs.Value.{is_choice, value, values}
 use Rattle.vtl_tree.specs.View.{comp_exp_of, comp_exps_of}
 use Rattle.vtl_tree.specs.declared.expression.CompExpr.{CompExpr}
 use Rattle.vtl_meaning.specs.Points.{cell_or_null, point_fault, point_of}

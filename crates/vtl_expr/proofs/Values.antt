@@ -3,6 +3,7 @@ use Rattle.std.proofs.Common.{◌≡◌, ◌==◌, Bool, true, false, Option, So
 use Rattle.std.proofs.lemmas.Bool.{eqb-true}
 use Rattle.vtl_cell.specs.Conversion.{as_kind}
 use Rattle.vtl_cell.specs.Outcome.{Fault, DivZero, Range, Outcome, after}
+use Rattle.vtl_cell.specs.Outcomes.{all_of, branch, first_chosen, result_of}
 use Rattle.vtl_cell.specs.Settings.{Settings}
 use Rattle.vtl_cell.specs.declared.cell.Cell.{Cell}
 use Rattle.vtl_cell.specs.declared.kind.Kind.{Kind}
@@ -11,7 +12,7 @@ use Rattle.vtl_cell.specs.declared.operator.ScalarOp.TheVariants as op
 use Rattle.vtl_scalar.specs.Answers.{AnswersBy}
 use Rattle.vtl_scalar.specs.declared.error.ScalarErr.TheVariants as err
 use Rattle.vtl_scalar.specs.declared.error.ScalarErr.{ScalarErr}
-use Rattle.vtl_tree.specs.Value.{all_of, branch, called, first_chosen, is_choice, result_of, value, values}
+use Rattle.vtl_tree.specs.Value.{called, is_choice, value, values}
 use Rattle.vtl_tree.specs.View.{comp_exps_of}
 use Rattle.vtl_expr.specs.Prepared.{prepared_exp}
 use Rattle.vtl_expr.specs.declared.prepared.Prepared.{Prepared}

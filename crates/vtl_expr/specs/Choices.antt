@@ -1,9 +1,9 @@
 -- What `if` takes its points from.
 use Rattle.std.specs.Prelude.{◌≡◌, ℕ, true, ◌++◌, List, Ok, Some, cond}
+use Rattle.vtl_cell.specs.Outcomes.{is_true}
 use Rattle.vtl_cell.specs.Row.{Row, column_of}
 use Rattle.vtl_rows.specs.Tables.{cells_at, fits}
 use Rattle.vtl_rows.specs.declared.column.Column.{Column}
-use Rattle.vtl_tree.specs.Clauses.{is_true}
 use Rattle.vtl_tree.specs.DataSet.{IsDataSet}
 use Rattle.vtl_tree.specs.Environment.{DataSet}
 use Rattle.vtl_tree.specs.Structure.{columns_of, key_width}

@@ -14,7 +14,6 @@ pub use Rattle.vtl_meaning.specs.clauses
 pub use Rattle.vtl_sets.specs.DataSets
 pub use Rattle.vtl_sets.specs.TableOf
 pub mod Choices
-pub mod Given
 pub mod Partners
 pub mod Prepared
 pub mod Seen

@@ -1,8 +1,8 @@
 // `if` on data sets.
 ghost use Rattle.std.specs.Prelude.{◌≡◌, ◌<◌, ◌++◌, Ok, IfOk, OnOk};
+ghost use Rattle.vtl_cell.specs.Outcomes.{is_true};
 ghost use Rattle.vtl_cell.specs.Row.{column_of};
 ghost use Rattle.vtl_rows.specs.Tables.{cells_at};
-ghost use Rattle.vtl_tree.specs.Clauses.{is_true};
 ghost use Rattle.vtl_sets.specs.DataSets.{data_set};
 ghost use Rattle.vtl_meaning.specs.Made.{IsChoice};
 ghost use Rattle.vtl_meaning.specs.Operators.{choice_of};

@@ -1,20 +1,23 @@
 // The value of an expression at a point.
 ghost use Rattle.std.specs.Prelude.{◌≡◌, ◌++◌, ◌∷◌, [], length, map};
-ghost use Rattle.vtl_cell.specs.Conversion.{as_kind};
 ghost use Rattle.vtl_cell.specs.Outcome.{Outcome, after};
+ghost use Rattle.vtl_cell.specs.Outcomes.{all_of};
+ghost use Rattle.vtl_cell.specs.Row.{column_of};
 ghost use Rattle.vtl_cell.specs.ScalarComparison.{membership_of, truth};
 ghost use Rattle.vtl_cell.specs.declared.cell.Cell.{Cell};
 ghost use Rattle.vtl_scalar.specs.Answers.{Answers, AnswersBy};
-ghost use Rattle.vtl_tree.specs.Value.{all_of, called, first_chosen, is_choice, result_of, value, values};
+ghost use Rattle.vtl_scalar.specs.Given.{given_cell};
+ghost use Rattle.vtl_tree.specs.Value.{called, is_choice, value, values};
 ghost use Rattle.vtl_tree.specs.View.{comp_exp_of, comp_exps_of};
-ghost use Rattle.vtl_expr.specs.Given.{given_cell};
 ghost use Rattle.vtl_expr.specs.Prepared.{asked, prepared_exp};
 
-use crate::given::{Given, column_at};
 use crate::prepared::{Prepared, prepare};
 use std::alloc::Global;
 use vtl_cell::{Cell, Kind, Profile, ScalarOp, not3};
-use vtl_scalar::{Members, ScalarErr, apply, apply_one, apply_three, apply_two, to_kind, truth};
+use vtl_scalar::{
+    Given, Members, ScalarErr, apply, first_chosen, given_of_kind, made_of_kind, truth, value_of_one,
+    value_of_three, value_of_two,
+};
 use vtl_tree::CompExpr;
 
 /// The value of an expression at a point, whose cells stand in column order: the operands are evaluated from left to
@@ -79,16 +82,16 @@ fn called<'v>(
     match count {
         1 => {
             let a = value_at(alloc, &args[0], first, second, p);
-            of_one(alloc, op, kind, a, p)
+            value_of_one(alloc, op, kind, a, p)
         }
         2 => {
             let a = value_at(alloc, &args[0], first, second, p);
             let b = value_at(alloc, &args[1], first, second, p);
-            of_two(alloc, op, kind, a, b, p)
+            value_of_two(alloc, op, kind, a, b, p)
         }
         _ => {
             let values = all_values(alloc, args, first, second, p)?;
-            made(apply(alloc, op, &values, p), kind, p)
+            made_of_kind(apply(alloc, op, &values, p), kind, p)
         }
     }
 }
@@ -111,12 +114,12 @@ fn called_on_three<'v>(
     if !is_choice(op) {
         let b = value_at(alloc, &args[1], first, second, p);
         let c = value_at(alloc, &args[2], first, second, p);
-        return of_three(alloc, op, kind, a, b, c, p);
+        return value_of_three(alloc, op, kind, a, b, c, p);
     }
     match first_chosen(a?.cell()) {
-        Some(true) => of_kind(value_at(alloc, &args[1], first, second, p), kind, p),
-        Some(false) => of_kind(value_at(alloc, &args[2], first, second, p), kind, p),
-        None => of_kind(Ok(Given::Made(Cell::Null)), kind, p),
+        Some(true) => given_of_kind(value_at(alloc, &args[1], first, second, p), kind, p),
+        Some(false) => given_of_kind(value_at(alloc, &args[2], first, second, p), kind, p),
+        None => given_of_kind(Ok(Given::Made(Cell::Null)), kind, p),
     }
 }
 
@@ -146,17 +149,6 @@ fn is_choice(op: ScalarOp) -> bool
     matches!(op, ScalarOp::If)
 }
 
-// Whether a condition chooses the first branch. A value that is no boolean chooses none.
-fn first_chosen(test: &Cell) -> Option<bool>
-    ensures { result ≡ first_chosen test.now }
-{
-    match test {
-        Cell::Bool(b) => Some(*b),
-        Cell::Null => Some(false),
-        _ => None,
-    }
-}
-
 // The answer to the question whether a value is in a set, or whether it is not.
 fn asked<'v>(
     is_in: bool,
@@ -170,74 +162,15 @@ fn asked<'v>(
     Ok(Given::Made(truth(if is_in { found } else { not3(found) })))
 }
 
-// A new value, as one of the kind.
-fn made<'v>(
-    answer: Result<Cell, ScalarErr>,
-    kind: Kind,
-    p: &Profile,
-) -> Result<Given<'v>, ScalarErr>
-    ensures { (m : Outcome Cell) → Answers answer m → AnswersBy given_cell result (after m (as_kind p.now kind)) }
+// The cell at a place of a row that stands in two pieces, or null past the last one.
+fn column_at<'v>(place: usize, first: &'v [Cell], second: &'v [Cell]) -> Given<'v>
+    ensures { given_cell result ≡ column_of place (first.now ++ second.now) }
 {
-    Ok(Given::Made(to_kind(kind, answer?, p)?))
-}
-
-// The answer, as a value of the kind. One that is of it stays where it is.
-fn of_kind<'v>(
-    answer: Result<Given<'v>, ScalarErr>,
-    kind: Kind,
-    p: &Profile,
-) -> Result<Given<'v>, ScalarErr>
-    ensures { (m : Outcome Cell) → AnswersBy given_cell answer.entry m → AnswersBy given_cell result (after m (as_kind p.now kind)) }
-{
-    let given = answer?;
-    if let (Kind::Num, Cell::Int(n)) = (kind, given.cell()) {
-        return made(Ok(Cell::Int(*n)), kind, p);
+    if place < first.len() {
+        return Given::Lent(&first[place]);
     }
-    Ok(given)
-}
-
-// The value of an operator on one operand.
-fn of_one<'v>(
-    alloc: Global,
-    op: ScalarOp,
-    kind: Kind,
-    a: Result<Given<'v>, ScalarErr>,
-    p: &Profile,
-) -> Result<Given<'v>, ScalarErr>
-    ensures { (m : Outcome Cell) → AnswersBy given_cell a.entry m → AnswersBy given_cell result (after m (λ x. result_of p.now op kind (x ∷ []))) }
-{
-    made(apply_one(alloc, op, a?.cell(), p), kind, p)
-}
-
-// The value of an operator on two operands.
-fn of_two<'v>(
-    alloc: Global,
-    op: ScalarOp,
-    kind: Kind,
-    a: Result<Given<'v>, ScalarErr>,
-    b: Result<Given<'v>, ScalarErr>,
-    p: &Profile,
-) -> Result<Given<'v>, ScalarErr>
-    ensures { (m n : Outcome Cell) → AnswersBy given_cell a.entry m → AnswersBy given_cell b.entry n → AnswersBy given_cell result (after m (λ x. after n (λ y. result_of p.now op kind (x ∷ y ∷ [])))) }
-{
-    made(apply_two(alloc, op, a?.cell(), b?.cell(), p), kind, p)
-}
-
-// The value of an operator on three operands.
-fn of_three<'v>(
-    alloc: Global,
-    op: ScalarOp,
-    kind: Kind,
-    a: Result<Given<'v>, ScalarErr>,
-    b: Result<Given<'v>, ScalarErr>,
-    c: Result<Given<'v>, ScalarErr>,
-    p: &Profile,
-) -> Result<Given<'v>, ScalarErr>
-    ensures { (m n o : Outcome Cell) → AnswersBy given_cell a.entry m → AnswersBy given_cell b.entry n → AnswersBy given_cell c.entry o → AnswersBy given_cell result (after m (λ x. after n (λ y. after o (λ z. result_of p.now op kind (x ∷ y ∷ z ∷ []))))) }
-{
-    made(
-        apply_three(alloc, op, a?.cell(), b?.cell(), c?.cell(), p),
-        kind,
-        p,
-    )
+    match second.get(place - first.len()) {
+        Some(cell) => Given::Lent(cell),
+        None => Given::Made(Cell::Null),
+    }
 }

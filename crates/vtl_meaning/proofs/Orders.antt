@@ -7,13 +7,13 @@ use Rattle.vtl_cell.specs.Settings.{Settings}
 use Rattle.vtl_cell.specs.Perm.{Perm, chain}
 use Rattle.vtl_cell.proofs.Perms.{Perm-filter, Perm-flat_map, Perm-flat_map_each, Perm-map, Perm-same}
 use Rattle.vtl_cell.specs.Outcome.{Fault, fault_in, faults_by}
+use Rattle.vtl_cell.specs.Outcomes.{Same, is_true}
 use Rattle.vtl_cell.specs.Row.{Row}
 use Rattle.vtl_cell.specs.declared.operator.ScalarOp.{ScalarOp}
 use Rattle.vtl_rows.specs.Tables.{cells_at}
-use Rattle.vtl_tree.specs.Clauses.{filter_of, is_true}
+use Rattle.vtl_tree.specs.Clauses.{filter_of}
 use Rattle.vtl_tree.specs.CompExp.{CompExp}
 use Rattle.vtl_tree.specs.DataSet.{Distinct}
-use Rattle.vtl_tree.specs.SameResult.{Same}
 use Rattle.vtl_tree.specs.Structure.{columns_of, key_width}
 use Rattle.vtl_tree.specs.Value.{value}
 use Rattle.vtl_tree.specs.declared.structure.Component.{Component}

@@ -7,6 +7,7 @@ use Rattle.vtl_cell.specs.Settings.{Settings}
 use Rattle.vtl_cell.specs.Conversion.{as_kind}
 use Rattle.vtl_cell.specs.Kinds.{is_null, is_of, kind_of}
 use Rattle.vtl_cell.specs.Outcome.{Outcome, after}
+use Rattle.vtl_cell.specs.Outcomes.{all_of, branch, first_chosen, result_of}
 use Rattle.vtl_cell.specs.Row.{Row, column_of}
 use Rattle.vtl_cell.specs.ScalarArithmetic.{number, units}
 use Rattle.vtl_cell.specs.ScalarKinds.{common_kind, kinds_of, meet, meets}
@@ -24,7 +25,7 @@ use Rattle.vtl_scalar.proofs.ValueKindLemmas.{value_is_of_kind}
 use Rattle.vtl_tree.specs.CompExp.{CompExp, CompExps, column, const, call, aggregate, no_comp_exps, comp_exp}
 use Rattle.vtl_tree.specs.DataSet.{is_point}
 use Rattle.vtl_tree.specs.Structure.{same_role}
-use Rattle.vtl_tree.specs.Value.{all_of, branch, called, first_chosen, result_of, value, values}
+use Rattle.vtl_tree.specs.Value.{called, value, values}
 use Rattle.vtl_tree.specs.declared.structure.Component.{Component}
 use Rattle.vtl_tree.specs.declared.structure.Role.TheVariants as role
 use Rattle.check_values.specs.Kinds.{exp_kind}

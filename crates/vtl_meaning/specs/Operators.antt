@@ -9,9 +9,9 @@ use Rattle.vtl_cell.specs.declared.cell.Cell.TheVariants as c
 use Rattle.vtl_cell.specs.declared.operator.ScalarOp.{ScalarOp}
 use Rattle.vtl_cell.specs.Order.{same_cell}
 use Rattle.vtl_cell.specs.Outcome.{Outcome}
+use Rattle.vtl_cell.specs.Outcomes.{is_true}
 use Rattle.vtl_cell.specs.Row.{Row, column_of}
 use Rattle.vtl_rows.specs.Tables.{cells_at}
-use Rattle.vtl_tree.specs.Clauses.{is_true}
 use Rattle.vtl_tree.specs.CompExp.{CompExp, call, const, comp_exp, no_comp_exps}
 use Rattle.vtl_tree.specs.Environment.{DataSet}
 use Rattle.vtl_tree.specs.Structure.{columns_of, key_width, same_name}

@@ -1,4 +1,5 @@
 pub mod Answers
+pub mod Given
 pub mod KindLaws
 pub mod LawOperators
 pub mod Members

@@ -1,17 +1,11 @@
 -- The clauses on data sets, as functions on lists of points.
-use Rattle.std.specs.Prelude.{Bool, false, Ok, List, filter}
+use Rattle.std.specs.Prelude.{List, filter}
 use Rattle.vtl_cell.specs.Settings.{Settings}
-use Rattle.vtl_cell.specs.declared.cell.Cell.{Cell}
-use Rattle.vtl_cell.specs.declared.cell.Cell.TheVariants as c
 use Rattle.vtl_cell.specs.Row.{Row}
 use Rattle.vtl_cell.specs.Outcome.{Outcome, fault_in, faults_by, unless}
+use Rattle.vtl_cell.specs.Outcomes.{is_true}
 use Rattle.vtl_tree.specs.CompExp.{CompExp}
 use Rattle.vtl_tree.specs.Value.{value}
-
--- a condition holds where its value is true: neither where it is null nor where it has a fault
-abbrev pub is_true : Outcome Cell → Bool
-is_true (Ok (c.Bool b)) = b
-is_true _ = false
 
 -- the points at which the condition is true
 abbrev pub kept : Settings → CompExp → List Row → List Row

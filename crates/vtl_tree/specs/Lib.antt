@@ -3,7 +3,6 @@ pub mod DataSet
 pub mod CompExp
 pub mod Environment
 pub mod Kept
-pub mod SameResult
 pub mod Shown
 pub mod Structure
 pub mod Structures

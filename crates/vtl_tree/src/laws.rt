@@ -1,13 +1,13 @@
 // Laws of the definitions.
 ghost use Rattle.std.specs.Prelude.{◌≡◌, ℕ, List, Ok};
+ghost use Rattle.vtl_cell.specs.Outcomes.{Same, is_true};
 ghost use Rattle.vtl_cell.specs.Settings.{Settings};
 ghost use Rattle.vtl_cell.specs.Perm.{Perm};
 ghost use Rattle.vtl_cell.specs.Row.{Row};
-ghost use Rattle.vtl_tree.specs.Clauses.{filter_of, kept, is_true};
+ghost use Rattle.vtl_tree.specs.Clauses.{filter_of, kept};
 ghost use Rattle.vtl_tree.specs.DataSet.{Distinct, IsDataSet, look};
 ghost use Rattle.vtl_tree.specs.CompExp.{CompExp};
 ghost use Rattle.vtl_tree.specs.Kept.{kept_row};
-ghost use Rattle.vtl_tree.specs.SameResult.{Same};
 ghost use Rattle.vtl_tree.specs.Value.{value};
 ghost use Rattle.vtl_tree.specs.declared.structure.Structure.{Structure};
 

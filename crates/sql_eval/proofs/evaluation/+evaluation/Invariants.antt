@@ -1,5 +1,5 @@
 use Rattle.std.proofs.Common.{◌≡◌, drop}
-use Rattle.sql_meaning.specs.Outcomes.{all_of}
+use Rattle.vtl_cell.specs.Outcomes.{all_of}
 use Rattle.sql_eval.proofs.Operands.{of_branches, of_items, rest}
 use Rattle.sql_eval.proofs.evaluation.+evaluation.Given as goal
 

@@ -1,5 +1,5 @@
 use Rattle.std.proofs.Common.{◌≡◌, ◌++◌, drop}
-use Rattle.vtl_tree.specs.Value.{all_of}
+use Rattle.vtl_cell.specs.Outcomes.{all_of}
 use Rattle.vtl_expr.proofs.Values.{of_items, rest}
 use Rattle.vtl_expr.proofs.evaluation.+evaluation.Given as goal
 

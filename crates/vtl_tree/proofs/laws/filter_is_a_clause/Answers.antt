@@ -3,8 +3,8 @@ use Rattle.vtl_cell.proofs.Aparts.{all_apart-filter}
 use Rattle.vtl_cell.proofs.Perms.{Perm-filter}
 use Rattle.vtl_cell.proofs.Sorts.{AllByRecursion-filter}
 use Rattle.vtl_cell.specs.Outcome.{fault_in}
+use Rattle.vtl_cell.specs.Outcomes.{is_true}
 use Rattle.vtl_cell.specs.Row.{same_key}
-use Rattle.vtl_tree.specs.Clauses.{is_true}
 use Rattle.vtl_tree.specs.DataSet.{is_point}
 use Rattle.vtl_tree.specs.Structure.{columns_of, key_width}
 use Rattle.vtl_tree.specs.Value.{value}
