@@ -17,8 +17,7 @@ use crate::operands::{
 use crate::{Operator, Outcome, shaped};
 use check_faults::{Rule, TypeErr, broken};
 use std::alloc::{AllocError, Global};
-use vtl_cell::Kind;
-use vtl_tree::{Component, Role, Structure};
+use vtl_tree::{Component, Kind, Role, Structure};
 
 /// Whether the identifiers of the first structure contain those of the second.
 pub fn contains(all: &Structure, some: &Structure) -> bool
