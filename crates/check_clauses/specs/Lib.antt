@@ -1,3 +1,8 @@
+pub use Rattle.check_operators.specs.Operators
+pub use Rattle.check_operators.specs.Places
+pub use Rattle.check_operators.specs.Sets
+pub use Rattle.check_operators.specs.Typed
+pub use Rattle.check_operators.specs.declared.places
 pub mod Clauses
 pub mod JoinOperands
 pub mod JoinView

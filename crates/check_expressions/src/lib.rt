@@ -11,4 +11,5 @@ mod join;
 mod value;
 mod walk;
 
+pub use check_clauses::{Place, Scope};
 pub use walk::typing;

@@ -43,10 +43,10 @@ use Rattle.check_values.specs.Columns.{name_of}
 use Rattle.check_values.specs.Groupings.{grouping_choice, grouping_names}
 use Rattle.check_values.specs.Kinds.{exp_kind}
 use Rattle.check_values.specs.Literals.{kind_met, literal_cell, literal_kind, valued}
-use Rattle.check_operators.specs.Places.{Env, at_points, columns_in, name_written, written_by}
-use Rattle.check_operators.specs.Typed.{TypedTree, value, dataset, components_in, condition_in}
-use Rattle.check_operators.specs.declared.places.Joined.{Joined}
-use Rattle.check_operators.specs.declared.places.Place.TheVariants as place
+use Rattle.vtl_check.specs.Places.{Env, at_points, columns_in, name_written, written_by}
+use Rattle.vtl_check.specs.Typed.{TypedTree, value, dataset, components_in, condition_in}
+use Rattle.vtl_check.specs.places.Joined.{Joined}
+use Rattle.vtl_check.specs.places.Place.TheVariants as place
 use Rattle.vtl_check.specs.Clauses.{cell_as, filter_form, kept_of, keeping_form, made_of, name_known, names_typed, pivot_names, pivot_of, references_in, renamed_of, renaming_form, renamings_typed, sub_form, sub_item, sub_known, sub_names, sub_of, sub_value, subs_typed, unpivot_of}
 use Rattle.vtl_check.specs.Targets.{aggr_clause, aggr_tree, calc_clause, calc_name, is_analytic, is_analytic_value, item_names, item_of, made_target, role_of, target_of, value_kind}
 use Rattle.vtl_check.specs.targets.Made.{Made}

@@ -17,8 +17,8 @@ use Rattle.vtl_meaning.specs.Nodes.{all_nodes, form_nodes, nodes_in}
 use Rattle.vtl_meaning.specs.Trees as nodes
 use Rattle.vtl_meaning.specs.Trees.{FormTree, ItemTree, MeasureTree, NodeTree, ValueTree}
 use Rattle.check_shapes.specs.Pairs.{contains}
-use Rattle.check_operators.specs.Typed as typed
-use Rattle.check_operators.specs.Typed.{TypedTree, value, dataset}
+use Rattle.vtl_check.specs.Typed as typed
+use Rattle.vtl_check.specs.Typed.{TypedTree, value, dataset}
 use Rattle.vtl_check.specs.Clauses as clauses
 use Rattle.vtl_meaning.specs.Columns.{column_behind, column_named, columns_named, identifiers_of, measures_of}
 use Rattle.vtl_meaning.specs.Operators.{calculated_exp, calculated_exps, for_measures, measured_exps, pair_exps, target_named, value_exp, with_measure, with_namesake}

@@ -27,9 +27,9 @@ use Rattle.check_shapes.specs.declared.names.Wanted.TheVariants as wanted
 use Rattle.check_shapes.specs.declared.renaming.Renaming.{Renaming}
 use Rattle.check_values.specs.Columns.{name_of}
 use Rattle.check_values.specs.Kinds.{exp_kind}
-use Rattle.check_operators.specs.Typed.{TypedTree, value, dataset, components_in, condition_in, dataset_in}
-use Rattle.check_operators.specs.declared.places.Joined.{Joined}
-use Rattle.check_operators.specs.declared.places.Place.{Place}
+use Rattle.vtl_check.specs.Typed.{TypedTree, value, dataset, components_in, condition_in, dataset_in}
+use Rattle.vtl_check.specs.places.Joined.{Joined}
+use Rattle.vtl_check.specs.places.Place.{Place}
 use Rattle.vtl_check.specs.Clauses.{filter_form, kept_of, keeping_form, keeping_tree, made_of, names_typed, pivot_names, pivot_of, references_in, renamed_of, renaming_form, sub_form, sub_of, subs_typed, unpivot_of}
 use Rattle.vtl_check.specs.JoinOperands.{PartTyped, joined_node, last_naming, left_names, new_alias, operand_in, operands_in, using_names, with_part}
 use Rattle.vtl_check.specs.Targets.{aggr_clause, aggr_tree, calc_clause, is_analytic, target_of}

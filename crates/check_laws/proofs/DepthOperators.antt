@@ -26,12 +26,12 @@ use Rattle.check_values.specs.Calls.{call_form, call_kind, or_null}
 use Rattle.check_values.specs.Columns.{column_from, column_typed, name_of}
 use Rattle.check_values.specs.Kinds.{exp_kind}
 use Rattle.check_values.specs.Literals.{constant_cell, constant_typed, valued}
-use Rattle.check_operators.specs.Operators.{Operands, if_placed, membership, no_operands, on_choice, on_datasets, on_measures, on_operands, on_pair, operator_form, parted, set_form, with_operand, with_value}
-use Rattle.check_operators.specs.Places.{Env, Written, alone, component_typed, constant_form, known_by, member_inside, member_written, name_typed, written_typed}
-use Rattle.check_operators.specs.Typed.{TypedTree, value, dataset, of_value}
-use Rattle.check_operators.specs.declared.places.Inside.{Inside}
-use Rattle.check_operators.specs.declared.places.Place.{Place}
-use Rattle.check_operators.specs.declared.places.Place.TheVariants as place
+use Rattle.vtl_check.specs.Operators.{Operands, if_placed, membership, no_operands, on_choice, on_datasets, on_measures, on_operands, on_pair, operator_form, parted, set_form, with_operand, with_value}
+use Rattle.vtl_check.specs.Places.{Env, Written, alone, component_typed, constant_form, known_by, member_inside, member_written, name_typed, written_typed}
+use Rattle.vtl_check.specs.Typed.{TypedTree, value, dataset, of_value}
+use Rattle.vtl_check.specs.places.Inside.{Inside}
+use Rattle.vtl_check.specs.places.Place.{Place}
+use Rattle.vtl_check.specs.places.Place.TheVariants as place
 use Rattle.vtl_check.specs.Typing.{behind, or_component}
 use Rattle.check_laws.specs.Gives.{Gives}
 use Rattle.check_laws.proofs.DepthBounds.{AreNodesUpTo, AreUpTo, IsNodeUpTo, IsTreeUpTo, IsUpTo, beside, call-up, dataset-up, measured-up, node-up, nodes-raised, pair-up, some-tree, tree-raised}

@@ -10,8 +10,8 @@ use Rattle.vtl_syntax.specs.Trees.{Exp, ScriptTree}
 use Rattle.vtl_syntax.specs.Written.{AreWritten, IsWritten}
 use Rattle.vtl_tree.specs.Structures.{has_name}
 use Rattle.vtl_meaning.specs.Trees.{NodeTree}
-use Rattle.check_operators.specs.Places.{Env}
-use Rattle.check_operators.specs.declared.places.Place.TheVariants as place
+use Rattle.vtl_check.specs.Places.{Env}
+use Rattle.vtl_check.specs.places.Place.TheVariants as place
 use Rattle.vtl_check.specs.Checked.{IsTyped, TypedScript, env_over, nodes_of, tree_of}
 use Rattle.vtl_check.specs.Count.{count}
 use Rattle.vtl_check.specs.Script.{assigned, is_too_much, transformations_typed, value_typed, with_result}

@@ -30,11 +30,11 @@ use Rattle.check_shapes.specs.Pairs as pairs
 use Rattle.check_values.specs.Columns.{name_of}
 use Rattle.check_values.specs.Groupings.{grouping_typed}
 use Rattle.check_values.specs.Kinds.{exp_kind}
-use Rattle.check_operators.specs.Places.{at_groups}
-use Rattle.check_operators.specs.Sets.{check_form, datasets_behind, datasets_in, difference_form, difference_tree, exists_form, imbalance_in, member_of, set_of, set_tree, sets_form, structures_in}
-use Rattle.check_operators.specs.Typed.{TypedTree, value, dataset, components_in, dataset_in, made_of}
-use Rattle.check_operators.specs.declared.places.Place.{Place}
-use Rattle.check_operators.specs.declared.places.Place.TheVariants as place
+use Rattle.vtl_check.specs.Places.{at_groups}
+use Rattle.vtl_check.specs.Sets.{check_form, datasets_behind, datasets_in, difference_form, difference_tree, exists_form, imbalance_in, member_of, set_of, set_tree, sets_form, structures_in}
+use Rattle.vtl_check.specs.Typed.{TypedTree, value, dataset, components_in, dataset_in, made_of}
+use Rattle.vtl_check.specs.places.Place.{Place}
+use Rattle.vtl_check.specs.places.Place.TheVariants as place
 use Rattle.vtl_check.specs.Aggregates.{aggregate_kind, aggregate_node, aggregate_tree, aggregate_value, count_call, count_kind, group_call, group_call_by, is_misused, operand_name}
 use Rattle.vtl_check.specs.Typing.{Having, grouped_of, own_groups}
 use Rattle.vtl_check.specs.Windowed.{given_structure, or_count, over_dataset, over_form, over_node, over_typed}

@@ -12,13 +12,13 @@ use Rattle.vtl_meaning.specs.Trees.{ItemTree, NodeTree}
 use Rattle.check_values.specs.Groupings.{grouping_of, grouping_typed}
 use Rattle.check_values.specs.Operators.{exps_length, of_binary, of_function, of_unary, takes}
 use Rattle.check_values.specs.Literals.{literals_fit}
-use Rattle.check_operators.specs.Operators.{operator_form}
-use Rattle.check_operators.specs.Places.{Env, at_groups, at_points, in_aggregate}
-use Rattle.check_operators.specs.Sets.{check_form, check_spec, difference_form, exists_form, member_of, sets_form}
-use Rattle.check_operators.specs.Typed.{TypedTree, components_in, condition_in, dataset_in}
-use Rattle.check_operators.specs.declared.places.Joined.{Joined}
-use Rattle.check_operators.specs.declared.places.Place.{Place}
-use Rattle.check_operators.specs.declared.places.Place.TheVariants as place
+use Rattle.vtl_check.specs.Operators.{operator_form}
+use Rattle.vtl_check.specs.Places.{Env, at_groups, at_points, in_aggregate}
+use Rattle.vtl_check.specs.Sets.{check_form, check_spec, difference_form, exists_form, member_of, sets_form}
+use Rattle.vtl_check.specs.Typed.{TypedTree, components_in, condition_in, dataset_in}
+use Rattle.vtl_check.specs.places.Joined.{Joined}
+use Rattle.vtl_check.specs.places.Place.{Place}
+use Rattle.vtl_check.specs.places.Place.TheVariants as place
 use Rattle.vtl_check.specs.Clauses.{filter_form}
 use Rattle.vtl_check.specs.JoinOperands.{PartTyped, joined_node, joined_of, operands_in, with_part}
 use Rattle.vtl_check.specs.Targets.{aggr_clause, calc_clause, calc_name, item_of, with_item}

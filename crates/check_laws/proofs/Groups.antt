@@ -22,11 +22,11 @@ use Rattle.check_shapes.specs.declared.choices.Choice.TheVariants as choice
 use Rattle.check_shapes.specs.declared.measures.Outcome.TheVariants as outcome
 use Rattle.check_values.specs.Groupings.{grouping_choice, grouping_names}
 use Rattle.check_values.specs.Kinds.{exp_kind}
-use Rattle.check_operators.specs.Places.{Env}
-use Rattle.check_operators.specs.Typed.{TypedTree, value, dataset, components_in}
-use Rattle.check_operators.specs.declared.places.Inside.{Inside}
-use Rattle.check_operators.specs.declared.places.Place.{Place}
-use Rattle.check_operators.specs.declared.places.Place.TheVariants as place
+use Rattle.vtl_check.specs.Places.{Env}
+use Rattle.vtl_check.specs.Typed.{TypedTree, value, dataset, components_in}
+use Rattle.vtl_check.specs.places.Inside.{Inside}
+use Rattle.vtl_check.specs.places.Place.{Place}
+use Rattle.vtl_check.specs.places.Place.TheVariants as place
 use Rattle.vtl_check.specs.Aggregates.{aggregate_kind, aggregate_node, aggregate_tree, aggregate_value, count_call, count_kind, group_call, group_call_by, of_measure, operand_name, outcome_of}
 use Rattle.vtl_check.specs.Windowed as windowed
 use Rattle.vtl_check.specs.Windowed.{argument, call_of, call_tree, is_misplaced, is_unfit_over, or_count, over_dataset, over_form, over_node, over_parts, over_structure, over_typed, rank_call, suits, target_form, target_typed}

@@ -17,10 +17,10 @@ use Rattle.check_joins.specs.declared.joins.Operand.{Operand}
 use Rattle.check_shapes.specs.Names.{is_among}
 use Rattle.vtl_meaning.specs.Trees as nodes
 use Rattle.vtl_meaning.specs.Trees.{NodeTree, OperandTree, operands_of}
-use Rattle.check_operators.specs.Places.{Env}
-use Rattle.check_operators.specs.Typed.{TypedTree, components_in, dataset_in}
-use Rattle.check_operators.specs.declared.places.Joined.{Joined}
-use Rattle.check_operators.specs.declared.places.Place.TheVariants as place
+use Rattle.vtl_check.specs.Places.{Env}
+use Rattle.vtl_check.specs.Typed.{TypedTree, components_in, dataset_in}
+use Rattle.vtl_check.specs.places.Joined.{Joined}
+use Rattle.vtl_check.specs.places.Place.TheVariants as place
 use Rattle.vtl_check.specs.JoinOperands.{PartTyped, alias_of, aliases_in, joined_node, last_naming, left_names, new_alias, operand_in, operands_in, shape_of, using_names, with_part}
 use Rattle.vtl_meaning.specs.Made as made
 use Rattle.vtl_meaning.specs.Made.{AreMadeOperands, IsJoined, IsMade}

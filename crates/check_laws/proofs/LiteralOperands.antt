@@ -21,11 +21,11 @@ use Rattle.vtl_tree.specs.View.{comp_exps_of}
 use Rattle.check_values.specs.Literals as written
 use Rattle.check_values.specs.Literals.{lies_in, literals_fit, second_passes, third_passes, valued}
 use Rattle.check_values.specs.Operators.{of_function}
-use Rattle.check_operators.specs.Operators.{operator_form}
-use Rattle.check_operators.specs.Places.{Env}
-use Rattle.check_operators.specs.Typed.{TypedTree, value, dataset, of_value}
-use Rattle.check_operators.specs.declared.places.Place.{Place}
-use Rattle.check_operators.specs.declared.places.Place.TheVariants as place
+use Rattle.vtl_check.specs.Operators.{operator_form}
+use Rattle.vtl_check.specs.Places.{Env}
+use Rattle.vtl_check.specs.Typed.{TypedTree, value, dataset, of_value}
+use Rattle.vtl_check.specs.places.Place.{Place}
+use Rattle.vtl_check.specs.places.Place.TheVariants as place
 use Rattle.vtl_check.specs.Typing.{behind as one_behind, operands_typed, typed}
 use Rattle.vtl_meaning.specs.Literals.{are_digits, are_literals, behind, first_passes, is_integer, most_digits}
 use Rattle.check_laws.specs.Gives.{Gives}

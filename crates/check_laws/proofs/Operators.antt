@@ -28,11 +28,11 @@ use Rattle.check_shapes.specs.Pairs as pairs
 use Rattle.check_shapes.specs.declared.choices.Choice.TheVariants as choice
 use Rattle.check_values.specs.Calls.{call_form}
 use Rattle.check_values.specs.Literals.{set_typed}
-use Rattle.check_operators.specs.Operators.{Operands, between_values, by_operands, first_fits, given_structure, if_placed, is_binary, is_choice, membership, no_operands, of_two, on_choice, on_datasets, on_measures, on_operands, on_pair, operator_form, outcome_of, parted, set_form, takes_dataset, with_operand, with_value}
-use Rattle.check_operators.specs.Typed.{TypedTree, value, dataset, beside_kinds, components_in, made_of}
-use Rattle.check_operators.specs.Places.{Env}
-use Rattle.check_operators.specs.declared.places.Place.{Place}
-use Rattle.check_operators.specs.declared.places.Place.TheVariants as place
+use Rattle.vtl_check.specs.Operators.{Operands, between_values, by_operands, first_fits, given_structure, if_placed, is_binary, is_choice, membership, no_operands, of_two, on_choice, on_datasets, on_measures, on_operands, on_pair, operator_form, outcome_of, parted, set_form, takes_dataset, with_operand, with_value}
+use Rattle.vtl_check.specs.Typed.{TypedTree, value, dataset, beside_kinds, components_in, made_of}
+use Rattle.vtl_check.specs.Places.{Env}
+use Rattle.vtl_check.specs.places.Place.{Place}
+use Rattle.vtl_check.specs.places.Place.TheVariants as place
 use Rattle.vtl_meaning.specs.Literals.{HasLiterals, all_pass, are_literals, is_member}
 use Rattle.vtl_meaning.specs.Made.{IsChoice, IsMade, IsMadeForm, IsMeasured, IsPaired, IsTyped}
 use Rattle.vtl_meaning.specs.Shapes as shapes

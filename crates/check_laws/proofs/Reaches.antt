@@ -28,9 +28,9 @@ use Rattle.vtl_tree.specs.declared.structure.Component.{Component}
 use Rattle.vtl_meaning.specs.calls.Frame.{Frame}
 use Rattle.vtl_meaning.specs.calls.Window.{Window}
 use Rattle.check_values.specs.Windows.{bound_typed, frame_alone, frame_typed, or_none, order_typed, partition_typed, points_at, points_in, points_typed, window_typed}
-use Rattle.check_operators.specs.Typed.{TypedTree}
-use Rattle.check_operators.specs.declared.places.Place.{Place}
-use Rattle.check_operators.specs.declared.places.Place.TheVariants as place
+use Rattle.vtl_check.specs.Typed.{TypedTree}
+use Rattle.vtl_check.specs.places.Place.{Place}
+use Rattle.vtl_check.specs.places.Place.TheVariants as place
 use Rattle.vtl_check.specs.Windowed.{call_typed, default_typed, kinds_beside, of_aggregate, of_shift, of_window, or_count, over_columns, over_of, over_parts, over_window, shift_call}
 use Rattle.vtl_check.specs.calls.Call.{Call}
 use Rattle.vtl_check.specs.calls.Needed.TheVariants as needed

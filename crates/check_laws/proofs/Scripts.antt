@@ -19,9 +19,9 @@ use Rattle.vtl_tree.proofs.StructuresLemmas.{not_found}
 use Rattle.vtl_tree.specs.declared.structure.Component.{Component}
 use Rattle.vtl_tree.specs.declared.structure.Structure.{Structure}
 use Rattle.vtl_meaning.specs.Trees.{NodeTree, structure_of}
-use Rattle.check_operators.specs.Places.{Env}
-use Rattle.check_operators.specs.Typed.{dataset_in}
-use Rattle.check_operators.specs.declared.places.Place.TheVariants as place
+use Rattle.vtl_check.specs.Places.{Env}
+use Rattle.vtl_check.specs.Typed.{dataset_in}
+use Rattle.vtl_check.specs.places.Place.TheVariants as place
 use Rattle.vtl_check.specs.Typing.{typed}
 use Rattle.vtl_check.specs.Checked.{IsTyped, TypedScript, env_over, nodes_of, tree_of}
 use Rattle.vtl_check.specs.Count.{count}

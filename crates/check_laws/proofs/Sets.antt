@@ -23,11 +23,11 @@ use Rattle.check_shapes.specs.Pairs as pairs
 use Rattle.check_shapes.specs.declared.choices.Choice.TheVariants as choice
 use Rattle.check_shapes.specs.declared.names.Wanted.TheVariants as wanted
 use Rattle.check_values.specs.Columns.{name_of}
-use Rattle.check_operators.specs.Places.{Env}
-use Rattle.check_operators.specs.Sets.{check_form, datasets_behind, datasets_in, difference_form, difference_tree, exists_form, imbalance_in, member_of, set_of, set_structure, set_tree, sets_form, structures_in}
-use Rattle.check_operators.specs.Typed.{TypedTree, value, dataset, components_in, dataset_in, made_of}
-use Rattle.check_operators.specs.declared.places.Place.{Place}
-use Rattle.check_operators.specs.declared.places.Place.TheVariants as place
+use Rattle.vtl_check.specs.Places.{Env}
+use Rattle.vtl_check.specs.Sets.{check_form, datasets_behind, datasets_in, difference_form, difference_tree, exists_form, imbalance_in, member_of, set_of, set_structure, set_tree, sets_form, structures_in}
+use Rattle.vtl_check.specs.Typed.{TypedTree, value, dataset, components_in, dataset_in, made_of}
+use Rattle.vtl_check.specs.places.Place.{Place}
+use Rattle.vtl_check.specs.places.Place.TheVariants as place
 use Rattle.vtl_meaning.specs.Made.{AreCombined, AreMade, IsCombined, IsExistence, IsLeft, IsMade, IsMadeMaybe, node_structures}
 use Rattle.vtl_meaning.specs.Shapes.{IsChosen, IsShaped}
 use Rattle.check_laws.specs.Gives.{Gives}

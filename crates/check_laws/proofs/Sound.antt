@@ -26,13 +26,13 @@ use Rattle.check_values.specs.Operators.{exps_length, of_binary, of_function, of
 use Rattle.check_values.specs.Literals.{literals_fit}
 use Rattle.check_shapes.specs.Clauses.{target_tests}
 use Rattle.check_values.specs.Columns.{name_of}
-use Rattle.check_operators.specs.Operators.{operator_form, set_form}
-use Rattle.check_operators.specs.Places.{Env, Written, at_groups, at_points, columns_in, in_aggregate, member_inside, member_written}
-use Rattle.check_operators.specs.Sets.{check_form, check_spec, difference_form, exists_form, member_of, sets_form}
-use Rattle.check_operators.specs.Typed.{TypedTree, value, dataset, components_in, dataset_in}
-use Rattle.check_operators.specs.declared.places.Joined.{Joined}
-use Rattle.check_operators.specs.declared.places.Place.{Place}
-use Rattle.check_operators.specs.declared.places.Place.TheVariants as place
+use Rattle.vtl_check.specs.Operators.{operator_form, set_form}
+use Rattle.vtl_check.specs.Places.{Env, Written, at_groups, at_points, columns_in, in_aggregate, member_inside, member_written}
+use Rattle.vtl_check.specs.Sets.{check_form, check_spec, difference_form, exists_form, member_of, sets_form}
+use Rattle.vtl_check.specs.Typed.{TypedTree, value, dataset, components_in, dataset_in}
+use Rattle.vtl_check.specs.places.Joined.{Joined}
+use Rattle.vtl_check.specs.places.Place.{Place}
+use Rattle.vtl_check.specs.places.Place.TheVariants as place
 use Rattle.vtl_check.specs.Aggregates.{aggregate_node, count_call, aggregate_value}
 use Rattle.vtl_check.specs.Windowed.{over_typed, target_typed}
 use Rattle.vtl_check.specs.Clauses.{filter_form}

@@ -24,11 +24,11 @@ use Rattle.check_values.specs.Columns.{column_from, column_typed, name_of}
 use Rattle.check_values.specs.Kinds.{exp_kind}
 use Rattle.vtl_kinds.specs.Operators.{kind_by_operands}
 use Rattle.check_values.specs.Literals.{constant_typed}
-use Rattle.check_operators.specs.Places.{Env, Written, alone, component_typed, constant_form, known_by, name_typed, name_written, written_typed}
-use Rattle.check_operators.specs.Typed.{TypedTree, value, dataset, of_value}
-use Rattle.check_operators.specs.declared.places.Inside.{Inside}
-use Rattle.check_operators.specs.declared.places.Place.{Place}
-use Rattle.check_operators.specs.declared.places.Place.TheVariants as place
+use Rattle.vtl_check.specs.Places.{Env, Written, alone, component_typed, constant_form, known_by, name_typed, name_written, written_typed}
+use Rattle.vtl_check.specs.Typed.{TypedTree, value, dataset, of_value}
+use Rattle.vtl_check.specs.places.Inside.{Inside}
+use Rattle.vtl_check.specs.places.Place.{Place}
+use Rattle.vtl_check.specs.places.Place.TheVariants as place
 use Rattle.vtl_meaning.specs.Literals.{HasLiterals}
 use Rattle.vtl_meaning.specs.Made.{IsColumnAt, IsMade, IsTyped}
 use Rattle.vtl_meaning.specs.Shapes.{IsShaped}

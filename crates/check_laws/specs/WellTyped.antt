@@ -4,10 +4,10 @@ use Rattle.std.specs.List.{AllByRecursion}
 use Rattle.vtl_cell.specs.Settings.{Settings}
 use Rattle.vtl_tree.specs.CompExp.{CompExp}
 use Rattle.vtl_tree.specs.Structures.{Named}
-use Rattle.check_operators.specs.Places.{Env}
-use Rattle.check_operators.specs.Typed.{TypedTree, value, dataset}
-use Rattle.check_operators.specs.declared.places.Place.{Place}
-use Rattle.check_operators.specs.declared.places.Place.TheVariants as place
+use Rattle.vtl_check.specs.Places.{Env}
+use Rattle.vtl_check.specs.Typed.{TypedTree, value, dataset}
+use Rattle.vtl_check.specs.places.Place.{Place}
+use Rattle.vtl_check.specs.places.Place.TheVariants as place
 use Rattle.vtl_meaning.specs.Made.{IsMade, IsTyped}
 use Rattle.vtl_meaning.specs.Shapes.{IsShaped}
 
