@@ -11,8 +11,8 @@ ghost use Rattle.check_values.specs.Literals.{literals_fit};
 ghost use Rattle.check_values.specs.Operators.{exps_length, of_function, takes};
 ghost use Rattle.check_expressions.specs.Typing.{scalar_value};
 
-use check_faults::TypeErr;
 use check_clauses::{Place, Typed, operator};
+use check_faults::TypeErr;
 use check_values::{function_operator, literals_fit, takes};
 use std::alloc::{AllocError, Global};
 use vtl_cell::Profile;

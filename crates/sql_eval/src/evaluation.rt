@@ -13,8 +13,8 @@ use crate::{Cells, Resolved, ResolvedBranch};
 use std::alloc::Global;
 use vtl_cell::{Cell, Kind, Profile, ScalarOp, not3};
 use vtl_scalar::{
-    Given, Members, ScalarErr, apply, first_chosen, given_of_kind, made_of_kind, truth, value_of_one,
-    value_of_three, value_of_two,
+    Given, Members, ScalarErr, apply, first_chosen, given_of_kind, made_of_kind, truth,
+    value_of_one, value_of_three, value_of_two,
 };
 
 /// The value of an expression at a row, or at a group: all operands are evaluated, and the first fault from the left is
@@ -39,7 +39,11 @@ pub fn value_at<'v, R: Cells>(
             negated,
             members,
         } => asked(*negated, value_at(alloc, operand, at, p), members, p),
-        Resolved::Choose { kind, branches } => given_of_kind(chosen(alloc, branches, at, p), *kind, p),
+        Resolved::Choose { kind, branches } => given_of_kind(
+            chosen(alloc, branches, at, p),
+            *kind,
+            p,
+        ),
         Resolved::Exists(test) => Ok(Given::Made(Cell::Bool(at.is_there(alloc, test, p)?))),
         Resolved::CountAll => Ok(Given::Made(at.count_all(p)?)),
         Resolved::Aggregate { function, operand } => {

@@ -15,8 +15,8 @@ use crate::prepared::{Prepared, prepare};
 use std::alloc::Global;
 use vtl_cell::{Cell, Kind, Profile, ScalarOp, not3};
 use vtl_scalar::{
-    Given, Members, ScalarErr, apply, first_chosen, given_of_kind, made_of_kind, truth, value_of_one,
-    value_of_three, value_of_two,
+    Given, Members, ScalarErr, apply, first_chosen, given_of_kind, made_of_kind, truth,
+    value_of_one, value_of_three, value_of_two,
 };
 use vtl_tree::CompExpr;
 
