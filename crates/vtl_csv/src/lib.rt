@@ -37,4 +37,4 @@ pub use laws::{
 pub use reading::column;
 pub use records::RecordReader;
 pub use structures::{StructErr, read_structures};
-pub use table_text::{write_dataset, write_table};
+pub use table_text::{write_dataset, write_rows, write_table};

@@ -51,6 +51,18 @@ pub fn write_dataset(
     sorted_text(alloc, table, &keys, profile)
 }
 
+/// The CSV text of a table whose rows stand in the order in which they are written: a header of the names of its
+/// columns, and a record for each row. Null and the empty text are empty fields. It fails only if memory runs out.
+pub fn write_rows(alloc: Global, table: &Table, profile: &Profile) -> Result<Vec<u8>, AllocError>
+    ensures { IfOk result (λ text. text.items ≡ rows_text profile.now table.now.columns table.now.rows) }
+{
+    let mut text = header_text(alloc, table.columns())?;
+    for place in 0..table.len() {
+        push_record(&mut text, row_at(table, place), profile)?;
+    }
+    Ok(text)
+}
+
 fn number_of_identifiers(alloc: Global, structure: &Structure) -> Result<usize, AllocError>
     ensures { IfOk result (λ count. count ≡ key_width structure.now) }
 {

@@ -12,6 +12,8 @@ code_of (st.Syntax done byte) = 2
 code_of (st.Structure line rule) = 2
 code_of (st.NotText path) = 2
 code_of (st.Mistyped statement rule) = 3
+code_of (st.SqlSyntax done byte) = 3
+code_of (st.SqlType statement rule) = 3
 code_of (st.Input dataset line column kind) = 4
 code_of (st.NoFile path) = 4
 code_of (st.TooLong path) = 4
@@ -55,6 +57,8 @@ parts_of st.Usage = text (codes "error: usage") ∷ end ∷ []
 parts_of (st.Syntax done byte) = text (codes "error: syntax after ") ∷ number done ∷ text (codes " statements at byte ") ∷ number byte ∷ end ∷ []
 parts_of (st.Structure line rule) = text (codes "error: structures line ") ∷ number line ∷ text (codes " rule ") ∷ number rule ∷ end ∷ []
 parts_of (st.Mistyped statement rule) = text (codes "error: type in statement ") ∷ number statement ∷ text (codes " rule ") ∷ number rule ∷ end ∷ []
+parts_of (st.SqlSyntax done byte) = text (codes "error: sql syntax after ") ∷ number done ∷ text (codes " statements at byte ") ∷ number byte ∷ end ∷ []
+parts_of (st.SqlType statement rule) = text (codes "error: sql type in statement ") ∷ number statement ∷ text (codes " rule ") ∷ number rule ∷ end ∷ []
 parts_of (st.Input dataset line column kind) =
     text (codes "error: input ") ∷ text (encode_utf8_all dataset) ∷ text (codes " line ") ∷ number line ∷ text (codes " column ") ∷ number column ∷ text (codes " ") ∷ text (name_of_kind kind) ∷ end ∷ []
 parts_of (st.DivZero result) = at (codes "error: division by zero in ") result

@@ -39,6 +39,21 @@ pub enum Status {
         /// The number of the rule.
         rule: u8,
     },
+    /// The SQL file holds no script of the dialect: this many statements stand at its front, SET being the first, and
+    /// what follows them starts at this byte, from 0.
+    SqlSyntax {
+        /// How many statements stand at the front.
+        done: usize,
+        /// Where what follows them starts.
+        byte: usize,
+    },
+    /// A statement of the SQL file breaks a rule of docs/SQL.md: the first that does, and the least rule.
+    SqlType {
+        /// The number of the statement, counted from 1 with SET.
+        statement: usize,
+        /// The number of the rule.
+        rule: u8,
+    },
     /// The file of a data set that is read holds no data set of its structure: its first fault, by line and column from
     /// 1 on.
     Input {
@@ -72,8 +87,8 @@ pub enum Status {
 }
 
 impl Status {
-    /// The exit code: 0 done, 1 usage, 2 no script, no structures or no text, 3 not typed, 4 no file, too long or no
-    /// data set, 5 a fault of evaluation, 6 a fault of reading or writing, 7 memory, 8 not built.
+    /// The exit code: 0 done, 1 usage, 2 no script, no structures or no text, 3 not typed or no SQL script, 4 no file, too
+    /// long or no data set, 5 a fault of evaluation, 6 a fault of reading or writing, 7 memory, 8 not built.
     pub fn code(&self) -> u8
         ensures { result ≡ code_of self.now }
     {
@@ -81,7 +96,7 @@ impl Status {
             Status::Done => 0,
             Status::Usage => 1,
             Status::Syntax { .. } | Status::Structure { .. } | Status::NotText(_) => 2,
-            Status::Mistyped { .. } => 3,
+            Status::Mistyped { .. } | Status::SqlSyntax { .. } | Status::SqlType { .. } => 3,
             Status::NoFile(_) | Status::TooLong(_) | Status::Input { .. } => 4,
             Status::DivZero(_) | Status::Range(_) => 5,
             Status::ReadFault(_) | Status::WriteFault(_) => 6,
@@ -113,6 +128,20 @@ impl Status {
             ]),
             Status::Mistyped { statement, rule } => padded([
                 Part::Text("error: type in statement "),
+                Part::Number(*statement as u64),
+                Part::Text(" rule "),
+                Part::Number(*rule as u64),
+                END,
+            ]),
+            Status::SqlSyntax { done, byte } => padded([
+                Part::Text("error: sql syntax after "),
+                Part::Number(*done as u64),
+                Part::Text(" statements at byte "),
+                Part::Number(*byte as u64),
+                END,
+            ]),
+            Status::SqlType { statement, rule } => padded([
+                Part::Text("error: sql type in statement "),
                 Part::Number(*statement as u64),
                 Part::Text(" rule "),
                 Part::Number(*rule as u64),
