@@ -5,3 +5,5 @@ pub mod Named
 pub mod Parted
 pub mod Sited
 pub mod Walks
+pub mod Means
+pub mod Standing

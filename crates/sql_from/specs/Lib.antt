@@ -4,3 +4,4 @@ pub mod Rows
 pub mod Sources
 pub mod Seen
 pub mod Joins
+pub mod Standing

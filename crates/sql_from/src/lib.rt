@@ -14,6 +14,7 @@ mod joining;
 mod outer_row;
 mod pairs;
 mod seen;
+mod selects;
 mod sources;
 mod tuple_row;
 mod tuples;
