@@ -1,9 +1,9 @@
 // Pairs of a tuple and a row: nested loops.
 ghost use Rattle.std.specs.List.{flat_map, list_any};
 ghost use Rattle.std.specs.Prelude.{◌≡◌, ◌+◌, ◌<◌, ◌^◌, ◌++◌, ◌∷◌, [], length, IfErr, IfOk, OnOk, if◌then◌else◌};
-ghost use Rattle.vtl_cell.specs.Outcome.{faults_by, join};
+ghost use Rattle.vtl_cell.specs.Outcome.{faults_by, join, unless};
 ghost use Rattle.sql_from.specs.Joins.{fault_of, from_left, numbers_to, pairs_fault, pairs_with, passes};
-ghost use Rattle.sql_from.specs.Seen.{seen_of};
+ghost use Rattle.sql_from.specs.Seen.{answer_of, seen_of};
 
 use crate::condition::Condition;
 use crate::{Seen, Tuples};
@@ -23,6 +23,16 @@ impl Drop for Walked {
             rows: _rows,
             seen: _,
         } = self;
+    }
+}
+
+impl Walked {
+    // The tuples, unless a fault was seen.
+    pub(crate) fn finish(self) -> Result<Tuples, ScalarErr>
+        ensures { result ≡ answer_of (unless (seen_of self.seen) self.rows) }
+    {
+        let Walked { rows, seen } = self;
+        seen.unless(rows)
     }
 }
 

@@ -1,4 +1,5 @@
 // FROM and WHERE of a select.
+ghost use Rattle.std.specs.Option.{option_map};
 ghost use Rattle.std.specs.Prelude.{◌≡◌, ◌+◌, ◌<◌, ◌^◌, ◌++◌, ◌∷◌, [], length, IfErr, IfOk};
 ghost use Rattle.vtl_cell.specs.Outcome.{join, unless};
 ghost use Rattle.vtl_cell.specs.Settings.{Settings};
@@ -8,7 +9,7 @@ ghost use Rattle.sql_check_parts.specs.Queries.{join_source, scope_of};
 ghost use Rattle.sql_check_laws.specs.Selects.{IsSelectTyped, IsSourceTyped};
 ghost use Rattle.sql_eval.specs.Placed.{placed_value};
 ghost use Rattle.sql_eval.specs.View.{placed_of};
-ghost use Rattle.sql_meaning.specs.From.{Joined, first_of, source_rows, with_join};
+ghost use Rattle.sql_meaning.specs.From.{Joined, first_of, joined, kept_of, source_rows, with_join};
 ghost use Rattle.sql_from.specs.Held.{base_held, rows_held, tables_held};
 ghost use Rattle.sql_from.specs.Joins.{crossed_tuples, joined_tuples, kept_fault, kept_tuples, pairs_fault};
 ghost use Rattle.sql_from.specs.Rows.{combined};
@@ -19,7 +20,7 @@ ghost use Rattle.sql_from.specs.Standing.{StandsFor, condition_at, rows_for};
 use crate::condition::Condition;
 use crate::joining::{cross_step, join_step, keep, singles};
 use crate::pairs::Walked;
-use crate::{Seen, Sources, TupleRow, Tuples};
+use crate::{Seen, Sources, TupleRow, TupleRows};
 use sql_eval::{Level, Resolved, resolve, value_at};
 use sql_tree::{Join, JoinKind, Select, Source, SqlExpr};
 use std::alloc::{AllocError, Global};
@@ -98,6 +99,25 @@ fn kept(
     keep(alloc, &condition, from)
 }
 
+// The tuples that WHERE keeps, where one is written, and its fault beside the one that was seen before.
+fn kept_where(
+    alloc: Global,
+    condition: &Option<SqlExpr>,
+    sources: &Sources<'_>,
+    walked: Walked,
+    p: &Profile,
+) -> Result<Walked, ScalarErr>
+    requires { length sources.now.sources ≡ walked.rows.width }
+    ensures width { IfOk result (λ w. w.rows.width ≡ walked.rows.width) }
+    ensures kept { IfOk result (λ w. (f : Joined) → StandsFor f sources.now walked.rows (seen_of walked.seen) → unless (seen_of w.seen) (rows_for sources.now w.rows) ≡ kept_of (base_held p.now sources.now.held) (option_map expr_tree condition.now) f) }
+    ensures err { IfErr result (λ e. e ≡ ScalarErr.OutOfMemory) }
+{
+    match condition {
+        Some(condition) => kept(alloc, condition, sources, &walked, p),
+        None => Ok(walked),
+    }
+}
+
 // Each tuple with each row of a further source; the fault is the one that was seen before.
 fn crossed(alloc: Global, left: &Walked, count: usize) -> Result<Walked, AllocError>
     requires { left.now.rows.width + 1 < 2 ^ 64 }
@@ -150,12 +170,7 @@ fn first_source<'a>(
 
 impl<'a> Joining<'a> {
     // With the source of a join.
-    fn with_join(
-        self,
-        alloc: Global,
-        join: &Join,
-        p: &Profile,
-    ) -> Result<Joining<'a>, ScalarErr>
+    fn with_join(self, alloc: Global, join: &Join, p: &Profile) -> Result<Joining<'a>, ScalarErr>
         requires whole { self.walked.rows.width ≡ length self.sources.sources }
         requires source { IsSourceTyped (tables_held self.sources.held) (scope_held self.sources.sources) (join_source (join_tree join.now)) }
         ensures held { IfOk result (λ j. j.sources.held ≡ self.entry.sources.held) }
@@ -172,8 +187,9 @@ impl<'a> Joining<'a> {
                 let marks = sources.marks(alloc)?;
                 let count = sources.count_of(source);
                 let sources = sources.with(alloc, source)?;
-                let walked =
-                    joined_on(alloc, *kind, condition, &sources, &walked, &marks, count, p)?;
+                let walked = joined_on(
+                    alloc, *kind, condition, &sources, &walked, &marks, count, p,
+                )?;
                 Ok(Joining { sources, walked })
             }
             Join::Cross(source) => {
@@ -185,4 +201,59 @@ impl<'a> Joining<'a> {
             }
         }
     }
+    // The tuples that WHERE keeps, or the fault of every ON and of WHERE.
+    fn finish(
+        self,
+        alloc: Global,
+        condition: &Option<SqlExpr>,
+        p: &Profile,
+    ) -> Result<TupleRows<'a>, ScalarErr>
+        requires { self.walked.rows.width ≡ length self.sources.sources }
+        ensures sources { IfOk result (λ r. r.sources ≡ self.entry.sources) }
+        ensures rows { (f : Joined) → StandsFor f self.entry.sources self.entry.walked.rows (seen_of self.entry.walked.seen) → AnswersBy (λ r. rows_for r.sources r.tuples) result (kept_of (base_held p.now self.entry.sources.held) (option_map expr_tree condition.now) f) }
+    {
+        let Joining { sources, walked } = self;
+        let kept = kept_where(alloc, condition, &sources, walked, p)?;
+        Ok(TupleRows {
+            tuples: kept.finish()?,
+            sources,
+        })
+    }
+}
+
+// The sources of a select and the tuples of FROM, with the fault of every ON.
+fn joined<'a>(
+    alloc: Global,
+    select: &Select,
+    tables: &'a Tables,
+    p: &Profile,
+) -> Result<Joining<'a>, ScalarErr>
+    requires { IsSelectTyped p.now (tables_held tables.now) (select_tree select.now) }
+    ensures held { IfOk result (λ j. j.sources.held ≡ tables.now) }
+    ensures stands { IfOk result (λ j. StandsFor (joined (base_held p.now tables.now) (select_tree select.now)) j.sources j.walked.rows (seen_of j.walked.seen)) }
+    ensures err { IfErr result (λ e. e ≡ ScalarErr.OutOfMemory) }
+{
+    let mut so_far = first_source(alloc, &select.from, tables)?;
+    for join in select.joins.as_slice() {
+        so_far = so_far.with_join(alloc, join, p)?;
+    }
+    Ok(so_far)
+}
+
+/// The rows that FROM gives and WHERE keeps, as tuples of row numbers, with the sources of the select: over the tables
+/// that the program holds, for a select that is typed over their columns. A fault is the worst of those of every ON, at
+/// each pair that it is tried on, and of WHERE, at each row of FROM: a division by zero, wherever it comes, and then
+/// what is out of range. It takes memory for the tuples, and copies no cell.
+pub fn source_tuples<'a>(
+    alloc: Global,
+    select: &Select,
+    tables: &'a Tables,
+    p: &Profile,
+) -> Result<TupleRows<'a>, ScalarErr>
+    requires { IsSelectTyped p.now (tables_held tables.now) (select_tree select.now) }
+    ensures held { IfOk result (λ r. r.sources.held ≡ tables.now) }
+    ensures scope { IfOk result (λ r. scope_held r.sources.sources ≡ scope_of (tables_held tables.now) (select_tree select.now)) }
+    ensures rows { AnswersBy (λ r. rows_for r.sources r.tuples) result (source_rows (base_held p.now tables.now) (select_tree select.now)) }
+{
+    joined(alloc, select, tables, p)?.finish(alloc, &select.condition, p)
 }
