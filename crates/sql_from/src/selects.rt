@@ -10,6 +10,7 @@ ghost use Rattle.sql_check_laws.specs.Selects.{IsSelectTyped, IsSourceTyped};
 ghost use Rattle.sql_eval.specs.Placed.{placed_value};
 ghost use Rattle.sql_eval.specs.View.{placed_of};
 ghost use Rattle.sql_meaning.specs.From.{Joined, first_of, joined, kept_of, source_rows, with_join};
+ghost use Rattle.sql_from.specs.Columns.{source_columns};
 ghost use Rattle.sql_from.specs.Held.{base_held, rows_held, tables_held};
 ghost use Rattle.sql_from.specs.Joins.{crossed_tuples, joined_tuples, kept_fault, kept_tuples, pairs_fault};
 ghost use Rattle.sql_from.specs.Rows.{combined};
@@ -25,7 +26,7 @@ use sql_eval::{Level, Resolved, resolve, value_at};
 use sql_tree::{Join, JoinKind, Select, Source, SqlExpr};
 use std::alloc::{AllocError, Global};
 use vtl_cell::{Cell, Profile};
-use vtl_rows::Tables;
+use vtl_rows::{Table, Tables};
 use vtl_scalar::ScalarErr;
 
 // A condition at the rows of sources.
@@ -256,4 +257,20 @@ pub fn source_tuples<'a>(
     ensures rows { AnswersBy (λ r. rows_for r.sources r.tuples) result (source_rows (base_held p.now tables.now) (select_tree select.now)) }
 {
     joined(alloc, select, tables, p)?.finish(alloc, &select.condition, p)
+}
+
+/// The table of the rows that FROM gives and WHERE keeps: the columns of the sources in order, each named by the alias, a
+/// line feed and its name. The select is typed over the columns of the tables that the program holds. Faults are those of
+/// `source_tuples`; each cell is copied once.
+pub fn source_rows(
+    alloc: Global,
+    select: &Select,
+    tables: &Tables,
+    p: &Profile,
+) -> Result<Table, ScalarErr>
+    requires { IsSelectTyped p.now (tables_held tables.now) (select_tree select.now) }
+    ensures columns { IfOk result (λ t. t.columns ≡ source_columns (scope_of (tables_held tables.now) (select_tree select.now))) }
+    ensures rows { AnswersBy (λ t. t.rows) result (source_rows (base_held p.now tables.now) (select_tree select.now)) }
+{
+    Ok(source_tuples(alloc, select, tables, p)?.table(alloc)?)
 }

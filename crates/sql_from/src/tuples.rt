@@ -1,5 +1,6 @@
 // Tuples of row numbers.
 ghost use Rattle.std.specs.Prelude.{◌≡◌, ◌<◌, ◌≤◌, ◌+◌, ◌^◌, ◌++◌, [], ◌∷◌, length, take, drop, slice_index_or, OnOk, OnErr};
+ghost use Rattle.std.specs.List.{AllByRecursion};
 ghost use Rattle.vtl_rows.specs.Gathered.{pieces};
 
 use std::alloc::{AllocError, Global};
@@ -75,7 +76,8 @@ impl Tuples {
 
     /// The numbers of all tuples, one tuple after the other.
     pub fn numbers(&self) -> &[usize]
-        ensures { pieces self.now.width result.now ≡ self.now.tuples }
+        ensures numbers { pieces self.now.width result.now ≡ self.now.tuples }
+        ensures wide { AllByRecursion (λ x. length x ≡ self.now.width) self.now.tuples }
     {
         self.numbers.as_slice()
     }
