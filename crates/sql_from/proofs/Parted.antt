@@ -11,6 +11,7 @@ use Rattle.vtl_rows.specs.Places.{row_at}
 use Rattle.vtl_rows.specs.Tables.{Listed}
 use Rattle.vtl_rows.specs.declared.gather.Pick.{Pick}
 use Rattle.vtl_rows.proofs.Stable.{one_number_more}
+use Rattle.sql_from.specs.Joins.{marks_of}
 use Rattle.sql_from.specs.Rows.{combined, picks_at, picks_from, width_of}
 
 -- one more column of a source
@@ -149,3 +150,7 @@ last_number [] last zero h l = refl
 last_number [] last (suc k) h l = absurd (omega (arith, l))
 last_number (i ∷ front) last zero h l = absurd (omega (arith, h))
 last_number (i ∷ front) last (suc k) h l = last_number front last k (omega (arith, h)) (omega (arith, l))
+
+-- the number of one missing part more
+pub marks_more : (ts : List Listed) (i : ℕ) (t : Listed) (n : ℕ) (now then : List ℕ) → slice_get ts i ≡ Some t → n ≡ length t.rows → now ≡ marks_of (take i ts) → then ≡ now ++ n ∷ [] → then ≡ marks_of (take (i + 1) ts)
+marks_more ts i t n now then got rows e is = is ∙ (λ j. e j ++ rows j ∷ []) ∙ sym (ap marks_of (take_got ts i t got) ∙ map-append (λ u. length u.rows) (take i ts) (t ∷ []))

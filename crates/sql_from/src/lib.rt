@@ -23,7 +23,7 @@ mod tuples;
 pub use existence::has_partner;
 pub use outer_row::OuterRow;
 pub use seen::Seen;
-pub use selects::{source_rows, source_tuples};
+pub use selects::{ExecErr, source_rows, source_tuples};
 pub use sources::Sources;
 pub use tuple_row::TupleRow;
 pub use tuple_rows::TupleRows;

@@ -65,7 +65,8 @@ pub(crate) fn try_tuple<C: Condition>(
     }
 }
 
-// Puts the pairs of one tuple with so many rows behind the tuples, and tells whether there is one.
+// Puts the pairs of one tuple with so many rows behind the tuples, and tells whether there is one. Pairs are found here
+// and nowhere else.
 fn pairs_of<C: Condition>(
     alloc: Global,
     condition: &C,

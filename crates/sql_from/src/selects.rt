@@ -29,6 +29,9 @@ use vtl_cell::{Cell, Profile};
 use vtl_rows::{Table, Tables};
 use vtl_scalar::ScalarErr;
 
+/// Why there are no rows: the fault of an expression, or want of memory.
+pub type ExecErr = ScalarErr;
+
 // A condition at the rows of sources.
 #[derive(Clone, Copy)]
 struct SourceCondition<'a> {
@@ -250,7 +253,7 @@ pub fn source_tuples<'a>(
     select: &Select,
     tables: &'a Tables,
     p: &Profile,
-) -> Result<TupleRows<'a>, ScalarErr>
+) -> Result<TupleRows<'a>, ExecErr>
     requires { IsSelectTyped p.now (tables_held tables.now) (select_tree select.now) }
     ensures held { IfOk result (λ r. r.sources.held ≡ tables.now) }
     ensures scope { IfOk result (λ r. scope_held r.sources.sources ≡ scope_of (tables_held tables.now) (select_tree select.now)) }
@@ -267,7 +270,7 @@ pub fn source_rows(
     select: &Select,
     tables: &Tables,
     p: &Profile,
-) -> Result<Table, ScalarErr>
+) -> Result<Table, ExecErr>
     requires { IsSelectTyped p.now (tables_held tables.now) (select_tree select.now) }
     ensures columns { IfOk result (λ t. t.columns ≡ source_columns (scope_of (tables_held tables.now) (select_tree select.now))) }
     ensures rows { AnswersBy (λ t. t.rows) result (source_rows (base_held p.now tables.now) (select_tree select.now)) }

@@ -1,7 +1,8 @@
 // Rows of FROM as tuples of row numbers.
 ghost use Rattle.std.specs.Prelude.{◌≡◌, ◌<◌, ◌∷◌, ◌++◌, [], length, slice_index_or, IfOk};
 ghost use Rattle.sql_from.specs.Columns.{source_columns};
-ghost use Rattle.sql_from.specs.Sources.{scope_held};
+ghost use Rattle.sql_from.specs.Rows.{combined};
+ghost use Rattle.sql_from.specs.Sources.{parts_of, scope_held};
 ghost use Rattle.sql_from.specs.Standing.{rows_for};
 
 use crate::{Sources, TupleRow, Tuples};
@@ -30,7 +31,8 @@ impl Drop for TupleRows<'_> {
 impl<'a> TupleRows<'a> {
     /// How many rows there are.
     pub fn len(&self) -> usize
-        ensures { result ≡ length self.now.tuples.tuples }
+        ensures tuples { result ≡ length self.now.tuples.tuples }
+        ensures rows { result ≡ length (rows_for self.now.sources self.now.tuples) }
     {
         self.tuples.len()
     }
@@ -40,6 +42,7 @@ impl<'a> TupleRows<'a> {
         requires { i < length self.now.tuples.tuples }
         ensures sources { result.sources.now ≡ self.now.sources }
         ensures tuple { result.front.now ++ result.last ∷ [] ≡ slice_index_or self.now.tuples.tuples i [] }
+        ensures row { combined (parts_of result.sources.now.sources) (result.front.now ++ result.last ∷ []) ≡ slice_index_or (rows_for self.now.sources self.now.tuples) i [] }
     {
         self.tuples.width();
         TupleRow::whole(&self.sources, self.tuples.tuple(i))
