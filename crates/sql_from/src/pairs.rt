@@ -121,15 +121,14 @@ pub(crate) fn left_rows<C: Condition>(
     left: &Walked,
     count: usize,
 ) -> Result<Walked, ScalarErr>
-    requires small { left.now.rows.width + 1 < 2 ^ 64 }
-    requires width { C.width condition.now ≡ left.now.rows.width + 1 }
+    requires { C.width condition.now ≡ left.now.rows.width + 1 }
     ensures width { IfOk result (λ w. w.rows.width ≡ left.now.rows.width + 1) }
     ensures rows { IfOk result (λ w. w.rows.tuples ≡ flat_map (from_left keeps (C.value condition.now) count) left.now.rows.tuples) }
     ensures seen { IfOk result (λ w. seen_of w.seen ≡ join (seen_of left.now.seen) (pairs_fault (C.value condition.now) count left.now.rows.tuples)) }
     ensures err { IfErr result (λ e. e ≡ ScalarErr.OutOfMemory) }
 {
     let mut so_far = Walked {
-        rows: Tuples::new(alloc, left.rows.width() + 1),
+        rows: Tuples::new(alloc, condition.width()),
         seen: left.seen,
     };
     for i in 0..left.rows.len() {

@@ -45,6 +45,10 @@ impl<'a> Condition for SourceCondition<'a> {
 
     ghost value = { λ c x. placed_value c.profile.now (rows_held c.sources.now.held) (placed_of c.expression.now) (combined (parts_of c.sources.now.sources) x) [] };
 
+    fn width(&self) -> usize {
+        self.sources.len()
+    }
+
     fn at(&self, alloc: Global, front: &[usize], last: usize) -> Result<bool, ScalarErr> {
         let row = TupleRow::of(self.sources, front, last);
         let value = value_at(alloc, self.expression, &row, self.profile)?;
@@ -70,7 +74,6 @@ fn joined_on(
     ensures seen { IfOk result (λ w. seen_of w.seen ≡ join (seen_of left.now.seen) (pairs_fault (condition_at p.now sources.now (expr_tree condition.now)) count left.now.rows.tuples)) }
     ensures err { IfErr result (λ e. e ≡ ScalarErr.OutOfMemory) }
 {
-    sources.len();
     let resolved = resolve(alloc, p, sources, &Level::Rows, condition)?;
     let condition = SourceCondition {
         sources,
@@ -123,14 +126,14 @@ fn kept_where(
 }
 
 // Each tuple with each row of a further source; the fault is the one that was seen before.
-fn crossed(alloc: Global, left: &Walked, count: usize) -> Result<Walked, AllocError>
-    requires { left.now.rows.width + 1 < 2 ^ 64 }
+fn crossed(alloc: Global, left: &Walked, count: usize, width: usize) -> Result<Walked, AllocError>
+    requires { width ≡ left.now.rows.width + 1 }
     ensures width { IfOk result (λ w. w.rows.width ≡ left.now.rows.width + 1) }
     ensures rows { IfOk result (λ w. w.rows.tuples ≡ crossed_tuples count left.now.rows.tuples) }
     ensures seen { IfOk result (λ w. seen_of w.seen ≡ seen_of left.now.seen) }
 {
     Ok(Walked {
-        rows: cross_step(alloc, &left.rows, count)?,
+        rows: cross_step(alloc, &left.rows, count, width)?,
         seen: left.seen,
     })
 }
@@ -199,8 +202,7 @@ impl<'a> Joining<'a> {
             Join::Cross(source) => {
                 let count = sources.count_of(source);
                 let sources = sources.with(alloc, source)?;
-                sources.len();
-                let walked = crossed(alloc, &walked, count)?;
+                let walked = crossed(alloc, &walked, count, sources.len())?;
                 Ok(Joining { sources, walked })
             }
         }

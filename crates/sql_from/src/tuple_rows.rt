@@ -44,7 +44,6 @@ impl<'a> TupleRows<'a> {
         ensures tuple { result.front.now ++ result.last ∷ [] ≡ slice_index_or self.now.tuples.tuples i [] }
         ensures row { combined (parts_of result.sources.now.sources) (result.front.now ++ result.last ∷ []) ≡ slice_index_or (rows_for self.now.sources self.now.tuples) i [] }
     {
-        self.tuples.width();
         TupleRow::whole(&self.sources, self.tuples.tuple(i))
     }
 
@@ -54,7 +53,6 @@ impl<'a> TupleRows<'a> {
         ensures columns { IfOk result (λ t. t.columns ≡ source_columns (scope_held self.now.sources.sources)) }
         ensures rows { IfOk result (λ t. t.rows ≡ rows_for self.now.sources self.now.tuples) }
     {
-        self.tuples.width();
         let tables = self.sources.tables(alloc)?;
         let columns = self.sources.columns(alloc)?;
         gather_beside(

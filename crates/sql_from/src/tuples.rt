@@ -70,6 +70,7 @@ impl Tuples {
         requires { i < length self.now.tuples }
         ensures tuple { result.now ≡ slice_index_or self.now.tuples i result.now }
         ensures width { length result.now ≡ self.now.width }
+        ensures some { 0 < self.now.width }
     {
         part(self.numbers.as_slice(), i * self.width, self.width)
     }
@@ -78,6 +79,7 @@ impl Tuples {
     pub fn numbers(&self) -> &[usize]
         ensures numbers { pieces self.now.width result.now ≡ self.now.tuples }
         ensures wide { AllByRecursion (λ x. length x ≡ self.now.width) self.now.tuples }
+        ensures some { 0 < self.now.width }
     {
         self.numbers.as_slice()
     }

@@ -10,8 +10,7 @@ use Rattle.sql_from.proofs.tuple_rows.TupleRows.table.Goals as goal
 
 pub gather_beside-requires-clause-some : goal.gather_beside-requires-clause-some
 gather_beside-requires-clause-some c =
-    let t : c.width.result ≡ length c.args.self.now.sources.sources = c.width.ensures.width ∙ c.args.self.now.is_whole in
-    omega (arith, t, c.width.ensures.some, c.in_ok-columns.ensures.some)
+    omega (arith, c.args.self.now.is_whole, c.numbers.ensures.some, c.in_ok-columns.ensures.some)
 
 pub gather_beside-requires-clause-within : goal.gather_beside-requires-clause-within
 gather_beside-requires-clause-within c =
