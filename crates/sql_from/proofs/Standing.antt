@@ -34,7 +34,7 @@ use Rattle.sql_from.specs.Seen.{answer_of}
 use Rattle.sql_from.specs.Sources.{IsWide, Sourced, or_nothing, parts_of, scope_held, table_named}
 use Rattle.sql_from.specs.Standing.{StandsFor, condition_at, rows_for, sight_of}
 use Rattle.sql_from.specs.Tuples.{Numbered}
-use Rattle.sql_from.proofs.Means.{cross_means, crossed_wide, joined_wide, kept_means, marks_many, single_rows, singles_wide, step_faults, step_means}
+use Rattle.sql_from.proofs.Means.{cross_means, crossed_wide, faults_through, joined_wide, kept_means, marks_many, single_rows, singles_wide, step_faults, step_means}
 use Rattle.sql_from.proofs.Sited.{columns_are, row_wide, table_there}
 
 last_of : {X : Type 0} (P : X → Type 0) (xs : List X) (x : X) → AllByRecursion P (xs ++ x ∷ []) → P x
@@ -161,10 +161,6 @@ first_stands p held source t s count typed is wide counted w tuples =
     })
 
 -- ---- WHERE
-
-faults_through : {X Y : Type 0} (f : Y → Option Fault) (h : X → Y) (xs : List X) → faults_by (λ x. f (h x)) xs ≡ faults_by f (map h xs)
-faults_through f h [] = refl
-faults_through f h (x ∷ xs) = ap (join (f (h x))) (faults_through f h xs)
 
 module _ (p : Settings) (s : Sourced) (t : Numbered) (seen : Option Fault) (f : Joined) (before : StandsFor f s t seen) where
   pub kept_stands : (e : Exp) (tuples : List (List ℕ)) (seen' : Option Fault) → tuples ≡ kept_tuples (condition_at p s e) t.tuples → seen' ≡ join seen (kept_fault (condition_at p s e) t.tuples)
