@@ -1,2 +1,3 @@
 pub mod Grouped
+pub mod Items
 pub mod Seen
