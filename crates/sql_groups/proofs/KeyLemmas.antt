@@ -1,37 +1,28 @@
 -- Cells of keys: their kinds, and that a key stands in its table as it is.
-use Rattle.std.proofs.Common.{◌≡◌, ℕ, zero, suc, ◌+◌, ◌<◌, true, false, Bool, ◌&&◌, List, [], ◌∷◌, length, get_or, map, refl, sym, ap, ◌∙◌, arith, subst}
+use Rattle.std.proofs.Common.{◌≡◌, ℕ, ◌<◌, true, ◌&&◌, List, [], ◌∷◌, length, map, refl, sym, ap, ◌∙◌, None}
 use Rattle.std.specs.List.{AllByRecursion, range_with_len}
-use Rattle.std.specs.Prelude.{slice_index_or}
 use Rattle.std.proofs.lemmas.List.{length-map}
-use Rattle.vtl_cell.specs.Kinds.{is_of}
 use Rattle.vtl_cell.specs.Row.{Row, column_of}
-use Rattle.vtl_cell.specs.declared.cell.Cell.{Cell}
 use Rattle.vtl_cell.specs.declared.cell.Cell.TheVariants as c
-use Rattle.vtl_cell.specs.declared.kind.Kind.{Kind}
-use Rattle.vtl_cell.specs.declared.kind.Kind.TheVariants as k
 use Rattle.vtl_rows.specs.Places.{row_at}
 use Rattle.vtl_rows.specs.Tables.{cells_at, column_kinds, fits, fits_kinds}
-use Rattle.vtl_rows.specs.declared.column.Column.{Column}
+use Rattle.vtl_rows.specs.declared.column.Column.{Column as TableColumn}
 use Rattle.vtl_index.proofs.Ranges.{all_indexed}
+use Rattle.sql_tree.specs.declared.parts.Column.{Column}
+use Rattle.sql_check_parts.specs.Scopes.{Scope, column_kind, found, row_of}
+use Rattle.sql_check_laws.specs.Fits.{IsSeen}
 use Rattle.sql_meaning.specs.Tables.{RowsFit}
-use Rattle.sql_meaning.proofs.SourceKinds.{null_is_of}
+use Rattle.sql_meaning.specs.Values.{place_in}
+use Rattle.sql_meaning.proofs.Lists.{all_at}
+use Rattle.sql_meaning.proofs.OperatorKinds.{some_of}
+use Rattle.sql_meaning.proofs.SourceKinds.{column_fits}
 
 -- ---- kinds
 
-both : (a b : Bool) → (a && b) ≡ true → (a ≡ true) × (b ≡ true)
-both true b e = (refl, e)
-both false b e = cc
-
-cell_is_of : (kinds : List Kind) (r : Row) (i : ℕ) → fits_kinds kinds r ≡ true → is_of (slice_index_or kinds i k.Null) (column_of i r) ≡ true
-cell_is_of [] [] i h = refl
-cell_is_of [] (x ∷ r) i h = cc
-cell_is_of (z ∷ kinds) [] i h = cc
-cell_is_of (z ∷ kinds) (x ∷ r) zero h = (both (is_of z x) (fits_kinds kinds r) h).0
-cell_is_of (z ∷ kinds) (x ∷ r) (suc i) h = cell_is_of kinds r i (both (is_of z x) (fits_kinds kinds r) h).1
-
-pub key_fits : (kinds : List Kind) (r : Row) → fits_kinds kinds r ≡ true → (places : List ℕ) → fits_kinds (map (λ i. slice_index_or kinds i k.Null) places) (cells_at places r) ≡ true
-key_fits kinds r h [] = refl
-key_fits kinds r h (i ∷ is) = λ n. cell_is_of kinds r i h n && key_fits kinds r h is n
+-- the cells of columns of GROUP BY have their kinds
+pub key_fits : (scope : Scope) (r : Row) → fits_kinds (row_of scope) r ≡ true → (group : List Column) → AllByRecursion (IsSeen scope None) group → fits_kinds (map (column_kind scope) group) (cells_at (map (place_in scope) group) r) ≡ true
+key_fits scope r h [] seen = refl
+key_fits scope r h (x ∷ group) seen = λ n. column_fits scope r x (column_kind scope x) h (some_of (found scope x) seen.0.0) n && key_fits scope r h group seen.1 n
 
 -- ---- keys in their table
 
@@ -46,14 +37,8 @@ pub keys_stay : (places : List ℕ) (rows : List Row) → map (cells_at (range_w
 keys_stay places [] = refl
 keys_stay places (r ∷ rows) = λ n. key_stays places r n ∷ keys_stay places rows n
 
--- ---- the row at a place
-
-pub all_at : {X : Type 0} (P : X → Type 0) (xs : List X) (i : ℕ) (d : X) → AllByRecursion P xs → i < length xs → P (get_or xs i d)
-all_at P [] i d all h = absurd (omega (arith, h))
-all_at P (x ∷ xs) zero d all h = all.0
-all_at P (x ∷ xs) (suc i) d all h = all_at P xs i d all.1 (omega (arith, h))
-
--- the cells of a key fit columns of the kinds at their places
-pub key_row_fits : (kinds : List Kind) (rows : List Row) (i : ℕ) (places : List ℕ) (columns : List Column) (key : Row) → RowsFit kinds rows → i < length rows → column_kinds columns ≡ map (λ j. slice_index_or kinds j k.Null) places → key ≡ cells_at places (row_at rows i) → fits columns key ≡ true
-key_row_fits kinds rows i places columns key all h kinds_are is =
-    (λ n. fits_kinds (kinds_are n) (is n)) ∙ key_fits kinds (row_at rows i) (all_at (λ r. fits_kinds kinds r ≡ true) rows i [] all h) places
+-- the key of one of the rows
+pub key_row_fits : (scope : Scope) (group : List Column) (rows : List Row) (i : ℕ) (columns : List TableColumn) (key r : Row) → AllByRecursion (IsSeen scope None) group → RowsFit (row_of scope) rows → i < length rows → r ≡ row_at rows i → column_kinds columns ≡ map (column_kind scope) group → key ≡ cells_at (map (place_in scope) group) r → fits columns key ≡ true
+key_row_fits scope group rows i columns key r seen all h at kinds_are is =
+    (λ n. fits_kinds (kinds_are n) (is n))
+    ∙ key_fits scope r (ap (fits_kinds (row_of scope)) at ∙ all_at (λ q. fits_kinds (row_of scope) q ≡ true) rows i [] h all) group seen

@@ -1,3 +1,3 @@
 pub mod Grouped
-pub mod Items
+pub mod Kept
 pub mod Seen

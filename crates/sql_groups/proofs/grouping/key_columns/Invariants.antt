@@ -1,6 +1,7 @@
-use Rattle.std.proofs.Common.{◌≡◌, map, take, slice_index_or}
-use Rattle.vtl_cell.specs.declared.kind.Kind.TheVariants as k
+use Rattle.std.proofs.Common.{◌≡◌, map, take}
+use Rattle.vtl_rows.specs.Tables.{column_kinds}
+use Rattle.sql_check_parts.specs.Scopes.{column_kind}
 use Rattle.sql_groups.proofs.grouping.key_columns.Given as goal
 
-abbrev pub invariant-loop-place : goal.invariant-loop-place
-invariant-loop-place g l = map (λ c. c.kind) l.columns.items ≡ map (λ i. slice_index_or (g.S.Rows.kinds l.rows) i k.Null) (take l.place-index l.places)
+abbrev pub invariant-loop-column : goal.invariant-loop-column
+invariant-loop-column g l = column_kinds l.unnamed.items ≡ map (column_kind (g.N.Names.scope l.names)) (take l.column-index l.columns)
