@@ -2,6 +2,7 @@
 use Rattle.std.specs.Prelude.{◌≡◌, ◌<◌, ℕ, List, [], ◌∷◌, map, length}
 use Rattle.std.specs.List.{AllByRecursion}
 use Rattle.vtl_cell.specs.Row.{Row}
+use Rattle.vtl_rows.specs.Named.{NamedTables}
 use Rattle.vtl_rows.specs.Places.{row_at}
 use Rattle.vtl_index.specs.Groups.{AreLeads, firsts, rows_led}
 use Rattle.sql_meaning.specs.Groups.{keys_by, rows_with}
@@ -25,6 +26,14 @@ pub record AreGroups (places : List ℕ) (rows : List Row) (g : Grouped) : Type 
   pub keys_are : g.keys ≡ keys_by places rows
   pub rows_are : map (rows_at rows) g.numbers ≡ map (rows_with places rows) g.keys
   pub within : AllByRecursion (AreWithin rows) g.numbers
+
+-- ---- one group
+
+-- all tables that the program holds, the key, and the rows
+pub record Group : Type 0 where
+  pub held : NamedTables
+  pub key : Row
+  pub rows : List Row
 
 -- ---- as the code holds them
 

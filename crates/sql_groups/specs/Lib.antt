@@ -1,3 +1,4 @@
 pub mod Grouped
+pub mod Items
 pub mod Kept
 pub mod Seen
