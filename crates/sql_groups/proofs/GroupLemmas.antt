@@ -15,6 +15,7 @@ use Rattle.vtl_index.proofs.KeyGroups.{are_leads, keys_once, rows_of_key}
 use Rattle.vtl_index.proofs.Ranges.{all_indexed, none_pass, passing, passing_agree, passing_at, passing_is}
 use Rattle.vtl_tuples.specs.Keys as tuples
 use Rattle.sql_meaning.specs.Groups.{keys_by, rows_with}
+use Rattle.sql_meaning.proofs.Lists.{all_at}
 use Rattle.sql_groups.specs.Grouped.{AreGroups, AreWithin, Grouped, grouped_in, rows_at}
 use Rattle.sql_groups.specs.declared.grouping.Layout.{Layout}
 use Rattle.sql_groups.specs.declared.grouping.Layout.TheVariants.{Keyed}
@@ -181,3 +182,16 @@ keyed_groups places rows columns keys groups x some all stand found e =
 pub found_leads : (columns : List ℕ) (keys : Listed) (groups : List ℕ) → groups ≡ leads_of (cells_at columns) keys.rows → (length groups ≡ length keys.rows) × AreLeads groups
 found_leads columns keys groups found =
     (ap length found ∙ length-map keys.rows (λ r. position_or_len (λ s. same_row (cells_at columns s) (cells_at columns r)) keys.rows), subst AreLeads (sym found) (are_leads (cells_at columns) keys.rows))
+
+-- ---- one of the groups
+module _ (places : List ℕ) (rows : List Row) (x : Grouped) (are : AreGroups places rows x) where
+  pub numbers_many : length x.numbers ≡ length x.keys
+  numbers_many = sym (length-map x.numbers (rows_at rows)) ∙ ap length are.rows_are ∙ length-map x.keys (rows_with places rows)
+
+  pub group_within : (i : ℕ) → i < length x.keys → AreWithin rows (slice_index_or x.numbers i [])
+  group_within i h = all_at (AreWithin rows) x.numbers i [] (let m = numbers_many in omega (arith, m, h)) are.within
+
+  pub group_rows : (i : ℕ) → i < length x.keys → rows_at rows (slice_index_or x.numbers i []) ≡ rows_with places rows (row_at x.keys i)
+  group_rows i h =
+      let inside : i < length x.numbers = let m = numbers_many in omega (arith, m, h) in
+      sym (get_or-map (rows_at rows) x.numbers i [] [] inside) ∙ ap (λ l. get_or l i []) are.rows_are ∙ get_or-map (rows_with places rows) x.keys i [] [] h

@@ -1,5 +1,5 @@
 -- The rows of a grouped select, with places in place of names.
-use Rattle.std.specs.Prelude.{Bool, true, false, List, map, filter, Option, Some, None, Ok, Err, if◌then◌else◌}
+use Rattle.std.specs.Prelude.{ℕ, Bool, true, false, List, map, filter, Option, Some, None, Ok, Err, if◌then◌else◌}
 use Rattle.vtl_cell.specs.Conversion.{as_kind}
 use Rattle.vtl_cell.specs.Outcome.{Fault, Outcome, after, fault_in, faults_by, join, unless}
 use Rattle.vtl_cell.specs.Outcomes.{is_true}
@@ -7,10 +7,14 @@ use Rattle.vtl_cell.specs.Row.{Row}
 use Rattle.vtl_cell.specs.Settings.{Settings}
 use Rattle.vtl_cell.specs.declared.cell.Cell.{Cell}
 use Rattle.sql_tree.specs.Trees.{Text}
+use Rattle.sql_tree.specs.declared.parts.Column.{Column}
+use Rattle.sql_meaning.specs.Groups.{keys_by, rows_with}
 use Rattle.sql_meaning.specs.Outcomes.{cell_or_null}
+use Rattle.sql_meaning.specs.Values.{place_in}
 use Rattle.sql_eval.specs.Placed.{placed_value}
 use Rattle.sql_eval.specs.View.{placed_of}
 use Rattle.sql_eval.specs.declared.resolved.Resolved.{Resolved}
+use Rattle.sql_groups.specs.Kept.{Kept, rows_of, scope_of, tables_of}
 use Rattle.sql_groups.specs.declared.items.GroupItem.{GroupItem}
 use Rattle.sql_groups.specs.declared.items.GroupSelect.{GroupSelect}
 
@@ -59,3 +63,14 @@ fault_of_key a s key = fault_for a.settings a.tables key (a.members key) s
 -- a row of the items for each group that is kept, unless there is a fault
 abbrev pub groups_made : Around → GroupSelect → List Row → Outcome (List Row)
 groups_made a s keys = unless (faults_by (fault_of_key a s) keys) (map (row_of_key a s) (filter (is_kept a s) keys))
+
+-- ---- of the groups of rows by columns
+
+abbrev pub places_of : Kept → List Column → List ℕ
+places_of rows group = map (place_in (scope_of rows)) group
+
+abbrev pub around : Settings → Kept → List Column → Around
+around p rows group = record { settings = p; tables = tables_of rows; members = rows_with (places_of rows group) (rows_of rows) }
+
+abbrev pub keys_in : Kept → List Column → List Row
+keys_in rows group = keys_by (places_of rows group) (rows_of rows)

@@ -15,14 +15,26 @@ use vtl_decimal::whole;
 use vtl_scalar::ScalarErr;
 
 /// A group: its key, which holds the cells of the columns of GROUP BY, and its rows. All cells are lent.
-pub(crate) struct GroupRow<'a> {
-    rows: &'a KeptRows<'a>,
+pub(crate) struct GroupRow<'a, 'r> {
+    rows: &'a KeptRows<'r>,
     key: &'a [Cell],
     numbers: &'a [usize],
     null: &'a Cell,
 }
 
-impl<'a> Model for GroupRow<'a> {
+// Written out, so that an owner sees one call.
+impl Drop for GroupRow<'_, '_> {
+    fn drop(self) {
+        let GroupRow {
+            rows: _,
+            key: _,
+            numbers: _,
+            null: _,
+        } = self;
+    }
+}
+
+impl<'a, 'r> Model for GroupRow<'a, 'r> {
     ghost use Rattle.std.specs.Prelude.{◌≡◌};
     ghost use Rattle.vtl_cell.specs.declared.cell.Cell.TheVariants.{Null};
     ghost use Rattle.sql_groups.specs.Grouped.{AreWithin, Group, rows_at};
@@ -35,14 +47,14 @@ impl<'a> Model for GroupRow<'a> {
     ghost invariant = { λ g. AreWithin (rows_of g.rows.now) g.numbers.now × (g.null.now ≡ Null) };
 }
 
-impl<'a> GroupRow<'a> {
+impl<'a, 'r> GroupRow<'a, 'r> {
     /// The group of a key and the rows with these numbers; a null is lent where a place is past the last cell of the key.
     pub(crate) fn of(
-        rows: &'a KeptRows<'a>,
+        rows: &'a KeptRows<'r>,
         key: &'a [Cell],
         numbers: &'a [usize],
         null: &'a Cell,
-    ) -> GroupRow<'a>
+    ) -> GroupRow<'a, 'r>
         requires numbers { AreWithin (rows_of rows.now) numbers.now }
         requires null { null.now ≡ Null }
         ensures held { result.held ≡ rows.now.held }
@@ -58,7 +70,7 @@ impl<'a> GroupRow<'a> {
     }
 }
 
-impl<'a> OuterRow for GroupRow<'a> {
+impl<'a, 'r> OuterRow for GroupRow<'a, 'r> {
     ghost lends = { λ g. g.key };
 
     fn lent(&self, place: usize) -> &Cell {
@@ -69,7 +81,7 @@ impl<'a> OuterRow for GroupRow<'a> {
     }
 }
 
-impl<'a> Cells for GroupRow<'a> {
+impl<'a, 'r> Cells for GroupRow<'a, 'r> {
     ghost use Rattle.sql_from.specs.Held.{rows_held};
 
     ghost cells = { λ g. g.key };

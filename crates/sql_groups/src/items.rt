@@ -111,8 +111,8 @@ fn push_items<R: Cells>(
     Ok(with_these)
 }
 
-// Puts a row of the items behind others, where HAVING keeps the group.
-fn push_group<R: Cells>(
+/// Puts a row of the items behind others, where HAVING keeps the group.
+pub(crate) fn push_group<R: Cells>(
     alloc: Global,
     table: &mut Table,
     cells: &mut Vec<Cell>,

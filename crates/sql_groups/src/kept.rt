@@ -15,6 +15,16 @@ pub struct KeptRows<'a> {
     tuples: &'a Tuples,
 }
 
+// Written out, so that an owner sees one call.
+impl Drop for KeptRows<'_> {
+    fn drop(self) {
+        let KeptRows {
+            sources: _,
+            tuples: _,
+        } = self;
+    }
+}
+
 impl<'a> Model for KeptRows<'a> {
     ghost use Rattle.std.specs.Prelude.{◌≡◌, length};
     ghost use Rattle.sql_groups.specs.Kept.{Kept};

@@ -5,6 +5,7 @@ mod group_row;
 mod grouping;
 mod items;
 mod kept;
+mod made;
 mod seen;
 mod totals;
 
