@@ -1,0 +1,7 @@
+pub mod Fitted
+pub mod ItemLemmas
+pub mod GroupLemmas
+pub mod KeyLemmas
+pub mod LiftedLemmas
+pub mod ResolvedLemmas
+pub mod SelectLemmas
