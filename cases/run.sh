@@ -74,7 +74,9 @@ run() {
     words=$case/words
     if [ ! -e "$words" ]; then
         words=$made/words
-        printf '%s\n' run script.vtl structures.csv in out >"$words"
+        set -- run script.vtl structures.csv in out
+        [ ! -e "$folder/script.sql" ] || set -- engine script.sql in out
+        printf '%s\n' "$@" >"$words"
     fi
     called
     code=$?
@@ -213,7 +215,7 @@ for folder in cases/*/; do
     word=$(basename "$folder")
     wanted "$word" || continue
     case $word in
-        run) for case in cases/run/*/; do run "$top/${case%/}"; done ;;
+        run | engine) for case in "cases/$word"/*/; do run "$top/${case%/}"; done ;;
         explain)
             program=$top/vtl
             VTL_EXPLAIN=1
