@@ -105,7 +105,11 @@ explained() {
     case=$1
     if [ ! -e "$case/said" ]; then
         run "$case"
-    elif (cd "$case" && "$top/scripts/explain.sh" "$(cat said)" run script.vtl ../structures.csv in out) >"$made/said" 2>&1 &&
+        return
+    fi
+    set -- run script.vtl ../structures.csv in out
+    [ ! -e "$case/script.sql" ] || set -- engine script.sql in out
+    if (cd "$case" && "$top/scripts/explain.sh" "$(cat said)" "$@") >"$made/said" 2>&1 &&
         cmp -s "$case/told" "$made/said"; then
         pass
     else
@@ -268,6 +272,8 @@ if wanted sentences; then
     compared README.md status '| status | code |' '4 3 2' '3 4 6'
     compared docs/USING.md status '| status | what to do |' 2 5
     compared docs/USING.md syntax '| a text is no script where' '2 3 4' '3 4 5'
+    compared docs/USING.md sql_syntax '| a text of the dialect is no script where' '2 3 4' '3 4 5'
+    compared docs/SQL.md sql '| rule | what it asks |' '2 3 4' '3 4 5'
     compared docs/TYPES.md types '| rule | is broken where |' '2 3 4' '3 4 5'
     compared docs/FILES.md structures '| rule | is broken where |' '2 3 4' '3 4 5'
     compared docs/FILES.md input '| kind | where |' '2 3 4' '3 4 5'
