@@ -278,7 +278,9 @@ if wanted sentences; then
     compared docs/FILES.md structures '| rule | is broken where |' '2 3 4' '3 4 5'
     compared docs/FILES.md input '| kind | where |' '2 3 4' '3 4 5'
     compared docs/FILES.md type '| type | what a field may say |' 2 3
-    for case in cases/explain/mistake_*/; do transcribed docs/USING.md "${case%/}"; done
+    for case in cases/explain/mistake_*/ cases/explain/sql_syntax_other/ cases/explain/sql_type_3_of_a_query/; do
+        transcribed docs/USING.md "${case%/}"
+    done
 fi
 if wanted check && [ -x "$probe" ]; then
     for case in cases/run/*/; do
