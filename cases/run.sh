@@ -191,14 +191,14 @@ refused() {
     fi
 }
 
-# A table of texts, read by the grammar that the launcher takes from its page.
+# A table of texts, read by the grammar that the launcher takes from a page.
 read_by_page() {
     parts=scripts/explain
-    LC_ALL=C awk -f $parts/text.awk -f $parts/script.awk -f $parts/grammar.awk -f $parts/records.awk \
-        -f cases/explain/syntax.awk -- "$1" >"$made/said" 2>&1
+    LC_ALL=C awk -f $parts/text.awk -f $parts/script.awk -f $parts/grammar.awk -f $parts/records.awk -f $parts/sql.awk \
+        -f "cases/explain/$1.awk" -- "$2" >"$made/said" 2>&1
     case $(tail -n 1 "$made/said") in
         [1-9]*' passed, 0 failed') pass ;;
-        *) fail "$1: read otherwise by docs/LANGUAGE.md: $(head -n 3 "$made/said")" ;;
+        *) fail "$2: read otherwise by its page: $(head -n 3 "$made/said")" ;;
     esac
 }
 
@@ -225,7 +225,8 @@ for folder in cases/*/; do
             VTL_EXPLAIN=1
             export VTL_EXPLAIN
             for case in cases/explain/*/; do explained "$top/${case%/}"; done
-            for file in cases/syntax/*.csv; do read_by_page "$file"; done
+            for file in cases/syntax/*.csv; do read_by_page syntax "$file"; done
+            for file in cases/sql/syntax/*.csv; do read_by_page sql_syntax "$file"; done
             unset VTL_EXPLAIN
             program=$vtl
             ;;

@@ -2,18 +2,14 @@
 # the arrays of script.awk, a name without its quotes. made_by[table] is the statement that makes a table, columns[table] its
 # columns with a line feed after each, kind[table, column] the kind of a column of an INPUT.
 
-# Reads the grammar of the dialect; its classes of tokens have the words of that of VTL.
-function read_sql_grammar(    node, word) {
+# Reads the grammar of the dialect.
+function read_sql_grammar(    node) {
     read_productions(page("SQL.md"))
-    word["name"] = "QUOTED_NAME"
-    word["text"] = "STRING"
-    word["int"] = "INTEGER"
-    word["dec"] = "DECIMAL"
-    for (node = 1; node <= nodes; node++) {
-        if (form[node] != "name" || !(spelling[node] in word)) continue
-        form[node] = "word"
-        spelling[node] = word[spelling[node]]
-    }
+    spoken["name"] = "a name in quotes"
+    spoken["text"] = "a text"
+    spoken["int"] = "an integer"
+    spoken["dec"] = "a number"
+    for (node = 1; node <= nodes; node++) if (form[node] == "name" && spelling[node] in spoken) form[node] = "word"
     operators = " OR XOR AND = <> < <= > >= IS NOT IN + - || * / "
     begins_expression = "CASE"
 }
@@ -42,7 +38,7 @@ function read_sql_tokens(only_one,    first, piece) {
         piece = substr(script_line[row], at, first == "\"" ? 2 * window() : 64)
         if (substr(piece, 1, 2) in long_signs) add_token(substr(piece, 1, 2), 2)
         else if (index("<>=+-*/(),;.", first)) add_token(first, 1)
-        else if (first == "'") string_token(first)
+        else if (first == "'") sql_text(first)
         else if (first == "\"") sql_name(piece)
         else if (first ~ /[A-Za-z]/) sql_keyword(piece)
         else if (first ~ /[0-9]/) sql_number(substr(script_line[row], at, window()))
@@ -72,22 +68,28 @@ function sql_keyword(piece,    width) {
     else fault = "word"
 }
 
+function sql_text(mark) {
+    string_token(mark)
+    if (fault == "") symbol[tokens] = "text"
+}
+
 function sql_name(piece,    width, text) {
     match(piece, /^"([^"]|"")*"/)
     width = RLENGTH
     text = substr(piece, 2, width - 2)
     gsub(/""/, "\"", text)
-    if (width < 3 || length(text) > 256 || text ~ /[\001-\037\177]/) {
+    if (width < 3 || length(text) > 256 || text ~ /[^ -~\200-\377]|\302[\200-\237]/) {
         fault = "quoted"
         return
     }
     add_token(text, width)
-    symbol[tokens] = "QUOTED_NAME"
+    symbol[tokens] = "name"
 }
 
 # A number; the 1 of an EXISTS is a word of the grammar.
 function sql_number(piece) {
     number_token(piece)
+    symbol[tokens] = token_text[tokens] ~ /[.]/ ? "dec" : "int"
     if (token_text[tokens] == "1" && symbol[tokens - 1] == "SELECT" && symbol[tokens - 3] == "EXISTS") symbol[tokens] = "1"
 }
 
@@ -108,8 +110,8 @@ function gather_tables(last,    number, token, first, name) {
 function input_columns(table, token, end,    name, in_key) {
     for (; token < end; token++) {
         if (symbol[token] == "KEY") in_key = 1
-        if (symbol[token] == "STRING") codes[table, name] = joined_by(codes[table, name], text_of(token_text[token]), "|")
-        if (symbol[token] != "QUOTED_NAME") continue
+        if (symbol[token] == "text") codes[table, name] = joined_by(codes[table, name], text_of(token_text[token]), "|")
+        if (symbol[token] != "name") continue
         name = token_text[token]
         if (in_key) role[table, name] = "identifier"
         else {
