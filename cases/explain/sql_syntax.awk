@@ -15,8 +15,6 @@ BEGIN {
     print same + 0 " passed, " record_number - 1 - same " failed"
 }
 
-function page(name) { return top "/docs/" name }
-
 # How many statements a text has, and the byte of the first fault.
 function answer_of(text,    number, token) {
     take_text(text)

@@ -15,8 +15,6 @@ BEGIN {
     explain(said)
 }
 
-function page(name) { return top "/docs/" name }
-
 # A line is told from others by its words; the parts of a line are parted by blanks.
 function explain(line,    word) {
     split(line, word, " ")
