@@ -82,7 +82,7 @@ function sql_names_here(number, rule,    token, told, first, end) {
     first = first_token[number]
     end = last_token[number]
     if (rule == 2) told = name_fact(first, token_text[first + (symbol[first] == "CREATE" ? 2 : 1)])
-    if (rule == 4) told = twice_named(first, end)
+    if (rule == 4) told = symbol[first] == "EXPORT" ? listed_fact(first + 2, end, token_text[first + 1]) : columns_fact(first, end)
     for (token = first; token <= end; token++) if (rule == 1) told = with_fact(told, unknown_table(token))
     gather_aliases(first, end)
     if (rule == 2) told = with_fact(told, twice)
@@ -106,14 +106,31 @@ function name_fact(first, table,    number) {
     return ""
 }
 
-# The columns that a statement names twice.
-function twice_named(first, end,    names, count, i, seen, told) {
-    if (symbol[first] == "INPUT") input_columns("", first + 2, end)
-    else query_columns("", first + 4, end)
+# The columns that a statement names twice; those of a KEY, which are to be columns of the INPUT.
+function columns_fact(token, end,    names, count, i, seen, told, of_input) {
+    of_input = symbol[token] == "INPUT"
+    if (of_input) input_columns("", token + 2, end)
+    else query_columns("", token + 4, end)
     count = split(columns[""], names, "\n")
     for (i = 1; i < count; i++) {
         if (names[i] in seen) told = with_fact(told, code(names[i]) " stands twice")
         seen[names[i]]
+    }
+    while (of_input && symbol[token] != "KEY") token++
+    return of_input ? with_fact(told, listed_fact(token, end, "")) : told
+}
+
+# Of names that are listed those that stand twice, and those that are no columns of a table.
+function listed_fact(token, end, table,    names, seen, told, name) {
+    if (!(table in columns)) return ""
+    include(names, columns[table], "\n")
+    delete names[""]
+    for (; token < end; token++) {
+        if (symbol[token] != "name") continue
+        name = token_text[token]
+        if (name in seen) told = with_fact(told, code(name) " stands twice")
+        else if (!(name in names)) told = with_fact(told, with_nearest(name, names) " is no column")
+        seen[name]
     }
     return told
 }
