@@ -21,7 +21,8 @@ function answer_of(text,    number, token) {
     for (number = 1; number <= statements; number++) {
         token = first_token[number]
         split("", read_before)
-        if (read_form(statement_form(number - 1), token) != last_token[number] + 1) return number - 1 "," byte_of(token_row[token], token_at[token])
+        if (read_form(statement_form(number - 1), token) == last_token[number] + 1) continue
+        return number - 1 "," byte_of(token_row[token], token_at[token])
     }
     if (fault != "") return statements "," byte_of(row, at)
     return statements "," (statements ? "" : length(text))

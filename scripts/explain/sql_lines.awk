@@ -82,7 +82,8 @@ function sql_names_here(number, rule,    token, told, first, end) {
     first = first_token[number]
     end = last_token[number]
     if (rule == 2) told = name_fact(first, token_text[first + (symbol[first] == "CREATE" ? 2 : 1)])
-    if (rule == 4) told = symbol[first] == "EXPORT" ? listed_fact(first + 2, end, token_text[first + 1]) : columns_fact(first, end)
+    if (rule == 4 && symbol[first] == "EXPORT") told = listed_fact(first + 2, end, token_text[first + 1])
+    else if (rule == 4) told = columns_fact(first, end)
     for (token = first; token <= end; token++) if (rule == 1) told = with_fact(told, unknown_table(token))
     gather_aliases(first, end)
     if (rule == 2) told = with_fact(told, twice)
