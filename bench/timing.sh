@@ -28,7 +28,7 @@ timed() {
 
 ratio() {
     [ -s "$made/seconds.$1" ] && paste -d' ' "$made/seconds.vtl" "$made/seconds.$1" |
-        awk -v peer="$1" '{ printf "    vtl takes %.2f times the time of %s\n", $1 / $2, peer }'
+        awk -v peer="$1" '$2 > 0 { printf "    vtl takes %.2f times the time of %s\n", $1 / $2, peer }'
 }
 
 # Tells where what a peer has written is not what the program has written as the result of this name.
@@ -40,10 +40,14 @@ compared() {
     done
 }
 
-# A job of this script, by the program, and by the peers where $made/job.sql and $made/job.py stand.
+# A job by the program, which runs $made/script.sql where it stands and else $made/script.vtl, and by the peers where
+# $made/job.sql and $made/job.py stand.
 raced() {
     rm -f "$made"/seconds.* "$made"/out/*
-    timed vtl "$program" run "$made/script.vtl" "$made/structures.csv" "$made/in" "$made/out" || cat "$made/said"
+    result=$1
+    set -- run "$made/script.vtl" "$made/structures.csv"
+    [ ! -e "$made/script.sql" ] || set -- engine "$made/script.sql"
+    timed vtl "$program" "$@" "$made/in" "$made/out" || cat "$made/said"
     if [ -e "$made/job.sql" ] && command -v sqlite3 >/dev/null; then
         timed sqlite3 sqlite3 "$made/work.db" ".read $made/job.sql"
         rm -f "$made/work.db"
@@ -53,5 +57,5 @@ raced() {
         timed pandas "$python" "$made/job.py"
         ratio pandas
     fi
-    compared "$1"
+    compared "$result"
 }

@@ -74,7 +74,9 @@ run() {
     words=$case/words
     if [ ! -e "$words" ]; then
         words=$made/words
-        printf '%s\n' run script.vtl structures.csv in out >"$words"
+        set -- run script.vtl structures.csv in out
+        [ ! -e "$folder/script.sql" ] || set -- engine script.sql in out
+        printf '%s\n' "$@" >"$words"
     fi
     called
     code=$?
@@ -103,7 +105,11 @@ explained() {
     case=$1
     if [ ! -e "$case/said" ]; then
         run "$case"
-    elif (cd "$case" && "$top/scripts/explain.sh" "$(cat said)" run script.vtl ../structures.csv in out) >"$made/said" 2>&1 &&
+        return
+    fi
+    set -- run script.vtl ../structures.csv in out
+    [ ! -e "$case/script.sql" ] || set -- engine script.sql in out
+    if (cd "$case" && "$top/scripts/explain.sh" "$(cat said)" "$@") >"$made/said" 2>&1 &&
         cmp -s "$case/told" "$made/said"; then
         pass
     else
@@ -185,14 +191,14 @@ refused() {
     fi
 }
 
-# A table of texts, read by the grammar that the launcher takes from its page.
+# A table of texts, read by the grammar that the launcher takes from a page.
 read_by_page() {
     parts=scripts/explain
-    LC_ALL=C awk -f $parts/text.awk -f $parts/script.awk -f $parts/grammar.awk -f $parts/records.awk \
-        -f cases/explain/syntax.awk -- "$1" >"$made/said" 2>&1
+    LC_ALL=C awk -f $parts/text.awk -f $parts/script.awk -f $parts/grammar.awk -f $parts/records.awk -f $parts/sql.awk \
+        -f "cases/explain/$1.awk" -- "$2" >"$made/said" 2>&1
     case $(tail -n 1 "$made/said") in
         [1-9]*' passed, 0 failed') pass ;;
-        *) fail "$1: read otherwise by docs/LANGUAGE.md: $(head -n 3 "$made/said")" ;;
+        *) fail "$2: read otherwise by its page: $(head -n 3 "$made/said")" ;;
     esac
 }
 
@@ -213,13 +219,14 @@ for folder in cases/*/; do
     word=$(basename "$folder")
     wanted "$word" || continue
     case $word in
-        run) for case in cases/run/*/; do run "$top/${case%/}"; done ;;
+        run | engine) for case in "cases/$word"/*/; do run "$top/${case%/}"; done ;;
         explain)
             program=$top/vtl
             VTL_EXPLAIN=1
             export VTL_EXPLAIN
             for case in cases/explain/*/; do explained "$top/${case%/}"; done
-            for file in cases/syntax/*.csv; do read_by_page "$file"; done
+            for file in cases/syntax/*.csv; do read_by_page syntax "$file"; done
+            for file in cases/sql/syntax/*.csv; do read_by_page sql_syntax "$file"; done
             unset VTL_EXPLAIN
             program=$vtl
             ;;
@@ -266,11 +273,15 @@ if wanted sentences; then
     compared README.md status '| status | code |' '4 3 2' '3 4 6'
     compared docs/USING.md status '| status | what to do |' 2 5
     compared docs/USING.md syntax '| a text is no script where' '2 3 4' '3 4 5'
+    compared docs/USING.md sql_syntax '| a text of the dialect is no script where' '2 3 4' '3 4 5'
+    compared docs/SQL.md sql '| rule | what it asks |' '2 3 4' '3 4 5'
     compared docs/TYPES.md types '| rule | is broken where |' '2 3 4' '3 4 5'
     compared docs/FILES.md structures '| rule | is broken where |' '2 3 4' '3 4 5'
     compared docs/FILES.md input '| kind | where |' '2 3 4' '3 4 5'
     compared docs/FILES.md type '| type | what a field may say |' 2 3
-    for case in cases/explain/mistake_*/; do transcribed docs/USING.md "${case%/}"; done
+    for case in cases/explain/mistake_*/ cases/explain/sql_syntax_other/ cases/explain/sql_type_3_of_a_query/; do
+        transcribed docs/USING.md "${case%/}"
+    done
 fi
 if wanted check && [ -x "$probe" ]; then
     for case in cases/run/*/; do

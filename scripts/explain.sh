@@ -43,9 +43,14 @@ names_in() {
 # Which of the files that an explanation looks at are there to be read once more.
 files_at_hand() {
     dataset=${said#error: input }
+    inputs=$4
     [ ! -f "$2" ] || printf 'script '
-    [ ! -f "$3" ] || printf 'structures '
-    [ ! -f "$4/${dataset%% *}.csv" ] || printf 'input '
+    if [ "$1" = engine ]; then
+        inputs=$3
+    elif [ -f "$3" ]; then
+        printf 'structures '
+    fi
+    [ ! -f "$inputs/${dataset%% *}.csv" ] || printf 'input '
 }
 
 fact=
@@ -62,5 +67,5 @@ esac
 parts=$top/scripts/explain
 VTL_TOP=$top VTL_SAID=$said VTL_FACT=$fact VTL_NAMES=$names VTL_FILES=$(files_at_hand "$@" - - - -) LC_ALL=C
 export VTL_TOP VTL_SAID VTL_FACT VTL_NAMES VTL_FILES LC_ALL
-exec awk -f "$parts/text.awk" -f "$parts/script.awk" -f "$parts/grammar.awk" \
-    -f "$parts/records.awk" -f "$parts/lines.awk" -f "$parts/main.awk" -- "$@"
+exec awk -f "$parts/text.awk" -f "$parts/script.awk" -f "$parts/grammar.awk" -f "$parts/records.awk" \
+    -f "$parts/sql.awk" -f "$parts/sql_lines.awk" -f "$parts/lines.awk" -f "$parts/main.awk" -- "$@"

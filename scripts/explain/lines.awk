@@ -169,6 +169,11 @@ function without_codes(name, sets,    set) {
 
 # `error: division by zero in RESULT` and `error: out of range in RESULT`
 function evaluation_line(status, result,    number) {
+    if (of_engine) {
+        tell_tables(result)
+        tell_status(status)
+        return
+    }
     take_script()
     for (number = 1; number <= statements; number++) if (token_text[first_token[number]] == result) tell_statement(script, number)
     tell_status(status)
@@ -191,6 +196,12 @@ function declaration_fact(rule,    place, known) {
     if (rule == 6) include(known, "integer number string boolean date time_period")
     place = rule == 8 ? 5 : rule - 2
     return rule < 9 ? "field " place " is " with_nearest(field[place], known) : ""
+}
+
+# The data sets of the structures file, or the INPUTs of a text of the SQL dialect.
+function read_declarations() {
+    if (of_engine) read_inputs()
+    else read_structures(structures)
 }
 
 # Where a record stands, and its text.
@@ -217,7 +228,7 @@ function tell_earlier(path, number, first, second,    one, two) {
 function input_line(dataset, number, column, kind,    path, named) {
     path = inputs "/" dataset ".csv"
     if (at_hand ~ /input /) readable[path]
-    read_structures(structures)
+    read_declarations()
     begin_records(path)
     read_header()
     named = kind != "BadHeader" && column in header ? header[column] : ""
@@ -282,6 +293,11 @@ function earlier_point(path, dataset, number,    i, key, same) {
 
 # `error: unbuilt: PATH`: the first word of a form that the README's table says is not run.
 function unbuilt_line(    token, number) {
+    if (of_engine) {
+        tell_window()
+        tell_status("Unbuilt")
+        return
+    }
     take_script()
     read_unbuilt(top "/README.md")
     for (number = 1; number <= statements; number++) {
@@ -322,7 +338,7 @@ function path_line(status, path) {
 # The file of its folder that has nearly the name, and is none of another data set.
 function near_file(path,    name, count, i, set, names, other) {
     sub(/.*\//, "", path)
-    read_structures(structures)
+    read_declarations()
     count = split(ENVIRON["VTL_NAMES"], name, "\n")
     for (i = 1; i <= count; i++) {
         set = name[i]
@@ -348,7 +364,7 @@ function not_text_line(path,    line, number) {
 # `error: usage`
 function usage_line(    paths) {
     paths = ARGV[1] == "check" ? 2 : 4
-    tell("here", words_fact(paths))
+    tell("here", of_engine ? engine_words_fact() : words_fact(paths))
     tell_status("Usage")
 }
 

@@ -24,7 +24,7 @@ function read_tokens(    first) {
         first = substr(script_line[row], at, 1)
         if (substr(script_line[row], at, 2) in long_signs) add_token(substr(script_line[row], at, 2), 2)
         else if (index("[]<>=+*/(){},;:#-", first)) add_token(first, 1)
-        else if (first == "\"") string_token()
+        else if (first == "\"") string_token(first)
         else if (first == "'") quoted_token(substr(script_line[row], at, window()))
         else if (first ~ /[A-Za-z]/) word_token(substr(script_line[row], at, window()))
         else if (first ~ /[0-9]/) number_token(substr(script_line[row], at, window()))
@@ -115,19 +115,19 @@ function quoted_token(piece,    width) {
     symbol[tokens] = "QUOTED_NAME"
 }
 
-# A string, which may go over several lines.
-function string_token(    line, from) {
+# A string between two marks, which may go over several lines.
+function string_token(mark,    line, from) {
     line = row
     from = at + 1
     do {
-        if (!past("\"", line, from)) {
+        if (!past(mark, line, from)) {
             fault = "string"
             return
         }
         line = past_row
         from = past_at + 1
-    } while (substr(script_line[line], past_at, 1) == "\"")
-    add_token(line == row ? substr(script_line[row], at, past_at - at) : "\"..\"", 0)
+    } while (substr(script_line[line], past_at, 1) == mark)
+    add_token(line == row ? substr(script_line[row], at, past_at - at) : mark ".." mark, 0)
     symbol[tokens] = "STRING"
     row = line
     at = past_at

@@ -1,5 +1,8 @@
 # The sentences of docs/sentences.tsv, and how texts are shown. Texts are bytes: the locale is C.
 
+# The path of a page.
+function page(name) { return top "/docs/" name }
+
 # Reads what is broken, an example and what to change, by table and key.
 function read_sentences(path,    line, cell) {
     while ((getline line < path) > 0) {

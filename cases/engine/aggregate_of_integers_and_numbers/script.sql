@@ -1,0 +1,6 @@
+SET SCALE 2 ROUNDING HALF_UP;
+INPUT "T" ("id" INTEGER, "k" INTEGER, "v" INTEGER) KEY ("id");
+CREATE TABLE "U" AS
+  SELECT SUM(CASE WHEN "t"."id" = 1 THEN 0.5 ELSE "t"."v" END) AS "a", MAX(COALESCE("t"."v", 0.5)) AS "b", MIN(COALESCE("t"."v", 0.5)) AS "c"
+  FROM "T" AS "t";
+EXPORT "U";

@@ -1,0 +1,6 @@
+SET SCALE 2 ROUNDING HALF_UP;
+INPUT "X" ("id" INTEGER, "i" INTEGER, "n" NUMBER, "s" TEXT, "b" BOOLEAN, "d" DATE, "p" PERIOD) KEY ("id");
+CREATE TABLE "U" AS
+  SELECT SUM("x"."i") / COUNT(*) AS "a", MAX("x"."i") - MIN("x"."i") AS "b", COUNT(*) = COUNT("x"."i") AS "c"
+  FROM "X" AS "x";
+EXPORT "U";

@@ -1,0 +1,7 @@
+
+	SET SCALE	2
+ROUNDING HALF_UP ;
+
+
+INPUT "T"("id"INTEGER,"k" INTEGER,"v"INTEGER)KEY("id")	;EXPORT"T";
+ 	

@@ -1,0 +1,6 @@
+SET SCALE 2 ROUNDING HALF_UP;
+INPUT "T" ("id" INTEGER, "k" INTEGER, "v" INTEGER) KEY ("id");
+CREATE TABLE "U" AS
+  SELECT "t"."id" AS "id", CASE WHEN "t"."k" = 20 THEN "t"."v" ELSE NULL END AS "c"
+  FROM "T" AS "t";
+EXPORT "U";

@@ -1,0 +1,6 @@
+SET SCALE 2 ROUNDING HALF_UP;
+INPUT "T" ("id" INTEGER, "k" INTEGER, "v" INTEGER) KEY ("id");
+CREATE TABLE "U" AS
+  SELECT SUM(CASE WHEN "t"."id" = 1 THEN 0 ELSE 6 / ("t"."id" - 1) END) AS "x"
+  FROM "T" AS "t";
+EXPORT "U";

@@ -1,0 +1,7 @@
+SET SCALE 2 ROUNDING HALF_UP;
+INPUT "T" ("id" INTEGER, "k" INTEGER, "v" INTEGER) KEY ("id");
+CREATE TABLE "U" AS
+  SELECT "t"."id" AS "id"
+  FROM "T" AS "t"
+  WHERE CASE WHEN "t"."v" = 5 THEN FALSE ELSE 10 / ("t"."v" - 5) > 3 END;
+EXPORT "U";

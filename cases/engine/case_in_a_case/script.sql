@@ -1,0 +1,6 @@
+SET SCALE 2 ROUNDING HALF_UP;
+INPUT "T" ("id" INTEGER, "k" INTEGER, "v" INTEGER) KEY ("id");
+CREATE TABLE "U" AS
+  SELECT "t"."id" AS "id", CASE WHEN CASE WHEN "t"."v" IS NULL THEN TRUE ELSE "t"."v" > 6 END THEN CASE WHEN "t"."k" = 20 THEN 'a' ELSE 'b' END ELSE 'c' END AS "s"
+  FROM "T" AS "t";
+EXPORT "U";

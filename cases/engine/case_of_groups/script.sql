@@ -1,0 +1,7 @@
+SET SCALE 2 ROUNDING HALF_UP;
+INPUT "T" ("id" INTEGER, "k" INTEGER, "v" INTEGER) KEY ("id");
+CREATE TABLE "U" AS
+  SELECT "t"."k" AS "k", CASE WHEN COUNT(*) > 1 THEN 'many' ELSE 'one' END AS "s"
+  FROM "T" AS "t"
+  GROUP BY "t"."k";
+EXPORT "U";

@@ -1,0 +1,7 @@
+SET SCALE 2 ROUNDING HALF_UP;
+INPUT "T" ("id" INTEGER, "k" INTEGER, "v" INTEGER) KEY ("id");
+INPUT "S" ("id" INTEGER, "k" INTEGER, "w" TEXT) KEY ("id");
+CREATE TABLE "U" AS
+  SELECT "t"."id" AS "id", EXISTS (SELECT 1 FROM "S" AS "s" WHERE "s"."k" = "t"."k") AS "e"
+  FROM "T" AS "t";
+EXPORT "U";

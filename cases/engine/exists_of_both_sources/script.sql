@@ -1,0 +1,9 @@
+SET SCALE 2 ROUNDING HALF_UP;
+INPUT "T" ("id" INTEGER, "k" INTEGER, "v" INTEGER) KEY ("id");
+INPUT "S" ("id" INTEGER, "k" INTEGER, "w" TEXT) KEY ("id");
+CREATE TABLE "U" AS
+  SELECT "t"."id" AS "a", "u"."id" AS "b"
+  FROM "T" AS "t"
+  CROSS JOIN "T" AS "u"
+  WHERE EXISTS (SELECT 1 FROM "S" AS "s" WHERE "s"."k" = "t"."k" AND "u"."id" = "s"."id");
+EXPORT "U";

@@ -1,0 +1,3 @@
+SET SCALE 2 ROUNDING HALF_UP;
+INPUT "X" ("id" INTEGER, "s" TEXT, "n" NUMBER, "b" BOOLEAN, "d" DATE, "p" PERIOD) KEY ("id");
+EXPORT "X" ORDER BY "d", "b", "s";

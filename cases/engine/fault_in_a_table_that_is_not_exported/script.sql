@@ -1,0 +1,6 @@
+SET SCALE 2 ROUNDING HALF_UP;
+INPUT "T" ("id" INTEGER, "k" INTEGER, "v" INTEGER) KEY ("id");
+CREATE TABLE "A" AS
+  SELECT 1 / "t"."k" AS "x"
+  FROM "T" AS "t";
+EXPORT "T";

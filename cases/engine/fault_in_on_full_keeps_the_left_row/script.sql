@@ -1,0 +1,9 @@
+SET SCALE 2 ROUNDING HALF_UP;
+INPUT "T" ("id" INTEGER, "k" INTEGER, "v" INTEGER) KEY ("id");
+INPUT "S" ("id" INTEGER, "k" INTEGER) KEY ("id");
+CREATE TABLE "U" AS
+  SELECT "t"."id" AS "x"
+  FROM "T" AS "t"
+  FULL JOIN "S" AS "s" ON "t"."v" * "t"."v" = "s"."k"
+  WHERE 1 / COALESCE("s"."id", 0) = 1;
+EXPORT "U";

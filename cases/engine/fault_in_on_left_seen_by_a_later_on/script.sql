@@ -1,0 +1,9 @@
+SET SCALE 2 ROUNDING HALF_UP;
+INPUT "T" ("id" INTEGER, "k" INTEGER, "v" INTEGER) KEY ("id");
+INPUT "S" ("id" INTEGER, "k" INTEGER) KEY ("id");
+CREATE TABLE "U" AS
+  SELECT "t"."id" AS "x"
+  FROM "T" AS "t"
+  LEFT JOIN "S" AS "s" ON "t"."v" * "t"."v" = "s"."k"
+  INNER JOIN "S" AS "r" ON 1 / COALESCE("s"."id", 0) = "r"."id";
+EXPORT "U";

@@ -1,0 +1,9 @@
+SET SCALE 2 ROUNDING HALF_UP;
+INPUT "T" ("id" INTEGER, "k" INTEGER, "v" INTEGER) KEY ("id");
+CREATE TABLE "A" AS
+  SELECT "t"."v" * "t"."v" AS "x"
+  FROM "T" AS "t";
+CREATE TABLE "B" AS
+  SELECT 1 / "t"."k" AS "x"
+  FROM "T" AS "t";
+EXPORT "B";

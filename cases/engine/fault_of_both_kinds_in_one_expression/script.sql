@@ -1,0 +1,7 @@
+SET SCALE 2 ROUNDING HALF_UP;
+INPUT "T" ("id" INTEGER, "k" INTEGER, "v" INTEGER) KEY ("id");
+INPUT "S" ("id" INTEGER, "k" INTEGER) KEY ("id");
+CREATE TABLE "U" AS
+  SELECT "t"."v" * "t"."v" + 1 / "t"."k" AS "x"
+  FROM "T" AS "t";
+EXPORT "U";

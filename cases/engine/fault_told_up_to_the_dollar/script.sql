@@ -1,0 +1,9 @@
+SET SCALE 2 ROUNDING HALF_UP;
+INPUT "T" ("id" INTEGER, "k" INTEGER, "v" INTEGER) KEY ("id");
+CREATE TABLE "R$3" AS
+  SELECT 1 / "t"."k" AS "x"
+  FROM "T" AS "t";
+CREATE TABLE "R" AS
+  SELECT "r"."x" AS "x"
+  FROM "R$3" AS "r";
+EXPORT "R";

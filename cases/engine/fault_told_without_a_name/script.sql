@@ -1,0 +1,5 @@
+SET SCALE 2 ROUNDING HALF_UP;
+INPUT "T" ("id" INTEGER, "k" INTEGER, "v" INTEGER) KEY ("id");
+CREATE TABLE "$1" AS
+  SELECT 1 / "t"."k" AS "x"
+  FROM "T" AS "t";

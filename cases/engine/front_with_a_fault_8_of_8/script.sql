@@ -1,0 +1,15 @@
+SET SCALE 0 ROUNDING DOWN;
+INPUT "T" ("id" INTEGER, "k" INTEGER) KEY ("id");
+CREATE TABLE "A" AS
+  SELECT "t"."k" AS "k"
+  FROM "T" AS "t"
+  WHERE "t"."k" > 0;
+EXPORT "A";
+CREATE TABLE "B$1" AS
+  SELECT 10 / "t"."k" AS "k"
+  FROM "T" AS "t";
+EXPORT "T";
+CREATE TABLE "C" AS
+  SELECT "a"."k" * 999999999999999999 AS "k"
+  FROM "A" AS "a";
+EXPORT "C";

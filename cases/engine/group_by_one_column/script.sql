@@ -1,0 +1,7 @@
+SET SCALE 2 ROUNDING HALF_UP;
+INPUT "T" ("id" INTEGER, "a" TEXT, "b" INTEGER, "c" BOOLEAN, "v" INTEGER) KEY ("id");
+CREATE TABLE "U" AS
+  SELECT "t"."a" AS "a", COUNT(*) AS "n", COUNT("t"."v") AS "m", SUM("t"."v") AS "s"
+  FROM "T" AS "t"
+  GROUP BY "t"."a";
+EXPORT "U";

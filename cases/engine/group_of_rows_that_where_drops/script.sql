@@ -1,0 +1,7 @@
+SET SCALE 2 ROUNDING HALF_UP;
+INPUT "T" ("id" INTEGER, "a" TEXT, "b" INTEGER, "c" BOOLEAN, "v" INTEGER) KEY ("id");
+CREATE TABLE "U" AS
+  SELECT COUNT(*) AS "n", SUM("t"."v") AS "s"
+  FROM "T" AS "t"
+  WHERE "t"."v" > 100;
+EXPORT "U";

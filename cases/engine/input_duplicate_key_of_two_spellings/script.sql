@@ -1,0 +1,2 @@
+SET SCALE 2 ROUNDING HALF_UP;
+INPUT "T" ("p" PERIOD, "b" BOOLEAN) KEY ("b", "p");

@@ -1,0 +1,7 @@
+SET SCALE 2 ROUNDING HALF_UP;
+INPUT "T" ("id" INTEGER, "k" INTEGER, "v" INTEGER) KEY ("id");
+CREATE TABLE "U" AS
+  SELECT 1 / 0 AS "x"
+  FROM "T" AS "t";
+INPUT "S" ("a" TEXT) KEY ("a");
+EXPORT "U";

@@ -1,0 +1,3 @@
+SET SCALE 2 ROUNDING HALF_UP;
+INPUT "T" ("a" TEXT CODES ('A', 'B'), "b" INTEGER) KEY ("a");
+EXPORT "T";

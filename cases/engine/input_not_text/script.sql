@@ -1,0 +1,3 @@
+SET SCALE 2 ROUNDING HALF_UP;
+INPUT "T" ("a" TEXT, "b" TEXT) KEY ("a");
+EXPORT "T";

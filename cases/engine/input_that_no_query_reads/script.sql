@@ -1,0 +1,4 @@
+SET SCALE 2 ROUNDING HALF_UP;
+INPUT "T" ("id" INTEGER, "k" INTEGER, "v" INTEGER) KEY ("id");
+INPUT "S" ("a" TEXT) KEY ("a");
+EXPORT "T";

@@ -1,0 +1,3 @@
+SET SCALE 2 ROUNDING HALF_UP;
+INPUT "T" ("e" TEXT, "d" INTEGER, "c" TEXT, "b" TEXT, "a" INTEGER) KEY ("b", "d");
+EXPORT "T";

@@ -1,0 +1,3 @@
+SET SCALE 2 ROUNDING HALF_UP;
+INPUT "S" ("a" TEXT) KEY ("a");
+INPUT "R" ("a" TEXT) KEY ("a");

@@ -1,0 +1,8 @@
+SET SCALE 2 ROUNDING HALF_UP;
+INPUT "S" ("a" TEXT) KEY ("a");
+INPUT "R" ("a" TEXT) KEY ("a");
+CREATE TABLE "U" AS
+  SELECT "r"."a" AS "a"
+  FROM "R" AS "r"
+  CROSS JOIN "S" AS "s";
+EXPORT "U";

@@ -1,0 +1,3 @@
+SET SCALE 2 ROUNDING HALF_UP;
+INPUT "R" ("a" TEXT) KEY ("a");
+INPUT "S" ("a" TEXT) KEY ("a");

@@ -1,0 +1,6 @@
+SET SCALE 2 ROUNDING HALF_UP;
+INPUT "T" ("id" INTEGER, "k" INTEGER, "v" INTEGER) KEY ("id");
+EXPORT "T";
+CREATE TABLE "U" AS
+  SELECT 1 / "t"."v" AS "x"
+  FROM "T" AS "t";

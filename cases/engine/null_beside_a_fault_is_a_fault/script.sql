@@ -1,0 +1,6 @@
+SET SCALE 2 ROUNDING HALF_UP;
+INPUT "T" ("id" INTEGER, "k" INTEGER, "v" INTEGER) KEY ("id");
+CREATE TABLE "U" AS
+  SELECT NULL + 1 / ("t"."id" - 3) AS "c"
+  FROM "T" AS "t";
+EXPORT "U";

@@ -1,0 +1,7 @@
+SET SCALE 2 ROUNDING HALF_UP;
+INPUT "T" ("id" INTEGER, "k" INTEGER, "v" INTEGER) KEY ("id");
+CREATE TABLE "U" AS
+  SELECT "t"."id" AS "id", "t"."k" / 0 AS "c"
+  FROM "T" AS "t"
+  WHERE "t"."k" IS NULL;
+EXPORT "U";

@@ -1,0 +1,6 @@
+SET SCALE 2 ROUNDING HALF_UP;
+INPUT "N" ("id" INTEGER, "i" INTEGER, "j" INTEGER, "n" NUMBER, "m" NUMBER) KEY ("id");
+CREATE TABLE "U" AS
+  SELECT "n"."id" AS "id", NULL + NULL AS "a", -NULL AS "b", NULL / 0 AS "c", NULL || NULL AS "d", NULL = NULL AS "e", NULL AND FALSE AS "f", NULL OR TRUE AS "g", LENGTH(NULL) AS "h", ABS(NULL) AS "i", ROUND(NULL, 1) AS "j"
+  FROM "N" AS "n";
+EXPORT "U";

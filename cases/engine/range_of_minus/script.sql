@@ -1,0 +1,6 @@
+SET SCALE 2 ROUNDING HALF_UP;
+INPUT "R" ("i" INTEGER, "n" NUMBER) KEY ("i");
+CREATE TABLE "U" AS
+  SELECT -"r"."i" - 1 AS "x"
+  FROM "R" AS "r";
+EXPORT "U";

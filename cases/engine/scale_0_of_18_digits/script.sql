@@ -1,0 +1,6 @@
+SET SCALE 0 ROUNDING HALF_UP;
+INPUT "S" ("i" INTEGER) KEY ("i");
+CREATE TABLE "U" AS
+  SELECT "s"."i" AS "a", -"s"."i" AS "b", 999999999999999999 AS "c"
+  FROM "S" AS "s";
+EXPORT "U";

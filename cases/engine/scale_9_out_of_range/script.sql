@@ -1,0 +1,6 @@
+SET SCALE 9 ROUNDING HALF_UP;
+INPUT "S" ("i" INTEGER) KEY ("i");
+CREATE TABLE "U" AS
+  SELECT "s"."i" + 1 AS "a"
+  FROM "S" AS "s";
+EXPORT "U";

@@ -1,0 +1,7 @@
+SET SCALE 2 ROUNDING HALF_UP;
+INPUT "T" ("id" INTEGER, "i" INTEGER, "n" NUMBER) KEY ("id");
+CREATE TABLE "U" AS
+  SELECT SUM("t"."n") AS "c"
+  FROM "T" AS "t"
+  WHERE "t"."id" > 1000;
+EXPORT "U";

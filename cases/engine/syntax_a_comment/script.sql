@@ -1,0 +1,4 @@
+SET SCALE 2 ROUNDING HALF_UP;
+INPUT "T" ("id" INTEGER, "k" INTEGER, "v" INTEGER) KEY ("id");
+-- all of it
+EXPORT "T";

@@ -1,0 +1,2 @@
+SET SCALE 2 ROUNDING HALF_UP;
+export "T";

@@ -1,0 +1,2 @@
+SET SCALE 2 ROUNDING HALF_UP;
+INPUT "1a" ("id" INTEGER) KEY ("id");

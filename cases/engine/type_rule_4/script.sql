@@ -1,0 +1,5 @@
+SET SCALE 2 ROUNDING HALF_UP;
+INPUT "T" ("id" INTEGER, "k" INTEGER, "v" INTEGER) KEY ("id");
+CREATE TABLE "U" AS
+  SELECT "t"."id" AS "c", "t"."v" AS "c"
+  FROM "T" AS "t";

@@ -1,0 +1,8 @@
+SET SCALE 2 ROUNDING HALF_UP;
+INPUT "T" ("id" INTEGER, "k" INTEGER, "v" INTEGER) KEY ("id");
+CREATE TABLE "U" AS
+  SELECT "t"."q" AS "c"
+  FROM "T" AS "t";
+CREATE TABLE "V" AS
+  SELECT RANK() OVER (ORDER BY "t"."v") AS "w"
+  FROM "T" AS "t";

@@ -1,0 +1,9 @@
+SET SCALE 2 ROUNDING HALF_UP;
+INPUT "T" ("id" INTEGER, "k" INTEGER, "v" INTEGER) KEY ("id");
+EXPORT "T";
+CREATE TABLE "U" AS
+  SELECT "t"."id" AS "w"
+  FROM "T" AS "t"
+  UNION ALL
+  SELECT RANK() OVER (ORDER BY "t"."v") AS "w"
+  FROM "T" AS "t";

@@ -1,0 +1,11 @@
+SET SCALE 2 ROUNDING HALF_UP;
+INPUT "T" ("id" INTEGER, "i" INTEGER, "n" NUMBER, "s" TEXT) KEY ("id");
+CREATE TABLE "U" AS
+  SELECT "t"."id" AS "x"
+  FROM "T" AS "t"
+  WHERE FALSE
+  UNION ALL
+  SELECT "t"."id" AS "x"
+  FROM "T" AS "t"
+  WHERE NULL;
+EXPORT "U";

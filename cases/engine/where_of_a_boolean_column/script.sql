@@ -1,0 +1,7 @@
+SET SCALE 2 ROUNDING HALF_UP;
+INPUT "B" ("a" INTEGER, "b" BOOLEAN) KEY ("a");
+CREATE TABLE "U" AS
+  SELECT "u"."a" AS "a"
+  FROM "B" AS "u"
+  WHERE "u"."b";
+EXPORT "U";

@@ -1,0 +1,11 @@
+SET SCALE 2 ROUNDING HALF_UP;
+INPUT "T" ("id" INTEGER, "k" INTEGER, "v" INTEGER) KEY ("id");
+CREATE TABLE "U" AS
+  SELECT "t"."id" AS "id"
+  FROM "T" AS "t";
+CREATE TABLE "V" AS
+  SELECT "t"."k" AS "k"
+  FROM "T" AS "t";
+EXPORT "V";
+EXPORT "U";
+EXPORT "T";

@@ -1,0 +1,7 @@
+SET SCALE 6 ROUNDING HALF_UP;
+INPUT "T" ("k" TEXT, "i" INTEGER, "n" NUMBER, "s" TEXT, "b" BOOLEAN, "d" DATE, "p" PERIOD) KEY ("k");
+CREATE TABLE "U" AS
+  SELECT "t"."k" AS "k"
+  FROM "T" AS "t"
+  WHERE "t"."s" = 'a;
+EXPORT "U";

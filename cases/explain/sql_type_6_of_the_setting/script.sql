@@ -1,0 +1,2 @@
+SET SCALE 10 ROUNDING HALF_UP;
+INPUT "T" ("k" TEXT, "i" INTEGER, "n" NUMBER, "s" TEXT, "b" BOOLEAN, "d" DATE, "p" PERIOD) KEY ("k");
