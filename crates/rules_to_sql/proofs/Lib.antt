@@ -1,0 +1,3 @@
+pub mod WrittenNumbers
+pub mod WrittenConstants
+pub mod TypedCalls

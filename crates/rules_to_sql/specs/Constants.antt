@@ -1,8 +1,7 @@
 -- Values as constants and as literals of SQL. A number always has a point, so that it is not read as an integer, and a negative one
 -- stands behind a sign.
-use Rattle.std.specs.Prelude.{ℕ, ℤ, ◌/◌, ◌%◌, ◌^◌, Bool, true, false, List, [], ◌∷◌, ◌++◌, unsigned_abs}
+use Rattle.std.specs.Prelude.{ℕ, ℤ, pos, negsuc, ◌/◌, ◌%◌, ◌^◌, Bool, true, false, List, [], ◌∷◌, ◌++◌, unsigned_abs}
 use Rattle.std.specs.Fmt.{decimal}
-use Rattle.std.specs.Int.{is_negative}
 use Rattle.vtl_decimal.specs.Written.{shortest_digits}
 use Rattle.vtl_time.specs.Days.{day_text}
 use Rattle.vtl_time.specs.Periods.{period_text}
@@ -37,6 +36,10 @@ integer_size n = numeral.Int (decimal (unsigned_abs n))
 abbrev pub number_size : Settings → ℤ → Numeral
 number_size p n = numeral.Dec (decimal_text p.scale (unsigned_abs n))
 
+abbrev pub is_below_zero : ℤ → Bool
+is_below_zero (pos n) = false
+is_below_zero (negsuc n) = true
+
 abbrev pub signed : (negative : Bool) → Numeral → Exp
 signed false n = tree.constant (constant.Number n)
 signed true n = tree.unary op.Negate (tree.constant (constant.Number n))
@@ -50,8 +53,8 @@ truth_constant false = constant.False
 abbrev pub const_to_sql : Settings → Cell → Exp
 const_to_sql p c.Null = tree.constant constant.Null
 const_to_sql p (c.Bool b) = tree.constant (truth_constant b)
-const_to_sql p (c.Int n) = signed (is_negative n) (integer_size n)
-const_to_sql p (c.Num n) = signed (is_negative n) (number_size p n)
+const_to_sql p (c.Int n) = signed (is_below_zero n) (integer_size n)
+const_to_sql p (c.Num n) = signed (is_below_zero n) (number_size p n)
 const_to_sql p (c.Text t) = tree.constant (constant.Text t)
 const_to_sql p (c.Day d) = tree.constant (constant.Date (day_text d))
 const_to_sql p (c.Period q) = tree.constant (constant.Period (period_text q))
@@ -66,8 +69,8 @@ truth_literal false = literal.False
 abbrev pub literal_to_sql : Settings → Cell → Literal
 literal_to_sql p c.Null = literal.False
 literal_to_sql p (c.Bool b) = truth_literal b
-literal_to_sql p (c.Int n) = literal.Number (is_negative n) (integer_size n)
-literal_to_sql p (c.Num n) = literal.Number (is_negative n) (number_size p n)
+literal_to_sql p (c.Int n) = literal.Number (is_below_zero n) (integer_size n)
+literal_to_sql p (c.Num n) = literal.Number (is_below_zero n) (number_size p n)
 literal_to_sql p (c.Text t) = literal.Text t
 literal_to_sql p (c.Day d) = literal.Date (day_text d)
 literal_to_sql p (c.Period q) = literal.Period (period_text q)
