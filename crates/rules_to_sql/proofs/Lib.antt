@@ -1,3 +1,6 @@
 pub mod WrittenNumbers
 pub mod WrittenConstants
 pub mod TypedCalls
+pub mod KeptKinds
+pub mod SetMembers
+pub mod KeptValues
