@@ -28,7 +28,10 @@ module _ (p : Settings) (at : Naming) (s : Scope) where
   abbrev pub KindsStay : CompExps → Type 0
   KindsStay es = kinds_in s (all_to_sql p at es) ≡ comp_kinds es
 
-  rest_stay : (a : CompExp) (es : CompExps) → KindsStay (comp_exp a es) → KindsStay es
+  pub first_stays : (a : CompExp) (es : CompExps) → KindsStay (comp_exp a es) → sql a ≡ exp_kind a
+  first_stays a es i = cc
+
+  pub rest_stay : (a : CompExp) (es : CompExps) → KindsStay (comp_exp a es) → KindsStay es
   rest_stay a es i = cc
 
   pub call_kind : (o : ScalarOp) (args : CompExps) (kind : Kind) → Form o args kind → KindsStay args → sql (comp.call o kind args) ≡ kind

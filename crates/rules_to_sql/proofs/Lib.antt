@@ -4,3 +4,5 @@ pub mod TypedCalls
 pub mod KeptKinds
 pub mod SetMembers
 pub mod KeptValues
+pub mod LiteralOperands
+pub mod FittingExpressions
