@@ -1,8 +1,10 @@
 pub mod WrittenNumbers
 pub mod WrittenConstants
+pub mod FormedConstants
 pub mod TypedCalls
-pub mod KeptKinds
 pub mod SetMembers
-pub mod KeptValues
 pub mod LiteralOperands
+pub mod KeptKinds
+pub mod KeptValues
 pub mod FittingExpressions
+pub mod FormedExpressions

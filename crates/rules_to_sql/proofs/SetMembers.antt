@@ -3,6 +3,7 @@ use Rattle.std.proofs.Common.{◌≡◌, ℕ, ◌≤◌, Bool, true, false, not,
 use Rattle.std.specs.Prelude.{is_some, unwrap_or}
 use Rattle.std.specs.List.{AllByRecursion}
 use Rattle.std.proofs.lemmas.Bool.{and_parts}
+use Rattle.grammar_forms.specs.Written.{Each}
 use Rattle.vtl_cell.specs.Kinds.{is_null}
 use Rattle.vtl_cell.specs.Outcome.{Outcome}
 use Rattle.vtl_cell.specs.Settings.{Settings}
@@ -15,6 +16,7 @@ use Rattle.vtl_tree.specs.declared.expression.AggCall.{AggCall}
 use Rattle.check_values.specs.Kinds.{exp_kind}
 use Rattle.vtl_meaning.specs.Literals.{all_pass, is_member}
 use Rattle.vtl_meaning.specs.Made.{kinds_in}
+use Rattle.sql_tree.specs.Formed.{IsLiteral}
 use Rattle.sql_tree.specs.Trees.{Text}
 use Rattle.sql_check_laws.specs.Fits.{HasValue}
 use Rattle.sql_check_parts.specs.Literals.{literal_kind}
@@ -22,6 +24,7 @@ use Rattle.sql_meaning.specs.Values.{literal_cell}
 use Rattle.rules_to_sql.specs.Groups.{AreTypedOver, IsTypedOver, value_over, values_over}
 use Rattle.rules_to_sql.specs.Held.{AllHoldValues, HoldsValues}
 use Rattle.rules_to_sql.specs.ToSql.{member_to_sql, members_to_sql}
+use Rattle.rules_to_sql.proofs.FormedConstants.{literal_formed}
 use Rattle.rules_to_sql.proofs.WrittenConstants.{literal_is, member_kind}
 
 -- a constant that is not null
@@ -46,6 +49,7 @@ module _ (p : Settings) (low : p.scale ≤ 9) (columns : ℕ → Text → Kind �
     pub kind : literal_kind (member_to_sql p e) ≡ exp_kind e
     pub read : literal_cell p (member_to_sql p e) ≡ cell
     pub there : HasValue p (member_to_sql p e)
+    pub formed : IsLiteral (member_to_sql p e)
 
   literally : (e : CompExp) → Member e → IsTypedOver p columns aggregates e → HoldsValues e → Literally e
   literally _ (member v n) i h = record {
@@ -54,6 +58,7 @@ module _ (p : Settings) (low : p.scale ≤ 9) (columns : ℕ → Text → Kind �
     kind = member_kind p v n;
     read = ap (λ o. unwrap_or o c.Null) (literal_is p low v h i n);
     there = ap is_some (literal_is p low v h i n);
+    formed = literal_formed p low v h i;
   }
 
   abbrev pub AreLiterals : CompExps → Type 0
@@ -77,3 +82,7 @@ module _ (p : Settings) (low : p.scale ≤ 9) (columns : ℕ → Text → Kind �
   pub members_there : (es : CompExps) → AreLiterals es → AllByRecursion (HasValue p) (members_to_sql p es)
   members_there no_comp_exps m = tt
   members_there (comp_exp e es) m = (m.0.there, members_there es m.1)
+
+  pub members_formed : (es : CompExps) → AreLiterals es → Each IsLiteral (members_to_sql p es)
+  members_formed no_comp_exps m = tt
+  members_formed (comp_exp e es) m = (m.0.formed, members_formed es m.1)
