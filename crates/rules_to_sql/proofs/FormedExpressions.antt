@@ -1,9 +1,8 @@
 -- An expression has in SQL the form that the grammar spells.
-use Rattle.std.proofs.Common.{◌≡◌, ℕ, ◌≤◌, Bool, true, false, List, [], ◌∷◌, length, refl, sym, subst, arith}
+use Rattle.std.proofs.Common.{ℕ, ◌≤◌, refl, sym, subst, arith}
 use Rattle.vtl_cell.specs.Settings.{Settings}
 use Rattle.vtl_cell.specs.declared.kind.Kind.{Kind}
 use Rattle.vtl_cell.specs.declared.operator.ScalarOp.{ScalarOp}
-use Rattle.vtl_cell.specs.declared.operator.ScalarOp.TheVariants as op
 use Rattle.vtl_tree.specs.CompExp as comp
 use Rattle.vtl_tree.specs.CompExp.{CompExp, CompExps, no_comp_exps, comp_exp}
 use Rattle.vtl_tree.specs.declared.expression.AggCall.{AggCall}
@@ -15,7 +14,7 @@ use Rattle.rules_to_sql.specs.Held.{AllHoldValues, HoldsValues}
 use Rattle.rules_to_sql.specs.ToSql.{Naming, aggregate_to_sql, all_to_sql, members_behind, to_sql}
 use Rattle.rules_to_sql.proofs.FormedConstants.{const_formed}
 use Rattle.rules_to_sql.proofs.SetMembers.{are_literals, members_formed}
-use Rattle.rules_to_sql.proofs.TypedCalls.{Form, before, between, called, chosen, form_of, listed, long, one, short, tested, three, two, unlisted}
+use Rattle.rules_to_sql.proofs.TypedCalls.{Form, before, between, called, chosen, form_of, listed, long, one, short, tested, two, unlisted}
 
 module _ (p : Settings) (low : p.scale ≤ 9) (at : Naming) (columns : ℕ → Text → Kind → Type 0) (aggregates : AggCall → Kind → Type 0) where
   call_formed : (o : ScalarOp) (args : CompExps) (kind : Kind) → Form o args kind → HasLiterals o args → AreTypedOver p columns aggregates args → AllHoldValues args → EachFormed (all_to_sql p at args) → Formed (to_sql p at (comp.call o kind args))

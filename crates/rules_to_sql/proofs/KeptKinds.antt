@@ -1,6 +1,5 @@
 -- An expression has in SQL the kind that it has in VTL.
-use Rattle.std.proofs.Common.{◌≡◌, ℕ, Bool, true, false, List, [], ◌∷◌, ◌++◌, Option, Some, None, refl, ap, ◌∙◌}
-use Rattle.std.specs.Prelude.{if◌then◌else◌}
+use Rattle.std.proofs.Common.{◌≡◌, ℕ, [], ◌∷◌, ◌++◌, Some, refl, ap, ◌∙◌}
 use Rattle.vtl_cell.specs.ScalarKinds.{common_kind}
 use Rattle.vtl_cell.specs.Settings.{Settings}
 use Rattle.vtl_cell.specs.declared.kind.Kind.{Kind}
@@ -12,12 +11,11 @@ use Rattle.vtl_tree.specs.CompExp.{CompExp, CompExps, no_comp_exps, comp_exp}
 use Rattle.vtl_tree.specs.declared.expression.AggCall.{AggCall}
 use Rattle.check_values.specs.Kinds.{exp_kind}
 use Rattle.vtl_meaning.specs.Made.{kinds_in as comp_kinds}
-use Rattle.sql_tree.specs.Trees as tree
-use Rattle.sql_tree.specs.Trees.{Exp, Exps, Text}
+use Rattle.sql_tree.specs.Trees.{Text}
 use Rattle.sql_check_parts.specs.Kinds.{kind_in, kinds_in, operator_kind}
 use Rattle.sql_check_parts.specs.Scopes.{Scope, found, or_null}
 use Rattle.rules_to_sql.specs.Groups.{AreTypedOver, IsTypedOver}
-use Rattle.rules_to_sql.specs.ToSql.{Naming, aggregate_to_sql, all_to_sql, members_behind, placed, to_sql}
+use Rattle.rules_to_sql.specs.ToSql.{Naming, aggregate_to_sql, all_to_sql, members_behind, to_sql}
 use Rattle.rules_to_sql.proofs.TypedCalls.{Form, before, between, called, chosen, form_of, listed, long, one, short, tested, two, unlisted}
 use Rattle.rules_to_sql.proofs.WrittenConstants.{const_kind}
 

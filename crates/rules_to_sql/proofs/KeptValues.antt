@@ -1,6 +1,5 @@
 -- An expression has in SQL the value that it has in VTL, faults included.
-use Rattle.std.proofs.Common.{◌≡◌, ℕ, ◌≤◌, Bool, true, false, List, [], ◌∷◌, map, Option, Some, None, Ok, Err, refl, ap, ◌∙◌}
-use Rattle.std.specs.Prelude.{if◌then◌else◌}
+use Rattle.std.proofs.Common.{◌≡◌, ℕ, ◌≤◌, Bool, true, false, List, [], ◌∷◌, map, Some, Ok, Err, refl, ap, ◌∙◌}
 use Rattle.vtl_cell.specs.Conversion.{as_kind}
 use Rattle.vtl_cell.specs.Outcome.{Outcome, after}
 use Rattle.vtl_cell.specs.Outcomes.{branch, first_chosen}
@@ -19,8 +18,7 @@ use Rattle.vtl_tree.specs.declared.expression.AggCall.{AggCall}
 use Rattle.vtl_meaning.specs.Literals.{HasLiterals}
 use Rattle.vtl_meaning.specs.Made.{kinds_in as comp_kinds}
 use Rattle.sql_tree.specs.Formed.{is_binary, is_function, is_unary}
-use Rattle.sql_tree.specs.Trees as tree
-use Rattle.sql_tree.specs.Trees.{Exp, Exps, Text}
+use Rattle.sql_tree.specs.Trees.{Exp, Text}
 use Rattle.sql_check_parts.specs.Kinds.{kind_in, kinds_in, operator_kind}
 use Rattle.sql_check_parts.specs.Scopes.{found, or_null}
 use Rattle.sql_meaning.specs.Outcomes.{operated}

@@ -8,3 +8,6 @@ pub mod KeptKinds
 pub mod KeptValues
 pub mod FittingExpressions
 pub mod FormedExpressions
+pub mod OverPoints
+pub mod OverGroups
+pub mod ExpressionDepths

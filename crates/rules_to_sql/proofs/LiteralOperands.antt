@@ -1,9 +1,7 @@
 -- Operands that have to be literals are literals in SQL, in the same intervals.
-use Rattle.std.proofs.Common.{◌≡◌, ℕ, ℤ, pos, negsuc, Bool, true, false, ◌&&◌, List, [], ◌∷◌, Some, None, refl, ap, ◌∙◌, arith}
+use Rattle.std.proofs.Common.{◌≡◌, ℕ, ℤ, pos, negsuc, true, ◌&&◌, Some, refl, ap, ◌∙◌, arith}
 use Rattle.std.proofs.lemmas.Bool.{and_parts}
-use Rattle.vtl_cell.specs.Profile.{IsOfProfile}
 use Rattle.vtl_cell.specs.Settings.{Settings}
-use Rattle.vtl_cell.specs.declared.cell.Cell.{Cell}
 use Rattle.vtl_cell.specs.declared.cell.Cell.TheVariants as c
 use Rattle.vtl_cell.specs.declared.kind.Kind.{Kind}
 use Rattle.vtl_cell.specs.declared.operator.ScalarOp.{ScalarOp}
@@ -15,7 +13,7 @@ use Rattle.vtl_tree.specs.declared.expression.AggCall.{AggCall}
 use Rattle.vtl_meaning.specs.Literals as vtl
 use Rattle.vtl_meaning.specs.Literals.{HasLiterals, is_integer}
 use Rattle.sql_tree.specs.Trees.{Text}
-use Rattle.sql_check_parts.specs.Literals.{are_digits, integer_in, is_place, is_size, literals_fit}
+use Rattle.sql_check_parts.specs.Literals.{are_digits, integer_in, is_size, literals_fit}
 use Rattle.rules_to_sql.specs.Groups.{AreTypedOver, IsTypedOver}
 use Rattle.rules_to_sql.specs.ToSql.{Naming, all_to_sql, to_sql}
 use Rattle.rules_to_sql.proofs.WrittenConstants.{integer_there}

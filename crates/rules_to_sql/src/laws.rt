@@ -5,6 +5,7 @@ ghost use Rattle.vtl_cell.specs.Settings.{Settings};
 ghost use Rattle.vtl_tree.specs.CompExp.{CompExp};
 ghost use Rattle.vtl_tree.specs.Value as points;
 ghost use Rattle.vtl_tree.specs.declared.structure.Component.{Component};
+ghost use Rattle.check_laws.specs.Depths.{comp_depth};
 ghost use Rattle.check_values.specs.Kinds.{exp_kind};
 ghost use Rattle.vtl_meaning.specs.Made.{IsTyped};
 ghost use Rattle.sql_tree.specs.Formed.{Formed, exp_depth};
@@ -51,4 +52,10 @@ pub fn expressions_are_formed()
         → Formed (to_sql p at e) }
     ensures groups { (p : Settings) (alias : Text) (names : List Text) (xs : List Component) → p.scale ≤ 9 → AreNamesFormed (of_source alias) xs → (e : CompExp) → IsTypedInGroups p names xs e → HoldsValues e
         → Formed (to_sql p (of_source alias) e) }
+{}
+
+/// An expression is in SQL at most one deeper than in VTL.
+#[tactic(auto, using(crate::proofs::ExpressionDepths::depth_grows))]
+pub fn depths_grow_by_one()
+    ensures { (p : Settings) (at : Naming) (e : CompExp) → exp_depth (to_sql p at e) ≤ suc (comp_depth e) }
 {}

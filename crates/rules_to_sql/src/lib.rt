@@ -10,5 +10,5 @@
 mod laws;
 
 pub use laws::{
-    expressions_are_formed, expressions_fit, kinds_stay, values_stay,
+    depths_grow_by_one, expressions_are_formed, expressions_fit, kinds_stay, values_stay,
 };
