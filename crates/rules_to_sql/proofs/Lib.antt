@@ -11,3 +11,5 @@ pub mod FormedExpressions
 pub mod OverPoints
 pub mod OverGroups
 pub mod ExpressionDepths
+pub mod ConstantTexts
+pub mod Views

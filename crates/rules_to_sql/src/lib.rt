@@ -7,8 +7,13 @@
 //! Begin with specs/ToSql.antt, Constants.antt and Groups.antt, then `laws.rt`.
 #![tactic(auto)]
 
+mod aliases;
+mod constants;
 mod laws;
+mod texts;
 
+pub use aliases::Aliases;
+pub use constants::constant;
 pub use laws::{
     depths_grow_by_one, expressions_are_formed, expressions_fit, kinds_stay, values_stay,
 };
