@@ -13,3 +13,5 @@ pub mod OverGroups
 pub mod ExpressionDepths
 pub mod ConstantTexts
 pub mod Views
+pub mod MadeParts
+pub mod BracketedCalls

@@ -4,3 +4,4 @@ pub mod Names
 pub mod Held
 pub mod Groups
 pub mod Aliases
+pub mod CallForms

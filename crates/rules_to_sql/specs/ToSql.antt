@@ -85,3 +85,7 @@ abbrev mutual
   pub members_behind : Settings → CompExps → List Literal
   members_behind p comp.no_comp_exps = []
   members_behind p (comp.comp_exp e es) = members_to_sql p es
+
+-- a call of an operator on operands
+abbrev pub call_to_sql : Settings → Naming → ScalarOp → CompExps → Exp
+call_to_sql p at o args = operator_to_sql o (members_behind p args) (all_to_sql p at args)

@@ -9,11 +9,14 @@
 
 mod aliases;
 mod constants;
+mod forms;
 mod laws;
 mod texts;
+mod translation;
 
 pub use aliases::Aliases;
 pub use constants::constant;
 pub use laws::{
     depths_grow_by_one, expressions_are_formed, expressions_fit, kinds_stay, values_stay,
 };
+pub use translation::comp_to_sql;
