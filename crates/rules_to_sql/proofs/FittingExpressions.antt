@@ -40,10 +40,11 @@ module _ (here : Site) (group : Option Grouping) (at : Naming) (low : here.setti
 
   set_fits : (negated : Bool) (a b : CompExp) (es : CompExps) → operator_kind op.In (exp_kind a ∷ exp_kind b ∷ comp_kinds es) ≡ Some k.Bool → AreLiterals p low columns aggregates (comp_exp b es) → KindsStay p at s (comp_exp a (comp_exp b es)) → Fits here group (sql a)
       → Fits here group (tree.in_list (sql a) negated (members_to_sql p (comp_exp b es)))
-  set_fits negated a b es h m i f =
-      (f,
-      ap is_some (ap (λ l. operator_kind op.In (kind_in s (sql a) ∷ l)) (members_kinds p low columns aggregates (comp_exp b es) m) ∙ ap (λ q. operator_kind op.In (q ∷ comp_kinds (comp_exp b es))) (first_stays p at s a (comp_exp b es) i) ∙ h),
-      members_there p low columns aggregates (comp_exp b es) m)
+  set_fits negated a b es h m i f = (
+    f,
+    ap is_some (ap (λ l. operator_kind op.In (kind_in s (sql a) ∷ l)) (members_kinds p low columns aggregates (comp_exp b es) m) ∙ ap (λ q. operator_kind op.In (q ∷ comp_kinds (comp_exp b es))) (first_stays p at s a (comp_exp b es) i) ∙ h),
+    members_there p low columns aggregates (comp_exp b es) m,
+  )
 
   -- the kinds of operands that are as in VTL meet the operator
   met : (o : ScalarOp) (args : CompExps) (kind : Kind) → operator_kind o (comp_kinds args) ≡ Some kind → KindsStay p at s args → is_some (operator_kind o (kinds_in s (all_to_sql p at args))) ≡ true

@@ -15,3 +15,4 @@ pub mod ConstantTexts
 pub mod Views
 pub mod MadeParts
 pub mod BracketedCalls
+mod Examples

@@ -1,5 +1,5 @@
 -- Component expressions in SQL: each operator is one operator.
-use Rattle.std.specs.Prelude.{ℕ, Bool, true, false, List, [], ◌∷◌, Option, Some, None}
+use Rattle.std.specs.Prelude.{ℕ, Bool, true, false, List, [], ◌∷◌, map, Option, Some, None}
 use Rattle.vtl_cell.specs.Settings.{Settings}
 use Rattle.vtl_cell.specs.declared.operator.AggKind.{AggKind}
 use Rattle.vtl_cell.specs.declared.operator.ScalarOp.{ScalarOp}
@@ -27,6 +27,10 @@ column_of alias name = record { source = alias; name = name }
 -- one source, of which a component is the column of its name
 abbrev pub of_source : Text → Naming
 of_source alias place name = column_of alias name
+
+-- the columns of GROUP BY of one source
+abbrev pub group_columns : (alias : Text) → List Text → List Column
+group_columns alias names = map (column_of alias) names
 
 -- ---- operators
 

@@ -33,13 +33,7 @@ impl Aliases<'_> {
                 first,
                 second,
                 width,
-            } => {
-                if place < *width {
-                    first
-                } else {
-                    second
-                }
-            }
+            } => { if place < *width { first } else { second } }
         }
     }
 

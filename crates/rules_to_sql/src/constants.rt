@@ -33,7 +33,7 @@ fn truth(b: bool) -> Constant
 /// A value as a constant: numbers are written with a point, and negative ones behind a sign. It fails only if memory
 /// runs out.
 #[tactic(auto, using(crate::proofs::Views::views))]
-pub fn constant(alloc: Global, cell: &Cell, p: &Profile) -> Result<SqlExpr, AllocError>
+pub fn const_to_sql(alloc: Global, cell: &Cell, p: &Profile) -> Result<SqlExpr, AllocError>
     ensures exp { IfOk result (λ x. expr_tree x ≡ const_to_sql p.now cell.now) }
     ensures held { IfOk result (λ x. IsHeld cell.now) }
 {
@@ -55,7 +55,7 @@ fn truth_literal(b: bool) -> Literal
 }
 
 /// A value as a literal of a set, in which null does not stand. It fails only if memory runs out.
-pub(crate) fn literal(alloc: Global, cell: &Cell, p: &Profile) -> Result<Literal, AllocError>
+pub(crate) fn literal_to_sql(alloc: Global, cell: &Cell, p: &Profile) -> Result<Literal, AllocError>
     ensures literal { IfOk result (λ x. x ≡ literal_to_sql p.now cell.now) }
     ensures held { IfOk result (λ x. IsHeld cell.now) }
 {

@@ -6,12 +6,11 @@ ghost use Rattle.sql_tree.specs.View.{expr_tree};
 ghost use Rattle.vtl_tree.specs.View.{comp_exp_of, comp_exps_of};
 ghost use Rattle.rules_to_sql.specs.Aliases.{naming};
 ghost use Rattle.rules_to_sql.specs.Held.{AllHold, HoldsValues, IsMemberHeld, OperandsHold, asks_a_set};
-
 ghost use Rattle.rules_to_sql.specs.ToSql.{aggregate_to_sql, all_to_sql, call_to_sql, empty_text, member_to_sql, members_to_sql, to_sql};
 
-use crate::constants::{constant, literal};
-use crate::forms::{CallForm, form_at};
 use crate::Aliases;
+use crate::constants::{const_to_sql, literal_to_sql};
+use crate::forms::{CallForm, form_at};
 use sql_tree::{Branch, Constant, Literal, SqlExpr};
 use std::alloc::{AllocError, Global};
 use vtl_cell::{AggKind, List, Profile, ScalarOp, Txt};
@@ -115,7 +114,7 @@ fn member(alloc: Global, e: &CompExpr, p: &Profile) -> Result<Literal, AllocErro
     ensures held { IfOk result (λ x. IsMemberHeld (comp_exp_of e.now)) }
 {
     match e {
-        CompExpr::Const(cell) => literal(alloc, cell, p),
+        CompExpr::Const(cell) => literal_to_sql(alloc, cell, p),
         _ => Ok(Literal::False),
     }
 }
@@ -168,7 +167,7 @@ pub fn comp_to_sql(
 {
     match e {
         CompExpr::Column { place, name, .. } => Ok(SqlExpr::Column(at.column(*place, name)?)),
-        CompExpr::Const(cell) => constant(alloc, cell, p),
+        CompExpr::Const(cell) => const_to_sql(alloc, cell, p),
         CompExpr::Apply { op, args, .. } => applied(alloc, *op, args, at, p),
         CompExpr::Aggregate { call, .. } => aggregate(alloc, call.kind, &call.component, at),
     }
