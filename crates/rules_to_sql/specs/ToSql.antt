@@ -63,6 +63,11 @@ abbrev pub members_to_sql : Settings → CompExps → List Literal
 members_to_sql p comp.no_comp_exps = []
 members_to_sql p (comp.comp_exp e es) = member_to_sql p e ∷ members_to_sql p es
 
+-- what stands behind the first operand
+abbrev pub members_behind : Settings → CompExps → List Literal
+members_behind p comp.no_comp_exps = []
+members_behind p (comp.comp_exp e es) = members_to_sql p es
+
 -- ---- aggregates
 
 -- an aggregate stands over one source, where a column goes by its name alone
@@ -85,10 +90,6 @@ abbrev mutual
   pub all_to_sql : Settings → Naming → CompExps → Exps
   all_to_sql p at comp.no_comp_exps = tree.no_exps
   all_to_sql p at (comp.comp_exp e es) = tree.exp (to_sql p at e) (all_to_sql p at es)
-
-  pub members_behind : Settings → CompExps → List Literal
-  members_behind p comp.no_comp_exps = []
-  members_behind p (comp.comp_exp e es) = members_to_sql p es
 
 -- a call of an operator on operands
 abbrev pub call_to_sql : Settings → Naming → ScalarOp → CompExps → Exp

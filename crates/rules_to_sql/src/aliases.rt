@@ -29,11 +29,8 @@ impl Aliases<'_> {
     {
         match self {
             Aliases::One(alias) => alias,
-            Aliases::Two {
-                first,
-                second,
-                width,
-            } => { if place < *width { first } else { second } }
+            Aliases::Two { first, width, .. } if place < *width => first,
+            Aliases::Two { second, .. } => second,
         }
     }
 

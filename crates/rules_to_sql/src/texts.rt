@@ -1,6 +1,6 @@
 // The texts of constants.
 ghost use Rattle.std.specs.Fmt.{decimal, signed_decimal};
-ghost use Rattle.std.specs.Prelude.{◌≡◌, ◌==◌, ◌%◌, ◌^◌, ◌++◌, ◌∷◌, ◌<◌, ◌≤◌, [], IfOk, IsTrue, OnOk, unsigned_abs, if◌then◌else◌};
+ghost use Rattle.std.specs.Prelude.{◌≡◌, ◌==◌, ◌%◌, ◌^◌, ◌++◌, ◌<◌, ◌≤◌, [], IfOk, IsTrue, OnOk, codes, unsigned_abs, if◌then◌else◌};
 ghost use Rattle.std.specs.Str.{IsAscii, all_scalars};
 ghost use Rattle.vtl_time.specs.Days.{day_text, is_calendar_day};
 ghost use Rattle.vtl_time.specs.Periods.{is_year_part, period_text};
@@ -51,7 +51,7 @@ fn is_whole(size: u64, scale: u8) -> bool
 
 // Appends a point and a digit to the text of a whole number.
 fn push_point(bytes: &mut Vec<u8>, whole: bool) -> Result<(), AllocError>
-    ensures { OnOk result (bytes.new.items ≡ bytes.old.items ++ (if whole then 46 ∷ 48 ∷ [] else [])) }
+    ensures { OnOk result (bytes.new.items ≡ bytes.old.items ++ (if whole then codes ".0" else [])) }
 {
     if whole {
         bytes.extend_from_slice(b".0")?;

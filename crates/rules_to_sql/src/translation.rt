@@ -131,6 +131,9 @@ fn members(alloc: Global, exps: &[CompExpr], p: &Profile) -> Result<Vec<Literal>
     Ok(literals)
 }
 
+// An aggregate stands over one source, where a column goes by its name alone.
+const ANY_PLACE: usize = 0;
+
 // An aggregate of a component, or how many points there are.
 #[tactic(auto, using(crate::proofs::Views::views))]
 fn aggregate(
@@ -145,7 +148,7 @@ fn aggregate(
         None => Ok(SqlExpr::CountAll),
         Some(name) => Ok(SqlExpr::Aggregate {
             function,
-            operand: Box::new(alloc, SqlExpr::Column(at.column(0, name)?))?,
+            operand: Box::new(alloc, SqlExpr::Column(at.column(ANY_PLACE, name)?))?,
         }),
     }
 }
