@@ -1,0 +1,7 @@
+pub mod Constants
+pub mod ToSql
+pub mod Names
+pub mod Held
+pub mod Groups
+pub mod Aliases
+pub mod CallForms
