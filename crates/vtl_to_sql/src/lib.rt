@@ -1,0 +1,2 @@
+//! Typed scripts of VTL in the dialect of SQL.
+#![tactic(auto)]
