@@ -14,7 +14,8 @@ use Rattle.vtl_meaning.specs.Trees as nodes
 use Rattle.vtl_meaning.specs.Trees.{FormTree, NodeTree, structure_of}
 use Rattle.vtl_meaning.specs.clauses.SubItem.{SubItem}
 use Rattle.sql_tree.specs.Formed.{IsName}
-use Rattle.rules_to_sql.specs.Fits.{IsWritable, comp_depth}
+use Rattle.rules_to_sql.specs.Fits.{comp_depth}
+use Rattle.rules_to_sql.specs.Held.{HoldsValues}
 
 -- ---- parts
 
@@ -23,7 +24,7 @@ abbrev pub most_depth : ℕ
 most_depth = 200
 
 pub record CanBeWritten (e : CompExp) : Type 0 where
-  pub constants : IsWritable e
+  pub constants : HoldsValues e
   pub shallow : comp_depth e ≤ most_depth
 
 abbrev pub AllCanBeWritten : List CompExp → Type 0

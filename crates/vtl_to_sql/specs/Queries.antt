@@ -15,10 +15,9 @@ use Rattle.vtl_meaning.specs.Operators.{calculated_exps, measured_exps, pair_exp
 use Rattle.vtl_meaning.specs.Trees.{ItemTree as Target, MeasureTree}
 use Rattle.vtl_meaning.specs.clauses.SubItem.{SubItem}
 use Rattle.sql_tree.specs.Trees.{Text, Exp, ItemTree, JoinTree, QueryTree, SelectTree, expression, on}
-use Rattle.sql_tree.specs.declared.parts.Column.{Column}
 use Rattle.sql_tree.specs.declared.parts.Source.{Source}
 use Rattle.sql_tree.specs.declared.word_groups.JoinKind.TheVariants as joining
-use Rattle.rules_to_sql.specs.ToSql.{Naming, to_sql}
+use Rattle.rules_to_sql.specs.ToSql.{Naming, column_of, of_source, to_sql}
 
 -- ---- sources and the names of their columns
 
@@ -32,12 +31,9 @@ second_alias = codes "b"
 abbrev pub source_as : (alias table : Text) → Source
 source_as alias table = record { table = table; alias = alias }
 
-abbrev pub column_of : (alias name : Text) → Column
-column_of alias name = record { source = alias; name = name }
-
 -- the columns of one source
 abbrev pub of_one : Naming
-of_one place name = column_of first_alias name
+of_one = of_source first_alias
 
 -- the columns of two sources, of which the first has n
 abbrev pub of_two : ℕ → Naming
