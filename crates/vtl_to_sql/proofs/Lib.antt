@@ -5,3 +5,6 @@ pub mod Expressions
 pub mod Aggregates
 pub mod SelectRows
 pub mod SelectForms
+pub mod Sources
+pub mod Exact
+pub mod OneOperand
