@@ -8,3 +8,6 @@ pub mod SelectForms
 pub mod Sources
 pub mod Exact
 pub mod OneOperand
+pub mod Identifiers
+pub mod Conjunctions
+pub mod Subs

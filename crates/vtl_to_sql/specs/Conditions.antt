@@ -1,12 +1,13 @@
 -- Which expressions on data sets are translated: their names and constants can be written, and no expression is too deep to be
 -- printed.
-use Rattle.std.specs.Prelude.{◌≤◌, ℕ, List}
+use Rattle.std.specs.Prelude.{◌≡◌, ◌≤◌, ℕ, false, List, length}
 use Rattle.std.specs.List.{AllByRecursion}
 use Rattle.vtl_cell.specs.Held.{IsHeld}
+use Rattle.vtl_cell.specs.Kinds.{is_null}
 use Rattle.vtl_cell.specs.Profile.{IsOfProfile}
 use Rattle.vtl_cell.specs.Settings.{Settings}
 use Rattle.vtl_tree.specs.CompExp.{CompExp}
-use Rattle.vtl_tree.specs.Structure.{columns_of}
+use Rattle.vtl_tree.specs.Structure.{columns_of, most_components}
 use Rattle.vtl_tree.specs.declared.structure.Component.{Component}
 use Rattle.vtl_tree.specs.declared.structure.Structure.{Structure}
 use Rattle.vtl_meaning.specs.Operators.{calculated_exps, measured_exps, pair_exps}
@@ -34,9 +35,11 @@ AllCanBeWritten es = AllByRecursion CanBeWritten es
 abbrev pub HaveNames : List Component → Type 0
 HaveNames xs = AllByRecursion (λ x. IsName x.name) xs
 
--- the value of an identifier
-abbrev pub HasValue : Settings → SubItem → Type 0
-HasValue p i = IsHeld i.value × IsOfProfile p i.value
+-- the value of an identifier, as typing gives it
+pub record HasValue (p : Settings) (i : SubItem) : Type 0 where
+  pub held : IsHeld i.value
+  pub ranged : IsOfProfile p i.value
+  pub filled : is_null i.value ≡ false
 
 -- ---- expressions on data sets
 
@@ -55,6 +58,6 @@ abbrev mutual
   IsFormTranslated p s (nodes.keep a names) = IsTranslated p a
   IsFormTranslated p s (nodes.drop_named a names) = IsTranslated p a
   IsFormTranslated p s (nodes.rename a pairs) = IsTranslated p a
-  IsFormTranslated p s (nodes.sub a items) = IsTranslated p a × AllByRecursion (HasValue p) items
+  IsFormTranslated p s (nodes.sub a items) = IsTranslated p a × AllByRecursion (HasValue p) items × (length items ≤ most_components)
   -- the other forms are not translated yet
   IsFormTranslated p s other = ⊥
