@@ -1,5 +1,5 @@
 -- Identifiers among the columns of points: their kinds, and that they are never null.
-use Rattle.std.proofs.Common.{◌≡◌, ◌+◌, ℕ, zero, suc, Bool, true, false, not, ◌&&◌, cond, List, [], ◌∷◌, ◌++◌, length, Some, refl, ap, sym, ◌∙◌, subst, arith}
+use Rattle.std.proofs.Common.{◌≡◌, ◌≤◌, ◌+◌, ℕ, zero, suc, Bool, true, false, not, ◌&&◌, cond, List, [], ◌∷◌, ◌++◌, length, Some, refl, ap, sym, ◌∙◌, subst, arith}
 use Rattle.std.specs.List.{AllByRecursion, filter, list_all}
 use Rattle.std.specs.Option.{option_map_or}
 use Rattle.std.proofs.lemmas.Bool.{and_parts}
@@ -10,7 +10,7 @@ use Rattle.vtl_cell.specs.declared.cell.Cell.TheVariants as c
 use Rattle.vtl_cell.specs.declared.kind.Kind.{Kind}
 use Rattle.vtl_cell.specs.declared.kind.Kind.TheVariants as k
 use Rattle.vtl_tree.specs.DataSet.{is_point}
-use Rattle.vtl_tree.specs.Structure.{IsStructure, columns_of, same_name, same_role}
+use Rattle.vtl_tree.specs.Structure.{IsStructure, columns_of, most_components, same_name, same_role}
 use Rattle.vtl_tree.specs.declared.structure.Component.{Component}
 use Rattle.vtl_tree.specs.declared.structure.Role.{Role}
 use Rattle.vtl_tree.specs.declared.structure.Role.TheVariants as role
@@ -87,6 +87,18 @@ identifiers_there t w (z ∷ zs) i = ((identifier_there t w z.name z.kind i.0).0
 
 pub own_there : (t : Structure) → IsStructure t → AreIdentifiersAt (columns_of t) (identifiers_of t)
 own_there t w = identifiers_there t w (identifiers_of t) (own_identifiers t w)
+
+-- there are not more of them than components
+fewer : {X : Type 0} (p : X → Bool) (xs : List X) → length (filter p xs) ≤ length xs
+fewer p [] = omega arith
+fewer p (x ∷ xs) = go (p x) (fewer p xs)
+  where
+    go : (b : Bool) → length (filter p xs) ≤ length xs → length (cond b (x ∷ filter p xs) (filter p xs)) ≤ length (x ∷ xs)
+    go true ih = omega (arith, ih)
+    go false ih = omega (arith, ih)
+
+pub few_identifiers : (t : Structure) → IsStructure t → length (identifiers_of t) ≤ most_components
+few_identifiers t w = let few = w.few in omega (arith, fewer (λ x. same_role x.role role.Identifier) t.components, few)
 
 -- ---- an operand that contains another one's identifiers
 

@@ -11,3 +11,4 @@ pub mod OneOperand
 pub mod Identifiers
 pub mod Conjunctions
 pub mod Subs
+pub mod Pairs
