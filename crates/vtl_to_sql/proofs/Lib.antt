@@ -12,3 +12,4 @@ pub mod Identifiers
 pub mod Conjunctions
 pub mod Subs
 pub mod Pairs
+pub mod TwoOperands
