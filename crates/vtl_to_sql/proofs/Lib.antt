@@ -13,3 +13,4 @@ pub mod Conjunctions
 pub mod Subs
 pub mod Pairs
 pub mod TwoOperands
+pub mod Choices

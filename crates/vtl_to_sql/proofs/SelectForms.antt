@@ -137,7 +137,7 @@ module _ (p : Settings) (law : Translates p) (at : Naming) (xs : List Component)
   some_items (e ∷ es) [] i h = absurd i
   some_items (e ∷ es) (y ∷ ys) i h = omega arith
 
-no_null : (ys : List Component) → AllByRecursion (λ y. is_null_kind y.kind ≡ false) ys → AllByRecursion IsColumnKind (map Some (kinds_in ys))
+pub no_null : (ys : List Component) → AllByRecursion (λ y. is_null_kind y.kind ≡ false) ys → AllByRecursion IsColumnKind (map Some (kinds_in ys))
 no_null [] all = tt
 no_null (y ∷ ys) all = (all.0, no_null ys all.1)
 

@@ -74,7 +74,7 @@ module _ (p : Settings) (law : Translates p) (at : Naming) (s : Scope) (xs : Lis
   no_items (e ∷ es) [] i w = refl
   no_items (e ∷ es) (y ∷ ys) i w = neither _ _ (no_aggregate (site p [] s) (to_sql p at e) (law.fits [] at s xs names e i.0 w.0.constants)) (no_items es ys i.2 w.1)
 
-columns_zipped : (ys : List Component) → zip (names_of ys) (map or_null (map Some (kinds_in ys))) ≡ entries ys
+pub columns_zipped : (ys : List Component) → zip (names_of ys) (map or_null (map Some (kinds_in ys))) ≡ entries ys
 columns_zipped [] = refl
 columns_zipped (y ∷ ys) = ap (λ l. (y.name, y.kind) ∷ l) (columns_zipped ys)
 
