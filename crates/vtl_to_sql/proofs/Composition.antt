@@ -60,7 +60,7 @@ module _ (p : Settings) (r : Text) (word : is_word r ≡ true) where
 
   -- ---- operands
 
-  pub no_tables : (before : Data) (n : ℕ) → Extends p before r n [] n
+  abbrev pub no_tables : (before : Data) (n : ℕ) → Extends p before r n [] n
   no_tables before n = record { more = []; ran = ap Ok (sym (append-nil before)); lawful = tt; new = tt; counted = omega arith }
 
   -- one in a table of its own

@@ -14,3 +14,4 @@ pub mod Subs
 pub mod Pairs
 pub mod TwoOperands
 pub mod Choices
+pub mod Nodes
