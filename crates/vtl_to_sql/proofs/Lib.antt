@@ -15,3 +15,4 @@ pub mod Pairs
 pub mod TwoOperands
 pub mod Choices
 pub mod Nodes
+pub mod Statements
