@@ -16,3 +16,4 @@ pub mod TwoOperands
 pub mod Choices
 pub mod Nodes
 pub mod Statements
+pub mod WholeScript

@@ -65,7 +65,7 @@ same_err (Err g) f h = ap (λ (x : Fault). Err x) h
 
 -- ---- runs
 
-abbrev behind : Data → Table → List Row → Data
+abbrev pub behind : Data → Table → List Row → Data
 behind before t rows = before ++ (t.name, created before t.query rows) ∷ []
 
 pub run_on : (p : Settings) (before now : Data) (ts us : List Table) → run p before ts ≡ Ok now → run p before (ts ++ us) ≡ run p now us

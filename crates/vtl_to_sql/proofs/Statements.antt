@@ -122,18 +122,18 @@ module _ (p : Settings) (s : Statement) where
     stores ss false (Err f) g = run_on p before (before ++ added) (statement_tables p s) ss ran ∙ g
 
 pub script_gives : (p : Settings) → Translates p → (ss : List Statement) (env : Environment) (before : Data) → AreDataSets env → Stands before env → AreNamed p before ss → AreMadeStatements p (known_in env) ss → AllByRecursion (λ s. IsTranslated p s.node) ss → ScriptGives p before (script_tables p ss) (meaning p ss env)
-script_gives p law [] env before sets stands named typed written = record { more = []; ran = ap Ok (sym (append-nil before)); lawful = tt; stored = tt }
-script_gives p law (s ∷ ss) env before sets stands named typed written =
+script_gives p law [] env before sets stands given typed written = record { more = []; ran = ap Ok (sym (append-nil before)); lawful = tt; stored = tt }
+script_gives p law (s ∷ ss) env before sets stands given typed written =
     go (node_value p env s.node) refl
-    (node_gives p law s.result named.0 env sets s.node first_number before stands (all_more (λ t. same_text s.result (fault_name t.0) ≡ false) (λ t. IsEarlier s.result first_number t.0) (λ t h. inl h) before named.1) typed.0 written.0 named.3)
+    (node_gives p law s.result given.0 env sets s.node first_number before stands (all_more (λ t. same_text s.result (fault_name t.0) ≡ false) (λ t. IsEarlier s.result first_number t.0) (λ t h. inl h) before given.1) typed.0 written.0 given.3)
     (λ d now is stands_now named_now. script_gives p law ss ((s.result, with_points (structure_of s.node) d) ∷ env) now is stands_now named_now typed.1 written.1)
   where
     go : (v : Outcome (List Row)) → node_value p env s.node ≡ v → NodeGives p before s.result first_number (made_of p s.result s.node first_number) (structure_of s.node) v
         → ((d : List Row) (now : Data) → AreDataSets ((s.result, with_points (structure_of s.node) d) ∷ env) → Stands now ((s.result, with_points (structure_of s.node) d) ∷ env) → AreNamed p now ss → ScriptGives p now (script_tables p ss) (meaning p ss ((s.result, with_points (structure_of s.node) d) ∷ env)))
         → ScriptGives p before (statement_tables p s ++ script_tables p ss) (stated s (after v (λ d. Ok (with_points (structure_of s.node) d))) (λ d. meaning p ss ((s.result, d) ∷ env)))
-    go (Err f) e g ih = run_stops p before (statement_tables p s) (script_tables p ss) (f, s.result) (g s.result (plain_name s.result named.0))
+    go (Err f) e g ih = run_stops p before (statement_tables p s) (script_tables p ss) (f, s.result) (g s.result (plain_name s.result given.0))
     go (Ok d) e g ih =
-        let now = before ++ added p s env before stands named.0 named.1 d g.0 g.1 in
-        stores p s env before stands named.0 named.1 d g.0 g.1 (script_tables p ss) s.persistent (meaning p ss ((s.result, with_points (structure_of s.node) d) ∷ env))
-        (ih d now (node_kept p env s.node d (translated_built p s.node written.0) typed.0 sets e, sets) (now_stands p s env before stands named.0 named.1 d g.0 g.1)
-        (named_still p before (added p s env before stands named.0 named.1 d g.0 g.1) s.result ss (of_statement p s env before stands named.0 named.1 d g.0 g.1) named.2 named.4))
+        let now = before ++ added p s env before stands given.0 given.1 d g.0 g.1 in
+        stores p s env before stands given.0 given.1 d g.0 g.1 (script_tables p ss) s.persistent (meaning p ss ((s.result, with_points (structure_of s.node) d) ∷ env))
+        (ih d now (node_kept p env s.node d (translated_built p s.node written.0) typed.0 sets e, sets) (now_stands p s env before stands given.0 given.1 d g.0 g.1)
+        (named_still p before (added p s env before stands given.0 given.1 d g.0 g.1) s.result ss (of_statement p s env before stands given.0 given.1 d g.0 g.1) given.2 given.4))
