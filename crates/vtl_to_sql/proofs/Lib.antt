@@ -17,3 +17,4 @@ pub mod Choices
 pub mod Nodes
 pub mod Statements
 pub mod WholeScript
+pub mod ReadTables

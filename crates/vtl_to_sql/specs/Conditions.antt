@@ -1,15 +1,19 @@
--- Which expressions on data sets are translated: their names and constants can be written, and no expression is too deep to be
--- printed.
-use Rattle.std.specs.Prelude.{◌≡◌, ◌≤◌, ℕ, false, List, length}
+-- Which expressions on data sets and which statements are translated: their names and constants can be written, and no expression
+-- is too deep to be printed.
+use Rattle.std.specs.Prelude.{◌≡◌, ◌≤◌, ◌<◌, ◌+◌, ◌^◌, ℕ, true, false, List, [], ◌∷◌, length}
 use Rattle.std.specs.List.{AllByRecursion}
 use Rattle.vtl_cell.specs.Held.{IsHeld}
 use Rattle.vtl_cell.specs.Kinds.{is_null}
 use Rattle.vtl_cell.specs.Profile.{IsOfProfile}
 use Rattle.vtl_cell.specs.Settings.{Settings}
+use Rattle.vtl_cell.specs.Words.{is_word}
 use Rattle.vtl_tree.specs.CompExp.{CompExp}
 use Rattle.vtl_tree.specs.Structure.{columns_of, most_components}
+use Rattle.vtl_tree.specs.Structures.{AreStructures, Named, has_name}
 use Rattle.vtl_tree.specs.declared.structure.Component.{Component}
 use Rattle.vtl_tree.specs.declared.structure.Structure.{Structure}
+use Rattle.vtl_meaning.specs.Made.{IsMade}
+use Rattle.vtl_meaning.specs.Meaning.{Statement}
 use Rattle.vtl_meaning.specs.Operators.{calculated_exps, measured_exps, pair_exps}
 use Rattle.vtl_meaning.specs.Trees as nodes
 use Rattle.vtl_meaning.specs.Trees.{FormTree, NodeTree, structure_of}
@@ -17,6 +21,7 @@ use Rattle.vtl_meaning.specs.clauses.SubItem.{SubItem}
 use Rattle.sql_tree.specs.Formed.{IsName}
 use Rattle.check_laws.specs.Depths.{comp_depth}
 use Rattle.rules_to_sql.specs.Held.{HoldsValues}
+use Rattle.vtl_to_sql.specs.Tables.{first_number, made_of}
 
 -- ---- parts
 
@@ -61,3 +66,33 @@ abbrev mutual
   IsFormTranslated p s (nodes.sub a items) = IsTranslated p a × AllByRecursion (HasValue p) items × (length items ≤ most_components)
   -- the other forms are not translated yet
   IsFormTranslated p s other = ⊥
+
+-- ---- statements
+
+-- few tables are made for it
+abbrev pub HasFewTables : Settings → Statement → Type 0
+HasFewTables p s = 1 + length (made_of p s.result s.node first_number).tables < 2 ^ 64
+
+-- its result has a name that none of these data sets has, and its expression is translated
+pub record IsStatementTranslated (p : Settings) (known : Named) (s : Statement) : Type 0 where
+  pub word : is_word s.result ≡ true
+  pub new : has_name s.result known ≡ false
+  pub made : IsMade p known s.node
+  pub translated : IsTranslated p s.node
+  pub few : HasFewTables p s
+
+-- each behind the results of those before it
+abbrev pub AreTranslated : Settings → Named → List Statement → Type 0
+AreTranslated p known [] = Unit {0}
+AreTranslated p known (s ∷ ss) = IsStatementTranslated p known s × AreTranslated p ((s.result, structure_of s.node) ∷ known) ss
+
+-- data sets that can be declared, and have words as names
+pub record AreReadable (reads : Named) : Type 0 where
+  pub structures : AreStructures reads
+  pub words : AllByRecursion (λ e. is_word e.0 ≡ true) reads
+
+-- statements that read these data sets, in settings that there are
+pub record IsScript (p : Settings) (reads : Named) (ss : List Statement) : Type 0 where
+  pub low : p.scale ≤ 9
+  pub readable : AreReadable reads
+  pub translated : AreTranslated p reads ss
