@@ -18,3 +18,5 @@ pub mod Nodes
 pub mod Statements
 pub mod WholeScript
 pub mod ReadTables
+pub mod TranslatedScripts
+pub mod EmptyData
