@@ -20,3 +20,4 @@ pub mod WholeScript
 pub mod ReadTables
 pub mod TranslatedScripts
 pub mod EmptyData
+pub mod TypedScripts

@@ -16,7 +16,7 @@ use Rattle.std.proofs.lemmas.Str.Parse.{numerals_by_value, tells_all_ascii_digit
 use lib.Utf8.{encode}
 use Rattle.vtl_decimal.proofs.SplitLemmas.{at, at_end, before_first-append}
 use Rattle.vtl_cell.specs.Texts.{same_text}
-use Rattle.vtl_cell.specs.Words.{fits_name, is_word, is_word_character, starts_with_letter}
+use Rattle.vtl_cell.specs.Words.{fits_name, is_component_character, is_component_name, is_word, is_word_character, starts_with_letter}
 use Rattle.vtl_meaning.proofs.Places.{same_name-is, same_name-refl}
 use Rattle.sql_lexer.specs.Spelling.{has_no_control, is_name, size}
 use Rattle.sql_lexer.specs.Spelling as sql
@@ -143,3 +143,27 @@ numbered_is_name r n h few =
     and_from (sql.fits_name (size (numbered r n))) (has_no_control (numbered r n))
     (fits (size (numbered r n)) (omega (arith, both, front.0)) (omega (arith, both, front.1, back)))
     (list_all-append (λ x. not (is_control x)) r (dollar ∷ decimal n) ∙ and_from (has_no_control r) (has_no_control (dollar ∷ decimal n)) (word_passes r h) (number_passes n few))
+
+-- ---- names of components
+
+component_is_no_control : (x : ℕ) → is_component_character x ≡ true → not (is_control x) ≡ true
+component_is_no_control x h = (and_parts (not (x == 39)) (not (is_control x)) h).1
+
+filled : (xs : Text) → not (length xs == 0) ≡ true → 1 ≤ length xs
+filled [] h = cc
+filled (x ∷ xs) h = omega arith
+
+component_parts : (x : Text) → is_component_name x ≡ true → (fits_name x ≡ true) × (1 ≤ length x) × (list_all is_component_character x ≡ true)
+unfolding is_component_name
+component_parts x h =
+    let one = and_parts (fits_name x) (not (length x == 0) && list_all is_component_character x) h in
+    let two = and_parts (not (length x == 0)) (list_all is_component_character x) one.1 in
+    (one.0, filled x two.0, two.1)
+
+pub component_is_name : (x : Text) → is_component_name x ≡ true → is_name x ≡ true
+unfolding is_name
+component_is_name x h =
+    let parts = component_parts x h in
+    let low : 1 ≤ size x = let some = parts.1 in omega (arith, some, length-le-encodes x) in
+    let high : size x ≤ 64 = let fit = parts.0 in grind (arith, nat_tests, fit) in
+    and_from (sql.fits_name (size x)) (has_no_control x) (fits (size x) low (omega (arith, high))) (all_pass is_component_character (λ c. not (is_control c)) component_is_no_control x parts.2)

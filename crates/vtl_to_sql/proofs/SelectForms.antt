@@ -79,22 +79,31 @@ as_many (x ∷ xs) = go x.role (as_many xs)
     go role.Measure ih = omega (arith, ih)
     go role.Attribute ih = omega (arith, ih)
 
-pub columns_given : (s : Structure) → IsShaped s → HaveNames (columns_of s) → AreGiven (columns_of s)
-columns_given s w named =
-    let P : Component → Type 0 = λ x. is_null_kind x.kind ≡ false in
-    let all = kinds_told s.components w.kinds in
+-- what holds of each component holds of each column
+pub each_column : (P : Component → Type 0) (s : Structure) → AllByRecursion P s.components → AllByRecursion P (columns_of s)
+each_column P s all =
     let of : (r : Role) → AllByRecursion P (of_role r s) = λ r. AllByRecursion-filter P (λ x. same_role x.role r) s.components all in
     let front = of_role role.Identifier s ++ of_role role.Measure s in
+    all_append P front (of_role role.Attribute s) (all_append P (of_role role.Identifier s) (of_role role.Measure s) (of role.Identifier) (of role.Measure)) (of role.Attribute)
+
+-- there are as many columns as components
+pub columns_count : (s : Structure) → length (columns_of s) ≡ length s.components
+columns_count s =
     let size = as_many s.components in
     let one = length-append (of_role role.Identifier s) (of_role role.Measure s) in
-    let two = length-append front (of_role role.Attribute s) in
+    let two = length-append (of_role role.Identifier s ++ of_role role.Measure s) (of_role role.Attribute s) in
+    omega (arith, size, one, two)
+
+pub columns_given : (s : Structure) → IsShaped s → HaveNames (columns_of s) → AreGiven (columns_of s)
+columns_given s w named =
+    let size = columns_count s in
     let low = w.well_formed.some in
     let high = w.well_formed.few in
     record {
       apart = columns_apart s w.well_formed;
-      kinds = all_append P front (of_role role.Attribute s) (all_append P (of_role role.Identifier s) (of_role role.Measure s) (of role.Identifier) (of role.Measure)) (of role.Attribute);
-      few = omega (arith, size, one, two, high);
-      some = omega (arith, size, one, two, low);
+      kinds = each_column (λ x. is_null_kind x.kind ≡ false) s (kinds_told s.components w.kinds);
+      few = omega (arith, size, high);
+      some = omega (arith, size, low);
       named = named;
     }
 
