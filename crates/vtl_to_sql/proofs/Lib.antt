@@ -21,3 +21,4 @@ pub mod ReadTables
 pub mod TranslatedScripts
 pub mod EmptyData
 pub mod TypedScripts
+pub mod LawfulScripts

@@ -66,7 +66,7 @@ pub all_made : (p : Settings) (known : Named) (ss : List Statement) → AreTrans
 all_made p known [] h = tt
 all_made p known (s ∷ ss) h = (h.0.made, all_made p ((s.result, structure_of s.node) ∷ known) ss h.1)
 
-all_translated : (p : Settings) (known : Named) (ss : List Statement) → AreTranslated p known ss → AllByRecursion (λ s. IsTranslated p s.node) ss
+pub all_translated : (p : Settings) (known : Named) (ss : List Statement) → AreTranslated p known ss → AllByRecursion (λ s. IsTranslated p s.node) ss
 all_translated p known [] h = tt
 all_translated p known (s ∷ ss) h = (h.0.translated, all_translated p ((s.result, structure_of s.node) ∷ known) ss h.1)
 

@@ -46,8 +46,11 @@ plain_scale s h =
     let few : nat_lt s (10 ^ 18) ≡ true = lt-ltb s (10 ^ 18) (omega (arith, h)) in
     subst (λ b. IsOk (cond b (Ok (pos s)) (Err Range))) (sym few) refl
 
+pub scale_read : (n : ℕ) → n ≤ 9 → scale_written (decimal n) ≡ Some (pos n)
+scale_read n h = integer_there (record { scale = 0; rounding = rounding.Down }) n (plain_scale n h)
+
 pub set_is : (p : Settings) → p.scale ≤ 9 → settings_of (decimal p.scale) p.rounding ≡ p
-set_is p h = ap (λ o. record { scale = scale_of o; rounding = p.rounding }) (integer_there (record { scale = 0; rounding = rounding.Down }) p.scale (plain_scale p.scale h))
+set_is p h = ap (λ o. record { scale = scale_of o; rounding = p.rounding }) (scale_read p.scale h)
 
 -- ---- statements that have made tables and exports
 
