@@ -1,5 +1,5 @@
 -- `if` on data sets is a union of two selects, each over a join with the condition's table.
-use Rattle.std.proofs.Common.{◌≡◌, ◌≤◌, ◌+◌, ℕ, Bool, true, false, not, ◌&&◌, cond, List, [], ◌∷◌, ◌++◌, length, map, Option, Some, None, Ok, refl, ap, sym, ◌∙◌, subst, arith, append_assoc, append-nil}
+use Rattle.std.proofs.Common.{◌≡◌, ◌+◌, Bool, true, false, not, cond, List, [], ◌∷◌, ◌++◌, length, map, Option, Some, None, Ok, refl, ap, sym, ◌∙◌, subst, arith, append_assoc, append-nil}
 use Rattle.std.specs.Prelude.{IfOk, IsSome, option_map, zip}
 use Rattle.std.specs.List.{AllByRecursion, filter, flat_map}
 use Rattle.std.specs.Option.{option_to_list}
@@ -9,7 +9,7 @@ use Rattle.vtl_cell.specs.Outcome.{Fault, after, fault_in, faults_by, unless}
 use Rattle.vtl_cell.specs.Outcomes.{Same, is_true}
 use Rattle.vtl_cell.specs.Perm.{Perm, empty, chain}
 use Rattle.vtl_cell.specs.Row.{Row, column_of}
-use Rattle.vtl_cell.specs.ScalarKinds.{meets, shared_kind}
+use Rattle.vtl_cell.specs.ScalarKinds.{shared_kind}
 use Rattle.vtl_cell.specs.Settings.{Settings}
 use Rattle.vtl_cell.specs.declared.cell.Cell.{Cell}
 use Rattle.vtl_cell.specs.declared.cell.Cell.TheVariants as c
@@ -28,7 +28,7 @@ use Rattle.vtl_tree.specs.declared.structure.Component.{Component}
 use Rattle.vtl_tree.specs.declared.structure.Role.TheVariants as role
 use Rattle.vtl_tree.specs.declared.structure.Structure.{Structure}
 use Rattle.vtl_meaning.specs.Columns.{column_behind, columns_named, identifiers_of, kind_named, measures_of, others_of, place_of, places_in}
-use Rattle.vtl_meaning.specs.Made.{AreAmong, AreFor, HasIdentifiers, IsAlternative, IsChoice, IsColumnAt, IsTyped}
+use Rattle.vtl_meaning.specs.Made.{AreAmong, AreFor, HasIdentifiers, IsAlternative, IsChoice, IsColumnAt}
 use Rattle.vtl_meaning.specs.Operators.{choice_of, is_first_chosen, joined_point, taken_at, taken_from}
 use Rattle.vtl_meaning.specs.Points.{beside, each_point, paired, partner, point_fault, point_of, with_points}
 use Rattle.vtl_meaning.proofs.Kept.{column_front, column_within}
@@ -37,15 +37,15 @@ use Rattle.vtl_meaning.proofs.Places.{all_append, columns_split, point_length, s
 use Rattle.vtl_meaning.proofs.ValueKinds.{cell_is_of}
 use Rattle.sql_tree.specs.Formed.{IsName, IsSelect}
 use Rattle.sql_tree.specs.Trees.{SelectTree, Text}
-use Rattle.sql_check_laws.specs.Selects.{IsColumnKind, IsQueryTyped, IsQueryWhole, IsSelectTyped}
+use Rattle.sql_check_laws.specs.Selects.{IsColumnKind, IsSelectTyped}
 use Rattle.sql_check_parts.specs.Queries.{most_columns, query_columns}
 use Rattle.sql_check_parts.specs.Queries as queries
-use Rattle.sql_check_parts.specs.Scopes.{Tables, or_null}
+use Rattle.sql_check_parts.specs.Scopes.{or_null}
 use Rattle.sql_meaning.specs.Scripts.{Data, base_of, tables_in}
 use Rattle.sql_meaning.specs.Selects.{appended, query_value, select_value}
 use Rattle.sql_meaning.specs.Tables.{kinds_of}
-use Rattle.rules_to_sql.specs.ToSql.{Naming, to_sql}
-use Rattle.vtl_to_sql.specs.Conditions.{AllCanBeWritten, CanBeWritten, HaveNames}
+use Rattle.rules_to_sql.specs.ToSql.{Naming}
+use Rattle.vtl_to_sql.specs.Conditions.{AllCanBeWritten, HaveNames}
 use Rattle.vtl_to_sql.specs.Means.{IsQueryFor, Means}
 use Rattle.vtl_to_sql.specs.Queries.{choose_query, chosen_exps, chosen_select, first_alias, is_chosen, is_not_chosen, name_of_first, of_two, source_as}
 use Rattle.vtl_to_sql.specs.Runs.{IsTable, entries, printable_depth}
@@ -122,8 +122,7 @@ module _ (p : Settings) (law : Translates p) (before : Data) (x y : Text) (t o s
       let kind : u.kind ≡ v.kind = cc in
       let names_left : names_of us ≡ names_of vs = cc in
       let kinds_left : kinds_in us ≡ kinds_in vs = cc in
-      let at = subst (λ n. IsIdentifierAt n v.kind (columns_of t)) name i.0 in
-      (
+      let at = subst (λ n. IsIdentifierAt n v.kind (columns_of t)) name i.0 in (
         column_front (place_of u.name (columns_of t)) u.name (kind_named u.name (columns_of t)) (columns_of t) (columns_of o) (subst (λ q. IsColumnAt (place_of u.name (columns_of t)) u.name q (columns_of t)) (sym at.named) at.column),
         at.named ∙ sym kind,
         ids_for us vs names_left kinds_left i.1 fs ws f,
@@ -394,5 +393,5 @@ module _ (p : Settings) (law : Translates p) (before : Data) (x y z : Text) (t a
       record {
         query = union_for p before s q u nq nu kq ku given tq tu fq fu;
         rows = subst (λ m. Same m (Ok choice)) (sym rows)
-        (chain (split_walk first second tests) (Perm-same (flat_map (λ r. first r ++ second r) tests) choice (same_walk (λ r. first r ++ second r) (taken_at t (with_points a d) (with_points b e) s) (λ r. taken r (is_first_chosen t r)) tests)));
+            (chain (split_walk first second tests) (Perm-same (flat_map (λ r. first r ++ second r) tests) choice (same_walk (λ r. first r ++ second r) (taken_at t (with_points a d) (with_points b e) s) (λ r. taken r (is_first_chosen t r)) tests)));
       }

@@ -1,5 +1,5 @@
 -- Equalities, and conditions that hold together.
-use Rattle.std.proofs.Common.{◌≡◌, ◌≤◌, ◌+◌, ℕ, suc, max, Bool, true, false, ◌&&◌, List, [], ◌∷◌, length, map, Some, Ok, refl, ap, sym, ◌∙◌, arith}
+use Rattle.std.proofs.Common.{◌≡◌, ◌≤◌, ◌+◌, Bool, true, false, ◌&&◌, List, [], ◌∷◌, length, map, Some, Ok, refl, ap, sym, ◌∙◌, arith}
 use Rattle.std.specs.List.{AllByRecursion, list_all}
 use Rattle.vtl_cell.specs.Kinds.{is_null, is_of, kind_of}
 use Rattle.vtl_cell.specs.Order.{same_cell}
@@ -19,7 +19,7 @@ use Rattle.vtl_meaning.specs.Made.{IsTyped}
 use Rattle.check_laws.specs.Depths.{comp_depth}
 use Rattle.rules_to_sql.specs.Held.{HoldsValues}
 use Rattle.vtl_to_sql.specs.Conditions.{CanBeWritten, most_depth}
-use Rattle.vtl_to_sql.specs.Queries.{both, conjunction, equal}
+use Rattle.vtl_to_sql.specs.Queries.{conjunction}
 use Rattle.vtl_to_sql.proofs.Identifiers.{kind_is}
 
 -- ---- equality of values that are there

@@ -4,11 +4,10 @@ use Rattle.std.specs.List.{AllByRecursion}
 use Rattle.std.specs.Option.{option_map_or}
 use Rattle.vtl_cell.specs.Outcome.{after}
 use Rattle.vtl_cell.specs.Perm.{empty}
-use Rattle.vtl_cell.specs.Row.{Row}
 use Rattle.vtl_cell.specs.Settings.{Settings}
 use Rattle.vtl_tree.specs.Clauses.{filter_of}
 use Rattle.vtl_tree.specs.CompExp.{CompExp}
-use Rattle.vtl_tree.specs.Environment.{DataSet, Environment, data_of}
+use Rattle.vtl_tree.specs.Environment.{Environment, data_of}
 use Rattle.vtl_tree.specs.Structure.{IsStructure, same_name}
 use Rattle.vtl_tree.specs.Structures.{Named}
 use Rattle.vtl_tree.specs.declared.structure.Structure.{Structure}
@@ -18,7 +17,6 @@ use Rattle.vtl_meaning.specs.Operators.{calculated_of, choice_of, left_of, measu
 use Rattle.vtl_meaning.specs.Points.{each_point, with_points}
 use Rattle.vtl_meaning.specs.Trees as nodes
 use Rattle.vtl_meaning.specs.Trees.{FormTree, NodeTree, structure_of}
-use Rattle.sql_meaning.specs.Scripts.{NamedFault}
 use Rattle.vtl_to_sql.specs.Conditions.{IsFormTranslated, IsTranslated}
 use Rattle.vtl_to_sql.specs.Exports.{AreRead}
 

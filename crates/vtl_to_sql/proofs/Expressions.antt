@@ -1,5 +1,5 @@
 -- What is cited of the translation of expressions.
-use Rattle.std.proofs.Common.{◌≡◌, ◌≤◌, ℕ, suc, List, None, sym, subst}
+use Rattle.std.proofs.Common.{◌≡◌, ◌≤◌, suc, List, None, sym, subst}
 use Rattle.vtl_cell.specs.Row.{Row}
 use Rattle.vtl_cell.specs.Settings.{Settings}
 use Rattle.vtl_tree.specs.CompExp.{CompExp}

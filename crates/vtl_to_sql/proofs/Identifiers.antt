@@ -1,5 +1,5 @@
 -- Identifiers among the columns of points: their kinds, and that they are never null.
-use Rattle.std.proofs.Common.{◌≡◌, ◌≤◌, ◌+◌, ℕ, zero, suc, Bool, true, false, not, ◌&&◌, cond, List, [], ◌∷◌, ◌++◌, length, Some, refl, ap, sym, ◌∙◌, subst, arith}
+use Rattle.std.proofs.Common.{◌≡◌, ◌≤◌, ℕ, zero, suc, Bool, true, false, not, ◌&&◌, cond, List, [], ◌∷◌, ◌++◌, length, Some, refl, ap, sym, ◌∙◌, subst, arith}
 use Rattle.std.specs.List.{AllByRecursion, filter, list_all}
 use Rattle.std.specs.Option.{option_map_or}
 use Rattle.std.proofs.lemmas.Bool.{and_parts}
@@ -15,7 +15,6 @@ use Rattle.vtl_tree.specs.declared.structure.Component.{Component}
 use Rattle.vtl_tree.specs.declared.structure.Role.{Role}
 use Rattle.vtl_tree.specs.declared.structure.Role.TheVariants as role
 use Rattle.vtl_tree.specs.declared.structure.Structure.{Structure}
-
 use Rattle.check_shapes.specs.Names.{component_of}
 use Rattle.check_shapes.specs.Operands.{is_alike, is_there}
 use Rattle.check_shapes.specs.Pairs.{contains}
@@ -24,7 +23,7 @@ use Rattle.vtl_meaning.specs.Columns.{identifiers_of, kind_named, others_of, pla
 use Rattle.vtl_meaning.specs.Made.{AreAmong, IsColumnAt}
 use Rattle.vtl_meaning.proofs.Kept.{column_front, column_within, place_front}
 use Rattle.vtl_meaning.proofs.OwnColumns.{columns_apart, own_identifiers}
-use Rattle.vtl_meaning.proofs.Places.{all_filtered, are_identifiers, columns_split, place_here, place_later, same_name-is}
+use Rattle.vtl_meaning.proofs.Places.{all_filtered, columns_split, place_here, place_later, same_name-is}
 use Rattle.vtl_meaning.proofs.ValueKinds.{point_parts}
 use Rattle.vtl_to_sql.proofs.OneOperand.{kind_at}
 
@@ -71,8 +70,7 @@ identifier_there t w name kind i =
     let within = column_within place name kind ids i in
     let same : place_of name (columns_of t) ≡ place = ap (place_of name) (columns_split t) ∙ place_front name ids (others_of t) within in
     let all = all_filtered (λ x. same_role x.role role.Identifier) t.components in
-    let there : IsColumnAt place name kind (columns_of t) = subst (λ xs. IsColumnAt place name kind xs) (sym (columns_split t)) (column_front place name kind ids (others_of t) i) in
-    (
+    let there : IsColumnAt place name kind (columns_of t) = subst (λ xs. IsColumnAt place name kind xs) (sym (columns_split t)) (column_front place name kind ids (others_of t) i) in (
       record {
         column = subst (λ n. IsColumnAt n name kind (columns_of t)) (sym same) there;
         named = kind_at place name kind (columns_of t) there (columns_apart t w);

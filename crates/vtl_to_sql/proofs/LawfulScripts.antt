@@ -1,17 +1,14 @@
 -- The script in SQL breaks no rule and can be printed, whatever its inputs are.
 use Rattle.std.proofs.Common.{◌≡◌, ◌≤◌, ◌<◌, ◌+◌, ◌&&◌, ℕ, pos, Bool, true, false, cond, List, [], ◌∷◌, ◌++◌, length, map, Some, Ok, refl, ap, sym, ◌∙◌, subst, arith}
-use Rattle.std.specs.Prelude.{fold}
 use Rattle.std.specs.Char.{is_ascii_digit}
 use Rattle.std.specs.Fmt.{decimal}
 use Rattle.std.specs.List.{AllByRecursion, list_all}
-use Rattle.std.specs.Map.{keys_of, lookup}
+use Rattle.std.specs.Map.{keys_of}
 use Rattle.std.proofs.lemmas.Bool.Decides.{nat_tests}
 use Rattle.std.proofs.lemmas.Fmt.{decimal_digit}
 use Rattle.std.proofs.lemmas.List.{length-map}
 use Rattle.grammar_forms.specs.Written.{Each}
 use Rattle.vtl_cell.specs.Apart.{all_apart}
-use Rattle.vtl_cell.specs.Outcome.{Outcome}
-use Rattle.vtl_cell.specs.Row.{Row}
 use Rattle.vtl_cell.specs.Settings.{Settings}
 use Rattle.vtl_cell.specs.Texts.{same_text}
 use Rattle.vtl_cell.specs.Words.{is_word}
@@ -19,7 +16,6 @@ use Rattle.vtl_cell.specs.declared.kind.Kind.{Kind}
 use Rattle.vtl_cell.specs.declared.kind.Kind.TheVariants as k
 use Rattle.vtl_cell.proofs.Aparts.{apart_more}
 use Rattle.vtl_kinds.specs.Literals.{lies_between}
-use Rattle.vtl_tree.specs.Environment.{DataSet}
 use Rattle.vtl_tree.specs.Structure.{IsStructure, columns_of, names_of, same_name}
 use Rattle.vtl_tree.specs.Structures as structures
 use Rattle.vtl_tree.specs.Structures.{Named}
@@ -31,20 +27,19 @@ use Rattle.vtl_meaning.specs.Meaning.{Outputs, Statement, meaning}
 use Rattle.vtl_meaning.specs.Shapes.{IsShaped}
 use Rattle.vtl_meaning.specs.Trees as nodes
 use Rattle.vtl_meaning.specs.Trees.{NodeTree, structure_of}
-use Rattle.vtl_meaning.proofs.Places.{all_front, each, all_map, all_more, all_of_map, columns_split, same_name-sym}
-use Rattle.sql_tree.specs.Formed.{IsColumn, IsFormed, IsInputColumn, IsName, IsStatement, PrintableScript, is_column_kind}
-use Rattle.sql_tree.specs.Trees.{StatementTree}
+use Rattle.vtl_meaning.proofs.Places.{all_front, each, all_more, columns_split, same_name-sym}
+use Rattle.sql_tree.specs.Formed.{IsInputColumn, IsName, IsStatement, PrintableScript, is_column_kind}
 use Rattle.sql_check_laws.specs.Statements.{AreTyped}
 use Rattle.sql_check_laws.proofs.TypedStatements.{script_typed, typed_behind}
 use Rattle.sql_check_parts.specs.Queries.{query_columns}
 use Rattle.sql_check_parts.specs.Scopes.{Tables, columns_of as table_columns, is_among}
-use Rattle.sql_check_parts.specs.Statements.{IsTypedScript, after, is_taken, nothing, scale_written, settings_of}
+use Rattle.sql_check_parts.specs.Statements.{IsTypedScript, is_taken, nothing}
 use Rattle.sql_meaning.specs.Scripts.{Data, tables_in}
-use Rattle.vtl_to_sql.specs.Conditions.{AreTranslated, HaveNames, IsScript, IsTranslated}
+use Rattle.vtl_to_sql.specs.Conditions.{AreTranslated, HaveNames, IsScript}
 use Rattle.vtl_to_sql.specs.Exports.{tables_read}
 use Rattle.vtl_to_sql.specs.Means.{AreStored, ScriptGives, Stores}
 use Rattle.vtl_to_sql.specs.Runs.{AreLawful, entries, given_behind, held, printable_depth}
-use Rattle.vtl_to_sql.specs.Scripts.{create_for, export_for, input_column, input_for, input_of, script_for, statements_for, written_of}
+use Rattle.vtl_to_sql.specs.Scripts.{create_for, export_for, input_column, input_for, script_for, statements_for, written_of}
 use Rattle.vtl_to_sql.specs.Tables.{Table, script_tables}
 use Rattle.vtl_to_sql.proofs.EmptyData.{empty_are_sets, empty_empty, empty_known, empty_read, empty_sets, meaning_there}
 use Rattle.vtl_to_sql.proofs.Names.{word_is_name}
@@ -121,8 +116,7 @@ inputs_printed [] h = tt
 inputs_printed (e ∷ es) h =
     let size = columns_count e.1 in
     let many = length-map (columns_of e.1) input_column in
-    let some = h.0.shaped.well_formed.some in
-    (
+    let some = h.0.shaped.well_formed.some in (
       (word_is_name e.0 h.0.word, omega (arith, size, many, some), columns_printed (columns_of e.1) h.0.named (each_column (λ x. structures.is_null_kind x.kind ≡ false) e.1 h.0.shaped.kinds), identifiers_printed e.1 h.0.named),
       inputs_printed es h.1,
     )
@@ -191,16 +185,14 @@ module _ (p : Settings) (reads : Named) (ss : List Statement) (script : IsScript
 
   typed : AreTyped p nothing (statements_for p reads ss)
   typed =
-      (typed_behind p (giving [] []) (map input_for reads) (map create_for (script_tables p ss) ++ map export_for (written_of ss))).from
-      (
+      (typed_behind p (giving [] []) (map input_for reads) (map create_for (script_tables p ss) ++ map export_for (written_of ss))).from (
         inputs_fit p [] reads readable script.readable.structures.distinct (each (λ e. is_taken [] e.0 ≡ false) (λ e. refl) reads),
         subst (λ g. AreTyped p g (map create_for (script_tables p ss) ++ map export_for (written_of ss))) (sym (inputs_give [] [] reads))
-        ((typed_behind p (giving (tables_in before) []) (map create_for (script_tables p ss)) (map export_for (written_of ss))).from
-        (
-          creates_fit p (tables_in before) [] (script_tables p ss) stores.lawful,
-          subst (λ g. AreTyped p g (map export_for (written_of ss))) (sym (creates_give (tables_in before) [] (script_tables p ss) ∙ ap (λ t. giving t []) given))
-          (exports_fit p now [] (written_of ss) (written (written_of ss) results all_there) (results_apart p reads ss script.translated) (each (λ w. is_among w.0 [] ≡ false) (λ w. refl) (written_of ss))),
-        )),
+            ((typed_behind p (giving (tables_in before) []) (map create_for (script_tables p ss)) (map export_for (written_of ss))).from (
+              creates_fit p (tables_in before) [] (script_tables p ss) stores.lawful,
+              subst (λ g. AreTyped p g (map export_for (written_of ss))) (sym (creates_give (tables_in before) [] (script_tables p ss) ∙ ap (λ t. giving t []) given))
+                  (exports_fit p now [] (written_of ss) (written (written_of ss) results all_there) (results_apart p reads ss script.translated) (each (λ w. is_among w.0 [] ≡ false) (λ w. refl) (written_of ss))),
+            )),
       )
 
   pub script_is_typed : IsTypedScript (script_for p reads ss)
@@ -212,5 +204,5 @@ module _ (p : Settings) (reads : Named) (ss : List Statement) (script : IsScript
   script_is_printable = (
     digits_printed p.scale script.low,
     each_both (IsStatement printable_depth) (map input_for reads) (map create_for (script_tables p ss) ++ map export_for (written_of ss)) (inputs_printed reads readable)
-    (each_both (IsStatement printable_depth) (map create_for (script_tables p ss)) (map export_for (written_of ss)) (creates_printed p (tables_in before) (script_tables p ss) stores.lawful) (exports_printed (written_of ss) results)),
+        (each_both (IsStatement printable_depth) (map create_for (script_tables p ss)) (map export_for (written_of ss)) (creates_printed p (tables_in before) (script_tables p ss) stores.lawful) (exports_printed (written_of ss) results)),
   )

@@ -1,6 +1,5 @@
 -- The tables of an expression on data sets mean it.
-use Rattle.std.proofs.Common.{◌≡◌, ◌+◌, ◌<◌, ◌^◌, ℕ, Bool, true, ◌&&◌, List, [], ◌∷◌, ◌++◌, length, Some, Ok, Err, refl, ap, sym, subst, arith, append-nil, length-append}
-use Rattle.std.specs.Map.{lookup}
+use Rattle.std.proofs.Common.{◌≡◌, ◌+◌, ◌<◌, ◌^◌, ℕ, true, ◌&&◌, List, [], ◌∷◌, ◌++◌, length, Ok, Err, refl, sym, subst, arith, append-nil, length-append}
 use Rattle.std.proofs.lemmas.Bool.{and_from}
 use Rattle.vtl_cell.specs.Outcome.{Outcome, after}
 use Rattle.vtl_cell.specs.Row.{Row}
@@ -9,7 +8,7 @@ use Rattle.vtl_cell.specs.Words.{is_word}
 use Rattle.vtl_tree.specs.Clauses.{filter_of}
 use Rattle.vtl_tree.specs.DataSet.{IsDataSet}
 use Rattle.vtl_tree.specs.Environment.{Environment}
-use Rattle.vtl_tree.specs.Structure.{columns_of, same_name}
+use Rattle.vtl_tree.specs.Structure.{columns_of}
 use Rattle.vtl_tree.specs.declared.structure.Structure.{Structure}
 use Rattle.vtl_meaning.specs.Made.{IsLeft, IsMade, IsMadeForm}
 use Rattle.vtl_meaning.specs.Meaning.{AreDataSets, form_value, is_built, is_built_form, known_in, node_value, points_named}
@@ -23,9 +22,9 @@ use Rattle.vtl_meaning.proofs.ScriptsKept.{node_kept}
 use Rattle.sql_tree.specs.Trees.{Text}
 use Rattle.sql_meaning.specs.Scripts.{Data}
 use Rattle.vtl_to_sql.specs.Conditions.{HaveNames, IsFormTranslated, IsTranslated}
-use Rattle.vtl_to_sql.specs.Means.{AreEarlier, Extends, Means, NodeGives, SourcesGive, Stands, StandsAs}
+use Rattle.vtl_to_sql.specs.Means.{AreEarlier, Means, NodeGives, SourcesGive, Stands, StandsAs}
 use Rattle.vtl_to_sql.specs.Queries.{calc_query, choose_query, copy_query, filter_query, left_query, measures_query, pair_query, rename_query, sub_query}
-use Rattle.vtl_to_sql.specs.Tables.{and_then, made_of, made_of_form, numbered, over, source_of, sources_of, stored, table_of, with_one}
+use Rattle.vtl_to_sql.specs.Tables.{and_then, made_of, made_of_form, numbered, over, source_of, sources_of, table_of, with_one}
 use Rattle.vtl_to_sql.proofs.Choices.{choose_means}
 use Rattle.vtl_to_sql.proofs.Composition.{all_earlier, all_stand_still, alone, beside_gives, no_tables, one_gives, stored_gives, three_gives, together, two_gives}
 use Rattle.vtl_to_sql.proofs.Exact.{means_by, means_turned, set_turned}

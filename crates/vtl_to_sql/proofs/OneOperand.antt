@@ -1,13 +1,12 @@
 -- The forms of one operand: each is a select over its table.
-use Rattle.std.proofs.Common.{◌≡◌, ◌≤◌, ◌+◌, ℕ, zero, suc, Bool, true, false, cond, List, [], ◌∷◌, ◌++◌, map, take, Option, Some, None, Ok, refl, ap, sym, ◌∙◌, subst, arith, append-nil}
-use Rattle.std.specs.Prelude.{codes, unwrap_or}
+use Rattle.std.proofs.Common.{◌≡◌, ℕ, zero, suc, true, false, List, [], ◌∷◌, map, take, Option, Some, None, Ok, refl, ap, sym, ◌∙◌, subst, arith, append-nil}
+use Rattle.std.specs.Prelude.{unwrap_or}
 use Rattle.std.specs.List.{AllByRecursion, filter}
 use Rattle.std.proofs.Math.Seq.{take-length}
 use Rattle.vtl_cell.specs.Outcome.{Fault, Outcome, after, fault_in, faults_by, unless}
 use Rattle.vtl_cell.specs.Outcomes.{is_true}
 use Rattle.vtl_cell.specs.Row.{Row}
 use Rattle.vtl_cell.specs.Settings.{Settings}
-use Rattle.vtl_cell.specs.Texts.{same_text}
 use Rattle.vtl_cell.specs.declared.kind.Kind.{Kind}
 use Rattle.vtl_cell.proofs.Aparts.{apart_parts}
 use Rattle.vtl_cell.proofs.Sorts.{AllByRecursion-filter}
@@ -20,17 +19,16 @@ use Rattle.vtl_tree.specs.Value.{value}
 use Rattle.vtl_tree.specs.declared.structure.Component.{Component}
 use Rattle.vtl_tree.specs.declared.structure.Structure.{Structure}
 use Rattle.vtl_meaning.specs.Columns.{columns_named, kind_named, place_of, places_in}
-use Rattle.vtl_meaning.specs.Made.{AreAmong, AreFor, IsCalculated, IsColumnAt, IsFiltered, IsLeft, IsMeasured, IsRenamed, IsTyped}
+use Rattle.vtl_meaning.specs.Made.{AreAmong, AreFor, IsCalculated, IsColumnAt, IsFiltered, IsLeft, IsMeasured, IsRenamed}
 use Rattle.vtl_meaning.specs.Operators.{calculated_exps, calculated_of, left_of, measured_exps, measured_of}
 use Rattle.vtl_meaning.specs.Points.{each_point, point_fault, point_of, with_points}
-use Rattle.vtl_meaning.specs.Shapes.{IsShaped}
 use Rattle.vtl_meaning.specs.Trees.{ItemTree as Target, MeasureTree}
 use Rattle.vtl_meaning.proofs.Kept.{columns_point}
 use Rattle.vtl_meaning.proofs.OwnColumns.{columns_apart, own_columns}
 use Rattle.vtl_meaning.proofs.Places.{first_cells, point_length, same_name-refl, same_name-sym}
 use Rattle.sql_tree.specs.Formed.{IsName}
 use Rattle.sql_tree.specs.Trees.{Text}
-use Rattle.sql_check_parts.specs.Queries.{query_columns, scope_of}
+use Rattle.sql_check_parts.specs.Queries.{scope_of}
 use Rattle.sql_check_parts.specs.Scopes.{add_source, columns_of as table_columns}
 use Rattle.sql_meaning.specs.From.{condition_fault, kept, source_rows}
 use Rattle.sql_meaning.specs.Scripts.{Data, base_of, no_table, tables_in}
@@ -45,7 +43,7 @@ use Rattle.vtl_to_sql.specs.Runs.{IsTable, entries, held}
 use Rattle.vtl_to_sql.proofs.Exact.{IsExactly, exactly_same}
 use Rattle.vtl_to_sql.proofs.Expressions.{Translates}
 use Rattle.vtl_to_sql.proofs.Running.{columns_there}
-use Rattle.vtl_to_sql.proofs.SelectForms.{AreGiven, IsTest, columns_given, select_printed, select_whole}
+use Rattle.vtl_to_sql.proofs.SelectForms.{AreGiven, IsTest, select_printed, select_whole}
 use Rattle.vtl_to_sql.proofs.SelectRows.{AllPoints, select_columns, select_rows}
 use Rattle.vtl_to_sql.proofs.Sources.{AreApart, first_is_name, not_first, one_formed, one_names, one_scope}
 

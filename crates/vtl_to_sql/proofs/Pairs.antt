@@ -1,5 +1,5 @@
 -- A select over a join of two tables gives the pairs of points that agree on the identifiers of the second.
-use Rattle.std.proofs.Common.{◌≡◌, ◌≤◌, ◌+◌, ℕ, suc, Bool, true, false, ◌&&◌, ◌||◌, cond, List, [], ◌∷◌, ◌++◌, length, map, take, Option, Some, None, Ok, refl, ap, sym, ◌∙◌, subst, arith}
+use Rattle.std.proofs.Common.{◌≡◌, ◌+◌, ℕ, suc, Bool, true, false, ◌&&◌, cond, List, [], ◌∷◌, ◌++◌, length, map, take, Option, Some, None, Ok, refl, ap, sym, ◌∙◌, subst, arith}
 use Rattle.std.specs.Prelude.{option_map}
 use Rattle.std.specs.List.{AllByRecursion, filter, flat_map, list_all}
 use Rattle.std.specs.Option.{option_to_list}
@@ -14,7 +14,6 @@ use Rattle.vtl_cell.specs.Settings.{Settings}
 use Rattle.vtl_cell.specs.declared.cell.Cell.TheVariants as c
 use Rattle.vtl_cell.specs.declared.kind.Kind.{Kind}
 use Rattle.vtl_cell.specs.declared.kind.Kind.TheVariants as k
-use Rattle.vtl_cell.specs.declared.operator.ScalarOp.{ScalarOp}
 use Rattle.vtl_cell.specs.declared.operator.ScalarOp.TheVariants as op
 use Rattle.vtl_cell.proofs.Aparts.{apart_parts}
 use Rattle.vtl_cell.proofs.Rows.{same_row-is, same_row-sym}
@@ -22,13 +21,13 @@ use Rattle.vtl_rows.specs.Tables.{cells_at}
 use Rattle.vtl_tree.specs.Clauses.{filter_of}
 use Rattle.vtl_tree.specs.CompExp.{CompExp}
 use Rattle.vtl_tree.specs.DataSet.{Distinct, IsDataSet, is_point, look}
-use Rattle.vtl_tree.specs.Structure.{IsStructure, columns_of, key_width, most_components}
+use Rattle.vtl_tree.specs.Structure.{columns_of, key_width}
 use Rattle.vtl_tree.specs.Value.{called, value}
 use Rattle.vtl_tree.specs.declared.structure.Component.{Component}
 use Rattle.vtl_tree.specs.declared.structure.Structure.{Structure}
 use Rattle.vtl_meaning.specs.Columns.{identifiers_of, kind_named, place_of, places_in}
 use Rattle.vtl_meaning.specs.Made.{AreFor, IsColumnAt, IsTyped}
-use Rattle.vtl_meaning.specs.Points.{beside, each_point, paired, with_points}
+use Rattle.vtl_meaning.specs.Points.{beside, paired, with_points}
 use Rattle.vtl_meaning.proofs.Drawn.{drawn_all}
 use Rattle.vtl_meaning.proofs.Kept.{Pairs, all_paired, column_front, column_within}
 use Rattle.vtl_meaning.proofs.Looks.{look_absent}
@@ -39,7 +38,6 @@ use Rattle.sql_tree.specs.Formed.{IsJoin, IsName}
 use Rattle.sql_tree.specs.Trees.{Exp, JoinTree, SelectTree, Text, on}
 use Rattle.sql_tree.specs.declared.word_groups.JoinKind.TheVariants as joining
 use Rattle.sql_check_laws.specs.Selects.{AreJoinsTyped, IsSourceTyped}
-use Rattle.sql_check_parts.specs.Expressions.{site}
 use Rattle.sql_check_parts.specs.Queries.{first_scope, scope_of}
 use Rattle.sql_check_parts.specs.Scopes.{Scope, add_source, columns_of as table_columns}
 use Rattle.sql_meaning.specs.From as from
@@ -50,14 +48,13 @@ use Rattle.rules_to_sql.specs.Names.{Names}
 use Rattle.rules_to_sql.specs.ToSql.{Naming, to_sql}
 use Rattle.vtl_to_sql.specs.Conditions.{AllCanBeWritten, CanBeWritten, HaveNames}
 use Rattle.vtl_to_sql.specs.Queries.{agree, agrees_on, conjunction, first_alias, of_two, pairs_select, second_alias, source_as}
-use Rattle.vtl_to_sql.specs.Runs.{IsTable, entries, held, printable_depth}
+use Rattle.vtl_to_sql.specs.Runs.{IsTable, entries, printable_depth}
 use Rattle.vtl_to_sql.proofs.Conjunctions.{IsPart, alike_kinds, conjunction_kind, conjunction_typed, conjunction_value, conjunction_written, equal_cells}
 use Rattle.vtl_to_sql.proofs.Expressions.{Translates}
 use Rattle.vtl_to_sql.proofs.Identifiers.{AreIdentifiersAt, IsIdentifierAt, few_identifiers, own_there}
 use Rattle.vtl_to_sql.proofs.OneOperand.{known_there, rows_there, same_functions}
-use Rattle.vtl_to_sql.proofs.SelectForms.{AreGiven, IsTest, condition_fits, expression_printed}
-use Rattle.vtl_to_sql.proofs.SelectRows.{AllPoints}
-use Rattle.vtl_to_sql.proofs.Sources.{first_is_name, second_is_name, two_formed, two_names, two_scope}
+use Rattle.vtl_to_sql.proofs.SelectForms.{condition_fits, expression_printed}
+use Rattle.vtl_to_sql.proofs.Sources.{second_is_name, two_formed, two_names, two_scope}
 
 -- ---- the partners of a row are the one point with its key
 

@@ -1,13 +1,12 @@
 -- The tables of the inputs stand for the data sets that are read.
-use Rattle.std.proofs.Common.{◌≡◌, ℕ, Bool, true, false, not, ◌&&◌, ◌||◌, cond, List, [], ◌∷◌, ◌++◌, map, Some, refl, ap, sym, ◌∙◌, subst, append_assoc, append-nil, true≢false}
-use Rattle.std.specs.List.{AllByRecursion, filter, list_all}
-use Rattle.std.specs.Map.{keys_of, lookup}
+use Rattle.std.proofs.Common.{◌≡◌, ℕ, Bool, true, false, not, ◌||◌, cond, List, [], ◌∷◌, ◌++◌, map, Some, refl, ap, sym, ◌∙◌, subst, append_assoc, append-nil, true≢false}
+use Rattle.std.specs.List.{AllByRecursion, filter}
+use Rattle.std.specs.Map.{lookup}
 use Rattle.std.specs.Option.{option_map_or}
-use Rattle.std.proofs.lemmas.Bool.{and_parts}
 use Rattle.vtl_cell.specs.Texts.{same_text}
 use Rattle.vtl_cell.specs.Words.{is_word}
 use Rattle.vtl_cell.proofs.Aparts.{apart_parts}
-use Rattle.vtl_tree.specs.Environment.{DataSet, Environment, data_of}
+use Rattle.vtl_tree.specs.Environment.{Environment, data_of}
 use Rattle.vtl_tree.specs.Structure.{IsStructure, columns_of, names_of, same_name}
 use Rattle.vtl_tree.specs.declared.structure.Component.{Component}
 use Rattle.vtl_tree.specs.declared.structure.Structure.{Structure}
@@ -23,7 +22,7 @@ use Rattle.sql_check_parts.specs.Statements.{column_entry, input_columns, is_of_
 use Rattle.sql_meaning.specs.Scripts.{Inputs, input_table, rows_read}
 use Rattle.vtl_to_sql.specs.Exports.{AreRead, tables_read}
 use Rattle.vtl_to_sql.specs.Means.{Stands, StandsAs}
-use Rattle.vtl_to_sql.specs.Runs.{IsTable, entries, held}
+use Rattle.vtl_to_sql.specs.Runs.{IsTable, entries}
 use Rattle.vtl_to_sql.specs.Scripts.{input_column, input_of}
 use Rattle.vtl_to_sql.proofs.Names.{word_is_name}
 use Rattle.vtl_to_sql.proofs.Sources.{AreApart}

@@ -19,7 +19,7 @@ use Rattle.sql_check_parts.specs.Statements.{is_taken}
 use Rattle.sql_meaning.specs.Scripts.{Data, NamedFault, Table as Held, base_of, created, fault_name, or_named, tables_in}
 use Rattle.sql_meaning.specs.Selects.{query_value}
 use Rattle.vtl_to_sql.specs.Means.{Means}
-use Rattle.vtl_to_sql.specs.Runs.{AreLawful, IsTable, entries, given_behind, held, run}
+use Rattle.vtl_to_sql.specs.Runs.{AreLawful, entries, given_behind, held, run}
 use Rattle.vtl_to_sql.specs.Tables.{Table, table_of}
 
 -- ---- tables by name

@@ -1,19 +1,17 @@
 -- A select whose items are expressions breaks no rule, and can be printed.
-use Rattle.std.proofs.Common.{◌≡◌, ◌≤◌, ◌+◌, ℕ, suc, Bool, true, false, not, cond, List, [], ◌∷◌, ◌++◌, length, map, Option, Some, None, refl, ap, sym, ◌∙◌, subst, arith, length-append}
-use Rattle.std.specs.Prelude.{nat_le}
-use Rattle.std.specs.List.{AllByRecursion, filter, list_any}
+use Rattle.std.proofs.Common.{◌≡◌, ◌≤◌, ◌+◌, true, false, not, cond, List, [], ◌∷◌, ◌++◌, length, map, Option, Some, None, refl, ap, sym, ◌∙◌, subst, arith, length-append}
+use Rattle.std.specs.List.{AllByRecursion, filter}
 use Rattle.std.proofs.lemmas.List.{length-map}
 use Rattle.grammar_forms.specs.Written.{Each}
 use Rattle.vtl_cell.specs.Apart.{all_apart}
 use Rattle.vtl_cell.specs.ScalarKinds.{meets}
 use Rattle.vtl_cell.specs.Settings.{Settings}
-use Rattle.vtl_cell.specs.Texts.{same_text}
 use Rattle.vtl_cell.specs.declared.kind.Kind.{Kind}
 use Rattle.vtl_cell.specs.declared.kind.Kind.TheVariants as k
 use Rattle.vtl_cell.proofs.Sorts.{AllByRecursion-filter}
 use Rattle.vtl_kinds.specs.Literals.{is_null_kind}
 use Rattle.vtl_tree.specs.CompExp.{CompExp}
-use Rattle.vtl_tree.specs.Structure.{IsStructure, columns_of, names_of, of_role, same_name, same_role}
+use Rattle.vtl_tree.specs.Structure.{columns_of, names_of, of_role, same_name, same_role}
 use Rattle.vtl_tree.specs.Structures as structures
 use Rattle.vtl_tree.specs.declared.structure.Component.{Component}
 use Rattle.vtl_tree.specs.declared.structure.Role.{Role}
@@ -30,9 +28,9 @@ use Rattle.sql_tree.specs.declared.parts.Source.{Source}
 use Rattle.sql_check_parts.specs.Expressions.{site}
 use Rattle.sql_check_parts.specs.Queries.{first_scope, groups_of, item_name, lacks_kind, most_columns, scope_of, shared_kinds}
 use Rattle.sql_check_parts.specs.Queries as queries
-use Rattle.sql_check_parts.specs.Scopes.{Grouping, Scope, Tables, grouping_of, repeats}
+use Rattle.sql_check_parts.specs.Scopes.{Scope, Tables, grouping_of, repeats}
 use Rattle.sql_check_laws.specs.Fits.{IsCondition, IsMaybeCondition}
-use Rattle.sql_check_laws.specs.Selects.{AreJoinsTyped, IsColumnKind, IsItemTyped, IsQueryWhole, IsSelectTyped, IsSourceTyped, whole_site}
+use Rattle.sql_check_laws.specs.Selects.{AreJoinsTyped, IsColumnKind, IsItemTyped, IsQueryWhole, IsSelectTyped, IsSourceTyped}
 use Rattle.sql_check_laws.proofs.TypedSelects.{one_typed}
 use Rattle.rules_to_sql.specs.Names.{AreNamesFormed, Names}
 use Rattle.rules_to_sql.specs.ToSql.{Naming, to_sql}

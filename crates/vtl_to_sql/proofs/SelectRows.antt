@@ -1,5 +1,5 @@
 -- A select whose items are expressions has a point of their values for each row.
-use Rattle.std.proofs.Common.{◌≡◌, ℕ, Bool, true, false, ◌||◌, cond, List, [], ◌∷◌, map, Option, Some, None, Ok, Err, refl, ap, sym, ◌∙◌, subst, append-nil}
+use Rattle.std.proofs.Common.{◌≡◌, ℕ, true, false, cond, List, [], ◌∷◌, map, Option, Some, None, Ok, Err, refl, ap, ◌∙◌, subst, append-nil}
 use Rattle.std.specs.Prelude.{IfOk, zip}
 use Rattle.std.specs.List.{AllByRecursion, list_any}
 use Rattle.vtl_cell.specs.Conversion.{as_kind}

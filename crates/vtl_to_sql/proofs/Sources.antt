@@ -1,6 +1,6 @@
 -- The columns of one source, and of two.
-use Rattle.std.proofs.Common.{◌≡◌, ◌<◌, ◌+◌, ℕ, zero, suc, Bool, true, false, cond, List, [], ◌∷◌, ◌++◌, length, map, Some, refl, ap, sym, ◌∙◌, subst, arith}
-use Rattle.std.specs.Prelude.{codes, nat_lt, if◌then◌else◌}
+use Rattle.std.proofs.Common.{◌≡◌, ◌<◌, ◌+◌, ℕ, zero, suc, Bool, true, false, cond, List, [], ◌∷◌, ◌++◌, length, Some, refl, ap, sym, ◌∙◌, subst, arith}
+use Rattle.std.specs.Prelude.{nat_lt, if◌then◌else◌}
 use Rattle.std.specs.List.{AllByRecursion}
 use Rattle.std.specs.Map.{lookup}
 use Rattle.std.proofs.lemmas.Bool.{le-ltb, lt-ltb}
@@ -15,7 +15,7 @@ use Rattle.vtl_meaning.specs.Made.{IsColumnAt}
 use Rattle.vtl_meaning.proofs.Places.{same_name-refl, same_name-sym}
 use Rattle.sql_lexer.specs.Spelling.{is_name}
 use Rattle.sql_tree.specs.Formed.{IsName}
-use Rattle.sql_check_parts.specs.Scopes.{Scope, found, numbered, placed}
+use Rattle.sql_check_parts.specs.Scopes.{Scope, found, numbered}
 use Rattle.sql_meaning.specs.Values.{place_in}
 use Rattle.rules_to_sql.specs.Names.{AreNamesFormed, Names}
 use Rattle.vtl_to_sql.specs.Conditions.{HaveNames}

@@ -1,5 +1,5 @@
 -- The tables of a script hold its outputs, or the first one that has a fault has the script's.
-use Rattle.std.proofs.Common.{◌≡◌, ℕ, Bool, true, false, cond, List, [], ◌∷◌, ◌++◌, Some, Ok, Err, Result, refl, ap, sym, ◌∙◌, subst, append_assoc, append-nil, inl, true≢false}
+use Rattle.std.proofs.Common.{◌≡◌, Bool, true, false, cond, List, [], ◌∷◌, ◌++◌, Some, Ok, Err, Result, refl, ap, sym, ◌∙◌, subst, append_assoc, append-nil, inl, true≢false}
 use Rattle.std.specs.List.{AllByRecursion}
 use Rattle.std.specs.Map.{lookup}
 use Rattle.std.specs.Option.{option_map_or}
@@ -29,7 +29,7 @@ use Rattle.vtl_to_sql.proofs.Composition.{stands_still}
 use Rattle.vtl_to_sql.proofs.Expressions.{Translates}
 use Rattle.vtl_to_sql.proofs.Names.{not_numbered, numbered_name, other_statement, plain_name, word_is_name}
 use Rattle.vtl_to_sql.proofs.Nodes.{node_gives, translated_built}
-use Rattle.vtl_to_sql.proofs.Running.{lawful_on, name_free, run_on, run_one, run_stops, same_ok, there_last, there_still}
+use Rattle.vtl_to_sql.proofs.Running.{lawful_on, name_free, run_on, run_one, run_stops, same_ok, there_last}
 
 -- tables of one more statement
 named_still : (p : Settings) (before more : Data) (r : Text) (ss : List Statement) → AllByRecursion (λ t. fault_name t.0 ≡ r) more → AllByRecursion (λ t. same_text t.result r ≡ false) ss → AreNamed p before ss → AreNamed p (before ++ more) ss

@@ -1,8 +1,8 @@
 -- `sub` is a select of the columns that are left, where the identifiers have the values.
-use Rattle.std.proofs.Common.{◌≡◌, ◌≤◌, ◌+◌, Bool, true, cond, List, [], ◌∷◌, length, map, Some, None, Ok, refl, ap, sym, ◌∙◌, subst, arith}
+use Rattle.std.proofs.Common.{◌≡◌, ◌≤◌, Bool, true, cond, List, [], ◌∷◌, length, map, Some, None, Ok, refl, ap, sym, ◌∙◌, subst, arith}
 use Rattle.std.specs.List.{AllByRecursion, filter}
 use Rattle.std.proofs.lemmas.List.{length-map}
-use Rattle.vtl_cell.specs.Kinds.{is_null, is_of, kind_of}
+use Rattle.vtl_cell.specs.Kinds.{is_of, kind_of}
 use Rattle.vtl_cell.specs.Order.{same_cell}
 use Rattle.vtl_cell.specs.Outcome.{after, fault_in, faults_by, unless}
 use Rattle.vtl_cell.specs.Outcomes.{is_true}
@@ -25,7 +25,7 @@ use Rattle.vtl_meaning.specs.Operators.{has_values, sub_of}
 use Rattle.vtl_meaning.specs.Points.{each_point, with_points}
 use Rattle.vtl_meaning.specs.clauses.SubItem.{SubItem}
 use Rattle.vtl_meaning.proofs.OwnColumns.{columns_apart}
-use Rattle.vtl_meaning.proofs.Places.{all_map, all_more}
+use Rattle.vtl_meaning.proofs.Places.{all_more}
 use Rattle.vtl_meaning.proofs.ValueKinds.{cell_is_of, own_kind}
 use Rattle.sql_tree.specs.Formed.{IsName}
 use Rattle.sql_tree.specs.Trees.{Text}
@@ -85,8 +85,7 @@ module _ (p : Settings) (law : Translates p) (before : Data) (name : Text) (a : 
       → AllByRecursion (λ z. (is_of (kind_named z.id (identifiers_of a)) z.value ≡ true) × IsColumnAt (place_of z.id (identifiers_of a)) z.id (kind_named z.id (identifiers_of a)) (identifiers_of a)) items → AllByRecursion (HasValue p) items → AllByRecursion (IsFixed p xs) items
   all_fixed [] f g = tt
   all_fixed (z ∷ zs) f g =
-      let same = kind_is (kind_named z.id (identifiers_of a)) z.value f.0.0 g.0.filled in
-      (
+      let same = kind_is (kind_named z.id (identifiers_of a)) z.value f.0.0 g.0.filled in (
         record {
           column = (identifier_there a set.well_formed z.id (kind_of z.value) (subst (λ q. IsColumnAt (place_of z.id (identifiers_of a)) z.id q (identifiers_of a)) (sym same) f.0.1)).0;
           given = g.0;

@@ -1,11 +1,9 @@
 -- What is asked of a script gives what is asked of its tables.
-use Rattle.std.proofs.Common.{◌≡◌, ◌≤◌, Bool, true, false, ◌||◌, List, [], ◌∷◌, map, Ok, Err, refl, ap, sym, ◌∙◌, subst}
-use Rattle.std.specs.List.{AllByRecursion, list_any}
-use Rattle.std.specs.Map.{keys_of}
+use Rattle.std.proofs.Common.{◌≡◌, ◌≤◌, Bool, true, false, ◌||◌, List, [], ◌∷◌, refl, ap, sym, ◌∙◌, subst}
+use Rattle.std.specs.List.{AllByRecursion}
 use Rattle.vtl_cell.specs.Settings.{Settings}
 use Rattle.vtl_cell.specs.Texts.{same_text}
 use Rattle.vtl_cell.specs.Words.{is_word}
-use Rattle.vtl_tree.specs.DataSet.{IsDataSet}
 use Rattle.vtl_tree.specs.Environment.{Environment}
 use Rattle.vtl_tree.specs.Structure.{IsStructure, same_name}
 use Rattle.vtl_tree.specs.Structures.{Named, has_name}
@@ -14,7 +12,7 @@ use Rattle.vtl_meaning.specs.Meaning.{AreDataSets, Statement, known_in, meaning}
 use Rattle.vtl_meaning.specs.Trees.{structure_of}
 use Rattle.vtl_meaning.proofs.Places.{all_more}
 use Rattle.sql_tree.specs.Trees.{Text}
-use Rattle.sql_meaning.specs.Scripts.{Data, Inputs, fault_name, script_value}
+use Rattle.sql_meaning.specs.Scripts.{Data, Inputs, script_value}
 use Rattle.vtl_to_sql.specs.Conditions.{AreTranslated, IsScript, IsTranslated}
 use Rattle.vtl_to_sql.specs.Exports.{AreRead, exported_as, tables_read}
 use Rattle.vtl_to_sql.specs.Means.{AreNamed, IsApartFrom, ScriptGives, Stands}

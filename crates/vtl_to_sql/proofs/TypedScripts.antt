@@ -1,8 +1,7 @@
 -- The script in SQL breaks no rule.
-use Rattle.std.proofs.Common.{◌≡◌, ◌≤◌, ℕ, zero, suc, pos, Bool, true, false, not, ◌&&◌, ◌||◌, cond, List, [], ◌∷◌, ◌++◌, length, map, Option, Some, None, refl, ap, sym, ◌∙◌, subst, arith, append_assoc, append-nil, true≢false}
+use Rattle.std.proofs.Common.{◌≡◌, ℕ, Bool, true, false, not, ◌&&◌, ◌||◌, cond, List, [], ◌∷◌, ◌++◌, length, map, Option, Some, None, refl, ap, sym, ◌∙◌, subst, arith, append_assoc, append-nil, true≢false}
 use Rattle.std.specs.Prelude.{◌==◌, IsSome, fold, nat_le, unwrap_or}
-use Rattle.std.specs.Fmt.{decimal}
-use Rattle.std.specs.List.{AllByRecursion, filter, list_all, list_any}
+use Rattle.std.specs.List.{AllByRecursion, list_all, list_any}
 use Rattle.std.specs.Map.{keys_of, lookup}
 use Rattle.std.specs.Option.{option_map_or}
 use Rattle.std.proofs.lemmas.Bool.{and_from, and_parts}
@@ -18,17 +17,15 @@ use Rattle.vtl_tree.specs.Structure.{IsStructure, columns_of, most_components, n
 use Rattle.vtl_tree.specs.Structures as structures
 use Rattle.vtl_tree.specs.Structures.{AreStructures, Named, is_declarable, is_declarable_component, is_declarable_entry, is_string_identifier}
 use Rattle.vtl_tree.specs.declared.structure.Component.{Component}
-use Rattle.vtl_tree.specs.declared.structure.Role.{Role}
 use Rattle.vtl_tree.specs.declared.structure.Role.TheVariants as role
 use Rattle.vtl_tree.specs.declared.structure.Structure.{Structure}
 use Rattle.vtl_meaning.specs.Columns.{identifiers_of, others_of}
 use Rattle.vtl_meaning.specs.Shapes.{IsShaped}
 use Rattle.vtl_meaning.proofs.OwnColumns.{columns_apart}
-use Rattle.vtl_meaning.proofs.Places.{IsOther, all_append, all_back, all_front, all_more, are_others, columns_split, identifiers_apart, same_name-refl, same_name-sym}
+use Rattle.vtl_meaning.proofs.Places.{IsOther, all_back, all_front, all_more, are_others, columns_split, identifiers_apart, same_name-refl, same_name-sym}
 use Rattle.check_laws.proofs.Scripts.{structures-shaped}
 use Rattle.sql_tree.specs.Formed.{IsName}
-use Rattle.sql_tree.specs.Trees.{StatementTree, Text}
-use Rattle.sql_tree.specs.declared.statements.InputColumn.{InputColumn}
+use Rattle.sql_tree.specs.Trees.{Text}
 use Rattle.sql_check_laws.specs.Statements.{AreNames, AreTyped, HasCodes, IsExportTyped, IsInputTyped, IsOrder}
 use Rattle.sql_check_parts.specs.Scopes.{Columns, Tables, columns_of as table_columns, is_among, is_empty, repeats, value_among}
 use Rattle.sql_check_parts.specs.Statements.{Given, after, codes_fit, input_columns, is_of_key, is_taken, is_text}
@@ -73,8 +70,7 @@ all_readable reads h = go reads (passed_each is_declarable_entry reads h.structu
     go : (es : Named) → AllByRecursion (λ e. is_declarable_entry e ≡ true) es → AllByRecursion (λ e. IsShaped e.1) es → AllByRecursion (λ e. is_word e.0 ≡ true) es → AllByRecursion IsReadable es
     go [] d s w = tt
     go (e ∷ es) d s w =
-        let all = passed_each is_declarable_component e.1.components (components_declarable e.1 d.0) in
-        (
+        let all = passed_each is_declarable_component e.1.components (components_declarable e.1 d.0) in (
           record {
             word = w.0;
             shaped = s.0;
