@@ -1,0 +1,98 @@
+-- Which expressions on data sets and which statements are translated: their names and constants can be written, and no expression
+-- is too deep to be printed.
+use Rattle.std.specs.Prelude.{◌≡◌, ◌≤◌, ◌<◌, ◌+◌, ◌^◌, ℕ, true, false, List, [], ◌∷◌, length}
+use Rattle.std.specs.List.{AllByRecursion}
+use Rattle.vtl_cell.specs.Held.{IsHeld}
+use Rattle.vtl_cell.specs.Kinds.{is_null}
+use Rattle.vtl_cell.specs.Profile.{IsOfProfile}
+use Rattle.vtl_cell.specs.Settings.{Settings}
+use Rattle.vtl_cell.specs.Words.{is_word}
+use Rattle.vtl_tree.specs.CompExp.{CompExp}
+use Rattle.vtl_tree.specs.Structure.{columns_of, most_components}
+use Rattle.vtl_tree.specs.Structures.{AreStructures, Named, has_name}
+use Rattle.vtl_tree.specs.declared.structure.Component.{Component}
+use Rattle.vtl_tree.specs.declared.structure.Structure.{Structure}
+use Rattle.vtl_meaning.specs.Made.{IsMade}
+use Rattle.vtl_meaning.specs.Meaning.{Statement}
+use Rattle.vtl_meaning.specs.Operators.{calculated_exps, measured_exps, pair_exps}
+use Rattle.vtl_meaning.specs.Trees as nodes
+use Rattle.vtl_meaning.specs.Trees.{FormTree, NodeTree, structure_of}
+use Rattle.vtl_meaning.specs.clauses.SubItem.{SubItem}
+use Rattle.sql_tree.specs.Formed.{IsName}
+use Rattle.check_laws.specs.Depths.{comp_depth}
+use Rattle.rules_to_sql.specs.Held.{HoldsValues}
+use Rattle.vtl_to_sql.specs.Tables.{first_number, made_of}
+
+-- ---- parts
+
+-- the deepest expression that is translated: its translation is at most one deeper, and can be printed
+abbrev pub most_depth : ℕ
+most_depth = 200
+
+pub record CanBeWritten (e : CompExp) : Type 0 where
+  pub constants : HoldsValues e
+  pub shallow : comp_depth e ≤ most_depth
+
+abbrev pub AllCanBeWritten : List CompExp → Type 0
+AllCanBeWritten es = AllByRecursion CanBeWritten es
+
+-- the names of columns
+abbrev pub HaveNames : List Component → Type 0
+HaveNames xs = AllByRecursion (λ x. IsName x.name) xs
+
+-- the value of an identifier, as typing gives it
+pub record HasValue (p : Settings) (i : SubItem) : Type 0 where
+  pub held : IsHeld i.value
+  pub ranged : IsOfProfile p i.value
+  pub filled : is_null i.value ≡ false
+
+-- ---- expressions on data sets
+
+abbrev mutual
+  pub IsTranslated : Settings → NodeTree → Type 0
+  IsTranslated p (nodes.node s form) = HaveNames (columns_of s) × IsFormTranslated p s form
+
+  pub IsFormTranslated : Settings → Structure → FormTree → Type 0
+  IsFormTranslated p s (nodes.named x) = Unit {0}
+  IsFormTranslated p s (nodes.measures m a) = IsTranslated p a × AllCanBeWritten (measured_exps m (structure_of a) s)
+  IsFormTranslated p s (nodes.pair o a b) = IsTranslated p a × IsTranslated p b × AllCanBeWritten (pair_exps o (structure_of a) (structure_of b) s)
+  IsFormTranslated p s (nodes.choose t a b) = IsTranslated p t × IsTranslated p a × IsTranslated p b
+  IsFormTranslated p s (nodes.member a m) = IsTranslated p a
+  IsFormTranslated p s (nodes.filter a e) = IsTranslated p a × CanBeWritten e
+  IsFormTranslated p s (nodes.calc a items) = IsTranslated p a × AllCanBeWritten (calculated_exps items (structure_of a) s)
+  IsFormTranslated p s (nodes.keep a names) = IsTranslated p a
+  IsFormTranslated p s (nodes.drop_named a names) = IsTranslated p a
+  IsFormTranslated p s (nodes.rename a pairs) = IsTranslated p a
+  IsFormTranslated p s (nodes.sub a items) = IsTranslated p a × AllByRecursion (HasValue p) items × (length items ≤ most_components)
+  -- the other forms are not translated yet
+  IsFormTranslated p s other = ⊥
+
+-- ---- statements
+
+-- few tables are made for it
+abbrev pub HasFewTables : Settings → Statement → Type 0
+HasFewTables p s = 1 + length (made_of p s.result s.node first_number).tables < 2 ^ 64
+
+-- its result has a name that none of these data sets has, and its expression is translated
+pub record IsStatementTranslated (p : Settings) (known : Named) (s : Statement) : Type 0 where
+  pub word : is_word s.result ≡ true
+  pub new : has_name s.result known ≡ false
+  pub made : IsMade p known s.node
+  pub translated : IsTranslated p s.node
+  pub few : HasFewTables p s
+
+-- each behind the results of those before it
+abbrev pub AreTranslated : Settings → Named → List Statement → Type 0
+AreTranslated p known [] = Unit {0}
+AreTranslated p known (s ∷ ss) = IsStatementTranslated p known s × AreTranslated p ((s.result, structure_of s.node) ∷ known) ss
+
+-- data sets that can be declared, and have words as names
+pub record AreReadable (reads : Named) : Type 0 where
+  pub structures : AreStructures reads
+  pub words : AllByRecursion (λ e. is_word e.0 ≡ true) reads
+
+-- statements that read these data sets, in settings that there are
+pub record IsScript (p : Settings) (reads : Named) (ss : List Statement) : Type 0 where
+  pub low : p.scale ≤ 9
+  pub readable : AreReadable reads
+  pub translated : AreTranslated p reads ss

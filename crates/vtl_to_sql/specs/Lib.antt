@@ -1,0 +1,7 @@
+pub mod Queries
+pub mod Tables
+pub mod Scripts
+pub mod Runs
+pub mod Conditions
+pub mod Means
+pub mod Exports

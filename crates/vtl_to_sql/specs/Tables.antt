@@ -1,0 +1,117 @@
+-- The tables that are made for an expression on data sets, for a statement and for a script. An expression is the tables of its
+-- operands and then one query.
+use Rattle.std.specs.Prelude.{ℕ, ◌+◌, List, [], ◌∷◌, ◌++◌}
+use Rattle.std.specs.List.{flat_map}
+use Rattle.std.specs.Fmt.{decimal}
+use Rattle.vtl_cell.specs.Settings.{Settings}
+use Rattle.vtl_tree.specs.declared.structure.Structure.{Structure}
+use Rattle.vtl_meaning.specs.Meaning.{Statement}
+use Rattle.vtl_meaning.specs.Trees as nodes
+use Rattle.vtl_meaning.specs.Trees.{FormTree, NodeTree, structure_of}
+use Rattle.sql_tree.specs.Trees.{Text, QueryTree}
+use Rattle.sql_meaning.specs.Scripts.{dollar}
+use Rattle.vtl_to_sql.specs.Queries.{calc_query, choose_query, copy_query, filter_query, left_query, measures_query, pair_query, rename_query, sub_query}
+
+-- a table by a query
+pub record Table : Type 0 where
+  pub name : Text
+  pub query : QueryTree
+
+abbrev pub table_of : Text → QueryTree → Table
+table_of name q = record { name = name; query = q }
+
+-- of an expression: the tables before its own, the query of its own, and the next number of a table
+pub record Made : Type 0 where
+  pub tables : List Table
+  pub query : QueryTree
+  pub next : ℕ
+
+-- of operands: the names of the tables that stand for them, the tables that are made for them, and the next number
+pub record Sources : Type 0 where
+  pub names : List Text
+  pub tables : List Table
+  pub next : ℕ
+
+-- the result's name, `$` and a number
+abbrev pub numbered : Text → ℕ → Text
+numbered result n = result ++ dollar ∷ decimal n
+
+-- ---- operands
+
+-- by its name, and by a table of its own
+abbrev pub by_name : Text → ℕ → Sources
+by_name x n = record { names = x ∷ []; tables = []; next = n }
+
+abbrev pub stored : Text → Made → Sources
+stored result m = record {
+  names = numbered result m.next ∷ [];
+  tables = m.tables ++ table_of (numbered result m.next) m.query ∷ [];
+  next = m.next + 1;
+}
+
+abbrev pub source_of : Text → FormTree → ℕ → Made → Sources
+source_of result (nodes.named x) n m = by_name x n
+source_of result form n m = stored result m
+
+-- operands, and others behind them
+abbrev pub and_then : Sources → (ℕ → Sources) → Sources
+and_then a f =
+    let b = f a.next in
+    record { names = a.names ++ b.names; tables = a.tables ++ b.tables; next = b.next }
+
+-- the names of one, two and three operands
+abbrev pub with_one : (Text → QueryTree) → List Text → QueryTree
+with_one q (x ∷ []) = q x
+with_one q names = []
+
+abbrev pub with_two : (Text → Text → QueryTree) → List Text → QueryTree
+with_two q (x ∷ y ∷ []) = q x y
+with_two q names = []
+
+abbrev pub with_three : (Text → Text → Text → QueryTree) → List Text → QueryTree
+with_three q (x ∷ y ∷ z ∷ []) = q x y z
+with_three q names = []
+
+-- a query over operands
+abbrev pub over : Sources → (List Text → QueryTree) → Made
+over os q = record { tables = os.tables; query = q os.names; next = os.next }
+
+-- ---- expressions
+
+abbrev mutual
+  pub made_of : Settings → (result : Text) → NodeTree → ℕ → Made
+  made_of p r (nodes.node s form) n = made_of_form p r s form n
+
+  pub sources_of : Settings → (result : Text) → NodeTree → ℕ → Sources
+  sources_of p r (nodes.node s form) n = source_of r form n (made_of_form p r s form n)
+
+  pub made_of_form : Settings → (result : Text) → Structure → FormTree → ℕ → Made
+  made_of_form p r s (nodes.named x) n = over (by_name x n) (with_one (copy_query p s))
+  made_of_form p r s (nodes.measures m a) n = over (sources_of p r a n) (with_one (measures_query p m (structure_of a) s))
+  made_of_form p r s (nodes.pair o a b) n = over (and_then (sources_of p r a n) (sources_of p r b)) (with_two (pair_query p o (structure_of a) (structure_of b) s))
+  made_of_form p r s (nodes.choose t a b) n =
+      over (and_then (sources_of p r t n) (λ m. and_then (sources_of p r a m) (sources_of p r b))) (with_three (choose_query p (structure_of t) (structure_of a) (structure_of b) s))
+  made_of_form p r s (nodes.member a m) n = over (sources_of p r a n) (with_one (left_query p (structure_of a) s))
+  made_of_form p r s (nodes.filter a e) n = over (sources_of p r a n) (with_one (filter_query p e s))
+  made_of_form p r s (nodes.calc a items) n = over (sources_of p r a n) (with_one (calc_query p items (structure_of a) s))
+  made_of_form p r s (nodes.keep a names) n = over (sources_of p r a n) (with_one (left_query p (structure_of a) s))
+  made_of_form p r s (nodes.drop_named a names) n = over (sources_of p r a n) (with_one (left_query p (structure_of a) s))
+  made_of_form p r s (nodes.rename a pairs) n = over (sources_of p r a n) (with_one (rename_query p (structure_of a) s))
+  made_of_form p r s (nodes.sub a items) n = over (sources_of p r a n) (with_one (sub_query p items (structure_of a) s))
+  -- no script that is translated holds another form yet
+  made_of_form p r s other n = record { tables = []; query = []; next = n }
+
+-- ---- statements
+
+-- the first number of a table
+abbrev pub first_number : ℕ
+first_number = 1
+
+-- the last of a statement's tables has the result's name
+abbrev pub statement_tables : Settings → Statement → List Table
+statement_tables p s =
+    let m = made_of p s.result s.node first_number in
+    m.tables ++ table_of s.result m.query ∷ []
+
+abbrev pub script_tables : Settings → List Statement → List Table
+script_tables p ss = flat_map (statement_tables p) ss
