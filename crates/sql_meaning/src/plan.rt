@@ -26,25 +26,25 @@ pub struct Early {
     pub join: usize,
 }
 
-/// A query, those of its joins that go by an index, and the parts of its conditions that are tried early.
-pub struct Plan {
-    query: Query,
+/// A query that is lent, those of its joins that go by an index, and the parts of its conditions that are tried early.
+pub struct Plan<'q> {
+    query: &'q Query,
     indexed: Vec<Indexed>,
     early: Vec<Early>,
 }
 
 // Written out, so that a proof above sees one call and not the drop of each part.
-impl Drop for Plan {
+impl<'q> Drop for Plan<'q> {
     fn drop(self) {
         let Plan {
-            query: _query,
+            query: _,
             indexed: _indexed,
             early: _early,
         } = self;
     }
 }
 
-impl Model for Plan {
+impl<'q> Model for Plan<'q> {
     ghost use Rattle.std.specs.Coded.{codes};
     ghost use Rattle.sql_tree.specs.View.{query_tree};
     ghost use Rattle.sql_tree.specs.contracts.statements.Query as q;
@@ -54,17 +54,17 @@ impl Model for Plan {
 
     ghost coded = { Prim.hlevel (codes, q.the_row.coded) };
 
-    ghost view = { λ p. record { query = p.query; ways = record { indexed = p.indexed.items; early = p.early.items } } };
+    ghost view = { λ p. record { query = p.query.now; ways = record { indexed = p.indexed.items; early = p.early.items } } };
 
-    ghost invariant = { λ p. plans.IsPlan (query_tree p.query) (record { indexed = p.indexed.items; early = p.early.items }) };
+    ghost invariant = { λ p. plans.IsPlan (query_tree p.query.now) (record { indexed = p.indexed.items; early = p.early.items }) };
 }
 
-impl Plan {
+impl<'q> Plan<'q> {
     /// The plan of a query. Each entry names a part of the query, each indexed join has a conjunction of equalities of a
     /// column on each side as its ON, and the rows and faults of the query stay as they are. It takes no memory.
-    pub fn of(query: Query, indexed: Vec<Indexed>, early: Vec<Early>) -> Plan
-        requires { IsPlan (query_tree query) (record { indexed = indexed.items; early = early.items }) }
-        ensures query { result.query ≡ query }
+    pub fn of(query: &'q Query, indexed: Vec<Indexed>, early: Vec<Early>) -> Plan<'q>
+        requires { IsPlan (query_tree query.now) (record { indexed = indexed.items; early = early.items }) }
+        ensures query { result.query ≡ query.now }
         ensures indexed { result.ways.indexed ≡ indexed.items }
         ensures early { result.ways.early ≡ early.items }
     {
@@ -80,7 +80,7 @@ impl Plan {
         ensures query { result.now ≡ self.now.query }
         ensures plan { IsPlan (query_tree result.now) self.now.ways }
     {
-        &self.query
+        self.query
     }
 
     /// The joins that go by an index. It takes no memory.
