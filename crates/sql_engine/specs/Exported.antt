@@ -27,15 +27,15 @@ abbrev pub shown : Export → Text × Listed
 shown e = (e.name, record { columns = map entry_column e.columns; rows = e.rows })
 
 -- a table in the order of an export: by the listed columns, and then by all
-abbrev pub ordered_by : SqlExport → Listed → Listed
-ordered_by s t = record { columns = t.columns; rows = in_order (map (sort_key (map column_entry t.columns)) s.order) [] t.rows }
+abbrev pub ordered_by : List Text → Listed → Listed
+ordered_by order t = record { columns = t.columns; rows = in_order (map (sort_key (map column_entry t.columns)) order) [] t.rows }
 
 abbrev pub no_listed : Listed
 no_listed = record { columns = []; rows = [] }
 
 -- what an export gives of the tables that are held
 abbrev pub exported_of : NamedTables → SqlExport → Text × Listed
-exported_of held s = (s.name, ordered_by s (unwrap_or (table_of s.name held) no_listed))
+exported_of held s = (s.name, ordered_by s.order (unwrap_or (table_of s.name held) no_listed))
 
 -- each export names a table, no table is exported twice, and each is ordered by columns of it
 abbrev pub AreExported : Tables → List Text → List SqlExport → Type 0

@@ -9,9 +9,12 @@
 
 mod error;
 mod faults;
+mod laws;
+mod orders;
 mod structures;
 mod windows;
 
 pub use error::RunErr;
+pub use laws::queries_depend_on_what_they_read;
 pub use structures::structure_of;
 pub use windows::has_window;
