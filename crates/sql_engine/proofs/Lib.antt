@@ -1,3 +1,5 @@
 pub mod FaultNames
 pub mod OnlyRead
 pub mod Ordering
+pub mod TableLookups
+pub mod Exporting

@@ -8,6 +8,7 @@
 #![tactic(auto)]
 
 mod error;
+mod exports;
 mod faults;
 mod laws;
 mod orders;
