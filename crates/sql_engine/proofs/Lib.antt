@@ -3,3 +3,4 @@ pub mod OnlyRead
 pub mod Ordering
 pub mod TableLookups
 pub mod Exporting
+pub mod Noting

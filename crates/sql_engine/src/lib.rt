@@ -9,6 +9,7 @@
 
 mod error;
 mod exports;
+mod expression_reads;
 mod faults;
 mod laws;
 mod orders;
