@@ -1,6 +1,7 @@
 -- What is read is noted, part by part.
 use Rattle.std.proofs.Common.{◌≡◌, ◌+◌, ◌≤◌, ◌<◌, ℕ, Bool, true, false, cond, List, [], ◌∷◌, map, drop, get_or, length, Option, Some, None, Result, Ok, Err, refl, sym, ap, ◌∙◌, subst, arith, rules}
 use Rattle.std.specs.Prelude.{OnOk, nat_le}
+use Rattle.std.specs.List.{AllByRecursion}
 use Rattle.std.specs.Map.{lookup}
 use Rattle.std.specs.Cmp.Lexicographic.{bytes_decides}
 use Rattle.std.proofs.lemmas.List.{drop_all, drop_more}
@@ -97,3 +98,18 @@ branch_next bs i b h is P one rest = subst (λ (l : List Branch). EachOfBranches
 
 pub branches_end : (bs : List Branch) (i : ℕ) → length bs ≤ i → (P : Text → Type 0) → BranchesLeft bs i P
 branches_end bs i h P = subst (λ (l : List Branch). EachOfBranches P (branches_of (map branch_tree l))) (sym (drop_all i bs h)) tt
+
+-- ---- lists of anything
+
+pub noted_as : (place : ℕ) (a b : LastPlaces) (Each Other : (Text → Type 0) → Type 0) → IsNoted place a b Each → ((P : Text → Type 0) → Each P → Other P) → IsNoted place a b Other
+noted_as place a b Each Other one f = record { stays = one.stays; read = λ later s. f (IsReadFrom place later) (one.read later s) }
+
+module _ {A T : Type 0} (view : A → T) (Each : (Text → Type 0) → T → Type 0) where
+  abbrev pub AllLeft : List A → ℕ → (Text → Type 0) → Type 0
+  AllLeft xs i P = AllByRecursion (Each P) (map view (drop i xs))
+
+  pub next_left : (xs : List A) (i : ℕ) (x : A) → i < length xs → x ≡ get_or xs i x → (P : Text → Type 0) → Each P (view x) → AllLeft xs (i + 1) P → AllLeft xs i P
+  next_left xs i x h is P one rest = subst (λ (l : List A). AllByRecursion (Each P) (map view l)) (sym (drop_more xs i x h ∙ ap (λ (y : A). y ∷ drop (i + 1) xs) (sym is))) (one, rest)
+
+  pub end_left : (xs : List A) (i : ℕ) → length xs ≤ i → (P : Text → Type 0) → AllLeft xs i P
+  end_left xs i h P = subst (λ (l : List A). AllByRecursion (Each P) (map view l)) (sym (drop_all i xs h)) tt

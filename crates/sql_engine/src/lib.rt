@@ -13,6 +13,7 @@ mod expression_reads;
 mod faults;
 mod laws;
 mod orders;
+mod query_reads;
 mod structures;
 mod windows;
 
