@@ -6,13 +6,15 @@ use Rattle.std.specs.Map.{lookup}
 use Rattle.std.specs.Cmp.Lexicographic.{bytes_decides}
 use Rattle.std.proofs.lemmas.List.{drop_all, drop_more}
 use Rattle.vtl_cell.specs.Texts.{same_text}
-use Rattle.sql_tree.specs.Trees.{Exp, Text, branches_of, exps_of}
-use Rattle.sql_tree.specs.View.{branch_tree, expr_tree}
+use Rattle.sql_tree.specs.Trees as tree
+use Rattle.sql_tree.specs.Trees.{Exp, StatementTree, Text, branches_of, exps_of}
+use Rattle.sql_tree.specs.View.{branch_tree, expr_tree, statement_tree}
 use Rattle.sql_tree.specs.declared.expressions.Branch.{Branch}
 use Rattle.sql_tree.specs.declared.expressions.Branch as branch
 use Rattle.sql_tree.specs.declared.expressions.SqlExpr as expr
 use Rattle.sql_tree.specs.declared.expressions.SqlExpr.{SqlExpr}
-use Rattle.sql_engine.specs.LastReads.{IsNoted, IsReadFrom, LastPlaces, StaysRead, is_from}
+use Rattle.sql_tree.specs.declared.statements.Statement.{Statement}
+use Rattle.sql_engine.specs.LastReads.{AreNoted, EachCreated, EachExported, IsNoted, IsReadFrom, LastPlaces, StaysRead, is_from}
 use Rattle.sql_engine.specs.Reads.{EachOfAll, EachOfBranches, EachRead}
 
 -- ---- places
@@ -113,3 +115,32 @@ module _ {A T : Type 0} (view : A → T) (Each : (Text → Type 0) → T → Typ
 
   pub end_left : (xs : List A) (i : ℕ) → length xs ≤ i → (P : Text → Type 0) → AllLeft xs i P
   end_left xs i h P = subst (λ (l : List A). AllByRecursion (Each P) (map view l)) (sym (drop_all i xs h)) tt
+
+-- ---- statements
+
+abbrev pub ExportsLeft : List Statement → ℕ → (Text → Type 0) → Type 0
+ExportsLeft ss i P = EachExported P (map statement_tree (drop i ss))
+
+export_first : (P : Text → Type 0) (t : StatementTree) (ts : List StatementTree) → EachExported P (t ∷ []) → EachExported P ts → EachExported P (t ∷ ts)
+export_first P (tree.setting digits rounding) ts one rest = rest
+export_first P (tree.input s) ts one rest = rest
+export_first P (tree.create name q) ts one rest = rest
+export_first P (tree.export s) ts one rest = (one.0, rest)
+
+pub export_next : (ss : List Statement) (i : ℕ) (x : Statement) → i < length ss → x ≡ get_or ss i x → (P : Text → Type 0) → EachExported P (statement_tree x ∷ []) → ExportsLeft ss (i + 1) P → ExportsLeft ss i P
+export_next ss i x h is P one rest =
+    subst (λ (l : List Statement). EachExported P (map statement_tree l)) (sym (drop_more ss i x h ∙ ap (λ (y : Statement). y ∷ drop (i + 1) ss) (sym is))) (export_first P (statement_tree x) (map statement_tree (drop (i + 1) ss)) one rest)
+
+-- CREATEs up to a place are noted: with those behind it all of them
+abbrev pub CreatesBut : List Statement → ℕ → LastPlaces → Type 0
+CreatesBut ss i now = (later : LastPlaces) → StaysRead i now later → AreNoted later i (map statement_tree (drop i ss)) → AreNoted later 0 (map statement_tree ss)
+
+pub create_next : (ss : List Statement) (i : ℕ) (x : Statement) → i < length ss → x ≡ get_or ss i x → (before now : LastPlaces) → IsNoted i before now (λ P. EachCreated P (statement_tree x)) → CreatesBut ss i before → CreatesBut ss (i + 1) now
+create_next ss i x h is before now one but later s rest =
+    let up_to : StaysRead i now later = λ j name k r. s j name (omega (arith, k)) r in
+    but later (stays_more i before now later one.stays up_to)
+    (subst (λ (l : List Statement). AreNoted later i (map statement_tree l)) (sym (drop_more ss i x h ∙ ap (λ (y : Statement). y ∷ drop (i + 1) ss) (sym is))) (one.read later up_to, rest))
+
+pub creates_end : (ss : List Statement) (i : ℕ) (now : LastPlaces) → length ss ≡ i → CreatesBut ss i now → (later : LastPlaces) → StaysRead (length ss) now later → AreNoted later 0 (map statement_tree ss)
+creates_end ss i now e but later s =
+    but later (subst (λ (n : ℕ). StaysRead n now later) e s) (subst (λ (l : List Statement). AreNoted later i (map statement_tree l)) (sym (drop_all i ss (omega (arith, e)))) tt)

@@ -11,6 +11,7 @@ mod error;
 mod exports;
 mod expression_reads;
 mod faults;
+mod last_reads;
 mod laws;
 mod orders;
 mod query_reads;
