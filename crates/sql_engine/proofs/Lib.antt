@@ -4,3 +4,4 @@ pub mod Ordering
 pub mod TableLookups
 pub mod Exporting
 pub mod Noting
+pub mod Putting

@@ -4,5 +4,6 @@ pub mod InputTables
 pub mod LastReads
 pub mod Reads
 pub mod Runs
+pub mod Statements
 pub mod Structures
 pub mod Windows

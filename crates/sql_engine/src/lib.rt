@@ -15,6 +15,7 @@ mod last_reads;
 mod laws;
 mod orders;
 mod query_reads;
+mod statements;
 mod structures;
 mod windows;
 
