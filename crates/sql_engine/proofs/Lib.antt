@@ -5,3 +5,4 @@ pub mod TableLookups
 pub mod Exporting
 pub mod Noting
 pub mod Putting
+pub mod LettingGo

@@ -13,6 +13,7 @@ mod expression_reads;
 mod faults;
 mod last_reads;
 mod laws;
+mod letting_go;
 mod orders;
 mod query_reads;
 mod statements;
