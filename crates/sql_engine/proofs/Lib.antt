@@ -6,3 +6,5 @@ pub mod Exporting
 pub mod Noting
 pub mod Putting
 pub mod LettingGo
+pub mod ReadMaps
+pub mod Standing
