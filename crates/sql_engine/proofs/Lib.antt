@@ -8,3 +8,4 @@ pub mod Putting
 pub mod LettingGo
 pub mod ReadMaps
 pub mod Standing
+pub mod Running
