@@ -1,5 +1,5 @@
 -- A run, one statement after the other.
-use Rattle.std.proofs.Common.{◌≡◌, ◌≤◌, ◌+◌, ℕ, Bool, true, false, cond, ◌||◌, List, [], ◌∷◌, ◌++◌, map, Option, Some, None, Result, Ok, Err, refl, sym, ap, ◌∙◌, subst, arith}
+use Rattle.std.proofs.Common.{◌≡◌, ◌⊎◌, inl, inr, ◌≤◌, ◌+◌, ℕ, Bool, true, false, cond, ◌||◌, List, [], ◌∷◌, ◌++◌, map, Option, Some, None, Result, Ok, Err, refl, sym, ap, ◌∙◌, subst, arith}
 use Rattle.std.specs.Prelude.{IfOk, fold, nat_le, unwrap_or}
 use Rattle.std.specs.List.{AllByRecursion, list_any}
 use Rattle.std.specs.Map.{keys_of, lookup}
@@ -26,27 +26,29 @@ use Rattle.sql_tree.specs.Trees.{QueryTree, StatementTree, Text}
 use Rattle.sql_tree.specs.declared.statements.SqlInput.{SqlInput}
 use Rattle.sql_check_parts.specs.Queries.{query_columns}
 use Rattle.sql_check_parts.specs.Scopes.{Columns, Tables, is_among}
-use Rattle.sql_check_parts.specs.Statements.{Given, after, input_columns, is_taken}
+use Rattle.sql_check_parts.specs.Statements.{Given, after, input_columns, is_taken, nothing}
 use Rattle.sql_check_laws.specs.Selects.{IsQueryTyped}
 use Rattle.sql_check_laws.specs.Statements.{AreTyped}
 use Rattle.sql_meaning.specs.Profiles.{AreOfProfile, IsRowOfProfile}
-use Rattle.sql_meaning.specs.Scripts.{Made, NamedFault, Table, and_table, base_of, created, export_of, fault_name, input_table, or_named, rows_read, statements_made, table_named, tables_in}
+use Rattle.sql_meaning.specs.Scripts.{Made, NamedFault, Table, and_table, base_of, created, export_of, fault_name, input_table, nothing_made, or_named, rows_read, statements_made, table_named, tables_in}
 use Rattle.sql_meaning.specs.Selects.{query_value}
 use Rattle.sql_meaning.specs.Tables.{RowsFit, column_entry, kinds_of, rows_of}
+use Rattle.sql_meaning.proofs.Lists.{under}
 use Rattle.sql_meaning.proofs.Profiled.{query_are}
 use Rattle.sql_meaning.proofs.QueryKinds.{query_fit}
 use Rattle.sql_exec.specs.Held.{base_held, tables_held}
 use Rattle.sql_exec.specs.Plain.{query_has_window}
-use Rattle.sql_engine.specs.Held.{StandFor, let_go}
+use Rattle.sql_engine.specs.Exported.{exports_in}
+use Rattle.sql_engine.specs.Held.{HaveMade, MayLetGo, StandFor, let_go}
 use Rattle.sql_engine.specs.InputTables.{AreInputsInRange, HaveInputTables, IsInputTable, rows_given}
-use Rattle.sql_engine.specs.LastReads.{AreNoted, LastPlaces, is_from, is_read_from}
+use Rattle.sql_engine.specs.LastReads.{AreNoted, EachExported, IsReadFrom, LastPlaces, is_from, is_read_from}
 use Rattle.sql_engine.specs.Runs.{FaultIs}
 use Rattle.sql_engine.specs.Statements.{HasFault, HasRun, IsPut, MayQuery, MayRun}
 use Rattle.sql_engine.specs.Windows.{statement_has_window}
 use Rattle.sql_engine.specs.declared.error.RunErr.{RunErr}
 use Rattle.sql_engine.specs.declared.error.RunErr.TheVariants as run
 use Rattle.sql_engine.proofs.LettingGo.{keys_stay}
-use Rattle.sql_engine.proofs.Standing.{fewer_stand, lawful, one_stands, query_stands, still_stand}
+use Rattle.sql_engine.proofs.Standing.{fewer_stand, lawful, none_stand, one_stands, query_stands, still_stand}
 use Rattle.sql_engine.proofs.TableLookups.{columns_in, free_name, keys_held}
 
 -- before the statements from a place on, over the tables that are held
@@ -274,3 +276,44 @@ let_go_running p inputs last final whole place rest held r =
       apart = ap (all_apart same_text) (keys_stay (is_read_from place last) held) ∙ r.apart;
       whole_is = r.whole_is;
     }
+
+pub in_turn : (p : Settings) (inputs : NamedTables) (last : LastPlaces) (final : Given) (whole : Result Made NamedFault) (place : ℕ) (rest : List StatementTree) (held now : NamedTables) → MayLetGo (is_read_from place last) held now
+    → Running p inputs last final whole place rest held → Running p inputs last final whole place rest now
+in_turn p inputs last final whole place rest held now (inl e) r = subst (Running p inputs last final whole place rest) (sym e) (let_go_running p inputs last final whole place rest held r)
+in_turn p inputs last final whole place rest held now (inr e) r = subst (Running p inputs last final whole place rest) (sym e) r
+
+-- ---- the beginning and the end
+
+module _ (p : Settings) (inputs : NamedTables) (last : LastPlaces) (ss : List StatementTree) where
+  abbrev pub Whole : Result Made NamedFault
+  Whole = statements_made p (rows_given inputs) nothing_made ss
+
+  pub run_begins : (held : NamedTables) → held ≡ [] → AreTyped p nothing ss → Each (IsStatement most_levels) ss → list_any statement_has_window ss ≡ false → HaveInputTables inputs ss → AreInputsInRange p inputs ss → AreNoted last 0 ss
+      → Running p inputs last (fold after nothing ss) Whole 0 ss held
+  run_begins held e typed formed plain there in_range noted =
+      record {
+        made = nothing_made;
+        given = nothing;
+        known = sym (ap tables_held e);
+        ends = refl;
+        typed = typed;
+        formed = formed;
+        plain = plain;
+        there = there;
+        in_range = in_range;
+        noted = noted;
+        stands = none_stand p (is_read_from 0 last) held e;
+        apart = ap (λ (l : NamedTables). all_apart same_text (keys_of l)) e;
+        whole_is = refl;
+      }
+
+  pub run_ends : (place : ℕ) (rest : List StatementTree) (held : NamedTables) → rest ≡ [] → EachExported (IsReadFrom place last) ss → Running p inputs last (fold after nothing ss) Whole place rest held → HaveMade p inputs ss held
+  run_ends place rest held e exported r =
+      let here = subst (λ (l : List StatementTree). Running p inputs last (fold after nothing ss) Whole place l held) e r in
+      record {
+        made = here.made;
+        made_is = sym here.whole_is;
+        same = here.stands.same;
+        given = ap (λ (g : Given). g.tables) (sym here.ends) ∙ here.known;
+        rows = under (λ s k. here.stands.rows s.name k) (exports_in ss) exported;
+      }

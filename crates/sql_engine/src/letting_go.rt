@@ -3,7 +3,7 @@ ghost use Rattle.std.specs.Map.{keys_of};
 ghost use Rattle.std.specs.Prelude.{◌≡◌, IfOk, reverse, true, if◌then◌else◌};
 ghost use Rattle.vtl_cell.specs.Apart.{all_apart};
 ghost use Rattle.vtl_cell.specs.Texts.{same_text};
-ghost use Rattle.sql_engine.specs.Held.{let_go, without_rows};
+ghost use Rattle.sql_engine.specs.Held.{MayLetGo, let_go, without_rows};
 ghost use Rattle.sql_engine.specs.LastReads.{is_read_from};
 
 use crate::expression_reads::LastReads;
@@ -55,9 +55,8 @@ fn from_last(alloc: Global, tables: Tables) -> Result<Vec<(Txt, SharedTable)>, A
     Ok(entries)
 }
 
-/// The same tables; those that no statement at a place or behind it reads have lost their rows. It looks at each table.
-/// It fails only if memory runs out.
-pub fn let_go(
+// The same tables; those that no statement at a place or behind it reads have lost their rows.
+fn let_go(
     alloc: Global,
     tables: Tables,
     last: &LastReads,
@@ -73,4 +72,27 @@ pub fn let_go(
         now.put_shared(name, table)?;
     }
     Ok(now)
+}
+
+// How many tables may be looked at for each statement.
+const TABLES_FOR_A_STATEMENT: usize = 256;
+
+/// The same tables; those that no statement at a place or behind it reads have lost their rows. All tables are looked
+/// at; where there are very many this is left to later places, so that it takes time in proportion to the number of
+/// statements. It fails only if memory runs out.
+pub fn let_go_in_turn(
+    alloc: Global,
+    tables: Tables,
+    last: &LastReads,
+    place: usize,
+) -> Result<Tables, AllocError>
+    requires { all_apart same_text (keys_of tables) ≡ true }
+    ensures { IfOk result (MayLetGo (is_read_from place last.now.entries) tables) }
+{
+    let turns = tables.len() / TABLES_FOR_A_STATEMENT + 1;
+    if place % turns == 0 {
+        let_go(alloc, tables, last, place)
+    } else {
+        Ok(tables)
+    }
 }

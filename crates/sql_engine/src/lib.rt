@@ -14,6 +14,7 @@ mod faults;
 mod last_reads;
 mod laws;
 mod letting_go;
+mod made_tables;
 mod orders;
 mod query_reads;
 mod statements;
