@@ -9,3 +9,4 @@ pub mod LettingGo
 pub mod ReadMaps
 pub mod Standing
 pub mod Running
+pub mod AtEnd

@@ -23,6 +23,10 @@ FaultIs meant (run.DivZero name) = meant ≡ Err (DivZero, name)
 FaultIs meant (run.Range name) = meant ≡ Err (Range, name)
 FaultIs meant run.OutOfMemory = Unit {0}
 
+abbrev pub TellsExports : Result (List Export) NamedFault → Result NamedTables RunErr → Type 0
+TellsExports meant (Ok tables) = ShowsExports meant tables
+TellsExports meant (Err e) = FaultIs meant e
+
 -- The answer tells the meaning: the tables are the exports, or the fault is the one that it says, with the name of its table up to the
 -- first `$`. Where there is a fault or want of memory the tables are as before.
 abbrev pub Tells : Result (List Export) NamedFault → (before now : NamedTables) → Result (Unit {0}) RunErr → Type 0

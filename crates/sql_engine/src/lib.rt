@@ -7,6 +7,7 @@
 //! Begin with specs/Runs.antt, then src/engine.rt and src/creates.rt.
 #![tactic(auto)]
 
+mod engine;
 mod error;
 mod exports;
 mod expression_reads;
@@ -21,6 +22,7 @@ mod statements;
 mod structures;
 mod windows;
 
+pub use engine::run;
 pub use error::RunErr;
 pub use laws::queries_depend_on_what_they_read;
 pub use structures::structure_of;
