@@ -179,19 +179,19 @@ module _ (tables : Data) (held : NamedTables) (same : tables_in tables ≡ table
 
 -- ---- a script
 
-module _ (p : Settings) (inputs : NamedTables) (ss : List StatementTree) (typed : AreTyped p nothing ss) where
-  abbrev pub Value : Result (List Export) NamedFault
-  Value = statements_made p (rows_given inputs) nothing_made ss >>= (λ m. Ok m.exports)
+abbrev pub exports_of : Settings → NamedTables → List StatementTree → Result (List Export) NamedFault
+exports_of p inputs ss = statements_made p (rows_given inputs) nothing_made ss >>= (λ m. Ok m.exports)
 
+module _ (p : Settings) (inputs : NamedTables) (ss : List StatementTree) (typed : AreTyped p nothing ss) where
   pub are_exported : (held : NamedTables) → HaveMade p inputs ss held → AreExported (tables_held held) [] (exports_in ss)
   are_exported held h = subst (λ (l : Tables). AreExported l [] (exports_in ss)) h.given (exports_typed p ss nothing typed)
 
-  pub exports_shown : (held : NamedTables) → HaveMade p inputs ss held → ShowsExports Value (map (exported_of held) (exports_in ss))
+  pub exports_shown : (held : NamedTables) → HaveMade p inputs ss held → ShowsExports (exports_of p inputs ss) (map (exported_of held) (exports_in ss))
   exports_shown held h =
       subst (λ (r : Result Made NamedFault). ShowsExports (r >>= (λ m. Ok m.exports)) (map (exported_of held) (exports_in ss))) (sym h.made_is)
       (all_shown h.made.tables held h.same (exports_in ss) [] (are_exported held h) h.rows ∙ ap (map shown) (sym (exports_are p (rows_given inputs) ss nothing nothing_made h.made typed refl h.made_is)))
 
-  pub fault_told : (e : RunErr) → FaultIs (statements_made p (rows_given inputs) nothing_made ss) e → FaultIs Value e
+  pub fault_told : (e : RunErr) → FaultIs (statements_made p (rows_given inputs) nothing_made ss) e → FaultIs (exports_of p inputs ss) e
   fault_told (run.DivZero name) h = ap (λ (r : Result Made NamedFault). r >>= (λ m. Ok m.exports)) h
   fault_told (run.Range name) h = ap (λ (r : Result Made NamedFault). r >>= (λ m. Ok m.exports)) h
   fault_told run.OutOfMemory h = tt

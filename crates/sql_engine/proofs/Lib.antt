@@ -10,3 +10,4 @@ pub mod ReadMaps
 pub mod Standing
 pub mod Running
 pub mod AtEnd
+pub mod Scales
