@@ -1,0 +1,13 @@
+pub mod FaultNames
+pub mod OnlyRead
+pub mod Ordering
+pub mod TableLookups
+pub mod Exporting
+pub mod Noting
+pub mod Putting
+pub mod LettingGo
+pub mod ReadMaps
+pub mod Standing
+pub mod Running
+pub mod AtEnd
+pub mod Scales

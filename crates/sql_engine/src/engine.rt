@@ -1,0 +1,58 @@
+// A run of a script.
+ghost use Rattle.std.specs.Prelude.{◌≡◌, false};
+ghost use Rattle.sql_tree.specs.View.{script_tree};
+ghost use Rattle.sql_engine.specs.InputTables.{AreInputsInRange, HaveInputTables};
+ghost use Rattle.sql_engine.specs.Runs.{Runs, TellsExports};
+ghost use Rattle.sql_engine.specs.Windows.{script_has_window};
+ghost use Rattle.sql_meaning.specs.Scripts.{script_value};
+ghost use Rattle.sql_engine.specs.InputTables.{rows_given};
+
+use crate::RunErr;
+use crate::exports::exported;
+use crate::made_tables::made_tables;
+use sql_check::SqlChecked;
+use std::alloc::Global;
+use std::sync::ledger::Ledger;
+use vtl_index::Steps;
+use vtl_rows::{Inputs, Outputs};
+
+// The tables that a script exports.
+fn script_exports<L: Ledger>(
+    alloc: Global,
+    script: &SqlChecked,
+    inputs: &Inputs,
+    steps: &mut Steps<L>,
+) -> Result<Outputs, RunErr>
+    requires plain { script_has_window (script_tree script.now.script) ≡ false }
+    requires there { HaveInputTables inputs.now (script_tree script.now.script) }
+    requires in_range { AreInputsInRange script.now.settings inputs.now (script_tree script.now.script) }
+    ensures { TellsExports (script_value (script_tree script.now.script) (rows_given inputs.now)) result }
+{
+    let p = script.profile();
+    let statements = script.script().statements.as_slice();
+    let tables = made_tables(alloc, statements, inputs, p, steps)?;
+    Ok(exported(alloc, tables, statements)?)
+}
+
+/// Runs a script over the tables of its inputs. On Ok `out` holds its exports and nothing else, one table for each
+/// EXPORT in order, with the columns of the exported table, and its rows sorted by the listed columns and then by all.
+///
+/// # Errors
+///
+/// The query of the first faulty CREATE divides by zero or has a number that is out of range; the fault names its table,
+/// up to the first `$`. Or there was not enough memory. In either case `out` is as before.
+pub fn run<L: Ledger>(
+    alloc: Global,
+    script: &SqlChecked,
+    inputs: &Inputs,
+    out: &mut Outputs,
+    steps: &mut Steps<L>,
+) -> Result<(), RunErr>
+    requires plain { script_has_window (script_tree script.now.script) ≡ false }
+    requires there { HaveInputTables inputs.now (script_tree script.now.script) }
+    requires in_range { AreInputsInRange script.now.settings inputs.now (script_tree script.now.script) }
+    ensures { Runs (script_tree script.now.script) inputs.now out.old out.new result }
+{
+    *out = script_exports(alloc, script, inputs, steps)?;
+    Ok(())
+}
