@@ -7,7 +7,8 @@ use Rattle.vtl_files.specs.declared.sink.Sink.{Ghosts as Sinks}
 use Rattle.vtl_cell.specs.Outcome.{Fault}
 use Rattle.vtl_top.specs.Answered.{Ends, EndsAs, Gives, GivesOut}
 use Rattle.vtl_top.specs.Complete.{IsCalm}
-use Rattle.vtl_top.specs.Expected.{asked_step, fault_status}
+use Rattle.vtl_top.specs.Asked.{asked_step}
+use Rattle.vtl_top.specs.Expected.{fault_status}
 use Rattle.vtl_top.specs.Kinds.{Told, absent, done, no_command, no_memory, read_fault, refused, told_by, write_fault}
 use Rattle.vtl_top.specs.Meant.{IsFaulted, IsMeant}
 use Rattle.vtl_top.specs.Said.{Says}

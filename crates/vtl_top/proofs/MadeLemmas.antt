@@ -4,12 +4,12 @@ use Rattle.std.specs.Global.{Vec}
 use Rattle.std.specs.Prelude.{IfOk}
 use Rattle.vtl_files.specs.declared.files.Files.{Ghosts}
 use Rattle.vtl_top.specs.Answered.{Takes}
-use Rattle.vtl_top.specs.Expected.{asked_step}
+use Rattle.vtl_top.specs.Asked.{asked_step}
 use Rattle.vtl_top.specs.MadeView.{IsMade, Names, made_view}
 use Rattle.vtl_top.specs.OutputView.{outputs_view}
 use Rattle.vtl_top.specs.Refusal.{SettlesBy}
 use Rattle.vtl_top.specs.Steps.{File, Made}
-use Rattle.vtl_top.specs.Words.{Command, Run, run}
+use Rattle.vtl_top.specs.Words.{Command}
 use Rattle.vtl_top.specs.declared.made.Made.{Made as Program}
 use Rattle.vtl_top.specs.declared.output.Output.{Output}
 use Rattle.vtl_status.specs.declared.status.Status.{Status}
@@ -33,7 +33,6 @@ module _ (outputs : Vec Output) (text : Vec ℕ) where
   no_text_made (Ok m) is e = ap (λ (v : Vec ℕ). v.items) is.1 ∙ e
   no_text_made (Err status) is e = tt
 
--- what a run takes, its command takes
-pub of_run : {F : Type 0} (g : Ghosts F) (before now : F) (r : Run) (c : Command) (result : Result Program Status) → Takes g before now (asked_step (Some (run r))) made_view result → run r ≡ c
-    → Takes g before now (asked_step (Some c)) made_view result
-of_run g before now r c result t e = subst (λ (k : Command). Takes g before now (asked_step (Some k)) made_view result) e t
+-- what one command takes, the same one takes
+pub of_command : {F : Type 0} (g : Ghosts F) (before now : F) (c d : Command) (result : Result Program Status) → Takes g before now (asked_step (Some c)) made_view result → c ≡ d → Takes g before now (asked_step (Some d)) made_view result
+of_command g before now c d result t e = subst (λ (k : Command). Takes g before now (asked_step (Some k)) made_view result) e t

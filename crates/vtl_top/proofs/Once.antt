@@ -10,13 +10,20 @@ use Rattle.vtl_interp.specs.Script.{has_definitions}
 use Rattle.vtl_interp.specs.Uses.{reads}
 use Rattle.vtl_interp.specs.Meaning.{is_built}
 use Rattle.vtl_top.specs.Structures.{structures_in}
-use Rattle.vtl_top.specs.Expected.{asked_step, csv_limit, dataset_step, file_in, inputs_step, meant, one_more_step, outputs_of, points_or_fault, read, run_step, script_in, script_limit, script_of, script_step, structures_limit, structures_step, typed_by, typed_step, typing_of, unbuilt, with_points}
+use Rattle.vtl_top.specs.Asked.{asked_step}
+use Rattle.vtl_top.specs.Expected.{csv_limit, dataset_step, file_in, inputs_step, meant, one_more_step, outputs_of, points_or_fault, read, run_step, script_in, script_limit, script_of, script_step, structures_limit, structures_step, typed_by, typed_step, typing_of, unbuilt, with_points}
 use Rattle.vtl_top.specs.Steps.{Behind, Held, Path, Step, ◌>>=◌, only_files, refused_if, settled}
-use Rattle.vtl_top.specs.Words.{Command, Run, Source, run}
+use Rattle.vtl_top.specs.Words.{Command, Engine, Run, Source, engine, run}
 use Rattle.vtl_status.specs.declared.status.Status.{Status}
 use Rattle.vtl_status.specs.declared.status.Status.TheVariants as st
 use Rattle.vtl_top.proofs.MeantLemmas.{after_built, after_plain, after_script, after_structures, after_typing}
 use Rattle.vtl_top.proofs.ReadScripts.{parsed_once}
+use Rattle.sql_check_parts.specs.Statements.{script_fault, script_settings}
+use Rattle.sql_meaning.specs.Scripts.{script_value}
+use Rattle.vtl_top.specs.SqlInputs.{input_structures, rows_by_name}
+use Rattle.sql_engine.specs.Windows.{script_has_window}
+use Rattle.vtl_top.specs.SqlRun.{engine_step, exports_of, read_whole, sql_checked_step, sql_in, sql_of, sql_step, sql_typing, sql_unbuilt}
+use Rattle.vtl_top.proofs.SqlSteps.{after_checked, after_sql, after_windows, sql_parsed_once}
 
 -- ---- what is settled, is one; and so is a step that follows one
 abbrev pub Once : {A : Type 0} → Step A → Held → Type 0
@@ -72,6 +79,27 @@ run_once r held =
     onward_once (inputs_step r.input t.settings [] (reads t.structures t.nodes)) (λ env. settled (outputs_of r.output t.settings (meant t env))) held (inputs_once r.input t.settings [] (reads t.structures t.nodes) held) (λ env.
     settled_once (outputs_of r.output t.settings (meant t env)) held)))
 
+sql_once : (path bytes : List ℕ) (held : Held) → Once (sql_of path bytes) held
+sql_once path bytes held x y p q = p.2 ∙ ap (sql_in path) (sql_parsed_once bytes p.0 q.0 p.1 q.1) ∙ sym q.2
+
+whole_once : (path : List ℕ) (held : Held) → Once (read_whole path) held
+whole_once path held x y p q = p ∙ sym q
+
+sql_checked_once : (path : List ℕ) (held : Held) → Once (sql_checked_step path) held
+sql_checked_once path held =
+    onward_once (sql_step path) (after_sql path) held (onward_once (read_whole path) (sql_of path) held (whole_once path held) (λ bytes. sql_once path bytes held)) (λ tree.
+    onward_once (refused_if (script_has_window tree) (sql_unbuilt path)) (λ plain. after_windows tree) held (refused_once (script_has_window tree) (sql_unbuilt path) held) (λ plain.
+    onward_once (settled (sql_typing (script_fault tree))) (λ typed. settled (Ok tree)) held (settled_once (sql_typing (script_fault tree)) held) (λ typed.
+    settled_once (Ok tree) held)))
+
+engine_once : (e : Engine) (held : Held) → Once (engine_step e) held
+engine_once e held =
+    onward_once (sql_checked_step e.sql) (after_checked e) held (sql_checked_once e.sql held) (λ tree.
+    onward_once (inputs_step e.input (script_settings tree) [] (input_structures tree)) (λ env. settled (exports_of e.output (script_settings tree) (script_value tree (rows_by_name env)))) held
+    (inputs_once e.input (script_settings tree) [] (input_structures tree) held) (λ env.
+    settled_once (exports_of e.output (script_settings tree) (script_value tree (rows_by_name env))) held))
+
 pub determined : (command : Option Command) (held : Held) → Once (asked_step command) held
 determined None held = settled_once (Err st.Usage) held
 determined (Some (run r)) held = onward_once (run_step r) (λ files. settled (Ok (only_files files))) held (run_once r held) (λ files. settled_once (Ok (only_files files)) held)
+determined (Some (engine e)) held = onward_once (engine_step e) (λ files. settled (Ok (only_files files))) held (engine_once e held) (λ files. settled_once (Ok (only_files files)) held)

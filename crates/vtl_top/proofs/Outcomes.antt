@@ -12,15 +12,26 @@ use Rattle.vtl_decimal.specs.Settings.{Settings}
 use Rattle.vtl_interp.specs.Script.{has_definitions}
 use Rattle.vtl_interp.specs.Uses.{reads}
 use Rattle.vtl_interp.specs.Meaning.{is_built}
-use Rattle.vtl_top.specs.Expected.{asked_step, content, csv_limit, dataset_step, file_in, inputs_step, meant, one_more_step, outputs_of, points_or_fault, read, run_step, script_limit, script_of, script_step, structures_limit, structures_step, typed_by, typed_step, typing_of, unbuilt, with_points}
+use Rattle.vtl_top.specs.Asked.{asked_step}
+use Rattle.vtl_top.specs.Expected.{content, csv_limit, dataset_step, file_in, inputs_step, meant, one_more_step, outputs_of, points_or_fault, read, run_step, script_limit, script_of, script_step, structures_limit, structures_step, typed_by, typed_step, typing_of, unbuilt, with_points}
 use Rattle.vtl_top.specs.ScriptFile.{faulty, no_text, whole}
 use Rattle.vtl_top.specs.Steps.{Held, Made, Path, Step, ◌>>=◌, only_files, refused_if, settled}
 use Rattle.vtl_top.specs.Structures.{structures_in}
-use Rattle.vtl_top.specs.Words.{Command, Run, Source, run}
+use Rattle.vtl_top.specs.Words.{Command, Engine, Run, Source, engine, run}
 use Rattle.vtl_status.specs.declared.status.Status.{Status}
 use Rattle.vtl_status.specs.declared.status.Status.TheVariants as st
 use Rattle.vtl_top.proofs.MeantLemmas.{after_built, after_plain, after_script, after_structures, after_typing}
 use Rattle.vtl_top.proofs.TextsRead.{Read, either_way, read_somehow, then_too, there_is}
+use Rattle.vtl_files.specs.Outside.{bytes_at}
+use Rattle.sql_check_parts.specs.Statements.{script_fault, script_settings}
+use Rattle.vtl_top.specs.SqlInputs.{input_structures, rows_by_name}
+use Rattle.sql_engine.specs.Windows.{script_has_window}
+use Rattle.sql_meaning.specs.Scripts.{script_value}
+use Rattle.sql_tree.specs.Texts as sql
+use Rattle.sql_tree.specs.Trees.{ScriptTree as SqlTree}
+use Rattle.vtl_top.specs.SqlRun.{engine_step, exports_of, present, read_whole, sql_checked_step, sql_of, sql_step, sql_typing, sql_unbuilt}
+use Rattle.vtl_top.proofs.SqlSteps.{after_checked, after_sql, after_windows}
+use Rattle.vtl_top.proofs.SqlTexts.{sql_read_somehow}
 
 -- nothing refutes each outcome of a step
 abbrev Total : {A : Type 0} → Step A → Held → Type 0
@@ -80,9 +91,34 @@ run_total r held =
     onward_total (inputs_step r.input t.settings [] (reads t.structures t.nodes)) (λ env. settled (outputs_of r.output t.settings (meant t env))) held (inputs_total r.input t.settings [] (reads t.structures t.nodes) held) (λ env.
     settled_total (outputs_of r.output t.settings (meant t env)) held)))
 
+sql_total : (path bytes : List ℕ) (held : Held) → Total (sql_of path bytes) held
+sql_total path bytes held = either_way {X = IsUtf8 bytes} (λ utf8. then_too (sql_read_somehow bytes) (by_text utf8)) (λ none. there_is (Err (st.NotText (chars path)), (no_text, none, refl)))
+  where
+    by_text : IsUtf8 bytes → ((script : SqlTree) × sql.IsScript bytes script) ⊎ ((done : ℕ) × (byte : ℕ) × sql.IsFaulty bytes done byte) → Total (sql_of path bytes) held
+    by_text utf8 (inl (script, is)) = there_is (Ok script, (whole script, (utf8, is), refl))
+    by_text utf8 (inr (done, byte, is)) = there_is (Err (st.SqlSyntax done byte), (faulty done byte, (utf8, is), refl))
+
+whole_total : (path : List ℕ) (held : Held) → Total (read_whole path) held
+whole_total path held = there_is (present path (bytes_at path held), refl)
+
+sql_checked_total : (path : List ℕ) (held : Held) → Total (sql_checked_step path) held
+sql_checked_total path held =
+    onward_total (sql_step path) (after_sql path) held (onward_total (read_whole path) (sql_of path) held (whole_total path held) (λ bytes. sql_total path bytes held)) (λ tree.
+    onward_total (refused_if (script_has_window tree) (sql_unbuilt path)) (λ plain. after_windows tree) held (refused_total (script_has_window tree) (sql_unbuilt path) held) (λ plain.
+    onward_total (settled (sql_typing (script_fault tree))) (λ typed. settled (Ok tree)) held (settled_total (sql_typing (script_fault tree)) held) (λ typed.
+    settled_total (Ok tree) held)))
+
+engine_total : (e : Engine) (held : Held) → Total (engine_step e) held
+engine_total e held =
+    onward_total (sql_checked_step e.sql) (after_checked e) held (sql_checked_total e.sql held) (λ tree.
+    onward_total (inputs_step e.input (script_settings tree) [] (input_structures tree)) (λ env. settled (exports_of e.output (script_settings tree) (script_value tree (rows_by_name env)))) held
+    (inputs_total e.input (script_settings tree) [] (input_structures tree) held) (λ env.
+    settled_total (exports_of e.output (script_settings tree) (script_value tree (rows_by_name env))) held))
+
 total : (command : Option Command) (held : Held) → Total (asked_step command) held
 total None held = settled_total (Err st.Usage) held
 total (Some (run r)) held = onward_total (run_step r) (λ files. settled (Ok (only_files files))) held (run_total r held) (λ files. settled_total (Ok (only_files files)) held)
+total (Some (engine e)) held = onward_total (engine_step e) (λ files. settled (Ok (only_files files))) held (engine_total e held) (λ files. settled_total (Ok (only_files files)) held)
 
 pub not_without : (command : Option Command) (held : Held) → ¬ ((given : Result Made Status) → ¬ (asked_step command).gives held given)
 not_without command held none = total command held (λ p. none p.0 p.1)

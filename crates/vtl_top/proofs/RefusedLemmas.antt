@@ -35,18 +35,18 @@ use Rattle.vtl_status.specs.declared.status.Status.TheVariants as st
 use Rattle.vtl_top.proofs.MeantLemmas.{after_built, after_plain, after_script, after_structures, after_typing, passes, ready_from, ready_gives, script_there, source_from}
 
 -- where a status comes from: typing, evaluation, or the files and the form of the script
-data Cause : Type 0 where
+pub data Cause : Type 0 where
   by_types : Cause
   by_values : Cause
   otherwise : Cause
 
-abbrev cause : Status → Cause
+abbrev pub cause : Status → Cause
 cause (st.Mistyped statement rule) = by_types
 cause (st.DivZero name) = by_values
 cause (st.Range name) = by_values
 cause status = otherwise
 
-abbrev is_other : Cause → Bool
+abbrev pub is_other : Cause → Bool
 is_other otherwise = true
 is_other by_types = false
 is_other by_values = false
@@ -70,7 +70,7 @@ apart a b differ e =
     go otherwise e = cc
 
 -- a refusal of two steps is one of the first, or one of the second behind a value of the first
-refused_at : {A B : Type 0} (step : Step A) (next : A → Step B) (held : Held) (status : Status) → (step >>= next).gives held (Err status) → step.gives held (Err status) ⊎ ((x : A) × step.gives held (Ok x) × (next x).gives held (Err status))
+pub refused_at : {A B : Type 0} (step : Step A) (next : A → Step B) (held : Held) (status : Status) → (step >>= next).gives held (Err status) → step.gives held (Err status) ⊎ ((x : A) × step.gives held (Ok x) × (next x).gives held (Err status))
 refused_at {A} {B} step next held status (first, is, rest) = by_first first is rest
   where
     by_first : (first : Result A Status) → step.gives held first → Behind first (λ x. (next x).gives held) (Err status) → step.gives held (Err status) ⊎ ((x : A) × step.gives held (Ok x) × (next x).gives held (Err status))
@@ -79,10 +79,10 @@ refused_at {A} {B} step next held status (first, is, rest) = by_first first is r
 
 -- ---- steps that do not refuse by a status of typing or of evaluation
 module _ (status : Status) (own : is_other (cause status) ≡ false) (held : Held) where
-  abbrev Never : {A : Type 0} → Step A → Type 0
+  abbrev pub Never : {A : Type 0} → Step A → Type 0
   Never step = step.gives held (Err status) → ⊥
 
-  other : {A : Type 0} (b : Status) → cause b ≡ otherwise → ◌≡◌ {A = Result A Status} (Err status) (Err b) → ⊥
+  pub other : {A : Type 0} (b : Status) → cause b ≡ otherwise → ◌≡◌ {A = Result A Status} (Err status) (Err b) → ⊥
   other b is e = apart status b (go (cause status) own (cause b) is) e
     where
       go : (s : Cause) → is_other s ≡ false → (t : Cause) → t ≡ otherwise → same_cause s t ≡ false
@@ -90,7 +90,7 @@ module _ (status : Status) (own : is_other (cause status) ≡ false) (held : Hel
       go by_values o t is = ap (same_cause by_values) is
       go otherwise o t is = cc
 
-  never_onward : {A B : Type 0} (step : Step A) (next : A → Step B) → Never step → ((x : A) → Never (next x)) → Never (step >>= next)
+  pub never_onward : {A B : Type 0} (step : Step A) (next : A → Step B) → Never step → ((x : A) → Never (next x)) → Never (step >>= next)
   never_onward {A} {B} step next here there gives = by_step (refused_at step next held status gives)
     where
       by_step : step.gives held (Err status) ⊎ ((x : A) × step.gives held (Ok x) × (next x).gives held (Err status)) → ⊥
@@ -111,7 +111,7 @@ module _ (status : Status) (own : is_other (cause status) ≡ false) (held : Hel
   never_script : (path bytes : List ℕ) → Never (script_of path bytes)
   never_script path bytes (parsed, is, e) = by_parsed parsed e
     where
-      by_parsed : (parsed : Parsed) → Err status ≡ script_in path parsed → ⊥
+      by_parsed : (parsed : Parsed ScriptTree) → Err status ≡ script_in path parsed → ⊥
       by_parsed no_text e = other (st.NotText (chars path)) refl e
       by_parsed (faulty done byte) e = other (st.Syntax done byte) refl e
       by_parsed (whole script) e = cc
@@ -124,7 +124,7 @@ module _ (status : Status) (own : is_other (cause status) ≡ false) (held : Hel
       by_text true (Err fault) e = other (st.Structure fault.0 fault.1) refl e
       by_text false read e = other (st.NotText (chars path)) refl e
 
-  never_refused : (b : Bool) (wrong : Status) → cause wrong ≡ otherwise → Never (refused_if b wrong)
+  pub never_refused : (b : Bool) (wrong : Status) → cause wrong ≡ otherwise → Never (refused_if b wrong)
   never_refused true wrong is e = other wrong is e
   never_refused false wrong is e = cc
 
@@ -140,7 +140,7 @@ module _ (status : Status) (own : is_other (cause status) ≡ false) (held : Hel
       never_onward (read (file_in folder e.0) csv_limit) (λ bytes. settled (points_or_fault e.0 (dataset_rows p e.1 bytes))) (never_read (file_in folder e.0) csv_limit)
       (λ bytes. never_points e.0 (dataset_rows p e.1 bytes))
 
-  never_inputs : (folder : Path) (p : Settings) (before : Environment) (inputs : Named) → Never (inputs_step folder p before inputs)
+  pub never_inputs : (folder : Path) (p : Settings) (before : Environment) (inputs : Named) → Never (inputs_step folder p before inputs)
   never_inputs folder p before [] = never_ok before
   never_inputs folder p before (e ∷ rest) =
       never_onward (one_more_step folder p before e) (λ more. inputs_step folder p more rest)
@@ -236,7 +236,7 @@ mistyped_always r held i rule is =
     (Err (st.Mistyped i rule), typed, refl)
 
 -- ---- by values
-own_values : (f : EvaluationFault) (name : List ℕ) → is_other (cause (fault_status f name)) ≡ false
+pub own_values : (f : EvaluationFault) (name : List ℕ) → is_other (cause (fault_status f name)) ≡ false
 own_values DivZero name = refl
 own_values Range name = refl
 

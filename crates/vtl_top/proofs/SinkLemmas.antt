@@ -10,7 +10,7 @@ use Rattle.vtl_status.specs.declared.status.Status.{Status}
 use Rattle.vtl_status.specs.declared.status.Status.TheVariants as st
 use Rattle.vtl_top.specs.Answered.{Ends}
 use Rattle.vtl_top.specs.Said.{Hears, Says}
-use Rattle.vtl_top.specs.Words.{Run, run}
+use Rattle.vtl_top.specs.Words.{Engine, Run, engine, run}
 
 taken_nothing : (t : Option (List ℕ)) → TakesAll t t []
 taken_nothing None = refl
@@ -31,3 +31,6 @@ says_nothing g s status e = subst (λ (x : Status). Says g s s x) (sym e) refl
 -- a run that is done has no text, and so says nothing
 pub run_is_quiet : {F S : Type 0} (g : Store F) (o : Ghosts S) (a b : F) (out now : S) (r : Run) → Ends g o a b out now (Some (run r)) st.Done → now ≡ out
 run_is_quiet g o a b out now r ends = ends.line ∙ ends.command_ends.gave.1.silent ends.command_ends.shape
+
+pub engine_is_quiet : {F S : Type 0} (g : Store F) (o : Ghosts S) (a b : F) (out now : S) (e : Engine) → Ends g o a b out now (Some (engine e)) st.Done → now ≡ out
+engine_is_quiet g o a b out now e ends = ends.line ∙ ends.command_ends.gave.1.silent ends.command_ends.shape

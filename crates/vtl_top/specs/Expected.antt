@@ -19,9 +19,9 @@ use Rattle.vtl_interp.specs.Checked.{env_over}
 use Rattle.vtl_interp.specs.Script.{has_definitions, script_typed}
 use Rattle.vtl_interp.specs.Uses.{reads}
 use Rattle.vtl_top.specs.ScriptFile.{IsParsed, Parsed, faulty, no_text, whole}
-use Rattle.vtl_top.specs.Steps.{File, Held, Made, Name, Path, Step, Text, ◌>>=◌, only_files, refused_if, settled}
+use Rattle.vtl_top.specs.Steps.{File, Held, Name, Path, Step, Text, ◌>>=◌, refused_if, settled}
 use Rattle.vtl_top.specs.Structures.{structures_in}
-use Rattle.vtl_top.specs.Words.{Command, Run, Source, run}
+use Rattle.vtl_top.specs.Words.{Run, Source}
 use Rattle.vtl_status.specs.declared.status.Status.{Status}
 use Rattle.vtl_status.specs.declared.status.Status.TheVariants as st
 
@@ -53,13 +53,13 @@ abbrev pub read : Path → ℕ → Step Text
 read path limit = record { gives = λ held given. given ≡ content path limit held; reads = λ held named. named ≡ chars path }
 
 -- the tree of a script file, by what it is read as
-abbrev pub script_in : Path → Parsed → Result ScriptTree Status
+abbrev pub script_in : Path → Parsed ScriptTree → Result ScriptTree Status
 script_in path no_text = Err (st.NotText (chars path))
 script_in path (faulty done byte) = Err (st.Syntax done byte)
 script_in path (whole script) = Ok script
 
 abbrev pub script_of : Path → Text → Step ScriptTree
-script_of path bytes = record { gives = λ held given. (parsed : Parsed) × IsParsed bytes parsed × (given ≡ script_in path parsed); reads = λ held named. ⊥ }
+script_of path bytes = record { gives = λ held given. (parsed : Parsed ScriptTree) × IsParsed bytes parsed × (given ≡ script_in path parsed); reads = λ held named. ⊥ }
 
 abbrev pub script_step : Path → Step ScriptTree
 script_step path = read path script_limit >>= script_of path
@@ -152,8 +152,3 @@ run_step r =
     refused_if (not (list_all is_built t.nodes)) (unbuilt r.source) >>= λ built.
     inputs_step r.input t.settings [] (reads t.structures t.nodes) >>= λ env.
     settled (outputs_of r.output t.settings (meant t env))
-
--- what the words ask for
-abbrev pub asked_step : Option Command → Step Made
-asked_step None = settled (Err st.Usage)
-asked_step (Some (run r)) = run_step r >>= λ files. settled (Ok (only_files files))

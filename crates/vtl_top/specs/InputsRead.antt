@@ -1,12 +1,30 @@
 -- Tables that were read, without where they lie in memory.
-use Rattle.std.specs.Prelude.{◌≡◌, ℕ, List, [], ◌∷◌, ◌++◌}
+use Rattle.std.specs.Prelude.{◌≡◌, ℕ, true, List, [], ◌∷◌, ◌++◌, map}
+use Rattle.std.specs.List.{AllByRecursion}
+use Rattle.std.specs.Map.{keys_of}
+use Rattle.vtl_cell.specs.Apart.{all_apart}
 use Rattle.vtl_cell.specs.Row.{Row}
 use Rattle.vtl_decimal.specs.Settings.{Settings}
 use Rattle.vtl_rows.specs.Named.{NamedTables}
 use Rattle.vtl_rows.specs.Tables.{Listed}
 use Rattle.vtl_tree.specs.DataSet.{AreOfProfile}
+use Rattle.vtl_tree.specs.Structure.{IsStructure, same_name}
+use Rattle.vtl_tree.specs.Structures.{Named}
 use Rattle.vtl_tree.specs.declared.structure.Structure.{Structure}
 use Rattle.vtl_interp.specs.TableOf.{IsTableOf}
+use Rattle.vtl_top.specs.declared.inputs.Wanted.{Wanted}
+
+-- a data set that is wanted: its name and its structure
+abbrev pub wanted_of : Wanted → List ℕ × Structure
+wanted_of w = (w.name.now, w.structure.now)
+
+abbrev pub all_wanted : List Wanted → Named
+all_wanted ws = map wanted_of ws
+
+-- data sets that can be read: each has a structure, and their names are distinct
+pub record AreReadable (inputs : Named) : Type 0 where
+  pub structures : AllByRecursion (λ e. IsStructure e.1) inputs
+  pub distinct : all_apart same_name (keys_of inputs) ≡ true
 
 abbrev pub rows_in : Listed → List Row
 rows_in t = t.rows

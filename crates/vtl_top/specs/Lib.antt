@@ -1,5 +1,6 @@
 pub use Rattle.vtl_status.specs.StatusLine
 pub mod Answered
+pub mod Asked
 pub mod Complete
 pub mod Expected
 pub mod Informed
@@ -14,5 +15,8 @@ pub mod RunView
 pub mod Said
 pub mod ScriptFile
 pub mod Steps
+pub mod SqlInputs
+pub mod SqlMeant
+pub mod SqlRun
 pub mod Structures
 pub mod Words

@@ -15,6 +15,15 @@ use Rattle.vtl_interp.specs.error.RunErr.TheVariants as run
 use Rattle.vtl_tree.specs.declared.structure.Structure.{Structure}
 use Rattle.vtl_interp.specs.TableOf.{IsTableOf}
 use Rattle.vtl_csv.specs.InputFile.{Fault}
+use Rattle.sql_tree.specs.Texts as texts
+use Rattle.sql_tree.specs.View.{script_tree as sql_tree}
+use Rattle.sql_tree.specs.declared.statements.SqlScript.{SqlScript}
+use Rattle.sql_parser.specs.declared.parsing.SqlErr.{SqlErr}
+use Rattle.sql_parser.specs.declared.parsing.SqlErr.TheVariants as sql
+use Rattle.sql_check.specs.declared.error.SqlTypeErr.{SqlTypeErr}
+use Rattle.sql_check.specs.declared.error.SqlTypeErr.TheVariants as typed
+use Rattle.sql_engine.specs.declared.error.RunErr.{RunErr as SqlRunErr}
+use Rattle.sql_engine.specs.declared.error.RunErr.TheVariants as engine
 use Rattle.vtl_csv.specs.declared.input.InputErr.{InputErr}
 use Rattle.vtl_csv.specs.declared.input.InputErr.TheVariants as input
 use Rattle.vtl_top.specs.Expected.{points_or_fault}
@@ -63,6 +72,33 @@ abbrev pub IsScriptOf : List ℕ → List ℕ → Result Script Status → Type 
 IsScriptOf path bytes (Ok script) = IsUtf8 bytes × IsScript bytes (script_tree script)
 IsScriptOf path bytes (Err status) =
     (status ≡ st.Memory) ⊎ (((¬ IsUtf8 bytes) × (status ≡ st.NotText (chars path))) ⊎ ((done byte : ℕ) × IsUtf8 bytes × IsFaulty bytes done byte × (status ≡ st.Syntax done byte)))
+
+-- the fault of an SQL text
+abbrev pub sql_fault_of : SqlErr → Status
+sql_fault_of (sql.Syntax done byte) = st.SqlSyntax done byte
+sql_fault_of sql.OutOfMemory = st.Memory
+
+-- the script that an SQL text is, or its fault, or want of memory
+abbrev pub IsSqlOfText : List ℕ → Result SqlScript Status → Type 0
+IsSqlOfText text (Ok script) = texts.IsScript text (sql_tree script)
+IsSqlOfText text (Err status) = (status ≡ st.Memory) ⊎ ((done byte : ℕ) × texts.IsFaulty text done byte × (status ≡ st.SqlSyntax done byte))
+
+-- the same of the bytes of the file at this path, which may be no text
+abbrev pub IsSqlOf : List ℕ → List ℕ → Result SqlScript Status → Type 0
+IsSqlOf path bytes (Ok script) = IsUtf8 bytes × texts.IsScript bytes (sql_tree script)
+IsSqlOf path bytes (Err status) =
+    (status ≡ st.Memory) ⊎ (((¬ IsUtf8 bytes) × (status ≡ st.NotText (chars path))) ⊎ ((done byte : ℕ) × IsUtf8 bytes × texts.IsFaulty bytes done byte × (status ≡ st.SqlSyntax done byte)))
+
+-- the status of an SQL script that is not typed
+abbrev pub sql_mistyped : SqlTypeErr → Status
+sql_mistyped (typed.Mistyped statement rule) = st.SqlType statement rule
+sql_mistyped typed.OutOfMemory = st.Memory
+
+-- the status of a run that gave no exports
+abbrev pub sql_faulted : SqlRunErr → Status
+sql_faulted (engine.DivZero name) = st.DivZero name
+sql_faulted (engine.Range name) = st.Range name
+sql_faulted engine.OutOfMemory = st.Memory
 
 -- what is settled, as it is seen, or want of memory
 abbrev pub SettlesBy : {A X : Type 0} → (X → A) → Result A Status → Result X Status → Type 0

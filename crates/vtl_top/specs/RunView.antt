@@ -1,8 +1,9 @@
 -- A run, without where its paths and its profile lie in memory.
-use Rattle.vtl_top.specs.Words.{Command, Run, Setting, Source, rounding, run, scale}
+use Rattle.vtl_top.specs.Words.{Command, Engine, Run, Setting, Source, engine, rounding, run, scale}
 use Rattle.vtl_top.specs.declared.words.Source.{Source as SourceWords}
 use Rattle.vtl_top.specs.declared.words.Command.{Command as CommandWords}
 use Rattle.vtl_top.specs.declared.words.Command.TheVariants as asked
+use Rattle.vtl_top.specs.declared.words.Engine.{Engine as EngineWords}
 use Rattle.vtl_top.specs.declared.words.Run.{Run as Words}
 use Rattle.vtl_top.specs.declared.words.Setting.{Setting as Option}
 use Rattle.vtl_top.specs.declared.words.Setting.TheVariants as option
@@ -13,8 +14,12 @@ source_view w = record { script = w.script.now; structures = w.structures.now; s
 abbrev pub run_view : Words → Run
 run_view w = record { source = source_view w.source; input = w.input.now; output = w.output.now }
 
+abbrev pub engine_view : EngineWords → Engine
+engine_view w = record { sql = w.sql.now; input = w.input.now; output = w.output.now }
+
 abbrev pub command_view : CommandWords → Command
 command_view (asked.Run w) = run (run_view w)
+command_view (asked.Engine w) = engine (engine_view w)
 
 abbrev pub setting_view : Option → Setting
 setting_view (option.Scale digits) = scale digits

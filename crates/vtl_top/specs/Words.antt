@@ -20,9 +20,16 @@ pub record Run : Type 0 where
   pub input : Path
   pub output : Path
 
+-- an SQL file that is run, from the folder of its inputs into the folder of its exports
+pub record Engine : Type 0 where
+  pub sql : Path
+  pub input : Path
+  pub output : Path
+
 -- a command, with its paths and settings
 pub data Command : Type 0 where
   run : Run → Command
+  engine : Engine → Command
 
 abbrev pub is_path : Path → Bool
 is_path word = not (length word == 0)
@@ -93,7 +100,15 @@ run_of (script ∷ structures ∷ input ∷ output ∷ options) =
     if list_all is_path (script ∷ structures ∷ input ∷ output ∷ []) then option_map (run_with script structures input output) (settings_in options) else None
 run_of _ = None
 
+abbrev pub engine_with : (sql input output : Path) → Engine
+engine_with sql input output = record { sql = sql; input = input; output = output }
+
+-- the words behind `engine`: SQLFILE IN OUT, each a path
+abbrev pub engine_of : List Text → Option Command
+engine_of (sql ∷ input ∷ output ∷ []) = if list_all is_path (sql ∷ input ∷ output ∷ []) then Some (engine (engine_with sql input output)) else None
+engine_of _ = None
+
 -- the command that the words are, by its name
 abbrev pub command_of : List Text → Option Command
 command_of [] = None
-command_of (name ∷ words) = if same_name name (codes "run") then run_of words else None
+command_of (name ∷ words) = if same_name name (codes "run") then run_of words else (if same_name name (codes "engine") then engine_of words else None)

@@ -1,19 +1,22 @@
-// The data sets that a script reads, from their files.
-ghost use Rattle.std.specs.Prelude.{◌≡◌, ◌<◌, [], None, true, length, slice_index_or, IfOk, OnOk};
+// The data sets that are read, from their files.
+ghost use Rattle.std.specs.Prelude.{◌≡◌, ◌<◌, [], None, length, map, slice_index_or, IfOk, OnOk};
+ghost use Rattle.std.specs.List.{AllByRecursion};
+ghost use Rattle.std.specs.Map.{keys_of};
 ghost use Rattle.vtl_rows.specs.Named.{table_of};
-ghost use Rattle.vtl_tree.specs.Structures.{is_declarable};
-ghost use Rattle.vtl_interp.specs.TableOf.{IsTableOf};
-ghost use Rattle.vtl_csv.specs.InputFile.{dataset_rows};
 ghost use Rattle.vtl_tree.specs.DataSet.{AreOfProfile};
-ghost use Rattle.vtl_interp.specs.Inputs.{AreInRange, AreInputs, environment_of, inputs_of, rows_named};
+ghost use Rattle.vtl_tree.specs.Structure.{IsStructure};
+ghost use Rattle.vtl_csv.specs.InputFile.{dataset_rows};
+ghost use Rattle.vtl_interp.specs.Inputs.{AreInRange, AreInputs, Holds, environment_of, input_of, inputs_of, rows_named};
+ghost use Rattle.vtl_interp.specs.Profiles.{AllAreOfProfile};
+ghost use Rattle.vtl_interp.specs.TableOf.{IsTableOf};
 ghost use Rattle.vtl_top.specs.Answered.{Takes};
 ghost use Rattle.vtl_top.specs.Expected.{dataset_step, inputs_step};
-ghost use Rattle.vtl_top.specs.InputsRead.{Adds, rows_in};
+ghost use Rattle.vtl_top.specs.InputsRead.{Adds, AreReadable, all_wanted, rows_in};
 ghost use Rattle.vtl_top.specs.Refusal.{IsTableRead};
 
 use crate::reading::{file_in, read_file};
 use crate::refusal::input_refusal;
-use std::alloc::Global;
+use std::alloc::{AllocError, Global};
 use vtl_csv::read_dataset;
 use vtl_decimal::Profile;
 use vtl_files::Files;
@@ -25,6 +28,15 @@ use vtl_tree::Structure;
 
 const CSV_LIMIT: usize = 67_108_864;
 
+/// A data set that is read: its name and its structure.
+#[derive(Clone, Copy)]
+pub struct Wanted<'a> {
+    /// The name.
+    pub name: &'a Txt,
+    /// The structure.
+    pub structure: &'a Structure,
+}
+
 // The table of the data set of this name that the bytes of a file hold.
 fn table_in(
     alloc: Global,
@@ -33,7 +45,7 @@ fn table_in(
     bytes: &[u8],
     profile: &Profile,
 ) -> Result<Table, Status>
-    requires { is_declarable structure.now ≡ true }
+    requires { IsStructure structure.now }
     ensures table { IsTableRead name.now structure.now (dataset_rows profile.now structure.now bytes.now) result }
     ensures ranges { IfOk result (λ t. AreOfProfile profile.now t.rows) }
 {
@@ -52,7 +64,7 @@ fn read_input<F: Files>(
     name: &Txt,
     structure: &Structure,
 ) -> Result<Table, Status>
-    requires { is_declarable structure.now ≡ true }
+    requires { IsStructure structure.now }
     ensures takes { Takes F.Files files.old files.new (dataset_step folder.now profile.now (name.now, structure.now)) rows_in result }
     ensures table { IfOk result (λ t. IsTableOf structure.now t) }
     ensures ranges { IfOk result (λ t. AreOfProfile profile.now t.rows) }
@@ -75,7 +87,7 @@ fn add_input<F: Files>(
     structure: &Structure,
     tables: &mut Tables,
 ) -> Result<(), Status>
-    requires declarable { is_declarable structure.now ≡ true }
+    requires structure { IsStructure structure.now }
     requires new { table_of name.now tables.old ≡ None }
     ensures takes { Takes F.Files files.old files.new (dataset_step folder.now profile.now (name.now, structure.now)) (λ _. rows_named name.now tables.new) result }
     ensures put { OnOk result (Adds profile.now name.now structure.now tables.old tables.new) }
@@ -84,6 +96,40 @@ fn add_input<F: Files>(
         Ok(table) => Ok(tables.put(alloc, name.share()?, table)?),
         Err(status) => Err(status),
     }
+}
+
+// The name and the structure of the data set at a place.
+fn wanted_at<'a>(wanted: &[Wanted<'a>], i: usize) -> (&'a Txt, &'a Structure)
+    requires { i < length wanted.now }
+    ensures { (result.0.now, result.1.now) ≡ slice_index_or (all_wanted wanted.now) i (result.0.now, result.1.now) }
+{
+    let one = wanted[i];
+    (one.name, one.structure)
+}
+
+/// The tables of data sets, each from its file in a folder, in order.
+pub fn read_all_wanted<F: Files>(
+    alloc: Global,
+    files: &mut F,
+    folder: &str,
+    profile: &Profile,
+    wanted: &[Wanted<'_>],
+) -> Result<Tables, Status>
+    requires { AreReadable (all_wanted wanted.now) }
+    ensures takes { Takes F.Files files.old files.new (inputs_step folder.now profile.now [] (all_wanted wanted.now)) (λ t. map (input_of t) (all_wanted wanted.now)) result }
+    ensures names { IfOk result (λ t. keys_of t ≡ keys_of (all_wanted wanted.now)) }
+    ensures inputs { IfOk result (λ t. AllByRecursion (λ e. Holds e.1 (table_of e.0 t)) (all_wanted wanted.now)) }
+    ensures ranges { IfOk result (λ t. AllAreOfProfile profile.now (map (input_of t) (all_wanted wanted.now))) }
+{
+    let mut tables = Tables::new(alloc);
+    for i in 0..wanted.len() {
+        let (name, structure) = wanted_at(wanted, i);
+        match add_input(alloc, files, folder, profile, name, structure, &mut tables) {
+            Ok(()) => {}
+            Err(status) => return Err(status),
+        }
+    }
+    Ok(tables)
 }
 
 // The name and the structure of the data set at a place among those that are read.
@@ -99,6 +145,18 @@ fn input_at(checked: &Checked, i: usize) -> (&Txt, &Structure)
     }
 }
 
+// The data sets that a script reads.
+fn wanted_of(alloc: Global, checked: &Checked) -> Result<Vec<Wanted<'_>>, AllocError>
+    ensures { IfOk result (λ wanted. all_wanted wanted.items ≡ inputs_of checked.now) }
+{
+    let mut wanted = Vec::new(alloc);
+    for i in 0..checked.inputs().len() {
+        let (name, structure) = input_at(checked, i);
+        wanted.push(Wanted { name, structure })?;
+    }
+    Ok(wanted)
+}
+
 /// The tables of the data sets that a script reads, each from its file in a folder, in order of first use.
 pub fn read_inputs<F: Files>(
     alloc: Global,
@@ -112,14 +170,6 @@ pub fn read_inputs<F: Files>(
 {
     // The nodes are typed over structures as they may be declared, whose names are distinct.
     let _nodes = checked.nodes();
-    let profile = checked.profile();
-    let mut tables = Tables::new(alloc);
-    for i in 0..checked.inputs().len() {
-        let (name, structure) = input_at(checked, i);
-        match add_input(alloc, files, folder, profile, name, structure, &mut tables) {
-            Ok(()) => {}
-            Err(status) => return Err(status),
-        }
-    }
-    Ok(tables)
+    let wanted = wanted_of(alloc, checked)?;
+    read_all_wanted(alloc, files, folder, checked.profile(), &wanted)
 }

@@ -8,10 +8,15 @@ ghost use Rattle.vtl_csv.specs.StructuresFile.{structures_of_file};
 ghost use Rattle.vtl_cell.specs.Outcome.{Fault};
 ghost use Rattle.vtl_top.specs.Answered.{Ends};
 ghost use Rattle.vtl_top.specs.Complete.{IsCalm};
-ghost use Rattle.vtl_top.specs.Expected.{asked_step, fault_status, run_step};
+ghost use Rattle.vtl_top.specs.Asked.{asked_step};
+ghost use Rattle.vtl_top.specs.Expected.{fault_status, run_step};
 ghost use Rattle.vtl_top.specs.Meant.{IsFaulted, IsMeant, IsMistyped};
+ghost use Rattle.vtl_top.specs.SqlMeant.{IsExported, IsSqlFaulted, IsSqlMistyped};
+ghost use Rattle.vtl_top.specs.SqlRun.{engine_step};
+ghost use Rattle.sql_check_parts.specs.Rules.{number_of};
+ghost use Rattle.sql_check_parts.specs.Statements.{Fault as Breach};
 ghost use Rattle.vtl_top.specs.Steps.{File, Held, Made, Name, Text, status_of};
-ghost use Rattle.vtl_top.specs.Words.{Command, Run, run};
+ghost use Rattle.vtl_top.specs.Words.{Command, Engine, Run, engine, run};
 ghost use Rattle.vtl_status.specs.declared.status.Status.{Status};
 
 use vtl_files::{Files, Sink};
@@ -37,6 +42,26 @@ pub fn faults_are_meant()
     ensures always { (r : Run) (held : Held) (fault : Fault) (name : Name) → IsFaulted r held fault name → (run_step r).gives held (Err (fault_status fault name)) }
 {}
 
+/// The exports that an engine gives over the held files are what its SQL script means: its text, over the data sets that
+/// the files of its INPUTs hold, gives exports, and each file is named after an export and holds its text, in order.
+pub fn exports_are_meant()
+    ensures only { (e : Engine) (held : Held) (files : List File) → (engine_step e).gives held (Ok files) → IsExported e held files }
+    ensures always { (e : Engine) (held : Held) (files : List File) → IsExported e held files → (engine_step e).gives held (Ok files) }
+{}
+
+/// An engine divides by zero, or a number leaves its range, exactly where its SQL script means this fault over its
+/// inputs, in the table with this name up to the first `$`.
+pub fn sql_faults_are_meant()
+    ensures only { (e : Engine) (held : Held) (fault : Fault) (name : Name) → (engine_step e).gives held (Err (fault_status fault name)) → IsSqlFaulted e held fault name }
+    ensures always { (e : Engine) (held : Held) (fault : Fault) (name : Name) → IsSqlFaulted e held fault name → (engine_step e).gives held (Err (fault_status fault name)) }
+{}
+
+/// An SQL script that is read and breaks a rule is refused by its first statement that does, with the least rule that
+/// this breaks, before any input is looked at.
+pub fn sql_breaches_are_refused()
+    ensures { (e : Engine) (held : Held) (breach : Breach) → IsSqlMistyped e held breach → (engine_step e).gives held (Err (Status.SqlType breach.0 (number_of breach.1))) }
+{}
+
 /// A command has at most one outcome: two outcomes over the same held bytes are equal.
 pub fn expected_is_determined()
     ensures { (command : Option Command) (held : Held) (given other : Result Made Status) → (asked_step command).gives held given → (asked_step command).gives held other → given ≡ other }
@@ -56,9 +81,10 @@ pub fn calm_calls_are_complete<F: Files, O: Sink>()
     ensures faulted { (a b : F) (u v : O) (r : Run) (status : Status) (held : Held) (fault : Fault) (name : Name) → Ends F.Files O.Sink a b u v (Some (run r)) status → IsCalm F.Files O.Sink a b u v → F.held a ≡ Some held → IsFaulted r held fault name → (status ≡ Status.Memory) ⊎ (status ≡ fault_status fault name) }
 {}
 
-/// A run that is done leaves the sink as before.
+/// A run that is done leaves the sink as before, and so does an engine.
 pub fn runs_are_quiet<F: Files, O: Sink>()
-    ensures { (a b : F) (u v : O) (r : Run) → Ends F.Files O.Sink a b u v (Some (run r)) Status.Done → v ≡ u }
+    ensures runs { (a b : F) (u v : O) (r : Run) → Ends F.Files O.Sink a b u v (Some (run r)) Status.Done → v ≡ u }
+    ensures engines { (a b : F) (u v : O) (e : Engine) → Ends F.Files O.Sink a b u v (Some (engine e)) Status.Done → v ≡ u }
 {}
 
 /// What a structures file declares under a name is a structure with at least one identifier.

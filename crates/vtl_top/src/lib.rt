@@ -16,14 +16,17 @@ mod reading;
 mod refusal;
 mod results;
 mod run;
+mod sql_inputs;
+mod sql_run;
 mod structures;
 mod top;
 mod typing;
 mod words;
 
 pub use laws::{
-    calm_calls_are_complete, expected_is_determined, expected_is_there, faults_are_meant,
-    mistyped_is_first_fault, output_is_meant, runs_are_quiet, structures_have_identifiers,
+    calm_calls_are_complete, expected_is_determined, expected_is_there, exports_are_meant,
+    faults_are_meant, mistyped_is_first_fault, output_is_meant, runs_are_quiet,
+    sql_breaches_are_refused, sql_faults_are_meant, structures_have_identifiers,
 };
 pub use top::{vtl, vtl_by};
 pub use vtl_status::{Status, tell};

@@ -2,17 +2,18 @@
 ghost use Rattle.std.specs.Prelude.{◌≡◌, [], Some, IfOk};
 ghost use Rattle.std.specs.List.{AllByRecursion};
 ghost use Rattle.vtl_top.specs.Answered.{IsMadeBy, Takes};
-ghost use Rattle.vtl_top.specs.Expected.{asked_step};
+ghost use Rattle.vtl_top.specs.Asked.{asked_step};
 ghost use Rattle.vtl_top.specs.MadeView.{IsMade, Names, made_view};
 ghost use Rattle.vtl_top.specs.OutputView.{NamesPath};
-ghost use Rattle.vtl_top.specs.RunView.{command_view, run_view, source_view};
+ghost use Rattle.vtl_top.specs.RunView.{command_view, engine_view, run_view, source_view};
 ghost use Rattle.vtl_top.specs.Informed.{Informs, TellsRun};
 ghost use Rattle.vtl_top.specs.Steps.{status_of};
-ghost use Rattle.vtl_top.specs.Words.{run};
+ghost use Rattle.vtl_top.specs.Words.{engine, run};
 
 use crate::output::Output;
 use crate::run::prepare;
-use crate::words::{Command, Run};
+use crate::sql_run::prepare_exports;
+use crate::words::{Command, Engine, Run};
 use std::alloc::Global;
 use vtl_files::Files;
 use vtl_interp::Backend;
@@ -44,6 +45,7 @@ pub fn make<B: Backend, F: Files>(
 {
     match command {
         Command::Run(run) => make_run(alloc, back, files, run),
+        Command::Engine(engine) => make_exports(alloc, files, engine),
     }
 }
 
@@ -59,6 +61,17 @@ fn make_run<B: Backend, F: Files>(
     ensures told { TellsRun F.Files files.old (source_view asked.now.source) (B.told back.new) (status_of result) }
 {
     match prepare(alloc, back, files, asked) {
+        Ok(outputs) => made_of(alloc, outputs, Vec::new(alloc)),
+        Err(status) => Err(status),
+    }
+}
+
+fn make_exports<F: Files>(alloc: Global, files: &mut F, asked: &Engine<'_>) -> Result<Made, Status>
+    ensures takes { Takes F.Files files.old files.new (asked_step (Some (engine (engine_view asked.now)))) made_view result }
+    ensures named { IfOk result Names }
+    ensures shape { IfOk result (λ m. m.text.items ≡ []) }
+{
+    match prepare_exports(alloc, files, asked) {
         Ok(outputs) => made_of(alloc, outputs, Vec::new(alloc)),
         Err(status) => Err(status),
     }

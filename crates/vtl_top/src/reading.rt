@@ -2,10 +2,11 @@
 ghost use Rattle.std.specs.Prelude.{◌≡◌, IfOk, string_bytes};
 ghost use Rattle.vtl_top.specs.Answered.{Takes};
 ghost use Rattle.vtl_top.specs.Expected.{file_in, read};
+ghost use Rattle.vtl_top.specs.SqlRun.{read_whole};
 
 use crate::refusal::refusal;
 use std::alloc::{AllocError, Global};
-use vtl_files::{Files, read_all};
+use vtl_files::{Files, ReadErr, read_all};
 use vtl_status::Status;
 use vtl_text::Txt;
 
@@ -18,6 +19,22 @@ pub fn file_in(alloc: Global, folder: &str, name: &Txt) -> Result<String, AllocE
     path.push_str(name.as_str())?;
     path.push_str(".csv")?;
     Ok(path)
+}
+
+/// All bytes of a file, however many.
+pub fn read_whole_file<F: Files>(
+    alloc: Global,
+    files: &mut F,
+    path: &str,
+) -> Result<Vec<u8>, Status>
+    ensures { Takes F.Files files.old files.new (read_whole path.now) (λ v. v.items) result }
+{
+    match read_all(alloc, files, path, usize::MAX) {
+        Ok(bytes) => Ok(bytes),
+        // A file of more bytes finds no room in memory.
+        Err(ReadErr::TooLong) => Err(Status::Memory),
+        Err(error) => Err(refusal(alloc, error, path)),
+    }
 }
 
 /// The bytes of a file.

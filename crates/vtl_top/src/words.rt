@@ -1,7 +1,7 @@
 // The words of the command line.
-ghost use Rattle.std.specs.Prelude.{◌≡◌, ◌∷◌, map, option_map, string_bytes};
+ghost use Rattle.std.specs.Prelude.{◌≡◌, ◌∷◌, [], map, option_map, string_bytes};
 ghost use Rattle.vtl_top.specs.RunView.{command_view, setting_view};
-ghost use Rattle.vtl_top.specs.Words.{both_set, command_of, is_path, one_set, rounding, rounding_in, run_of, scale, scale_in, setting_in, settings_in, settings_with};
+ghost use Rattle.vtl_top.specs.Words.{both_set, command_of, engine_of, is_path, one_set, rounding, rounding_in, run_of, scale, scale_in, setting_in, settings_in, settings_with};
 
 use vtl_decimal::{Profile, Rounding};
 
@@ -21,11 +21,21 @@ pub struct Run<'a> {
     pub output: &'a str,
 }
 
+/// An SQL file that is run, from the folder of its inputs into the folder of its exports.
+#[derive(Drop)]
+pub struct Engine<'a> {
+    pub sql: &'a str,
+    pub input: &'a str,
+    pub output: &'a str,
+}
+
 /// What the words ask for.
 #[derive(Drop)]
 pub enum Command<'a> {
     /// A script is run.
     Run(Run<'a>),
+    /// An SQL file is run.
+    Engine(Engine<'a>),
 }
 
 // What an option sets.
@@ -44,7 +54,7 @@ fn is_path(word: &str) -> bool
 }
 
 /// The command that the words are, by its name: `run SCRIPT STRUCTURES IN OUT`, each a path that is not empty, and then
-/// the options `--scale D` and `--round R`, each at most once.
+/// the options `--scale D` and `--round R`, each at most once; or `engine SQLFILE IN OUT`, each a path that is not empty.
 pub fn command_of(words: &[String]) -> Option<Command<'_>>
     ensures { option_map command_view result ≡ command_of (map string_bytes words.now) }
 {
@@ -59,6 +69,9 @@ fn named<'a>(name: &str, words: &'a [String]) -> Option<Command<'a>>
 {
     if name == "run" {
         return run_of(words);
+    }
+    if name == "engine" {
+        return engine_of(words);
     }
     None
 }
@@ -102,6 +115,24 @@ fn run_with<'a>(
         })),
         None => None,
     }
+}
+
+fn engine_of(words: &[String]) -> Option<Command<'_>>
+    ensures { option_map command_view result ≡ engine_of (map string_bytes words.now) }
+{
+    match words {
+        [sql, input, output] => engine_with(sql.as_str(), input.as_str(), output.as_str()),
+        _ => None,
+    }
+}
+
+fn engine_with<'a>(sql: &'a str, input: &'a str, output: &'a str) -> Option<Command<'a>>
+    ensures { option_map command_view result ≡ engine_of (sql.now ∷ input.now ∷ output.now ∷ []) }
+{
+    if !is_path(sql) || !is_path(input) || !is_path(output) {
+        return None;
+    }
+    Some(Command::Engine(Engine { sql, input, output }))
 }
 
 // The profile that options give.

@@ -1,7 +1,13 @@
-use Rattle.std.proofs.Common.{rules}
-use Rattle.vtl_top.specs.RunView.{command_view}
-use Rattle.vtl_top.proofs.MadeLemmas.{of_run}
+use Rattle.std.proofs.Common.{ap, sym}
+use Rattle.vtl_top.specs.RunView.{command_view, engine_view, run_view}
+use Rattle.vtl_top.specs.Words.{engine, run}
+use Rattle.vtl_top.proofs.MadeLemmas.{of_command}
 use Rattle.vtl_top.proofs.made.make.Goals as goal
 
-pub returns-clause-takes : goal.returns-clause-takes
-returns-clause-takes g c = of_run g.F.Files c.args.files.now c.make_run.new.files _ (command_view c.args.command.now) c.make_run.result c.make_run.ensures.takes (search rules)
+pub returns-in-Run-clause-takes : goal.returns-in-Run-clause-takes
+returns-in-Run-clause-takes g c =
+    of_command g.F.Files c.args.files.now c.make_run.new.files (run (run_view c.in-Run.run')) (command_view c.args.command.now) c.make_run.result c.make_run.ensures.takes (sym (ap command_view c.in-Run.is))
+
+pub returns-in-Engine-clause-takes : goal.returns-in-Engine-clause-takes
+returns-in-Engine-clause-takes g c =
+    of_command g.F.Files c.args.files.now c.make_exports.new.files (engine (engine_view c.in-Engine.engine)) (command_view c.args.command.now) c.make_exports.result c.make_exports.ensures.takes (sym (ap command_view c.in-Engine.is))
