@@ -1,18 +1,17 @@
 -- The exports of a script, over the tables that its statements have made.
-use Rattle.std.proofs.Common.{◌≡◌, ◌≤◌, ℕ, Bool, true, false, cond, List, [], ◌∷◌, ◌++◌, map, Option, Some, None, IsSome, Result, Ok, Err, refl, sym, ap, ◌∙◌, subst, append_assoc}
+use Rattle.std.proofs.Common.{◌≡◌, Bool, true, false, cond, List, [], ◌∷◌, ◌++◌, map, Option, Some, None, IsSome, Result, Ok, Err, refl, sym, ap, ◌∙◌, subst, append_assoc}
 use Rattle.std.specs.Prelude.{fold, is_some, option_map, unwrap_or}
 use Rattle.std.specs.List.{AllByRecursion}
-use Rattle.std.specs.Map.{keys_of, lookup}
+use Rattle.std.specs.Map.{lookup}
 use Rattle.std.proofs.lemmas.List.{append-nil, map-append}
 use Rattle.vtl_lists.proofs.Sorts.{sorted_by-Perm}
-use Rattle.vtl_cell.specs.Outcome.{Fault, Outcome}
+use Rattle.vtl_cell.specs.Outcome.{Outcome}
 use Rattle.vtl_cell.specs.Perm.{Perm}
 use Rattle.vtl_cell.specs.Results.{◌>>=◌}
 use Rattle.vtl_cell.specs.Row.{Row}
 use Rattle.vtl_cell.specs.Settings.{Settings}
 use Rattle.vtl_cell.specs.Sorted.{in_order}
 use Rattle.vtl_cell.specs.Texts.{same_text}
-use Rattle.vtl_cell.specs.declared.kind.Kind.{Kind}
 use Rattle.vtl_cell.proofs.Keys.{window_order}
 use Rattle.vtl_rows.specs.Named.{NamedTables, table_of}
 use Rattle.vtl_rows.specs.Tables.{Listed}
@@ -29,10 +28,9 @@ use Rattle.sql_meaning.specs.Selects.{query_value}
 use Rattle.sql_meaning.specs.Tables.{column_entry, rows_of}
 use Rattle.sql_exec.specs.Held.{tables_held}
 use Rattle.sql_engine.specs.Exported.{AreExported, entry_column, exported_of, exports_in, no_listed, ordered_by, shown}
-use Rattle.sql_engine.specs.Held.{HaveMade, Make}
+use Rattle.sql_engine.specs.Held.{HaveMade}
 use Rattle.sql_engine.specs.InputTables.{rows_given}
-use Rattle.sql_engine.specs.LastReads.{EachExported}
-use Rattle.sql_engine.specs.Runs.{FaultIs, ShowsExports, TellsExports}
+use Rattle.sql_engine.specs.Runs.{FaultIs, ShowsExports}
 use Rattle.sql_engine.specs.declared.error.RunErr.{RunErr}
 use Rattle.sql_engine.specs.declared.error.RunErr.TheVariants as run
 use Rattle.sql_engine.proofs.Standing.{both_there, columns_named, named_behind}

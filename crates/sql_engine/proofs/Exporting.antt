@@ -1,10 +1,9 @@
 -- The exports of a script, one after the other.
 use Rattle.std.proofs.Common.{◌≡◌, ◌+◌, ◌<◌, ℕ, Bool, true, false, cond, ◌||◌, List, [], ◌∷◌, ◌++◌, map, drop, get_or, length, Option, Some, None, IsSome, refl, sym, ap, ◌∙◌, subst, append_assoc}
 use Rattle.std.specs.Prelude.{option_map, unwrap_or}
-use Rattle.std.specs.List.{list_any}
 use Rattle.std.specs.Map.{keys_of, lookup}
 use Rattle.std.specs.Cmp.Lexicographic.{nat_list_eq_equiv}
-use Rattle.std.proofs.lemmas.List.{append-nil, drop_more, map-append}
+use Rattle.std.proofs.lemmas.List.{drop_more, map-append}
 use Rattle.vtl_cell.specs.Texts.{same_text}
 use Rattle.vtl_rows.specs.Named.{NamedTables, table_of}
 use Rattle.vtl_rows.specs.Tables.{Listed}
@@ -13,7 +12,7 @@ use Rattle.sql_tree.specs.Trees.{StatementTree, Text}
 use Rattle.sql_tree.specs.View.{statement_tree}
 use Rattle.sql_tree.specs.declared.statements.SqlExport.{SqlExport}
 use Rattle.sql_tree.specs.declared.statements.Statement.{Statement}
-use Rattle.sql_check_parts.specs.Scopes.{Columns, columns_of, is_among}
+use Rattle.sql_check_parts.specs.Scopes.{columns_of, is_among}
 use Rattle.sql_check_laws.specs.Statements.{AreNames, IsOrder}
 use Rattle.sql_exec.specs.Held.{tables_held}
 use Rattle.sql_engine.specs.Exported.{AreExported, exported_of, exports_in, no_listed, ordered_by}

@@ -1,5 +1,5 @@
 -- Rows that no statement reads any more.
-use Rattle.std.proofs.Common.{◌≡◌, Bool, true, false, cond, not, ◌||◌, ◌&&◌, List, [], ◌∷◌, ◌++◌, map, refl, sym, ap, ◌∙◌, subst, None}
+use Rattle.std.proofs.Common.{◌≡◌, Bool, true, false, not, ◌||◌, List, [], ◌∷◌, ◌++◌, refl, sym, ap, ◌∙◌, None}
 use Rattle.std.specs.Prelude.{reverse}
 use Rattle.std.specs.List.{list_any}
 use Rattle.std.specs.Map.{keys_of}

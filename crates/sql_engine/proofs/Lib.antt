@@ -11,4 +11,4 @@ pub mod Standing
 pub mod Running
 pub mod AtEnd
 pub mod Scales
-pub mod InputStructures
+pub mod DeclaredInputs

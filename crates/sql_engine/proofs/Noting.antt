@@ -1,5 +1,5 @@
 -- What is read is noted, part by part.
-use Rattle.std.proofs.Common.{◌≡◌, ◌+◌, ◌≤◌, ◌<◌, ℕ, Bool, true, false, cond, List, [], ◌∷◌, map, drop, get_or, length, Option, Some, None, Result, Ok, Err, refl, sym, ap, ◌∙◌, subst, arith, rules}
+use Rattle.std.proofs.Common.{◌≡◌, ◌+◌, ◌≤◌, ◌<◌, ℕ, Bool, true, false, cond, List, [], ◌∷◌, map, drop, get_or, length, Some, Result, Ok, Err, refl, sym, ap, ◌∙◌, subst, arith, rules}
 use Rattle.std.specs.Prelude.{OnOk, nat_le}
 use Rattle.std.specs.List.{AllByRecursion}
 use Rattle.std.specs.Map.{lookup}
@@ -11,7 +11,6 @@ use Rattle.sql_tree.specs.Trees.{Exp, StatementTree, Text, branches_of, exps_of}
 use Rattle.sql_tree.specs.View.{branch_tree, expr_tree, statement_tree}
 use Rattle.sql_tree.specs.declared.expressions.Branch.{Branch}
 use Rattle.sql_tree.specs.declared.expressions.Branch as branch
-use Rattle.sql_tree.specs.declared.expressions.SqlExpr as expr
 use Rattle.sql_tree.specs.declared.expressions.SqlExpr.{SqlExpr}
 use Rattle.sql_tree.specs.declared.statements.Statement.{Statement}
 use Rattle.sql_engine.specs.LastReads.{AreNoted, EachCreated, EachExported, IsNoted, IsReadFrom, LastPlaces, StaysRead, is_from}

@@ -1,5 +1,5 @@
 -- A query depends on the rows of the tables that it reads, and on no others.
-use Rattle.std.proofs.Common.{◌≡◌, ℕ, List, [], ◌∷◌, ◌++◌, map, length, Bool, true, false, cond, Option, Some, None, Ok, refl, ap, ◌∙◌}
+use Rattle.std.proofs.Common.{◌≡◌, ℕ, List, [], ◌∷◌, map, length, cond, Option, Some, None, Ok, refl, ap, ◌∙◌}
 use Rattle.std.specs.Prelude.{zip}
 use Rattle.std.specs.List.{AllByRecursion, filter, fold, list_all, list_any}
 use Rattle.vtl_cell.specs.declared.cell.Cell.{Cell}
@@ -8,14 +8,13 @@ use Rattle.vtl_cell.specs.declared.kind.Kind.{Kind}
 use Rattle.vtl_cell.specs.declared.kind.Kind.TheVariants as k
 use Rattle.vtl_cell.specs.Conversion.{as_kind}
 use Rattle.vtl_cell.specs.Groups.{group_value}
-use Rattle.vtl_cell.specs.Outcome.{Fault, Outcome, after, fault_in, faults_by, join, unless}
+use Rattle.vtl_cell.specs.Outcome.{Outcome, after, fault_in, faults_by, join, unless}
 use Rattle.vtl_cell.specs.Outcomes.{branch, first_chosen, is_true}
 use Rattle.vtl_cell.specs.Row.{Row}
 use Rattle.sql_tree.specs.Trees as tree
 use Rattle.sql_tree.specs.Trees.{Branches, Exp, Exps, ItemTree, JoinTree, QueryTree, SelectTree, Text, ValueTree}
 use Rattle.sql_tree.specs.declared.parts.Column.{Column}
 use Rattle.sql_tree.specs.declared.windows.Over.{Over}
-use Rattle.sql_tree.specs.declared.windows.Window.{Window}
 use Rattle.sql_tree.specs.declared.windows.WindowCall.{WindowCall}
 use Rattle.sql_tree.specs.declared.windows.WindowCall.TheVariants as call
 use Rattle.sql_check_parts.specs.Kinds.{kind_in}
@@ -25,11 +24,11 @@ use Rattle.sql_check_parts.specs.Exists.{inner_of}
 use Rattle.sql_meaning.specs.Outcomes.{all_values, cell_or_null, operated, row_at, row_fault}
 use Rattle.sql_meaning.specs.Tables.{Base, columns_named, kinds_of}
 use Rattle.sql_meaning.specs.Values.{View, at_groups, at_rows, chosen, is_tied, literal_cell, null_test, place_in, set_operator, value, values}
-use Rattle.sql_meaning.specs.From.{Joined, condition_fault, fault_at, first_of, holds, joined, joined_rows, kept, kept_of, pairs, source_rows, with_join}
+use Rattle.sql_meaning.specs.From.{Joined, fault_at, first_of, holds, joined, joined_rows, kept_of, pairs, source_rows, with_join}
 use Rattle.sql_meaning.specs.Groups.{keys_by, rows_with}
 use Rattle.sql_meaning.specs.Orders.{with_rows}
-use Rattle.sql_meaning.specs.Selects.{Wanted, appended, at_key, group_item, group_rows, grouped_rows, having_fault, item_value, kept_keys, key_value, plain_rows, query_value, row_value, second_phase, select_value}
-use Rattle.sql_meaning.specs.Windows.{Stand, call_value, keys_of, partition_of, partition_places, stand_in, told_apart, window_value}
+use Rattle.sql_meaning.specs.Selects.{Wanted, appended, at_key, group_item, group_rows, having_fault, item_value, kept_keys, key_value, plain_rows, query_value, row_value, second_phase, select_value}
+use Rattle.sql_meaning.specs.Windows.{Stand, call_value, keys_of, partition_of, partition_places, stand_in, told_apart}
 use Rattle.sql_engine.specs.Reads.{EachOfAll, EachOfBranches, EachOfItem, EachOfJoin, EachOfMaybe, EachOfQuery, EachOfSelect, EachOfValue, EachRead}
 
 -- ---- functions that agree on listed items

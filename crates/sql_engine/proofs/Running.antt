@@ -1,7 +1,7 @@
 -- A run, one statement after the other.
-use Rattle.std.proofs.Common.{◌≡◌, ◌⊎◌, inl, inr, ◌≤◌, ◌+◌, ℕ, Bool, true, false, cond, ◌||◌, List, [], ◌∷◌, ◌++◌, map, Option, Some, None, Result, Ok, Err, refl, sym, ap, ◌∙◌, subst, arith}
+use Rattle.std.proofs.Common.{◌≡◌, inl, inr, ◌≤◌, ◌+◌, ℕ, Bool, true, false, cond, ◌||◌, List, [], ◌∷◌, ◌++◌, map, Option, Some, None, Result, Ok, Err, refl, sym, ap, ◌∙◌, subst, arith}
 use Rattle.std.specs.Prelude.{IfOk, fold, nat_le, unwrap_or}
-use Rattle.std.specs.List.{AllByRecursion, list_any}
+use Rattle.std.specs.List.{list_any}
 use Rattle.std.specs.Map.{keys_of, lookup}
 use Rattle.std.proofs.lemmas.List.{map-append}
 use Rattle.vtl_lists.proofs.Perms.{AllByRecursion-Perm}
@@ -30,7 +30,7 @@ use Rattle.sql_check_parts.specs.Statements.{Given, after, input_columns, is_tak
 use Rattle.sql_check_laws.specs.Selects.{IsQueryTyped}
 use Rattle.sql_check_laws.specs.Statements.{AreTyped}
 use Rattle.sql_meaning.specs.Profiles.{AreOfProfile, IsRowOfProfile}
-use Rattle.sql_meaning.specs.Scripts.{Made, NamedFault, Table, and_table, base_of, created, export_of, fault_name, input_table, nothing_made, or_named, rows_read, statements_made, table_named, tables_in}
+use Rattle.sql_meaning.specs.Scripts.{Made, NamedFault, Table, and_table, base_of, created, export_of, fault_name, input_table, nothing_made, or_named, rows_read, statements_made, table_named}
 use Rattle.sql_meaning.specs.Selects.{query_value}
 use Rattle.sql_meaning.specs.Tables.{RowsFit, column_entry, kinds_of, rows_of}
 use Rattle.sql_meaning.proofs.Lists.{under}
@@ -40,10 +40,10 @@ use Rattle.sql_exec.specs.Held.{base_held, tables_held}
 use Rattle.sql_exec.specs.Plain.{query_has_window}
 use Rattle.sql_engine.specs.Exported.{exports_in}
 use Rattle.sql_engine.specs.Held.{HaveMade, MayLetGo, StandFor, let_go}
-use Rattle.sql_engine.specs.InputTables.{AreInputsInRange, HaveInputTables, IsInputTable, rows_given}
+use Rattle.sql_engine.specs.InputTables.{AreInputsInRange, HaveInputTables, rows_given}
 use Rattle.sql_engine.specs.LastReads.{AreNoted, EachExported, IsReadFrom, LastPlaces, is_from, is_read_from}
 use Rattle.sql_engine.specs.Runs.{FaultIs}
-use Rattle.sql_engine.specs.Statements.{HasFault, HasRun, IsPut, MayQuery, MayRun}
+use Rattle.sql_engine.specs.Statements.{HasFault, HasRun, IsPut, MayRun}
 use Rattle.sql_engine.specs.Windows.{statement_has_window}
 use Rattle.sql_engine.specs.declared.error.RunErr.{RunErr}
 use Rattle.sql_engine.specs.declared.error.RunErr.TheVariants as run

@@ -1,11 +1,10 @@
 -- The tables that are held stand for those of the meaning.
-use Rattle.std.proofs.Common.{◌≡◌, ◌≤◌, ℕ, Bool, true, false, cond, List, [], ◌∷◌, ◌++◌, map, Option, Some, None, Ok, refl, sym, ap, ◌∙◌, subst}
+use Rattle.std.proofs.Common.{◌≡◌, ◌≤◌, Bool, true, false, cond, List, [], ◌∷◌, ◌++◌, Option, Some, None, refl, sym, ap, ◌∙◌, subst}
 use Rattle.std.specs.Prelude.{option_map, unwrap_or}
-use Rattle.std.specs.Map.{keys_of, lookup}
+use Rattle.std.specs.Map.{lookup}
 use Rattle.std.specs.Cmp.Lexicographic.{bytes_decides}
 use Rattle.std.proofs.lemmas.List.{map-append}
 use Rattle.vtl_lists.proofs.Perms.{Perm-refl}
-use Rattle.vtl_cell.specs.Outcome.{Outcome}
 use Rattle.vtl_cell.specs.Outcomes.{Same}
 use Rattle.vtl_cell.specs.Perm.{Perm}
 use Rattle.vtl_cell.specs.Row.{Row}
@@ -14,12 +13,12 @@ use Rattle.vtl_cell.specs.Texts.{same_text}
 use Rattle.vtl_rows.specs.Named.{NamedTables, table_of}
 use Rattle.vtl_rows.specs.Tables.{Listed, column_kinds}
 use Rattle.sql_tree.specs.Trees.{QueryTree, Text}
-use Rattle.sql_check_parts.specs.Scopes.{Columns, Tables, columns_of}
+use Rattle.sql_check_parts.specs.Scopes.{Tables, columns_of}
 use Rattle.sql_meaning.specs.Orders.{with_rows}
 use Rattle.sql_meaning.specs.Profiles.{AreOfProfile, IsLawful}
 use Rattle.sql_meaning.specs.Scripts.{Data, Table, base_of, no_table, table_named, tables_in}
 use Rattle.sql_meaning.specs.Selects.{query_value}
-use Rattle.sql_meaning.specs.Tables.{AreHeldFit, Base, HasColumns, HasTable, RowsFit, TablesFit, base_over, column_entry, rows_of}
+use Rattle.sql_meaning.specs.Tables.{Base, HasColumns, HasTable, RowsFit, rows_of}
 use Rattle.sql_meaning.proofs.HeldTables.{held_fit}
 use Rattle.sql_meaning.proofs.Orders as orders
 use Rattle.sql_exec.specs.Held.{base_held, tables_held}

@@ -1,15 +1,12 @@
 -- Look-ups in tables that are held.
-use Rattle.std.proofs.Common.{◌≡◌, ℕ, suc, Bool, true, false, cond, not, ◌||◌, List, [], ◌∷◌, ◌++◌, map, Option, Some, None, IsSome, refl, sym, ap, ◌∙◌, subst}
-use Rattle.std.specs.Prelude.{option_map, unwrap_or}
-use Rattle.std.specs.List.{list_any}
-use Rattle.std.specs.Map.{keys_of, lookup}
-use Rattle.std.specs.Cmp.Lexicographic.{nat_list_eq_equiv}
+use Rattle.std.proofs.Common.{◌≡◌, Bool, true, false, cond, ◌||◌, [], ◌∷◌, ◌++◌, map, Option, Some, None, refl, ap}
+use Rattle.std.specs.Prelude.{option_map}
+use Rattle.std.specs.Map.{keys_of}
 use Rattle.vtl_cell.specs.Texts.{same_text}
 use Rattle.vtl_rows.specs.Named.{NamedTables, table_of}
 use Rattle.vtl_rows.specs.Tables.{Listed}
-use Rattle.vtl_rows.proofs.NamedLemmas.{lookup_is}
 use Rattle.sql_tree.specs.Trees.{Text}
-use Rattle.sql_check_parts.specs.Scopes.{Columns, Tables, columns_of, is_among}
+use Rattle.sql_check_parts.specs.Scopes.{Columns, columns_of, is_among}
 use Rattle.sql_meaning.specs.Tables.{column_entry}
 use Rattle.sql_exec.specs.Held.{tables_held}
 

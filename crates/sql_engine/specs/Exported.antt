@@ -1,5 +1,5 @@
 -- The tables that statements export.
-use Rattle.std.specs.Prelude.{◌≡◌, false, List, [], ◌∷◌, ◌++◌, map, IsSome, Option, Some, None, unwrap_or}
+use Rattle.std.specs.Prelude.{◌≡◌, false, List, [], ◌∷◌, ◌++◌, map, IsSome, unwrap_or}
 use Rattle.vtl_cell.specs.Sorted.{in_order}
 use Rattle.vtl_rows.specs.Named.{NamedTables, table_of}
 use Rattle.vtl_rows.specs.Tables.{Listed}

@@ -1,5 +1,5 @@
 -- Which scripts hold a window.
-use Rattle.std.specs.Prelude.{Bool, true, false}
+use Rattle.std.specs.Prelude.{Bool, false}
 use Rattle.std.specs.List.{list_any}
 use Rattle.sql_tree.specs.Trees as tree
 use Rattle.sql_tree.specs.Trees.{ScriptTree, StatementTree}

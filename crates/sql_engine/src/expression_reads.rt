@@ -50,11 +50,7 @@ pub fn note_expression(
 }
 
 #[cycle(noted)]
-fn note_operands(
-    operands: &[SqlExpr],
-    last: &mut LastReads,
-    place: usize,
-) -> Result<(), AllocError>
+fn note_operands(operands: &[SqlExpr], last: &mut LastReads, place: usize) -> Result<(), AllocError>
     ensures { OnOk result (IsNoted place last.old.entries last.new.entries (λ P. EachOfAll P (exps_of (map expr_tree operands.now)))) }
 {
     for operand in operands {
@@ -64,11 +60,7 @@ fn note_operands(
 }
 
 #[cycle(noted)]
-fn note_branches(
-    branches: &[Branch],
-    last: &mut LastReads,
-    place: usize,
-) -> Result<(), AllocError>
+fn note_branches(branches: &[Branch], last: &mut LastReads, place: usize) -> Result<(), AllocError>
     ensures { OnOk result (IsNoted place last.old.entries last.new.entries (λ P. EachOfBranches P (branches_of (map branch_tree branches.now)))) }
 {
     for branch in branches {

@@ -9,11 +9,7 @@ use sql_tree::Statement;
 use std::alloc::{AllocError, Global};
 use vtl_cell::Txt;
 
-fn note_create(
-    statement: &Statement,
-    last: &mut LastReads,
-    place: usize,
-) -> Result<(), AllocError>
+fn note_create(statement: &Statement, last: &mut LastReads, place: usize) -> Result<(), AllocError>
     ensures { OnOk result (IsNoted place last.old.entries last.new.entries (λ P. EachCreated P (statement_tree statement.now))) }
 {
     match statement {
@@ -33,11 +29,7 @@ fn note_creates(statements: &[Statement], last: &mut LastReads) -> Result<(), Al
     Ok(())
 }
 
-fn note_export(
-    statement: &Statement,
-    last: &mut LastReads,
-    place: usize,
-) -> Result<(), AllocError>
+fn note_export(statement: &Statement, last: &mut LastReads, place: usize) -> Result<(), AllocError>
     ensures { OnOk result (IsNoted place last.old.entries last.new.entries (λ P. EachExported P (statement_tree statement.now ∷ []))) }
 {
     match statement {

@@ -36,7 +36,7 @@ fn if_read(
 ) -> Result<SharedTable, AllocError>
     ensures { IfOk result (λ t. t ≡ (if is_read_from place last.now.entries name.now then table else without_rows table)) }
 {
-    if is_read_from(place, last, name) {
+    if is_read_from(place, last, name) || table.table().len() == 0 {
         return Ok(table);
     }
     let empty = without_rows(alloc, table.table())?;

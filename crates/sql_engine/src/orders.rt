@@ -37,11 +37,7 @@ fn push_rising(keys: &mut Vec<SortKey>, column: usize) -> Result<(), AllocError>
 }
 
 // Adds the columns of these names as keys that rise.
-fn push_listed(
-    keys: &mut Vec<SortKey>,
-    columns: &[Column],
-    names: &[Txt],
-) -> Result<(), AllocError>
+fn push_listed(keys: &mut Vec<SortKey>, columns: &[Column], names: &[Txt]) -> Result<(), AllocError>
     ensures { OnOk result (map key_of keys.new.items ≡ map key_of keys.old.items ++ map (sort_key (map column_entry columns.now)) names.now) }
 {
     for name in names {

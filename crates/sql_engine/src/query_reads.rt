@@ -46,7 +46,9 @@ fn note_join(join: &Join, last: &mut LastReads, place: usize) -> Result<(), Allo
 {
     match join {
         Join::On {
-            source, condition, ..
+            source,
+            condition,
+            ..
         } => {
             note(&source.table, last, place)?;
             note_expression(condition, last, place)

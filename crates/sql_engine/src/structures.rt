@@ -42,11 +42,7 @@ fn listed_codes(alloc: Global, codes: &[Txt]) -> Result<Option<Shared<Txt>>, All
     Ok(Some(Shared::of(listed)?))
 }
 
-fn component_of(
-    alloc: Global,
-    key: &[Txt],
-    column: &InputColumn,
-) -> Result<Component, AllocError>
+fn component_of(alloc: Global, key: &[Txt], column: &InputColumn) -> Result<Component, AllocError>
     ensures { IfOk result (λ component. component ≡ component_of key.now column.now) }
 {
     Ok(Component {

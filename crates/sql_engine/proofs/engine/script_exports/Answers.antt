@@ -1,4 +1,4 @@
-use Rattle.std.proofs.Common.{◌≡◌, ◌∙◌, ◌≤◌, [], List, map, ap, sym, subst}
+use Rattle.std.proofs.Common.{◌≡◌, ◌∙◌, ◌≤◌, List, map, ap, sym, subst}
 use Rattle.vtl_cell.specs.Settings.{Settings}
 use Rattle.vtl_rows.specs.Named.{NamedTables}
 use Rattle.sql_tree.specs.View.{script_tree, statement_tree}
@@ -8,8 +8,7 @@ use Rattle.sql_check_parts.specs.Statements.{nothing, scale_written, script_sett
 use Rattle.sql_check_laws.specs.Statements.{AreTyped}
 use Rattle.sql_check_laws.proofs.TypedStatements.{script_typed}
 use Rattle.sql_meaning.specs.Scripts.{script_value}
-use Rattle.sql_engine.specs.Exported.{AreExported, exported_of, exports_in}
-use Rattle.sql_engine.specs.Held.{HaveMade}
+use Rattle.sql_engine.specs.Exported.{exported_of, exports_in}
 use Rattle.sql_engine.specs.InputTables.{AreInputsInRange, rows_given}
 use Rattle.sql_engine.specs.Runs.{ShowsExports}
 use Rattle.sql_engine.proofs.AtEnd.{are_exported, exports_of, exports_shown}
@@ -44,7 +43,7 @@ exported-requires g c =
     let p : c.profile-p.result.now ≡ settings_of script.scale script.rounding = c.profile-p.ensures.set ∙ ap (λ (s : SqlScript). script_settings (script_tree s)) (sym c.script.ensures.script) in
     let typed = (script_typed script.scale script.rounding (map statement_tree script.statements)).to c.script.ensures.typed in
     let here = subst (λ (l : List Statement). AreTyped c.profile-p.result.now nothing (map statement_tree l)) (sym c.as_slice-statements.ensures)
-        (subst (λ (q : Settings). AreTyped q nothing (map statement_tree script.statements)) (sym p) typed.1) in
+    (subst (λ (q : Settings). AreTyped q nothing (map statement_tree script.statements)) (sym p) typed.1) in
     are_exported c.profile-p.result.now c.args.inputs.now (map statement_tree c.as_slice-statements.result.now) here c.in_ok-tables.tables c.in_ok-tables.ensures
 
 pub returns : goal.returns
@@ -56,7 +55,7 @@ returns g c =
     let settings : p ≡ settings_of script.scale script.rounding = c.profile-p.ensures.set ∙ ap (λ (s : SqlScript). script_settings (script_tree s)) (sym c.script.ensures.script) in
     let typed = (script_typed script.scale script.rounding (map statement_tree script.statements)).to c.script.ensures.typed in
     let here = subst (λ (l : List Statement). AreTyped p nothing (map statement_tree l)) (sym c.as_slice-statements.ensures)
-        (subst (λ (q : Settings). AreTyped q nothing (map statement_tree script.statements)) (sym settings) typed.1) in
+    (subst (λ (q : Settings). AreTyped q nothing (map statement_tree script.statements)) (sym settings) typed.1) in
     let shows = exports_shown p inputs (map statement_tree ss) here c.in_ok-tables.tables c.in_ok-tables.ensures in
     let same : ss ≡ c.args.script.now.script.statements = c.as_slice-statements.ensures ∙ ap (λ (s : SqlScript). s.statements) c.script.ensures.script in
     let meant : exports_of p inputs (map statement_tree ss) ≡ script_value (script_tree c.args.script.now.script) (rows_given inputs) =

@@ -1,5 +1,4 @@
-use Rattle.std.proofs.Common.{◌≡◌, ◌∙◌, ◌++◌, ◌∷◌, [], ap, sym}
-use Rattle.std.specs.Option.{option_to_list}
+use Rattle.std.proofs.Common.{◌∙◌}
 use Rattle.sql_engine.proofs.Exporting.{owned_more}
 use Rattle.sql_engine.proofs.exports.owned.Goals as goal
 

@@ -1,5 +1,5 @@
 use Rattle.std.proofs.Common.{◌≡◌, ◌∙◌, ◌+◌, map, ap, sym, subst, rules}
-use Rattle.std.specs.Prelude.{OnOk, List}
+use Rattle.std.specs.Prelude.{List}
 use Rattle.sql_tree.specs.Trees as tree
 use Rattle.sql_tree.specs.Trees.{Exp, branches_of, exps_of}
 use Rattle.sql_tree.specs.View.{branch_tree, expr_tree}
@@ -8,7 +8,7 @@ use Rattle.sql_tree.specs.declared.expressions.SqlExpr as expr
 use Rattle.sql_tree.specs.declared.expressions.SqlExpr.{SqlExpr}
 use Rattle.sql_engine.specs.LastReads.{IsNoted}
 use Rattle.sql_engine.specs.Reads.{EachOfAll, EachOfBranches, EachRead}
-use Rattle.sql_engine.proofs.Noting.{BranchesLeft, EachLeft, NotedBut, both_noted, branch_next, on_ok, one_noted, operand_next}
+use Rattle.sql_engine.proofs.Noting.{BranchesLeft, EachLeft, both_noted, branch_next, on_ok, one_noted, operand_next}
 use Rattle.sql_engine.proofs.expression_reads.+noted.Goals as goal
 
 pub note_branches-loop-branch-preserved : goal.note_branches-loop-branch-preserved
@@ -37,7 +37,7 @@ note_expression-returns-in_ok-note_expression-in-Binary t c =
     let one = subst (λ (x : SqlExpr). IsNoted p a b (λ P. EachRead P (expr_tree x))) c.deref.ensures c.in_ok-note_expression-in-Binary.ensures in
     on_ok c.note_expression-in-Binary.result (IsNoted p b d (λ P. EachRead P (expr_tree c.deref-in-Binary.result.now))) (IsNoted p a d (λ P. EachRead P (expr_tree c.args.expression.now)))
     (λ two. subst (λ (x : Exp). IsNoted p a d (λ P. EachRead P x)) (sym is)
-        (both_noted p a b d (λ P. EachRead P (expr_tree l)) (λ P. EachRead P (expr_tree r)) one (subst (λ (x : SqlExpr). IsNoted p b d (λ P. EachRead P (expr_tree x))) c.deref-in-Binary.ensures two)))
+    (both_noted p a b d (λ P. EachRead P (expr_tree l)) (λ P. EachRead P (expr_tree r)) one (subst (λ (x : SqlExpr). IsNoted p b d (λ P. EachRead P (expr_tree x))) c.deref-in-Binary.ensures two)))
     c.note_expression-in-Binary.ensures
 
 pub note_expression-returns-in-Call : goal.note_expression-returns-in-Call
@@ -63,7 +63,7 @@ note_expression-returns-in_ok-note_branches-in-Case t c =
     let one = subst (λ (l : List Branch). IsNoted p a b (λ P. EachOfBranches P (branches_of (map branch_tree l)))) c.deref-in-Case.ensures.value c.in_ok-note_branches-in-Case.ensures in
     on_ok c.note_expression-in-Case.result (IsNoted p b d (λ P. EachRead P (expr_tree c.deref-in-Case-2.result.now))) (IsNoted p a d (λ P. EachRead P (expr_tree c.args.expression.now)))
     (λ two. subst (λ (x : Exp). IsNoted p a d (λ P. EachRead P x)) (sym is)
-        (both_noted p a b d (λ P. EachOfBranches P (branches_of (map branch_tree bs))) (λ P. EachRead P (expr_tree r)) one (subst (λ (x : SqlExpr). IsNoted p b d (λ P. EachRead P (expr_tree x))) c.deref-in-Case-2.ensures two)))
+    (both_noted p a b d (λ P. EachOfBranches P (branches_of (map branch_tree bs))) (λ P. EachRead P (expr_tree r)) one (subst (λ (x : SqlExpr). IsNoted p b d (λ P. EachRead P (expr_tree x))) c.deref-in-Case-2.ensures two)))
     c.note_expression-in-Case.ensures
 
 pub note_operands-loop-operand-preserved : goal.note_operands-loop-operand-preserved

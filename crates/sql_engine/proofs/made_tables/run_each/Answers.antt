@@ -1,10 +1,8 @@
-use Rattle.std.proofs.Common.{◌≡◌, ◌∙◌, ◌+◌, ◌≤◌, ◌∷◌, [], List, Err, drop, length, map, ap, subst, sym, arith, rules}
+use Rattle.std.proofs.Common.{◌≡◌, ◌+◌, ◌≤◌, List, Err, drop, length, map, ap, subst, arith, rules}
 use Rattle.std.specs.Prelude.{fold}
 use Rattle.std.proofs.lemmas.List.{drop_all}
-use Rattle.vtl_rows.specs.Named.{NamedTables}
 use Rattle.sql_tree.specs.Trees.{StatementTree}
 use Rattle.sql_tree.specs.View.{statement_tree}
-use Rattle.sql_tree.specs.declared.statements.Statement.{Statement}
 use Rattle.sql_check_parts.specs.Statements.{after, nothing}
 use Rattle.sql_engine.specs.LastReads.{EachExported, IsReadFrom}
 use Rattle.sql_engine.proofs.Exporting.{one_left}

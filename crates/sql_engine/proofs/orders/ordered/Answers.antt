@@ -4,7 +4,6 @@ use Rattle.vtl_cell.specs.Sorted.{rising}
 use Rattle.vtl_rows.specs.Keys.{key_of}
 use Rattle.vtl_rows.specs.Tables.{Listed}
 use Rattle.vtl_rows.specs.declared.column.Column.{Column}
-use Rattle.vtl_rows.specs.declared.column.SortKey.{SortKey}
 use Rattle.sql_check_laws.specs.Statements.{AreNames}
 use Rattle.sql_meaning.specs.Scripts.{sort_key}
 use Rattle.sql_meaning.specs.Tables.{column_entry}

@@ -26,10 +26,10 @@ returns c =
     let three = both_noted p a b3 b4 (λ P. (P s.from.table × AllByRecursion (EachOfJoin P) (map join_tree s.joins)) × EachOfMaybe P (option_map expr_tree s.condition)) (λ P. EachOfMaybe P (option_map expr_tree s.having)) two c.in_ok-note_maybe-2.ensures in
     on_ok c.note_items.result (IsNoted p b4 b5 (λ P. AllByRecursion (EachOfItem P) (map item_tree c.as_slice-2.result.now))) (IsNoted p a b5 (λ P. EachOfSelect P (select_tree s)))
     (λ last.
-        let items = subst (λ (l : List Item). IsNoted p b4 b5 (λ P. AllByRecursion (EachOfItem P) (map item_tree l))) c.as_slice-2.ensures last in
-        noted_as p a b5
-        (λ P. ((((P s.from.table × AllByRecursion (EachOfJoin P) (map join_tree s.joins)) × EachOfMaybe P (option_map expr_tree s.condition)) × EachOfMaybe P (option_map expr_tree s.having)) × AllByRecursion (EachOfItem P) (map item_tree s.items)))
-        (λ P. EachOfSelect P (select_tree s))
-        (both_noted p a b4 b5 (λ P. ((P s.from.table × AllByRecursion (EachOfJoin P) (map join_tree s.joins)) × EachOfMaybe P (option_map expr_tree s.condition)) × EachOfMaybe P (option_map expr_tree s.having)) (λ P. AllByRecursion (EachOfItem P) (map item_tree s.items)) three items)
-        (λ P h. record { source = h.0.0.0.0; joins = h.0.0.0.1; condition = h.0.0.1; having = h.0.1; items = h.1 }))
+    let items = subst (λ (l : List Item). IsNoted p b4 b5 (λ P. AllByRecursion (EachOfItem P) (map item_tree l))) c.as_slice-2.ensures last in
+    noted_as p a b5
+    (λ P. ((((P s.from.table × AllByRecursion (EachOfJoin P) (map join_tree s.joins)) × EachOfMaybe P (option_map expr_tree s.condition)) × EachOfMaybe P (option_map expr_tree s.having)) × AllByRecursion (EachOfItem P) (map item_tree s.items)))
+    (λ P. EachOfSelect P (select_tree s))
+    (both_noted p a b4 b5 (λ P. ((P s.from.table × AllByRecursion (EachOfJoin P) (map join_tree s.joins)) × EachOfMaybe P (option_map expr_tree s.condition)) × EachOfMaybe P (option_map expr_tree s.having)) (λ P. AllByRecursion (EachOfItem P) (map item_tree s.items)) three items)
+    (λ P h. record { source = h.0.0.0.0; joins = h.0.0.0.1; condition = h.0.0.1; having = h.0.1; items = h.1 }))
     c.note_items.ensures

@@ -1,4 +1,4 @@
-use Rattle.std.proofs.Common.{◌≡◌, ◌∙◌, ◌++◌, ◌∷◌, [], Some, Ok, ap, sym, subst}
+use Rattle.std.proofs.Common.{◌≡◌, ◌∙◌, ◌++◌, ◌∷◌, [], Some, Ok, ap, sym}
 use Rattle.std.specs.Option.{option_copied}
 use Rattle.vtl_rows.specs.Named.{table_of}
 use Rattle.sql_tree.specs.Trees.{Text}
