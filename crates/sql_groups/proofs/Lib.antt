@@ -1,5 +1,6 @@
 pub mod Fitted
 pub mod ItemLemmas
+pub mod GatheredLemmas
 pub mod GroupLemmas
 pub mod KeyLemmas
 pub mod LiftedLemmas
