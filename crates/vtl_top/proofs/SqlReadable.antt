@@ -32,19 +32,19 @@ use Rattle.sql_tree.specs.declared.statements.SqlScript.{SqlScript}
 use Rattle.vtl_top.specs.InputsRead.{AreReadable}
 use Rattle.vtl_status.specs.declared.status.Status.{Status}
 use Rattle.sql_check_laws.proofs.GivenColumns.{inputs_declared}
-use Rattle.sql_meaning.specs.Tables.{HasTable, column_entry, rows_of}
-use Rattle.sql_engine.specs.InputTables.{AreInputsInRange, HaveInputTables, rows_given}
+use Rattle.sql_meaning.specs.Tables.{rows_of}
+use Rattle.sql_engine.specs.InputTables.{AreInputsInRange, HaveInputTables, IsInputTable, rows_given}
 use Rattle.sql_engine.specs.Structures.{structure_of}
 use Rattle.vtl_interp.specs.Inputs.{Holds, input_of, rows_named}
 use Rattle.vtl_interp.specs.Profiles.{AllAreOfProfile}
 use Rattle.vtl_top.specs.SqlInputs.{input_structures, rows_by_name}
-use Rattle.sql_engine.proofs.InputStructures.{input_has_columns, input_is_structure}
+use Rattle.sql_engine.proofs.DeclaredInputs.{lawful_structure, table_is_input}
 
 -- ---- each INPUT has a structure
 pub inputs_are_structures : (p : Settings) (given : Given) (ss : List StatementTree) → AllByRecursion (IsStatement most_levels) ss → AreTyped p given ss → AllByRecursion (λ e. IsStructure e.1) (input_structures ss)
 inputs_are_structures p given [] formed typed = tt
 inputs_are_structures p given (tree.setting digits rounding ∷ ss) formed typed = inputs_are_structures p given ss formed.1 typed.1
-inputs_are_structures p given (tree.input s ∷ ss) formed typed = (input_is_structure s (inputs_declared given.tables s formed.0 typed.0), inputs_are_structures p (after given (tree.input s)) ss formed.1 typed.1)
+inputs_are_structures p given (tree.input s ∷ ss) formed typed = (lawful_structure s (inputs_declared given.tables s formed.0 typed.0), inputs_are_structures p (after given (tree.input s)) ss formed.1 typed.1)
 inputs_are_structures p given (tree.create name q ∷ ss) formed typed = inputs_are_structures p (after given (tree.create name q)) ss formed.1 typed.1
 inputs_are_structures p given (tree.export s ∷ ss) formed typed = inputs_are_structures p (after given (tree.export s)) ss formed.1 typed.1
 
@@ -92,11 +92,11 @@ AllHeld tables inputs = AllByRecursion (λ e. Holds e.1 (table_of e.0 tables)) i
 pub inputs_have_tables : (tables : NamedTables) (ss : List StatementTree) → AllHeld tables (input_structures ss) → HaveInputTables tables ss
 inputs_have_tables tables [] held = tt
 inputs_have_tables tables (tree.setting digits rounding ∷ ss) held = (tt, inputs_have_tables tables ss held)
-inputs_have_tables tables (tree.input s ∷ ss) held = (one (table_of s.name tables) held.0, inputs_have_tables tables ss held.1)
+inputs_have_tables tables (tree.input s ∷ ss) held = (one (table_of s.name tables) refl held.0, inputs_have_tables tables ss held.1)
   where
-    one : (o : Option Listed) → Holds (structure_of s) o → HasTable (input_columns s) o
-    one None h = absurd h
-    one (Some t) h = ap (map column_entry) h.columns ∙ input_has_columns s
+    one : (o : Option Listed) → table_of s.name tables ≡ o → Holds (structure_of s) o → IsInputTable tables s
+    one None e h = absurd h
+    one (Some t) e h = table_is_input s tables t e h
 inputs_have_tables tables (tree.create name q ∷ ss) held = (tt, inputs_have_tables tables ss held)
 inputs_have_tables tables (tree.export s ∷ ss) held = (tt, inputs_have_tables tables ss held)
 
