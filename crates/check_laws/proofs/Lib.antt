@@ -1,3 +1,5 @@
+pub use Rattle.vtl_check.proofs.LeftLemmas
+pub use Rattle.vtl_check.proofs.NameLemmas
 pub mod Alike
 pub mod Among
 pub mod Calculated

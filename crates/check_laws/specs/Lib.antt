@@ -1,3 +1,10 @@
+pub use Rattle.vtl_check.specs.Checked
+pub use Rattle.vtl_check.specs.Count
+pub use Rattle.vtl_check.specs.Names
+pub use Rattle.vtl_check.specs.Places
+pub use Rattle.vtl_check.specs.Script
+pub use Rattle.vtl_check.specs.Transformations
+pub use Rattle.vtl_check.specs.Uses
 pub mod Depths
 pub mod Gives
 pub mod Reads

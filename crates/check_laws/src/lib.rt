@@ -3,7 +3,8 @@
 //!
 //! It is the one bridge from typing (`vtl_check`) to meaning (`vtl_meaning`): the conditions of the laws there hold
 //! for what is typed.
-//! Neither side names the other; `vtl_interp`, which evaluates, cites this.
+//! Neither side names the other; `vtl_backend`, which says what every back end keeps to, cites this and passes on what
+//! it names of typing.
 //! Begin with specs/WellTyped.antt and src/laws.rt.
 #![tactic(auto)]
 
@@ -13,3 +14,4 @@ pub use laws::{
     nodes_are_made_over_what_they_read, typed_scripts_are_made, typed_trees_are_no_deeper,
     typed_values_are_of_their_kind, typing_depends_on_what_is_read, typing_is_sound,
 };
+pub use vtl_check::{CheckErr, Checked, check, defines_rulesets, read_names};

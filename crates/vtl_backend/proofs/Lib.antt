@@ -1,4 +1,6 @@
-pub use Rattle.vtl_check.proofs.LeftLemmas
-pub use Rattle.vtl_check.proofs.NameLemmas
+pub use Rattle.check_laws.proofs.LeftLemmas
+pub use Rattle.check_laws.proofs.NameLemmas
+pub use Rattle.check_laws.proofs.Over
+pub use Rattle.check_laws.proofs.Scripts
 pub mod Agrees
 pub mod BuiltNodes

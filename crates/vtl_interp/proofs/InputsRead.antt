@@ -15,7 +15,7 @@ use Rattle.vtl_backend.specs.Names.{names_of}
 use Rattle.vtl_backend.specs.Uses.{read_behind, reads, with_declared, with_new}
 use Rattle.vtl_backend.specs.Meaning.{known_in}
 use Rattle.vtl_backend.specs.Inputs.{input_of}
-use Rattle.check_laws.specs.Scripts.{AreKnownAlike}
+use Rattle.vtl_backend.specs.Scripts.{AreKnownAlike}
 use Rattle.vtl_interp.proofs.Environments.{found_behind, found_in_front}
 
 -- the data sets of inputs have the structures that are read

@@ -5,8 +5,8 @@ use Rattle.vtl_tree.specs.Structures.{AreStructures, Named}
 use Rattle.vtl_nodes.specs.Trees.{NodeTree, structure_of}
 use Rattle.vtl_backend.specs.Checked.{IsTyped, TypedScript, nodes_of, tree_of}
 use Rattle.vtl_backend.specs.Made.{AreMadeStatements}
-use Rattle.check_laws.specs.Scripts.{AreMadeFrom}
-use Rattle.check_laws.proofs.Scripts.{script-made}
+use Rattle.vtl_backend.specs.Scripts.{AreMadeFrom}
+use Rattle.vtl_backend.proofs.Scripts.{script-made}
 use Rattle.vtl_backend.specs.Statements.{statements_of, with_nodes}
 use Rattle.vtl_backend.specs.Transformations.{Transformation, transformations}
 

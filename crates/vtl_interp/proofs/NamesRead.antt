@@ -22,8 +22,8 @@ use Rattle.vtl_backend.specs.Meaning.{Statement, data_set_of, form_value, kept_o
 use Rattle.vtl_backend.specs.Operators.{calculated_of, choice_of, left_of, measured_of, pair_of, sub_of}
 use Rattle.vtl_backend.specs.Sets.{difference_of, existence_of, intersection_of, symmetric_difference_of, union_of}
 use Rattle.vtl_backend.specs.Turned.{pivot_of, unpivot_of}
-use Rattle.check_laws.specs.Scripts.{AreKnownAlike}
-use Rattle.check_laws.proofs.Over.{made_over}
+use Rattle.vtl_backend.specs.Scripts.{AreKnownAlike}
+use Rattle.vtl_backend.proofs.Over.{made_over}
 
 -- ---- lists
 pub all_front : {X : Type 0} (P : X → Type 0) (xs ys : List X) → AllByRecursion P (xs ++ ys) → AllByRecursion P xs

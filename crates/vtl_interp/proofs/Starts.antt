@@ -18,7 +18,7 @@ use Rattle.vtl_backend.specs.Inputs.{environment_of, inputs_of}
 use Rattle.vtl_backend.specs.Runs.{script_meaning}
 use Rattle.vtl_backend.specs.Statements.{is_script_built, statements_of, with_nodes}
 use Rattle.vtl_backend.specs.Transformations.{transformations}
-use Rattle.check_laws.specs.Scripts.{AreKnownAlike}
+use Rattle.vtl_backend.specs.Scripts.{AreKnownAlike}
 use Rattle.vtl_interp.specs.Results.{AreReady}
 use Rattle.vtl_interp.proofs.InputsRead.{known_inputs, reads_same}
 use Rattle.vtl_interp.proofs.NamesRead.{all_so, statements_made_same}
