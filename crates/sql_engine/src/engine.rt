@@ -1,11 +1,10 @@
 // A run of a script.
 ghost use Rattle.std.specs.Prelude.{◌≡◌, false};
 ghost use Rattle.sql_tree.specs.View.{script_tree};
-ghost use Rattle.sql_engine.specs.InputTables.{AreInputsInRange, HaveInputTables};
+ghost use Rattle.sql_meaning.specs.Scripts.{script_value};
+ghost use Rattle.sql_engine.specs.InputTables.{AreInputsInRange, HaveInputTables, rows_given};
 ghost use Rattle.sql_engine.specs.Runs.{Runs, TellsExports};
 ghost use Rattle.sql_engine.specs.Windows.{script_has_window};
-ghost use Rattle.sql_meaning.specs.Scripts.{script_value};
-ghost use Rattle.sql_engine.specs.InputTables.{rows_given};
 
 use crate::RunErr;
 use crate::exports::exported;

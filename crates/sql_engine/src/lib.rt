@@ -4,7 +4,7 @@
 //! reads, and gives the exports in their order. It decides which structure an INPUT declares and what a fault is named.
 //! How a query is planned and carried out is left to `sql_plan` and `sql_exec`.
 //! It knows no text of a script, no rule of typing, no file, and nothing of VTL but its structures.
-//! Begin with specs/Runs.antt, then src/engine.rt and src/creates.rt.
+//! Begin with specs/Runs.antt, then `engine.rt` and `made_tables.rt`.
 #![tactic(auto)]
 
 mod engine;
