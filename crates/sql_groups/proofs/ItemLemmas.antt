@@ -9,7 +9,7 @@ use Rattle.vtl_scalar.specs.Answers.{AnswersBy}
 use Rattle.vtl_scalar.specs.declared.error.ScalarErr.{ScalarErr}
 use Rattle.sql_meaning.specs.Outcomes.{cell_or_null}
 use Rattle.sql_meaning.proofs.UpToOrder.{faults_by-append, join_assoc, join_none}
-use Rattle.sql_groups.specs.Seen.{answer_of}
+use Rattle.sql_from.specs.Seen.{answer_of}
 
 faults_more : {X : Type 0} (f : X → Option Fault) (xs : List X) (i : ℕ) (x : X) → i < length xs → x ≡ get_or xs i x → faults_by f (take (i + 1) xs) ≡ join (faults_by f (take i xs)) (f x)
 faults_more f xs i x h at =

@@ -11,12 +11,12 @@ ghost use Rattle.sql_meaning.specs.Tables.{RowsFit};
 ghost use Rattle.sql_groups.specs.Grouped.{AreWithin, rows_at};
 ghost use Rattle.sql_groups.specs.Items.{around, fault_for, groups_made, keys_in, passes, row_for, row_of_key, tested};
 ghost use Rattle.sql_groups.specs.Kept.{rows_of, scope_of, tables_of};
-ghost use Rattle.sql_groups.specs.Seen.{seen_of};
+ghost use Rattle.sql_from.specs.Seen.{seen_of};
 
 use crate::group_row::GroupRow;
 use crate::items::{GroupSelect, push_group};
-use crate::seen::Seen;
-use crate::{Grouping, KeptRows};
+use crate::grouping::Grouping;
+use sql_from::{Seen, TupleRows};
 use sql_tree::Column;
 use std::alloc::Global;
 use vtl_cell::{Cell, Profile};
@@ -30,7 +30,7 @@ fn push_numbered<'r>(
     cells: &mut Vec<Cell>,
     seen: Seen,
     select: &GroupSelect,
-    rows: &KeptRows<'r>,
+    rows: &TupleRows<'r>,
     groups: &Grouping,
     number: usize,
     p: &Profile,
@@ -55,7 +55,7 @@ pub(crate) fn push_groups(
     alloc: Global,
     table: &mut Table,
     select: &GroupSelect,
-    rows: &KeptRows<'_>,
+    rows: &TupleRows<'_>,
     group: &[Column],
     p: &Profile,
 ) -> Result<(), ScalarErr>

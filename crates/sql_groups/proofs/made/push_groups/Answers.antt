@@ -10,7 +10,7 @@ use Rattle.sql_meaning.proofs.Lists.{all_at}
 use Rattle.sql_groups.specs.Grouped.{AreWithin}
 use Rattle.sql_groups.specs.Items.{around, fault_for, fault_of_key, is_kept, keys_in, passes, places_of, row_for, row_of_key, tested}
 use Rattle.sql_groups.specs.Kept.{rows_of, scope_of, tables_of}
-use Rattle.sql_groups.specs.Seen.{seen_of}
+use Rattle.sql_from.specs.Seen.{seen_of}
 use Rattle.sql_groups.proofs.GroupLemmas.{group_rows, group_within, numbers_many}
 use Rattle.sql_groups.proofs.ItemLemmas.{faults_of_more, rows_more, walked}
 use Rattle.sql_groups.proofs.made.push_groups.Goals as goal
