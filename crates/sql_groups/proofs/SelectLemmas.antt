@@ -1,9 +1,8 @@
 -- A grouped select, from its parts.
-use Rattle.std.proofs.Common.{◌≡◌, ℕ, suc, List, [], ◌∷◌, map, length, true, cond, Some, None, Option, refl, ap, ◌∙◌, sym, subst}
+use Rattle.std.proofs.Common.{◌≡◌, suc, List, [], ◌∷◌, map, length, true, cond, Some, None, refl, ap, ◌∙◌, sym, subst}
 use Rattle.std.specs.Prelude.{zip}
 use Rattle.std.specs.List.{AllByRecursion}
 use Rattle.std.proofs.lemmas.List.{length-map}
-use Rattle.vtl_cell.specs.Row.{Row}
 use Rattle.vtl_cell.specs.Settings.{Settings}
 use Rattle.vtl_cell.specs.declared.kind.Kind.{Kind}
 use Rattle.vtl_rows.specs.Tables.{column_kinds, fits}
@@ -13,7 +12,7 @@ use Rattle.sql_tree.specs.declared.parts.Column.{Column}
 use Rattle.sql_check_parts.specs.Expressions.{site}
 use Rattle.sql_check_parts.specs.Queries.{is_grouped, item_kind, kinds_of}
 use Rattle.sql_check_parts.specs.Queries as typing
-use Rattle.sql_check_parts.specs.Scopes.{Grouping, Scope, grouping_of, row_of}
+use Rattle.sql_check_parts.specs.Scopes.{grouping_of, row_of}
 use Rattle.sql_check_laws.specs.Selects.{IsItemTyped, IsSelectTyped}
 use Rattle.sql_meaning.specs.Selects.{grouped_rows}
 use Rattle.sql_meaning.specs.Tables.{RowsFit}

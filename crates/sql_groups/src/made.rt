@@ -14,8 +14,8 @@ ghost use Rattle.sql_groups.specs.Kept.{rows_of, scope_of, tables_of};
 ghost use Rattle.sql_from.specs.Seen.{seen_of};
 
 use crate::group_row::GroupRow;
-use crate::items::{GroupSelect, push_group};
 use crate::grouping::Grouping;
+use crate::items::{GroupSelect, push_group};
 use sql_from::{Seen, TupleRows};
 use sql_tree::Column;
 use std::alloc::Global;

@@ -47,12 +47,5 @@ pub fn push_grouped(
     ensures rows { AnswersBy (λ u. table.new.rows) result (after (grouped_rows (sight_of p.now rows.now.sources) (zip (map item_tree select.now.items) kinds.now) select.now.group (option_map expr_tree select.now.having) (rows_for rows.now.sources rows.now.tuples)) (λ made. Ok (table.old.rows ++ made))) }
 {
     let resolved = resolve_groups(alloc, p, &rows.sources, select, kinds)?;
-    push_groups(
-        alloc,
-        table,
-        &resolved,
-        rows,
-        select.group.as_slice(),
-        p,
-    )
+    push_groups(alloc, table, &resolved, rows, select.group.as_slice(), p)
 }

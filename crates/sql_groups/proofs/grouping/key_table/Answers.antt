@@ -1,9 +1,8 @@
-use Rattle.std.proofs.Common.{◌≡◌, ◌<◌, ◌++◌, ◌∷◌, ◌∙◌, [], length, map, ap, sym, arith}
+use Rattle.std.proofs.Common.{◌<◌, ◌++◌, ◌∷◌, ◌∙◌, [], length, map, ap, sym, arith}
 use Rattle.std.proofs.lemmas.List.{map_more}
 use Rattle.vtl_cell.specs.Row.{Row}
 use Rattle.vtl_rows.specs.Places.{row_at}
 use Rattle.vtl_rows.specs.Tables.{cells_at, column_kinds}
-use Rattle.sql_check_parts.specs.Scopes.{column_kind}
 use Rattle.sql_meaning.specs.Values.{place_in}
 use Rattle.sql_from.specs.Rows.{combined}
 use Rattle.sql_from.specs.Sources.{parts_of}

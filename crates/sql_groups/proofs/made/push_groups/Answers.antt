@@ -1,15 +1,13 @@
-use Rattle.std.proofs.Common.{◌≡◌, ◌<◌, ◌≤◌, ◌++◌, ◌∷◌, ◌∙◌, [], ℕ, List, true, length, map, cond, ap, sym, subst, arith}
+use Rattle.std.proofs.Common.{◌≡◌, ◌<◌, ◌≤◌, ◌++◌, ◌∷◌, ◌∙◌, [], true, length, map, cond, ap, sym, subst, arith}
 use Rattle.std.specs.List.{AllByRecursion, filter}
 use Rattle.std.proofs.lemmas.List.{take_all}
 use Rattle.vtl_cell.specs.Outcome.{faults_by, join}
 use Rattle.vtl_cell.specs.Row.{Row}
 use Rattle.vtl_rows.specs.Places.{row_at}
 use Rattle.vtl_rows.specs.Tables.{fits}
-use Rattle.sql_meaning.specs.Values.{place_in}
 use Rattle.sql_meaning.proofs.Lists.{all_at}
-use Rattle.sql_groups.specs.Grouped.{AreWithin}
 use Rattle.sql_groups.specs.Items.{around, fault_for, fault_of_key, is_kept, keys_in, passes, places_of, row_for, row_of_key, tested}
-use Rattle.sql_groups.specs.Kept.{rows_of, scope_of, tables_of}
+use Rattle.sql_groups.specs.Kept.{rows_of, tables_of}
 use Rattle.sql_from.specs.Seen.{seen_of}
 use Rattle.sql_groups.proofs.GroupLemmas.{group_rows, group_within, numbers_many}
 use Rattle.sql_groups.proofs.ItemLemmas.{faults_of_more, rows_more, walked}
@@ -33,7 +31,7 @@ push_numbered-requires c =
           ap (λ l. fits c.loop-number.table.columns (row_for p (tables_of x) key l c.args.select.now)) (group_rows places (rows_of x) g c.in_ok-groups.ensures i within)
           ∙ ap (λ l. fits l (row_of_key (around p x c.args.group.now) c.args.select.now key)) c.loop-number.invariant.columns
           ∙ all_at (λ k. fits c.args.table.now.columns (row_of_key (around p x c.args.group.now) c.args.select.now k) ≡ true) g.keys i [] within
-              (subst (λ ks. AllByRecursion (λ k. fits c.args.table.now.columns (row_of_key (around p x c.args.group.now) c.args.select.now k) ≡ true) ks) (sym c.in_ok-groups.ensures.keys_are) c.requires.made);
+          (subst (λ ks. AllByRecursion (λ k. fits c.args.table.now.columns (row_of_key (around p x c.args.group.now) c.args.select.now k) ≡ true) ks) (sym c.in_ok-groups.ensures.keys_are) c.requires.made);
     }
 
 pub loop-number-preserved : goal.loop-number-preserved
