@@ -16,7 +16,7 @@ use vtl_rows::Table;
 use vtl_scalar::{ScalarErr, given_of_kind};
 
 /// An item of a grouped select, and the kind of its column.
-pub struct GroupItem {
+pub(crate) struct GroupItem {
     pub(crate) exp: Resolved,
     pub(crate) kind: Kind,
 }
@@ -32,7 +32,7 @@ impl Drop for GroupItem {
 }
 
 /// HAVING and the items of a grouped select, with places in place of names.
-pub struct GroupSelect {
+pub(crate) struct GroupSelect {
     pub(crate) having: Option<Resolved>,
     pub(crate) items: Vec<GroupItem>,
 }

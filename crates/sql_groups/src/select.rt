@@ -14,8 +14,8 @@ ghost use Rattle.sql_from.specs.Sources.{scope_held};
 ghost use Rattle.sql_from.specs.Standing.{rows_for, sight_of};
 ghost use Rattle.sql_groups.specs.Resolved.{AreLifted};
 
-use crate::made::push_groups;
 use crate::resolving::resolve_groups;
+use crate::rows::push_groups;
 use sql_from::TupleRows;
 use sql_tree::Select;
 use std::alloc::Global;
