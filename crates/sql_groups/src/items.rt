@@ -1,12 +1,11 @@
 // The rows of a grouped select: HAVING and the items at each group.
 ghost use Rattle.std.specs.Prelude.{◌≡◌, true, ◌++◌, ◌∷◌, [], map, IfErr, IfOk, Ok, if◌then◌else◌};
-ghost use Rattle.vtl_cell.specs.Outcome.{after, fault_in, faults_by, join};
-ghost use Rattle.vtl_cell.specs.Row.{Row};
+ghost use Rattle.vtl_cell.specs.Outcome.{fault_in, faults_by, join};
+ghost use Rattle.vtl_scalar.specs.Answers.{Answers};
 ghost use Rattle.vtl_rows.specs.Tables.{fits};
-ghost use Rattle.vtl_scalar.specs.Answers.{Answers, AnswersBy};
 ghost use Rattle.sql_meaning.specs.Outcomes.{cell_or_null};
-ghost use Rattle.sql_groups.specs.Items.{fault_for, item_at, passes, row_for, tested};
 ghost use Rattle.sql_from.specs.Seen.{seen_of};
+ghost use Rattle.sql_groups.specs.Items.{fault_for, item_at, passes, row_for, tested};
 
 use sql_eval::{Cells, Resolved, value_at};
 use sql_from::Seen;

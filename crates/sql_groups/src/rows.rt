@@ -1,17 +1,14 @@
 // The rows of all groups.
 ghost use Rattle.std.specs.List.{AllByRecursion};
-ghost use Rattle.std.specs.Prelude.{◌≡◌, ◌<◌, true, ◌++◌, ◌∷◌, [], IfErr, IfOk, None, Ok, length, slice_index_or, if◌then◌else◌};
-ghost use Rattle.vtl_cell.specs.Outcome.{after, join};
-ghost use Rattle.vtl_rows.specs.Places.{row_at};
-ghost use Rattle.vtl_rows.specs.Tables.{fits};
+ghost use Rattle.std.specs.Prelude.{◌≡◌, ◌<◌, true, ◌++◌, None, Ok};
+ghost use Rattle.vtl_cell.specs.Outcome.{after};
 ghost use Rattle.vtl_scalar.specs.Answers.{AnswersBy};
+ghost use Rattle.vtl_rows.specs.Tables.{fits};
 ghost use Rattle.sql_check_parts.specs.Scopes.{row_of};
 ghost use Rattle.sql_check_laws.specs.Fits.{IsSeen};
 ghost use Rattle.sql_meaning.specs.Tables.{RowsFit};
-ghost use Rattle.sql_groups.specs.Grouped.{AreWithin, rows_at};
-ghost use Rattle.sql_groups.specs.Items.{around, fault_for, groups_made, keys_in, passes, row_for, row_of_key, tested};
-ghost use Rattle.sql_groups.specs.Kept.{rows_of, scope_of, tables_of};
-ghost use Rattle.sql_from.specs.Seen.{seen_of};
+ghost use Rattle.sql_groups.specs.Items.{around, groups_made, keys_in, row_of_key};
+ghost use Rattle.sql_groups.specs.Kept.{rows_of, scope_of};
 
 use crate::group_row::GroupRow;
 use crate::grouping::Grouping;

@@ -1,8 +1,8 @@
 // Grouped selects.
 ghost use Rattle.std.specs.Prelude.{◌≡◌, ◌++◌, true, Ok, map, option_map, zip};
 ghost use Rattle.vtl_cell.specs.Outcome.{after};
-ghost use Rattle.vtl_rows.specs.Tables.{column_kinds};
 ghost use Rattle.vtl_scalar.specs.Answers.{AnswersBy};
+ghost use Rattle.vtl_rows.specs.Tables.{column_kinds};
 ghost use Rattle.sql_tree.specs.View.{expr_tree, item_tree, select_tree};
 ghost use Rattle.sql_check_parts.specs.Queries.{is_grouped, kinds_of, scope_of};
 ghost use Rattle.sql_check_parts.specs.Scopes.{row_of};

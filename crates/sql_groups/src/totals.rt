@@ -1,16 +1,16 @@
 // Aggregates of an expression over rows.
 ghost use Rattle.std.specs.Prelude.{◌≡◌, ◌++◌, ◌∷◌, [], IfErr, IfOk, List};
-ghost use Rattle.vtl_agg.specs.Added.{HasRoom, IsAdded};
 ghost use Rattle.vtl_cell.specs.Groups.{group_value};
 ghost use Rattle.vtl_cell.specs.Outcome.{after, fault_in, join, unless};
 ghost use Rattle.vtl_cell.specs.declared.cell.Cell as cells;
+ghost use Rattle.vtl_agg.specs.Added.{HasRoom, IsAdded};
 ghost use Rattle.vtl_scalar.specs.Answers.{Answers};
 ghost use Rattle.sql_meaning.specs.Outcomes.{cell_or_null};
 ghost use Rattle.sql_eval.specs.Placed.{aggregate_value, placed_value};
 ghost use Rattle.sql_eval.specs.View.{placed_of};
+ghost use Rattle.sql_from.specs.Seen.{seen_of};
 ghost use Rattle.sql_groups.specs.Grouped.{AreWithin, rows_at};
 ghost use Rattle.sql_groups.specs.Kept.{rows_of, tables_of};
-ghost use Rattle.sql_from.specs.Seen.{seen_of};
 
 use sql_eval::{Cells, Resolved, value_at};
 use sql_from::{Seen, TupleRows};
