@@ -1,20 +1,19 @@
 // Aggregates of an expression over rows.
 ghost use Rattle.std.specs.Prelude.{◌≡◌, ◌++◌, ◌∷◌, [], IfErr, IfOk, List};
-ghost use Rattle.vtl_agg.specs.Added.{HasRoom, IsAdded};
 ghost use Rattle.vtl_cell.specs.Groups.{group_value};
 ghost use Rattle.vtl_cell.specs.Outcome.{after, fault_in, join, unless};
 ghost use Rattle.vtl_cell.specs.declared.cell.Cell as cells;
+ghost use Rattle.vtl_agg.specs.Added.{HasRoom, IsAdded};
 ghost use Rattle.vtl_scalar.specs.Answers.{Answers};
 ghost use Rattle.sql_meaning.specs.Outcomes.{cell_or_null};
 ghost use Rattle.sql_eval.specs.Placed.{aggregate_value, placed_value};
 ghost use Rattle.sql_eval.specs.View.{placed_of};
+ghost use Rattle.sql_from.specs.Seen.{seen_of};
 ghost use Rattle.sql_groups.specs.Grouped.{AreWithin, rows_at};
 ghost use Rattle.sql_groups.specs.Kept.{rows_of, tables_of};
-ghost use Rattle.sql_groups.specs.Seen.{seen_of};
 
-use crate::KeptRows;
-use crate::seen::Seen;
 use sql_eval::{Cells, Resolved, value_at};
+use sql_from::{Seen, TupleRows};
 use std::alloc::Global;
 use vtl_agg::Acc;
 use vtl_cell::{AggKind, Cell, Profile};
@@ -65,7 +64,7 @@ fn finished(acc: Acc, seen: Seen) -> Result<Cell, ScalarErr>
 /// its value or its own fault. It goes over the rows once.
 pub(crate) fn aggregate(
     alloc: Global,
-    rows: &KeptRows<'_>,
+    rows: &TupleRows<'_>,
     numbers: &[usize],
     function: AggKind,
     operand: &Resolved,
