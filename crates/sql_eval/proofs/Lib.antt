@@ -1,3 +1,10 @@
+pub use Rattle.sql_meaning.proofs.ExpressionKinds
+pub use Rattle.sql_meaning.proofs.Lists
+pub use Rattle.sql_meaning.proofs.OperatorKinds
+pub use Rattle.sql_meaning.proofs.SharedKinds
+pub use Rattle.sql_meaning.proofs.SourceKinds
+pub use Rattle.sql_meaning.proofs.UpToOrder
+pub use Rattle.sql_meaning.proofs.WindowKinds
 pub mod Answered
 pub mod Operands
 pub mod Views

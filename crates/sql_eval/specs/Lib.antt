@@ -1,3 +1,14 @@
+pub use Rattle.sql_check_parts.specs.Expressions
+pub use Rattle.sql_check_parts.specs.Queries
+pub use Rattle.sql_check_parts.specs.Scopes
+pub use Rattle.sql_meaning.specs.Fits
+pub use Rattle.sql_meaning.specs.From
+pub use Rattle.sql_meaning.specs.Groups
+pub use Rattle.sql_meaning.specs.Outcomes
+pub use Rattle.sql_meaning.specs.Selects
+pub use Rattle.sql_meaning.specs.Tables
+pub use Rattle.sql_meaning.specs.TypedSelects
+pub use Rattle.sql_meaning.specs.Values
 pub mod Placed
 pub mod View
 pub mod Resolves

@@ -1,3 +1,10 @@
+pub use Rattle.sql_eval.proofs.ExpressionKinds
+pub use Rattle.sql_eval.proofs.Lists
+pub use Rattle.sql_eval.proofs.OperatorKinds
+pub use Rattle.sql_eval.proofs.SharedKinds
+pub use Rattle.sql_eval.proofs.SourceKinds
+pub use Rattle.sql_eval.proofs.UpToOrder
+pub use Rattle.sql_eval.proofs.WindowKinds
 pub mod Flats
 pub mod Joins
 pub mod Marks

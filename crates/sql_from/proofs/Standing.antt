@@ -19,14 +19,14 @@ use Rattle.sql_tree.specs.Trees as tree
 use Rattle.sql_tree.specs.Trees.{Exp, JoinTree, SelectTree, Text}
 use Rattle.sql_tree.specs.declared.parts.Source.{Source}
 use Rattle.sql_tree.specs.declared.word_groups.JoinKind.{JoinKind}
-use Rattle.sql_check_parts.specs.Queries.{join_source, joined_scope}
-use Rattle.sql_check_parts.specs.Scopes.{Columns, or_nothing as columns_or_nothing, row_of, with_source}
-use Rattle.sql_check_laws.specs.Selects.{AreJoinsTyped, IsSourceTyped}
-use Rattle.sql_meaning.specs.From.{Joined, first_of, joined, joined_rows, kept_of, pairs, with_join}
-use Rattle.sql_meaning.specs.Tables.{Base, column_entry, columns_named, rows_of}
-use Rattle.sql_meaning.specs.Values.{at_rows, value}
-use Rattle.sql_meaning.proofs.SourceKinds.{source_added}
-use Rattle.sql_meaning.proofs.UpToOrder.{join_none}
+use Rattle.sql_eval.specs.Queries.{join_source, joined_scope}
+use Rattle.sql_eval.specs.Scopes.{Columns, or_nothing as columns_or_nothing, row_of, with_source}
+use Rattle.sql_eval.specs.TypedSelects.{AreJoinsTyped, IsSourceTyped}
+use Rattle.sql_eval.specs.From.{Joined, first_of, joined, joined_rows, kept_of, pairs, with_join}
+use Rattle.sql_eval.specs.Tables.{Base, column_entry, columns_named, rows_of}
+use Rattle.sql_eval.specs.Values.{at_rows, value}
+use Rattle.sql_eval.proofs.SourceKinds.{source_added}
+use Rattle.sql_eval.proofs.UpToOrder.{join_none}
 use Rattle.sql_from.specs.Held.{base_held, columns_held, rows_held, tables_held}
 use Rattle.sql_from.specs.Joins.{crossed_tuples, joined_tuples, kept_fault, kept_tuples, marks_of, numbers_to, pairs_fault, singles}
 use Rattle.sql_from.specs.Rows.{combined, width_of}

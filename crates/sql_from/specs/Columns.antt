@@ -3,7 +3,7 @@ use Rattle.std.specs.Prelude.{ℕ, List, ◌∷◌, ◌++◌, map}
 use Rattle.std.specs.List.{flat_map}
 use Rattle.vtl_rows.specs.declared.column.Column.{Column}
 use Rattle.sql_tree.specs.Trees.{Text}
-use Rattle.sql_check_parts.specs.Scopes.{Columns, Scope}
+use Rattle.sql_eval.specs.Scopes.{Columns, Scope}
 
 abbrev pub line_feed : ℕ
 line_feed = 10

@@ -10,8 +10,8 @@ use Rattle.vtl_cell.specs.declared.operator.AggKind.{AggKind}
 use Rattle.vtl_rows.specs.Places.{row_at}
 use Rattle.vtl_scalar.specs.Answers.{Answers}
 use Rattle.vtl_scalar.specs.declared.error.ScalarErr.{ScalarErr}
-use Rattle.sql_meaning.specs.Outcomes.{all_values, cell_or_null}
-use Rattle.sql_meaning.proofs.UpToOrder.{faults_by-append, join_none}
+use Rattle.sql_from.specs.Outcomes.{all_values, cell_or_null}
+use Rattle.sql_from.proofs.UpToOrder.{faults_by-append, join_none}
 use Rattle.sql_groups.specs.Grouped.{rows_at}
 use Rattle.std.specs.Prelude.{Result}
 

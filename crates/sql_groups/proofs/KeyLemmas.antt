@@ -9,13 +9,13 @@ use Rattle.vtl_rows.specs.Tables.{cells_at, column_kinds, fits, fits_kinds}
 use Rattle.vtl_rows.specs.declared.column.Column.{Column as TableColumn}
 use Rattle.vtl_index.proofs.Ranges.{all_indexed}
 use Rattle.sql_tree.specs.declared.parts.Column.{Column}
-use Rattle.sql_check_parts.specs.Scopes.{Scope, column_kind, found, row_of}
-use Rattle.sql_check_laws.specs.Fits.{IsSeen}
-use Rattle.sql_meaning.specs.Tables.{RowsFit}
-use Rattle.sql_meaning.specs.Values.{place_in}
-use Rattle.sql_meaning.proofs.Lists.{all_at}
-use Rattle.sql_meaning.proofs.OperatorKinds.{some_of}
-use Rattle.sql_meaning.proofs.SourceKinds.{column_fits}
+use Rattle.sql_from.specs.Scopes.{Scope, column_kind, found, row_of}
+use Rattle.sql_from.specs.Fits.{IsSeen}
+use Rattle.sql_from.specs.Tables.{RowsFit}
+use Rattle.sql_from.specs.Values.{place_in}
+use Rattle.sql_from.proofs.Lists.{all_at}
+use Rattle.sql_from.proofs.OperatorKinds.{some_of}
+use Rattle.sql_from.proofs.SourceKinds.{column_fits}
 
 -- ---- kinds
 

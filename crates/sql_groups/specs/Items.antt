@@ -8,9 +8,9 @@ use Rattle.vtl_cell.specs.Settings.{Settings}
 use Rattle.vtl_cell.specs.declared.cell.Cell.{Cell}
 use Rattle.sql_tree.specs.Trees.{Text}
 use Rattle.sql_tree.specs.declared.parts.Column.{Column}
-use Rattle.sql_meaning.specs.Groups.{keys_by, rows_with}
-use Rattle.sql_meaning.specs.Outcomes.{cell_or_null}
-use Rattle.sql_meaning.specs.Values.{place_in}
+use Rattle.sql_from.specs.Groups.{keys_by, rows_with}
+use Rattle.sql_from.specs.Outcomes.{cell_or_null}
+use Rattle.sql_from.specs.Values.{place_in}
 use Rattle.sql_eval.specs.Placed.{placed_value}
 use Rattle.sql_eval.specs.View.{placed_of}
 use Rattle.sql_eval.specs.declared.resolved.Resolved.{Resolved}

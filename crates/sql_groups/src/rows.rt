@@ -4,9 +4,9 @@ ghost use Rattle.std.specs.Prelude.{◌≡◌, ◌<◌, true, ◌++◌, None, Ok
 ghost use Rattle.vtl_cell.specs.Outcome.{after};
 ghost use Rattle.vtl_scalar.specs.Answers.{AnswersBy};
 ghost use Rattle.vtl_rows.specs.Tables.{fits};
-ghost use Rattle.sql_check_parts.specs.Scopes.{row_of};
-ghost use Rattle.sql_check_laws.specs.Fits.{IsSeen};
-ghost use Rattle.sql_meaning.specs.Tables.{RowsFit};
+ghost use Rattle.sql_from.specs.Scopes.{row_of};
+ghost use Rattle.sql_from.specs.Fits.{IsSeen};
+ghost use Rattle.sql_from.specs.Tables.{RowsFit};
 ghost use Rattle.sql_groups.specs.Items.{around, groups_made, keys_in, row_of_key};
 ghost use Rattle.sql_groups.specs.Kept.{rows_of, scope_of};
 

@@ -5,7 +5,7 @@ ghost use Rattle.vtl_cell.specs.Outcome.{after, fault_in, join, unless};
 ghost use Rattle.vtl_cell.specs.declared.cell.Cell as cells;
 ghost use Rattle.vtl_agg.specs.Added.{HasRoom, IsAdded};
 ghost use Rattle.vtl_scalar.specs.Answers.{Answers};
-ghost use Rattle.sql_meaning.specs.Outcomes.{cell_or_null};
+ghost use Rattle.sql_from.specs.Outcomes.{cell_or_null};
 ghost use Rattle.sql_eval.specs.Placed.{aggregate_value, placed_value};
 ghost use Rattle.sql_eval.specs.View.{placed_of};
 ghost use Rattle.sql_from.specs.Seen.{seen_of};

@@ -1,3 +1,5 @@
+pub use Rattle.sql_check_laws.specs.Fits
+pub use Rattle.sql_check_laws.specs.Selects as TypedSelects
 pub mod Outcomes
 pub mod Tables
 pub mod Values

@@ -4,7 +4,7 @@ use Rattle.vtl_rows.specs.Named.{NamedTables}
 use Rattle.sql_tree.specs.Trees.{JoinTree}
 use Rattle.sql_tree.specs.declared.statements.Join.{Join}
 use Rattle.sql_tree.specs.View.{join_tree, select_tree}
-use Rattle.sql_meaning.specs.From.{first_of, with_join}
+use Rattle.sql_eval.specs.From.{first_of, with_join}
 use Rattle.sql_from.specs.Held.{base_held}
 use Rattle.sql_from.specs.Seen.{seen_of}
 use Rattle.sql_from.specs.Standing.{StandsFor}

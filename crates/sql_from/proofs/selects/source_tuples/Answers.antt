@@ -1,6 +1,6 @@
 use Rattle.std.proofs.Common.{◌∙◌, ap}
 use Rattle.sql_tree.specs.View.{select_tree}
-use Rattle.sql_meaning.specs.From.{first_of}
+use Rattle.sql_eval.specs.From.{first_of}
 use Rattle.sql_from.specs.Held.{base_held}
 use Rattle.sql_from.specs.Sources.{Sourced, scope_held}
 use Rattle.sql_from.proofs.Standing.{if_ok, scope_joined}

@@ -3,7 +3,7 @@ use Rattle.std.proofs.lemmas.List.{map_more}
 use Rattle.vtl_cell.specs.Row.{Row}
 use Rattle.vtl_rows.specs.Places.{row_at}
 use Rattle.vtl_rows.specs.Tables.{cells_at, column_kinds}
-use Rattle.sql_meaning.specs.Values.{place_in}
+use Rattle.sql_from.specs.Values.{place_in}
 use Rattle.sql_from.specs.Rows.{combined}
 use Rattle.sql_from.specs.Sources.{parts_of}
 use Rattle.sql_groups.specs.Kept.{rows_of, scope_of}

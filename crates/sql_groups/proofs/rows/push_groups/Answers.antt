@@ -4,7 +4,7 @@ use Rattle.std.proofs.lemmas.List.{take_all}
 use Rattle.vtl_cell.specs.Outcome.{faults_by, join}
 use Rattle.vtl_rows.specs.Places.{row_at}
 use Rattle.vtl_rows.specs.Tables.{fits}
-use Rattle.sql_meaning.proofs.Lists.{all_at}
+use Rattle.sql_from.proofs.Lists.{all_at}
 use Rattle.sql_from.specs.Held.{rows_held}
 use Rattle.sql_from.specs.Seen.{seen_of}
 use Rattle.sql_groups.specs.Grouped.{AreWithin, Group, rows_at}

@@ -1,7 +1,7 @@
 use Rattle.std.proofs.Common.{◌≡◌, ◌∙◌, ℕ, List, [], ap, arith, length, map, refl, sym}
 use Rattle.std.specs.List.{range_with_len}
 use Rattle.std.proofs.lemmas.List.{length-map}
-use Rattle.sql_meaning.specs.Values.{place_in}
+use Rattle.sql_from.specs.Values.{place_in}
 use Rattle.sql_groups.specs.Kept.{rows_of, scope_of}
 use Rattle.sql_groups.proofs.GroupLemmas.{found_leads, keyed_groups}
 use Rattle.sql_groups.proofs.grouping.Grouping.keyed.Goals as goal
