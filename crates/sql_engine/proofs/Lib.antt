@@ -1,0 +1,3 @@
+pub mod FaultNames
+pub mod OnlyRead
+pub mod Ordering

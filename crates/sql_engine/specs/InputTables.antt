@@ -1,0 +1,31 @@
+-- The tables from which a run begins.
+use Rattle.std.specs.Prelude.{List, map}
+use Rattle.std.specs.List.{AllByRecursion}
+use Rattle.vtl_cell.specs.Settings.{Settings}
+use Rattle.vtl_rows.specs.Named.{NamedTables, table_of}
+use Rattle.sql_tree.specs.Trees as tree
+use Rattle.sql_tree.specs.Trees.{StatementTree}
+use Rattle.sql_check_parts.specs.Statements.{input_columns}
+use Rattle.sql_meaning.specs.Profiles.{AreOfProfile}
+use Rattle.sql_meaning.specs.Scripts.{Inputs}
+use Rattle.sql_meaning.specs.Tables.{HasTable, rows_of}
+
+-- the rows of each
+abbrev pub rows_given : NamedTables → Inputs
+rows_given tables = map (λ t. (t.0, t.1.rows)) tables
+
+-- for an INPUT there is a table of its columns
+abbrev pub HasInputTable : NamedTables → StatementTree → Type 0
+HasInputTable tables (tree.input s) = HasTable (input_columns s) (table_of s.name tables)
+HasInputTable tables other = Unit {0}
+
+abbrev pub HaveInputTables : NamedTables → List StatementTree → Type 0
+HaveInputTables tables ss = AllByRecursion (HasInputTable tables) ss
+
+-- its integers are of the profile
+abbrev pub IsInputInRange : Settings → NamedTables → StatementTree → Type 0
+IsInputInRange p tables (tree.input s) = AreOfProfile p (rows_of (table_of s.name tables))
+IsInputInRange p tables other = Unit {0}
+
+abbrev pub AreInputsInRange : Settings → NamedTables → List StatementTree → Type 0
+AreInputsInRange p tables ss = AllByRecursion (IsInputInRange p tables) ss

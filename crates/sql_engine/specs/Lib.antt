@@ -1,0 +1,8 @@
+pub mod Exported
+pub mod Held
+pub mod InputTables
+pub mod LastReads
+pub mod Reads
+pub mod Runs
+pub mod Structures
+pub mod Windows
