@@ -1,0 +1,38 @@
+-- Tuples in a flat list of numbers.
+use Rattle.std.proofs.Common.{◌≡◌, ℕ, zero, suc, ◌+◌, ◌*◌, ◌/◌, ◌<◌, ◌≤◌, List, length, get_or, take, drop, arith, sym, ap, ◌∙◌}
+use Rattle.std.specs.Simd.{first_chunks}
+use Rattle.std.proofs.lemmas.List.{length-take-le, length-drop, drop-drop}
+use Rattle.std.proofs.lemmas.Nat.{mul-le}
+use Rattle.std.proofs.Math.Nat.{le_refl, mul-div_cancel}
+use Rattle.vtl_rows.specs.Gathered.{pieces}
+use Rattle.vtl_rows.proofs.Gathered.{length-pieces}
+use Rattle.sql_from.specs.Tuples.{IsFlat}
+
+tuple_ends : (width n i : ℕ) → i < n → i * width + width ≤ n * width
+tuple_ends width n i h = let up = mul-le (i + 1) width n width (omega arith) (le_refl width) in omega (arith, up)
+
+chunk_at : (width n i : ℕ) (ns : List ℕ) (d : List ℕ) → i < n → get_or (first_chunks width n ns) i d ≡ take width (drop (i * width) ns)
+chunk_at width zero i ns d h = absurd (omega arith)
+chunk_at width (suc n) zero ns d h = let z : 0 ≡ 0 * width = omega arith in ap (λ k. take width (drop k ns)) z
+chunk_at width (suc n) (suc i) ns d h =
+    let on : width + i * width ≡ suc i * width = omega arith in
+    chunk_at width n i (drop width ns) d (omega arith) ∙ ap (take width) (drop-drop (i * width) width ns ∙ ap (λ k. drop k ns) on)
+
+module _ (width n : ℕ) (ns : List ℕ) (tuples : List (List ℕ)) (flat : IsFlat width n ns) (seen : pieces width ns ≡ tuples) where
+  count_is : length ns / width ≡ n
+  count_is = ap (λ k. k / width) flat.whole ∙ mul-div_cancel n flat.wide
+
+  pub tuples_counted : n ≡ length tuples
+  tuples_counted = sym (ap length (sym seen) ∙ length-pieces width ns ∙ count_is)
+
+  pub tuples_few : length tuples ≤ length ns
+  tuples_few = let up = mul-le n 1 n width (le_refl n) flat.wide in omega (arith, up, flat.whole, tuples_counted)
+
+  pub tuple_within : (i : ℕ) → i < length tuples → i * width + width ≤ length ns
+  tuple_within i h = let e = tuple_ends width n i (omega (arith, h, tuples_counted)) in omega (arith, e, flat.whole)
+
+  pub tuple_read : (i : ℕ) (d : List ℕ) → i < length tuples → take width (drop (i * width) ns) ≡ get_or tuples i d
+  tuple_read i d h = sym (ap (λ k. get_or (first_chunks width k ns) i d) count_is ∙ chunk_at width n i ns d (omega (arith, h, tuples_counted))) ∙ ap (λ r. get_or r i d) seen
+
+  pub tuple_wide : (i : ℕ) → i < length tuples → length (take width (drop (i * width) ns)) ≡ width
+  tuple_wide i h = let w = tuple_within i h in let l = length-drop (i * width) ns in length-take-le width (drop (i * width) ns) (omega (arith, w, l))

@@ -1,0 +1,4 @@
+pub mod Flats
+pub mod Named
+pub mod Parted
+pub mod Sited

@@ -1,0 +1,130 @@
+-- What the sources of a select know of themselves.
+use Rattle.std.proofs.Common.{◌≡◌, ℕ, zero, suc, ◌+◌, List, [], ◌∷◌, ◌++◌, map, length, Bool, true, false, cond, Option, Some, None, IsSome, arith, refl, sym, ap, ◌∙◌, subst, length-append}
+use Rattle.std.specs.List.{AllByRecursion}
+use Rattle.std.specs.Map.{keys_of}
+use Rattle.std.specs.Option.{option_map}
+use Rattle.std.specs.Prelude.{option_and_then, slice_get, unwrap_or}
+use Rattle.std.proofs.lemmas.List.{append-nil, length-map}
+use Rattle.vtl_cell.specs.Texts.{same_text}
+use Rattle.vtl_rows.specs.Named.{NamedTables, table_of}
+use Rattle.vtl_rows.specs.Tables.{Listed}
+use Rattle.sql_tree.specs.Trees.{Text}
+use Rattle.sql_tree.specs.declared.parts.Column.{Column}
+use Rattle.sql_check_parts.specs.Scopes.{Columns, Named, columns_of, found, numbered, placed, placed_from, row_of, value_among}
+use Rattle.vtl_cell.specs.declared.kind.Kind.{Kind}
+use Rattle.vtl_rows.specs.declared.column.Column.{Column as TableColumn}
+use Rattle.sql_meaning.specs.Tables.{column_entry}
+use Rattle.sql_meaning.specs.Values.{inner_scope, place_in}
+use Rattle.sql_from.specs.Held.{columns_held, tables_held}
+use Rattle.sql_from.specs.Rows.{width_of}
+use Rattle.sql_from.specs.Sources.{AreFound, AreSited, parts_of, scope_held, source_of, table_named, or_nothing}
+use Rattle.sql_from.specs.declared.columns.ColumnAt.{ColumnAt}
+use Rattle.sql_from.specs.declared.sources.SourceTable.{SourceTable}
+
+-- ---- tables by name
+
+pub columns_are : (held : NamedTables) (name : Text) → columns_of (tables_held held) name ≡ option_map columns_held (table_of name held)
+columns_are [] name = refl
+columns_are (t ∷ held) name = go (same_text name t.0) (columns_are held name)
+  where
+    go : (b : Bool) → columns_of (tables_held held) name ≡ option_map columns_held (table_of name held) → cond b (Some (columns_held t.1)) (columns_of (tables_held held) name) ≡ option_map columns_held (cond b (Some t.1) (table_of name held))
+    go true ih = refl
+    go false ih = ih
+
+pub table_there : (held : NamedTables) (name : Text) → IsSome (columns_of (tables_held held) name) → table_of name held ≡ Some (table_named held name)
+table_there held name h = go (table_of name held) (subst IsSome (columns_are held name) h)
+  where
+    go : (o : Option Listed) → IsSome (option_map columns_held o) → o ≡ Some (or_nothing o)
+    go None h = cc
+    go (Some t) h = refl
+
+pub keys_are : (ss : Named SourceTable) → keys_of (scope_held (map source_of ss)) ≡ keys_of ss
+keys_are [] = refl
+keys_are (s ∷ ss) = ap (λ l. s.0 ∷ l) (keys_are ss)
+
+-- ---- one source more
+
+pub sited_last : (n : ℕ) (ss : Named SourceTable) (alias : Text) (s : SourceTable) → AreSited n ss → AreFound (n + width_of (parts_of (map source_of ss))) (columns_held s.table.now) s.columns → AreSited n (ss ++ (alias, s) ∷ [])
+sited_last n [] alias s all here = let e : n + 0 ≡ n = omega arith in (subst (λ k. AreFound k (columns_held s.table.now) s.columns) e here, tt)
+sited_last n (u ∷ ss) alias s all here =
+    let e : n + (length u.1.table.now.columns + width_of (parts_of (map source_of ss))) ≡ n + length u.1.table.now.columns + width_of (parts_of (map source_of ss)) = omega arith in
+    (all.0, sited_last (n + length u.1.table.now.columns) ss alias s all.1 (subst (λ k. AreFound k (columns_held s.table.now) s.columns) e here))
+
+pub all_last : {X : Type 0} (P : X → Type 0) (xs : List X) (x : X) → AllByRecursion P xs → P x → AllByRecursion P (xs ++ x ∷ [])
+all_last P [] x all h = (h, tt)
+all_last P (y ∷ xs) x all h = (all.0, all_last P xs x all.1 h)
+
+-- ---- look-ups
+
+-- what is known of a column
+abbrev pub known_at : Named SourceTable → Column → Option ColumnAt
+known_at ss x = option_and_then (λ s. value_among s.columns x.name) (value_among ss x.source)
+
+pub found_kind : (n : ℕ) (ss : Named SourceTable) (x : Column) → AreSited n ss → option_map (λ c. c.kind) (known_at ss x) ≡ found (scope_held (map source_of ss)) x
+found_kind n [] x all = refl
+found_kind n (s ∷ ss) x all = go (same_text x.source s.0) (found_kind (n + length s.1.table.now.columns) ss x all.1)
+  where
+    go : (b : Bool) → option_map (λ c. c.kind) (known_at ss x) ≡ found (scope_held (map source_of ss)) x
+        → option_map (λ c. c.kind) (option_and_then (λ u. value_among u.columns x.name) (cond b (Some s.1) (value_among ss x.source)))
+        ≡ option_and_then (λ named. value_among named x.name) (cond b (Some (columns_held s.1.table.now)) (value_among (scope_held (map source_of ss)) x.source))
+    go true ih = all.0.kinds x.name
+    go false ih = ih
+
+found_place_from : (n : ℕ) (ss : Named SourceTable) (x : Column) → AreSited n ss → option_map (λ c. c.place) (known_at ss x) ≡ found (placed_from n (scope_held (map source_of ss))) x
+found_place_from n [] x all = refl
+found_place_from n (s ∷ ss) x all =
+    go (same_text x.source s.0) (found_place_from (n + length s.1.table.now.columns) ss x all.1 ∙ ap (λ k. found (placed_from k (scope_held (map source_of ss))) x) count)
+  where
+    count : n + length s.1.table.now.columns ≡ n + length (columns_held s.1.table.now)
+    count = ap (λ k. n + k) (sym (length-map s.1.table.now.columns column_entry))
+
+    go : (b : Bool) → option_map (λ c. c.place) (known_at ss x) ≡ found (placed_from (n + length (columns_held s.1.table.now)) (scope_held (map source_of ss))) x
+        → option_map (λ c. c.place) (option_and_then (λ u. value_among u.columns x.name) (cond b (Some s.1) (value_among ss x.source)))
+        ≡ option_and_then (λ named. value_among named x.name) (cond b (Some (numbered n (columns_held s.1.table.now))) (value_among (placed_from (n + length (columns_held s.1.table.now)) (scope_held (map source_of ss))) x.source))
+    go true ih = all.0.places x.name
+    go false ih = ih
+
+pub found_place : (ss : Named SourceTable) (x : Column) → AreSited 0 ss → option_map (λ c. c.place) (known_at ss x) ≡ found (placed (scope_held (map source_of ss))) x
+found_place ss x all = found_place_from 0 ss x all
+
+-- ---- widths
+
+pub row_wide : (sources : NamedTables) → length (row_of (scope_held sources)) ≡ width_of (parts_of sources)
+row_wide [] = refl
+row_wide (s ∷ ss) =
+    let all = length-append (map (λ e. e.1) (columns_held s.1)) (row_of (scope_held ss)) in
+    let one = length-map (columns_held s.1) (λ e. e.1) in
+    let two = length-map s.1.columns column_entry in
+    let rest = row_wide ss in
+    omega (arith, all, one, two, rest)
+
+pub part_got : (ss : Named SourceTable) (i : ℕ) (key : Text) (s : SourceTable) → slice_get ss i ≡ Some (key, s) → slice_get (parts_of (map source_of ss)) i ≡ Some s.table.now
+part_got [] i key s e = cc
+part_got (u ∷ ss) zero key s e = let h : u ≡ (key, s) = cc in ap (λ (v : Text × SourceTable). Some v.1.table.now) h
+part_got (u ∷ ss) (suc i) key s e = part_got ss i key s e
+
+-- ---- the table of EXISTS
+
+module _ (alias : Text) (x : Column) where
+  abbrev place_alone : Option Columns → ℕ
+  place_alone columns = place_in (inner_scope (record { alias = alias; columns = columns })) x
+
+  alone_wide : (columns : List TableColumn) → length (row_of {V = Kind} ((alias, map column_entry columns) ∷ [])) ≡ length columns
+  alone_wide columns = ap length (append-nil (map (λ e. e.1) (map column_entry columns))) ∙ length-map (map column_entry columns) (λ e. e.1) ∙ length-map columns column_entry
+
+  pub inner_named : (columns : List TableColumn) (known : Option Columns) → known ≡ Some (map column_entry columns) → same_text x.source alias ≡ true → unwrap_or (value_among (numbered 0 (map column_entry columns)) x.name) (length columns) ≡ place_alone known
+  inner_named columns known e s =
+      sym (ap place_alone e ∙ ap (λ b. unwrap_or (option_and_then (λ named. value_among named x.name) (cond b (Some (numbered 0 (map column_entry columns))) None)) (length (row_of {V = Kind} ((alias, map column_entry columns) ∷ [])))) s
+      ∙ ap (unwrap_or (value_among (numbered 0 (map column_entry columns)) x.name)) (alone_wide columns))
+
+  pub inner_other : (columns : List TableColumn) (known : Option Columns) → known ≡ Some (map column_entry columns) → same_text x.source alias ≡ false → length columns ≡ place_alone known
+  inner_other columns known e s =
+      sym (ap place_alone e ∙ ap (λ b. unwrap_or (option_and_then (λ named. value_among named x.name) (cond b (Some (numbered 0 (map column_entry columns))) None)) (length (row_of {V = Kind} ((alias, map column_entry columns) ∷ [])))) s
+      ∙ alone_wide columns)
+
+  pub inner_nowhere : (known : Option Columns) → known ≡ None → 0 ≡ place_alone known
+  inner_nowhere known e = sym (ap place_alone e ∙ go (same_text x.source alias))
+    where
+      go : (b : Bool) → unwrap_or (option_and_then (λ named. value_among named x.name) (cond b (Some (numbered {V = Kind} 0 [])) None)) 0 ≡ 0
+      go true = refl
+      go false = refl

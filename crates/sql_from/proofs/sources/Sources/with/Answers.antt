@@ -1,0 +1,58 @@
+use Rattle.std.proofs.Common.{◌≡◌, ◌∙◌, ◌++◌, ◌∷◌, [], ◌+◌, List, length, map, ap, sym, subst, Some, None, Option, IsSome, arith, refl}
+use Rattle.std.specs.Borrow.{Bor}
+use Rattle.std.specs.List.{AllByRecursion, list_any}
+use Rattle.std.specs.Map.{keys_of}
+use Rattle.std.specs.Option.{option_copied}
+use Rattle.std.proofs.lemmas.List.{length-map, map-append}
+use Rattle.vtl_cell.specs.Texts.{same_text}
+use Rattle.vtl_rows.specs.Named.{table_of}
+use Rattle.vtl_rows.specs.declared.gather.Pick.{Pick}
+use Rattle.vtl_rows.specs.declared.column.Column.{Column}
+use Rattle.sql_meaning.specs.Tables.{column_entry}
+use Rattle.sql_from.specs.Held.{columns_held}
+use Rattle.sql_from.specs.Rows.{picks_from, picks_at, width_of}
+use Rattle.sql_from.specs.Sources.{AreFound, AreSited, IsWide, parts_of, scope_held, source_of, table_named}
+use Rattle.sql_from.specs.declared.sources.SourceTable.{SourceTable}
+use Rattle.sql_from.proofs.Parted.{length-picks_from, picks_last}
+use Rattle.sql_from.proofs.Sited.{all_last, keys_are, sited_last, table_there}
+use Rattle.sql_from.proofs.sources.Sources.with.Goals as goal
+
+some_of : {X : Type 0} (o : Option (Bor X)) (x : X) → option_copied o ≡ Some x → IsSome o
+some_of None x e = cc
+some_of (Some y) x e = refl
+
+pub unwrap-table-requires : goal.unwrap-table-requires
+unwrap-table-requires c =
+    let name = c.args.source.now.table in
+    some_of c.get.result (table_named c.args.self.held name) (c.get.ensures ∙ ap (λ s. table_of name s.held) c.self.view_is ∙ table_there c.args.self.held name c.requires.0)
+
+pub put-requires : goal.put-requires
+put-requires c =
+    ap (λ n. list_any (same_text n) (keys_of c.self.inside.sources)) c.in_ok-share.ensures
+    ∙ ap (list_any (same_text c.args.source.now.alias)) (sym (keys_are c.self.inside.sources) ∙ ap (λ s. keys_of (scope_held s.sources)) c.self.view_is) ∙ c.requires.1
+
+pub invariant_of-result : goal.invariant_of-result
+invariant_of-result c =
+    let ss = c.self.inside.sources in
+    let table = c.unwrap-table.result in
+    let alias = c.in_ok-share.field-0 in
+    let now : SourceTable = record { table = table; columns = c.in_ok-columns.columns } in
+    let parts = parts_of (map source_of ss) in
+    let made : c.put.new.self ≡ ss ++ (alias, now) ∷ [] = c.in_ok-put.ensures.put in
+    let shown : parts_of (map source_of (ss ++ (alias, now) ∷ [])) ≡ parts ++ table.now ∷ [] = ap parts_of (map-append source_of ss ((alias, now) ∷ [])) ∙ map-append (λ s. s.1) (map source_of ss) ((alias, table.now) ∷ []) in
+    let wide : length c.self.inside.picks.items ≡ width_of parts = ap (λ (l : List Pick). length l) c.self.invariant.picked ∙ length-picks_from 0 parts in
+    let first : c.len.result ≡ 0 + width_of parts = omega (arith, wide, c.len.ensures, c.self.inside.picks.ok) in
+    let many : length parts ≡ length ss = length-map (map source_of ss) (λ s. s.1) ∙ length-map ss source_of in
+    let place : c.len-2.result ≡ 0 + length parts = omega (arith, many, c.len-2.ensures) in
+    let found : AreFound (0 + width_of parts) (columns_held table.now) c.in_ok-columns.columns =
+    subst (λ n. AreFound n (columns_held table.now) c.in_ok-columns.columns) first (subst (λ (cs : List Column). AreFound c.len.result (map column_entry cs) c.in_ok-columns.columns) c.columns.ensures.columns c.in_ok-columns.ensures) in
+    let picked : c.push_picks.new.picks.items ≡ picks_from 0 (parts ++ table.now ∷ []) =
+    c.in_ok-push_picks.ensures ∙ (λ i. c.self.invariant.picked i ++ picks_at (place i) (length (c.columns-2.ensures.columns i))) ∙ sym (picks_last 0 parts table.now) in
+    let sited : AreSited 0 (ss ++ (alias, now) ∷ []) = sited_last 0 ss alias now c.self.invariant.sited found in
+    let rows : AllByRecursion IsWide (parts ++ table.now ∷ []) = all_last IsWide parts table.now c.self.invariant.wide c.columns.ensures.wide in
+    record {
+      sited = subst (AreSited 0) (sym made) sited;
+      picked = picked ∙ ap (picks_from 0) (sym shown) ∙ ap (λ l. picks_from 0 (parts_of (map source_of l))) (sym made);
+      wide = subst (λ l. AllByRecursion IsWide (parts_of (map source_of l))) (sym made) (subst (AllByRecursion IsWide) (sym shown) rows);
+      null = c.self.invariant.null;
+    }

@@ -1,0 +1,4 @@
+pub mod Held
+pub mod Tuples
+pub mod Rows
+pub mod Sources

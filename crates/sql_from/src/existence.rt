@@ -1,0 +1,91 @@
+// EXISTS, by a walk over the rows of its table.
+ghost use Rattle.std.specs.List.{list_all};
+ghost use Rattle.std.specs.Prelude.{◌≡◌, IfOk};
+ghost use Rattle.vtl_cell.specs.declared.cell.Cell.TheVariants.{Null};
+ghost use Rattle.sql_eval.specs.Placed.{has_partner, is_tied, side_cell};
+ghost use Rattle.sql_from.specs.Held.{rows_held};
+
+use crate::OuterRow;
+use sql_eval::{Existence, Side, Tie};
+use std::alloc::{AllocError, Global};
+use vtl_cell::{Cell, Profile, ScalarOp};
+use vtl_rows::Tables;
+use vtl_scalar::{ScalarErr, apply_two};
+
+// The cell on a side of an equality; past the last one of the inner row the null that is lent.
+fn side_cell<'r, R: OuterRow>(
+    side: Side,
+    inner: &'r [Cell],
+    outer: &'r R,
+    null: &'r Cell,
+) -> &'r Cell
+    requires { null.now ≡ Null }
+    ensures { result.now ≡ side_cell (R.lends outer.now) inner.now side }
+{
+    match side {
+        Side::Inner(place) => match inner.get(place) {
+            Some(cell) => cell,
+            None => null,
+        },
+        Side::Outer(place) => outer.lent(place),
+    }
+}
+
+// Whether an equality is true.
+fn is_tied<R: OuterRow>(
+    alloc: Global,
+    tie: &Tie,
+    inner: &[Cell],
+    outer: &R,
+    p: &Profile,
+) -> Result<bool, AllocError>
+    ensures { IfOk result (λ b. b ≡ is_tied p.now (R.lends outer.now) inner.now tie.now) }
+{
+    let null = Cell::Null;
+    let left = side_cell(tie.left, inner, outer, &null);
+    let right = side_cell(tie.right, inner, outer, &null);
+    match apply_two(alloc, ScalarOp::Equal, left, right, p) {
+        Ok(Cell::Bool(is_equal)) => Ok(is_equal),
+        Err(ScalarErr::OutOfMemory) => Err(AllocError),
+        _ => Ok(false),
+    }
+}
+
+// Whether every equality is true.
+fn all_tied<R: OuterRow>(
+    alloc: Global,
+    ties: &[Tie],
+    inner: &[Cell],
+    outer: &R,
+    p: &Profile,
+) -> Result<bool, AllocError>
+    ensures { IfOk result (λ b. b ≡ list_all (is_tied p.now (R.lends outer.now) inner.now) ties.now) }
+{
+    for tie in ties {
+        if !is_tied(alloc, tie, inner, outer, p)? {
+            return Ok(false);
+        }
+    }
+    Ok(true)
+}
+
+/// Whether some row of the table of EXISTS makes every equality with a row true. It fails only if memory runs out.
+pub fn has_partner<R: OuterRow>(
+    alloc: Global,
+    tables: &Tables,
+    test: &Existence,
+    outer: &R,
+    p: &Profile,
+) -> Result<bool, AllocError>
+    ensures { IfOk result (λ b. b ≡ has_partner p.now (rows_held tables.now) test.now.table test.now.ties.items (R.lends outer.now)) }
+{
+    let Some(table) = tables.get(&test.table) else {
+        return Ok(false);
+    };
+    for i in 0..table.len() {
+        if all_tied(alloc, &test.ties, table.row(i), outer, p)? {
+            return Ok(true);
+        }
+    }
+    Ok(false)
+}

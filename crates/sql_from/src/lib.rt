@@ -1,0 +1,21 @@
+//! FROM and WHERE of a select of the SQL dialect, on tables that the program holds.
+//!
+//! A row of FROM is kept as a tuple of row numbers, one for each source, and no cell of it is copied: `TupleRow` lends
+//! the cells to the evaluator (`sql_eval`), and `Sources` says where those of each column stand, worked out once for a
+//! select. Joins go by nested loops, each pair tried by one function, and the fault is that of every ON and of WHERE.
+//! It knows no groups, items or windows, no statement, no plan, and nothing of VTL.
+//! Begin with specs/Rows.antt and specs/Sources.antt, then `sources.rt`, `tuple_row.rt` and `tuples.rt`.
+#![tactic(auto)]
+
+mod columns;
+mod existence;
+mod outer_row;
+mod sources;
+mod tuple_row;
+mod tuples;
+
+pub use existence::has_partner;
+pub use outer_row::OuterRow;
+pub use sources::Sources;
+pub use tuple_row::TupleRow;
+pub use tuples::Tuples;

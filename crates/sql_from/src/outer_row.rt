@@ -1,0 +1,14 @@
+// Rows that lend their cells.
+ghost use Rattle.std.specs.Prelude.{◌≡◌};
+ghost use Rattle.vtl_cell.specs.Row.{Row, column_of};
+
+use vtl_cell::Cell;
+
+/// A row at which EXISTS is asked.
+pub trait OuterRow {
+    ghost lends: { Self → Row };
+
+    /// The cell at a place; past the last one a null.
+    fn lent(&self, place: usize) -> &Cell
+        ensures { result.now ≡ column_of place (lends self.now) };
+}

@@ -1,0 +1,216 @@
+// The sources of a select.
+ghost use Rattle.std.specs.Option.{option_map};
+ghost use Rattle.std.specs.Prelude.{◌≡◌, ◌+◌, ◌<◌, ◌^◌, ◌++◌, ◌∷◌, [], length, slice_get, Some, IfOk, OnOk};
+ghost use Rattle.vtl_cell.specs.Row.{column_of};
+ghost use Rattle.vtl_cell.specs.declared.cell.Cell.TheVariants.{Null};
+ghost use Rattle.vtl_rows.specs.Places.{row_at};
+ghost use Rattle.sql_check_parts.specs.Scopes.{found, placed};
+ghost use Rattle.sql_check_laws.specs.Selects.{IsSourceTyped};
+ghost use Rattle.sql_from.specs.Held.{tables_held};
+ghost use Rattle.sql_from.specs.Rows.{combined, picks_at, width_of};
+ghost use Rattle.sql_from.specs.Sources.{parts_of, scope_held, table_named};
+
+use crate::columns::{ColumnAt, columns_by_name, place_of};
+use sql_eval::Names;
+use sql_tree::{Column, Source};
+use std::alloc::{AllocError, Global};
+use std::marker::Model;
+use vtl_cell::{ByName, Cell, Kind};
+use vtl_rows::{Pick, Table, Tables};
+
+// A table that is a source, and its columns by name.
+pub(crate) struct SourceTable<'a> {
+    pub(crate) table: &'a Table,
+    pub(crate) columns: ByName<ColumnAt>,
+}
+
+// Written out, so that a proof sees one call and not the drop of each part.
+impl Drop for SourceTable<'_> {
+    fn drop(self) {
+        let SourceTable {
+            table: _,
+            columns: _columns,
+        } = self;
+    }
+}
+
+/// All tables that the program holds, and the sources of a select from the left, each an alias with its table. Where
+/// the cell of each column stands is worked out once for a select. A contract sees the tables by name, and the sources
+/// by alias.
+pub struct Sources<'a> {
+    held: &'a Tables,
+    sources: ByName<SourceTable<'a>>,
+    picks: Vec<Pick>,
+    null: Cell,
+}
+
+// Written out, so that a proof above sees one call and not the drop of each part.
+impl Drop for Sources<'_> {
+    fn drop(self) {
+        let Sources {
+            held: _,
+            sources: _sources,
+            picks: _picks,
+            null: _null,
+        } = self;
+    }
+}
+
+impl<'a> Model for Sources<'a> {
+    ghost use Rattle.std.specs.Prelude.{map};
+    ghost use Rattle.sql_from.specs.Sources.{AreSources, Sourced, source_of};
+
+    ghost Value = { Sourced };
+
+    ghost view = { λ s. record { held = s.held.now; sources = map source_of s.sources } };
+
+    ghost invariant = { λ s. AreSources s.sources s.picks.items s.null };
+}
+
+// Puts the places of the columns of a source behind others.
+fn push_picks(picks: &mut Vec<Pick>, part: usize, count: usize) -> Result<(), AllocError>
+    ensures { OnOk result (picks.new.items ≡ picks.old.items ++ picks_at part count) }
+{
+    for column in 0..count {
+        picks.push(Pick { part, column })?;
+    }
+    Ok(())
+}
+
+impl<'a> Sources<'a> {
+    /// No sources, over the tables that the program holds.
+    pub fn over(alloc: Global, held: &'a Tables) -> Sources<'a>
+        ensures held { result.held ≡ held.now }
+        ensures sources { result.sources ≡ [] }
+    {
+        Sources {
+            held,
+            sources: ByName::new(alloc),
+            picks: Vec::new(alloc),
+            null: Cell::Null,
+        }
+    }
+
+    /// With one source more, whose table is there and whose alias is new. It fails only if memory runs out.
+    pub fn with(self, alloc: Global, source: &Source) -> Result<Sources<'a>, AllocError>
+        requires { IsSourceTyped (tables_held self.held) (scope_held self.sources) source.now }
+        ensures held { IfOk result (λ s. s.held ≡ self.entry.held) }
+        ensures sources { IfOk result (λ s. s.sources ≡ self.entry.sources ++ (source.now.alias, table_named self.entry.held source.now.table) ∷ []) }
+    {
+        let Sources {
+            held,
+            sources,
+            picks,
+            null,
+        } = self;
+        let mut sources = sources;
+        let mut picks = picks;
+        let table = held.get(&source.table).unwrap();
+        let columns = columns_by_name(alloc, table.columns(), picks.len())?;
+        push_picks(&mut picks, sources.len(), table.columns().len())?;
+        sources.put(source.alias.share()?, SourceTable { table, columns })?;
+        Ok(Sources {
+            held,
+            sources,
+            picks,
+            null,
+        })
+    }
+
+    /// The tables that the program holds.
+    pub fn held(&self) -> &'a Tables
+        ensures { result.now ≡ self.now.held }
+    {
+        self.held
+    }
+
+    /// How many sources there are.
+    pub fn len(&self) -> usize
+        ensures { result ≡ length self.now.sources }
+    {
+        self.sources.len()
+    }
+
+    /// The table of the source at a place.
+    pub fn table(&self, i: usize) -> &'a Table
+        requires { i < length self.now.sources }
+        ensures { slice_get (parts_of self.now.sources) i ≡ Some result.now }
+    {
+        let (_, source) = self.sources.at(i);
+        source.table
+    }
+
+    // What is known of a column.
+    fn column(&self, column: &Column) -> Option<ColumnAt>
+        ensures kind { option_map (λ c. c.kind) result ≡ found (scope_held self.now.sources) column.now }
+        ensures place { option_map (λ c. c.place) result ≡ found (placed (scope_held self.now.sources)) column.now }
+    {
+        let source = self.sources.get(&column.source)?;
+        source.columns.get(&column.name).copied()
+    }
+
+    /// The cell at a place of the row that a tuple of row numbers stands for, whose last number is given apart; past the
+    /// last cell a null.
+    pub fn cell(&self, front: &[usize], last: usize, place: usize) -> &Cell
+        requires { length front.now + 1 ≡ length self.now.sources }
+        ensures { result.now ≡ column_of place (combined (parts_of self.now.sources) (front.now ++ last ∷ [])) }
+    {
+        match self.picks.get(place) {
+            Some(pick) => {
+                let number = if pick.part < front.len() {
+                    front[pick.part]
+                } else {
+                    last
+                };
+                cell_of(self.table(pick.part), number, pick.column, &self.null)
+            }
+            None => &self.null,
+        }
+    }
+}
+
+// The cell of a column in a row of a table; the null that is lent where it has no such row.
+fn cell_of<'r>(table: &'r Table, number: usize, column: usize, null: &'r Cell) -> &'r Cell
+    requires { null.now ≡ Null }
+    ensures { result.now ≡ column_of column (row_at table.now.rows number) }
+{
+    if number < table.len() {
+        match table.row(number).get(column) {
+            Some(cell) => cell,
+            None => null,
+        }
+    } else {
+        null
+    }
+}
+
+impl<'a> Names for Sources<'a> {
+    ghost use Rattle.sql_from.specs.Held.{tables_held};
+    ghost use Rattle.sql_from.specs.Sources.{scope_held};
+
+    ghost tables = { λ s. tables_held s.held };
+
+    ghost scope = { λ s. scope_held s.sources };
+
+    fn kind(&self, column: &Column) -> Option<Kind> {
+        Some(self.column(column)?.kind)
+    }
+
+    fn place(&self, column: &Column) -> usize {
+        match self.column(column) {
+            Some(known) => known.place,
+            None => self.picks.len(),
+        }
+    }
+
+    fn inner_place(&self, source: &Source, column: &Column) -> usize {
+        let Some(table) = self.held.get(&source.table) else {
+            return 0;
+        };
+        if column.source == source.alias {
+            place_of(table.columns(), &column.name)
+        } else {
+            table.columns().len()
+        }
+    }
+}

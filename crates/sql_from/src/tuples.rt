@@ -1,0 +1,105 @@
+// Tuples of row numbers.
+ghost use Rattle.std.specs.Prelude.{◌≡◌, ◌<◌, ◌≤◌, ◌+◌, ◌^◌, ◌++◌, [], ◌∷◌, length, take, drop, slice_index_or, OnOk, OnErr};
+ghost use Rattle.vtl_rows.specs.Gathered.{pieces};
+
+use std::alloc::{AllocError, Global};
+use std::marker::Model;
+
+/// Tuples of one width, which hold a row number for each source. A contract sees the width and the list of the tuples.
+pub struct Tuples {
+    width: usize,
+    numbers: Vec<usize>,
+    count: usize,
+}
+
+// Written out, so that a proof above sees one call and not the drop of each part.
+impl Drop for Tuples {
+    fn drop(self) {
+        let Tuples {
+            width: _,
+            numbers: _numbers,
+            count: _,
+        } = self;
+    }
+}
+
+impl Model for Tuples {
+    ghost use Rattle.vtl_rows.specs.Gathered.{pieces};
+    ghost use Rattle.sql_from.specs.Tuples.{IsFlat, Numbered};
+
+    ghost Value = { Numbered };
+
+    ghost view = { λ t. record { width = t.width; tuples = pieces t.width t.numbers.items } };
+
+    ghost invariant = { λ t. IsFlat t.width t.count t.numbers.items };
+}
+
+impl Tuples {
+    /// No tuples, of this many numbers each.
+    pub fn new(alloc: Global, width: usize) -> Tuples
+        requires { 0 < width }
+        ensures width { result.width ≡ width }
+        ensures tuples { result.tuples ≡ [] }
+    {
+        Tuples {
+            width,
+            numbers: Vec::new(alloc),
+            count: 0,
+        }
+    }
+
+    /// How many numbers a tuple has.
+    pub fn width(&self) -> usize
+        ensures width { result ≡ self.now.width }
+        ensures some { 0 < result }
+    {
+        self.width
+    }
+
+    /// How many tuples there are.
+    pub fn len(&self) -> usize
+        ensures tuples { result ≡ length self.now.tuples }
+        ensures few { length self.now.tuples < 2 ^ 63 }
+    {
+        self.count
+    }
+
+    /// The tuple at a place.
+    pub fn tuple(&self, i: usize) -> &[usize]
+        requires { i < length self.now.tuples }
+        ensures tuple { result.now ≡ slice_index_or self.now.tuples i result.now }
+        ensures width { length result.now ≡ self.now.width }
+    {
+        part(self.numbers.as_slice(), i * self.width, self.width)
+    }
+
+    /// The numbers of all tuples, one tuple after the other.
+    pub fn numbers(&self) -> &[usize]
+        ensures { pieces self.now.width result.now ≡ self.now.tuples }
+    {
+        self.numbers.as_slice()
+    }
+
+    /// Puts a tuple behind the others, whose last number is given apart. It fails only if memory runs out, and then
+    /// leaves the tuples as they were.
+    pub fn push(&mut self, front: &[usize], last: usize) -> Result<(), AllocError>
+        requires { length front.now + 1 ≡ self.old.width }
+        ensures width { self.new.width ≡ self.old.width }
+        ensures tuples { OnOk result (self.new.tuples ≡ self.old.tuples ++ (front.now ++ last ∷ []) ∷ []) }
+        ensures err { OnErr result (self.new.tuples ≡ self.old.tuples) }
+    {
+        self.numbers.try_reserve(front.len() + 1)?;
+        self.numbers.extend_from_slice(front)?;
+        self.numbers.push(last)?;
+        self.count += 1;
+        Ok(())
+    }
+}
+
+// The numbers from a place on.
+fn part(numbers: &[usize], start: usize, count: usize) -> &[usize]
+    requires { start + count ≤ length numbers.now }
+    ensures { result.now ≡ take count (drop start numbers.now) }
+{
+    &numbers[start..start + count]
+}
