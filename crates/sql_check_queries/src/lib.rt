@@ -14,4 +14,6 @@ mod selects;
 mod sources;
 mod unions;
 
+pub use groups::is_grouped;
 pub use queries::{QueryTold, query};
+pub use unions::share_kinds;

@@ -2,3 +2,4 @@ pub mod Held
 pub mod Tuples
 pub mod Rows
 pub mod Sources
+pub mod Seen
