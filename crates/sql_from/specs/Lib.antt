@@ -2,4 +2,3 @@ pub mod Held
 pub mod Tuples
 pub mod Rows
 pub mod Sources
-pub mod Seen

@@ -10,14 +10,12 @@
 mod columns;
 mod existence;
 mod outer_row;
-mod seen;
 mod sources;
 mod tuple_row;
 mod tuples;
 
 pub use existence::has_partner;
 pub use outer_row::OuterRow;
-pub use seen::Seen;
 pub use sources::Sources;
 pub use tuple_row::TupleRow;
 pub use tuples::Tuples;
