@@ -1,4 +1,9 @@
 pub mod Flats
+pub mod Joins
+pub mod Marks
 pub mod Named
 pub mod Parted
 pub mod Sited
+pub mod Walks
+pub mod Means
+pub mod Standing

@@ -1,5 +1,5 @@
 -- The cells of rows that consist of parts.
-use Rattle.std.proofs.Common.{◌≡◌, ℕ, zero, suc, ◌+◌, ◌<◌, ◌≤◌, List, [], ◌∷◌, ◌++◌, map, length, get_or, None, Some, arith, refl, sym, ap, ◌∙◌, append_assoc, length-append}
+use Rattle.std.proofs.Common.{◌≡◌, ℕ, zero, suc, ◌+◌, ◌<◌, ◌≤◌, List, [], ◌∷◌, ◌++◌, map, length, get_or, take, None, Some, arith, refl, sym, ap, ◌∙◌, append_assoc, length-append}
 use Rattle.std.specs.Prelude.{slice_get, slice_index}
 use Rattle.std.specs.List.{range_with_len}
 use Rattle.std.proofs.lemmas.List.{append-nil, length-map, map-append}
@@ -128,6 +128,11 @@ pub got_past : {X : Type 0} (xs : List X) (i : ℕ) → length xs ≤ i → slic
 got_past [] i h = refl
 got_past (y ∷ xs) zero h = absurd (omega (arith, h))
 got_past (y ∷ xs) (suc i) h = got_past xs i (omega (arith, h))
+
+pub take_got : {X : Type 0} (xs : List X) (i : ℕ) (x : X) → slice_get xs i ≡ Some x → take (i + 1) xs ≡ take i xs ++ x ∷ []
+take_got [] i x e = cc
+take_got (y ∷ xs) zero x e = let s : y ≡ x = cc in ap (λ z. z ∷ []) s
+take_got (y ∷ xs) (suc i) x e = let n : suc i + 1 ≡ suc (i + 1) = omega arith in ap (λ k. take k (y ∷ xs)) n ∙ ap (λ l. y ∷ l) (take_got xs i x e)
 
 -- ---- the number at a place
 pub front_number : (front : List ℕ) (last k : ℕ) → k < length front → slice_index front k ≡ slice_index (front ++ last ∷ []) k

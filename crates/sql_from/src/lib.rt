@@ -8,14 +8,20 @@
 #![tactic(auto)]
 
 mod columns;
+mod condition;
 mod existence;
+mod joining;
 mod outer_row;
+mod pairs;
+mod seen;
+mod selects;
 mod sources;
 mod tuple_row;
 mod tuples;
 
 pub use existence::has_partner;
 pub use outer_row::OuterRow;
+pub use seen::Seen;
 pub use sources::Sources;
 pub use tuple_row::TupleRow;
 pub use tuples::Tuples;

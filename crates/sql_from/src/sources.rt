@@ -1,4 +1,5 @@
 // The sources of a select.
+ghost use Rattle.std.specs.List.{AllByRecursion};
 ghost use Rattle.std.specs.Option.{option_map};
 ghost use Rattle.std.specs.Prelude.{◌≡◌, ◌+◌, ◌<◌, ◌^◌, ◌++◌, ◌∷◌, [], length, slice_get, Some, IfOk, OnOk};
 ghost use Rattle.vtl_cell.specs.Row.{column_of};
@@ -6,9 +7,10 @@ ghost use Rattle.vtl_cell.specs.declared.cell.Cell.TheVariants.{Null};
 ghost use Rattle.vtl_rows.specs.Places.{row_at};
 ghost use Rattle.sql_check_parts.specs.Scopes.{found, placed};
 ghost use Rattle.sql_check_laws.specs.Selects.{IsSourceTyped};
-ghost use Rattle.sql_from.specs.Held.{tables_held};
+ghost use Rattle.sql_from.specs.Held.{rows_held, tables_held};
+ghost use Rattle.sql_from.specs.Joins.{marks_of};
 ghost use Rattle.sql_from.specs.Rows.{combined, picks_at, width_of};
-ghost use Rattle.sql_from.specs.Sources.{parts_of, scope_held, table_named};
+ghost use Rattle.sql_from.specs.Sources.{IsWide, parts_of, scope_held, table_named};
 
 use crate::columns::{ColumnAt, columns_by_name, place_of};
 use sql_eval::Names;
@@ -95,6 +97,7 @@ impl<'a> Sources<'a> {
     pub fn with(self, alloc: Global, source: &Source) -> Result<Sources<'a>, AllocError>
         requires { IsSourceTyped (tables_held self.held) (scope_held self.sources) source.now }
         ensures held { IfOk result (λ s. s.held ≡ self.entry.held) }
+        ensures wide { IfOk result (λ s. AllByRecursion IsWide (parts_of s.sources)) }
         ensures sources { IfOk result (λ s. s.sources ≡ self.entry.sources ++ (source.now.alias, table_named self.entry.held source.now.table) ∷ []) }
     {
         let Sources {
@@ -138,6 +141,27 @@ impl<'a> Sources<'a> {
     {
         let (_, source) = self.sources.at(i);
         source.table
+    }
+
+    // How many rows the table of a source has.
+    pub(crate) fn count_of(&self, source: &Source) -> usize
+        ensures { result ≡ length (rows_held self.now.held source.now.table) }
+    {
+        match self.held.get(&source.table) {
+            Some(table) => table.len(),
+            None => 0,
+        }
+    }
+
+    // The numbers of missing parts, one for each source.
+    pub(crate) fn marks(&self, alloc: Global) -> Result<Vec<usize>, AllocError>
+        ensures { IfOk result (λ v. v.items ≡ marks_of (parts_of self.now.sources)) }
+    {
+        let mut marks = Vec::with_capacity(alloc, self.len())?;
+        for i in 0..self.len() {
+            marks.push(self.table(i).len())?;
+        }
+        Ok(marks)
     }
 
     // What is known of a column.

@@ -1,0 +1,135 @@
+// Pairs of a tuple and a row: nested loops.
+ghost use Rattle.std.specs.List.{flat_map, list_any};
+ghost use Rattle.std.specs.Prelude.{◌≡◌, ◌+◌, ◌<◌, ◌^◌, ◌++◌, ◌∷◌, [], length, IfErr, IfOk, OnOk, if◌then◌else◌};
+ghost use Rattle.vtl_cell.specs.Outcome.{faults_by, join};
+ghost use Rattle.sql_from.specs.Joins.{fault_of, from_left, numbers_to, pairs_fault, pairs_with, passes};
+ghost use Rattle.sql_from.specs.Seen.{seen_of};
+
+use crate::condition::Condition;
+use crate::{Seen, Tuples};
+use std::alloc::Global;
+use vtl_scalar::ScalarErr;
+
+// The tuples so far, and the fault of the conditions so far.
+pub(crate) struct Walked {
+    pub(crate) rows: Tuples,
+    pub(crate) seen: Seen,
+}
+
+// Written out, so that a proof sees one call and not the drop of each part.
+impl Drop for Walked {
+    fn drop(self) {
+        let Walked {
+            rows: _rows,
+            seen: _,
+        } = self;
+    }
+}
+
+// Puts a tuple behind the others where the condition is true at it, and tells whether it is.
+pub(crate) fn try_tuple<C: Condition>(
+    alloc: Global,
+    condition: &C,
+    front: &[usize],
+    last: usize,
+    so_far: &mut Walked,
+) -> Result<bool, ScalarErr>
+    requires front { length front.now + 1 ≡ so_far.old.rows.width }
+    requires width { C.width condition.now ≡ so_far.old.rows.width }
+    ensures width { so_far.new.rows.width ≡ so_far.old.rows.width }
+    ensures met { IfOk result (λ b. b ≡ passes (C.value condition.now) front.now last) }
+    ensures rows { IfOk result (λ _. so_far.new.rows.tuples ≡ so_far.old.rows.tuples ++ (if passes (C.value condition.now) front.now last then (front.now ++ last ∷ []) ∷ [] else [])) }
+    ensures seen { IfOk result (λ _. seen_of so_far.new.seen ≡ join (seen_of so_far.old.seen) (fault_of (C.value condition.now) front.now last)) }
+    ensures err { IfErr result (λ e. e ≡ ScalarErr.OutOfMemory) }
+{
+    match condition.at(alloc, front, last) {
+        Ok(true) => {
+            so_far.rows.push(front, last)?;
+            Ok(true)
+        }
+        Ok(false) => Ok(false),
+        Err(error) => {
+            so_far.seen = so_far.seen.and(error)?;
+            Ok(false)
+        }
+    }
+}
+
+// Puts the pairs of one tuple with so many rows behind the tuples, and tells whether there is one.
+fn pairs_of<C: Condition>(
+    alloc: Global,
+    condition: &C,
+    front: &[usize],
+    count: usize,
+    so_far: &mut Walked,
+) -> Result<bool, ScalarErr>
+    requires front { length front.now + 1 ≡ so_far.old.rows.width }
+    requires width { C.width condition.now ≡ so_far.old.rows.width }
+    ensures width { so_far.new.rows.width ≡ so_far.old.rows.width }
+    ensures met { IfOk result (λ b. b ≡ list_any (passes (C.value condition.now) front.now) (numbers_to count)) }
+    ensures rows { IfOk result (λ _. so_far.new.rows.tuples ≡ so_far.old.rows.tuples ++ pairs_with (C.value condition.now) count front.now) }
+    ensures seen { IfOk result (λ _. seen_of so_far.new.seen ≡ join (seen_of so_far.old.seen) (faults_by (fault_of (C.value condition.now) front.now) (numbers_to count))) }
+    ensures err { IfErr result (λ e. e ≡ ScalarErr.OutOfMemory) }
+{
+    let mut met = false;
+    for j in 0..count {
+        let here = try_tuple(alloc, condition, front, j, so_far)?;
+        met = met || here;
+    }
+    Ok(met)
+}
+
+// Puts what becomes of one left tuple behind the tuples.
+fn left_row<C: Condition>(
+    alloc: Global,
+    keeps: bool,
+    condition: &C,
+    front: &[usize],
+    count: usize,
+    so_far: &mut Walked,
+) -> Result<(), ScalarErr>
+    requires front { length front.now + 1 ≡ so_far.old.rows.width }
+    requires width { C.width condition.now ≡ so_far.old.rows.width }
+    ensures width { so_far.new.rows.width ≡ so_far.old.rows.width }
+    ensures rows { OnOk result (so_far.new.rows.tuples ≡ so_far.old.rows.tuples ++ from_left keeps (C.value condition.now) count front.now) }
+    ensures seen { OnOk result (seen_of so_far.new.seen ≡ join (seen_of so_far.old.seen) (faults_by (fault_of (C.value condition.now) front.now) (numbers_to count))) }
+    ensures err { IfErr result (λ e. e ≡ ScalarErr.OutOfMemory) }
+{
+    let met = pairs_of(alloc, condition, front, count, so_far)?;
+    if keeps && !met {
+        so_far.rows.push(front, count)?;
+    }
+    Ok(())
+}
+
+// What becomes of all left tuples, and the fault beside the one that was seen before.
+pub(crate) fn left_rows<C: Condition>(
+    alloc: Global,
+    keeps: bool,
+    condition: &C,
+    left: &Walked,
+    count: usize,
+) -> Result<Walked, ScalarErr>
+    requires small { left.now.rows.width + 1 < 2 ^ 64 }
+    requires width { C.width condition.now ≡ left.now.rows.width + 1 }
+    ensures width { IfOk result (λ w. w.rows.width ≡ left.now.rows.width + 1) }
+    ensures rows { IfOk result (λ w. w.rows.tuples ≡ flat_map (from_left keeps (C.value condition.now) count) left.now.rows.tuples) }
+    ensures seen { IfOk result (λ w. seen_of w.seen ≡ join (seen_of left.now.seen) (pairs_fault (C.value condition.now) count left.now.rows.tuples)) }
+    ensures err { IfErr result (λ e. e ≡ ScalarErr.OutOfMemory) }
+{
+    let mut so_far = Walked {
+        rows: Tuples::new(alloc, left.rows.width() + 1),
+        seen: left.seen,
+    };
+    for i in 0..left.rows.len() {
+        left_row(
+            alloc,
+            keeps,
+            condition,
+            left.rows.tuple(i),
+            count,
+            &mut so_far,
+        )?;
+    }
+    Ok(so_far)
+}

@@ -1,0 +1,188 @@
+// FROM and WHERE of a select.
+ghost use Rattle.std.specs.Prelude.{◌≡◌, ◌+◌, ◌<◌, ◌^◌, ◌++◌, ◌∷◌, [], length, IfErr, IfOk};
+ghost use Rattle.vtl_cell.specs.Outcome.{join, unless};
+ghost use Rattle.vtl_cell.specs.Settings.{Settings};
+ghost use Rattle.vtl_scalar.specs.Answers.{Answers, AnswersBy};
+ghost use Rattle.sql_tree.specs.View.{expr_tree, join_tree, select_tree};
+ghost use Rattle.sql_check_parts.specs.Queries.{join_source, scope_of};
+ghost use Rattle.sql_check_laws.specs.Selects.{IsSelectTyped, IsSourceTyped};
+ghost use Rattle.sql_eval.specs.Placed.{placed_value};
+ghost use Rattle.sql_eval.specs.View.{placed_of};
+ghost use Rattle.sql_meaning.specs.From.{Joined, first_of, source_rows, with_join};
+ghost use Rattle.sql_from.specs.Held.{base_held, rows_held, tables_held};
+ghost use Rattle.sql_from.specs.Joins.{crossed_tuples, joined_tuples, kept_fault, kept_tuples, pairs_fault};
+ghost use Rattle.sql_from.specs.Rows.{combined};
+ghost use Rattle.sql_from.specs.Seen.{answer_of, seen_of};
+ghost use Rattle.sql_from.specs.Sources.{parts_of, scope_held};
+ghost use Rattle.sql_from.specs.Standing.{StandsFor, condition_at, rows_for};
+
+use crate::condition::Condition;
+use crate::joining::{cross_step, join_step, keep, singles};
+use crate::pairs::Walked;
+use crate::{Seen, Sources, TupleRow, Tuples};
+use sql_eval::{Level, Resolved, resolve, value_at};
+use sql_tree::{Join, JoinKind, Select, Source, SqlExpr};
+use std::alloc::{AllocError, Global};
+use vtl_cell::{Cell, Profile};
+use vtl_rows::Tables;
+use vtl_scalar::ScalarErr;
+
+// A condition at the rows of sources.
+#[derive(Clone, Copy)]
+struct SourceCondition<'a> {
+    sources: &'a Sources<'a>,
+    expression: &'a Resolved,
+    profile: &'a Profile,
+}
+
+impl<'a> Condition for SourceCondition<'a> {
+    ghost width = { λ c. length c.sources.now.sources };
+
+    ghost value = { λ c x. placed_value c.profile.now (rows_held c.sources.now.held) (placed_of c.expression.now) (combined (parts_of c.sources.now.sources) x) [] };
+
+    fn at(&self, alloc: Global, front: &[usize], last: usize) -> Result<bool, ScalarErr> {
+        let row = TupleRow::of(self.sources, front, last);
+        let value = value_at(alloc, self.expression, &row, self.profile)?;
+        Ok(matches!(value.cell(), Cell::Bool(true)))
+    }
+}
+
+// Joins the tuples with the rows of a further source, which is the last one, by a condition on all sources.
+fn joined_on(
+    alloc: Global,
+    kind: JoinKind,
+    condition: &SqlExpr,
+    sources: &Sources<'_>,
+    left: &Walked,
+    marks: &[usize],
+    count: usize,
+    p: &Profile,
+) -> Result<Walked, ScalarErr>
+    requires width { length sources.now.sources ≡ left.now.rows.width + 1 }
+    requires marks { length marks.now ≡ left.now.rows.width }
+    ensures width { IfOk result (λ w. w.rows.width ≡ left.now.rows.width + 1) }
+    ensures rows { IfOk result (λ w. w.rows.tuples ≡ joined_tuples kind (condition_at p.now sources.now (expr_tree condition.now)) marks.now count left.now.rows.tuples) }
+    ensures seen { IfOk result (λ w. seen_of w.seen ≡ join (seen_of left.now.seen) (pairs_fault (condition_at p.now sources.now (expr_tree condition.now)) count left.now.rows.tuples)) }
+    ensures err { IfErr result (λ e. e ≡ ScalarErr.OutOfMemory) }
+{
+    sources.len();
+    let resolved = resolve(alloc, p, sources, &Level::Rows, condition)?;
+    let condition = SourceCondition {
+        sources,
+        expression: &resolved.exp,
+        profile: p,
+    };
+    join_step(alloc, kind, &condition, left, marks, count)
+}
+
+// The tuples at which WHERE is true.
+fn kept(
+    alloc: Global,
+    condition: &SqlExpr,
+    sources: &Sources<'_>,
+    from: &Walked,
+    p: &Profile,
+) -> Result<Walked, ScalarErr>
+    requires { length sources.now.sources ≡ from.now.rows.width }
+    ensures width { IfOk result (λ w. w.rows.width ≡ from.now.rows.width) }
+    ensures rows { IfOk result (λ w. w.rows.tuples ≡ kept_tuples (condition_at p.now sources.now (expr_tree condition.now)) from.now.rows.tuples) }
+    ensures seen { IfOk result (λ w. seen_of w.seen ≡ join (seen_of from.now.seen) (kept_fault (condition_at p.now sources.now (expr_tree condition.now)) from.now.rows.tuples)) }
+    ensures err { IfErr result (λ e. e ≡ ScalarErr.OutOfMemory) }
+{
+    let resolved = resolve(alloc, p, sources, &Level::Rows, condition)?;
+    let condition = SourceCondition {
+        sources,
+        expression: &resolved.exp,
+        profile: p,
+    };
+    keep(alloc, &condition, from)
+}
+
+// Each tuple with each row of a further source; the fault is the one that was seen before.
+fn crossed(alloc: Global, left: &Walked, count: usize) -> Result<Walked, AllocError>
+    requires { left.now.rows.width + 1 < 2 ^ 64 }
+    ensures width { IfOk result (λ w. w.rows.width ≡ left.now.rows.width + 1) }
+    ensures rows { IfOk result (λ w. w.rows.tuples ≡ crossed_tuples count left.now.rows.tuples) }
+    ensures seen { IfOk result (λ w. seen_of w.seen ≡ seen_of left.now.seen) }
+{
+    Ok(Walked {
+        rows: cross_step(alloc, &left.rows, count)?,
+        seen: left.seen,
+    })
+}
+
+// The sources so far, their tuples, and the fault so far.
+struct Joining<'a> {
+    sources: Sources<'a>,
+    walked: Walked,
+}
+
+// Written out, so that a proof sees one call and not the drop of each part.
+impl Drop for Joining<'_> {
+    fn drop(self) {
+        let Joining {
+            sources: _sources,
+            walked: _walked,
+        } = self;
+    }
+}
+
+// The first source, with a tuple for each of its rows.
+fn first_source<'a>(
+    alloc: Global,
+    source: &Source,
+    tables: &'a Tables,
+) -> Result<Joining<'a>, AllocError>
+    requires { IsSourceTyped (tables_held tables.now) [] source.now }
+    ensures held { IfOk result (λ j. j.sources.held ≡ tables.now) }
+    ensures stands { IfOk result (λ j. (p : Settings) → StandsFor (first_of (base_held p tables.now) source.now) j.sources j.walked.rows (seen_of j.walked.seen)) }
+{
+    let sources = Sources::over(alloc, tables).with(alloc, source)?;
+    let count = sources.count_of(source);
+    Ok(Joining {
+        sources,
+        walked: Walked {
+            rows: singles(alloc, count)?,
+            seen: Seen::Nothing,
+        },
+    })
+}
+
+impl<'a> Joining<'a> {
+    // With the source of a join.
+    fn with_join(
+        self,
+        alloc: Global,
+        join: &Join,
+        p: &Profile,
+    ) -> Result<Joining<'a>, ScalarErr>
+        requires whole { self.walked.rows.width ≡ length self.sources.sources }
+        requires source { IsSourceTyped (tables_held self.sources.held) (scope_held self.sources.sources) (join_source (join_tree join.now)) }
+        ensures held { IfOk result (λ j. j.sources.held ≡ self.entry.sources.held) }
+        ensures stands { IfOk result (λ j. (f : Joined) → StandsFor f self.entry.sources self.entry.walked.rows (seen_of self.entry.walked.seen) → StandsFor (with_join (base_held p.now self.entry.sources.held) f (join_tree join.now)) j.sources j.walked.rows (seen_of j.walked.seen)) }
+        ensures err { IfErr result (λ e. e ≡ ScalarErr.OutOfMemory) }
+    {
+        let Joining { sources, walked } = self;
+        match join {
+            Join::On {
+                kind,
+                source,
+                condition,
+            } => {
+                let marks = sources.marks(alloc)?;
+                let count = sources.count_of(source);
+                let sources = sources.with(alloc, source)?;
+                let walked =
+                    joined_on(alloc, *kind, condition, &sources, &walked, &marks, count, p)?;
+                Ok(Joining { sources, walked })
+            }
+            Join::Cross(source) => {
+                let count = sources.count_of(source);
+                let sources = sources.with(alloc, source)?;
+                sources.len();
+                let walked = crossed(alloc, &walked, count)?;
+                Ok(Joining { sources, walked })
+            }
+        }
+    }
+}
