@@ -16,4 +16,5 @@ mod unions;
 
 pub use groups::is_grouped;
 pub use queries::{QueryTold, query};
-pub use unions::share_kinds;
+pub use sources::join_source;
+pub use unions::{all_some, share_kinds};

@@ -48,7 +48,8 @@ pub fn share_kinds(shared: &mut [Option<Kind>], kinds: &[Kind])
     }
 }
 
-fn all_some(alloc: Global, kinds: &[Kind]) -> Result<Vec<Option<Kind>>, AllocError>
+/// Kinds as those that one select shares with itself. It fails only if memory runs out.
+pub fn all_some(alloc: Global, kinds: &[Kind]) -> Result<Vec<Option<Kind>>, AllocError>
     ensures { IfOk result (λ shared. shared.items ≡ map Some kinds.now) }
 {
     let mut shared = Vec::with_capacity(alloc, kinds.len())?;

@@ -10,7 +10,7 @@ use Rattle.sql_meaning.proofs.UpToOrder.{faults_by-append, join_assoc, join_none
 
 -- ---- at one place
 
-neither : (a b : Bool) → (a || b) ≡ false → (a ≡ false) × (b ≡ false)
+pub neither : (a b : Bool) → (a || b) ≡ false → (a ≡ false) × (b ≡ false)
 neither true b e = cc
 neither false b e = (refl, e)
 

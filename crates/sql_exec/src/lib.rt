@@ -7,8 +7,11 @@
 //! Begin with specs/Answers.antt and specs/Items.antt, then `queries.rt`, `selects.rt` and `items.rt`.
 #![tactic(auto)]
 
+mod columns;
+mod groups;
 mod items;
 mod output;
 mod queries;
+mod selects;
 
 pub use queries::{ExecErr, exec};

@@ -5,7 +5,7 @@ ghost use Rattle.vtl_rows.specs.Tables.{fits};
 ghost use Rattle.sql_meaning.specs.Outcomes.{row_at, row_fault};
 ghost use Rattle.sql_from.specs.Seen.{answer_of};
 ghost use Rattle.sql_exec.specs.Items.{made_at_row};
-ghost use Rattle.sql_exec.specs.Outputs.{Adds, fault_seen};
+ghost use Rattle.sql_exec.specs.Outputs.{Adds, Sees, fault_seen};
 
 use crate::items::{RowItem, push_items};
 use sql_eval::Cells;
@@ -67,6 +67,16 @@ impl Output {
         if let Seen::Nothing = self.seen {
             self.table.push_cells(&mut self.cells)?;
         }
+        Ok(())
+    }
+
+    /// Sees a fault. That memory ran out is no such fault, and is passed on.
+    pub(crate) fn see(&mut self, error: ScalarErr) -> Result<(), ScalarErr>
+        ensures table { self.new.table ≡ self.old.table }
+        ensures fault { OnOk result (Sees error self.old self.new) }
+        ensures err { IfErr result (λ e. e ≡ ScalarErr.OutOfMemory) }
+    {
+        self.seen = self.seen.and(error)?;
         Ok(())
     }
 

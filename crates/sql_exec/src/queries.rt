@@ -12,6 +12,9 @@ ghost use Rattle.sql_exec.specs.Answers.{Gives};
 ghost use Rattle.sql_exec.specs.Held.{base_held, tables_held};
 ghost use Rattle.sql_exec.specs.Plain.{query_has_window};
 
+use crate::columns::{named_columns, query_kinds};
+use crate::output::Output;
+use crate::selects::add_selects;
 use sql_meaning::Plan;
 use std::alloc::Global;
 use std::sync::ledger::Ledger;
@@ -42,5 +45,11 @@ pub fn exec<L: Ledger>(
     ensures columns { IfOk result (λ t. map column_entry t.columns ≡ query_columns (tables_held tables.now) (query_tree plan.now.query)) }
     ensures rows { Gives (query_value (base_held p.now tables.now) (query_tree plan.now.query)) result }
 {
-    Err(ExecErr::OutOfMemory)
+    let selects = plan.query().selects.as_slice();
+    let (first, others) = selects.split_first().unwrap();
+    let kinds = query_kinds(alloc, p, tables, first, others)?;
+    let columns = named_columns(alloc, first.items.as_slice(), &kinds)?;
+    let mut out = Output::new(alloc, columns);
+    add_selects(alloc, &mut out, selects, &kinds, tables, p)?;
+    out.finish()
 }
