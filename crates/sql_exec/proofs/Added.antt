@@ -35,8 +35,8 @@ unless_same (Some f) x y h = refl
 
 -- ---- none, and one more
 
-pub added_none : (out : Output) → Adds (appended []) out out
-added_none out = record { columns = refl; fault = sym (join_none (fault_seen out)); rows = λ e. sym (append-nil out.table.rows) }
+pub added_none : (old now : Output) → now.table.columns ≡ old.table.columns → now.table.rows ≡ old.table.rows → fault_seen now ≡ fault_seen old → Adds (appended []) old now
+added_none old now c r f = record { columns = c; fault = f ∙ sym (join_none (fault_seen old)); rows = λ e. r ∙ sym (append-nil old.table.rows) }
 
 module _ {X : Type 0} (m : X → Outcome (List Row)) (xs : List X) (i : ℕ) (x : X) (h : i < length xs) (at : x ≡ get_or xs i x) where
   abbrev first : List X

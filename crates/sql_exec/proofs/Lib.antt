@@ -3,3 +3,6 @@ pub mod RowItems
 pub mod Added
 pub mod PlainRows
 pub mod QueryParts
+pub mod QueryColumns
+pub mod MadeRows
+pub mod WholeQueries

@@ -9,11 +9,11 @@ use Rattle.sql_tree.specs.Trees.{QueryTree, SelectTree}
 use Rattle.sql_check_parts.specs.Expressions.{site}
 use Rattle.sql_check_parts.specs.Queries as typing
 use Rattle.sql_check_parts.specs.Queries.{is_grouped, item_kind, query_columns, scope_of}
-use Rattle.sql_check_parts.specs.Scopes.{grouping_of, row_of}
+use Rattle.sql_check_parts.specs.Scopes.{Scope, grouping_of, row_of}
 use Rattle.sql_check_laws.specs.Selects.{IsItemTyped, IsQueryTyped, IsSelectTyped}
-use Rattle.sql_meaning.specs.Selects.{grouped_rows, plain_rows, second_phase}
+use Rattle.sql_meaning.specs.Selects.{Wanted, grouped_rows, plain_rows, second_phase}
 use Rattle.sql_meaning.specs.Tables.{Base, RowsFit, kinds_of}
-use Rattle.sql_meaning.specs.Values.{at_rows}
+use Rattle.sql_meaning.specs.Values.{View, at_rows}
 use Rattle.sql_meaning.proofs.QueryKinds.{grouped_fit, plain_fit}
 use Rattle.sql_meaning.proofs.SharedKinds.{Lifted, all_lifted}
 use Rattle.sql_exec.specs.Parts.{IsPart, IsPlain, MakesKinds}
@@ -53,3 +53,19 @@ module _ (b : Base) where
   pub all_plain : (q : QueryTree) → AllByRecursion (IsSelectTyped b.settings b.tables) q → query_has_window q ≡ false → AllByRecursion (IsPlain b.settings b.tables) q
   all_plain [] h n = tt
   all_plain (s ∷ ss) h n = let both = neither (select_has_window s) (query_has_window ss) n in (record { typed = h.0; plain = both.0 }, all_plain ss h.1 both.1)
+
+-- ---- the second phase, by whether the select is grouped
+
+module _ (v : View) (items : List Wanted) (s : SelectTree) where
+  pub phase_plain : (rows : List Row) → is_grouped s ≡ false → second_phase v items s rows ≡ plain_rows v items rows
+  phase_plain rows e = ap (λ g. cond g (grouped_rows v items s.group s.having rows) (plain_rows v items rows)) e
+
+  pub phase_grouped : (rows : List Row) → is_grouped s ≡ true → second_phase v items s rows ≡ grouped_rows v items s.group s.having rows
+  phase_grouped rows e = ap (λ g. cond g (grouped_rows v items s.group s.having rows) (plain_rows v items rows)) e
+
+-- over a scope that is that of the select
+pub plain_makes : (b : Base) (scope : Scope) (kinds : List Kind) (s : SelectTree) → scope ≡ scope_of b.tables s → is_grouped s ≡ false → MakesKinds (scope_of b.tables s) kinds (second_phase (at_rows b (scope_of b.tables s)) (zip s.items kinds) s)
+    → MakesKinds scope kinds (plain_rows (at_rows b scope) (zip s.items kinds))
+plain_makes b scope kinds s e g h =
+    let here : MakesKinds scope kinds (second_phase (at_rows b scope) (zip s.items kinds) s) = subst (λ (z : Scope). MakesKinds z kinds (second_phase (at_rows b z) (zip s.items kinds) s)) (sym e) h in
+    λ rows out fit is. here rows out fit (phase_plain (at_rows b scope) (zip s.items kinds) s rows g ∙ is)

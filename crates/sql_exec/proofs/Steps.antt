@@ -55,3 +55,13 @@ zipped_all f (x ∷ xs) [] zero h = refl
 zipped_all f (x ∷ xs) [] (suc i) h = refl
 zipped_all f (x ∷ xs) (y ∷ ys) zero h = absurd (omega arith)
 zipped_all f (x ∷ xs) (y ∷ ys) (suc i) h = ap (λ m. (f x, y) ∷ m) (zipped_all f xs ys i (omega arith))
+
+-- what holds of all that items stand for holds of what one of them stands for
+pub holds_mapped : {X Y : Type 0} (P : Y → Type 0) (f : X → Y) (xs : List X) (i : ℕ) (x : X) → AllByRecursion P (map f xs) → i < length xs → x ≡ get_or xs i x → P (f x)
+holds_mapped P f [] i x all h e = absurd (omega arith)
+holds_mapped P f (y ∷ ys) zero x all h e = subst (λ z. P (f z)) (sym e) all.0
+holds_mapped P f (y ∷ ys) (suc i) x all h e = holds_mapped P f ys i x all.1 (omega arith) e
+
+pub mapped_twice : {X Y Z : Type 0} (f : X → Y) (g : Y → Z) (xs : List X) → map (λ x. g (f x)) xs ≡ map g (map f xs)
+mapped_twice f g [] = refl
+mapped_twice f g (x ∷ xs) = ap (λ l. g (f x) ∷ l) (mapped_twice f g xs)

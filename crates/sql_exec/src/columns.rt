@@ -1,6 +1,6 @@
 // The columns of a query.
 ghost use Rattle.std.specs.List.{AllByRecursion, list_any};
-ghost use Rattle.std.specs.Prelude.{◌≡◌, ◌∷◌, false, fold, length, map, zip, IfOk, OnOk};
+ghost use Rattle.std.specs.Prelude.{◌≡◌, false, fold, length, map, zip, IfOk, OnOk};
 ghost use Rattle.sql_tree.specs.View.{item_tree, select_tree};
 ghost use Rattle.sql_check_parts.specs.Queries.{beside, item_kind, kinds_of, shared_kinds};
 ghost use Rattle.sql_check_parts.specs.Scopes.{or_null};
@@ -88,13 +88,14 @@ pub(crate) fn query_kinds(
     alloc: Global,
     p: &Profile,
     tables: &Tables,
-    first: &Select,
-    others: &[Select],
+    selects: &[Select],
 ) -> Result<Vec<Kind>, AllocError>
-    requires first { IsPlain p.now (tables_held tables.now) (select_tree first.now) }
-    requires others { AllByRecursion (IsPlain p.now (tables_held tables.now)) (map select_tree others.now) }
-    ensures { IfOk result (λ v. v.items ≡ map or_null (shared_kinds (tables_held tables.now) (select_tree first.now ∷ map select_tree others.now))) }
+    requires { AllByRecursion (IsPlain p.now (tables_held tables.now)) (map select_tree selects.now) }
+    ensures { IfOk result (λ v. v.items ≡ map or_null (shared_kinds (tables_held tables.now) (map select_tree selects.now))) }
 {
+    let Some((first, others)) = selects.split_first() else {
+        return Ok(Vec::new(alloc));
+    };
     let kinds = select_kinds(alloc, p, tables, first)?;
     let mut shared = all_some(alloc, &kinds)?;
     share_others(alloc, p, tables, &mut shared, others)?;

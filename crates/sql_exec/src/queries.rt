@@ -46,9 +46,8 @@ pub fn exec<L: Ledger>(
     ensures rows { Gives (query_value (base_held p.now tables.now) (query_tree plan.now.query)) result }
 {
     let selects = plan.query().selects.as_slice();
-    let (first, others) = selects.split_first().unwrap();
-    let kinds = query_kinds(alloc, p, tables, first, others)?;
-    let columns = named_columns(alloc, first.items.as_slice(), &kinds)?;
+    let kinds = query_kinds(alloc, p, tables, selects)?;
+    let columns = named_columns(alloc, selects[0].items.as_slice(), &kinds)?;
     let mut out = Output::new(alloc, columns);
     add_selects(alloc, &mut out, selects, &kinds, tables, p)?;
     out.finish()
