@@ -1,5 +1,6 @@
 -- Tuples in a flat list of numbers.
-use Rattle.std.proofs.Common.{◌≡◌, ℕ, zero, suc, ◌+◌, ◌*◌, ◌/◌, ◌<◌, ◌≤◌, List, length, get_or, take, drop, arith, sym, ap, ◌∙◌}
+use Rattle.std.proofs.Common.{◌≡◌, ℕ, zero, suc, ◌+◌, ◌*◌, ◌/◌, ◌<◌, ◌≤◌, List, length, get_or, take, drop, arith, sym, ap, ◌∙◌, subst}
+use Rattle.std.specs.List.{AllByRecursion}
 use Rattle.std.specs.Simd.{first_chunks}
 use Rattle.std.proofs.lemmas.List.{length-take-le, length-drop, drop-drop}
 use Rattle.std.proofs.lemmas.Nat.{mul-le}
@@ -17,6 +18,12 @@ chunk_at width (suc n) zero ns d h = let z : 0 ≡ 0 * width = omega arith in ap
 chunk_at width (suc n) (suc i) ns d h =
     let on : width + i * width ≡ suc i * width = omega arith in
     chunk_at width n i (drop width ns) d (omega arith) ∙ ap (take width) (drop-drop (i * width) width ns ∙ ap (λ k. drop k ns) on)
+
+chunks_wide : (width n : ℕ) (ns : List ℕ) → length ns ≡ n * width → AllByRecursion (λ x. length x ≡ width) (first_chunks width n ns)
+chunks_wide width zero ns e = tt
+chunks_wide width (suc n) ns e =
+    let l = length-drop width ns in
+    (length-take-le width ns (omega (arith, e)), chunks_wide width n (drop width ns) (omega (arith, e, l)))
 
 module _ (width n : ℕ) (ns : List ℕ) (tuples : List (List ℕ)) (flat : IsFlat width n ns) (seen : pieces width ns ≡ tuples) where
   count_is : length ns / width ≡ n
@@ -36,3 +43,6 @@ module _ (width n : ℕ) (ns : List ℕ) (tuples : List (List ℕ)) (flat : IsFl
 
   pub tuple_wide : (i : ℕ) → i < length tuples → length (take width (drop (i * width) ns)) ≡ width
   tuple_wide i h = let w = tuple_within i h in let l = length-drop (i * width) ns in length-take-le width (drop (i * width) ns) (omega (arith, w, l))
+
+  pub all_wide : AllByRecursion (λ x. length x ≡ width) tuples
+  all_wide = subst (AllByRecursion (λ x. length x ≡ width)) (ap (λ k. first_chunks width k ns) (sym count_is) ∙ seen) (chunks_wide width n ns flat.whole)

@@ -2,6 +2,7 @@
 use Rattle.std.proofs.Common.{◌≡◌, ◌≢◌, ℕ, zero, suc, ◌+◌, ◌-◌, ◌<◌, ◌≤◌, List, [], ◌∷◌, ◌++◌, Bool, true, false, cond, not, ◌||◌, map, length, get_or, refl, sym, ap, ◌∙◌, arith, length-append, ◌⊎◌, inl, inr}
 use Rattle.std.specs.Prelude.{◌==◌}
 use Rattle.std.specs.List.{filter, flat_map, list_any, range_with_len}
+use Rattle.std.proofs.lemmas.List.Folds.{list_any-append}
 use Rattle.std.proofs.lemmas.Bool.{cases_eq}
 use Rattle.std.proofs.lemmas.List.{append-nil, get_or-append-add}
 use Rattle.vtl_cell.specs.declared.cell.Cell.{Cell}
@@ -11,7 +12,6 @@ use Rattle.sql_tree.specs.declared.word_groups.JoinKind.TheVariants as joining
 use Rattle.sql_meaning.specs.From.{is_met, or_alone}
 use Rattle.sql_from.specs.Joins.{added, ends_with, from_left, joined_tuples, keeps_left, keeps_right, numbers_to, passes, with_number}
 use Rattle.sql_from.proofs.Marks.{other_number, same_number}
-use Rattle.sql_from.proofs.Walks.{any-append}
 
 -- a tuple ends with its last number
 ends_is : (x : List ℕ) (i j : ℕ) → ends_with j (x ++ i ∷ []) ≡ (i == j)
@@ -65,7 +65,7 @@ module _ (f : List ℕ → Outcome Cell) (count j : ℕ) (h : j < count) where
 
   ends_all : (xs : List (List ℕ)) → list_any (ends_with j) (flat_map (from_left true f count) xs) ≡ is_met (passes f) xs j
   ends_all [] = refl
-  ends_all (x ∷ xs) = any-append (ends_with j) (from_left true f count x) (flat_map (from_left true f count) xs) ∙ (λ i. ends_of x i || ends_all xs i)
+  ends_all (x ∷ xs) = list_any-append (ends_with j) (from_left true f count x) (flat_map (from_left true f count) xs) ∙ (λ i. ends_of x i || ends_all xs i)
 
 filter_range : (p q : ℕ → Bool) (a n : ℕ) → ((j : ℕ) → j < a + n → p j ≡ q j) → filter p (range_with_len a n) ≡ filter q (range_with_len a n)
 filter_range p q a zero h = refl

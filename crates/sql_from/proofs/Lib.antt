@@ -7,3 +7,4 @@ pub mod Sited
 pub mod Walks
 pub mod Means
 pub mod Standing
+pub mod Tabled

@@ -5,9 +5,10 @@ use Rattle.std.specs.List.{filter, list_any}
 use Rattle.std.proofs.lemmas.Grind.{get_or-set_at}
 use Rattle.std.proofs.lemmas.List.{get_or-set_other, map-append, take_more}
 use Rattle.std.proofs.lemmas.List.Elements.{filter-append}
+use Rattle.std.proofs.lemmas.List.Folds.{list_any-append}
 use Rattle.std.proofs.lemmas.Bool.{cases_eq}
 use Rattle.sql_from.specs.Joins.{added, ends_with, numbers_to, with_number}
-use Rattle.sql_from.proofs.Walks.{any-append, one_number, or_false}
+use Rattle.sql_from.proofs.Walks.{one_number, or_false}
 
 pub same_number : (a b : ℕ) → a ≡ b → (a == b) ≡ true
 same_number a b e = grind arith
@@ -17,7 +18,7 @@ other_number a b e = grind arith
 
 pub any_take : {X : Type 0} (t : X → Bool) (xs : List X) (i : ℕ) (x : X) → i < length xs → x ≡ get_or xs i x → list_any t (take (i + 1) xs) ≡ (list_any t (take i xs) || t x)
 any_take t xs i x h at =
-    ap (list_any t) (take_more xs i x h) ∙ any-append t (take i xs) (get_or xs i x ∷ []) ∙ ap (λ b. list_any t (take i xs) || b) (or_false (t (get_or xs i x)) ∙ ap t (sym at))
+    ap (list_any t) (take_more xs i x h) ∙ list_any-append t (take i xs) (get_or xs i x ∷ []) ∙ ap (λ b. list_any t (take i xs) || b) (or_false (t (get_or xs i x)) ∙ ap t (sym at))
 
 or_true : (b : Bool) → (b || true) ≡ true
 or_true true = refl

@@ -123,7 +123,7 @@ faults_of_pairs f (x ∷ xs) js = (λ i. join (one js i) (faults_of_pairs f xs j
     one [] = refl
     one (k ∷ ks) = ap (join (fault_of f x k)) (one ks)
 
-faults_through : {X Y : Type 0} (f : Y → Option Fault) (h : X → Y) (xs : List X) → faults_by (λ x. f (h x)) xs ≡ faults_by f (map h xs)
+pub faults_through : {X Y : Type 0} (f : Y → Option Fault) (h : X → Y) (xs : List X) → faults_by (λ x. f (h x)) xs ≡ faults_by f (map h xs)
 faults_through f h [] = refl
 faults_through f h (x ∷ xs) = ap (join (f (h x))) (faults_through f h xs)
 

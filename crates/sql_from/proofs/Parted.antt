@@ -11,6 +11,7 @@ use Rattle.vtl_rows.specs.Places.{row_at}
 use Rattle.vtl_rows.specs.Tables.{Listed}
 use Rattle.vtl_rows.specs.declared.gather.Pick.{Pick}
 use Rattle.vtl_rows.proofs.Stable.{one_number_more}
+use Rattle.sql_from.specs.Joins.{marks_of}
 use Rattle.sql_from.specs.Rows.{combined, picks_at, picks_from, width_of}
 
 -- one more column of a source
@@ -46,7 +47,7 @@ picks_last k (u ∷ ts) t =
     ∙ sym (append_assoc (picks_at k (length u.columns)) (picks_from (k + 1) ts) (picks_at (k + suc (length ts)) (length t.columns)))
 
 -- ---- the row is what is picked
-get_behind : {X : Type 0} (before : List X) (x : X) (rest : List X) (d : X) → get_or (before ++ x ∷ rest) (length before) d ≡ x
+pub get_behind : {X : Type 0} (before : List X) (x : X) (rest : List X) (d : X) → get_or (before ++ x ∷ rest) (length before) d ≡ x
 get_behind [] x rest d = refl
 get_behind (y ∷ before) x rest d = get_behind before x rest d
 
@@ -86,6 +87,20 @@ none_mapped f [] i e = refl
 none_mapped f (y ∷ xs) zero e = cc
 none_mapped f (y ∷ xs) (suc i) e = none_mapped f xs i e
 
+-- each pick is of a source
+pub pick_among : (ts : List Listed) (picks : List Pick) → picks ≡ picks_from 0 ts → (place : ℕ) (pick : Pick) → slice_get picks place ≡ Some pick → pick.part < length ts
+pick_among ts picks are place pick got = let h = go 0 ts place (ap (λ l. slice_get l place) (sym are) ∙ got) in omega (arith, h)
+  where
+    among : (k m : ℕ) (js : List ℕ) (rest : List Pick) (i : ℕ) → k < m → ((j : ℕ) → slice_get rest j ≡ Some pick → pick.part < m) → slice_get (map (λ j. record { part = k; column = j }) js ++ rest) i ≡ Some pick → pick.part < m
+    among k m [] rest i h later e = later i e
+    among k m (j ∷ js) rest zero h later e = let s : k ≡ pick.part = cc in omega (arith, s, h)
+    among k m (j ∷ js) rest (suc i) h later e = among k m js rest i h later e
+
+    go : (k : ℕ) (us : List Listed) (i : ℕ) → slice_get (picks_from k us) i ≡ Some pick → pick.part < k + length us
+    go k [] i e = cc
+    go k (u ∷ us) i e =
+        among k (k + length (u ∷ us)) (range_with_len 0 (length u.columns)) (picks_from (k + 1) us) i (omega arith) (λ j f. let ih = go (k + 1) us j f in omega (arith, ih)) e
+
 module _ (ts : List Listed) (picks : List Pick) (are : picks ≡ picks_from 0 ts) (front : List ℕ) (last place : ℕ) (whole : length front + 1 ≡ length ts) where
   wide : length (front ++ last ∷ []) ≡ length ts
   wide = let l = length-append front (last ∷ []) in omega (arith, l, whole)
@@ -95,17 +110,7 @@ module _ (ts : List Listed) (picks : List Pick) (are : picks ≡ picks_from 0 ts
 
   module _ (pick : Pick) (got : slice_get picks place ≡ Some pick) where
     pub pick_within : pick.part < length ts
-    pick_within = let h = go 0 ts place (ap (λ l. slice_get l place) (sym are) ∙ got) in omega (arith, h)
-      where
-        among : (k m : ℕ) (us : List Listed) (js : List ℕ) (rest : List Pick) (i : ℕ) → k < m → ((j : ℕ) → slice_get rest j ≡ Some pick → pick.part < m) → slice_get (map (λ j. record { part = k; column = j }) js ++ rest) i ≡ Some pick → pick.part < m
-        among k m us [] rest i h later e = later i e
-        among k m us (j ∷ js) rest zero h later e = let s : k ≡ pick.part = cc in omega (arith, s, h)
-        among k m us (j ∷ js) rest (suc i) h later e = among k m us js rest i h later e
-
-        go : (k : ℕ) (us : List Listed) (i : ℕ) → slice_get (picks_from k us) i ≡ Some pick → pick.part < k + length us
-        go k [] i e = cc
-        go k (u ∷ us) i e =
-            among k (k + length (u ∷ us)) us (range_with_len 0 (length u.columns)) (picks_from (k + 1) us) i (omega arith) (λ j f. let ih = go (k + 1) us j f in omega (arith, ih)) e
+    pick_within = pick_among ts picks are place pick got
 
     pub cell_there : (t : Listed) (number : ℕ) → slice_get ts pick.part ≡ Some t → number ≡ slice_index (front ++ last ∷ []) pick.part → column_of pick.column (row_at t.rows number) ≡ column_of place (combined ts (front ++ last ∷ []))
     cell_there t number there n =
@@ -145,3 +150,7 @@ last_number [] last zero h l = refl
 last_number [] last (suc k) h l = absurd (omega (arith, l))
 last_number (i ∷ front) last zero h l = absurd (omega (arith, h))
 last_number (i ∷ front) last (suc k) h l = last_number front last k (omega (arith, h)) (omega (arith, l))
+
+-- the number of one missing part more
+pub marks_more : (ts : List Listed) (i : ℕ) (t : Listed) (n : ℕ) (now then : List ℕ) → slice_get ts i ≡ Some t → n ≡ length t.rows → now ≡ marks_of (take i ts) → then ≡ now ++ n ∷ [] → then ≡ marks_of (take (i + 1) ts)
+marks_more ts i t n now then got rows e is = is ∙ (λ j. e j ++ rows j ∷ []) ∙ sym (ap marks_of (take_got ts i t got) ∙ map-append (λ u. length u.rows) (take i ts) (t ∷ []))

@@ -128,3 +128,8 @@ module _ (alias : Text) (x : Column) where
       go : (b : Bool) → unwrap_or (option_and_then (λ named. value_among named x.name) (cond b (Some (numbered {V = Kind} 0 [])) None)) 0 ≡ 0
       go true = refl
       go false = refl
+
+pub source_got : (ss : Named SourceTable) (i : ℕ) (key : Text) (s : SourceTable) → slice_get ss i ≡ Some (key, s) → slice_get (map source_of ss) i ≡ Some (key, s.table.now)
+source_got [] i key s e = cc
+source_got (u ∷ ss) zero key s e = let h : u ≡ (key, s) = cc in ap (λ (v : Text × SourceTable). Some (v.0, v.1.table.now)) h
+source_got (u ∷ ss) (suc i) key s e = source_got ss i key s e

@@ -1,9 +1,10 @@
 -- What one source more stands for.
-use Rattle.std.proofs.Common.{◌≡◌, ℕ, ◌+◌, List, [], ◌∷◌, ◌++◌, map, length, Option, Some, None, Ok, refl, sym, ap, ◌∙◌, subst, length-append}
+use Rattle.std.proofs.Common.{◌≡◌, ℕ, ◌+◌, List, [], ◌∷◌, ◌++◌, map, length, Option, Some, None, Ok, Err, IfOk, Result, refl, sym, ap, ◌∙◌, subst, length-append}
 use Rattle.std.specs.List.{AllByRecursion, filter}
+use Rattle.std.specs.Prelude.{fold}
 use Rattle.std.specs.Option.{option_map}
 use Rattle.std.proofs.lemmas.List.{length-map, map-append}
-use Rattle.vtl_cell.specs.Outcome.{Fault, Outcome, fault_in, faults_by, join, unless}
+use Rattle.vtl_cell.specs.Outcome.{DivZero, Fault, Range, Outcome, fault_in, faults_by, join, unless}
 use Rattle.vtl_cell.specs.Outcomes.{is_true}
 use Rattle.vtl_cell.specs.Row.{Row}
 use Rattle.vtl_cell.specs.Settings.{Settings}
@@ -11,24 +12,29 @@ use Rattle.vtl_cell.specs.declared.cell.Cell.{Cell}
 use Rattle.vtl_cell.specs.declared.cell.Cell.TheVariants.{Null}
 use Rattle.vtl_rows.specs.Named.{NamedTables, table_of}
 use Rattle.vtl_rows.specs.Tables.{Listed}
+use Rattle.vtl_scalar.specs.Answers.{AnswersBy}
+use Rattle.vtl_scalar.specs.declared.error.ScalarErr.{ScalarErr}
+use Rattle.vtl_scalar.specs.declared.error.ScalarErr.TheVariants as err
 use Rattle.sql_tree.specs.Trees as tree
-use Rattle.sql_tree.specs.Trees.{Exp, Text}
+use Rattle.sql_tree.specs.Trees.{Exp, JoinTree, SelectTree, Text}
 use Rattle.sql_tree.specs.declared.parts.Source.{Source}
 use Rattle.sql_tree.specs.declared.word_groups.JoinKind.{JoinKind}
+use Rattle.sql_check_parts.specs.Queries.{join_source, joined_scope}
 use Rattle.sql_check_parts.specs.Scopes.{Columns, or_nothing as columns_or_nothing, row_of, with_source}
-use Rattle.sql_check_laws.specs.Selects.{IsSourceTyped}
-use Rattle.sql_meaning.specs.From.{Joined, first_of, joined_rows, kept_of, pairs, with_join}
-use Rattle.sql_meaning.specs.Tables.{column_entry, columns_named, rows_of}
+use Rattle.sql_check_laws.specs.Selects.{AreJoinsTyped, IsSourceTyped}
+use Rattle.sql_meaning.specs.From.{Joined, first_of, joined, joined_rows, kept_of, pairs, with_join}
+use Rattle.sql_meaning.specs.Tables.{Base, column_entry, columns_named, rows_of}
 use Rattle.sql_meaning.specs.Values.{at_rows, value}
 use Rattle.sql_meaning.proofs.SourceKinds.{source_added}
 use Rattle.sql_meaning.proofs.UpToOrder.{join_none}
 use Rattle.sql_from.specs.Held.{base_held, columns_held, rows_held, tables_held}
 use Rattle.sql_from.specs.Joins.{crossed_tuples, joined_tuples, kept_fault, kept_tuples, marks_of, numbers_to, pairs_fault, singles}
 use Rattle.sql_from.specs.Rows.{combined, width_of}
+use Rattle.sql_from.specs.Seen.{answer_of}
 use Rattle.sql_from.specs.Sources.{IsWide, Sourced, or_nothing, parts_of, scope_held, table_named}
 use Rattle.sql_from.specs.Standing.{StandsFor, condition_at, rows_for, sight_of}
 use Rattle.sql_from.specs.Tuples.{Numbered}
-use Rattle.sql_from.proofs.Means.{cross_means, crossed_wide, joined_wide, kept_means, marks_many, single_rows, singles_wide, step_faults, step_means}
+use Rattle.sql_from.proofs.Means.{cross_means, crossed_wide, faults_through, joined_wide, kept_means, marks_many, single_rows, singles_wide, step_faults, step_means}
 use Rattle.sql_from.proofs.Sited.{columns_are, row_wide, table_there}
 
 last_of : {X : Type 0} (P : X → Type 0) (xs : List X) (x : X) → AllByRecursion P (xs ++ x ∷ []) → P x
@@ -156,10 +162,6 @@ first_stands p held source t s count typed is wide counted w tuples =
 
 -- ---- WHERE
 
-faults_through : {X Y : Type 0} (f : Y → Option Fault) (h : X → Y) (xs : List X) → faults_by (λ x. f (h x)) xs ≡ faults_by f (map h xs)
-faults_through f h [] = refl
-faults_through f h (x ∷ xs) = ap (join (f (h x))) (faults_through f h xs)
-
 module _ (p : Settings) (s : Sourced) (t : Numbered) (seen : Option Fault) (f : Joined) (before : StandsFor f s t seen) where
   pub kept_stands : (e : Exp) (tuples : List (List ℕ)) (seen' : Option Fault) → tuples ≡ kept_tuples (condition_at p s e) t.tuples → seen' ≡ join seen (kept_fault (condition_at p s e) t.tuples)
       → unless seen' (map (combined (parts_of s.sources)) tuples) ≡ kept_of (base_held p s.held) (Some e) f
@@ -172,3 +174,53 @@ module _ (p : Settings) (s : Sourced) (t : Numbered) (seen : Option Fault) (f : 
 
   pub all_stand : unless seen (rows_for s t) ≡ kept_of (base_held p s.held) None f
   all_stand = (λ i. unless (before.fault i) (before.rows i)) ∙ ap (λ g. unless g f.rows) (sym (join_none f.fault))
+
+-- ---- all joins
+
+-- behind a join stand the sources before it and its own
+scope_behind : (b : Base) (f : Joined) (j : JoinTree) → (with_join b f j).scope ≡ with_source b.tables f.scope (join_source j)
+scope_behind b f (tree.on kind s e) = refl
+scope_behind b f (tree.cross s) = refl
+
+pub scope_joined : (b : Base) (f : Joined) (js : List JoinTree) → (fold (with_join b) f js).scope ≡ joined_scope b.tables f.scope js
+scope_joined b f [] = refl
+scope_joined b f (j ∷ js) = scope_joined b (with_join b f j) js ∙ ap (λ scope. joined_scope b.tables scope js) (scope_behind b f j)
+
+-- what has been joined, and the joins that are left
+pub record Left (b : Base) (s : SelectTree) (js : List JoinTree) (sources : Sourced) (t : Numbered) (seen : Option Fault) : Type 0 where
+  pub so_far : Joined
+  pub stands : StandsFor so_far sources t seen
+  pub typed : AreJoinsTyped b.settings b.tables so_far.scope js
+  pub all : fold (with_join b) so_far js ≡ joined b s
+
+pub left_less : (b : Base) (s : SelectTree) (j : JoinTree) (js : List JoinTree) (sources sources' : Sourced) (t t' : Numbered) (seen seen' : Option Fault) (left : Left b s (j ∷ js) sources t seen)
+    → StandsFor (with_join b left.so_far j) sources' t' seen' → Left b s js sources' t' seen'
+left_less b s j js sources sources' t t' seen seen' left stands = record {
+  so_far = with_join b left.so_far j;
+  stands = stands;
+  typed = subst (λ scope. AreJoinsTyped b.settings b.tables scope js) (sym (scope_behind b left.so_far j)) left.typed.2;
+  all = left.all;
+}
+
+-- ---- answers
+
+pub if_ok : {A E : Type 0} (r : Result A E) (P Q : A → Type 0) → ((x : A) → P x → Q x) → IfOk r P → IfOk r Q
+if_ok (Ok x) P Q h k = h x k
+if_ok (Err e) P Q h k = k
+
+pub if_both : {A E : Type 0} (r : Result A E) (P Q R : A → Type 0) → ((x : A) → P x → Q x → R x) → IfOk r P → IfOk r Q → IfOk r R
+if_both (Ok x) P Q R h k l = h x k l
+if_both (Err e) P Q R h k l = k
+
+pub answered_rows : (s : Sourced) (rows t : Numbered) (seen : Option Fault) (m : Outcome (List Row)) → Ok t ≡ answer_of (unless seen rows) → unless seen (rows_for s rows) ≡ m → m ≡ Ok (rows_for s t)
+answered_rows s rows t None m e is = let same : t ≡ rows = cc in sym is ∙ ap (λ (n : Numbered). Ok (rows_for s n)) (sym same)
+answered_rows s rows t (Some DivZero) m e is = cc
+answered_rows s rows t (Some Range) m e is = cc
+
+pub answered_fault : {A : Type 0} (view : A → List Row) (s : Sourced) (rows : Numbered) (seen : Option Fault) (m : Outcome (List Row)) (e : ScalarErr) → Err e ≡ answer_of (unless seen rows) → unless seen (rows_for s rows) ≡ m → AnswersBy view (Err e) m
+answered_fault {A = A} view s rows seen m e is made = go seen is made
+  where
+    go : (seen : Option Fault) → Err e ≡ answer_of (unless seen rows) → unless seen (rows_for s rows) ≡ m → AnswersBy view (Err e) m
+    go None is made = cc
+    go (Some DivZero) is made = let same : e ≡ err.DivZero = cc in subst (λ (x : ScalarErr). AnswersBy view (Err x) m) (sym same) (sym made)
+    go (Some Range) is made = let same : e ≡ err.Range = cc in subst (λ (x : ScalarErr). AnswersBy view (Err x) m) (sym same) (sym made)

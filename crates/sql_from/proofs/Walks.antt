@@ -4,6 +4,7 @@ use Rattle.std.specs.List.{filter, flat_map, list_any}
 use Rattle.std.proofs.lemmas.Grind.{flat_map-append}
 use Rattle.std.proofs.lemmas.List.{append-nil, map-append, take_all, take_more}
 use Rattle.std.proofs.lemmas.List.Elements.{filter-append}
+use Rattle.std.proofs.lemmas.List.Folds.{list_any-append}
 use Rattle.vtl_cell.specs.declared.cell.Cell.{Cell}
 use Rattle.vtl_cell.specs.Outcome.{Fault, Outcome, fault_in, faults_by, join}
 use Rattle.vtl_rows.proofs.Stable.{one_number_more}
@@ -29,20 +30,9 @@ kept_more t xs i x kept kept' h at k l =
 pub one_number : (j : ℕ) → numbers_to (j + 1) ≡ numbers_to j ++ j ∷ []
 one_number j = one_number_more 0 j ∙ (let e : 0 + j ≡ j = omega arith in ap (λ i. numbers_to j ++ i ∷ []) e)
 
-pub any-append : {X : Type 0} (t : X → Bool) (xs ys : List X) → list_any t (xs ++ ys) ≡ (list_any t xs || list_any t ys)
-any-append t [] ys = refl
-any-append t (x ∷ xs) ys = go (t x) (any-append t xs ys)
-  where
-    go : (b : Bool) → list_any t (xs ++ ys) ≡ (list_any t xs || list_any t ys) → (b || list_any t (xs ++ ys)) ≡ ((b || list_any t xs) || list_any t ys)
-    go true e = refl
-    go false e = e
-
 pub or_false : (b : Bool) → (b || false) ≡ b
 or_false true = refl
 or_false false = refl
-
-filter_one : {X : Type 0} (t : X → Bool) (x : X) → filter t (x ∷ []) ≡ cond (t x) (x ∷ []) []
-filter_one t x = refl
 
 map_cond : {X Y : Type 0} (f : X → Y) (b : Bool) (x : X) → map f (cond b (x ∷ []) []) ≡ cond b (f x ∷ []) []
 map_cond f true x = refl
@@ -60,7 +50,7 @@ module _ (f : List ℕ → Outcome Cell) (x : List ℕ) (j : ℕ) where
       h ∙ ap (λ l. l ++ cond (passes f x j) ((x ++ j ∷ []) ∷ []) []) e ∙ append_assoc old (pairs_with f j x) (cond (passes f x j) ((x ++ j ∷ []) ∷ []) []) ∙ ap (λ l. old ++ l) (sym more)
 
   pub any_more : list_any (passes f x) (numbers_to (j + 1)) ≡ (list_any (passes f x) (numbers_to j) || passes f x j)
-  any_more = ap (list_any (passes f x)) (one_number j) ∙ any-append (passes f x) (numbers_to j) (j ∷ []) ∙ ap (λ b. list_any (passes f x) (numbers_to j) || b) (or_false (passes f x j))
+  any_more = ap (list_any (passes f x)) (one_number j) ∙ list_any-append (passes f x) (numbers_to j) (j ∷ []) ∙ ap (λ b. list_any (passes f x) (numbers_to j) || b) (or_false (passes f x j))
 
   pub faults_more : (old now then : Option Fault) → now ≡ join old (faults_by (fault_of f x) (numbers_to j)) → then ≡ join now (fault_of f x j) → then ≡ join old (faults_by (fault_of f x) (numbers_to (j + 1)))
   faults_more old now then e h =

@@ -5,3 +5,4 @@ pub mod Sources
 pub mod Seen
 pub mod Joins
 pub mod Standing
+pub mod Columns

@@ -12,6 +12,10 @@ pub(crate) trait Condition {
 
     ghost value: { Self → Test };
 
+    /// How many numbers a tuple has.
+    fn width(&self) -> usize
+        ensures { result ≡ width self.now };
+
     /// Whether it is true at a tuple, whose last number is given apart; or its fault.
     fn at(&self, alloc: Global, front: &[usize], last: usize) -> Result<bool, ScalarErr>
         requires { length front.now + 1 ≡ width self.now }

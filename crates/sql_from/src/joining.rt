@@ -82,7 +82,6 @@ pub(crate) fn join_step<C: Condition>(
     marks: &[usize],
     count: usize,
 ) -> Result<Walked, ScalarErr>
-    requires small { left.now.rows.width + 1 < 2 ^ 64 }
     requires width { C.width condition.now ≡ left.now.rows.width + 1 }
     requires marks { length marks.now ≡ left.now.rows.width }
     ensures width { IfOk result (λ w. w.rows.width ≡ left.now.rows.width + 1) }
@@ -109,13 +108,18 @@ fn push_each(front: &[usize], count: usize, rows: &mut Tuples) -> Result<(), All
     Ok(())
 }
 
-// Each tuple with each row of a source.
-pub(crate) fn cross_step(alloc: Global, left: &Tuples, count: usize) -> Result<Tuples, AllocError>
-    requires { left.now.width + 1 < 2 ^ 64 }
+// Each tuple with each row of a source; tuples have this width behind it.
+pub(crate) fn cross_step(
+    alloc: Global,
+    left: &Tuples,
+    count: usize,
+    width: usize,
+) -> Result<Tuples, AllocError>
+    requires { width ≡ left.now.width + 1 }
     ensures width { IfOk result (λ t. t.width ≡ left.now.width + 1) }
     ensures rows { IfOk result (λ t. t.tuples ≡ crossed_tuples count left.now.tuples) }
 {
-    let mut rows = Tuples::new(alloc, left.width() + 1);
+    let mut rows = Tuples::new(alloc, width);
     for i in 0..left.len() {
         push_each(left.tuple(i), count, &mut rows)?;
     }

@@ -17,11 +17,14 @@ mod seen;
 mod selects;
 mod sources;
 mod tuple_row;
+mod tuple_rows;
 mod tuples;
 
 pub use existence::has_partner;
 pub use outer_row::OuterRow;
 pub use seen::Seen;
+pub use selects::{ExecErr, source_rows, source_tuples};
 pub use sources::Sources;
 pub use tuple_row::TupleRow;
+pub use tuple_rows::TupleRows;
 pub use tuples::Tuples;

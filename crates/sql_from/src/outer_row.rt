@@ -4,7 +4,7 @@ ghost use Rattle.vtl_cell.specs.Row.{Row, column_of};
 
 use vtl_cell::Cell;
 
-/// A row at which EXISTS is asked.
+/// A row at which EXISTS is asked. It stands apart from `Cells`, which answers EXISTS by it.
 pub trait OuterRow {
     ghost lends: { Self → Row };
 

@@ -1,9 +1,9 @@
 // Pairs of a tuple and a row: nested loops.
 ghost use Rattle.std.specs.List.{flat_map, list_any};
 ghost use Rattle.std.specs.Prelude.{◌≡◌, ◌+◌, ◌<◌, ◌^◌, ◌++◌, ◌∷◌, [], length, IfErr, IfOk, OnOk, if◌then◌else◌};
-ghost use Rattle.vtl_cell.specs.Outcome.{faults_by, join};
+ghost use Rattle.vtl_cell.specs.Outcome.{faults_by, join, unless};
 ghost use Rattle.sql_from.specs.Joins.{fault_of, from_left, numbers_to, pairs_fault, pairs_with, passes};
-ghost use Rattle.sql_from.specs.Seen.{seen_of};
+ghost use Rattle.sql_from.specs.Seen.{answer_of, seen_of};
 
 use crate::condition::Condition;
 use crate::{Seen, Tuples};
@@ -23,6 +23,16 @@ impl Drop for Walked {
             rows: _rows,
             seen: _,
         } = self;
+    }
+}
+
+impl Walked {
+    // The tuples, unless a fault was seen.
+    pub(crate) fn finish(self) -> Result<Tuples, ScalarErr>
+        ensures { result ≡ answer_of (unless (seen_of self.seen) self.rows) }
+    {
+        let Walked { rows, seen } = self;
+        seen.unless(rows)
     }
 }
 
@@ -55,7 +65,8 @@ pub(crate) fn try_tuple<C: Condition>(
     }
 }
 
-// Puts the pairs of one tuple with so many rows behind the tuples, and tells whether there is one.
+// Puts the pairs of one tuple with so many rows behind the tuples, and tells whether there is one. Pairs are found here
+// and nowhere else.
 fn pairs_of<C: Condition>(
     alloc: Global,
     condition: &C,
@@ -110,15 +121,14 @@ pub(crate) fn left_rows<C: Condition>(
     left: &Walked,
     count: usize,
 ) -> Result<Walked, ScalarErr>
-    requires small { left.now.rows.width + 1 < 2 ^ 64 }
-    requires width { C.width condition.now ≡ left.now.rows.width + 1 }
+    requires { C.width condition.now ≡ left.now.rows.width + 1 }
     ensures width { IfOk result (λ w. w.rows.width ≡ left.now.rows.width + 1) }
     ensures rows { IfOk result (λ w. w.rows.tuples ≡ flat_map (from_left keeps (C.value condition.now) count) left.now.rows.tuples) }
     ensures seen { IfOk result (λ w. seen_of w.seen ≡ join (seen_of left.now.seen) (pairs_fault (C.value condition.now) count left.now.rows.tuples)) }
     ensures err { IfErr result (λ e. e ≡ ScalarErr.OutOfMemory) }
 {
     let mut so_far = Walked {
-        rows: Tuples::new(alloc, left.rows.width() + 1),
+        rows: Tuples::new(alloc, condition.width()),
         seen: left.seen,
     };
     for i in 0..left.rows.len() {

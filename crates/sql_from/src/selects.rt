@@ -1,4 +1,5 @@
 // FROM and WHERE of a select.
+ghost use Rattle.std.specs.Option.{option_map};
 ghost use Rattle.std.specs.Prelude.{◌≡◌, ◌+◌, ◌<◌, ◌^◌, ◌++◌, ◌∷◌, [], length, IfErr, IfOk};
 ghost use Rattle.vtl_cell.specs.Outcome.{join, unless};
 ghost use Rattle.vtl_cell.specs.Settings.{Settings};
@@ -8,7 +9,8 @@ ghost use Rattle.sql_check_parts.specs.Queries.{join_source, scope_of};
 ghost use Rattle.sql_check_laws.specs.Selects.{IsSelectTyped, IsSourceTyped};
 ghost use Rattle.sql_eval.specs.Placed.{placed_value};
 ghost use Rattle.sql_eval.specs.View.{placed_of};
-ghost use Rattle.sql_meaning.specs.From.{Joined, first_of, source_rows, with_join};
+ghost use Rattle.sql_meaning.specs.From.{Joined, first_of, joined, kept_of, source_rows, with_join};
+ghost use Rattle.sql_from.specs.Columns.{source_columns};
 ghost use Rattle.sql_from.specs.Held.{base_held, rows_held, tables_held};
 ghost use Rattle.sql_from.specs.Joins.{crossed_tuples, joined_tuples, kept_fault, kept_tuples, pairs_fault};
 ghost use Rattle.sql_from.specs.Rows.{combined};
@@ -19,13 +21,16 @@ ghost use Rattle.sql_from.specs.Standing.{StandsFor, condition_at, rows_for};
 use crate::condition::Condition;
 use crate::joining::{cross_step, join_step, keep, singles};
 use crate::pairs::Walked;
-use crate::{Seen, Sources, TupleRow, Tuples};
+use crate::{Seen, Sources, TupleRow, TupleRows};
 use sql_eval::{Level, Resolved, resolve, value_at};
 use sql_tree::{Join, JoinKind, Select, Source, SqlExpr};
 use std::alloc::{AllocError, Global};
 use vtl_cell::{Cell, Profile};
-use vtl_rows::Tables;
+use vtl_rows::{Table, Tables};
 use vtl_scalar::ScalarErr;
+
+/// Why there are no rows: the fault of an expression, or want of memory.
+pub type ExecErr = ScalarErr;
 
 // A condition at the rows of sources.
 #[derive(Clone, Copy)]
@@ -39,6 +44,10 @@ impl<'a> Condition for SourceCondition<'a> {
     ghost width = { λ c. length c.sources.now.sources };
 
     ghost value = { λ c x. placed_value c.profile.now (rows_held c.sources.now.held) (placed_of c.expression.now) (combined (parts_of c.sources.now.sources) x) [] };
+
+    fn width(&self) -> usize {
+        self.sources.len()
+    }
 
     fn at(&self, alloc: Global, front: &[usize], last: usize) -> Result<bool, ScalarErr> {
         let row = TupleRow::of(self.sources, front, last);
@@ -65,7 +74,6 @@ fn joined_on(
     ensures seen { IfOk result (λ w. seen_of w.seen ≡ join (seen_of left.now.seen) (pairs_fault (condition_at p.now sources.now (expr_tree condition.now)) count left.now.rows.tuples)) }
     ensures err { IfErr result (λ e. e ≡ ScalarErr.OutOfMemory) }
 {
-    sources.len();
     let resolved = resolve(alloc, p, sources, &Level::Rows, condition)?;
     let condition = SourceCondition {
         sources,
@@ -98,15 +106,34 @@ fn kept(
     keep(alloc, &condition, from)
 }
 
+// The tuples that WHERE keeps, where one is written, and its fault beside the one that was seen before.
+fn kept_where(
+    alloc: Global,
+    condition: &Option<SqlExpr>,
+    sources: &Sources<'_>,
+    walked: Walked,
+    p: &Profile,
+) -> Result<Walked, ScalarErr>
+    requires { length sources.now.sources ≡ walked.rows.width }
+    ensures width { IfOk result (λ w. w.rows.width ≡ walked.rows.width) }
+    ensures kept { IfOk result (λ w. (f : Joined) → StandsFor f sources.now walked.rows (seen_of walked.seen) → unless (seen_of w.seen) (rows_for sources.now w.rows) ≡ kept_of (base_held p.now sources.now.held) (option_map expr_tree condition.now) f) }
+    ensures err { IfErr result (λ e. e ≡ ScalarErr.OutOfMemory) }
+{
+    match condition {
+        Some(condition) => kept(alloc, condition, sources, &walked, p),
+        None => Ok(walked),
+    }
+}
+
 // Each tuple with each row of a further source; the fault is the one that was seen before.
-fn crossed(alloc: Global, left: &Walked, count: usize) -> Result<Walked, AllocError>
-    requires { left.now.rows.width + 1 < 2 ^ 64 }
+fn crossed(alloc: Global, left: &Walked, count: usize, width: usize) -> Result<Walked, AllocError>
+    requires { width ≡ left.now.rows.width + 1 }
     ensures width { IfOk result (λ w. w.rows.width ≡ left.now.rows.width + 1) }
     ensures rows { IfOk result (λ w. w.rows.tuples ≡ crossed_tuples count left.now.rows.tuples) }
     ensures seen { IfOk result (λ w. seen_of w.seen ≡ seen_of left.now.seen) }
 {
     Ok(Walked {
-        rows: cross_step(alloc, &left.rows, count)?,
+        rows: cross_step(alloc, &left.rows, count, width)?,
         seen: left.seen,
     })
 }
@@ -150,12 +177,7 @@ fn first_source<'a>(
 
 impl<'a> Joining<'a> {
     // With the source of a join.
-    fn with_join(
-        self,
-        alloc: Global,
-        join: &Join,
-        p: &Profile,
-    ) -> Result<Joining<'a>, ScalarErr>
+    fn with_join(self, alloc: Global, join: &Join, p: &Profile) -> Result<Joining<'a>, ScalarErr>
         requires whole { self.walked.rows.width ≡ length self.sources.sources }
         requires source { IsSourceTyped (tables_held self.sources.held) (scope_held self.sources.sources) (join_source (join_tree join.now)) }
         ensures held { IfOk result (λ j. j.sources.held ≡ self.entry.sources.held) }
@@ -172,17 +194,88 @@ impl<'a> Joining<'a> {
                 let marks = sources.marks(alloc)?;
                 let count = sources.count_of(source);
                 let sources = sources.with(alloc, source)?;
-                let walked =
-                    joined_on(alloc, *kind, condition, &sources, &walked, &marks, count, p)?;
+                let walked = joined_on(
+                    alloc, *kind, condition, &sources, &walked, &marks, count, p,
+                )?;
                 Ok(Joining { sources, walked })
             }
             Join::Cross(source) => {
                 let count = sources.count_of(source);
                 let sources = sources.with(alloc, source)?;
-                sources.len();
-                let walked = crossed(alloc, &walked, count)?;
+                let walked = crossed(alloc, &walked, count, sources.len())?;
                 Ok(Joining { sources, walked })
             }
         }
     }
+    // The tuples that WHERE keeps, or the fault of every ON and of WHERE.
+    fn finish(
+        self,
+        alloc: Global,
+        condition: &Option<SqlExpr>,
+        p: &Profile,
+    ) -> Result<TupleRows<'a>, ScalarErr>
+        requires { self.walked.rows.width ≡ length self.sources.sources }
+        ensures sources { IfOk result (λ r. r.sources ≡ self.entry.sources) }
+        ensures rows { (f : Joined) → StandsFor f self.entry.sources self.entry.walked.rows (seen_of self.entry.walked.seen) → AnswersBy (λ r. rows_for r.sources r.tuples) result (kept_of (base_held p.now self.entry.sources.held) (option_map expr_tree condition.now) f) }
+    {
+        let Joining { sources, walked } = self;
+        let kept = kept_where(alloc, condition, &sources, walked, p)?;
+        Ok(TupleRows {
+            tuples: kept.finish()?,
+            sources,
+        })
+    }
+}
+
+// The sources of a select and the tuples of FROM, with the fault of every ON.
+fn joined<'a>(
+    alloc: Global,
+    select: &Select,
+    tables: &'a Tables,
+    p: &Profile,
+) -> Result<Joining<'a>, ScalarErr>
+    requires { IsSelectTyped p.now (tables_held tables.now) (select_tree select.now) }
+    ensures held { IfOk result (λ j. j.sources.held ≡ tables.now) }
+    ensures stands { IfOk result (λ j. StandsFor (joined (base_held p.now tables.now) (select_tree select.now)) j.sources j.walked.rows (seen_of j.walked.seen)) }
+    ensures err { IfErr result (λ e. e ≡ ScalarErr.OutOfMemory) }
+{
+    let mut so_far = first_source(alloc, &select.from, tables)?;
+    for join in select.joins.as_slice() {
+        so_far = so_far.with_join(alloc, join, p)?;
+    }
+    Ok(so_far)
+}
+
+/// The rows that FROM gives and WHERE keeps, as tuples of row numbers, with the sources of the select: over the tables
+/// that the program holds, for a select that is typed over their columns. A fault is the worst of those of every ON, at
+/// each pair that it is tried on, and of WHERE, at each row of FROM: a division by zero, wherever it comes, and then
+/// what is out of range. It takes memory for the tuples, and copies no cell.
+pub fn source_tuples<'a>(
+    alloc: Global,
+    select: &Select,
+    tables: &'a Tables,
+    p: &Profile,
+) -> Result<TupleRows<'a>, ExecErr>
+    requires { IsSelectTyped p.now (tables_held tables.now) (select_tree select.now) }
+    ensures held { IfOk result (λ r. r.sources.held ≡ tables.now) }
+    ensures scope { IfOk result (λ r. scope_held r.sources.sources ≡ scope_of (tables_held tables.now) (select_tree select.now)) }
+    ensures rows { AnswersBy (λ r. rows_for r.sources r.tuples) result (source_rows (base_held p.now tables.now) (select_tree select.now)) }
+{
+    joined(alloc, select, tables, p)?.finish(alloc, &select.condition, p)
+}
+
+/// The table of the rows that FROM gives and WHERE keeps: the columns of the sources in order, each named by the alias, a
+/// line feed and its name. The select is typed over the columns of the tables that the program holds. Faults are those of
+/// `source_tuples`; each cell is copied once.
+pub fn source_rows(
+    alloc: Global,
+    select: &Select,
+    tables: &Tables,
+    p: &Profile,
+) -> Result<Table, ExecErr>
+    requires { IsSelectTyped p.now (tables_held tables.now) (select_tree select.now) }
+    ensures columns { IfOk result (λ t. t.columns ≡ source_columns (scope_of (tables_held tables.now) (select_tree select.now))) }
+    ensures rows { AnswersBy (λ t. t.rows) result (source_rows (base_held p.now tables.now) (select_tree select.now)) }
+{
+    Ok(source_tuples(alloc, select, tables, p)?.table(alloc)?)
 }

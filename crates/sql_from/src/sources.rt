@@ -1,15 +1,17 @@
 // The sources of a select.
 ghost use Rattle.std.specs.List.{AllByRecursion};
 ghost use Rattle.std.specs.Option.{option_map};
-ghost use Rattle.std.specs.Prelude.{◌≡◌, ◌+◌, ◌<◌, ◌^◌, ◌++◌, ◌∷◌, [], length, slice_get, Some, IfOk, OnOk};
+ghost use Rattle.std.specs.Prelude.{◌≡◌, ◌+◌, ◌<◌, ◌≤◌, ◌^◌, ◌++◌, ◌∷◌, [], length, map, slice_get, Some, IfOk, OnOk};
 ghost use Rattle.vtl_cell.specs.Row.{column_of};
 ghost use Rattle.vtl_cell.specs.declared.cell.Cell.TheVariants.{Null};
 ghost use Rattle.vtl_rows.specs.Places.{row_at};
 ghost use Rattle.sql_check_parts.specs.Scopes.{found, placed};
 ghost use Rattle.sql_check_laws.specs.Selects.{IsSourceTyped};
+ghost use Rattle.sql_meaning.specs.Tables.{column_entry};
+ghost use Rattle.sql_from.specs.Columns.{columns_below, line_feed, source_columns};
 ghost use Rattle.sql_from.specs.Held.{rows_held, tables_held};
 ghost use Rattle.sql_from.specs.Joins.{marks_of};
-ghost use Rattle.sql_from.specs.Rows.{combined, picks_at, width_of};
+ghost use Rattle.sql_from.specs.Rows.{combined, picks_at, picks_from, width_of};
 ghost use Rattle.sql_from.specs.Sources.{IsWide, parts_of, scope_held, table_named};
 
 use crate::columns::{ColumnAt, columns_by_name, place_of};
@@ -17,8 +19,9 @@ use sql_eval::Names;
 use sql_tree::{Column, Source};
 use std::alloc::{AllocError, Global};
 use std::marker::Model;
-use vtl_cell::{ByName, Cell, Kind};
-use vtl_rows::{Pick, Table, Tables};
+use vtl_cell::{ByName, Cell, Kind, Txt};
+use vtl_rows::{Column as TableColumn, Pick, Table, Tables};
+use vtl_text::concat;
 
 // A table that is a source, and its columns by name.
 pub(crate) struct SourceTable<'a> {
@@ -75,6 +78,31 @@ fn push_picks(picks: &mut Vec<Pick>, part: usize, count: usize) -> Result<(), Al
 {
     for column in 0..count {
         picks.push(Pick { part, column })?;
+    }
+    Ok(())
+}
+
+fn with_line_feed(alloc: Global, alias: &Txt) -> Result<Txt, AllocError>
+    ensures { IfOk result (λ t. t ≡ alias.now ++ line_feed ∷ []) }
+{
+    concat(alloc, alias.as_str(), "\n")
+}
+
+// Puts the columns of a source behind others, each named by the alias, a line feed and its name.
+fn push_columns(
+    alloc: Global,
+    columns: &mut Vec<TableColumn>,
+    alias: &Txt,
+    own: &[TableColumn],
+) -> Result<(), AllocError>
+    ensures { OnOk result (columns.new.items ≡ columns.old.items ++ columns_below alias.now (map column_entry own.now)) }
+{
+    let above = with_line_feed(alloc, alias)?;
+    for column in own {
+        columns.push(TableColumn {
+            name: concat(alloc, above.as_str(), column.name.as_str())?,
+            kind: column.kind,
+        })?;
     }
     Ok(())
 }
@@ -162,6 +190,37 @@ impl<'a> Sources<'a> {
             marks.push(self.table(i).len())?;
         }
         Ok(marks)
+    }
+
+    // The tables of the sources.
+    pub(crate) fn tables(&self, alloc: Global) -> Result<Vec<&'a Table>, AllocError>
+        ensures { IfOk result (λ v. map (λ t. t.now) v.items ≡ parts_of self.now.sources) }
+    {
+        let mut tables = Vec::with_capacity(alloc, self.len())?;
+        for i in 0..self.len() {
+            tables.push(self.table(i))?;
+        }
+        Ok(tables)
+    }
+
+    // Where the cells of a row stand: the place of a source, and that of a column of its table.
+    pub(crate) fn picks(&self) -> &[Pick]
+        ensures { result.now ≡ picks_from 0 (parts_of self.now.sources) }
+    {
+        self.picks.as_slice()
+    }
+
+    // The columns of the sources, each named by the alias, a line feed and its name.
+    pub(crate) fn columns(&self, alloc: Global) -> Result<Vec<TableColumn>, AllocError>
+        ensures columns { IfOk result (λ v. v.items ≡ source_columns (scope_held self.now.sources)) }
+        ensures some { IfOk result (λ v. length self.now.sources ≤ length v.items) }
+    {
+        let mut columns = Vec::with_capacity(alloc, self.picks.len())?;
+        for i in 0..self.len() {
+            let (alias, source) = self.sources.at(i);
+            push_columns(alloc, &mut columns, alias, source.table.columns())?;
+        }
+        Ok(columns)
     }
 
     // What is known of a column.

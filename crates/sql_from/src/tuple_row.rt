@@ -34,6 +34,17 @@ impl<'a> TupleRow<'a> {
             last,
         }
     }
+
+    /// The row of a whole tuple.
+    pub fn whole(sources: &'a Sources<'a>, tuple: &'a [usize]) -> TupleRow<'a>
+        requires some { 0 < length tuple.now }
+        requires whole { length tuple.now ≡ length sources.now.sources }
+        ensures sources { result.sources.now ≡ sources.now }
+        ensures tuple { result.front.now ++ result.last ∷ [] ≡ tuple.now }
+    {
+        let last = tuple.len() - 1;
+        TupleRow::of(sources, &tuple[..last], tuple[last])
+    }
 }
 
 // An aggregate over no rows.

@@ -1,5 +1,6 @@
 // Tuples of row numbers.
 ghost use Rattle.std.specs.Prelude.{◌≡◌, ◌<◌, ◌≤◌, ◌+◌, ◌^◌, ◌++◌, [], ◌∷◌, length, take, drop, slice_index_or, OnOk, OnErr};
+ghost use Rattle.std.specs.List.{AllByRecursion};
 ghost use Rattle.vtl_rows.specs.Gathered.{pieces};
 
 use std::alloc::{AllocError, Global};
@@ -69,13 +70,16 @@ impl Tuples {
         requires { i < length self.now.tuples }
         ensures tuple { result.now ≡ slice_index_or self.now.tuples i result.now }
         ensures width { length result.now ≡ self.now.width }
+        ensures some { 0 < self.now.width }
     {
         part(self.numbers.as_slice(), i * self.width, self.width)
     }
 
     /// The numbers of all tuples, one tuple after the other.
     pub fn numbers(&self) -> &[usize]
-        ensures { pieces self.now.width result.now ≡ self.now.tuples }
+        ensures numbers { pieces self.now.width result.now ≡ self.now.tuples }
+        ensures wide { AllByRecursion (λ x. length x ≡ self.now.width) self.now.tuples }
+        ensures some { 0 < self.now.width }
     {
         self.numbers.as_slice()
     }

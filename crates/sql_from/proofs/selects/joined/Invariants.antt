@@ -1,0 +1,12 @@
+use Rattle.std.proofs.Common.{◌≡◌, drop, map}
+use Rattle.sql_tree.specs.View.{join_tree, select_tree}
+use Rattle.sql_from.specs.Held.{base_held}
+use Rattle.sql_from.specs.Seen.{seen_of}
+use Rattle.sql_from.proofs.Standing.{Left}
+use Rattle.sql_from.proofs.selects.joined.Given as goal
+
+abbrev pub invariant-loop-join : goal.invariant-loop-join
+invariant-loop-join l = record {
+  held : l.so_far.sources.held ≡ l.tables;
+  left : Left (base_held l.p l.tables) (select_tree l.select) (map join_tree (drop l.join-index l.select.joins)) l.so_far.sources l.so_far.walked.rows (seen_of l.so_far.walked.seen);
+}

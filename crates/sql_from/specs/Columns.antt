@@ -1,0 +1,17 @@
+-- The columns of the table of FROM and WHERE.
+use Rattle.std.specs.Prelude.{ℕ, List, ◌∷◌, ◌++◌, map}
+use Rattle.std.specs.List.{flat_map}
+use Rattle.vtl_rows.specs.declared.column.Column.{Column}
+use Rattle.sql_tree.specs.Trees.{Text}
+use Rattle.sql_check_parts.specs.Scopes.{Columns, Scope}
+
+abbrev pub line_feed : ℕ
+line_feed = 10
+
+-- the columns of a source, each named by the alias, a line feed and its name
+abbrev pub columns_below : Text → Columns → List Column
+columns_below alias columns = map (λ e. record { name = alias ++ line_feed ∷ e.0; kind = e.1 }) columns
+
+-- those of all sources, in order
+abbrev pub source_columns : Scope → List Column
+source_columns scope = flat_map (λ s. columns_below s.0 s.1) scope

@@ -1,0 +1,66 @@
+// Rows of FROM as tuples of row numbers.
+ghost use Rattle.std.specs.Prelude.{◌≡◌, ◌<◌, ◌∷◌, ◌++◌, [], length, slice_index_or, IfOk};
+ghost use Rattle.sql_from.specs.Columns.{source_columns};
+ghost use Rattle.sql_from.specs.Rows.{combined};
+ghost use Rattle.sql_from.specs.Sources.{parts_of, scope_held};
+ghost use Rattle.sql_from.specs.Standing.{rows_for};
+
+use crate::{Sources, TupleRow, Tuples};
+use std::alloc::{AllocError, Global};
+use vtl_rows::{Table, gather_beside};
+
+/// Rows of FROM: the sources of the select, and for each row a tuple with the number of a row of each source.
+pub struct TupleRows<'a> {
+    /// The sources.
+    pub sources: Sources<'a>,
+    /// The tuples, with a number for each source.
+    pub tuples: Tuples,
+    ghost is_whole: { tuples.width ≡ length sources.sources },
+}
+
+// Written out, so that a proof above sees one call and not the drop of each part.
+impl Drop for TupleRows<'_> {
+    fn drop(self) {
+        let TupleRows {
+            sources: _sources,
+            tuples: _tuples,
+        } = self;
+    }
+}
+
+impl<'a> TupleRows<'a> {
+    /// How many rows there are.
+    pub fn len(&self) -> usize
+        ensures tuples { result ≡ length self.now.tuples.tuples }
+        ensures rows { result ≡ length (rows_for self.now.sources self.now.tuples) }
+    {
+        self.tuples.len()
+    }
+
+    /// The row at a place.
+    pub fn row(&self, i: usize) -> TupleRow<'_>
+        requires { i < length self.now.tuples.tuples }
+        ensures sources { result.sources.now ≡ self.now.sources }
+        ensures tuple { result.front.now ++ result.last ∷ [] ≡ slice_index_or self.now.tuples.tuples i [] }
+        ensures row { combined (parts_of result.sources.now.sources) (result.front.now ++ result.last ∷ []) ≡ slice_index_or (rows_for self.now.sources self.now.tuples) i [] }
+    {
+        TupleRow::whole(&self.sources, self.tuples.tuple(i))
+    }
+
+    /// A table of these rows: the columns of the sources in order, each named by the alias, a line feed and its name.
+    /// Each cell is copied once, texts are shared. It fails only if memory runs out.
+    pub fn table(&self, alloc: Global) -> Result<Table, AllocError>
+        ensures columns { IfOk result (λ t. t.columns ≡ source_columns (scope_held self.now.sources.sources)) }
+        ensures rows { IfOk result (λ t. t.rows ≡ rows_for self.now.sources self.now.tuples) }
+    {
+        let tables = self.sources.tables(alloc)?;
+        let columns = self.sources.columns(alloc)?;
+        gather_beside(
+            alloc,
+            &tables,
+            self.tuples.numbers(),
+            self.sources.picks(),
+            columns,
+        )
+    }
+}
