@@ -1,6 +1,6 @@
-pub mod AmountLemmas
+pub mod FarLemmas
 pub mod FirstLemmas
 pub mod KnownLemmas
-pub mod MeanLemmas
 pub mod MiddleLemmas
 pub mod RangeLemmas
+pub mod TotalLemmas

@@ -6,9 +6,9 @@ use Rattle.vtl_agg.specs.declared.state.State.TheVariants as s
 
 abbrev pub known : State → Known
 known (s.Count n) = counted n
-known (s.Total t) = totalled t
+known (s.Totals t) = totalled t
 known (s.First x) = first x
-known (s.Amounts v) = listed v.items
+known (s.Units v) = listed v.items
 
 -- a count has room for one more
 abbrev pub IsRoomy : Known → Type 0

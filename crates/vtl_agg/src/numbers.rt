@@ -1,7 +1,7 @@
 // Numbers from totals and quotients of any size.
-ghost use Rattle.std.specs.Prelude.{◌≡◌, ◌+◌, ◌*◌, ◌^◌, ◌<◌, ◌≤◌, ◌+ℤ◌, ◌*ℤ◌, cond, length, neg_ℤ, pos, unsigned_abs};
-ghost use Rattle.vtl_agg.specs.Added.{factor_of, with_sign};
-ghost use Rattle.vtl_cell.specs.Groups.{at};
+ghost use Rattle.std.specs.Prelude.{◌≡◌, ◌^◌, ◌<◌, ◌≤◌, ◌+ℤ◌, ◌*ℤ◌, pos, unsigned_abs};
+ghost use Rattle.vtl_agg.specs.Added.{with_sign};
+ghost use Rattle.vtl_cell.specs.Groups.{units_of};
 ghost use Rattle.vtl_cell.specs.ScalarArithmetic.{number};
 ghost use Rattle.vtl_decimal.specs.Range.{fit_number};
 ghost use Rattle.vtl_decimal.specs.Rounding.{rounds_up, rounded_size, rounded_quotient};
@@ -68,43 +68,40 @@ pub(crate) fn quotient(rounding: Rounding, dividend: i128, divisor: u64) -> Resu
     )
 }
 
-// How many units one of an amount is: an integer is made a number.
+// How many units one is.
 #[tactic(auto, using(vtl_decimal::proofs::PowerLemmas::power_of_ten_fits))]
-pub(crate) fn factor(p: &Profile, is_whole: bool) -> i64
-    ensures value { result ≡ factor_of p.now.scale is_whole }
+pub(crate) fn unit(p: &Profile) -> i64
+    ensures value { result ≡ pos (10 ^ p.now.scale) }
     ensures bound { unsigned_abs result ≤ 10 ^ 9 }
 {
-    if is_whole {
-        10_u64.pow(u32::from(p.scale())) as i64
-    } else {
-        1
-    }
+    10_u64.pow(u32::from(p.scale())) as i64
 }
 
 // The product of an amount and a factor.
 fn product(amount: i64, factor: i64) -> i128
     requires { unsigned_abs factor ≤ 10 ^ 9 }
-    ensures value { result ≡ amount *ℤ factor }
-    ensures bound { unsigned_abs result ≤ 2 ^ 63 * 10 ^ 9 }
+    ensures { result ≡ amount *ℤ factor }
 {
     i128::from(amount) * i128::from(factor)
 }
 
-// An amount in units.
-pub(crate) fn units_at(amounts: &[i64], place: usize, factor: i64) -> i128
-    requires place { place < length amounts.now }
-    requires factor { unsigned_abs factor ≤ 10 ^ 9 }
-    ensures value { result ≡ at amounts.now place *ℤ factor }
-    ensures bound { unsigned_abs result ≤ 2 ^ 63 * 10 ^ 9 }
+// A value in units, an integer standing for the equal number; other values count as zero.
+pub(crate) fn units(c: &Cell, p: &Profile) -> i128
+    ensures { result ≡ units_of p.now.scale c.now }
 {
-    product(amounts[place], factor)
+    match c {
+        Cell::Int(n) => product(*n, unit(p)),
+        Cell::Num(k) => i128::from(k.k()),
+        _ => 0,
+    }
 }
 
 // Half of a sum, rounded once.
 pub(crate) fn half_sum(rounding: Rounding, lower: i128, upper: i128) -> Result<Cell, Fault>
-    requires lower { unsigned_abs lower ≤ 2 ^ 63 * 10 ^ 9 }
-    requires upper { unsigned_abs upper ≤ 2 ^ 63 * 10 ^ 9 }
     ensures { result ≡ number (fit_number (rounded_quotient rounding (lower +ℤ upper) (pos 2))) }
 {
-    Ok(Cell::Num(quotient(rounding, lower + upper, 2)?))
+    match lower.checked_add(upper) {
+        Some(sum) => Ok(Cell::Num(quotient(rounding, sum, 2)?)),
+        None => Err(Fault::Range),
+    }
 }

@@ -1,12 +1,13 @@
 // What is kept of the cells.
-ghost use Rattle.std.specs.Prelude.{◌≡◌, ◌^◌, ◌<◌, ◌≤◌, ◌*ℤ◌, [], true, IsOk, length, map, pos, unsigned_abs, OnOk, OnErr};
-ghost use Rattle.vtl_agg.specs.Added.{Known, known_of, known_with, amount_of, is_before, median_value};
+ghost use Rattle.std.specs.Prelude.{◌≡◌, ◌<◌, [], true, IsOk, length, pos, OnOk, OnErr};
+ghost use Rattle.vtl_agg.specs.Added.{known_of, known_with, is_before, median_value};
 ghost use Rattle.vtl_agg.specs.States.{known, IsRoomy, is_small};
 ghost use Rattle.vtl_cell.specs.Groups.{middle_of};
 ghost use Rattle.vtl_cell.specs.ScalarArithmetic.{integer, number};
 ghost use Rattle.vtl_decimal.specs.Range.{fit_integer, fit_number};
+ghost use Rattle.vtl_decimal.specs.Settings.{Settings};
 
-use crate::numbers::{factor, half_sum, units_at};
+use crate::numbers::{half_sum, units};
 use crate::total::Total;
 use std::alloc::{AllocError, Global};
 use vtl_cell::{AggKind, Cell, clone_cell, compare};
@@ -15,31 +16,20 @@ use vtl_decimal::{Fault, Profile, whole};
 #[derive(Drop)]
 pub(crate) enum State {
     Count(u64),
-    Total(Total),
+    Totals(Total),
     First(Cell),
-    Amounts(Vec<i64>),
+    Units(Vec<i128>),
 }
 
 // Nothing yet.
 pub(crate) fn nothing(alloc: Global, kind: AggKind) -> State
-    ensures { known result ≡ known_of kind [] }
+    ensures { (p : Settings) → known result ≡ known_of p kind [] }
 {
     match kind {
-        AggKind::Sum | AggKind::Avg => State::Total(Total::new()),
+        AggKind::Sum | AggKind::Avg => State::Totals(Total::new()),
         AggKind::Count => State::Count(0),
         AggKind::Min | AggKind::Max => State::First(Cell::Null),
-        AggKind::Median => State::Amounts(Vec::new(alloc)),
-    }
-}
-
-// The integer, or the units of the number.
-fn amount(c: &Cell) -> i64
-    ensures { result ≡ amount_of c.now }
-{
-    match c {
-        Cell::Int(n) => *n,
-        Cell::Num(k) => k.k(),
-        _ => 0,
+        AggKind::Median => State::Units(Vec::new(alloc)),
     }
 }
 
@@ -55,47 +45,49 @@ fn is_before(kind: AggKind, c: &Cell, first: &Cell) -> bool
 }
 
 // One more value.
-pub(crate) fn add_value(state: &mut State, kind: AggKind, c: &Cell) -> Result<(), AllocError>
+pub(crate) fn add_value(
+    state: &mut State,
+    kind: AggKind,
+    c: &Cell,
+    p: &Profile,
+) -> Result<(), AllocError>
     requires { IsRoomy (known state.old) }
-    ensures added { OnOk result (known state.new ≡ known_with kind (known state.old) c.now) }
+    ensures added { OnOk result (known state.new ≡ known_with p.now kind (known state.old) c.now) }
     ensures err { OnErr result (known state.new ≡ known state.old) }
     ensures sure { is_small (known state.old) ≡ true → IsOk result }
 {
     match state {
         State::Count(count) => *count += 1,
-        State::Total(total) => total.add(amount(c)),
+        State::Totals(totals) => totals.add(c),
         State::First(first) => {
             if is_before(kind, c, first) {
                 *first = clone_cell(c)?;
             }
         }
-        State::Amounts(amounts) => amounts.push(amount(c))?,
+        State::Units(all) => all.push(units(c, p))?,
     }
     Ok(())
 }
 
-// The middle of amounts in order.
-fn middle(amounts: &[i64], p: &Profile, factor: i64) -> Result<Cell, Fault>
-    requires some { 0 < length amounts.now }
-    requires bound { unsigned_abs factor ≤ 10 ^ 9 }
-    ensures { result ≡ number (fit_number (middle_of p.now (map (λ k. k *ℤ factor) amounts.now))) }
+// The middle of numbers in order, in units.
+fn middle(units: &[i128], p: &Profile) -> Result<Cell, Fault>
+    requires { 0 < length units.now }
+    ensures { result ≡ number (fit_number (middle_of p.now units.now)) }
 {
-    let count = amounts.len();
-    let lower = units_at(amounts, (count - 1) / 2, factor);
-    let upper = units_at(amounts, count / 2, factor);
-    half_sum(p.rounding(), lower, upper)
+    let count = units.len();
+    half_sum(p.rounding(), units[(count - 1) / 2], units[count / 2])
 }
 
-// The median of amounts, null where there is none.
-pub(crate) fn median(amounts: Vec<i64>, p: &Profile, is_whole: bool) -> Result<Cell, Fault>
-    ensures { result ≡ median_value p.now is_whole amounts.items }
+// The median of numbers in units, null where there is none.
+pub(crate) fn median(units: Vec<i128>, p: &Profile) -> Result<Cell, Fault>
+    ensures { result ≡ median_value p.now units.items }
 {
-    let mut amounts = amounts;
-    if amounts.is_empty() {
+    let mut units = units;
+    if units.is_empty() {
         return Ok(Cell::Null);
     }
-    amounts.sort_unstable();
-    middle(&amounts, p, factor(p, is_whole))
+    units.sort_unstable();
+    middle(&units, p)
 }
 
 // How many values there are.

@@ -1,0 +1,5 @@
+pub mod Grouped
+pub mod Items
+pub mod Kept
+pub mod Resolved
+pub mod Seen

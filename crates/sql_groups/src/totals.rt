@@ -1,0 +1,83 @@
+// Aggregates of an expression over rows.
+ghost use Rattle.std.specs.Prelude.{◌≡◌, ◌++◌, ◌∷◌, [], IfErr, IfOk, List};
+ghost use Rattle.vtl_agg.specs.Added.{HasRoom, IsAdded};
+ghost use Rattle.vtl_cell.specs.Groups.{group_value};
+ghost use Rattle.vtl_cell.specs.Outcome.{after, fault_in, join, unless};
+ghost use Rattle.vtl_cell.specs.declared.cell.Cell as cells;
+ghost use Rattle.vtl_scalar.specs.Answers.{Answers};
+ghost use Rattle.sql_meaning.specs.Outcomes.{cell_or_null};
+ghost use Rattle.sql_eval.specs.Placed.{aggregate_value, placed_value};
+ghost use Rattle.sql_eval.specs.View.{placed_of};
+ghost use Rattle.sql_groups.specs.Grouped.{AreWithin, rows_at};
+ghost use Rattle.sql_groups.specs.Kept.{rows_of, tables_of};
+ghost use Rattle.sql_groups.specs.Seen.{seen_of};
+
+use crate::KeptRows;
+use crate::seen::Seen;
+use sql_eval::{Cells, Resolved, value_at};
+use std::alloc::Global;
+use vtl_agg::Acc;
+use vtl_cell::{AggKind, Cell, Profile};
+use vtl_scalar::ScalarErr;
+
+// Adds the value that an expression has at a row, or null where it has a fault, which is recorded.
+fn add_value<R: Cells>(
+    alloc: Global,
+    acc: &mut Acc,
+    seen: Seen,
+    operand: &Resolved,
+    at: &R,
+    p: &Profile,
+) -> Result<Seen, ScalarErr>
+    requires { HasRoom acc.old }
+    ensures settings { acc.new.settings ≡ acc.old.settings }
+    ensures kind { acc.new.kind ≡ acc.old.kind }
+    ensures added { IfOk result (λ _. (xs : List cells.Cell) → IsAdded acc.old xs → IsAdded acc.new (xs ++ cell_or_null (placed_value p.now (R.tables at.now) (placed_of operand.now) (R.cells at.now) (R.group at.now)) ∷ [])) }
+    ensures seen { IfOk result (λ s. seen_of s ≡ join (seen_of seen) (fault_in (placed_value p.now (R.tables at.now) (placed_of operand.now) (R.cells at.now) (R.group at.now)))) }
+    ensures err { IfErr result (λ e. e ≡ ScalarErr.OutOfMemory) }
+{
+    match value_at(alloc, operand, at, p) {
+        Ok(value) => {
+            acc.add(value.cell())?;
+            Ok(seen)
+        }
+        Err(error) => {
+            let with_this = seen.and(error)?;
+            let null = Cell::Null;
+            acc.add(&null)?;
+            Ok(with_this)
+        }
+    }
+}
+
+// The value of the aggregate, unless a fault was seen.
+fn finished(acc: Acc, seen: Seen) -> Result<Cell, ScalarErr>
+    ensures { (xs : List cells.Cell) → IsAdded acc xs → Answers result (after (unless (seen_of seen) xs) (group_value acc.settings acc.kind)) }
+{
+    match seen {
+        Seen::Nothing => Ok(acc.finish()?),
+        Seen::Range => Err(ScalarErr::Range),
+        Seen::DivZero => Err(ScalarErr::DivZero),
+    }
+}
+
+/// An aggregate of the values that an expression has at the rows of these numbers: the worst of their faults, or else
+/// its value or its own fault. It goes over the rows once.
+pub(crate) fn aggregate(
+    alloc: Global,
+    rows: &KeptRows<'_>,
+    numbers: &[usize],
+    function: AggKind,
+    operand: &Resolved,
+    p: &Profile,
+) -> Result<Cell, ScalarErr>
+    requires { AreWithin (rows_of rows.now) numbers.now }
+    ensures { Answers result (aggregate_value p.now (tables_of rows.now) function (placed_of operand.now) (rows_at (rows_of rows.now) numbers.now)) }
+{
+    let mut acc = Acc::new(alloc, function, p);
+    let mut seen = Seen::Nothing;
+    for number in numbers {
+        seen = add_value(alloc, &mut acc, seen, operand, &rows.row(*number), p)?;
+    }
+    finished(acc, seen)
+}
