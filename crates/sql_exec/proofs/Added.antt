@@ -1,5 +1,6 @@
 -- Outcomes that are added one by one.
-use Rattle.std.proofs.Common.{◌≡◌, ℕ, ◌+◌, ◌<◌, ◌≤◌, List, [], ◌∷◌, ◌++◌, map, length, get_or, take, append_assoc, Option, None, Some, Ok, Err, refl, sym, ap, ◌∙◌, subst, arith}
+use Rattle.std.proofs.Common.{◌≡◌, ℕ, ◌+◌, ◌<◌, ◌≤◌, List, [], ◌∷◌, ◌++◌, map, length, get_or, take, append_assoc, Option, None, Some, Ok, Err, Result, refl, sym, ap, ◌∙◌, subst}
+use Rattle.std.specs.Prelude.{OnOk}
 use Rattle.std.specs.List.{flat_map}
 use Rattle.std.proofs.lemmas.Grind.{flat_map-append}
 use Rattle.std.proofs.lemmas.List.{append-nil, map-append, take_all, take_more}
@@ -92,11 +93,30 @@ seen_added view m err.DivZero old now e columns seen = fault_added m DivZero old
 seen_added view m err.Range old now e columns seen = fault_added m Range old now e columns seen
 seen_added view m err.OutOfMemory old now e columns seen = absurd seen
 
--- rows behind others
-pub rows_added : (m : Outcome (List Row)) (rows all : List Row) → after m (λ made. Ok (rows ++ made)) ≡ Ok all → (fault_in m ≡ None) × (all ≡ rows ++ rows_in m)
-rows_added (Ok made) rows all e = let s : rows ++ made ≡ all = cc in (refl, sym s)
-rows_added (Err f) rows all e = cc
+-- ---- rows behind others
 
-pub fault_behind : (m : Outcome (List Row)) (rows : List Row) (f : Fault) → after m (λ made. Ok (rows ++ made)) ≡ Err f → m ≡ Err f
-fault_behind (Ok made) rows f e = cc
-fault_behind (Err g) rows f e = let s : g ≡ f = cc in ap Err s
+-- an outcome whose rows stand behind those that were there
+module _ (m : Outcome (List Row)) (old now : Output) (columns : now.table.columns ≡ old.table.columns) where
+  pub behind_added : fault_seen now ≡ fault_seen old → after m (λ made. Ok (old.table.rows ++ made)) ≡ Ok now.table.rows → Adds m old now
+  behind_added seen e = go m e
+    where
+      go : (n : Outcome (List Row)) → after n (λ made. Ok (old.table.rows ++ made)) ≡ Ok now.table.rows → Adds n old now
+      go (Ok made) h = let is : old.table.rows ++ made ≡ now.table.rows = cc in record { columns = columns; fault = seen ∙ sym (join_none (fault_seen old)); rows = λ none. sym is }
+      go (Err f) h = cc
+
+  -- or its fault
+  pub fault_behind : {A B : Type 0} (view : A → List Row) (r : Result B ScalarErr) (error : ScalarErr) (mid : Output) → fault_seen mid ≡ fault_seen old → AnswersBy view (Err error) (after m (λ made. Ok (old.table.rows ++ made))) → OnOk r (Sees error mid now) → OnOk r (Adds m old now)
+  fault_behind {A} {B} view r error mid same e sees = on_ok r (λ s. go error e s) sees
+    where
+      told : (n : Outcome (List Row)) (f : Fault) → after n (λ made. Ok (old.table.rows ++ made)) ≡ Err f → n ≡ Err f
+      told (Ok made) f h = cc
+      told (Err g) f h = let s : g ≡ f = cc in ap Err s
+
+      go : (x : ScalarErr) → AnswersBy view (Err x) (after m (λ made. Ok (old.table.rows ++ made))) → Sees x mid now → Adds m old now
+      go err.DivZero h seen = fault_added m DivZero old now (told m DivZero h) columns (seen ∙ ap (λ f. join f (Some DivZero)) same)
+      go err.Range h seen = fault_added m Range old now (told m Range h) columns (seen ∙ ap (λ f. join f (Some Range)) same)
+      go err.OutOfMemory h seen = absurd seen
+
+      on_ok : {P Q : Type 0} (x : Result B ScalarErr) → (P → Q) → OnOk x P → OnOk x Q
+      on_ok (Ok y) h p = h p
+      on_ok (Err y) h p = p

@@ -1,8 +1,8 @@
 -- Rows of items with places, at the rows of FROM of some sources.
-use Rattle.std.proofs.Common.{◌≡◌, ℕ, ◌<◌, List, [], ◌∷◌, ◌++◌, Bool, true, false, map, length, get_or, Option, None, Ok, sym, ap, subst, ◌∙◌}
+use Rattle.std.proofs.Common.{◌≡◌, List, [], ◌∷◌, true, false, map, None, Ok, sym, ap, ◌∙◌}
 use Rattle.std.specs.Prelude.{zip}
 use Rattle.std.specs.List.{list_any}
-use Rattle.vtl_cell.specs.Outcome.{Outcome, join, unless}
+use Rattle.vtl_cell.specs.Outcome.{join, unless}
 use Rattle.vtl_cell.specs.Row.{Row}
 use Rattle.vtl_cell.specs.Settings.{Settings}
 use Rattle.vtl_cell.specs.declared.kind.Kind.{Kind}
@@ -15,8 +15,7 @@ use Rattle.sql_meaning.specs.Selects.{Wanted, plain_rows}
 use Rattle.sql_eval.specs.Resolves.{sight}
 use Rattle.sql_eval.specs.declared.names.Level.TheVariants as levels
 use Rattle.sql_from.specs.Held.{rows_held, tables_held}
-use Rattle.sql_from.specs.Rows.{combined}
-use Rattle.sql_from.specs.Sources.{Sourced, parts_of, scope_held}
+use Rattle.sql_from.specs.Sources.{Sourced, scope_held}
 use Rattle.sql_from.specs.Standing.{sight_of}
 use Rattle.sql_exec.specs.Items.{HaveValuesOf, item_at_row, made_at_row}
 use Rattle.sql_exec.specs.Parts.{MakesKinds}
@@ -31,14 +30,8 @@ module _ (p : Settings) (s : Sourced) (items : List ItemTree) (kinds : List Kind
   same : map (made_at_row p (rows_held s.held)) lent ≡ map (item_at_row (sight_of p s)) wanted
   same = ap (map (made_at_row p (rows_held s.held))) are ∙ have (rows_held s.held)
 
-  -- the row at a tuple over the same sources
-  module _ (t : Sourced) (is : t ≡ s) (tuple : List ℕ) (r : Row) (cells : combined (parts_of s.sources) tuple ≡ r) where
-    abbrev there : Row
-    there = combined (parts_of t.sources) tuple
-
-    at_row : there ≡ r
-    at_row = ap (λ (z : Sourced). combined (parts_of z.sources) tuple) is ∙ cells
-
+  -- the row of a tuple over the same sources
+  module _ (t : Sourced) (is : t ≡ s) (there r : Row) (at_row : there ≡ r) where
     fault_is : row_fault (made_at_row p (rows_held t.held)) lent there ≡ row_fault (item_at_row (sight_of p s)) wanted r
     fault_is = (λ j. row_fault (made_at_row p (rows_held (is j).held)) lent (at_row j)) ∙ row_fault_same (made_at_row p (rows_held s.held)) lent (item_at_row (sight_of p s)) wanted same r
 

@@ -1,16 +1,15 @@
 -- The rows of a select that is not grouped, where no item is a window.
-use Rattle.std.proofs.Common.{◌≡◌, ℕ, List, [], ◌∷◌, ◌++◌, Bool, true, false, ◌||◌, map, length, Option, None, Some, Ok, Err, refl, sym, ap, ◌∙◌, subst}
+use Rattle.std.proofs.Common.{◌≡◌, ℕ, List, [], ◌∷◌, ◌++◌, false, map, Option, None, refl, sym, ap, ◌∙◌}
 use Rattle.std.specs.Prelude.{zip}
 use Rattle.std.specs.List.{flat_map, list_any}
 use Rattle.vtl_cell.specs.Outcome.{Fault, Outcome, fault_in, faults_by, join, unless}
 use Rattle.vtl_cell.specs.Row.{Row}
 use Rattle.vtl_cell.specs.declared.cell.Cell.{Cell}
 use Rattle.vtl_cell.specs.declared.kind.Kind.{Kind}
-use Rattle.vtl_rows.specs.Tables.{fits_kinds}
 use Rattle.sql_tree.specs.Trees as tree
 use Rattle.sql_tree.specs.Trees.{ItemTree, ValueTree}
 use Rattle.sql_meaning.specs.Outcomes.{cell_or_null, row_at, row_fault}
-use Rattle.sql_meaning.specs.Selects.{Wanted, appended, as_wanted, item_value, plain_rows, row_value, rows_in}
+use Rattle.sql_meaning.specs.Selects.{appended, as_wanted, item_value, plain_rows, row_value, rows_in}
 use Rattle.sql_meaning.specs.Values.{View}
 use Rattle.sql_meaning.specs.Windows.{told_apart}
 use Rattle.sql_exec.specs.Items.{each_row, item_at_row, value_at_row}

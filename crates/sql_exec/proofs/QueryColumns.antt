@@ -1,19 +1,14 @@
 -- The columns of a query, select by select.
-use Rattle.std.proofs.Common.{◌≡◌, ℕ, suc, ◌+◌, ◌<◌, ◌≤◌, List, [], ◌∷◌, ◌++◌, map, length, get_or, take, drop, refl, sym, ap, subst, ◌∙◌, add-one}
-use Rattle.std.specs.Prelude.{fold, zip}
-use Rattle.std.specs.List.{AllByRecursion}
-use Rattle.std.proofs.lemmas.List.{drop_all, drop_more, map-append}
-use Rattle.vtl_cell.specs.Settings.{Settings}
+use Rattle.std.proofs.Common.{◌≡◌, ℕ, ◌+◌, ◌<◌, List, [], ◌∷◌, ◌++◌, map, length, get_or, take, drop, sym, ap, ◌∙◌, add-one}
+use Rattle.std.specs.Prelude.{zip}
+use Rattle.std.proofs.lemmas.List.{drop_more, map-append}
 use Rattle.vtl_cell.specs.declared.kind.Kind.{Kind}
 use Rattle.vtl_rows.specs.declared.column.Column.{Column}
-use Rattle.sql_tree.specs.Trees.{JoinTree, SelectTree, Text}
-use Rattle.sql_tree.specs.View.{join_tree, select_tree}
+use Rattle.sql_tree.specs.Trees.{Text}
 use Rattle.sql_tree.specs.declared.parts.Source.{Source}
 use Rattle.sql_tree.specs.declared.statements.Item.{Item}
-use Rattle.sql_tree.specs.declared.statements.Join.{Join}
-use Rattle.sql_check_parts.specs.Queries.{join_source, joined_scope}
-use Rattle.sql_check_parts.specs.Scopes.{Scope, Tables, with_source}
-use Rattle.sql_check_laws.specs.Selects.{AreJoinsTyped, IsSourceTyped}
+use Rattle.sql_check_parts.specs.Scopes.{with_source}
+use Rattle.sql_check_laws.specs.Selects.{IsSourceTyped}
 use Rattle.sql_meaning.specs.Tables.{column_entry}
 use Rattle.sql_from.specs.Held.{tables_held}
 use Rattle.sql_from.specs.Sources.{Sourced, scope_held, table_named}

@@ -1,17 +1,13 @@
 -- Items with places, beside those with names.
-use Rattle.std.proofs.Common.{◌≡◌, ℕ, suc, ◌+◌, ◌<◌, List, [], ◌∷◌, ◌++◌, Bool, false, ◌||◌, map, length, get_or, take, refl, sym, ap, ◌∙◌, add-one}
+use Rattle.std.proofs.Common.{◌≡◌, ℕ, ◌+◌, ◌<◌, List, [], ◌∷◌, ◌++◌, Bool, false, ◌||◌, map, length, get_or, take, refl, sym, ap, ◌∙◌, add-one}
 use Rattle.std.specs.List.{list_any}
 use Rattle.std.specs.Prelude.{zip}
 use Rattle.std.proofs.lemmas.List.{map-append}
 use Rattle.vtl_cell.specs.Conversion.{as_kind}
-use Rattle.vtl_cell.specs.Outcome.{Outcome, after}
-use Rattle.vtl_cell.specs.Row.{Row}
-use Rattle.vtl_cell.specs.declared.cell.Cell.{Cell}
+use Rattle.vtl_cell.specs.Outcome.{after}
 use Rattle.vtl_cell.specs.declared.kind.Kind.{Kind}
-use Rattle.sql_tree.specs.Trees.{Text}
 use Rattle.sql_tree.specs.View.{item_tree, value_tree}
 use Rattle.sql_tree.specs.declared.statements.Item.{Item}
-use Rattle.sql_meaning.specs.Selects.{Wanted}
 use Rattle.sql_eval.specs.Resolves.{Sight, view_over}
 use Rattle.sql_eval.specs.declared.kinded.Kinded.{Kinded}
 use Rattle.sql_exec.specs.Items.{HaveValuesOf, ResolvesValue, item_at_row, made_at_row}

@@ -1,5 +1,5 @@
 -- Whole queries: their columns, and what their table tells.
-use Rattle.std.proofs.Common.{◌≡◌, ℕ, zero, suc, ◌+◌, ◌<◌, ◌≤◌, List, [], ◌∷◌, ◌++◌, map, length, get_or, Option, None, Some, Ok, Err, Result, refl, sym, ap, subst, ◌∙◌, arith}
+use Rattle.std.proofs.Common.{◌≡◌, suc, ◌<◌, List, [], ◌∷◌, ◌++◌, map, length, get_or, Option, None, Some, Ok, Err, Result, refl, sym, ap, subst, ◌∙◌, arith}
 use Rattle.std.specs.Prelude.{IfOk, zip}
 use Rattle.std.proofs.lemmas.List.{length-map}
 use Rattle.vtl_lists.proofs.Perms.{Perm-refl}
@@ -13,7 +13,7 @@ use Rattle.vtl_rows.specs.declared.column.Column.{Column}
 use Rattle.vtl_scalar.specs.declared.error.ScalarErr.{ScalarErr}
 use Rattle.sql_tree.specs.Formed.{IsQuery}
 use Rattle.sql_tree.specs.Grammar.{most_levels}
-use Rattle.sql_tree.specs.Trees.{ItemTree, QueryTree, SelectTree, Text}
+use Rattle.sql_tree.specs.Trees.{QueryTree, Text}
 use Rattle.sql_tree.specs.View.{item_tree, select_tree}
 use Rattle.sql_tree.specs.declared.statements.Item.{Item}
 use Rattle.sql_tree.specs.declared.statements.Select.{Select}

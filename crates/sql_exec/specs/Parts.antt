@@ -1,16 +1,15 @@
 -- The selects of a query.
-use Rattle.std.specs.Prelude.{◌≡◌, false, List, Ok, zip, length}
+use Rattle.std.specs.Prelude.{◌≡◌, false, List, Ok}
 use Rattle.vtl_cell.specs.Outcome.{Outcome}
 use Rattle.vtl_cell.specs.Row.{Row}
 use Rattle.vtl_cell.specs.Settings.{Settings}
 use Rattle.vtl_cell.specs.declared.kind.Kind.{Kind}
 use Rattle.sql_tree.specs.Trees.{SelectTree}
-use Rattle.sql_check_parts.specs.Queries.{scope_of}
+use Rattle.sql_check_parts.specs.Queries.{kinds_of}
 use Rattle.sql_check_parts.specs.Scopes.{Scope, Tables, row_of}
 use Rattle.sql_check_laws.specs.Selects.{IsSelectTyped}
-use Rattle.sql_meaning.specs.Selects.{second_phase}
 use Rattle.sql_meaning.specs.Tables.{Base, RowsFit}
-use Rattle.sql_meaning.specs.Values.{at_rows}
+use Rattle.sql_groups.specs.Resolved.{AreLifted}
 use Rattle.sql_exec.specs.Plain.{select_has_window}
 
 -- a typed select without windows
@@ -22,8 +21,7 @@ pub record IsPlain (p : Settings) (tables : Tables) (s : SelectTree) : Type 0 wh
 abbrev pub MakesKinds : Scope → List Kind → (List Row → Outcome (List Row)) → Type 0
 MakesKinds scope kinds made = (rows out : List Row) → RowsFit (row_of scope) rows → made rows ≡ Ok out → RowsFit kinds out
 
--- a select of a query whose columns have these kinds
+-- a select of a query whose columns have these kinds, to which those of its items are lifted
 pub record IsPart (b : Base) (kinds : List Kind) (s : SelectTree) : Type 0 where
   pub known : IsPlain b.settings b.tables s
-  pub many : length kinds ≡ length s.items
-  pub fitting : MakesKinds (scope_of b.tables s) kinds (second_phase (at_rows b (scope_of b.tables s)) (zip s.items kinds) s)
+  pub lifted : AreLifted kinds (kinds_of b.tables s)

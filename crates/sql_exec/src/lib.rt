@@ -8,10 +8,10 @@
 #![tactic(auto)]
 
 mod columns;
-mod groups;
 mod items;
 mod output;
 mod queries;
 mod selects;
 
-pub use queries::{ExecErr, exec};
+pub use queries::{exec, source_rows};
+pub use sql_from::ExecErr;

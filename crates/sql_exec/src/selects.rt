@@ -1,6 +1,6 @@
 // Selects: FROM and WHERE first, and then items or groups.
 ghost use Rattle.std.specs.List.{AllByRecursion, list_any};
-ghost use Rattle.std.specs.Prelude.{◌≡◌, ◌<◌, ◌++◌, ◌∷◌, [], false, length, map, slice_index_or, zip, IfErr, OnOk};
+ghost use Rattle.std.specs.Prelude.{◌≡◌, false, length, map, zip, IfErr, OnOk};
 ghost use Rattle.vtl_rows.specs.Tables.{column_kinds};
 ghost use Rattle.sql_tree.specs.View.{item_tree, select_tree};
 ghost use Rattle.sql_check_parts.specs.Queries.{scope_of};
@@ -8,34 +8,22 @@ ghost use Rattle.sql_check_parts.specs.Scopes.{row_of};
 ghost use Rattle.sql_meaning.specs.Selects.{appended, plain_rows, second_phase, select_value};
 ghost use Rattle.sql_meaning.specs.Tables.{RowsFit, TablesFit};
 ghost use Rattle.sql_from.specs.Held.{base_held, tables_held};
-ghost use Rattle.sql_from.specs.Rows.{combined};
-ghost use Rattle.sql_from.specs.Sources.{parts_of, scope_held};
+ghost use Rattle.sql_from.specs.Sources.{scope_held};
 ghost use Rattle.sql_from.specs.Standing.{rows_for, sight_of};
 ghost use Rattle.sql_exec.specs.Outputs.{Adds};
 ghost use Rattle.sql_exec.specs.Parts.{IsPart, MakesKinds};
 ghost use Rattle.sql_exec.specs.Plain.{is_window_item};
 
-use crate::groups::push_grouped;
 use crate::items::row_items;
 use crate::output::Output;
 use sql_check_queries::is_grouped;
-use sql_from::{TupleRow, TupleRows, source_tuples};
+use sql_from::{TupleRows, source_tuples};
+use sql_groups::{KeptRows, push_grouped};
 use sql_tree::{Item, Select};
 use std::alloc::Global;
 use vtl_cell::{Kind, Profile};
 use vtl_rows::Tables;
 use vtl_scalar::ScalarErr;
-
-// A row of FROM by its number.
-fn row_at<'r>(rows: &'r TupleRows<'r>, number: usize) -> TupleRow<'r>
-    requires { number < length rows.now.tuples.tuples }
-    ensures sources { result.sources.now ≡ rows.now.sources }
-    ensures cells { combined (parts_of rows.now.sources.sources) (result.front.now ++ result.last ∷ []) ≡ slice_index_or (rows_for rows.now.sources rows.now.tuples) number [] }
-{
-    let tuple = rows.tuples.tuple(number);
-    let front = rows.tuples.width() - 1;
-    TupleRow::of(&rows.sources, &tuple[..front], tuple[front])
-}
 
 // Adds a row of the items for each row of FROM.
 fn add_rows(
@@ -55,9 +43,9 @@ fn add_rows(
     ensures err { IfErr result (λ e. e ≡ ScalarErr.OutOfMemory) }
 {
     let resolved = row_items(alloc, p, &rows.sources, items, kinds)?;
-    out.table.reserve_rows(rows.tuples.len())?;
-    for number in 0..rows.tuples.len() {
-        out.add_row(alloc, &resolved, &row_at(&*rows, number), p)?;
+    out.table.reserve_rows(rows.len())?;
+    for number in 0..rows.len() {
+        out.add_row(alloc, &resolved, &rows.row(number), p)?;
     }
     Ok(())
 }
@@ -81,7 +69,8 @@ fn add_phase(
     if !is_grouped(select) {
         return add_rows(alloc, out, select.items.as_slice(), rows, kinds, p);
     }
-    match push_grouped(alloc, &mut out.table, select, rows, kinds, p) {
+    let rows = KeptRows::of(&rows.sources, &rows.tuples);
+    match push_grouped(alloc, &mut out.table, select, kinds, &rows, p) {
         Ok(()) => Ok(()),
         Err(error) => out.see(error),
     }

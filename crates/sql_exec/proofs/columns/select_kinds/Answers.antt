@@ -1,5 +1,4 @@
 use Rattle.std.proofs.Common.{◌≡◌, ◌∙◌, ◌+◌, [], ◌∷◌, ◌++◌, List, ap, sym, subst, map, drop}
-use Rattle.sql_tree.specs.Trees.{JoinTree}
 use Rattle.sql_tree.specs.View.{join_tree, select_tree}
 use Rattle.sql_tree.specs.declared.statements.Join.{Join}
 use Rattle.sql_check_parts.specs.Queries.{first_scope, join_source, joined_scope}

@@ -1,5 +1,4 @@
-use Rattle.std.proofs.Common.{◌≡◌, ◌++◌, ◌∷◌, []}
-use Rattle.vtl_cell.specs.Outcome.{fault_in, join}
+use Rattle.vtl_cell.specs.Outcome.{fault_in}
 use Rattle.sql_meaning.specs.Outcomes.{cell_or_null}
 use Rattle.sql_from.specs.Seen.{seen_of}
 use Rattle.sql_exec.specs.Items.{made_at_row}

@@ -1,13 +1,9 @@
-use Rattle.std.proofs.Common.{◌≡◌, ◌<◌, length, map, get_or, ap, subst, arith}
+use Rattle.std.proofs.Common.{◌<◌, length, get_or, ap, subst, arith}
 use Rattle.std.proofs.lemmas.List.{get_or_default}
-use Rattle.std.specs.Prelude.{zip}
 use Rattle.sql_tree.specs.View.{item_tree}
 use Rattle.sql_eval.specs.Resolves.{sight}
 use Rattle.sql_eval.specs.declared.names.Level.TheVariants as levels
 use Rattle.sql_exec.specs.Items.{HaveValuesOf}
-use Rattle.sql_exec.specs.Plain.{is_window, is_window_item}
-use Rattle.sql_tree.specs.View.{value_tree}
-use Rattle.sql_tree.specs.declared.statements.Item.{Item}
 use Rattle.sql_exec.proofs.RowItems.{items_more, plain_at}
 use Rattle.sql_exec.proofs.Steps.{zipped_all}
 use Rattle.sql_exec.proofs.items.row_items.Goals as goal

@@ -1,6 +1,5 @@
-use Rattle.std.proofs.Common.{◌≡◌, ◌∷◌, [], map, take}
+use Rattle.std.proofs.Common.{map, take}
 use Rattle.std.specs.Prelude.{zip}
-use Rattle.vtl_cell.specs.Outcome.{unless}
 use Rattle.sql_tree.specs.View.{item_tree}
 use Rattle.sql_meaning.specs.Outcomes.{row_at, row_fault}
 use Rattle.sql_meaning.specs.Selects.{appended}

@@ -9,8 +9,7 @@ use Rattle.sql_meaning.specs.Selects.{second_phase, select_value}
 use Rattle.sql_meaning.specs.Tables.{RowsFit}
 use Rattle.sql_meaning.specs.Values.{at_rows}
 use Rattle.sql_meaning.proofs.SourceKinds.{source_rows_fit}
-use Rattle.sql_from.specs.Held.{base_held, tables_held}
-use Rattle.sql_from.specs.Sources.{scope_held}
+use Rattle.sql_from.specs.Held.{base_held}
 use Rattle.sql_from.specs.Standing.{rows_for, sight_of}
 use Rattle.sql_exec.specs.Outputs.{Adds}
 use Rattle.sql_exec.proofs.selects.add_select.Goals as goal
