@@ -1,5 +1,5 @@
 -- The rows of a grouped select that is typed fit its columns.
-use Rattle.std.proofs.Common.{◌≡◌, List, [], ◌∷◌, map, length, Bool, true, ◌&&◌, Option, Some, None, Ok, Err, refl, ap, ◌∙◌, sym, subst}
+use Rattle.std.proofs.Common.{◌≡◌, List, [], ◌∷◌, map, length, true, ◌&&◌, Some, Ok, Err, refl, ◌∙◌}
 use Rattle.std.specs.Prelude.{IfOk, zip}
 use Rattle.std.specs.List.{AllByRecursion, position_or_len}
 use Rattle.vtl_cell.proofs.Sorts.{AllByRecursion-filter}

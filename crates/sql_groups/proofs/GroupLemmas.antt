@@ -10,14 +10,12 @@ use Rattle.vtl_rows.specs.Places.{row_at}
 use Rattle.vtl_rows.specs.Tables.{Listed, cells_at}
 use Rattle.vtl_index.specs.Groups.{AreLeads, each_once, firsts, is_first, rows_led}
 use Rattle.vtl_index.specs.Leads.{leads_of}
-use Rattle.vtl_index.specs.Leads as leading
 use Rattle.vtl_index.proofs.KeyGroups.{are_leads, keys_once, rows_of_key}
 use Rattle.vtl_index.proofs.Ranges.{all_indexed, none_pass, passing, passing_agree, passing_at, passing_is}
 use Rattle.vtl_tuples.specs.Keys as tuples
 use Rattle.sql_meaning.specs.Groups.{keys_by, rows_with}
 use Rattle.sql_meaning.proofs.Lists.{all_at}
 use Rattle.sql_groups.specs.Grouped.{AreGroups, AreWithin, Grouped, grouped_in, rows_at}
-use Rattle.sql_groups.specs.declared.grouping.Layout.{Layout}
 use Rattle.sql_groups.specs.declared.grouping.Layout.TheVariants.{Keyed}
 use Rattle.sql_groups.proofs.KeyLemmas.{key_stays, keys_stay}
 

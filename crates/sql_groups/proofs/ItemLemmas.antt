@@ -1,15 +1,24 @@
 -- A walk over items and over groups: one more of them.
 use Rattle.std.proofs.Common.{◌≡◌, ℕ, ◌+◌, ◌<◌, List, [], ◌∷◌, ◌++◌, Bool, true, false, cond, length, get_or, map, take, filter, Option, None, Some, Ok, Result, refl, sym, ap, ◌∙◌, append_assoc, subst}
+use Rattle.std.specs.Prelude.{slice_index_or}
 use Rattle.std.proofs.lemmas.List.{map-append, map_more, take_more}
 use Rattle.std.proofs.lemmas.List.Elements.{filter_more}
 use Rattle.vtl_cell.specs.Outcome.{DivZero, Fault, Outcome, Range, after, fault_in, faults_by, join, unless}
 use Rattle.vtl_cell.specs.Row.{Row}
 use Rattle.vtl_cell.specs.declared.cell.Cell.{Cell}
+use Rattle.vtl_rows.specs.Places.{row_at}
 use Rattle.vtl_scalar.specs.Answers.{AnswersBy}
 use Rattle.vtl_scalar.specs.declared.error.ScalarErr.{ScalarErr}
+use Rattle.sql_tree.specs.declared.parts.Column.{Column}
+use Rattle.sql_meaning.specs.Groups.{rows_with}
 use Rattle.sql_meaning.specs.Outcomes.{cell_or_null}
 use Rattle.sql_meaning.proofs.UpToOrder.{faults_by-append, join_assoc, join_none}
-use Rattle.sql_groups.specs.Seen.{answer_of}
+use Rattle.sql_from.specs.Seen.{answer_of}
+use Rattle.sql_from.specs.declared.tuple_rows.TupleRows.{TupleRows}
+use Rattle.sql_groups.specs.Grouped.{AreGroups, Group, Grouped, rows_at}
+use Rattle.sql_groups.specs.Items.{places_of}
+use Rattle.sql_groups.specs.Kept.{rows_of}
+use Rattle.sql_groups.proofs.GroupLemmas.{group_rows}
 
 faults_more : {X : Type 0} (f : X → Option Fault) (xs : List X) (i : ℕ) (x : X) → i < length xs → x ≡ get_or xs i x → faults_by f (take (i + 1) xs) ≡ join (faults_by f (take i xs)) (f x)
 faults_more f xs i x h at =
@@ -51,6 +60,11 @@ pub faults_of_more : (f : Row → Option Fault) (keys : List Row) (i : ℕ) → 
 faults_of_more f keys i h now then n a =
     a ∙ ap (λ s. join s (f (get_or keys i []))) n
     ∙ sym (ap (faults_by f) (take_more keys i [] h) ∙ faults_by-append f (take i keys) (get_or keys i [] ∷ []) ∙ ap (join (faults_by f (take i keys))) (join_none (f (get_or keys i []))))
+
+-- the group of a number, as it is made of its parts
+pub group_is : (x : TupleRows) (columns : List Column) (g : Grouped) (i : ℕ) (z : Group) → AreGroups (places_of x columns) (rows_of x) g → i < length g.keys → z.held ≡ x.sources.held → z.key ≡ row_at g.keys i → z.rows ≡ rows_at (rows_of x) (slice_index_or g.numbers i [])
+    → z ≡ record { held = x.sources.held; key = row_at g.keys i; rows = rows_with (places_of x columns) (rows_of x) (row_at g.keys i) }
+group_is x columns g i z are h held key rows = λ n. record { held = held n; key = key n; rows = (rows ∙ group_rows (places_of x columns) (rows_of x) g are i h) n }
 
 -- ---- the end of a walk
 

@@ -1,6 +1,6 @@
 -- HAVING and items with places have the values of those of a grouped select.
 use Rattle.std.proofs.Common.{◌≡◌, ℕ, ◌+◌, ◌<◌, ◌≤◌, List, [], ◌∷◌, ◌++◌, Bool, true, false, cond, length, get_or, map, take, Option, None, Some, Ok, Err, refl, sym, ap, ◌∙◌, subst, arith}
-use Rattle.std.specs.Prelude.{min, zip}
+use Rattle.std.specs.Prelude.{zip}
 use Rattle.std.specs.List.{filter}
 use Rattle.std.proofs.lemmas.List.{get_or-map, length-map, take_all, take_more}
 use Rattle.std.proofs.lemmas.Slice.Zip.{get_or-zip, length-zip}
@@ -13,16 +13,15 @@ use Rattle.vtl_cell.specs.declared.kind.Kind.{Kind}
 use Rattle.sql_tree.specs.Trees as tree
 use Rattle.sql_tree.specs.Trees.{Exp, ItemTree, Text, ValueTree}
 use Rattle.sql_tree.specs.View.{item_tree}
-use Rattle.sql_tree.specs.declared.parts.Column.{Column}
 use Rattle.sql_tree.specs.declared.statements.Item.{Item}
 use Rattle.sql_meaning.specs.Outcomes.{cell_or_null, row_at, row_fault}
-use Rattle.sql_meaning.specs.Selects.{Wanted, at_key, group_item, group_rows, grouped_rows, having_fault, kept_keys, key_value}
-use Rattle.sql_meaning.specs.Values.{View, at_rows}
+use Rattle.sql_meaning.specs.Selects.{Wanted, group_item, group_rows, having_fault, kept_keys, key_value}
+use Rattle.sql_meaning.specs.Values.{View}
 use Rattle.sql_meaning.proofs.UpToOrder.{join_assoc, join_none, join_swap}
 use Rattle.sql_eval.specs.Placed.{placed_value}
 use Rattle.sql_eval.specs.View.{placed_of}
 use Rattle.sql_eval.specs.declared.resolved.Resolved.{Resolved}
-use Rattle.sql_groups.specs.Items.{Around, fault_of_key, groups_made, is_kept, item_at, passes, row_of_key, tested}
+use Rattle.sql_groups.specs.Items.{Around, groups_made, item_at, passes, tested}
 use Rattle.sql_groups.specs.Resolved.{AllStand, GroupSight, HavingStands, IsResolved, StandsFor, group_value, view_of}
 use Rattle.sql_groups.specs.declared.items.GroupItem.{GroupItem}
 use Rattle.sql_groups.specs.declared.items.GroupSelect.{GroupSelect}

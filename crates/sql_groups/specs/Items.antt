@@ -14,7 +14,8 @@ use Rattle.sql_meaning.specs.Values.{place_in}
 use Rattle.sql_eval.specs.Placed.{placed_value}
 use Rattle.sql_eval.specs.View.{placed_of}
 use Rattle.sql_eval.specs.declared.resolved.Resolved.{Resolved}
-use Rattle.sql_groups.specs.Kept.{Kept, rows_of, scope_of, tables_of}
+use Rattle.sql_from.specs.declared.tuple_rows.TupleRows.{TupleRows}
+use Rattle.sql_groups.specs.Kept.{rows_of, scope_of, tables_of}
 use Rattle.sql_groups.specs.declared.items.GroupItem.{GroupItem}
 use Rattle.sql_groups.specs.declared.items.GroupSelect.{GroupSelect}
 
@@ -66,11 +67,11 @@ groups_made a s keys = unless (faults_by (fault_of_key a s) keys) (map (row_of_k
 
 -- ---- of the groups of rows by columns
 
-abbrev pub places_of : Kept → List Column → List ℕ
+abbrev pub places_of : TupleRows → List Column → List ℕ
 places_of rows group = map (place_in (scope_of rows)) group
 
-abbrev pub around : Settings → Kept → List Column → Around
+abbrev pub around : Settings → TupleRows → List Column → Around
 around p rows group = record { settings = p; tables = tables_of rows; members = rows_with (places_of rows group) (rows_of rows) }
 
-abbrev pub keys_in : Kept → List Column → List Row
+abbrev pub keys_in : TupleRows → List Column → List Row
 keys_in rows group = keys_by (places_of rows group) (rows_of rows)

@@ -1,26 +1,20 @@
--- Rows of FROM by their numbers.
-use Rattle.std.specs.Prelude.{ℕ, List, map}
+-- The rows of FROM that WHERE keeps, which are grouped.
+use Rattle.std.specs.Prelude.{List}
 use Rattle.vtl_cell.specs.Row.{Row}
-use Rattle.vtl_rows.specs.Named.{NamedTables}
 use Rattle.sql_tree.specs.Trees.{Text}
 use Rattle.sql_check_parts.specs.Scopes.{Scope}
 use Rattle.sql_from.specs.Held.{rows_held}
-use Rattle.sql_from.specs.Rows.{combined}
-use Rattle.sql_from.specs.Sources.{parts_of, scope_held}
+use Rattle.sql_from.specs.Sources.{scope_held}
+use Rattle.sql_from.specs.Standing.{rows_for}
+use Rattle.sql_from.specs.declared.tuple_rows.TupleRows.{TupleRows}
 
--- all tables that the program holds, the sources, and tuples of row numbers, one number for each source
-pub record Kept : Type 0 where
-  pub held : NamedTables
-  pub sources : NamedTables
-  pub tuples : List (List ℕ)
+abbrev pub rows_of : TupleRows → List Row
+rows_of x = rows_for x.sources x.tuples
 
--- the rows that the tuples stand for
-abbrev pub rows_of : Kept → List Row
-rows_of x = map (combined (parts_of x.sources)) x.tuples
-
-abbrev pub tables_of : Kept → Text → List Row
-tables_of x = rows_held x.held
+-- the rows of the tables that EXISTS asks
+abbrev pub tables_of : TupleRows → Text → List Row
+tables_of x = rows_held x.sources.held
 
 -- the columns of the sources
-abbrev pub scope_of : Kept → Scope
-scope_of x = scope_held x.sources
+abbrev pub scope_of : TupleRows → Scope
+scope_of x = scope_held x.sources.sources

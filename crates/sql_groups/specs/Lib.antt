@@ -2,4 +2,3 @@ pub mod Grouped
 pub mod Items
 pub mod Kept
 pub mod Resolved
-pub mod Seen

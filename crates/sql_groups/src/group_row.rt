@@ -4,10 +4,9 @@ ghost use Rattle.vtl_cell.specs.declared.cell.Cell.TheVariants.{Null};
 ghost use Rattle.sql_groups.specs.Grouped.{AreWithin, rows_at};
 ghost use Rattle.sql_groups.specs.Kept.{rows_of};
 
-use crate::KeptRows;
 use crate::totals::aggregate;
 use sql_eval::{Cells, Existence, Resolved};
-use sql_from::{OuterRow, has_partner};
+use sql_from::{OuterRow, TupleRows, has_partner};
 use std::alloc::{AllocError, Global};
 use std::marker::Model;
 use vtl_cell::{AggKind, Cell, Profile};
@@ -16,7 +15,7 @@ use vtl_scalar::ScalarErr;
 
 /// A group: its key, which holds the cells of the columns of GROUP BY, and its rows. All cells are lent.
 pub(crate) struct GroupRow<'a, 'r> {
-    rows: &'a KeptRows<'r>,
+    rows: &'a TupleRows<'r>,
     key: &'a [Cell],
     numbers: &'a [usize],
     null: &'a Cell,
@@ -42,7 +41,7 @@ impl<'a, 'r> Model for GroupRow<'a, 'r> {
 
     ghost Value = { Group };
 
-    ghost view = { λ g. record { held = g.rows.now.held; key = g.key.now; rows = rows_at (rows_of g.rows.now) g.numbers.now } };
+    ghost view = { λ g. record { held = g.rows.now.sources.held; key = g.key.now; rows = rows_at (rows_of g.rows.now) g.numbers.now } };
 
     ghost invariant = { λ g. AreWithin (rows_of g.rows.now) g.numbers.now × (g.null.now ≡ Null) };
 }
@@ -50,14 +49,14 @@ impl<'a, 'r> Model for GroupRow<'a, 'r> {
 impl<'a, 'r> GroupRow<'a, 'r> {
     /// The group of a key and the rows with these numbers; a null is lent where a place is past the last cell of the key.
     pub(crate) fn of(
-        rows: &'a KeptRows<'r>,
+        rows: &'a TupleRows<'r>,
         key: &'a [Cell],
         numbers: &'a [usize],
         null: &'a Cell,
     ) -> GroupRow<'a, 'r>
         requires numbers { AreWithin (rows_of rows.now) numbers.now }
         requires null { null.now ≡ Null }
-        ensures held { result.held ≡ rows.now.held }
+        ensures held { result.held ≡ rows.now.sources.held }
         ensures key { result.key ≡ key.now }
         ensures rows { result.rows ≡ rows_at (rows_of rows.now) numbers.now }
     {
@@ -95,7 +94,7 @@ impl<'a, 'r> Cells for GroupRow<'a, 'r> {
     }
 
     fn is_there(&self, alloc: Global, test: &Existence, p: &Profile) -> Result<bool, AllocError> {
-        has_partner(alloc, self.rows.sources().held(), test, self, p)
+        has_partner(alloc, self.rows.sources.held(), test, self, p)
     }
 
     fn count_all(&self, p: &Profile) -> Result<Cell, ScalarErr> {

@@ -6,17 +6,17 @@ ghost use Rattle.vtl_rows.specs.Tables.{fits};
 ghost use Rattle.vtl_scalar.specs.Answers.{Answers, AnswersBy};
 ghost use Rattle.sql_meaning.specs.Outcomes.{cell_or_null};
 ghost use Rattle.sql_groups.specs.Items.{fault_for, item_at, passes, row_for, tested};
-ghost use Rattle.sql_groups.specs.Seen.{seen_of};
+ghost use Rattle.sql_from.specs.Seen.{seen_of};
 
-use crate::seen::Seen;
 use sql_eval::{Cells, Resolved, value_at};
+use sql_from::Seen;
 use std::alloc::Global;
 use vtl_cell::{Cell, Kind, Profile};
 use vtl_rows::Table;
 use vtl_scalar::{ScalarErr, given_of_kind};
 
 /// An item of a grouped select, and the kind of its column.
-pub struct GroupItem {
+pub(crate) struct GroupItem {
     pub(crate) exp: Resolved,
     pub(crate) kind: Kind,
 }
@@ -32,7 +32,7 @@ impl Drop for GroupItem {
 }
 
 /// HAVING and the items of a grouped select, with places in place of names.
-pub struct GroupSelect {
+pub(crate) struct GroupSelect {
     pub(crate) having: Option<Resolved>,
     pub(crate) items: Vec<GroupItem>,
 }

@@ -1,23 +1,22 @@
 // Grouped selects.
-ghost use Rattle.std.specs.Prelude.{◌≡◌, ◌++◌, true, Ok, zip};
+ghost use Rattle.std.specs.Prelude.{◌≡◌, ◌++◌, true, Ok, map, option_map, zip};
 ghost use Rattle.vtl_cell.specs.Outcome.{after};
 ghost use Rattle.vtl_rows.specs.Tables.{column_kinds};
 ghost use Rattle.vtl_scalar.specs.Answers.{AnswersBy};
-ghost use Rattle.sql_tree.specs.View.{select_tree};
-ghost use Rattle.sql_check_parts.specs.Queries.{is_grouped, kinds_of};
-ghost use Rattle.sql_check_parts.specs.Queries as typing;
+ghost use Rattle.sql_tree.specs.View.{expr_tree, item_tree, select_tree};
+ghost use Rattle.sql_check_parts.specs.Queries.{is_grouped, kinds_of, scope_of};
 ghost use Rattle.sql_check_parts.specs.Scopes.{row_of};
 ghost use Rattle.sql_check_laws.specs.Selects.{IsSelectTyped};
 ghost use Rattle.sql_meaning.specs.Selects.{grouped_rows};
 ghost use Rattle.sql_meaning.specs.Tables.{RowsFit};
-ghost use Rattle.sql_meaning.specs.Values.{at_rows};
-ghost use Rattle.sql_from.specs.Held.{base_held, tables_held};
-ghost use Rattle.sql_groups.specs.Kept.{rows_of, scope_of};
+ghost use Rattle.sql_from.specs.Held.{tables_held};
+ghost use Rattle.sql_from.specs.Sources.{scope_held};
+ghost use Rattle.sql_from.specs.Standing.{rows_for, sight_of};
 ghost use Rattle.sql_groups.specs.Resolved.{AreLifted};
 
-use crate::KeptRows;
-use crate::made::push_groups;
 use crate::resolving::resolve_groups;
+use crate::rows::push_groups;
+use sql_from::TupleRows;
 use sql_tree::Select;
 use std::alloc::Global;
 use vtl_cell::{Kind, Profile};
@@ -34,26 +33,19 @@ pub fn push_grouped(
     alloc: Global,
     table: &mut Table,
     select: &Select,
+    rows: &TupleRows<'_>,
     kinds: &[Kind],
-    rows: &KeptRows<'_>,
     p: &Profile,
 ) -> Result<(), ScalarErr>
     requires grouped { is_grouped (select_tree select.now) ≡ true }
-    requires typed { IsSelectTyped p.now (tables_held rows.now.held) (select_tree select.now) }
-    requires scope { scope_of rows.now ≡ typing.scope_of (tables_held rows.now.held) (select_tree select.now) }
-    requires fit { RowsFit (row_of (scope_of rows.now)) (rows_of rows.now) }
-    requires lifted { AreLifted kinds.now (kinds_of (tables_held rows.now.held) (select_tree select.now)) }
+    requires typed { IsSelectTyped p.now (tables_held rows.now.sources.held) (select_tree select.now) }
+    requires scope { scope_held rows.now.sources.sources ≡ scope_of (tables_held rows.now.sources.held) (select_tree select.now) }
+    requires fit { RowsFit (row_of (scope_held rows.now.sources.sources)) (rows_for rows.now.sources rows.now.tuples) }
+    requires lifted { AreLifted kinds.now (kinds_of (tables_held rows.now.sources.held) (select_tree select.now)) }
     requires columns { column_kinds table.old.columns ≡ kinds.now }
     ensures columns { table.new.columns ≡ table.old.columns }
-    ensures rows { AnswersBy (λ u. table.new.rows) result (after (grouped_rows (at_rows (base_held p.now rows.now.held) (scope_of rows.now)) (zip (select_tree select.now).items kinds.now) select.now.group (select_tree select.now).having (rows_of rows.now)) (λ made. Ok (table.old.rows ++ made))) }
+    ensures rows { AnswersBy (λ u. table.new.rows) result (after (grouped_rows (sight_of p.now rows.now.sources) (zip (map item_tree select.now.items) kinds.now) select.now.group (option_map expr_tree select.now.having) (rows_for rows.now.sources rows.now.tuples)) (λ made. Ok (table.old.rows ++ made))) }
 {
-    let resolved = resolve_groups(alloc, p, rows.sources(), select, kinds)?;
-    push_groups(
-        alloc,
-        table,
-        &resolved,
-        rows,
-        select.group.as_slice(),
-        p,
-    )
+    let resolved = resolve_groups(alloc, p, &rows.sources, select, kinds)?;
+    push_groups(alloc, table, &resolved, rows, select.group.as_slice(), p)
 }

@@ -10,11 +10,10 @@ ghost use Rattle.sql_eval.specs.Placed.{aggregate_value, placed_value};
 ghost use Rattle.sql_eval.specs.View.{placed_of};
 ghost use Rattle.sql_groups.specs.Grouped.{AreWithin, rows_at};
 ghost use Rattle.sql_groups.specs.Kept.{rows_of, tables_of};
-ghost use Rattle.sql_groups.specs.Seen.{seen_of};
+ghost use Rattle.sql_from.specs.Seen.{seen_of};
 
-use crate::KeptRows;
-use crate::seen::Seen;
 use sql_eval::{Cells, Resolved, value_at};
+use sql_from::{Seen, TupleRows};
 use std::alloc::Global;
 use vtl_agg::Acc;
 use vtl_cell::{AggKind, Cell, Profile};
@@ -65,7 +64,7 @@ fn finished(acc: Acc, seen: Seen) -> Result<Cell, ScalarErr>
 /// its value or its own fault. It goes over the rows once.
 pub(crate) fn aggregate(
     alloc: Global,
-    rows: &KeptRows<'_>,
+    rows: &TupleRows<'_>,
     numbers: &[usize],
     function: AggKind,
     operand: &Resolved,

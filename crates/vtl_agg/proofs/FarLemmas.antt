@@ -1,6 +1,6 @@
 -- What does not fit in 128 bits is out of range, and so is its quotient by a count.
 use Rattle.std.proofs.Common.{◌≡◌, ℕ, ◌+◌, ◌*◌, ◌/◌, ◌%◌, ◌<◌, ◌≤◌, ◌^◌, ℤ, pos, negsuc, Bool, true, false, cond, ◌⊎◌, inl, inr, arith}
-use Rattle.std.specs.Prelude.{◌+ℤ◌, ◌*ℤ◌, unsigned_abs, Err}
+use Rattle.std.specs.Prelude.{◌+ℤ◌, unsigned_abs, Err}
 use Rattle.std.specs.Int.{w128}
 use Rattle.std.specs.Int.RustNames.{FitsSigned}
 use Rattle.std.proofs.lemmas.Nat.{le-div}

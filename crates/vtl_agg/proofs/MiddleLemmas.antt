@@ -1,16 +1,12 @@
 -- The middle of amounts in order, and of the numbers that they stand for.
-use Rattle.std.proofs.Common.{◌≡◌, ℕ, suc, ◌+◌, ◌-◌, ◌*◌, ◌/◌, ◌%◌, ◌<◌, ◌≤◌, ◌^◌, ◌⊎◌, inl, inr, pos, negsuc, ℤ, List, [], ◌∷◌, Bool, true, false, cond, length, map, refl, sym, ap, ◌∙◌, true≢false, arith}
-use Rattle.std.specs.Prelude.{nat_le, neg_ℤ, ◌+ℤ◌, ◌*ℤ◌, ◌==◌, get_or, IsPermutation}
+use Rattle.std.proofs.Common.{◌≡◌, ℕ, suc, ◌+◌, ◌-◌, ◌/◌, ◌%◌, ◌<◌, ◌⊎◌, inl, inr, pos, negsuc, ℤ, List, [], ◌∷◌, Bool, true, false, cond, length, refl, sym, ap, ◌∙◌, true≢false, arith}
+use Rattle.std.specs.Prelude.{nat_le, neg_ℤ, ◌+ℤ◌, ◌==◌, IsPermutation}
 use Rattle.std.specs.Int.RustNames.{int_le}
 use Rattle.std.specs.List.{AllByRecursion}
 use Rattle.std.specs.List.Sorted.{IsSorted}
 use Rattle.std.specs.Ordering.{int_cmp}
-use Rattle.std.proofs.Math.IntN.{zero-*ℤ}
-use Rattle.std.proofs.Math.ListN.{get_or-map}
-use Rattle.std.proofs.Math.Nat.{mul-le-mul_right}
 use Rattle.std.proofs.lemmas.Cmp.{int_cmp_total}
 use Rattle.std.proofs.lemmas.Int.{ints}
-use Rattle.std.proofs.lemmas.List.{length-map}
 use Rattle.vtl_decimal.specs.Range.{fit_number}
 use Rattle.vtl_decimal.specs.Rounding.{rounds_up, rounded_size, rounded_quotient}
 use Rattle.vtl_decimal.specs.Settings.{Settings}
@@ -18,9 +14,9 @@ use Rattle.vtl_decimal.specs.declared.settings.Rounding.{Rounding}
 use Rattle.vtl_decimal.proofs.RoundingLemmas.{rounds_up_no_rest}
 use Rattle.vtl_cell.specs.Groups.{at, middle_of}
 use Rattle.vtl_cell.specs.ScalarArithmetic.{number}
-use Rattle.vtl_cell.specs.Sorting.{IsOrder, Rises, le_by, sorted_by}
-use Rattle.vtl_cell.proofs.Perms.{Perm-from_IsPermutation, Perm-map}
-use Rattle.vtl_cell.proofs.Sorts.{Rises-from_IsSorted, Rises-map, sorted_is}
+use Rattle.vtl_cell.specs.Sorting.{IsOrder, Rises, le_by}
+use Rattle.vtl_cell.proofs.Perms.{Perm-from_IsPermutation}
+use Rattle.vtl_cell.proofs.Sorts.{Rises-from_IsSorted, sorted_is}
 use Rattle.vtl_agg.specs.Added.{median_value}
 
 -- ---- half of a double

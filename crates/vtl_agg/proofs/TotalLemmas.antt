@@ -1,15 +1,14 @@
 -- The totals of values are those of their units, and whole where all values are integers.
-use Rattle.std.proofs.Common.{◌≡◌, ℕ, zero, suc, ◌+◌, ◌^◌, pos, ℤ, List, [], ◌∷◌, ◌++◌, Bool, true, false, length, map, refl, sym, ap, ◌∙◌, arith}
+use Rattle.std.proofs.Common.{◌≡◌, ℕ, zero, suc, ◌^◌, pos, ℤ, List, [], ◌∷◌, ◌++◌, Bool, true, false, map, refl, sym, ap, ◌∙◌, arith}
 use Rattle.std.specs.Prelude.{◌&&◌, ◌+ℤ◌, ◌*ℤ◌, fold}
 use Rattle.std.specs.List.{list_all}
 use Rattle.std.proofs.Math.IntN.{*ℤ-zero, zero-*ℤ, *ℤ_comm, suc_ℤ-*ℤ, +ℤ_comm, +ℤ_assoc}
-use Rattle.std.proofs.lemmas.Grind.{common_steps}
 use Rattle.std.proofs.lemmas.Int.{ints}
 use Rattle.std.proofs.lemmas.List.{length_push, map-append}
 use Rattle.vtl_cell.specs.Groups.{is_integer, numbers_of, units_of, whole_of}
 use Rattle.vtl_cell.specs.declared.cell.Cell.{Cell}
 use Rattle.vtl_cell.specs.declared.cell.Cell.TheVariants as c
-use Rattle.vtl_agg.specs.Added.{Totals, rest_of, total_by, totals_of, totals_with}
+use Rattle.vtl_agg.specs.Added.{rest_of, total_by, totals_of, totals_with}
 
 -- ---- in units
 zero-+ℤ : (n : ℤ) → pos 0 +ℤ n ≡ n

@@ -1,12 +1,11 @@
-use Rattle.std.proofs.Common.{◌≡◌, ◌<◌, ◌++◌, ◌∷◌, ◌∙◌, [], length, map, ap, sym, arith}
+use Rattle.std.proofs.Common.{◌<◌, ◌++◌, ◌∷◌, ◌∙◌, [], length, map, ap, sym, arith}
 use Rattle.std.proofs.lemmas.List.{map_more}
 use Rattle.vtl_cell.specs.Row.{Row}
 use Rattle.vtl_rows.specs.Places.{row_at}
 use Rattle.vtl_rows.specs.Tables.{cells_at, column_kinds}
-use Rattle.sql_check_parts.specs.Scopes.{column_kind}
 use Rattle.sql_meaning.specs.Values.{place_in}
 use Rattle.sql_from.specs.Rows.{combined}
-use Rattle.sql_from.specs.Sources.{parts_of, scope_held}
+use Rattle.sql_from.specs.Sources.{parts_of}
 use Rattle.sql_groups.specs.Kept.{rows_of, scope_of}
 use Rattle.sql_groups.proofs.KeyLemmas.{key_row_fits}
 use Rattle.sql_groups.proofs.grouping.key_table.Goals as goal
@@ -16,8 +15,8 @@ push_cells-requires c =
     let rows = rows_of c.args.rows.now in
     let r : Row = combined (parts_of c.row.result.sources.now.sources) (c.row.result.front.now ++ c.row.result.last ∷ []) in
     let within : c.loop-number.number < length rows = omega (arith, c.len-number-end.ensures.rows, c.loop-number-test.true) in
-    let places = c.deref.ensures.value ∙ c.in_ok-places.ensures ∙ ap (λ s. map (place_in (scope_held s)) c.args.group.now) c.sources.ensures.sources in
-    key_row_fits (scope_of c.args.rows.now) c.args.group.now rows c.loop-number.number c.loop-number.table.columns c.push_key.new.key.items r c.requires.seen c.requires.fit within c.row.ensures.cells c.loop-number.invariant.kinds
+    let places = c.deref.ensures.value ∙ c.in_ok-places.ensures in
+    key_row_fits (scope_of c.args.rows.now) c.args.group.now rows c.loop-number.number c.loop-number.table.columns c.push_key.new.key.items r c.requires.seen c.requires.fit within c.row.ensures.row c.loop-number.invariant.kinds
     (c.in_ok-push_key.ensures ∙ ap (λ l. l ++ cells_at c.deref.result.now r) c.loop-number.invariant.empty ∙ ap (λ l. cells_at l r) places)
 
 pub loop-number-preserved : goal.loop-number-preserved
@@ -26,8 +25,8 @@ loop-number-preserved c =
     let i = c.loop-number.number in
     let r : Row = combined (parts_of c.row.result.sources.now.sources) (c.row.result.front.now ++ c.row.result.last ∷ []) in
     let within : i < length rows = omega (arith, c.len-number-end.ensures.rows, c.loop-number-test.true) in
-    let places = c.deref.ensures.value ∙ c.in_ok-places.ensures ∙ ap (λ s. map (place_in (scope_held s)) c.args.group.now) c.sources.ensures.sources in
-    let key = c.in_ok-push_key.ensures ∙ ap (λ l. l ++ cells_at c.deref.result.now r) c.loop-number.invariant.empty ∙ ap (λ l. cells_at l r) places ∙ ap (cells_at (map (place_in (scope_of c.args.rows.now)) c.args.group.now)) c.row.ensures.cells in
+    let places = c.deref.ensures.value ∙ c.in_ok-places.ensures in
+    let key = c.in_ok-push_key.ensures ∙ ap (λ l. l ++ cells_at c.deref.result.now r) c.loop-number.invariant.empty ∙ ap (λ l. cells_at l r) places ∙ ap (cells_at (map (place_in (scope_of c.args.rows.now)) c.args.group.now)) c.row.ensures.row in
     record {
       kinds = ap column_kinds c.push_cells.ensures.columns ∙ c.loop-number.invariant.kinds;
       rows =

@@ -1,17 +1,16 @@
-use Rattle.std.proofs.Common.{◌++◌, ◌∷◌, ◌∙◌, [], List, ap, subst}
+use Rattle.std.proofs.Common.{◌++◌, ◌∷◌, ◌∙◌, [], ap, subst}
 use Rattle.vtl_agg.specs.Added.{IsAdded}
 use Rattle.vtl_cell.specs.Outcome.{Outcome, fault_in, join}
 use Rattle.vtl_cell.specs.Row.{Row}
 use Rattle.vtl_cell.specs.declared.cell.Cell.{Cell}
-use Rattle.vtl_rows.specs.Named.{NamedTables}
 use Rattle.sql_meaning.specs.Outcomes.{cell_or_null}
 use Rattle.sql_eval.specs.Placed.{placed_value}
 use Rattle.sql_eval.specs.View.{placed_of}
 use Rattle.sql_from.specs.Held.{rows_held}
 use Rattle.sql_from.specs.Rows.{combined}
-use Rattle.sql_from.specs.Sources.{parts_of}
+use Rattle.sql_from.specs.Sources.{Sourced, parts_of}
 use Rattle.sql_groups.specs.Kept.{rows_of, tables_of}
-use Rattle.sql_groups.specs.Seen.{seen_of}
+use Rattle.sql_from.specs.Seen.{seen_of}
 use Rattle.sql_groups.proofs.GatheredLemmas.{all_gathered, faults_more, values_more, values_to}
 use Rattle.sql_groups.proofs.totals.aggregate.Goals as goal
 
@@ -29,13 +28,13 @@ loop-number-preserved c =
       settings = c.add_value.ensures.settings ∙ c.loop-number.invariant.settings;
       kind = c.add_value.ensures.kind ∙ c.loop-number.invariant.kind;
       added =
-          subst (IsAdded c.add_value.new.acc) (values_more f (rows_of x) numbers i c.loop-number-test.true r c.row.ensures.cells)
-          (subst (λ (held : NamedTables). IsAdded c.add_value.new.acc (values ++ cell_or_null (placed_value p (rows_held held) e r []) ∷ [])) c.row.ensures.held (c.in_ok-seen.ensures.added values c.loop-number.invariant.added));
+          subst (IsAdded c.add_value.new.acc) (values_more f (rows_of x) numbers i c.loop-number-test.true r c.row.ensures.row)
+          (subst (λ (z : Sourced). IsAdded c.add_value.new.acc (values ++ cell_or_null (placed_value p (rows_held z.held) e r []) ∷ [])) c.row.ensures.sources (c.in_ok-seen.ensures.added values c.loop-number.invariant.added));
       seen =
           c.in_ok-seen.ensures.seen
-          ∙ ap (λ (held : NamedTables). join (seen_of c.loop-number.seen) (fault_in (placed_value p (rows_held held) e r []))) c.row.ensures.held
+          ∙ ap (λ (z : Sourced). join (seen_of c.loop-number.seen) (fault_in (placed_value p (rows_held z.held) e r []))) c.row.ensures.sources
           ∙ ap (λ s. join s (fault_in (f r))) c.loop-number.invariant.seen
-          ∙ faults_more f (rows_of x) numbers i c.loop-number-test.true r c.row.ensures.cells;
+          ∙ faults_more f (rows_of x) numbers i c.loop-number-test.true r c.row.ensures.row;
     }
 
 pub returns : goal.returns

@@ -1,7 +1,7 @@
-use Rattle.std.proofs.Common.{◌≡◌, ◌<◌, ◌∙◌, [], length, get_or, sym, ap, subst, arith}
+use Rattle.std.proofs.Common.{◌<◌, ◌∙◌, [], length, get_or, sym, ap, subst, arith}
 use Rattle.std.proofs.lemmas.List.{get_or_read}
 use Rattle.vtl_rows.specs.Places.{row_at}
-use Rattle.vtl_index.specs.Groups.{AreLeads, firsts}
+use Rattle.vtl_index.specs.Groups.{firsts}
 use Rattle.sql_groups.specs.Grouped.{IsLaidOut, grouped_in}
 use Rattle.sql_groups.proofs.GroupLemmas.{first_stands, first_within, key_is, keys_many}
 use Rattle.sql_groups.proofs.grouping.Grouping.key.Goals as goal

@@ -11,51 +11,25 @@ ghost use Rattle.sql_meaning.specs.Tables.{RowsFit};
 ghost use Rattle.sql_groups.specs.Grouped.{AreWithin, rows_at};
 ghost use Rattle.sql_groups.specs.Items.{around, fault_for, groups_made, keys_in, passes, row_for, row_of_key, tested};
 ghost use Rattle.sql_groups.specs.Kept.{rows_of, scope_of, tables_of};
-ghost use Rattle.sql_groups.specs.Seen.{seen_of};
+ghost use Rattle.sql_from.specs.Seen.{seen_of};
 
 use crate::group_row::GroupRow;
+use crate::grouping::Grouping;
 use crate::items::{GroupSelect, push_group};
-use crate::seen::Seen;
-use crate::{Grouping, KeptRows};
+use sql_from::{Seen, TupleRows};
 use sql_tree::Column;
 use std::alloc::Global;
 use vtl_cell::{Cell, Profile};
 use vtl_rows::Table;
 use vtl_scalar::ScalarErr;
 
-// Puts a row of the items behind others for the group of a number, where HAVING keeps it.
-fn push_numbered<'r>(
-    alloc: Global,
-    table: &mut Table,
-    cells: &mut Vec<Cell>,
-    seen: Seen,
-    select: &GroupSelect,
-    rows: &KeptRows<'r>,
-    groups: &Grouping,
-    number: usize,
-    p: &Profile,
-) -> Result<Seen, ScalarErr>
-    requires key { number < length groups.now.keys }
-    requires numbers { number < length groups.now.numbers }
-    requires within { AreWithin (rows_of rows.now) (slice_index_or groups.now.numbers number []) }
-    requires made { fits table.old.columns (row_for p.now (tables_of rows.now) (row_at groups.now.keys number) (rows_at (rows_of rows.now) (slice_index_or groups.now.numbers number [])) select.now) ≡ true }
-    ensures columns { table.new.columns ≡ table.old.columns }
-    ensures rows { IfOk result (λ _. table.new.rows ≡ table.old.rows ++ (if passes (tested p.now (tables_of rows.now) select.now.having (row_at groups.now.keys number) (rows_at (rows_of rows.now) (slice_index_or groups.now.numbers number []))) then row_for p.now (tables_of rows.now) (row_at groups.now.keys number) (rows_at (rows_of rows.now) (slice_index_or groups.now.numbers number [])) select.now ∷ [] else [])) }
-    ensures seen { IfOk result (λ s. seen_of s ≡ join (seen_of seen) (fault_for p.now (tables_of rows.now) (row_at groups.now.keys number) (rows_at (rows_of rows.now) (slice_index_or groups.now.numbers number [])) select.now)) }
-    ensures err { IfErr result (λ e. e ≡ ScalarErr.OutOfMemory) }
-{
-    let null = Cell::Null;
-    let at = GroupRow::of(&*rows, groups.key(number), groups.rows(number), &null);
-    push_group(alloc, table, cells, seen, select, &at, p)
-}
-
 /// Puts a row of the items behind others for each group that HAVING keeps, in the order of the groups' first rows; or
 /// the worst of the faults of HAVING at all groups and of the items at those that it keeps.
-pub(crate) fn push_groups(
+pub(crate) fn push_groups<'r>(
     alloc: Global,
     table: &mut Table,
     select: &GroupSelect,
-    rows: &KeptRows<'_>,
+    rows: &TupleRows<'r>,
     group: &[Column],
     p: &Profile,
 ) -> Result<(), ScalarErr>
@@ -69,9 +43,9 @@ pub(crate) fn push_groups(
     let mut cells = Vec::with_capacity(alloc, select.items.len())?;
     let mut seen = Seen::Nothing;
     for number in 0..groups.len() {
-        seen = push_numbered(
-            alloc, table, &mut cells, seen, select, rows, &groups, number, p,
-        )?;
+        let null = Cell::Null;
+        let at = GroupRow::of(&*rows, groups.key(number), groups.rows(number), &null);
+        seen = push_group(alloc, table, &mut cells, seen, select, &at, p)?;
     }
     seen.unless(())
 }
