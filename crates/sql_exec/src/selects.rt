@@ -18,7 +18,7 @@ use crate::items::row_items;
 use crate::output::Output;
 use sql_check_queries::is_grouped;
 use sql_from::{TupleRows, source_tuples};
-use sql_groups::{KeptRows, push_grouped};
+use sql_groups::push_grouped;
 use sql_tree::{Item, Select};
 use std::alloc::Global;
 use vtl_cell::{Kind, Profile};
@@ -69,8 +69,7 @@ fn add_phase(
     if !is_grouped(select) {
         return add_rows(alloc, out, select.items.as_slice(), rows, kinds, p);
     }
-    let rows = KeptRows::of(&rows.sources, &rows.tuples);
-    match push_grouped(alloc, &mut out.table, select, kinds, &rows, p) {
+    match push_grouped(alloc, &mut out.table, select, &*rows, kinds, p) {
         Ok(()) => Ok(()),
         Err(error) => out.see(error),
     }
