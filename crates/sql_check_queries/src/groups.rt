@@ -29,7 +29,8 @@ fn any_aggregates(items: &[Item]) -> bool
     false
 }
 
-fn is_grouped(select: &Select) -> bool
+/// Whether a select is grouped: by GROUP BY, by HAVING, or by an aggregate in an item.
+pub fn is_grouped(select: &Select) -> bool
     ensures { result ≡ is_grouped (select_tree select.now) }
 {
     !select.group.as_slice().is_empty()

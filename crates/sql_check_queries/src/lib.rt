@@ -14,4 +14,7 @@ mod selects;
 mod sources;
 mod unions;
 
+pub use groups::is_grouped;
 pub use queries::{QueryTold, query};
+pub use sources::join_source;
+pub use unions::{all_some, share_kinds};

@@ -46,7 +46,8 @@ fn add_source<'a>(
     scope.add(&source.alias, tables.columns(&source.table))
 }
 
-fn join_source(join: &Join) -> &Source
+/// The source of a join.
+pub fn join_source(join: &Join) -> &Source
     ensures { result.now ≡ join_source (join_tree join.now) }
 {
     match join {

@@ -39,8 +39,8 @@ fn shared_with(shared: Option<Kind>, kind: Kind) -> Option<Kind>
     }
 }
 
-// Shares kinds with those of one more select.
-fn share(shared: &mut [Option<Kind>], kinds: &[Kind])
+/// Shares kinds with those of one more select, by their places.
+pub fn share_kinds(shared: &mut [Option<Kind>], kinds: &[Kind])
     ensures { shared.new ≡ beside shared.old kinds.now }
 {
     for i in 0..shared.len().min(kinds.len()) {
@@ -48,7 +48,8 @@ fn share(shared: &mut [Option<Kind>], kinds: &[Kind])
     }
 }
 
-fn all_some(alloc: Global, kinds: &[Kind]) -> Result<Vec<Option<Kind>>, AllocError>
+/// Kinds as those that one select shares with itself. It fails only if memory runs out.
+pub fn all_some(alloc: Global, kinds: &[Kind]) -> Result<Vec<Option<Kind>>, AllocError>
     ensures { IfOk result (λ shared. shared.items ≡ map Some kinds.now) }
 {
     let mut shared = Vec::with_capacity(alloc, kinds.len())?;
@@ -90,7 +91,7 @@ impl Union {
         ensures same { self.new.same_names ≡ (self.old.same_names && same_names self.old.names other.now.names) }
         ensures fault { self.new.fault ≡ lesser self.old.fault other.now.fault }
     {
-        share(self.shared.as_mut_slice(), other.kinds.as_slice());
+        share_kinds(self.shared.as_mut_slice(), other.kinds.as_slice());
         self.same_names = self.same_names && self.names == other.names;
         self.fault = lesser(self.fault, other.fault);
     }

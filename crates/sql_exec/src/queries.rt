@@ -1,27 +1,31 @@
 // Queries without windows.
-ghost use Rattle.std.specs.Prelude.{◌≡◌, IfOk, false, map};
+ghost use Rattle.std.specs.Prelude.{◌≡◌, ◌∷◌, [], IfOk, false, length, map};
+ghost use Rattle.vtl_scalar.specs.Answers.{AnswersBy};
 ghost use Rattle.sql_tree.specs.Formed.{IsQuery};
 ghost use Rattle.sql_tree.specs.Grammar.{most_levels};
+ghost use Rattle.sql_tree.specs.Trees.{SelectTree};
 ghost use Rattle.sql_tree.specs.View.{query_tree};
-ghost use Rattle.sql_check_parts.specs.Queries.{query_columns};
+ghost use Rattle.sql_check_parts.specs.Queries.{query_columns, scope_of};
 ghost use Rattle.sql_check_laws.specs.Selects.{IsQueryTyped};
+ghost use Rattle.sql_meaning.specs.From.{source_rows};
 ghost use Rattle.sql_meaning.specs.Profiles.{IsLawful};
 ghost use Rattle.sql_meaning.specs.Selects.{query_value};
 ghost use Rattle.sql_meaning.specs.Tables.{column_entry};
+ghost use Rattle.sql_from.specs.Columns.{source_columns};
+ghost use Rattle.sql_from.specs.Held.{base_held, tables_held};
 ghost use Rattle.sql_exec.specs.Answers.{Gives};
-ghost use Rattle.sql_exec.specs.Held.{base_held, tables_held};
 ghost use Rattle.sql_exec.specs.Plain.{query_has_window};
 
+use crate::columns::{named_columns, query_kinds};
+use crate::output::Output;
+use crate::selects::add_selects;
+use sql_from::ExecErr;
 use sql_meaning::Plan;
 use std::alloc::Global;
 use std::sync::ledger::Ledger;
 use vtl_cell::Profile;
 use vtl_index::Steps;
 use vtl_rows::{Table, Tables};
-use vtl_scalar::ScalarErr;
-
-/// Why a query has no table: a division by zero, a number out of its range, or want of memory.
-pub type ExecErr = ScalarErr;
 
 /// The table of a query: its columns with their names and kinds, and its rows, each as often, in any order.
 ///
@@ -42,5 +46,32 @@ pub fn exec<L: Ledger>(
     ensures columns { IfOk result (λ t. map column_entry t.columns ≡ query_columns (tables_held tables.now) (query_tree plan.now.query)) }
     ensures rows { Gives (query_value (base_held p.now tables.now) (query_tree plan.now.query)) result }
 {
-    Err(ExecErr::OutOfMemory)
+    let selects = plan.query().selects.as_slice();
+    let kinds = query_kinds(alloc, p, tables, selects)?;
+    let columns = named_columns(alloc, selects[0].items.as_slice(), &kinds)?;
+    let mut out = Output::new(alloc, columns);
+    add_selects(alloc, &mut out, selects, &kinds, tables, p)?;
+    out.finish()
+}
+
+/// The table of the rows that FROM gives and WHERE keeps in a query of one select: the columns of its sources in order,
+/// each named by the alias, a line feed and its name.
+///
+/// # Errors
+///
+/// The fault of an ON or of WHERE is a division by zero or a number out of its range; or there was not enough memory.
+pub fn source_rows<L: Ledger>(
+    alloc: Global,
+    plan: &Plan,
+    tables: &Tables,
+    p: &Profile,
+    steps: &mut Steps<L>,
+) -> Result<Table, ExecErr>
+    requires one { length (query_tree plan.now.query) ≡ 1 }
+    requires typed { IsQueryTyped p.now (tables_held tables.now) (query_tree plan.now.query) }
+    ensures columns { (s : SelectTree) → query_tree plan.now.query ≡ s ∷ [] → IfOk result (λ t. t.columns ≡ source_columns (scope_of (tables_held tables.now) s)) }
+    ensures rows { (s : SelectTree) → query_tree plan.now.query ≡ s ∷ [] → AnswersBy (λ t. t.rows) result (source_rows (base_held p.now tables.now) s) }
+{
+    let selects = plan.query().selects.as_slice();
+    sql_from::source_rows(alloc, &selects[0], tables, p)
 }

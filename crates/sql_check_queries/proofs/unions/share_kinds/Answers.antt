@@ -1,6 +1,6 @@
 use Rattle.std.proofs.Common.{◌∙◌, ◌≤◌, ◌<◌, min, length, sym, add-one, arith}
 use Rattle.sql_check_queries.proofs.Shares.{beside_more, beside_end}
-use Rattle.sql_check_queries.proofs.unions.share.Goals as goal
+use Rattle.sql_check_queries.proofs.unions.share_kinds.Goals as goal
 
 pub loop-i-preserved : goal.loop-i-preserved
 loop-i-preserved c =

@@ -1,0 +1,51 @@
+use Rattle.std.proofs.Common.{◌≡◌, ◌∙◌, ◌+◌, [], ◌∷◌, ◌++◌, List, ap, sym, subst, map, drop}
+use Rattle.sql_tree.specs.View.{join_tree, select_tree}
+use Rattle.sql_tree.specs.declared.statements.Join.{Join}
+use Rattle.sql_check_parts.specs.Queries.{first_scope, join_source, joined_scope}
+use Rattle.sql_check_parts.specs.Scopes.{Scope, with_source}
+use Rattle.sql_check_laws.specs.Selects.{AreJoinsTyped, IsSourceTyped}
+use Rattle.sql_from.specs.Held.{tables_held}
+use Rattle.sql_tree.specs.declared.parts.Source.{Source}
+use Rattle.sql_from.specs.Sources.{scope_held, table_named}
+use Rattle.sql_exec.proofs.QueryColumns.{drop_read, scope_with}
+use Rattle.sql_exec.proofs.columns.select_kinds.Goals as goal
+
+pub loop-join-init : goal.loop-join-init
+loop-join-init c =
+    let s = select_tree c.args.select.now in
+    let tables = tables_held c.args.tables.now in
+    let before = c.over.result in
+    let given : tables_held before.held ≡ tables = ap tables_held c.over.ensures.held in
+    let none : scope_held before.sources ≡ [] = ap scope_held c.over.ensures.sources in
+    let typed : IsSourceTyped (tables_held before.held) (scope_held before.sources) s.source = subst (λ t. IsSourceTyped t (scope_held before.sources) s.source) (sym given) (subst (λ scope. IsSourceTyped tables scope s.source) (sym none) c.requires.typed.source) in
+    let first : scope_held c.in_ok-sources.sources.sources ≡ first_scope tables s =
+    scope_with before c.in_ok-sources.sources s.source typed c.in_ok-sources.ensures.sources ∙ (λ i. with_source (given i) (none i) s.source) in
+    record {
+      held = c.in_ok-sources.ensures.held ∙ c.over.ensures.held;
+      typed = subst (λ scope. AreJoinsTyped c.args.p.now tables scope s.joins) (sym first) c.requires.typed.joins;
+      scope = ap (λ scope. joined_scope tables scope s.joins) first;
+    }
+
+pub loop-join-preserved : goal.loop-join-preserved
+loop-join-preserved c =
+    let joins = c.args.select.now.joins in
+    let tables = tables_held c.args.tables.now in
+    let before = c.loop-join.sources in
+    let i = c.loop-join.join-index in
+    let join = c.join-item.result in
+    let rest = map join_tree (drop (i + 1) joins) in
+    let given : tables_held before.held ≡ tables = ap tables_held c.loop-join.invariant.held in
+    let read : map join_tree (drop i joins) ≡ join_tree join ∷ rest =
+    subst (λ (js : List Join). map join_tree (drop i js) ≡ join_tree join ∷ map join_tree (drop (i + 1) js)) c.as_slice-join-items.ensures (ap (map join_tree) (drop_read c.as_slice-join-items.result.now i join c.loop-join-test.true c.join-item.is)) in
+    let typed : AreJoinsTyped c.args.p.now tables (scope_held before.sources) (join_tree join ∷ rest) = subst (AreJoinsTyped c.args.p.now tables (scope_held before.sources)) read c.loop-join.invariant.typed in
+    let source = join_source (join_tree join) in
+    let new : IsSourceTyped (tables_held before.held) (scope_held before.sources) source = subst (λ t. IsSourceTyped t (scope_held before.sources) source) (sym given) typed.0 in
+    let put : c.in_ok-sources-2.sources.sources ≡ before.sources ++ (source.alias, table_named before.held source.table) ∷ [] =
+    c.in_ok-sources-2.ensures.sources ∙ ap (λ (j : Source). before.sources ++ (j.alias, table_named before.held j.table) ∷ []) c.join_source.ensures in
+    let next : scope_held c.in_ok-sources-2.sources.sources ≡ with_source tables (scope_held before.sources) source =
+    scope_with before c.in_ok-sources-2.sources source new put ∙ ap (λ t. with_source t (scope_held before.sources) source) given in
+    record {
+      held = c.in_ok-sources-2.ensures.held ∙ c.loop-join.invariant.held;
+      typed = subst (λ (scope : Scope). AreJoinsTyped c.args.p.now tables scope rest) (sym next) typed.2;
+      scope = ap (λ (scope : Scope). joined_scope tables scope rest) next ∙ sym (ap (joined_scope tables (scope_held before.sources)) read) ∙ c.loop-join.invariant.scope;
+    }

@@ -1,0 +1,25 @@
+use Rattle.std.proofs.Common.{subst}
+use Rattle.sql_tree.specs.View.{select_tree}
+use Rattle.sql_tree.specs.declared.statements.Select.{Select}
+use Rattle.sql_from.specs.Held.{base_held}
+use Rattle.sql_exec.specs.Outputs.{Adds}
+use Rattle.sql_exec.specs.Parts.{IsPart}
+use Rattle.sql_meaning.specs.Selects.{appended, select_value}
+use Rattle.sql_exec.proofs.Added.{added_all, added_more}
+use Rattle.sql_exec.proofs.Steps.{holds_mapped, mapped_twice}
+use Rattle.sql_exec.proofs.selects.add_selects.Goals as goal
+
+pub add_select-requires-clause-part : goal.add_select-requires-clause-part
+add_select-requires-clause-part c = holds_mapped (IsPart (base_held c.args.p.now c.args.tables.now) c.args.kinds.now) select_tree c.args.selects.now c.loop-select.select-index c.select-item.result c.requires.parts c.loop-select-test.true c.select-item.is
+
+pub loop-select-preserved : goal.loop-select-preserved
+loop-select-preserved c =
+    let value = λ (s : Select). select_value (base_held c.args.p.now c.args.tables.now) c.args.kinds.now (select_tree s) in
+    added_more value c.args.selects.now c.loop-select.select-index c.select-item.result c.loop-select-test.true c.select-item.is c.args.out.now c.loop-select.out c.add_select.new.out c.loop-select.invariant c.in_ok-add_select.ensures.adds
+
+pub returns-clause-adds : goal.returns-clause-adds
+returns-clause-adds c =
+    let value = select_value (base_held c.args.p.now c.args.tables.now) c.args.kinds.now in
+    let selects = c.args.selects.now in
+    subst (λ ms. Adds (appended ms) c.args.out.now c.loop-select.out) (mapped_twice select_tree value selects)
+    (added_all (λ (s : Select). value (select_tree s)) selects c.loop-select.select-index c.args.out.now c.loop-select.out c.loop-select-test.false c.loop-select.invariant)

@@ -1,0 +1,122 @@
+// The columns of a query.
+ghost use Rattle.std.specs.List.{AllByRecursion, list_any};
+ghost use Rattle.std.specs.Prelude.{◌≡◌, false, fold, length, map, zip, IfOk, OnOk};
+ghost use Rattle.sql_tree.specs.View.{item_tree, select_tree};
+ghost use Rattle.sql_check_parts.specs.Queries.{beside, item_kind, kinds_of, shared_kinds};
+ghost use Rattle.sql_check_parts.specs.Scopes.{or_null};
+ghost use Rattle.sql_meaning.specs.Tables.{column_entry};
+ghost use Rattle.sql_from.specs.Held.{tables_held};
+ghost use Rattle.sql_exec.specs.Parts.{IsPlain};
+ghost use Rattle.sql_exec.specs.Plain.{is_window_item};
+
+use crate::items::resolved;
+use sql_check_parts::or_null;
+use sql_check_queries::{all_some, join_source, share_kinds};
+use sql_eval::Names;
+use sql_from::Sources;
+use sql_tree::{Item, Select};
+use std::alloc::{AllocError, Global};
+use vtl_cell::{Kind, Profile};
+use vtl_rows::{Column, Tables};
+
+// The kinds of items.
+fn item_kinds<N: Names>(
+    alloc: Global,
+    p: &Profile,
+    names: &N,
+    items: &[Item],
+) -> Result<Vec<Kind>, AllocError>
+    requires { list_any is_window_item (map item_tree items.now) ≡ false }
+    ensures { IfOk result (λ v. v.items ≡ map (item_kind (N.scope names.now)) (map item_tree items.now)) }
+{
+    let mut kinds = Vec::with_capacity(alloc, items.len())?;
+    for item in items {
+        kinds.push(resolved(alloc, p, names, &item.value)?.kind)?;
+    }
+    Ok(kinds)
+}
+
+// The kinds of the items of a select.
+fn select_kinds(
+    alloc: Global,
+    p: &Profile,
+    tables: &Tables,
+    select: &Select,
+) -> Result<Vec<Kind>, AllocError>
+    requires { IsPlain p.now (tables_held tables.now) (select_tree select.now) }
+    ensures { IfOk result (λ v. v.items ≡ kinds_of (tables_held tables.now) (select_tree select.now)) }
+{
+    let mut sources = Sources::over(alloc, tables).with(alloc, &select.from)?;
+    for join in select.joins.as_slice() {
+        sources = sources.with(alloc, join_source(join))?;
+    }
+    item_kinds(alloc, p, &sources, select.items.as_slice())
+}
+
+// Shares kinds with those of further selects.
+fn share_others(
+    alloc: Global,
+    p: &Profile,
+    tables: &Tables,
+    shared: &mut [Option<Kind>],
+    others: &[Select],
+) -> Result<(), AllocError>
+    requires { AllByRecursion (IsPlain p.now (tables_held tables.now)) (map select_tree others.now) }
+    ensures { OnOk result (shared.new ≡ fold (λ kinds other. beside kinds (kinds_of (tables_held tables.now) other)) shared.old (map select_tree others.now)) }
+{
+    for other in others {
+        let kinds = select_kinds(alloc, p, tables, other)?;
+        share_kinds(shared, &kinds);
+    }
+    Ok(())
+}
+
+// The kinds that are shared; that of null where there is none.
+fn known_kinds(alloc: Global, shared: &[Option<Kind>]) -> Result<Vec<Kind>, AllocError>
+    ensures { IfOk result (λ v. v.items ≡ map or_null shared.now) }
+{
+    let mut kinds = Vec::with_capacity(alloc, shared.len())?;
+    for kind in shared {
+        kinds.push(or_null(*kind))?;
+    }
+    Ok(kinds)
+}
+
+/// The kinds that the items of all selects share, by their places; that of null where there is none. It fails only if
+/// memory runs out.
+pub(crate) fn query_kinds(
+    alloc: Global,
+    p: &Profile,
+    tables: &Tables,
+    selects: &[Select],
+) -> Result<Vec<Kind>, AllocError>
+    requires { AllByRecursion (IsPlain p.now (tables_held tables.now)) (map select_tree selects.now) }
+    ensures { IfOk result (λ v. v.items ≡ map or_null (shared_kinds (tables_held tables.now) (map select_tree selects.now))) }
+{
+    let Some((first, others)) = selects.split_first() else {
+        return Ok(Vec::new(alloc));
+    };
+    let kinds = select_kinds(alloc, p, tables, first)?;
+    let mut shared = all_some(alloc, &kinds)?;
+    share_others(alloc, p, tables, &mut shared, others)?;
+    known_kinds(alloc, &shared)
+}
+
+/// Columns with the names of items, of these kinds. It fails only if memory runs out.
+pub(crate) fn named_columns(
+    alloc: Global,
+    items: &[Item],
+    kinds: &[Kind],
+) -> Result<Vec<Column>, AllocError>
+    requires { length kinds.now ≡ length items.now }
+    ensures { IfOk result (λ v. map column_entry v.items ≡ zip (map (λ item. item.name) items.now) kinds.now) }
+{
+    let mut columns = Vec::with_capacity(alloc, items.len())?;
+    for i in 0..items.len() {
+        columns.push(Column {
+            name: items[i].name.share()?,
+            kind: kinds[i],
+        })?;
+    }
+    Ok(columns)
+}

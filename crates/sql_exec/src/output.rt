@@ -1,0 +1,94 @@
+// What the selects of a query gave so far.
+ghost use Rattle.std.specs.Prelude.{◌≡◌, ◌<◌, ◌∷◌, [], true, length, None, Ok, IfErr, IfOk, OnOk};
+ghost use Rattle.vtl_cell.specs.Outcome.{unless};
+ghost use Rattle.vtl_rows.specs.Tables.{fits};
+ghost use Rattle.sql_meaning.specs.Outcomes.{row_at, row_fault};
+ghost use Rattle.sql_from.specs.Seen.{answer_of};
+ghost use Rattle.sql_exec.specs.Items.{made_at_row};
+ghost use Rattle.sql_exec.specs.Outputs.{Adds, Sees, fault_seen};
+
+use crate::items::{RowItem, push_items};
+use sql_eval::Cells;
+use sql_from::Seen;
+use std::alloc::{AllocError, Global};
+use vtl_cell::{Cell, Profile};
+use vtl_rows::{Column, Table};
+use vtl_scalar::ScalarErr;
+
+/// A table of the rows so far, the list in which the next one is made, and the fault that was seen. Once there is one,
+/// no further rows are put into the table.
+pub(crate) struct Output {
+    pub(crate) table: Table,
+    pub(crate) cells: Vec<Cell>,
+    pub(crate) seen: Seen,
+}
+
+// Written out, so that each owner sees one call and not the drop of each part.
+impl Drop for Output {
+    fn drop(self) {
+        let Output {
+            table: _table,
+            cells: _cells,
+            seen: _seen,
+        } = self;
+    }
+}
+
+impl Output {
+    /// No rows.
+    pub(crate) fn new(alloc: Global, columns: Vec<Column>) -> Output
+        requires { 0 < length columns.items }
+        ensures columns { result.table.columns ≡ columns.items }
+        ensures rows { result.table.rows ≡ [] }
+        ensures fault { fault_seen result ≡ None }
+    {
+        Output {
+            table: Table::new(alloc, columns),
+            cells: Vec::new(alloc),
+            seen: Seen::Nothing,
+        }
+    }
+
+    /// Adds the row of the values of items at a row of FROM.
+    pub(crate) fn add_row<R: Cells>(
+        &mut self,
+        alloc: Global,
+        items: &[RowItem],
+        at: &R,
+        p: &Profile,
+    ) -> Result<(), ScalarErr>
+        requires row { R.group at.now ≡ [] }
+        requires fits { row_fault (made_at_row p.now (R.tables at.now)) items.now (R.cells at.now) ≡ None → fits self.old.table.columns (row_at (made_at_row p.now (R.tables at.now)) items.now (R.cells at.now)) ≡ true }
+        ensures adds { OnOk result (Adds (unless (row_fault (made_at_row p.now (R.tables at.now)) items.now (R.cells at.now)) (row_at (made_at_row p.now (R.tables at.now)) items.now (R.cells at.now) ∷ [])) self.old self.new) }
+        ensures err { IfErr result (λ e. e ≡ ScalarErr.OutOfMemory) }
+    {
+        self.cells.clear();
+        self.seen = push_items(alloc, &mut self.cells, self.seen, items, at, p)?;
+        if let Seen::Nothing = self.seen {
+            self.table.push_cells(&mut self.cells)?;
+        }
+        Ok(())
+    }
+
+    /// Sees a fault. That memory ran out is no such fault, and is passed on.
+    pub(crate) fn see(&mut self, error: ScalarErr) -> Result<(), ScalarErr>
+        ensures table { self.new.table ≡ self.old.table }
+        ensures fault { OnOk result (Sees error self.old self.new) }
+        ensures err { IfErr result (λ e. e ≡ ScalarErr.OutOfMemory) }
+    {
+        self.seen = self.seen.and(error)?;
+        Ok(())
+    }
+
+    /// The table, unless a fault was seen.
+    pub(crate) fn finish(self) -> Result<Table, ScalarErr>
+        ensures { result ≡ answer_of (unless (fault_seen self) self.table) }
+    {
+        let Output {
+            table,
+            cells: _cells,
+            seen,
+        } = self;
+        seen.unless(table)
+    }
+}

@@ -1,0 +1,119 @@
+// Selects: FROM and WHERE first, and then items or groups.
+ghost use Rattle.std.specs.List.{AllByRecursion, list_any};
+ghost use Rattle.std.specs.Prelude.{◌≡◌, false, length, map, zip, IfErr, OnOk};
+ghost use Rattle.vtl_rows.specs.Tables.{column_kinds};
+ghost use Rattle.sql_tree.specs.View.{item_tree, select_tree};
+ghost use Rattle.sql_check_parts.specs.Queries.{scope_of};
+ghost use Rattle.sql_check_parts.specs.Scopes.{row_of};
+ghost use Rattle.sql_meaning.specs.Selects.{appended, plain_rows, second_phase, select_value};
+ghost use Rattle.sql_meaning.specs.Tables.{RowsFit, TablesFit};
+ghost use Rattle.sql_from.specs.Held.{base_held, tables_held};
+ghost use Rattle.sql_from.specs.Sources.{scope_held};
+ghost use Rattle.sql_from.specs.Standing.{rows_for, sight_of};
+ghost use Rattle.sql_exec.specs.Outputs.{Adds};
+ghost use Rattle.sql_exec.specs.Parts.{IsPart, MakesKinds};
+ghost use Rattle.sql_exec.specs.Plain.{is_window_item};
+
+use crate::items::row_items;
+use crate::output::Output;
+use sql_check_queries::is_grouped;
+use sql_from::{TupleRows, source_tuples};
+use sql_groups::push_grouped;
+use sql_tree::{Item, Select};
+use std::alloc::Global;
+use vtl_cell::{Kind, Profile};
+use vtl_rows::Tables;
+use vtl_scalar::ScalarErr;
+
+// Adds a row of the items for each row of FROM.
+fn add_rows(
+    alloc: Global,
+    out: &mut Output,
+    items: &[Item],
+    rows: &TupleRows<'_>,
+    kinds: &[Kind],
+    p: &Profile,
+) -> Result<(), ScalarErr>
+    requires plain { list_any is_window_item (map item_tree items.now) ≡ false }
+    requires many { length kinds.now ≡ length items.now }
+    requires columns { column_kinds out.old.table.columns ≡ kinds.now }
+    requires fit { RowsFit (row_of (scope_held rows.now.sources.sources)) (rows_for rows.now.sources rows.now.tuples) }
+    requires fitting { MakesKinds (scope_held rows.now.sources.sources) kinds.now (plain_rows (sight_of p.now rows.now.sources) (zip (map item_tree items.now) kinds.now)) }
+    ensures adds { OnOk result (Adds (plain_rows (sight_of p.now rows.now.sources) (zip (map item_tree items.now) kinds.now) (rows_for rows.now.sources rows.now.tuples)) out.old out.new) }
+    ensures err { IfErr result (λ e. e ≡ ScalarErr.OutOfMemory) }
+{
+    let resolved = row_items(alloc, p, &rows.sources, items, kinds)?;
+    out.table.reserve_rows(rows.len())?;
+    for number in 0..rows.len() {
+        out.add_row(alloc, &resolved, &rows.row(number), p)?;
+    }
+    Ok(())
+}
+
+// Adds what the select makes of the rows that FROM and WHERE give.
+fn add_phase(
+    alloc: Global,
+    out: &mut Output,
+    select: &Select,
+    rows: &TupleRows<'_>,
+    kinds: &[Kind],
+    p: &Profile,
+) -> Result<(), ScalarErr>
+    requires scope { scope_held rows.now.sources.sources ≡ scope_of (tables_held rows.now.sources.held) (select_tree select.now) }
+    requires part { IsPart (base_held p.now rows.now.sources.held) kinds.now (select_tree select.now) }
+    requires columns { column_kinds out.old.table.columns ≡ kinds.now }
+    requires fit { RowsFit (row_of (scope_held rows.now.sources.sources)) (rows_for rows.now.sources rows.now.tuples) }
+    ensures adds { OnOk result (Adds (second_phase (sight_of p.now rows.now.sources) (zip (select_tree select.now).items kinds.now) (select_tree select.now) (rows_for rows.now.sources rows.now.tuples)) out.old out.new) }
+    ensures err { IfErr result (λ e. e ≡ ScalarErr.OutOfMemory) }
+{
+    if !is_grouped(select) {
+        return add_rows(alloc, out, select.items.as_slice(), rows, kinds, p);
+    }
+    match push_grouped(alloc, &mut out.table, select, &*rows, kinds, p) {
+        Ok(()) => Ok(()),
+        Err(error) => out.see(error),
+    }
+}
+
+// Adds the rows of a select, or its fault.
+fn add_select(
+    alloc: Global,
+    out: &mut Output,
+    select: &Select,
+    kinds: &[Kind],
+    tables: &Tables,
+    p: &Profile,
+) -> Result<(), ScalarErr>
+    requires part { IsPart (base_held p.now tables.now) kinds.now (select_tree select.now) }
+    requires tables { TablesFit (base_held p.now tables.now) }
+    requires columns { column_kinds out.old.table.columns ≡ kinds.now }
+    ensures adds { OnOk result (Adds (select_value (base_held p.now tables.now) kinds.now (select_tree select.now)) out.old out.new) }
+    ensures err { IfErr result (λ e. e ≡ ScalarErr.OutOfMemory) }
+{
+    match source_tuples(alloc, select, tables, p) {
+        Ok(rows) => add_phase(alloc, out, select, &rows, kinds, p),
+        Err(error) => out.see(error),
+    }
+}
+
+/// Adds the rows of all selects, or the worst of their faults: each select is carried out, whatever those before it
+/// give.
+pub(crate) fn add_selects(
+    alloc: Global,
+    out: &mut Output,
+    selects: &[Select],
+    kinds: &[Kind],
+    tables: &Tables,
+    p: &Profile,
+) -> Result<(), ScalarErr>
+    requires parts { AllByRecursion (IsPart (base_held p.now tables.now) kinds.now) (map select_tree selects.now) }
+    requires tables { TablesFit (base_held p.now tables.now) }
+    requires columns { column_kinds out.old.table.columns ≡ kinds.now }
+    ensures adds { OnOk result (Adds (appended (map (select_value (base_held p.now tables.now) kinds.now) (map select_tree selects.now))) out.old out.new) }
+    ensures err { IfErr result (λ e. e ≡ ScalarErr.OutOfMemory) }
+{
+    for select in selects {
+        add_select(alloc, out, select, kinds, tables, p)?;
+    }
+    Ok(())
+}
