@@ -19,13 +19,13 @@ use Rattle.vtl_rows.specs.declared.column.Column.{Column}
 use Rattle.sql_tree.specs.Trees as tree
 use Rattle.sql_tree.specs.Trees.{QueryTree, StatementTree, Text}
 use Rattle.sql_tree.specs.declared.statements.SqlExport.{SqlExport}
-use Rattle.sql_check_parts.specs.Queries.{query_columns}
-use Rattle.sql_check_parts.specs.Scopes.{Columns, Tables, columns_of}
-use Rattle.sql_check_parts.specs.Statements.{Given, after, input_columns, nothing}
-use Rattle.sql_check_laws.specs.Statements.{AreTyped, IsOrder}
-use Rattle.sql_meaning.specs.Scripts.{Data, Export, Inputs, Made, NamedFault, Table, and_table, base_of, created, export_of, input_table, no_table, nothing_made, or_named, sort_key, statement_made, statements_made, table_named, tables_in}
-use Rattle.sql_meaning.specs.Selects.{query_value}
-use Rattle.sql_meaning.specs.Tables.{column_entry, rows_of}
+use Rattle.sql_exec.specs.Queries.{query_columns}
+use Rattle.sql_exec.specs.Scopes.{Columns, Tables, columns_of}
+use Rattle.sql_exec.specs.TypingStatements.{Given, after, input_columns, nothing}
+use Rattle.sql_exec.specs.Statements.{AreTyped, IsOrder}
+use Rattle.sql_exec.specs.Scripts.{Data, Export, Inputs, Made, NamedFault, Table, and_table, base_of, created, export_of, input_table, no_table, nothing_made, or_named, sort_key, statement_made, statements_made, table_named, tables_in}
+use Rattle.sql_exec.specs.Selects.{query_value}
+use Rattle.sql_exec.specs.Tables.{column_entry, rows_of}
 use Rattle.sql_exec.specs.Held.{tables_held}
 use Rattle.sql_engine.specs.Exported.{AreExported, entry_column, exported_of, exports_in, no_listed, ordered_by, shown}
 use Rattle.sql_engine.specs.Held.{HaveMade}

@@ -12,8 +12,8 @@ use Rattle.sql_tree.specs.Trees.{StatementTree, Text}
 use Rattle.sql_tree.specs.View.{statement_tree}
 use Rattle.sql_tree.specs.declared.statements.SqlExport.{SqlExport}
 use Rattle.sql_tree.specs.declared.statements.Statement.{Statement}
-use Rattle.sql_check_parts.specs.Scopes.{columns_of, is_among}
-use Rattle.sql_check_laws.specs.Statements.{AreNames, IsOrder}
+use Rattle.sql_exec.specs.Scopes.{columns_of, is_among}
+use Rattle.sql_exec.specs.Statements.{AreNames, IsOrder}
 use Rattle.sql_exec.specs.Held.{tables_held}
 use Rattle.sql_engine.specs.Exported.{AreExported, exported_of, exports_in, no_listed, ordered_by}
 use Rattle.sql_engine.proofs.TableLookups.{columns_in, columns_looked, free_name, or_else, or_else_again, table_behind}

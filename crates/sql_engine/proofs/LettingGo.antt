@@ -11,7 +11,7 @@ use Rattle.vtl_cell.specs.Texts.{same_text}
 use Rattle.vtl_rows.specs.Named.{NamedTables, table_of}
 use Rattle.vtl_rows.specs.Tables.{Listed}
 use Rattle.sql_tree.specs.Trees.{Text}
-use Rattle.sql_check_parts.specs.Scopes.{is_among}
+use Rattle.sql_exec.specs.Scopes.{is_among}
 use Rattle.sql_engine.specs.Held.{let_go}
 use Rattle.sql_engine.proofs.TableLookups.{free_name}
 

@@ -1,3 +1,5 @@
+pub use Rattle.sql_exec.proofs.GivenColumns
+pub use Rattle.sql_exec.proofs.TypedStatements
 pub mod FaultNames
 pub mod OnlyRead
 pub mod Ordering

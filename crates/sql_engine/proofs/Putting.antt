@@ -8,9 +8,9 @@ use Rattle.vtl_rows.specs.Named.{NamedTables, table_of}
 use Rattle.vtl_rows.specs.Tables.{Listed}
 use Rattle.vtl_scalar.specs.declared.error.ScalarErr.{ScalarErr}
 use Rattle.sql_tree.specs.Trees.{Text}
-use Rattle.sql_check_parts.specs.Scopes.{Columns}
-use Rattle.sql_meaning.specs.Scripts.{or_named}
-use Rattle.sql_meaning.specs.Tables.{HasTable, rows_of}
+use Rattle.sql_exec.specs.Scopes.{Columns}
+use Rattle.sql_exec.specs.Scripts.{or_named}
+use Rattle.sql_exec.specs.Tables.{HasTable, rows_of}
 use Rattle.sql_exec.specs.Answers.{Gives}
 use Rattle.sql_engine.specs.Runs.{FaultIs, Faults}
 use Rattle.sql_engine.specs.Statements.{IsPut}

@@ -6,8 +6,8 @@ use Rattle.vtl_cell.specs.Texts.{same_text}
 use Rattle.vtl_rows.specs.Named.{NamedTables, table_of}
 use Rattle.vtl_rows.specs.Tables.{Listed}
 use Rattle.sql_tree.specs.Trees.{Text}
-use Rattle.sql_check_parts.specs.Scopes.{Columns, columns_of, is_among}
-use Rattle.sql_meaning.specs.Tables.{column_entry}
+use Rattle.sql_exec.specs.Scopes.{Columns, columns_of, is_among}
+use Rattle.sql_exec.specs.Tables.{column_entry}
 use Rattle.sql_exec.specs.Held.{tables_held}
 
 -- the first of two that is there

@@ -5,7 +5,7 @@ use Rattle.vtl_rows.specs.Named.{NamedTables}
 use Rattle.sql_tree.specs.Trees.{ScriptTree, Text}
 use Rattle.vtl_scalar.specs.declared.error.ScalarErr.{ScalarErr}
 use Rattle.vtl_scalar.specs.declared.error.ScalarErr.TheVariants as scalar
-use Rattle.sql_meaning.specs.Scripts.{Export, NamedFault, fault_name, script_value}
+use Rattle.sql_exec.specs.Scripts.{Export, NamedFault, fault_name, script_value}
 use Rattle.sql_engine.specs.Exported.{shown}
 use Rattle.sql_engine.specs.InputTables.{rows_given}
 use Rattle.sql_engine.specs.declared.error.RunErr.{RunErr}

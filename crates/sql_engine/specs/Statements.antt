@@ -10,14 +10,14 @@ use Rattle.sql_tree.specs.Formed.{IsQuery}
 use Rattle.sql_tree.specs.Grammar.{most_levels}
 use Rattle.sql_tree.specs.Trees as tree
 use Rattle.sql_tree.specs.Trees.{QueryTree, StatementTree, Text}
-use Rattle.sql_check_parts.specs.Queries.{query_columns}
-use Rattle.sql_check_parts.specs.Scopes.{Columns}
-use Rattle.sql_check_parts.specs.Statements.{input_columns}
-use Rattle.sql_check_laws.specs.Selects.{IsQueryTyped}
-use Rattle.sql_meaning.specs.Profiles.{IsLawful}
-use Rattle.sql_meaning.specs.Scripts.{or_named}
-use Rattle.sql_meaning.specs.Selects.{query_value}
-use Rattle.sql_meaning.specs.Tables.{HasTable, column_entry, rows_of}
+use Rattle.sql_exec.specs.Queries.{query_columns}
+use Rattle.sql_exec.specs.Scopes.{Columns}
+use Rattle.sql_exec.specs.TypingStatements.{input_columns}
+use Rattle.sql_exec.specs.TypedSelects.{IsQueryTyped}
+use Rattle.sql_exec.specs.Profiles.{IsLawful}
+use Rattle.sql_exec.specs.Scripts.{or_named}
+use Rattle.sql_exec.specs.Selects.{query_value}
+use Rattle.sql_exec.specs.Tables.{HasTable, column_entry, rows_of}
 use Rattle.sql_exec.specs.Held.{base_held, tables_held}
 use Rattle.sql_exec.specs.Plain.{query_has_window}
 use Rattle.sql_engine.specs.Runs.{FaultIs}

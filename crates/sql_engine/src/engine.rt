@@ -1,7 +1,7 @@
 // A run of a script.
 ghost use Rattle.std.specs.Prelude.{◌≡◌, false};
 ghost use Rattle.sql_tree.specs.View.{script_tree};
-ghost use Rattle.sql_meaning.specs.Scripts.{script_value};
+ghost use Rattle.sql_exec.specs.Scripts.{script_value};
 ghost use Rattle.sql_engine.specs.InputTables.{AreInputsInRange, HaveInputTables, rows_given};
 ghost use Rattle.sql_engine.specs.Runs.{Runs, TellsExports};
 ghost use Rattle.sql_engine.specs.Windows.{script_has_window};

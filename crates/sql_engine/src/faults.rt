@@ -1,6 +1,6 @@
 // The name that a fault tells.
 ghost use Rattle.std.specs.Prelude.{◌≡◌, IfOk, OnOk};
-ghost use Rattle.sql_meaning.specs.Scripts.{fault_name};
+ghost use Rattle.sql_exec.specs.Scripts.{fault_name};
 ghost use Rattle.sql_engine.specs.Runs.{Faults};
 
 use crate::RunErr;

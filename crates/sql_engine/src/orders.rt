@@ -5,9 +5,9 @@ ghost use Rattle.std.specs.Map.{keys_of};
 ghost use Rattle.vtl_cell.specs.Sorted.{rising};
 ghost use Rattle.vtl_cell.specs.Texts.{same_text};
 ghost use Rattle.vtl_rows.specs.Keys.{key_of};
-ghost use Rattle.sql_check_laws.specs.Statements.{AreNames};
-ghost use Rattle.sql_meaning.specs.Scripts.{sort_key};
-ghost use Rattle.sql_meaning.specs.Tables.{column_entry};
+ghost use Rattle.sql_exec.specs.Statements.{AreNames};
+ghost use Rattle.sql_exec.specs.Scripts.{sort_key};
+ghost use Rattle.sql_exec.specs.Tables.{column_entry};
 ghost use Rattle.sql_engine.specs.Exported.{ordered_by};
 
 use std::alloc::{AllocError, Global};

@@ -2,10 +2,10 @@
 ghost use Rattle.std.specs.Prelude.{◌≡◌, IfOk, None, Ok, OnOk, map};
 ghost use Rattle.vtl_rows.specs.Named.{table_of};
 ghost use Rattle.sql_tree.specs.View.{query_tree, statement_tree};
-ghost use Rattle.sql_check_parts.specs.Queries.{query_columns};
-ghost use Rattle.sql_check_parts.specs.Statements.{input_columns};
-ghost use Rattle.sql_meaning.specs.Selects.{query_value};
-ghost use Rattle.sql_meaning.specs.Tables.{HasTable, column_entry, rows_of};
+ghost use Rattle.sql_exec.specs.Queries.{query_columns};
+ghost use Rattle.sql_exec.specs.TypingStatements.{input_columns};
+ghost use Rattle.sql_exec.specs.Selects.{query_value};
+ghost use Rattle.sql_exec.specs.Tables.{HasTable, column_entry, rows_of};
 ghost use Rattle.sql_exec.specs.Answers.{Gives};
 ghost use Rattle.sql_exec.specs.Held.{base_held, tables_held};
 ghost use Rattle.sql_engine.specs.Statements.{IsPut, MayQuery, MayRun, RunsStatement};

@@ -1,6 +1,6 @@
 // The structure that an INPUT declares.
 ghost use Rattle.std.specs.Prelude.{◌≡◌, IfOk, map};
-ghost use Rattle.sql_check_parts.specs.Scopes.{is_among};
+ghost use Rattle.sql_exec.specs.Scopes.{is_among};
 ghost use Rattle.sql_engine.specs.Structures.{component_of, listed_codes, role_in, structure_of};
 
 use sql_tree::{InputColumn, SqlInput};

@@ -5,10 +5,13 @@ pub use Rattle.sql_meaning.specs.Fits
 pub use Rattle.sql_meaning.specs.From
 pub use Rattle.sql_meaning.specs.Groups
 pub use Rattle.sql_meaning.specs.Outcomes
+pub use Rattle.sql_meaning.specs.Profiles
 pub use Rattle.sql_meaning.specs.Selects
+pub use Rattle.sql_meaning.specs.Statements
 pub use Rattle.sql_meaning.specs.Tables
 pub use Rattle.sql_meaning.specs.TypedSelects
 pub use Rattle.sql_meaning.specs.Values
+pub use Rattle.sql_meaning.specs.Windows
 pub mod Placed
 pub mod View
 pub mod Resolves

@@ -9,9 +9,9 @@ use Rattle.vtl_cell.specs.declared.kind.Kind.{Kind}
 use Rattle.vtl_rows.specs.Tables.{column_kinds, fits, fits_kinds}
 use Rattle.vtl_rows.specs.declared.column.Column.{Column}
 use Rattle.sql_tree.specs.Trees.{ItemTree}
-use Rattle.sql_check_parts.specs.Scopes.{row_of}
-use Rattle.sql_meaning.specs.Outcomes.{row_at, row_fault}
-use Rattle.sql_meaning.specs.Selects.{Wanted, plain_rows}
+use Rattle.sql_groups.specs.Scopes.{row_of}
+use Rattle.sql_groups.specs.Outcomes.{row_at, row_fault}
+use Rattle.sql_groups.specs.Selects.{Wanted, plain_rows}
 use Rattle.sql_eval.specs.Resolves.{sight}
 use Rattle.sql_eval.specs.declared.names.Level.TheVariants as levels
 use Rattle.sql_from.specs.Held.{rows_held, tables_held}

@@ -8,10 +8,10 @@ use Rattle.vtl_cell.specs.declared.cell.Cell.{Cell}
 use Rattle.vtl_cell.specs.declared.kind.Kind.{Kind}
 use Rattle.sql_tree.specs.Trees as tree
 use Rattle.sql_tree.specs.Trees.{ItemTree, ValueTree}
-use Rattle.sql_meaning.specs.Outcomes.{cell_or_null, row_at, row_fault}
-use Rattle.sql_meaning.specs.Selects.{appended, as_wanted, item_value, plain_rows, row_value, rows_in}
-use Rattle.sql_meaning.specs.Values.{View}
-use Rattle.sql_meaning.specs.Windows.{told_apart}
+use Rattle.sql_groups.specs.Outcomes.{cell_or_null, row_at, row_fault}
+use Rattle.sql_groups.specs.Selects.{appended, as_wanted, item_value, plain_rows, row_value, rows_in}
+use Rattle.sql_groups.specs.Values.{View}
+use Rattle.sql_groups.specs.Windows.{told_apart}
 use Rattle.sql_exec.specs.Items.{each_row, item_at_row, value_at_row}
 use Rattle.sql_exec.specs.Plain.{is_window, is_window_item}
 use Rattle.sql_exec.proofs.Added.{fault_of_unless, neither_fault, unless_same}

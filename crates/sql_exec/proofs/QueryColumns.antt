@@ -7,9 +7,9 @@ use Rattle.vtl_rows.specs.declared.column.Column.{Column}
 use Rattle.sql_tree.specs.Trees.{Text}
 use Rattle.sql_tree.specs.declared.parts.Source.{Source}
 use Rattle.sql_tree.specs.declared.statements.Item.{Item}
-use Rattle.sql_check_parts.specs.Scopes.{with_source}
-use Rattle.sql_check_laws.specs.Selects.{IsSourceTyped}
-use Rattle.sql_meaning.specs.Tables.{column_entry}
+use Rattle.sql_groups.specs.Scopes.{with_source}
+use Rattle.sql_groups.specs.TypedSelects.{IsSourceTyped}
+use Rattle.sql_groups.specs.Tables.{column_entry}
 use Rattle.sql_from.specs.Held.{tables_held}
 use Rattle.sql_from.specs.Sources.{Sourced, scope_held, table_named}
 use Rattle.sql_from.proofs.Standing.{scope_more}

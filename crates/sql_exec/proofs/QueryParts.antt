@@ -6,16 +6,16 @@ use Rattle.std.proofs.lemmas.List.{length-map}
 use Rattle.vtl_cell.specs.Row.{Row}
 use Rattle.vtl_cell.specs.declared.kind.Kind.{Kind}
 use Rattle.sql_tree.specs.Trees.{QueryTree, SelectTree}
-use Rattle.sql_check_parts.specs.Expressions.{site}
-use Rattle.sql_check_parts.specs.Queries as typing
-use Rattle.sql_check_parts.specs.Queries.{is_grouped, item_kind, query_columns, scope_of}
-use Rattle.sql_check_parts.specs.Scopes.{Scope, grouping_of}
-use Rattle.sql_check_laws.specs.Selects.{IsItemTyped, IsQueryTyped, IsSelectTyped}
-use Rattle.sql_meaning.specs.Selects.{Wanted, grouped_rows, plain_rows, second_phase}
-use Rattle.sql_meaning.specs.Tables.{Base, RowsFit, kinds_of}
-use Rattle.sql_meaning.specs.Values.{View, at_rows}
-use Rattle.sql_meaning.proofs.QueryKinds.{grouped_fit, plain_fit}
-use Rattle.sql_meaning.proofs.SharedKinds.{Lifted}
+use Rattle.sql_groups.specs.Expressions.{site}
+use Rattle.sql_groups.specs.Queries as typing
+use Rattle.sql_groups.specs.Queries.{is_grouped, item_kind, query_columns, scope_of}
+use Rattle.sql_groups.specs.Scopes.{Scope, grouping_of}
+use Rattle.sql_groups.specs.TypedSelects.{IsItemTyped, IsQueryTyped, IsSelectTyped}
+use Rattle.sql_groups.specs.Selects.{Wanted, grouped_rows, plain_rows, second_phase}
+use Rattle.sql_groups.specs.Tables.{Base, RowsFit, kinds_of}
+use Rattle.sql_groups.specs.Values.{View, at_rows}
+use Rattle.sql_groups.proofs.QueryKinds.{grouped_fit, plain_fit}
+use Rattle.sql_groups.proofs.SharedKinds.{Lifted}
 use Rattle.sql_groups.specs.Resolved.{AreLifted}
 use Rattle.sql_groups.proofs.LiftedLemmas.{all_are_lifted}
 use Rattle.sql_exec.specs.Parts.{IsPart, IsPlain, MakesKinds}

@@ -4,7 +4,7 @@ use Rattle.std.specs.Prelude.{zip}
 use Rattle.std.specs.List.{AllByRecursion, list_any}
 use Rattle.std.proofs.lemmas.List.{map-append, take_more}
 use Rattle.vtl_cell.specs.Outcome.{Fault, faults_by, join}
-use Rattle.sql_meaning.proofs.UpToOrder.{faults_by-append, join_assoc, join_none}
+use Rattle.sql_groups.proofs.UpToOrder.{faults_by-append, join_assoc, join_none}
 
 -- ---- at one place
 

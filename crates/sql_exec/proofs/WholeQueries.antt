@@ -17,12 +17,12 @@ use Rattle.sql_tree.specs.Trees.{QueryTree, Text}
 use Rattle.sql_tree.specs.View.{item_tree, select_tree}
 use Rattle.sql_tree.specs.declared.statements.Item.{Item}
 use Rattle.sql_tree.specs.declared.statements.Select.{Select}
-use Rattle.sql_check_parts.specs.Queries.{item_name, query_columns, query_names, shared_kinds}
-use Rattle.sql_check_parts.specs.Scopes.{Columns, Tables, or_null}
-use Rattle.sql_check_parts.proofs.QueryKinds.{as_many}
-use Rattle.sql_meaning.specs.Selects.{rows_in}
-use Rattle.sql_meaning.specs.Tables.{column_entry, kinds_of}
-use Rattle.sql_meaning.proofs.SharedKinds.{named_kinds}
+use Rattle.sql_groups.specs.Queries.{item_name, query_columns, query_names, shared_kinds}
+use Rattle.sql_groups.specs.Scopes.{Columns, Tables, or_null}
+use Rattle.sql_groups.proofs.TypingQueryKinds.{as_many}
+use Rattle.sql_groups.specs.Selects.{rows_in}
+use Rattle.sql_groups.specs.Tables.{column_entry, kinds_of}
+use Rattle.sql_groups.proofs.SharedKinds.{named_kinds}
 use Rattle.sql_from.specs.Seen.{answer_of}
 use Rattle.sql_exec.specs.Answers.{Gives}
 use Rattle.sql_exec.specs.Outputs.{Adds, fault_seen}

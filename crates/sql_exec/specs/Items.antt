@@ -8,10 +8,10 @@ use Rattle.vtl_cell.specs.declared.cell.Cell.{Cell}
 use Rattle.vtl_cell.specs.declared.cell.Cell.TheVariants as c
 use Rattle.sql_tree.specs.Trees as tree
 use Rattle.sql_tree.specs.Trees.{Text, ValueTree}
-use Rattle.sql_check_parts.specs.Queries.{value_kind}
-use Rattle.sql_meaning.specs.Outcomes.{row_at, row_fault}
-use Rattle.sql_meaning.specs.Selects.{Wanted, as_wanted}
-use Rattle.sql_meaning.specs.Values.{View, value}
+use Rattle.sql_groups.specs.Queries.{value_kind}
+use Rattle.sql_groups.specs.Outcomes.{row_at, row_fault}
+use Rattle.sql_groups.specs.Selects.{Wanted, as_wanted}
+use Rattle.sql_groups.specs.Values.{View, value}
 use Rattle.sql_eval.specs.Placed.{placed_value}
 use Rattle.sql_eval.specs.Resolves.{Sight, view_over}
 use Rattle.sql_eval.specs.View.{placed_of}

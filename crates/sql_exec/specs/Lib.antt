@@ -1,4 +1,22 @@
+pub use Rattle.sql_check_parts.specs.Exists
+pub use Rattle.sql_check_parts.specs.Kinds
+pub use Rattle.sql_check_parts.specs.Queries
+pub use Rattle.sql_check_parts.specs.Rules
+pub use Rattle.sql_check_parts.specs.Scopes
+pub use Rattle.sql_check_parts.specs.Statements as TypingStatements
+pub use Rattle.sql_eval.specs.Statements
+pub use Rattle.sql_eval.specs.TypedSelects
 pub use Rattle.sql_from.specs.Held
+pub use Rattle.sql_meaning.specs.From
+pub use Rattle.sql_meaning.specs.Groups
+pub use Rattle.sql_meaning.specs.Orders
+pub use Rattle.sql_meaning.specs.Outcomes
+pub use Rattle.sql_meaning.specs.Profiles
+pub use Rattle.sql_meaning.specs.Scripts
+pub use Rattle.sql_meaning.specs.Selects
+pub use Rattle.sql_meaning.specs.Tables
+pub use Rattle.sql_meaning.specs.Values
+pub use Rattle.sql_meaning.specs.Windows
 pub mod Plain
 pub mod Answers
 pub mod Items

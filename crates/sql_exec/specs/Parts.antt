@@ -5,10 +5,10 @@ use Rattle.vtl_cell.specs.Row.{Row}
 use Rattle.vtl_cell.specs.Settings.{Settings}
 use Rattle.vtl_cell.specs.declared.kind.Kind.{Kind}
 use Rattle.sql_tree.specs.Trees.{SelectTree}
-use Rattle.sql_check_parts.specs.Queries.{kinds_of}
-use Rattle.sql_check_parts.specs.Scopes.{Scope, Tables, row_of}
-use Rattle.sql_check_laws.specs.Selects.{IsSelectTyped}
-use Rattle.sql_meaning.specs.Tables.{Base, RowsFit}
+use Rattle.sql_groups.specs.Queries.{kinds_of}
+use Rattle.sql_groups.specs.Scopes.{Scope, Tables, row_of}
+use Rattle.sql_groups.specs.TypedSelects.{IsSelectTyped}
+use Rattle.sql_groups.specs.Tables.{Base, RowsFit}
 use Rattle.sql_groups.specs.Resolved.{AreLifted}
 use Rattle.sql_exec.specs.Plain.{select_has_window}
 

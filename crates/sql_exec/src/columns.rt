@@ -2,17 +2,16 @@
 ghost use Rattle.std.specs.List.{AllByRecursion, list_any};
 ghost use Rattle.std.specs.Prelude.{◌≡◌, false, fold, length, map, zip, IfOk, OnOk};
 ghost use Rattle.sql_tree.specs.View.{item_tree, select_tree};
-ghost use Rattle.sql_check_parts.specs.Queries.{beside, item_kind, kinds_of, shared_kinds};
-ghost use Rattle.sql_check_parts.specs.Scopes.{or_null};
-ghost use Rattle.sql_meaning.specs.Tables.{column_entry};
+ghost use Rattle.sql_groups.specs.Queries.{beside, item_kind, kinds_of, shared_kinds};
+ghost use Rattle.sql_groups.specs.Scopes.{or_null};
+ghost use Rattle.sql_groups.specs.Tables.{column_entry};
 ghost use Rattle.sql_from.specs.Held.{tables_held};
 ghost use Rattle.sql_exec.specs.Parts.{IsPlain};
 ghost use Rattle.sql_exec.specs.Plain.{is_window_item};
 
 use crate::items::resolved;
-use sql_check_parts::or_null;
 use sql_check_queries::{all_some, join_source, share_kinds};
-use sql_eval::Names;
+use sql_eval::{Names, or_null};
 use sql_from::Sources;
 use sql_tree::{Item, Select};
 use std::alloc::{AllocError, Global};

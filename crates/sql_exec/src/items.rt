@@ -3,7 +3,7 @@ ghost use Rattle.std.specs.Prelude.{◌≡◌, ◌++◌, ◌∷◌, [], false, m
 ghost use Rattle.std.specs.List.{list_any};
 ghost use Rattle.vtl_cell.specs.Outcome.{fault_in, faults_by, join};
 ghost use Rattle.sql_tree.specs.View.{item_tree, value_tree};
-ghost use Rattle.sql_meaning.specs.Outcomes.{cell_or_null, row_at, row_fault};
+ghost use Rattle.sql_groups.specs.Outcomes.{cell_or_null, row_at, row_fault};
 ghost use Rattle.sql_eval.specs.Resolves.{sight};
 ghost use Rattle.sql_eval.specs.declared.names.Level.TheVariants as levels;
 ghost use Rattle.sql_from.specs.Seen.{seen_of};

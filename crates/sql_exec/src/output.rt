@@ -2,7 +2,7 @@
 ghost use Rattle.std.specs.Prelude.{◌≡◌, ◌<◌, ◌∷◌, [], true, length, None, Ok, IfErr, IfOk, OnOk};
 ghost use Rattle.vtl_cell.specs.Outcome.{unless};
 ghost use Rattle.vtl_rows.specs.Tables.{fits};
-ghost use Rattle.sql_meaning.specs.Outcomes.{row_at, row_fault};
+ghost use Rattle.sql_groups.specs.Outcomes.{row_at, row_fault};
 ghost use Rattle.sql_from.specs.Seen.{answer_of};
 ghost use Rattle.sql_exec.specs.Items.{made_at_row};
 ghost use Rattle.sql_exec.specs.Outputs.{Adds, Sees, fault_seen};

@@ -1,3 +1,8 @@
+pub use Rattle.sql_eval.proofs.QueryKinds
+pub use Rattle.sql_eval.proofs.SharedKinds
+pub use Rattle.sql_eval.proofs.SourceKinds
+pub use Rattle.sql_eval.proofs.TypingQueryKinds
+pub use Rattle.sql_eval.proofs.UpToOrder
 pub mod Fitted
 pub mod ItemLemmas
 pub mod GatheredLemmas

@@ -1,3 +1,14 @@
+pub use Rattle.sql_eval.specs.Expressions
+pub use Rattle.sql_eval.specs.From
+pub use Rattle.sql_eval.specs.Outcomes
+pub use Rattle.sql_eval.specs.Profiles
+pub use Rattle.sql_eval.specs.Queries
+pub use Rattle.sql_eval.specs.Scopes
+pub use Rattle.sql_eval.specs.Selects
+pub use Rattle.sql_eval.specs.Tables
+pub use Rattle.sql_eval.specs.TypedSelects
+pub use Rattle.sql_eval.specs.Values
+pub use Rattle.sql_eval.specs.Windows
 pub mod Grouped
 pub mod Items
 pub mod Kept

@@ -18,8 +18,8 @@ use Rattle.vtl_status.specs.declared.status.Status.{Status}
 use Rattle.vtl_status.specs.declared.status.Status.TheVariants as st
 use Rattle.vtl_top.proofs.MeantLemmas.{after_built, after_plain, after_script, after_structures, after_typing}
 use Rattle.vtl_top.proofs.ReadScripts.{parsed_once}
-use Rattle.sql_check_parts.specs.Statements.{script_fault, script_settings}
-use Rattle.sql_meaning.specs.Scripts.{script_value}
+use Rattle.sql_engine.specs.TypingStatements.{script_fault, script_settings}
+use Rattle.sql_engine.specs.Scripts.{script_value}
 use Rattle.vtl_top.specs.SqlInputs.{input_structures, rows_by_name}
 use Rattle.sql_engine.specs.Windows.{script_has_window}
 use Rattle.vtl_top.specs.SqlRun.{engine_step, exports_of, read_whole, sql_checked_step, sql_in, sql_of, sql_step, sql_typing, sql_unbuilt}

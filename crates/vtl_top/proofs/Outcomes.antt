@@ -23,10 +23,10 @@ use Rattle.vtl_status.specs.declared.status.Status.TheVariants as st
 use Rattle.vtl_top.proofs.MeantLemmas.{after_built, after_plain, after_script, after_structures, after_typing}
 use Rattle.vtl_top.proofs.TextsRead.{Read, either_way, read_somehow, then_too, there_is}
 use Rattle.vtl_files.specs.Outside.{bytes_at}
-use Rattle.sql_check_parts.specs.Statements.{script_fault, script_settings}
+use Rattle.sql_engine.specs.TypingStatements.{script_fault, script_settings}
 use Rattle.vtl_top.specs.SqlInputs.{input_structures, rows_by_name}
 use Rattle.sql_engine.specs.Windows.{script_has_window}
-use Rattle.sql_meaning.specs.Scripts.{script_value}
+use Rattle.sql_engine.specs.Scripts.{script_value}
 use Rattle.sql_tree.specs.Texts as sql
 use Rattle.sql_tree.specs.Trees.{ScriptTree as SqlTree}
 use Rattle.vtl_top.specs.SqlRun.{engine_step, exports_of, present, read_whole, sql_checked_step, sql_of, sql_step, sql_typing, sql_unbuilt}

@@ -12,9 +12,9 @@ use Rattle.sql_tree.specs.declared.statements.SqlScript.{SqlScript}
 use Rattle.sql_check.specs.Answers.{CheckedScript, Checks, told}
 use Rattle.sql_check.specs.declared.error.SqlTypeErr.{SqlTypeErr}
 use Rattle.sql_check.specs.declared.error.SqlTypeErr.TheVariants as typed
-use Rattle.sql_check_parts.specs.Rules.{number_of}
-use Rattle.sql_check_parts.specs.Statements.{Fault, script_fault, script_settings}
-use Rattle.sql_meaning.specs.Scripts.{Export, Inputs, NamedFault, script_value}
+use Rattle.sql_engine.specs.Rules.{number_of}
+use Rattle.sql_engine.specs.TypingStatements.{Fault, script_fault, script_settings}
+use Rattle.sql_engine.specs.Scripts.{Export, Inputs, NamedFault, script_value}
 use Rattle.sql_engine.specs.Exported.{shown}
 use Rattle.sql_engine.specs.Runs.{FaultIs, ShowsExports, Tells}
 use Rattle.sql_engine.specs.Windows.{script_has_window}

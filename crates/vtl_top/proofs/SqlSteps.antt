@@ -2,8 +2,8 @@
 use Rattle.std.proofs.Common.{◌≡◌, List, [], ℕ, Ok}
 use Rattle.sql_tree.specs.Texts.{IsFaulty, IsScript}
 use Rattle.sql_tree.specs.Trees.{ScriptTree}
-use Rattle.sql_check_parts.specs.Statements.{script_fault, script_settings}
-use Rattle.sql_meaning.specs.Scripts.{script_value}
+use Rattle.sql_engine.specs.TypingStatements.{script_fault, script_settings}
+use Rattle.sql_engine.specs.Scripts.{script_value}
 use Rattle.vtl_top.specs.SqlInputs.{input_structures, rows_by_name}
 use Rattle.sql_engine.specs.Windows.{script_has_window}
 use Rattle.sql_parser.proofs.Texts.{not_both, one_fault, one_script}

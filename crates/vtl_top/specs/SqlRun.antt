@@ -5,9 +5,9 @@ use Rattle.vtl_decimal.specs.Settings.{Settings}
 use Rattle.vtl_rows.specs.Tables.{Listed}
 use Rattle.vtl_csv.specs.TableText.{rows_text}
 use Rattle.sql_tree.specs.Trees.{ScriptTree}
-use Rattle.sql_check_parts.specs.Rules.{number_of}
-use Rattle.sql_check_parts.specs.Statements.{Fault, script_fault, script_settings}
-use Rattle.sql_meaning.specs.Scripts.{Export, NamedFault, script_value}
+use Rattle.sql_engine.specs.Rules.{number_of}
+use Rattle.sql_engine.specs.TypingStatements.{Fault, script_fault, script_settings}
+use Rattle.sql_engine.specs.Scripts.{Export, NamedFault, script_value}
 use Rattle.sql_engine.specs.Exported.{shown}
 use Rattle.sql_engine.specs.Windows.{script_has_window}
 use Rattle.vtl_top.specs.SqlInputs.{input_structures, rows_by_name}

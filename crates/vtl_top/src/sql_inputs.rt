@@ -1,8 +1,8 @@
 // The data sets that an SQL script reads, from their files.
 ghost use Rattle.std.specs.Prelude.{◌≡◌, [], map, IfOk};
 ghost use Rattle.sql_tree.specs.View.{script_tree, statement_tree};
-ghost use Rattle.sql_meaning.specs.Scripts.{Inputs};
-ghost use Rattle.sql_check_parts.specs.Statements.{script_settings};
+ghost use Rattle.sql_engine.specs.Scripts.{Inputs};
+ghost use Rattle.sql_engine.specs.TypingStatements.{script_settings};
 ghost use Rattle.sql_engine.specs.InputTables.{AreInputsInRange, HaveInputTables, rows_given};
 ghost use Rattle.vtl_interp.specs.Inputs.{input_of};
 ghost use Rattle.vtl_top.specs.Answered.{Takes};

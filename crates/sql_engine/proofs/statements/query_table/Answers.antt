@@ -1,7 +1,7 @@
 use Rattle.std.proofs.Common.{subst}
 use Rattle.sql_tree.specs.View.{query_tree}
 use Rattle.sql_tree.specs.declared.statements.Query.{Query}
-use Rattle.sql_meaning.specs.Selects.{query_value}
+use Rattle.sql_exec.specs.Selects.{query_value}
 use Rattle.sql_exec.specs.Answers.{Gives}
 use Rattle.sql_exec.specs.Held.{base_held}
 use Rattle.sql_engine.proofs.statements.query_table.Goals as goal

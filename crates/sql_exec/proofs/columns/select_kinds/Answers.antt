@@ -1,9 +1,9 @@
 use Rattle.std.proofs.Common.{◌≡◌, ◌∙◌, ◌+◌, [], ◌∷◌, ◌++◌, List, ap, sym, subst, map, drop}
 use Rattle.sql_tree.specs.View.{join_tree, select_tree}
 use Rattle.sql_tree.specs.declared.statements.Join.{Join}
-use Rattle.sql_check_parts.specs.Queries.{first_scope, join_source, joined_scope}
-use Rattle.sql_check_parts.specs.Scopes.{Scope, with_source}
-use Rattle.sql_check_laws.specs.Selects.{AreJoinsTyped, IsSourceTyped}
+use Rattle.sql_groups.specs.Queries.{first_scope, join_source, joined_scope}
+use Rattle.sql_groups.specs.Scopes.{Scope, with_source}
+use Rattle.sql_groups.specs.TypedSelects.{AreJoinsTyped, IsSourceTyped}
 use Rattle.sql_from.specs.Held.{tables_held}
 use Rattle.sql_tree.specs.declared.parts.Source.{Source}
 use Rattle.sql_from.specs.Sources.{scope_held, table_named}

@@ -8,10 +8,10 @@ use Rattle.vtl_rows.specs.Tables.{Listed, column_kinds}
 use Rattle.sql_tree.specs.Trees.{QueryTree}
 use Rattle.sql_tree.specs.View.{query_tree, select_tree}
 use Rattle.sql_tree.specs.declared.statements.Item.{Item}
-use Rattle.sql_check_parts.specs.Queries.{query_columns, shared_kinds}
-use Rattle.sql_check_parts.specs.Scopes.{or_null}
-use Rattle.sql_meaning.specs.Selects.{appended, query_value, select_value}
-use Rattle.sql_meaning.specs.Tables.{column_entry, kinds_of}
+use Rattle.sql_groups.specs.Queries.{query_columns, shared_kinds}
+use Rattle.sql_groups.specs.Scopes.{or_null}
+use Rattle.sql_groups.specs.Selects.{appended, query_value, select_value}
+use Rattle.sql_groups.specs.Tables.{column_entry, kinds_of}
 use Rattle.sql_from.specs.Held.{base_held, tables_held}
 use Rattle.sql_exec.specs.Outputs.{Adds, fault_seen}
 use Rattle.sql_exec.specs.Parts.{IsPart, IsPlain}

@@ -5,8 +5,8 @@ use Rattle.vtl_cell.specs.Outcome.{Outcome}
 use Rattle.vtl_cell.specs.Row.{Row}
 use Rattle.sql_tree.specs.View.{item_tree, select_tree}
 use Rattle.sql_tree.specs.declared.statements.Item.{Item}
-use Rattle.sql_check_parts.specs.Queries.{is_grouped}
-use Rattle.sql_meaning.specs.Selects.{grouped_rows, plain_rows}
+use Rattle.sql_groups.specs.Queries.{is_grouped}
+use Rattle.sql_groups.specs.Selects.{grouped_rows, plain_rows}
 use Rattle.sql_from.specs.Held.{base_held}
 use Rattle.sql_from.specs.Sources.{scope_held}
 use Rattle.sql_from.specs.Standing.{rows_for, sight_of}

@@ -5,8 +5,8 @@ use Rattle.vtl_cell.specs.Outcome.{Outcome}
 use Rattle.vtl_cell.specs.Row.{Row}
 use Rattle.vtl_rows.specs.Tables.{column_kinds, fits_kinds}
 use Rattle.sql_tree.specs.View.{item_tree}
-use Rattle.sql_check_parts.specs.Scopes.{row_of}
-use Rattle.sql_meaning.specs.Outcomes.{row_at, row_fault}
+use Rattle.sql_groups.specs.Scopes.{row_of}
+use Rattle.sql_groups.specs.Outcomes.{row_at, row_fault}
 use Rattle.sql_from.specs.Sources.{scope_held}
 use Rattle.sql_from.specs.Standing.{rows_for, sight_of}
 use Rattle.sql_exec.specs.Items.{item_at_row}

@@ -3,12 +3,12 @@ use Rattle.std.specs.Prelude.{OnOk, zip}
 use Rattle.vtl_cell.specs.Outcome.{Outcome, after}
 use Rattle.vtl_cell.specs.Row.{Row}
 use Rattle.sql_tree.specs.View.{select_tree}
-use Rattle.sql_check_parts.specs.Queries.{scope_of}
-use Rattle.sql_check_parts.specs.Scopes.{Scope, row_of}
-use Rattle.sql_meaning.specs.Selects.{second_phase, select_value}
-use Rattle.sql_meaning.specs.Tables.{RowsFit}
-use Rattle.sql_meaning.specs.Values.{at_rows}
-use Rattle.sql_meaning.proofs.SourceKinds.{source_rows_fit}
+use Rattle.sql_groups.specs.Queries.{scope_of}
+use Rattle.sql_groups.specs.Scopes.{Scope, row_of}
+use Rattle.sql_groups.specs.Selects.{second_phase, select_value}
+use Rattle.sql_groups.specs.Tables.{RowsFit}
+use Rattle.sql_groups.specs.Values.{at_rows}
+use Rattle.sql_groups.proofs.SourceKinds.{source_rows_fit}
 use Rattle.sql_from.specs.Held.{base_held}
 use Rattle.sql_from.specs.Standing.{rows_for, sight_of}
 use Rattle.sql_exec.specs.Outputs.{Adds}
