@@ -8,6 +8,7 @@ pub mod SelectItems
 pub mod Selects
 pub mod Unions
 pub mod Sources
+pub mod ManySources
 pub mod Exact
 pub mod OneOperand
 pub mod Identifiers
@@ -15,6 +16,10 @@ pub mod Conjunctions
 pub mod Subs
 pub mod Pairs
 pub mod TwoOperands
+pub mod Loose
+pub mod Ties
+pub mod HeldOperands
+pub mod Chains
 pub mod Choices
 pub mod Nodes
 pub mod Statements
