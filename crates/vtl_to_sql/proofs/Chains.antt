@@ -5,7 +5,6 @@ use Rattle.std.specs.List.{AllByRecursion, filter, find, flat_map}
 use Rattle.std.specs.Map.{keys_of}
 use Rattle.std.specs.Option.{option_to_list}
 use Rattle.std.proofs.lemmas.List.{length-map, map-append}
-use Rattle.std.proofs.lemmas.List.Concat.{flat_map_single}
 use Rattle.grammar_forms.specs.Written.{Each}
 use Rattle.vtl_cell.specs.Outcome.{Fault, fault_in, faults_by, join}
 use Rattle.vtl_cell.specs.Outcomes.{is_true}
@@ -33,7 +32,9 @@ use Rattle.sql_tree.specs.Formed.{IsJoin, IsName}
 use Rattle.sql_tree.specs.Trees.{Exp, JoinTree, Text, on}
 use Rattle.sql_tree.specs.declared.word_groups.JoinKind.{JoinKind}
 use Rattle.sql_tree.specs.declared.word_groups.JoinKind.TheVariants as joining
+use Rattle.sql_check_laws.specs.Fits.{IsCondition}
 use Rattle.sql_check_laws.specs.Selects.{AreJoinsTyped}
+use Rattle.sql_check_parts.specs.Expressions.{site}
 use Rattle.sql_check_parts.specs.Queries.{joined_scope}
 use Rattle.sql_check_parts.specs.Scopes.{Scope, add_source, columns_of as table_columns, is_among, or_nothing, row_of, with_source}
 use Rattle.sql_meaning.specs.From as from
@@ -102,7 +103,14 @@ step_is joining.Left h test m right x o e = ap (λ l. or_alone (map (from.beside
     go (Some t) = refl
 step_is joining.Full h test m right x o e = absurd h
 
-all_pieces : (Q P : Row → Type 0) (h : Row → List Row) → ((q : Row) → Q q → AllByRecursion P (h q)) → (qs : List Row) → AllByRecursion Q qs → AllByRecursion P (flat_map h qs)
+abbrev pub joined_of : Scope → List Row → Option Fault → Joined
+joined_of scope rows fault = record { scope = scope; rows = rows; fault = fault }
+
+pub each_alone : {X : Type 0} (xs : List X) → flat_map (λ x. x ∷ []) xs ≡ xs
+each_alone [] = refl
+each_alone (x ∷ xs) = ap (λ l. x ∷ l) (each_alone xs)
+
+pub all_pieces : (Q P : Row → Type 0) (h : Row → List Row) → ((q : Row) → Q q → AllByRecursion P (h q)) → (qs : List Row) → AllByRecursion Q qs → AllByRecursion P (flat_map h qs)
 all_pieces Q P h each [] all = tt
 all_pieces Q P h each (q ∷ qs) all = all_append P (h q) (flat_map h qs) (each q all.0) (all_pieces Q P h each qs all.1)
 
@@ -180,9 +188,6 @@ module _ (p : Settings) (law : Translates p) (before : Data) (first : List Compo
     pub rest : Row
     pub is : l ≡ q ++ rest
     pub typed : is_point (all_loose (so_far done)) l ≡ true
-
-  abbrev pub joined_of : Scope → List Row → Option Fault → Joined
-  joined_of scope rows fault = record { scope = scope; rows = rows; fault = fault }
 
   -- no condition so far had a fault
   abbrev pub state : List (List Component) → List Row → Joined
@@ -363,7 +368,7 @@ module _ (p : Settings) (law : Translates p) (before : Data) (first : List Compo
 
   pub chained : (ds : List DataSet) (xs : List Text) (i n : ℕ) (done : List (List Component)) (h : Row → List Row) (points : List Row) → IsAt i n done ds → AllTied ds → AreHeld before xs ds → AllGrown h done → AllByRecursion IsLead points
       → fold (with_join b) (state done (flat_map h points)) (joins i n ds xs) ≡ state (after_all done ds) (flat_map (grown_by ds h) points)
-  chained [] [] i n done h points a t here grown typed = ap (state done) (flat_map_each h (grown_by [] h) (λ q. sym (flat_map_single (λ l. l) (h q))) points)
+  chained [] [] i n done h points a t here grown typed = ap (state done) (flat_map_each h (grown_by [] h) (λ q. sym (each_alone (h q))) points)
   chained [] (x ∷ xs) i n done h points a t here grown typed = absurd here
   chained (d ∷ ds) [] i n done h points a t here grown typed = absurd here
   chained (d ∷ ds) (x ∷ xs) i n done h points a t here grown typed =
@@ -372,7 +377,7 @@ module _ (p : Settings) (law : Translates p) (before : Data) (first : List Compo
       ∙ ap (state (after_all done (d ∷ ds))) (flat_map_each (grown_by ds (more done d ds x i n a.number a.many a.stage t.0 here.0 h grown)) (grown_by (d ∷ ds) h) (by_steps d ds h) points)
 
   pub all_grown : (ds : List DataSet) (xs : List Text) (i n : ℕ) (done : List (List Component)) (h : Row → List Row) → IsAt i n done ds → AllTied ds → AreHeld before xs ds → AllGrown h done → AllGrown (grown_by ds h) (after_all done ds)
-  all_grown [] [] i n done h a t here grown q lead = subst (AllByRecursion (IsGrown q done)) (sym (flat_map_single (λ l. l) (h q))) (grown q lead)
+  all_grown [] [] i n done h a t here grown q lead = subst (AllByRecursion (IsGrown q done)) (sym (each_alone (h q))) (grown q lead)
   all_grown [] (x ∷ xs) i n done h a t here grown q lead = absurd here
   all_grown (d ∷ ds) [] i n done h a t here grown q lead = absurd here
   all_grown (d ∷ ds) (x ∷ xs) i n done h a t here grown q lead =

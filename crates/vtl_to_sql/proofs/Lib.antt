@@ -20,6 +20,7 @@ pub mod Loose
 pub mod Ties
 pub mod HeldOperands
 pub mod Chains
+pub mod ChainSelects
 pub mod Choices
 pub mod Nodes
 pub mod Statements
