@@ -21,6 +21,8 @@ pub mod Ties
 pub mod HeldOperands
 pub mod Chains
 pub mod ChainSelects
+pub mod JoinedColumns
+pub mod JoinedRows
 pub mod Choices
 pub mod Nodes
 pub mod Statements

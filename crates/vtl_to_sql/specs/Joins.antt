@@ -7,7 +7,8 @@ use Rattle.vtl_tree.specs.CompExp.{CompExp}
 use Rattle.vtl_tree.specs.Structure.{columns_of}
 use Rattle.vtl_tree.specs.declared.structure.Component.{Component}
 use Rattle.vtl_tree.specs.declared.structure.Structure.{Structure}
-use Rattle.vtl_meaning.specs.Columns.{column_behind, column_named, columns_named, identifiers_of, measures_of}
+use Rattle.vtl_meaning.specs.Agreement.{common_identifiers}
+use Rattle.vtl_meaning.specs.Columns.{column_behind, column_named, identifiers_of, measures_of}
 use Rattle.vtl_meaning.specs.Made.{attributes_of}
 use Rattle.sql_tree.specs.Trees.{Exp, JoinTree, QueryTree, SelectTree, Text, cross, on}
 use Rattle.sql_tree.specs.declared.word_groups.JoinKind.{JoinKind}
@@ -63,9 +64,9 @@ columns_at f o = map (λ y. column_behind o.before (columns_of o.structure) y.na
 abbrev pub columns_in : (Structure → List Component) → List Placed → List CompExp
 columns_in f os = flat_map (columns_at f) os
 
--- these identifiers, then the measures operand by operand, and then the attributes
-abbrev pub joined_exps : List CompExp → List Placed → List CompExp
-joined_exps ids os = ids ++ columns_in measures_of os ++ columns_in attributes_of os
+-- the identifiers of some operands, then the measures of all, and then the attributes
+abbrev pub joined_exps : (ids all : List Placed) → List CompExp
+joined_exps ids all = columns_in identifiers_of ids ++ columns_in measures_of all ++ columns_in attributes_of all
 
 -- ---- the joins
 
@@ -91,15 +92,26 @@ chain_select p kind first f ss es s x xs =
     let at = many_at first ss in
     select_of p at es s (source_as (alias_of 0) x) (joins_on p kind at first f 1 (placed_from (length first) ss) xs) None
 
+-- ---- `inner_join` and `left_join`: each other operand joined with the reference
+
+abbrev pub from_reference : Settings → JoinKind → (place : ℕ) → List Structure → Structure → List Text → Option Structure → Option Text → QueryTree
+from_reference p kind i ss s xs (Some r) (Some x) =
+    let es = joined_exps (placed_at 0 r ∷ []) (placed_around i (width_of r) ss) in
+    chain_select p kind (columns_of r) (common_identifiers r) (without i ss) es s x (without i xs) ∷ []
+from_reference p kind i ss s xs r x = []
+
+-- the reference is the operand at this place
+abbrev pub reference_query : Settings → JoinKind → (place : ℕ) → List Structure → Structure → List Text → QueryTree
+reference_query p kind i ss s xs = from_reference p kind i ss s xs (slice_get ss i) (slice_get xs i)
+
 -- ---- `cross_join`: each point with each
 
 abbrev pub crosses : ℕ → List Text → List JoinTree
 crosses i [] = []
 crosses i (x ∷ xs) = cross (source_as (alias_of i) x) ∷ crosses (suc i) xs
 
-abbrev pub crossed_exps : List Structure → List CompExp
-crossed_exps ss = let os = placed_from 0 ss in joined_exps (columns_in identifiers_of os) os
-
 abbrev pub cross_query : Settings → List Structure → Structure → List Text → QueryTree
 cross_query p ss s [] = []
-cross_query p ss s (x ∷ xs) = select_of p (of_many 0 (map width_of ss)) (crossed_exps ss) s (source_as (alias_of 0) x) (crosses 1 xs) None ∷ []
+cross_query p ss s (x ∷ xs) =
+    let all = placed_from 0 ss in
+    select_of p (of_many 0 (map width_of ss)) (joined_exps all all) s (source_as (alias_of 0) x) (crosses 1 xs) None ∷ []

@@ -1,0 +1,2 @@
+-- The rows of joined sources.
+use Rattle.std.proofs.Common.{◌≡◌}
