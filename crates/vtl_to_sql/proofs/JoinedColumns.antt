@@ -112,6 +112,12 @@ are_measures_part = record { among = own_measures }
 pub are_attributes_part : IsPart attributes_of
 are_attributes_part = record { among = own_attributes }
 
+abbrev pub AreWell : List Placed → Type 0
+AreWell os = AllByRecursion (λ o. IsStructure o.structure) os
+
+abbrev pub structures_in : List Placed → List Structure
+structures_in os = map (λ o. o.structure) os
+
 module _ (p : Settings) (xs : List Component) where
   column_kinds : (o : Placed) (ys : List Component) → IsStructure o.structure → IsPlaced xs o → AreAmong ys (columns_of o.structure) → OfKinds p (all_loose xs) (map (λ y. column_behind o.before (columns_of o.structure) y.name) ys) (component_kinds ys)
   column_kinds o [] w i all = tt
@@ -122,12 +128,6 @@ module _ (p : Settings) (xs : List Component) where
       let there : IsColumnAt (length i.front + place_of y.name own) y.name y.kind (i.front ++ (own ++ i.back)) = column_later (place_of y.name own) y.name y.kind i.front (own ++ i.back) (column_front (place_of y.name own) y.name y.kind own i.back all.0) in
       let here : IsColumnAt at y.name y.kind xs = subst (λ zs. IsColumnAt at y.name y.kind zs) (sym i.is) (subst (λ n. IsColumnAt (n + place_of y.name own) y.name y.kind (i.front ++ (own ++ i.back))) (sym i.many) there) in
       (column_loose at y.name (kind_named y.name own) xs (subst (λ q. IsColumnAt at y.name q xs) (sym kind) here), kind, column_kinds o ys w i all.1)
-
-  abbrev pub AreWell : List Placed → Type 0
-  AreWell os = AllByRecursion (λ o. IsStructure o.structure) os
-
-  abbrev pub structures_in : List Placed → List Structure
-  structures_in os = map (λ o. o.structure) os
 
   pub columns_kinds : (f : Structure → List Component) → IsPart f → (os : List Placed) → AreWell os → ArePlaced xs os → OfKinds p (all_loose xs) (columns_in f os) (kinds_of_all f (structures_in os))
   columns_kinds f part [] w i = tt

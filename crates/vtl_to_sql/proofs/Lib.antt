@@ -23,6 +23,7 @@ pub mod Chains
 pub mod ChainSelects
 pub mod JoinedColumns
 pub mod JoinedRows
+pub mod ReferenceJoins
 pub mod Choices
 pub mod Nodes
 pub mod Statements
