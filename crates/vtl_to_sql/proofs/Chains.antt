@@ -49,7 +49,7 @@ use Rattle.vtl_to_sql.specs.Joins.{Placed, alias_of, all_tied, joins_on, of_many
 use Rattle.vtl_to_sql.specs.Queries.{source_as}
 use Rattle.vtl_to_sql.specs.Runs.{IsTable, entries, printable_depth}
 use Rattle.vtl_to_sql.proofs.Expressions.{Translates}
-use Rattle.vtl_to_sql.proofs.HeldOperands.{AreHeld, IsHeld, rows_held}
+use Rattle.vtl_to_sql.proofs.HeldOperands.{AreHeld, IsHeld, alias_new, rows_held, source_behind}
 use Rattle.vtl_to_sql.proofs.Identifiers.{AreIdentifiersAt}
 use Rattle.vtl_to_sql.proofs.Loose.{all_loose, loose, loose_nulls, loose_point}
 use Rattle.vtl_to_sql.proofs.ManySources.{AllApart, alias_free, alias_is_name, all_columns, columns_more, many_formed, many_names, many_scope, scope_more, widths}
@@ -217,15 +217,11 @@ module _ (p : Settings) (law : Translates p) (before : Data) (first : List Compo
     known : table_columns (tables_in before) x ≡ Some (entries ys)
     known = here.known
 
-    new : is_among (alias_of i) (keys_of (many_scope 0 (first ∷ done))) ≡ false
-    new = alias_free 0 i (first ∷ done) (omega (arith, number)) (let h = few_done done d left s in omega (arith, h, number))
+    few_so_far : i < 2 ^ 64
+    few_so_far = let h = few_done done d left s in omega (arith, h, number)
 
     pub source_more : with_source (tables_in before) (many_scope 0 (first ∷ done)) (source_as (alias_of i) x) ≡ many_scope 0 (first ∷ after_it)
-    source_more =
-        ap (add_source (many_scope 0 (first ∷ done)) (alias_of i)) known
-        ∙ ap (λ u. if u then many_scope 0 (first ∷ done) else many_scope 0 (first ∷ done) ++ (alias_of i, entries ys) ∷ []) new
-        ∙ ap (λ j. many_scope 0 (first ∷ done) ++ (alias_of j, entries ys) ∷ []) (let same : i ≡ 0 + length (first ∷ done) = omega (arith, number) in same)
-        ∙ sym (scope_more 0 (first ∷ done) ys)
+    source_more = source_behind before (first ∷ done) x d i number few_so_far here
 
     names : Names at (many_scope 0 (first ∷ after_it)) all
     names = subst (Names at (many_scope 0 (first ∷ after_it))) more_columns (names_at after_it left (next_stage done d left t s))
@@ -320,10 +316,10 @@ module _ (p : Settings) (law : Translates p) (before : Data) (first : List Compo
     join_typed =
         let boolean = ap (meets k.Bool) (tied_kind p first (all_columns done) d.structure n (sym many) f t.ours t.theirs) in
         let fits = condition_fits p law at all formed (many_scope 0 (first ∷ after_it)) names (tables_in before) (all_tied first f o) tied boolean written in
-        ((ap is_some known, new), subst (λ z. IsCondition (site p (tables_in before) z) None tie) (sym source_more) fits, tt)
+        ((ap is_some known, alias_new before (first ∷ done) x d i number few_so_far here), subst (λ z. IsCondition (site p (tables_in before) z) None tie) (sym source_more) fits, tt)
 
     pub join_printed : IsJoin printable_depth (on kind (source_as (alias_of i) x) tie)
-    join_printed = ((here.word, alias_is_name i (let h = few_done done d left s in omega (arith, h, number))), expression_printed p law at all formed (all_tied first f o) tied written)
+    join_printed = ((here.word, alias_is_name i few_so_far), expression_printed p law at all formed (all_tied first f o) tied written)
 
   -- ---- all operands
 

@@ -24,6 +24,7 @@ pub mod ChainSelects
 pub mod JoinedColumns
 pub mod JoinedRows
 pub mod ReferenceJoins
+pub mod CrossJoins
 pub mod Choices
 pub mod Nodes
 pub mod Statements
