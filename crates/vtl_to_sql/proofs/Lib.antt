@@ -3,8 +3,10 @@ pub mod Running
 pub mod Composition
 pub mod Expressions
 pub mod Aggregates
-pub mod SelectRows
-pub mod SelectForms
+pub mod Givens
+pub mod SelectItems
+pub mod Selects
+pub mod Unions
 pub mod Sources
 pub mod Exact
 pub mod OneOperand

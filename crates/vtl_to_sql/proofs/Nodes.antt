@@ -30,7 +30,7 @@ use Rattle.vtl_to_sql.proofs.Composition.{all_earlier, all_stand_still, alone, b
 use Rattle.vtl_to_sql.proofs.Exact.{means_by, means_turned, set_turned}
 use Rattle.vtl_to_sql.proofs.Expressions.{Translates}
 use Rattle.vtl_to_sql.proofs.OneOperand.{calc_means, copy_means, filter_means, left_means, measures_mean, rename_means}
-use Rattle.vtl_to_sql.proofs.SelectForms.{AreGiven, columns_given}
+use Rattle.vtl_to_sql.proofs.Givens.{AreGiven, columns_given}
 use Rattle.vtl_to_sql.proofs.Subs.{sub_means}
 use Rattle.vtl_to_sql.proofs.TwoOperands.{pair_means}
 

@@ -45,29 +45,28 @@ abbrev pub item_as : Text → Exp → ItemTree
 item_as name e = record { value = expression e; name = name }
 
 -- an item for each column of the result
-abbrev pub items_for : Settings → Naming → List CompExp → List Component → List ItemTree
-items_for p at [] ys = []
-items_for p at (e ∷ es) [] = []
-items_for p at (e ∷ es) (y ∷ ys) = item_as y.name (to_sql p at e) ∷ items_for p at es ys
+abbrev pub items_as : List Exp → List Component → List ItemTree
+items_as (e ∷ es) (y ∷ ys) = item_as y.name e ∷ items_as es ys
+items_as es ys = []
+
+-- at the rows of its sources at which a condition holds
+abbrev pub select_as : List ItemTree → Source → List JoinTree → Option Exp → SelectTree
+select_as items source joins condition = record { items = items; source = source; joins = joins; condition = condition; group = []; having = None }
+
+abbrev pub all_to_sql : Settings → Naming → List CompExp → List Exp
+all_to_sql p at es = map (to_sql p at) es
 
 abbrev pub condition_for : Settings → Naming → Option CompExp → Option Exp
 condition_for p at None = None
 condition_for p at (Some e) = Some (to_sql p at e)
 
--- these expressions as the columns of a structure, at the rows at which a condition holds
-abbrev pub select_of : Settings → Naming → List CompExp → Structure → Source → List JoinTree → Option CompExp → SelectTree
-select_of p at es s source joins condition = record {
-  items = items_for p at es (columns_of s);
-  source = source;
-  joins = joins;
-  condition = condition_for p at condition;
-  group = [];
-  having = None;
-}
+-- these expressions as the columns of a structure
+abbrev pub select_of : Settings → Naming → List CompExp → Structure → Source → List JoinTree → Option Exp → SelectTree
+select_of p at es s source joins condition = select_as (items_as (all_to_sql p at es) (columns_of s)) source joins condition
 
 -- over one table
 abbrev pub points_query : Settings → List CompExp → Structure → Option CompExp → (table : Text) → QueryTree
-points_query p es s condition table = select_of p of_one es s (source_as first_alias table) [] condition ∷ []
+points_query p es s condition table = select_of p of_one es s (source_as first_alias table) [] (condition_for p of_one condition) ∷ []
 
 -- ---- one operand
 
@@ -134,7 +133,7 @@ agree a b = conjunction (map (agrees_on (columns_of a) (columns_of b)) (identifi
 abbrev pub pairs_select : Settings → List CompExp → (a b s : Structure) → Option CompExp → (first second : Text) → SelectTree
 pairs_select p es a b s condition first second =
     let at = of_two (length (columns_of a)) in
-    select_of p at es s (source_as first_alias first) (on joining.Inner (source_as second_alias second) (to_sql p at (agree a b)) ∷ []) condition
+    select_of p at es s (source_as first_alias first) (on joining.Inner (source_as second_alias second) (to_sql p at (agree a b)) ∷ []) (condition_for p at condition)
 
 -- the operand with all identifiers stands first
 abbrev pub pair_query : Settings → ScalarOp → (a b s : Structure) → (first second : Text) → QueryTree
