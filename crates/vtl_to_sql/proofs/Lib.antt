@@ -24,3 +24,5 @@ pub mod TranslatedScripts
 pub mod EmptyData
 pub mod TypedScripts
 pub mod LawfulScripts
+pub mod ItemLists
+pub mod Unpivots
