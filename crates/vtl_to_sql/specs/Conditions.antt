@@ -64,6 +64,7 @@ abbrev mutual
   IsFormTranslated p s (nodes.drop_named a names) = IsTranslated p a
   IsFormTranslated p s (nodes.rename a pairs) = IsTranslated p a
   IsFormTranslated p s (nodes.sub a items) = IsTranslated p a × AllByRecursion (HasValue p) items × (length items ≤ most_components)
+  IsFormTranslated p s (nodes.unpivot a id m) = IsTranslated p a
   -- the other forms are not translated yet
   IsFormTranslated p s other = ⊥
 
