@@ -24,3 +24,4 @@ pub mod TranslatedScripts
 pub mod EmptyData
 pub mod TypedScripts
 pub mod LawfulScripts
+pub mod Exists
