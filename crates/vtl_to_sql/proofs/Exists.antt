@@ -1,9 +1,8 @@
 -- EXISTS over the identifiers that two tables have.
-use Rattle.std.proofs.Common.{◌≡◌, ◌+◌, ℕ, Bool, true, false, not, ◌&&◌, ◌||◌, cond, List, [], ◌∷◌, length, map, Some, None, Ok, refl, ap, sym, ◌∙◌, subst, arith}
-use Rattle.std.specs.Prelude.{unwrap_or}
+use Rattle.std.proofs.Common.{◌≡◌, Bool, true, false, not, ◌&&◌, ◌||◌, cond, List, [], ◌∷◌, map, Some, None, Ok, refl, ap, sym, ◌∙◌, subst, arith}
 use Rattle.std.specs.List.{AllByRecursion, filter, list_all, list_any}
 use Rattle.grammar_forms.specs.Written.{Each}
-use Rattle.vtl_cell.specs.Kinds.{is_null, is_of, kind_of, same_kind}
+use Rattle.vtl_cell.specs.Kinds.{is_null, kind_of, same_kind}
 use Rattle.vtl_cell.specs.Order.{same_cell}
 use Rattle.vtl_cell.specs.Outcome.{fault_in, faults_by, join, unless}
 use Rattle.vtl_cell.specs.Outcomes.{is_true}
@@ -19,22 +18,20 @@ use Rattle.vtl_rows.specs.Tables.{cells_at}
 use Rattle.vtl_tree.specs.DataSet.{is_point}
 use Rattle.vtl_tree.specs.declared.structure.Component.{Component}
 use Rattle.vtl_meaning.specs.Columns.{place_of, places_in}
-use Rattle.vtl_meaning.specs.Made.{IsColumnAt}
 use Rattle.vtl_meaning.proofs.ValueKinds.{cell_is_of}
-use Rattle.sql_tree.specs.Formed.{IsEquality, IsExp, IsName, Formed}
-use Rattle.sql_tree.specs.Trees.{Exp, Text, exists}
-use Rattle.sql_tree.specs.declared.parts.Equality.{Equality}
+use Rattle.sql_tree.specs.Formed.{IsEquality, IsExp, IsName}
+use Rattle.sql_tree.specs.Trees.{Text, exists}
 use Rattle.sql_check_laws.specs.Fits.{Fits, IsCondition, Ties}
 use Rattle.sql_check_parts.specs.Exists.{Inner, inner_of}
 use Rattle.sql_check_parts.specs.Expressions.{site}
-use Rattle.sql_check_parts.specs.Scopes.{Scope, Tables, columns_of as table_columns, or_nothing}
+use Rattle.sql_check_parts.specs.Scopes.{columns_of as table_columns}
 use Rattle.sql_meaning.specs.From.{fault_at, holds}
 use Rattle.sql_meaning.specs.Outcomes.{operated}
 use Rattle.sql_meaning.specs.Tables.{Base}
 use Rattle.sql_meaning.specs.Values.{View, at_rows, is_there, is_tied, place_in, value as sql_value}
 use Rattle.rules_to_sql.specs.ToSql as to_sql
 use Rattle.vtl_to_sql.specs.Conditions.{HaveNames}
-use Rattle.vtl_to_sql.specs.Queries.{answered, first_alias, is_matched, second_alias, source_as, tied}
+use Rattle.vtl_to_sql.specs.Queries.{first_alias, is_matched, second_alias, source_as, tied}
 use Rattle.vtl_to_sql.specs.Runs.{entries, printable_depth}
 use Rattle.vtl_to_sql.proofs.Identifiers.{AreIdentifiersAt, IsIdentifierAt, kind_is}
 use Rattle.vtl_to_sql.proofs.Sources.{AreApart, first_is_name, kind_found, one_names, one_scope, place_found, second_is_name}

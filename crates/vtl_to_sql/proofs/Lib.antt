@@ -25,3 +25,4 @@ pub mod EmptyData
 pub mod TypedScripts
 pub mod LawfulScripts
 pub mod Exists
+pub mod SetQueries

@@ -200,3 +200,7 @@ difference_query p a b s x y = matched_select p false a s x y ∷ []
 
 abbrev pub symmetric_difference_query : Settings → (a b s : Structure) → (first second : Text) → QueryTree
 symmetric_difference_query p a b s x y = matched_select p false a s x y ∷ matched_select p false b s y x ∷ []
+
+-- one operand alone
+abbrev pub shown_query : Settings → (a s : Structure) → (table : Text) → QueryTree
+shown_query p a s table = shown_select p a s table None ∷ []
