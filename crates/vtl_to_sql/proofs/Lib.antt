@@ -26,3 +26,4 @@ pub mod TypedScripts
 pub mod LawfulScripts
 pub mod Exists
 pub mod SetQueries
+pub mod SetSteps
