@@ -16,6 +16,8 @@ pub mod Subs
 pub mod Pairs
 pub mod TwoOperands
 pub mod Choices
+pub mod ItemLists
+pub mod Unpivots
 pub mod Nodes
 pub mod Statements
 pub mod WholeScript
@@ -24,5 +26,6 @@ pub mod TranslatedScripts
 pub mod EmptyData
 pub mod TypedScripts
 pub mod LawfulScripts
-pub mod ItemLists
-pub mod Unpivots
+pub mod Exists
+pub mod SetQueries
+pub mod SetSteps
