@@ -18,6 +18,7 @@ pub mod TwoOperands
 pub mod Choices
 pub mod ItemLists
 pub mod Unpivots
+pub mod GroupItems
 pub mod Nodes
 pub mod Statements
 pub mod WholeScript
