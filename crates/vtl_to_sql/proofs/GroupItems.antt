@@ -1,6 +1,6 @@
 -- A grouped select of items whose values are known at the keys of the groups: its rows, its columns, and that it breaks no rule and
 -- can be printed.
-use Rattle.std.proofs.Common.{◌≡◌, ℕ, ◌≤◌, true, false, not, cond, List, [], ◌∷◌, length, map, Option, Some, None, Ok, refl, ap, sym, ◌∙◌, subst, arith}
+use Rattle.std.proofs.Common.{◌≡◌, ℕ, ◌≤◌, true, false, not, cond, List, [], ◌∷◌, ◌++◌, length, map, Option, Some, None, Ok, refl, ap, sym, ◌∙◌, subst, arith}
 use Rattle.std.specs.Prelude.{IfOk, zip}
 use Rattle.std.specs.List.{AllByRecursion}
 use Rattle.grammar_forms.specs.Written.{Each}
@@ -28,7 +28,7 @@ use Rattle.sql_meaning.specs.From.{source_rows}
 use Rattle.sql_meaning.specs.Groups.{keys_by, rows_with}
 use Rattle.sql_meaning.specs.Outcomes.{row_at, row_fault}
 use Rattle.sql_meaning.specs.Scripts.{Data, base_of, tables_in}
-use Rattle.sql_meaning.specs.Selects.{group_item, group_rows, grouped_rows, having_fault, kept_keys, second_phase, select_value}
+use Rattle.sql_meaning.specs.Selects.{group_item, group_rows, grouped_rows, having_fault, kept_keys, plain_rows, second_phase, select_value}
 use Rattle.sql_meaning.specs.Tables.{Base}
 use Rattle.sql_meaning.specs.Values.{at_groups, at_rows, place_in, value as sql_value}
 use Rattle.vtl_to_sql.specs.Conditions.{HaveNames}
@@ -82,6 +82,32 @@ module _ (b : Base) (s : Scope) (group : List Column) (members : Row → List Ro
   some_items [] [] [] i h = h
   some_items (f ∷ fs) (e ∷ es) (y ∷ ys) i h = omega arith
   some_items fs es ys i h = absurd i
+
+  -- ---- items one behind the other, and of other columns of the same kinds
+
+  pub groups_behind : (fs gs : List Valued) (es ds : List Exp) (ys zs : List Component) → Items fs es ys → Items gs ds zs → Items (fs ++ gs) (es ++ ds) (ys ++ zs)
+  groups_behind [] gs [] ds [] zs i j = j
+  groups_behind (f ∷ fs) gs (e ∷ es) ds (y ∷ ys) zs i j = (i.0, groups_behind fs gs es ds ys zs i.1 j)
+  groups_behind fs gs es ds ys zs i j = absurd i
+
+  one_like : (f : Valued) (e : Exp) (y z : Component) → y.kind ≡ z.kind → IsGroupItem b s group members P f e y → IsGroupItem b s group members P f e z
+  one_like f e y z same i = record {
+    kind = i.kind ∙ same;
+    fits = i.fits;
+    printed = i.printed;
+    value_is = i.value_is;
+    of_kind = λ key h. subst (λ q. IfOk (f key) (λ v. is_of q v ≡ true)) same (i.of_kind key h);
+  }
+
+  pub groups_like : (fs : List Valued) (es : List Exp) (ys zs : List Component) → kinds_in ys ≡ kinds_in zs → Items fs es ys → Items fs es zs
+  groups_like [] [] [] [] same i = tt
+  groups_like [] [] [] (z ∷ zs) same i = cc
+  groups_like (f ∷ fs) (e ∷ es) (y ∷ ys) [] same i = cc
+  groups_like (f ∷ fs) (e ∷ es) (y ∷ ys) (z ∷ zs) same i =
+      let one : y.kind ≡ z.kind = cc in
+      let more : kinds_in ys ≡ kinds_in zs = cc in
+      (one_like f e y z one i.0, groups_like fs es ys zs more i.1)
+  groups_like fs es ys zs same i = absurd i
 
   -- ---- their values
 
@@ -178,7 +204,7 @@ module _ (p : Settings) (before : Data) (s : Scope) (group : List Column) (place
         rows =
             ap (λ m. after m (second_phase (at_rows b (scope_of b.tables it)) (zip (items_as es ys) (kinds_in ys)) it)) rows
             ∙ ap (λ z. second_phase (at_rows b z) (zip (items_as es ys) (kinds_in ys)) it d) from.scope
-            ∙ ap (λ g. cond g (grouped_rows (at_rows b s) (zip (items_as es ys) (kinds_in ys)) group having d) (Rattle.sql_meaning.specs.Selects.plain_rows (at_rows b s) (zip (items_as es ys) (kinds_in ys)) d)) from.grouped
+            ∙ ap (λ g. cond g (grouped_rows (at_rows b s) (zip (items_as es ys) (kinds_in ys)) group having d) (plain_rows (at_rows b s) (zip (items_as es ys) (kinds_in ys)) d)) from.grouped
             ∙ ap (λ l. group_rows (at_groups b s group) (zip (items_as es ys) (kinds_in ys)) having (rows_with l d) (keys_by l d)) placed
             ∙ groups_are b s group members P fs es ys i having (keys_by places d) left kept quiet all;
       }

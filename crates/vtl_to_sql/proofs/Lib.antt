@@ -19,6 +19,8 @@ pub mod Choices
 pub mod ItemLists
 pub mod Unpivots
 pub mod GroupItems
+pub mod Coded
+pub mod Pivots
 pub mod Nodes
 pub mod Statements
 pub mod WholeScript
