@@ -15,7 +15,7 @@ use Rattle.check_shapes.specs.Pairs.{contains}
 use Rattle.vtl_meaning.specs.Meaning.{AreDataSets, Outputs, Statement, form_value, kept_output, known_in, meaning, node_value, points_named, stated, with_operand}
 use Rattle.vtl_meaning.specs.Operators.{calculated_of, choice_of, left_of, measured_of, pair_exps, pair_of, sub_of}
 use Rattle.vtl_meaning.specs.Points.{each_point, with_points}
-use Rattle.vtl_meaning.specs.Turned.{unpivot_of}
+use Rattle.vtl_meaning.specs.Turned.{pivot_of, unpivot_of}
 use Rattle.vtl_meaning.specs.Trees as nodes
 use Rattle.vtl_meaning.specs.Trees.{FormTree, NodeTree, structure_of}
 use Rattle.vtl_to_sql.specs.Conditions.{IsFormTranslated, IsTranslated}
@@ -81,6 +81,7 @@ module _ (p : Settings) (env : Environment) (h : AreEmpty env) where
     form_empty s (nodes.drop_named a ns) c = ap (λ v. with_operand a v (λ d. Ok (left_of d s))) (node_empty a c)
     form_empty s (nodes.rename a pairs) c = node_empty a c
     form_empty s (nodes.sub a items) c = ap (λ v. with_operand a v (λ d. Ok (sub_of items d s))) (node_empty a c.0)
+    form_empty s (nodes.pivot a id m) c = ap (λ v. with_operand a v (λ d. Ok (pivot_of d id m))) (node_empty a c.0)
     form_empty s (nodes.unpivot a id m) c = ap (λ v. with_operand a v (λ d. Ok (unpivot_of d))) (node_empty a c)
     form_empty s other c = absurd c
 

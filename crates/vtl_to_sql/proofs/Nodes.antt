@@ -17,23 +17,24 @@ use Rattle.vtl_meaning.specs.Points.{with_points}
 use Rattle.vtl_meaning.specs.Shapes.{IsShaped}
 use Rattle.vtl_meaning.specs.Trees as nodes
 use Rattle.vtl_meaning.specs.Trees.{FormTree, NodeTree, structure_of}
-use Rattle.vtl_meaning.specs.Turned.{unpivot_of}
+use Rattle.vtl_meaning.specs.Turned.{pivot_of, unpivot_of}
 use Rattle.vtl_meaning.proofs.Orders.{choice_respects, each_respects, filtered_respects, pair_respects, shown_respects, sub_respects}
 use Rattle.vtl_meaning.proofs.ScriptsKept.{node_kept}
-use Rattle.vtl_meaning.proofs.TurnedOrders.{unpivot_order}
+use Rattle.vtl_meaning.proofs.TurnedOrders.{pivot_order, unpivot_order}
 use Rattle.sql_tree.specs.Trees.{Text}
 use Rattle.sql_meaning.specs.Scripts.{Data}
 use Rattle.vtl_to_sql.specs.Conditions.{HaveNames, IsFormTranslated, IsTranslated}
 use Rattle.vtl_to_sql.specs.Means.{AreEarlier, Means, NodeGives, SourcesGive, Stands, StandsAs}
 use Rattle.vtl_to_sql.specs.Queries.{calc_query, choose_query, copy_query, filter_query, left_query, measures_query, pair_query, rename_query, sub_query}
 use Rattle.vtl_to_sql.specs.Tables.{and_then, made_of, made_of_form, numbered, over, source_of, sources_of, table_of, with_one}
-use Rattle.vtl_to_sql.specs.Turned.{unpivot_query}
+use Rattle.vtl_to_sql.specs.Turned.{pivot_query, unpivot_query}
 use Rattle.vtl_to_sql.proofs.Choices.{choose_means}
 use Rattle.vtl_to_sql.proofs.Composition.{all_earlier, all_stand_still, alone, beside_gives, no_tables, one_gives, stored_gives, three_gives, together, two_gives}
 use Rattle.vtl_to_sql.proofs.Exact.{means_by, means_turned, set_turned}
 use Rattle.vtl_to_sql.proofs.Expressions.{Translates}
 use Rattle.vtl_to_sql.proofs.OneOperand.{calc_means, copy_means, filter_means, left_means, measures_mean, rename_means}
 use Rattle.vtl_to_sql.proofs.Givens.{AreGiven, columns_given}
+use Rattle.vtl_to_sql.proofs.Pivots.{pivot_means}
 use Rattle.vtl_to_sql.proofs.Subs.{sub_means}
 use Rattle.vtl_to_sql.proofs.TwoOperands.{pair_means}
 use Rattle.vtl_to_sql.proofs.Unpivots.{unpivot_means}
@@ -59,6 +60,7 @@ mutual
   form_built p s (nodes.drop_named a ns) c = translated_built p a c
   form_built p s (nodes.rename a pairs) c = translated_built p a c
   form_built p s (nodes.sub a items) c = translated_built p a c.0
+  form_built p s (nodes.pivot a id q) c = translated_built p a c.0
   form_built p s (nodes.unpivot a id q) c = translated_built p a c
   form_built p s other c = absurd c
 
@@ -160,6 +162,12 @@ module _ (p : Settings) (law : Translates p) (r : Text) (word : is_word r ≡ tr
         means_turned p now (choose_query p (structure_of o) (structure_of a) (structure_of k) s x y z) s (choice_of (with_points (structure_of o) so.rows) (with_points (structure_of a) sa.rows) (with_points (structure_of k) sk.rows) s) (choice_of (with_points (structure_of o) tests) (with_points (structure_of a) d) (with_points (structure_of k) e) s)
         (choice_respects (structure_of o) (structure_of a) (structure_of k) s so.rows tests sa.rows d sk.rows e so.same sa.same sk.same set_a.distinct set_k.distinct)
         (choose_means p law now x y z (structure_of o) (structure_of a) (structure_of k) s so.rows sa.rows sk.rows so.table sa.table sk.table so.named sa.named sk.named (names_in p o c.0) (names_in p a c.1) (names_in p k c.2) set_o set_a set_k i.3 (columns_given s w n)))
+    form_gives s (nodes.pivot a id q) m before stands apart w i n c few =
+        one_gives p r word before m (sources_of p r a m) (pivot_query p id q (structure_of a) s) (structure_of a) s (node_value p env a) (λ d. Ok (pivot_of (with_points (structure_of a) d) id q)) (operand_gives a m before stands apart i.0 c.0 few)
+        (λ now x d is st.
+        let set = set_of a now x d c.0 i.0 is st in
+        means_by p now (pivot_query p id q (structure_of a) s x) s (Ok (pivot_of (with_points (structure_of a) st.rows) id q)) (Ok (pivot_of (with_points (structure_of a) d) id q)) (pivot_order (structure_of a) id st.rows set d st.same q)
+        (pivot_means p law now x (structure_of a) s st.rows st.table st.named (names_in p a c.0) set id q i.1 c.1 (columns_given s w n)))
     form_gives s (nodes.unpivot a id q) m before stands apart w i n c few =
         one_gives p r word before m (sources_of p r a m) (unpivot_query p (structure_of a) s) (structure_of a) s (node_value p env a) (λ d. Ok (unpivot_of (with_points (structure_of a) d))) (operand_gives a m before stands apart i.0 c few)
         (λ now x d is st. means_turned p now (unpivot_query p (structure_of a) s x) s (unpivot_of (with_points (structure_of a) st.rows)) (unpivot_of (with_points (structure_of a) d)) (unpivot_order (structure_of a) st.rows d st.same)

@@ -11,7 +11,7 @@ use Rattle.vtl_meaning.specs.Trees.{FormTree, NodeTree, structure_of}
 use Rattle.sql_tree.specs.Trees.{Text, QueryTree}
 use Rattle.sql_meaning.specs.Scripts.{dollar}
 use Rattle.vtl_to_sql.specs.Queries.{calc_query, choose_query, copy_query, filter_query, left_query, measures_query, pair_query, rename_query, sub_query}
-use Rattle.vtl_to_sql.specs.Turned.{unpivot_query}
+use Rattle.vtl_to_sql.specs.Turned.{pivot_query, unpivot_query}
 
 -- a table by a query
 pub record Table : Type 0 where
@@ -99,6 +99,7 @@ abbrev mutual
   made_of_form p r s (nodes.drop_named a names) n = over (sources_of p r a n) (with_one (left_query p (structure_of a) s))
   made_of_form p r s (nodes.rename a pairs) n = over (sources_of p r a n) (with_one (rename_query p (structure_of a) s))
   made_of_form p r s (nodes.sub a items) n = over (sources_of p r a n) (with_one (sub_query p items (structure_of a) s))
+  made_of_form p r s (nodes.pivot a id m) n = over (sources_of p r a n) (with_one (pivot_query p id m (structure_of a) s))
   made_of_form p r s (nodes.unpivot a id m) n = over (sources_of p r a n) (with_one (unpivot_query p (structure_of a) s))
   -- no script that is translated holds another form yet
   made_of_form p r s other n = record { tables = []; query = []; next = n }
