@@ -27,3 +27,4 @@ pub mod LawfulScripts
 pub mod Exists
 pub mod SetQueries
 pub mod SetSteps
+pub mod Existences
