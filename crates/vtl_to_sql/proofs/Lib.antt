@@ -32,3 +32,4 @@ pub mod LawfulScripts
 pub mod Exists
 pub mod SetQueries
 pub mod SetSteps
+pub mod Existences
