@@ -26,6 +26,11 @@ pub mod JoinedRows
 pub mod ReferenceJoins
 pub mod CrossJoins
 pub mod Choices
+pub mod ItemLists
+pub mod Unpivots
+pub mod GroupItems
+pub mod Coded
+pub mod Pivots
 pub mod Nodes
 pub mod Statements
 pub mod WholeScript
@@ -34,3 +39,7 @@ pub mod TranslatedScripts
 pub mod EmptyData
 pub mod TypedScripts
 pub mod LawfulScripts
+pub mod Exists
+pub mod SetQueries
+pub mod SetSteps
+pub mod Existences

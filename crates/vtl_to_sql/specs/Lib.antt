@@ -1,5 +1,6 @@
 pub mod Queries
 pub mod Joins
+pub mod Turned
 pub mod Tables
 pub mod Scripts
 pub mod Runs
