@@ -1,5 +1,5 @@
 -- A select over a first source and operands that are joined with it.
-use Rattle.std.proofs.Common.{◌≡◌, ◌<◌, ◌+◌, ◌^◌, ℕ, true, List, [], ◌∷◌, ◌++◌, length, map, None, Ok, refl, ap, sym, ◌∙◌, subst, arith, append-nil}
+use Rattle.std.proofs.Common.{◌≡◌, ◌<◌, ◌^◌, ℕ, true, List, [], ◌∷◌, ◌++◌, length, map, None, Ok, refl, ap, sym, ◌∙◌, subst, arith, append-nil}
 use Rattle.std.specs.Prelude.{fold, is_some}
 use Rattle.std.specs.List.{AllByRecursion, flat_map}
 use Rattle.vtl_cell.specs.Row.{Row}
@@ -21,13 +21,12 @@ use Rattle.sql_tree.specs.Trees.{JoinTree, SelectTree, Text}
 use Rattle.sql_tree.specs.declared.word_groups.JoinKind.{JoinKind}
 use Rattle.sql_check_laws.specs.Selects.{AreJoinsTyped}
 use Rattle.sql_check_parts.specs.Queries.{first_scope, joined_scope, scope_of}
-use Rattle.sql_check_parts.specs.Scopes.{add_source, columns_of as table_columns}
+use Rattle.sql_check_parts.specs.Scopes.{add_source}
 use Rattle.sql_meaning.specs.From.{kept_of, source_rows, with_join}
 use Rattle.sql_meaning.specs.Scripts.{Data, base_of, tables_in}
 use Rattle.vtl_to_sql.specs.Conditions.{AllCanBeWritten, HaveNames}
 use Rattle.vtl_to_sql.specs.Joins.{alias_of, chain_select, many_at, width_of}
 use Rattle.vtl_to_sql.specs.Queries.{source_as}
-use Rattle.vtl_to_sql.specs.Runs.{entries}
 use Rattle.vtl_to_sql.proofs.Chains.{AllTied, IsAt, IsGrown, IsOneSided, after_all, all_done, all_grown, all_pieces, chained, chained_printed, chained_scope, chained_typed, each_alone, extended_by, formed_at, found_in, grown_by, joined_of, joins, last_stage, names_at, state}
 use Rattle.vtl_to_sql.proofs.Exact.{IsExactly}
 use Rattle.vtl_to_sql.proofs.Expressions.{Translates}
@@ -35,7 +34,7 @@ use Rattle.vtl_to_sql.proofs.Givens.{AreGiven}
 use Rattle.vtl_to_sql.proofs.HeldOperands.{AreHeld, IsHeld, rows_held}
 use Rattle.vtl_to_sql.proofs.Loose.{all_loose, loose_formed, loose_names, loose_point}
 use Rattle.vtl_to_sql.proofs.ManySources.{alias_is_name, all_columns, many_scope}
-use Rattle.vtl_to_sql.proofs.SelectItems.{AllRows, GivesRows, IsFrom}
+use Rattle.vtl_to_sql.proofs.SelectItems.{IsFrom}
 use Rattle.vtl_to_sql.proofs.Selects.{IsPointOf, expressions_give}
 use Rattle.vtl_to_sql.proofs.Unions.{one_exactly}
 

@@ -1,8 +1,7 @@
 -- Operands that are joined with a first source, one after the other: for each row of the first source what is found in each operand.
-use Rattle.std.proofs.Common.{◌≡◌, ◌≤◌, ◌<◌, ◌+◌, ◌^◌, ℕ, zero, suc, Bool, true, false, cond, List, [], ◌∷◌, ◌++◌, length, map, Option, Some, None, Ok, refl, ap, sym, ◌∙◌, subst, arith, append_assoc, append-nil, length-append}
-use Rattle.std.specs.Prelude.{fold, if◌then◌else◌, is_some, option_map}
+use Rattle.std.proofs.Common.{◌≡◌, ◌≤◌, ◌<◌, ◌+◌, ◌^◌, ℕ, suc, Bool, true, List, [], ◌∷◌, ◌++◌, length, map, Option, Some, None, Ok, refl, ap, sym, ◌∙◌, subst, arith, append_assoc, append-nil, length-append}
+use Rattle.std.specs.Prelude.{fold, is_some, option_map}
 use Rattle.std.specs.List.{AllByRecursion, filter, find, flat_map}
-use Rattle.std.specs.Map.{keys_of}
 use Rattle.std.specs.Option.{option_to_list}
 use Rattle.std.proofs.lemmas.List.{length-map, map-append}
 use Rattle.grammar_forms.specs.Written.{Each}
@@ -24,7 +23,6 @@ use Rattle.vtl_tuples.proofs.Lists.{filter_same, flat_map-flat_map, flat_map_eac
 use Rattle.vtl_meaning.specs.Columns.{places_in}
 use Rattle.vtl_meaning.specs.Joined.{structures_of}
 use Rattle.vtl_meaning.specs.Made.{IsTyped}
-use Rattle.vtl_meaning.proofs.Drawn.{drawn_all}
 use Rattle.vtl_meaning.proofs.JoinParts.{found_is}
 use Rattle.vtl_meaning.proofs.OwnColumns.{columns_apart}
 use Rattle.vtl_meaning.proofs.Places.{all_append, all_more, point_append, point_length}
@@ -36,7 +34,7 @@ use Rattle.sql_check_laws.specs.Fits.{IsCondition}
 use Rattle.sql_check_laws.specs.Selects.{AreJoinsTyped}
 use Rattle.sql_check_parts.specs.Expressions.{site}
 use Rattle.sql_check_parts.specs.Queries.{joined_scope}
-use Rattle.sql_check_parts.specs.Scopes.{Scope, add_source, columns_of as table_columns, is_among, or_nothing, row_of, with_source}
+use Rattle.sql_check_parts.specs.Scopes.{Scope, columns_of as table_columns, or_nothing, row_of, with_source}
 use Rattle.sql_meaning.specs.From as from
 use Rattle.sql_meaning.specs.From.{Joined, fault_at, holds, join_on, joined_rows, nulls, or_alone, pairs, partners, partners_or_alone, with_join}
 use Rattle.sql_meaning.specs.Scripts.{Data, base_of, tables_in}
@@ -47,12 +45,12 @@ use Rattle.rules_to_sql.specs.ToSql.{Naming, to_sql}
 use Rattle.vtl_to_sql.specs.Conditions.{CanBeWritten, HaveNames}
 use Rattle.vtl_to_sql.specs.Joins.{Placed, alias_of, all_tied, joins_on, of_many, placed_at, placed_from, width_of}
 use Rattle.vtl_to_sql.specs.Queries.{source_as}
-use Rattle.vtl_to_sql.specs.Runs.{IsTable, entries, printable_depth}
+use Rattle.vtl_to_sql.specs.Runs.{entries, printable_depth}
 use Rattle.vtl_to_sql.proofs.Expressions.{Translates}
 use Rattle.vtl_to_sql.proofs.HeldOperands.{AreHeld, IsHeld, alias_new, rows_held, source_behind}
 use Rattle.vtl_to_sql.proofs.Identifiers.{AreIdentifiersAt}
 use Rattle.vtl_to_sql.proofs.Loose.{all_loose, loose, loose_nulls, loose_point}
-use Rattle.vtl_to_sql.proofs.ManySources.{AllApart, alias_free, alias_is_name, all_columns, columns_more, many_formed, many_names, many_scope, scope_more, widths}
+use Rattle.vtl_to_sql.proofs.ManySources.{AllApart, alias_is_name, all_columns, columns_more, many_formed, many_names, many_scope, widths}
 use Rattle.vtl_to_sql.proofs.Pairs.{no_faults}
 use Rattle.vtl_to_sql.proofs.Sources.{AreApart}
 use Rattle.vtl_to_sql.proofs.Selects.{condition_fits, expression_printed}

@@ -1,5 +1,5 @@
 -- A cross join: a select over all operands, each point with each.
-use Rattle.std.proofs.Common.{◌≡◌, ◌<◌, ◌+◌, ◌^◌, ℕ, zero, suc, true, List, [], ◌∷◌, ◌++◌, length, map, None, Some, Ok, refl, ap, sym, ◌∙◌, subst, arith, append_assoc, append-nil, length-append}
+use Rattle.std.proofs.Common.{◌≡◌, ◌<◌, ◌+◌, ◌^◌, ℕ, suc, true, List, [], ◌∷◌, ◌++◌, length, map, None, Ok, refl, ap, sym, ◌∙◌, subst, arith, append_assoc, append-nil, length-append}
 use Rattle.std.specs.Prelude.{fold, is_some}
 use Rattle.std.specs.List.{AllByRecursion, flat_map}
 use Rattle.std.proofs.lemmas.Grind.{flat_map-append}
@@ -20,7 +20,7 @@ use Rattle.vtl_tuples.proofs.Folds.{crossed_each}
 use Rattle.vtl_tuples.proofs.Lists.{flat_map_each, map-flat_map, map-map, map_each, map_same}
 use Rattle.vtl_meaning.specs.Agreement.{OperandPoint, key_of, operand_point, operand_points}
 use Rattle.vtl_meaning.specs.Columns.{identifiers_of, measures_of}
-use Rattle.vtl_meaning.specs.Joined.{Part, cross_tuples, crossed, present, structures_of, tuple_point, values_or_nulls}
+use Rattle.vtl_meaning.specs.Joined.{cross_tuples, crossed, present, structures_of, tuple_point, values_or_nulls}
 use Rattle.vtl_meaning.specs.Made.{AreFor, attributes_of, component_kinds, kinds_of_all}
 use Rattle.vtl_meaning.specs.Points.{each_point, point_of}
 use Rattle.vtl_meaning.proofs.Agreements.{own_values}
@@ -28,10 +28,10 @@ use Rattle.vtl_meaning.proofs.JoinKept.{IsCombination, IsOperandPoint, combinati
 use Rattle.vtl_meaning.proofs.JoinParts.{AreSets}
 use Rattle.vtl_meaning.proofs.Places.{all_map, all_more, all_of_map, point_append, point_length}
 use Rattle.sql_tree.specs.Formed.{IsJoin}
-use Rattle.sql_tree.specs.Trees.{JoinTree, SelectTree, Text}
+use Rattle.sql_tree.specs.Trees.{SelectTree, Text}
 use Rattle.sql_check_laws.specs.Selects.{AreJoinsTyped}
-use Rattle.sql_check_parts.specs.Queries.{first_scope, joined_scope, scope_of}
-use Rattle.sql_check_parts.specs.Scopes.{add_source, columns_of as table_columns}
+use Rattle.sql_check_parts.specs.Queries.{joined_scope, scope_of}
+use Rattle.sql_check_parts.specs.Scopes.{add_source}
 use Rattle.sql_meaning.specs.From.{kept_of, pairs, source_rows, with_join}
 use Rattle.sql_meaning.specs.Scripts.{Data, base_of, tables_in}
 use Rattle.rules_to_sql.specs.Names.{Names}
@@ -44,7 +44,7 @@ use Rattle.vtl_to_sql.proofs.Chains.{joined_of}
 use Rattle.vtl_to_sql.proofs.Exact.{IsExactly, exactly_same}
 use Rattle.vtl_to_sql.proofs.Expressions.{Translates}
 use Rattle.vtl_to_sql.proofs.Givens.{AreGiven}
-use Rattle.vtl_to_sql.proofs.HeldOperands.{AreHeld, IsHeld, alias_new, all_named, rows_held, sets_apart, source_behind}
+use Rattle.vtl_to_sql.proofs.HeldOperands.{AreHeld, alias_new, all_named, rows_held, sets_apart, source_behind}
 use Rattle.vtl_to_sql.proofs.JoinedColumns.{AllShown, ArePlaced, AreWell, each_plain, joined_plain, placed_all, plain_written}
 use Rattle.vtl_to_sql.proofs.JoinedRows.{from_structures, joined_for, joined_values}
 use Rattle.vtl_to_sql.proofs.Loose.{all_loose, loose_formed, loose_names, loose_point}

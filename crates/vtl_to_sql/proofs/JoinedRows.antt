@@ -1,5 +1,5 @@
 -- The rows of joined sources show a part of each operand.
-use Rattle.std.proofs.Common.{◌≡◌, ◌<◌, ◌+◌, ℕ, zero, suc, true, cond, List, [], ◌∷◌, ◌++◌, length, map, Option, Some, None, refl, ap, sym, ◌∙◌, subst, arith, append-nil, length-append}
+use Rattle.std.proofs.Common.{◌≡◌, ◌<◌, ◌+◌, ℕ, zero, suc, true, cond, List, [], ◌∷◌, ◌++◌, length, map, Option, Some, None, refl, ap, ◌∙◌, subst, arith, append-nil, length-append}
 use Rattle.std.specs.Prelude.{Bool, is_some, slice_get}
 use Rattle.std.specs.List.{AllByRecursion, flat_map, list_all}
 use Rattle.std.proofs.lemmas.List.{get_or_append_left, get_or-append-add, length-map, map-append}
@@ -19,7 +19,7 @@ use Rattle.vtl_meaning.proofs.Places.{point_length}
 use Rattle.sql_tree.specs.declared.word_groups.JoinKind.TheVariants as joining
 use Rattle.vtl_to_sql.specs.Joins.{Placed, columns_in, joined_exps, placed_around, placed_from, width_of, without}
 use Rattle.vtl_to_sql.proofs.Chains.{cells_or_nulls, extended_by}
-use Rattle.vtl_to_sql.proofs.JoinedColumns.{AllShown, ArePlaced, AreWell, OfKinds, Shows, are_attributes_part, are_identifiers_part, are_measures_part, columns_kinds, for_kinds, of_kinds_append, parts_values, structures_in}
+use Rattle.vtl_to_sql.proofs.JoinedColumns.{AllShown, ArePlaced, AreWell, Shows, are_attributes_part, are_identifiers_part, are_measures_part, columns_kinds, for_kinds, of_kinds_append, parts_values, structures_in}
 use Rattle.vtl_to_sql.proofs.Loose.{all_loose, loose, loose_nulls}
 
 -- ---- a row with a part of each operand

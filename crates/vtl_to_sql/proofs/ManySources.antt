@@ -1,5 +1,5 @@
 -- The columns of many sources.
-use Rattle.std.proofs.Common.{◌≡◌, ◌≤◌, ◌<◌, ◌+◌, ◌-◌, ◌^◌, ◌||◌, ℕ, zero, suc, Bool, true, false, cond, List, [], ◌∷◌, ◌++◌, length, map, Some, refl, ap, sym, ◌∙◌, subst, arith, append_assoc, append-nil, length-append}
+use Rattle.std.proofs.Common.{◌≡◌, ◌≤◌, ◌<◌, ◌+◌, ◌-◌, ◌^◌, ◌||◌, ℕ, suc, Bool, true, false, cond, List, [], ◌∷◌, ◌++◌, length, map, Some, refl, ap, sym, ◌∙◌, arith, append_assoc, append-nil}
 use Rattle.std.specs.Prelude.{nat_lt, if◌then◌else◌, option_and_then, unwrap_or}
 use Rattle.std.specs.List.{AllByRecursion, flat_map}
 use Rattle.std.specs.Map.{keys_of, lookup}
@@ -10,11 +10,10 @@ use Rattle.vtl_text.specs.Words.{is_word}
 use Rattle.vtl_cell.specs.declared.kind.Kind.{Kind}
 use Rattle.vtl_tree.specs.declared.structure.Component.{Component}
 use Rattle.vtl_meaning.specs.Made.{IsColumnAt}
-use Rattle.vtl_meaning.proofs.Places.{same_name-refl, same_name-sym}
+use Rattle.vtl_meaning.proofs.Places.{same_name-refl}
 use Rattle.sql_tree.specs.Formed.{IsName}
 use Rattle.sql_tree.specs.declared.parts.Column.{Column}
-use Rattle.sql_check_parts.specs.Scopes.{Scope, add_source, found, is_among, numbered, placed_from, row_of, value_among}
-use Rattle.sql_meaning.specs.Values.{place_in}
+use Rattle.sql_check_parts.specs.Scopes.{Scope, found, is_among, numbered, placed_from, row_of, value_among}
 use Rattle.rules_to_sql.specs.Names.{AreNamesFormed, Names}
 use Rattle.rules_to_sql.specs.ToSql.{column_of}
 use Rattle.vtl_to_sql.specs.Conditions.{HaveNames}

@@ -1,10 +1,9 @@
 -- The condition that ties an operand to the first source: columns of it have the values that the first source has in the columns of
 -- their names.
-use Rattle.std.proofs.Common.{◌≡◌, ◌≤◌, ◌+◌, ℕ, true, List, [], ◌∷◌, ◌++◌, length, map, Ok, refl, ap, sym, ◌∙◌, subst, arith, append_assoc, length-append}
+use Rattle.std.proofs.Common.{◌≡◌, ◌≤◌, ◌+◌, ℕ, true, List, [], ◌∷◌, ◌++◌, length, map, Ok, refl, ap, sym, ◌∙◌, subst, arith, length-append}
 use Rattle.std.specs.List.{AllByRecursion}
 use Rattle.std.proofs.lemmas.List.{get_or_append_left, get_or-append-add, length-map}
 use Rattle.vtl_cell.specs.Order.{same_cell}
-use Rattle.vtl_cell.specs.Outcome.{Outcome}
 use Rattle.vtl_cell.specs.Row.{Row, column_of, same_row}
 use Rattle.vtl_cell.specs.ScalarKinds.{kinds_of}
 use Rattle.vtl_cell.specs.Settings.{Settings}
