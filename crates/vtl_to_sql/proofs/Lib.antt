@@ -25,6 +25,7 @@ pub mod JoinedColumns
 pub mod JoinedRows
 pub mod ReferenceJoins
 pub mod CrossJoins
+pub mod Joins
 pub mod Choices
 pub mod ItemLists
 pub mod Unpivots
@@ -36,6 +37,7 @@ pub mod Statements
 pub mod WholeScript
 pub mod ReadTables
 pub mod TranslatedScripts
+pub mod EmptyJoins
 pub mod EmptyData
 pub mod TypedScripts
 pub mod LawfulScripts
