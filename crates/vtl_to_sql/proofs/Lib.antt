@@ -27,6 +27,8 @@ pub mod ReferenceJoins
 pub mod CrossJoins
 pub mod KeyColumns
 pub mod OnceRows
+pub mod KeyTables
+pub mod FullJoins
 pub mod Joins
 pub mod Choices
 pub mod ItemLists
