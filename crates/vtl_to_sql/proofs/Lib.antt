@@ -29,6 +29,7 @@ pub mod KeyColumns
 pub mod OnceRows
 pub mod KeyTables
 pub mod FullJoins
+pub mod FullMeans
 pub mod Joins
 pub mod Choices
 pub mod ItemLists
