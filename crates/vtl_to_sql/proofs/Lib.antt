@@ -25,6 +25,7 @@ pub mod Nodes
 pub mod Statements
 pub mod WholeScript
 pub mod ReadTables
+pub mod InputData
 pub mod TranslatedScripts
 pub mod EmptyData
 pub mod TypedScripts
