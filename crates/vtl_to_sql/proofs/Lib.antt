@@ -34,3 +34,4 @@ pub mod Exists
 pub mod SetQueries
 pub mod SetSteps
 pub mod Existences
+pub mod Examples
