@@ -1,5 +1,6 @@
 -- What expressions on data sets are written as in SQL, each by computation. Between tokens stands a space.
-use Rattle.std.proofs.Common.{◌≡◌, ℕ, true, false, List, [], ◌∷◌, ◌++◌, map, Some, None, refl, ap, sym, ◌∙◌, subst, arith, append-nil}
+use Rattle.vtl_to_sql.specs.Joins.{cross_query, reference_query}
+use Rattle.std.proofs.Common.{◌≡◌, ℕ, true, false, List, [], ◌∷◌, map, Some, None, refl, sym, ◌∙◌, arith, append-nil, ◌<◌, ◌+◌}
 use Rattle.std.specs.Prelude.{codes}
 use Rattle.std.specs.Fmt.{decimal}
 use Rattle.grammar_forms.specs.Written.{run}
@@ -21,11 +22,11 @@ use Rattle.vtl_meaning.specs.Trees as nodes
 use Rattle.vtl_meaning.specs.Trees.{NodeTree}
 use Rattle.sql_lexer.specs.Spelling.{spelled}
 use Rattle.sql_tree.specs.Printing.{written_query, written_statement}
-use Rattle.sql_tree.specs.Trees.{QueryTree, StatementTree, create}
+use Rattle.sql_tree.specs.Trees.{QueryTree, StatementTree}
+use Rattle.sql_tree.specs.declared.word_groups.JoinKind.TheVariants as joining
 use Rattle.vtl_to_sql.specs.Queries as q
 use Rattle.vtl_to_sql.specs.Turned as turned
-use Rattle.vtl_to_sql.specs.Scripts.{export_for, input_for, statements_for}
-use Rattle.vtl_to_sql.specs.Tables.{numbered}
+use Rattle.vtl_to_sql.specs.Scripts.{statements_for}
 
 abbrev scale_six : Settings
 scale_six = record { scale = 6; rounding = HalfUp }
@@ -130,6 +131,26 @@ of_operands =
 of_operands_are : map (λ e. shown e.0) of_operands ≡ map (λ e. e.1) of_operands
 of_operands_are = refl
 
+-- ---- joins: the reference stands first, and the aliases are numbered
+
+abbrev sized : Structure
+sized = of_components (area ∷ size ∷ [])
+
+abbrev joined_with : Structure
+joined_with = of_components (area ∷ year ∷ size ∷ people ∷ [])
+
+abbrev crossed : Structure
+crossed = of_components (made (codes "x'area") role.Identifier k.Text ∷ made (codes "y'area") role.Identifier k.Text ∷ people ∷ size ∷ [])
+
+digit : (n : ℕ) → n < 10 → decimal n ≡ (48 + n) ∷ []
+digit n h = sym (append-nil (decimal n)) ∙ decimal_last n [] h
+
+left : shown (reference_query scale_six joining.Left 1 (sized ∷ by_year ∷ []) joined_with (table ∷ other ∷ [])) ≡ codes " SELECT \"a$0\" . \"area\" AS \"area\" , \"a$0\" . \"year\" AS \"year\" , \"a$1\" . \"size\" AS \"size\" , \"a$0\" . \"people\" AS \"people\" FROM \"B\" AS \"a$0\" LEFT JOIN \"A\" AS \"a$1\" ON \"a$1\" . \"area\" = \"a$0\" . \"area\""
+left = rw (digit 0 (omega arith), digit 1 (omega arith)) refl
+
+cross : shown (cross_query scale_six (counted ∷ sized ∷ []) crossed (table ∷ other ∷ [])) ≡ codes " SELECT \"a$0\" . \"area\" AS \"x'area\" , \"a$1\" . \"area\" AS \"y'area\" , \"a$0\" . \"people\" AS \"people\" , \"a$1\" . \"size\" AS \"size\" FROM \"A\" AS \"a$0\" CROSS JOIN \"B\" AS \"a$1\""
+cross = rw (digit 0 (omega arith), digit 1 (omega arith)) refl
+
 -- ---- data sets without identifiers, which have one point at most
 
 abbrev alone : Structure
@@ -173,18 +194,5 @@ wanted =
     ∷ codes " EXPORT \"R\" ORDER BY \"area\" ;"
     ∷ []
 
--- with this name for the table that has no name in VTL
-abbrev with_name : List ℕ → List StatementTree
-with_name x =
-    map (λ e. input_for (e, counted)) (codes "A" ∷ codes "B" ∷ codes "C" ∷ [])
-    ++ create (codes "M") (q.filter_query scale_six is_there counted (codes "A"))
-    ∷ create x (q.union_query scale_six counted counted counted (codes "M") (codes "B"))
-    ∷ create (codes "R") (q.union_query scale_six counted counted counted x (codes "C"))
-    ∷ export_for (codes "R", counted)
-    ∷ []
-
-one : numbered (codes "R") 1 ≡ codes "R$1"
-one = ap (λ d. codes "R$" ++ d) (sym (append-nil (decimal 1)) ∙ decimal_last 1 [] (omega arith))
-
 script : map (λ s. run (λ t. 32 ∷ spelled t) (written_statement s)) statements ≡ wanted
-script = subst (λ x. map (λ s. run (λ t. 32 ∷ spelled t) (written_statement s)) (with_name x) ≡ wanted) (sym one) refl
+script = rw (digit 1 (omega arith)) refl

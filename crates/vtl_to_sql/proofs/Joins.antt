@@ -11,9 +11,8 @@ use Rattle.vtl_syntax.specs.declared.word_groups.JoinKind.TheVariants as join
 use Rattle.vtl_tree.specs.Environment.{DataSet}
 use Rattle.vtl_tree.specs.Structure.{columns_of}
 use Rattle.vtl_tree.specs.declared.structure.Structure.{Structure}
-use Rattle.vtl_meaning.specs.Columns.{identifiers_of, measures_of}
 use Rattle.vtl_meaning.specs.Joined.{join_of, joined_of, reference_place, structures_of}
-use Rattle.vtl_meaning.specs.Made.{GoTogether, IsJoined}
+use Rattle.vtl_meaning.specs.Made.{IsJoined}
 use Rattle.vtl_meaning.proofs.JoinKept.{IsReference, join_with, reference_is}
 use Rattle.vtl_meaning.proofs.JoinOrders.{join_order}
 use Rattle.vtl_meaning.proofs.JoinParts.{AreSets}
@@ -27,11 +26,11 @@ use Rattle.vtl_to_sql.specs.Means.{AreThere, Means, NodeGives, SourcesGive}
 use Rattle.vtl_to_sql.specs.Tables.{Sources, join_made, over}
 use Rattle.vtl_to_sql.proofs.Composition.{over_gives}
 use Rattle.vtl_to_sql.proofs.CrossJoins.{cross_exactly}
-use Rattle.vtl_to_sql.proofs.Exact.{IsExactly, exactly_same, means_by}
+use Rattle.vtl_to_sql.proofs.Exact.{IsExactly, means_by}
 use Rattle.vtl_to_sql.proofs.Expressions.{Translates}
 use Rattle.vtl_to_sql.proofs.Givens.{AreGiven}
 use Rattle.vtl_to_sql.proofs.HeldOperands.{AreHeld, turned}
-use Rattle.vtl_to_sql.proofs.ReferenceJoins.{IsReferred, inner_exactly, left_exactly}
+use Rattle.vtl_to_sql.proofs.ReferenceJoins.{inner_exactly, left_exactly}
 
 -- the columns of each operand have names
 abbrev pub AllNamed : List DataSet → Type 0
