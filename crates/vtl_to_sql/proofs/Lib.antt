@@ -41,6 +41,7 @@ pub mod Nodes
 pub mod Statements
 pub mod WholeScript
 pub mod ReadTables
+pub mod InputData
 pub mod TranslatedScripts
 pub mod EmptyJoins
 pub mod EmptyData
@@ -50,3 +51,4 @@ pub mod Exists
 pub mod SetQueries
 pub mod SetSteps
 pub mod Existences
+pub mod Examples

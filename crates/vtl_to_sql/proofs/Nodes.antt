@@ -100,9 +100,6 @@ operands_named : (p : Settings) (os : OperandTrees) → AreOperandsTranslated p 
 operands_named p nodes.no_operands c = tt
 operands_named p (nodes.operand n alias os) c = (names_in p n c.0, operands_named p os c.1)
 
-shaped_in : (p : Settings) (env : Environment) (n : NodeTree) → IsMade p (known_in env) n → IsShaped (structure_of n)
-shaped_in p env (nodes.node s form) i = i.0
-
 after_ok_is : (v : Outcome (List Row)) → after v (λ d. Ok d) ≡ v
 after_ok_is (Ok d) = refl
 after_ok_is (Err f) = refl

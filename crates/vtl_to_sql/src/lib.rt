@@ -10,4 +10,7 @@
 
 mod laws;
 
-pub use laws::{inputs_have_their_columns, scripts_are_translated, translated_scripts_are_lawful};
+pub use laws::{
+    inputs_ask_for_data_sets, inputs_have_their_columns, scripts_are_translated,
+    translated_scripts_are_lawful,
+};
