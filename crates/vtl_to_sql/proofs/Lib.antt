@@ -46,6 +46,7 @@ pub mod TranslatedScripts
 pub mod EmptyJoins
 pub mod EmptyData
 pub mod TypedScripts
+pub mod InputSets
 pub mod LawfulScripts
 pub mod Exists
 pub mod SetQueries

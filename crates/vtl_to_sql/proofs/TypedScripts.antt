@@ -64,6 +64,9 @@ component_parts x h =
 components_declarable : (s : Structure) → is_declarable s ≡ true → list_all is_declarable_component s.components ≡ true
 components_declarable s h = (and_parts (nat_le 1 (length s.components) && nat_le (length s.components) most_components && all_apart same_name (names_of s.components)) (list_all is_declarable_component s.components) h).1
 
+pub declared_each_entry : (reads : Named) → AreStructures reads → AllByRecursion (λ e. is_declarable_entry e ≡ true) reads
+declared_each_entry reads h = passed_each is_declarable_entry reads h.declarable
+
 pub declared_shaped : (e : List ℕ × Structure) → is_declarable e.1 ≡ true → IsShaped e.1
 declared_shaped e h = (structures-shaped (e ∷ []) (record { declarable = and_from (is_declarable e.1) true h refl; distinct = refl })).0
 
@@ -77,7 +80,7 @@ declared_named : (s : Structure) → is_declarable s ≡ true → HaveNames (col
 declared_named s h = each_column (λ x. IsName x.name) s (all_more (λ x. is_declarable_component x ≡ true) (λ x. IsName x.name) (λ x i. component_is_name x.name (component_parts x i).0) s.components (declared_each s h))
 
 pub all_readable : (reads : Named) → AreReadable reads → AllByRecursion IsReadable reads
-all_readable reads h = go reads (passed_each is_declarable_entry reads h.structures.declarable) h.words
+all_readable reads h = go reads (declared_each_entry reads h.structures) h.words
   where
     go : (es : Named) → AllByRecursion (λ e. is_declarable_entry e ≡ true) es → AllByRecursion (λ e. is_word e.0 ≡ true) es → AllByRecursion IsReadable es
     go [] d w = tt

@@ -13,7 +13,7 @@ ghost use Rattle.sql_meaning.specs.Inputs.{IsInputData};
 ghost use Rattle.sql_meaning.specs.Scripts.{Inputs, script_value};
 ghost use Rattle.vtl_to_sql.specs.Conditions.{IsScript};
 ghost use Rattle.vtl_to_sql.specs.Exports.{AreRead, exported_as};
-ghost use Rattle.vtl_to_sql.specs.Inputs.{AreAsked};
+ghost use Rattle.vtl_to_sql.specs.Inputs.{AreAsked, AreTaken, sets_read};
 ghost use Rattle.vtl_to_sql.specs.Runs.{entries};
 ghost use Rattle.vtl_to_sql.specs.Scripts.{input_of, script_for};
 
@@ -21,6 +21,11 @@ ghost use Rattle.vtl_to_sql.specs.Scripts.{input_of, script_for};
 /// sorted by its identifiers; or it has the same fault with the name of the same result.
 pub fn scripts_are_translated()
     ensures { (p : Settings) (reads : Named) (ss : List Statement) (env : Environment) (inputs : Inputs) → IsScript p reads ss → known_in env ≡ reads → AreDataSets env → AreRead inputs env → script_value (script_for p reads ss) inputs ≡ exported_as (meaning p ss env) }
+{}
+
+/// So over any rows that its INPUTs take it exports the outputs over the data sets of these rows.
+pub fn scripts_are_translated_over_inputs()
+    ensures { (p : Settings) (reads : Named) (ss : List Statement) (inputs : Inputs) → IsScript p reads ss → AreTaken inputs reads → script_value (script_for p reads ss) inputs ≡ exported_as (meaning p ss (sets_read inputs reads)) }
 {}
 
 /// The script in SQL breaks no rule, and can be printed so that it reads back.

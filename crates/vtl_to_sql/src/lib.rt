@@ -12,5 +12,5 @@ mod laws;
 
 pub use laws::{
     inputs_ask_for_data_sets, inputs_have_their_columns, scripts_are_translated,
-    translated_scripts_are_lawful,
+    scripts_are_translated_over_inputs, translated_scripts_are_lawful,
 };
