@@ -22,3 +22,7 @@ pub mod TranslatedScripts
 pub mod EmptyData
 pub mod TypedScripts
 pub mod LawfulScripts
+pub mod AcceptedWords
+pub mod AcceptedOthers
+pub mod AcceptedTyping
+pub mod AcceptedScripts
