@@ -26,3 +26,8 @@ pub mod AcceptedWords
 pub mod AcceptedOthers
 pub mod AcceptedTyping
 pub mod AcceptedScripts
+pub mod AcceptedNames
+pub mod AcceptedTables
+pub mod AcceptedNodes
+pub mod AcceptedReads
+pub mod Accepted
