@@ -1,7 +1,7 @@
 -- An accepted script whose forms are translated so far can be translated.
-use Rattle.std.proofs.Common.{◌≡◌, ◌≤◌, ◌+◌, ℕ, Bool, true, false, cond, ◌&&◌, ◌||◌, List, [], ◌∷◌, ◌++◌, length, Some, refl, sym, ap, ◌∙◌, subst, arith, true≢false}
+use Rattle.std.proofs.Common.{◌≡◌, ◌≤◌, ℕ, Bool, true, false, cond, ◌&&◌, ◌||◌, List, [], ◌∷◌, ◌++◌, Some, sym, ap, subst, arith, true≢false}
 use Rattle.std.proofs.lemmas.Bool.{and_parts, false≢true}
-use Rattle.std.specs.List.{AllByRecursion, list_all}
+use Rattle.std.specs.List.{AllByRecursion}
 use Rattle.std.specs.Map.{lookup}
 use Rattle.vtl_cell.specs.Settings.{Settings}
 use Rattle.vtl_cell.specs.Words.{is_name}
@@ -15,7 +15,7 @@ use Rattle.vtl_meaning.specs.Nodes.{nodes_in}
 use Rattle.vtl_meaning.specs.Trees as nodes
 use Rattle.vtl_meaning.specs.Trees.{FormTree, NodeTree, structure_of}
 use Rattle.vtl_check.specs.Checked.{IsTyped, TypedScript, nodes_of, tree_of}
-use Rattle.vtl_check.specs.Names.{name_at_form, names_at, names_in, names_of}
+use Rattle.vtl_check.specs.Names.{names_at, names_in, names_of}
 use Rattle.vtl_check.specs.Transformations.{Transformation, transformations}
 use Rattle.vtl_check.specs.Uses.{reads}
 use Rattle.vtl_check.proofs.NameLemmas.{names_append}
@@ -28,7 +28,7 @@ use Rattle.check_laws.proofs.Lists as lists
 use Rattle.check_laws.proofs.Over.{made_over}
 use Rattle.check_laws.proofs.Scripts.{script-made}
 use Rattle.vtl_to_sql.specs.Accepted.{AreHeld, HoldsConstants, are_translated, is_form_translated, is_translated}
-use Rattle.vtl_to_sql.specs.Conditions.{AreTranslated, HasFewTables, IsScript, IsStatementTranslated}
+use Rattle.vtl_to_sql.specs.Conditions.{AreTranslated, HasFewTables, IsScript}
 use Rattle.vtl_to_sql.specs.Tables.{first_number}
 use Rattle.vtl_to_sql.proofs.AcceptedNames.{AreKnownNamed, components_named, declared_named}
 use Rattle.vtl_to_sql.proofs.AcceptedNodes.{node_translated}
@@ -97,8 +97,7 @@ statements_translated p known other (t ∷ ts) [] alike fewer named words ready 
 statements_translated p known other (t ∷ ts) (n ∷ ns) alike fewer named words ready made =
     let here = ready.0 in
     let own = here.fit.words here.translated in
-    let rest = lists.back (λ name. lookup (same_name name) known ≡ lookup (same_name name) other) (names_in n) (names_of ns) alike in
-    (
+    let rest = lists.back (λ name. lookup (same_name name) known ≡ lookup (same_name name) other) (names_in n) (names_of ns) alike in (
       record {
         word = name-word t.name words.0;
         new = fewer t.name made.0;
@@ -107,10 +106,10 @@ statements_translated p known other (t ∷ ts) (n ∷ ns) alike fewer named word
         few = few_tables p (record { result = t.name; persistent = is_written t.kind; node = n }) here.translated here.fit;
       },
       statements_translated p ((t.name, structure_of n) ∷ known) ((t.name, structure_of n) ∷ other) ts ns
-      (lists.weaker (λ name. lookup (same_name name) known ≡ lookup (same_name name) other) (λ name. lookup (same_name name) ((t.name, structure_of n) ∷ known) ≡ lookup (same_name name) ((t.name, structure_of n) ∷ other)) (names_of ns) (λ name e. ap (cond (same_name name t.name) (Some (structure_of n))) e) rest)
-      (fewer_still known other (t.name, structure_of n) fewer)
-      (components_named p known named n made.1 here.translated own, named)
-      words.1 ready.1 made.2,
+          (lists.weaker (λ name. lookup (same_name name) known ≡ lookup (same_name name) other) (λ name. lookup (same_name name) ((t.name, structure_of n) ∷ known) ≡ lookup (same_name name) ((t.name, structure_of n) ∷ other)) (names_of ns) (λ name e. ap (cond (same_name name t.name) (Some (structure_of n))) e) rest)
+          (fewer_still known other (t.name, structure_of n) fewer)
+          (components_named p known named n made.1 here.translated own, named)
+          words.1 ready.1 made.2,
     )
 
 -- ---- scripts

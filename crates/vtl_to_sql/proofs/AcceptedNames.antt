@@ -1,5 +1,5 @@
 -- The components of an expression that is made over data sets with names have names, where its words are names.
-use Rattle.std.proofs.Common.{◌≡◌, ℕ, Bool, true, false, cond, ◌&&◌, not, ◌||◌, List, [], ◌∷◌, ◌++◌, map, length, Option, Some, None, codes, refl, sym, ap, subst}
+use Rattle.std.proofs.Common.{◌≡◌, ℕ, Bool, true, false, cond, ◌&&◌, not, List, [], ◌∷◌, map, length, Option, Some, None, codes, refl, sym, subst}
 use Rattle.std.proofs.lemmas.Bool.{and_parts, false≢true}
 use Rattle.std.specs.List.{AllByRecursion, filter, list_all}
 use Rattle.std.specs.Map.{lookup}
@@ -17,7 +17,7 @@ use Rattle.vtl_tree.specs.declared.structure.Structure.{Structure}
 use Rattle.vtl_meaning.specs.Made.{IsMade, IsMadeForm}
 use Rattle.vtl_meaning.specs.Shapes.{calculated_components, given_between, given_of_two, outcome_of, target_of}
 use Rattle.vtl_meaning.specs.Trees as nodes
-use Rattle.vtl_meaning.specs.Trees.{FormTree, ItemTree, NodeTree, structure_of}
+use Rattle.vtl_meaning.specs.Trees.{FormTree, NodeTree, structure_of}
 use Rattle.check_shapes.specs.Choices.{chosen, is_chosen, is_identifier}
 use Rattle.check_shapes.specs.Clauses.{calculated, is_new, new_name, renamed, retargeted, target_component}
 use Rattle.check_shapes.specs.Clauses as clauses

@@ -1,6 +1,6 @@
 -- An expression on data sets that is made over data sets with names is translated, where its words are names, its constants are held
 -- and it is not too deep.
-use Rattle.std.proofs.Common.{◌≡◌, ◌≤◌, ◌+◌, ℕ, zero, suc, Bool, true, false, cond, ◌&&◌, ◌||◌, not, List, [], ◌∷◌, ◌++◌, map, length, refl, sym, ap, ◌∙◌, subst, arith}
+use Rattle.std.proofs.Common.{◌≡◌, ◌≤◌, ℕ, zero, suc, Bool, true, false, cond, ◌&&◌, ◌||◌, not, List, [], ◌∷◌, ◌++◌, map, length, refl, sym, ap, ◌∙◌, arith}
 use Rattle.std.proofs.lemmas.Bool.{and_parts, false≢true}
 use Rattle.std.proofs.lemmas.List.{length-map}
 use Rattle.std.proofs.lemmas.List.Filters.{length-filter_both}
@@ -26,7 +26,7 @@ use Rattle.vtl_meaning.specs.Shapes.{IsShaped}
 use Rattle.vtl_meaning.specs.Trees as nodes
 use Rattle.vtl_meaning.specs.Trees.{FormTree, NodeTree, structure_of}
 use Rattle.vtl_meaning.specs.clauses.SubItem.{SubItem}
-use Rattle.check_laws.specs.Depths.{comp_depth, exps_in, held_exps, item_exps, made_exps}
+use Rattle.check_laws.specs.Depths.{exps_in, held_exps, made_exps}
 use Rattle.check_laws.proofs.DepthBounds.{AreNodesUpTo, AreUpTo, IsUpTo}
 use Rattle.check_laws.proofs.Inner.{made-shaped}
 use Rattle.check_laws.proofs.Lists as lists

@@ -41,7 +41,7 @@ use Rattle.vtl_check.specs.Places.{Env, at_groups, at_points}
 use Rattle.vtl_check.specs.Sets.{check_form, check_spec, datasets_in, difference_form, difference_tree, exists_form, imbalance_in, set_of, set_tree, sets_form, structures_in}
 use Rattle.vtl_check.specs.Targets.{aggr_clause, aggr_tree, calc_clause, is_analytic, target_of}
 use Rattle.vtl_check.specs.Typed as typed_as
-use Rattle.vtl_check.specs.Typed.{TypedTree, value, dataset, components_in, condition_in, dataset_in}
+use Rattle.vtl_check.specs.Typed.{TypedTree, components_in, condition_in, dataset_in}
 use Rattle.vtl_check.specs.Typing.{aggrs_typed, as_dataset, body_end, calcs_typed, filter_step, filtered_join, having_typed, join_end, keeping_step, last_step, maybe_typed, renaming_step, targets_step, targets_typed, typed}
 use Rattle.vtl_check.specs.places.Joined.{Joined}
 use Rattle.vtl_check.specs.places.Place.TheVariants as place

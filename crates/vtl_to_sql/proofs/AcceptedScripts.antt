@@ -2,7 +2,6 @@
 use Rattle.std.proofs.Common.{◌≡◌, ◌≤◌, ℕ, suc, ◌+◌, true, false, List, [], ◌∷◌, ◌++◌, subst, arith}
 use Rattle.std.proofs.lemmas.Bool.Decides.{nat_tests}
 use Rattle.std.specs.List.{AllByRecursion}
-use Rattle.std.specs.Prelude.{nat_lt}
 use Rattle.vtl_cell.specs.Results.{◌>>=◌}
 use Rattle.vtl_cell.specs.Settings.{Settings}
 use Rattle.vtl_cell.specs.Words.{is_name}
@@ -18,7 +17,7 @@ use Rattle.vtl_check.specs.places.Place.TheVariants as place
 use Rattle.vtl_check.specs.Checked.{IsTyped, TypedScript, env_over, nodes_of, tree_of}
 use Rattle.vtl_check.specs.Count.{count}
 use Rattle.vtl_check.specs.Script.{assigned, is_too_much, most_nodes, transformations_typed, value_typed, with_result}
-use Rattle.vtl_check.specs.Transformations.{Transformation, transformations, transformations_from}
+use Rattle.vtl_check.specs.Transformations.{transformations, transformations_from}
 use Rattle.vtl_check.specs.Typing.{typed}
 use Rattle.check_laws.specs.Gives.{Gives}
 use Rattle.check_laws.proofs.Lists as lists

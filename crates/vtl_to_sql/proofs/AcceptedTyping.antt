@@ -1,6 +1,5 @@
 -- What typing gives of a written expression has its words.
-use Rattle.std.proofs.Common.{true, false, ◌||◌, List, [], ◌∷◌, Option, Some, None, Result, Ok, Err}
-use Rattle.std.proofs.lemmas.Bool.{false≢true}
+use Rattle.std.proofs.Common.{true, ◌||◌, List, [], ◌∷◌, Some, None, Err}
 use Rattle.std.specs.List.{AllByRecursion}
 use Rattle.std.specs.Option.{is_some}
 use Rattle.vtl_cell.specs.Results.{◌>>=◌}
@@ -8,22 +7,17 @@ use Rattle.vtl_cell.specs.declared.operator.ScalarOp.TheVariants as op
 use Rattle.vtl_syntax.specs.Trees as tree
 use Rattle.vtl_syntax.specs.Trees.{Calcs, ClauseTree, Exp, Exps, TargetsTree}
 use Rattle.vtl_syntax.specs.Written.{AreMoreCalcs, AreMoreExps, AreWrittenCalcs, AreWrittenExps, AreWrittenTargets, IsWrittenClause, IsWrittenExp}
-use Rattle.vtl_meaning.specs.Trees as nodes
 use Rattle.vtl_meaning.specs.Trees.{ItemTree, NodeTree}
-use Rattle.check_faults.specs.declared.rules.Rule.{Rule}
 use Rattle.check_faults.specs.declared.rules.Rule.TheVariants as rule
-use Rattle.check_values.specs.Columns.{name_of}
-use Rattle.check_values.specs.Groupings.{grouping_of, grouping_typed}
 use Rattle.check_values.specs.Literals.{constant_typed, literals_fit}
 use Rattle.check_values.specs.Operators.{exps_length, of_binary, of_function, of_unary, takes}
-use Rattle.vtl_check.specs.Clauses.{filter_form, pivot_names, pivot_of, unpivot_of}
-use Rattle.vtl_check.specs.JoinOperands.{joined_of, operands_in}
+use Rattle.vtl_check.specs.Clauses.{filter_form}
 use Rattle.vtl_check.specs.Operators.{operator_form}
-use Rattle.vtl_check.specs.Places.{Env, at_groups, at_points, in_aggregate}
+use Rattle.vtl_check.specs.Places.{Env, at_points, in_aggregate}
 use Rattle.vtl_check.specs.Sets.{member_of}
-use Rattle.vtl_check.specs.Targets.{aggr_clause, calc_clause, calc_name, item_of, with_item}
-use Rattle.vtl_check.specs.Typed.{TypedTree, components_in, dataset_in}
-use Rattle.vtl_check.specs.Typing.{aggrs_typed, as_dataset, behind, calc_value, calcs_typed, clause_typed, grouped_of, has_exp, having_typed, maybe_typed, operands_typed, over_operand, parts_typed, targets_typed, typed}
+use Rattle.vtl_check.specs.Targets.{calc_clause, calc_name, item_of, with_item}
+use Rattle.vtl_check.specs.Typed.{TypedTree, dataset_in}
+use Rattle.vtl_check.specs.Typing.{as_dataset, behind, calc_value, calcs_typed, clause_typed, grouped_of, has_exp, having_typed, maybe_typed, operands_typed, over_operand, parts_typed, targets_typed, typed}
 use Rattle.vtl_check.specs.Windowed.{over_typed}
 use Rattle.vtl_check.specs.places.Place.{Place}
 use Rattle.vtl_check.specs.places.Place.TheVariants as place

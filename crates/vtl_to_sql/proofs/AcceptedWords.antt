@@ -1,10 +1,10 @@
 -- The words of written expressions in typed nodes, operator by operator and clause by clause: names of data sets, new names of
 -- columns, and the values of `sub`. Nothing is said of forms that are not translated yet.
-use Rattle.std.proofs.Common.{◌≡◌, ℕ, Bool, true, false, cond, ◌&&◌, not, List, [], ◌∷◌, ◌++◌, map, Option, Some, None, option_map, option_and_then, Result, Ok, Err, refl, ap, sym, ◌∙◌}
+use Rattle.std.proofs.Common.{◌≡◌, ℕ, Bool, true, false, cond, ◌&&◌, not, List, [], ◌∷◌, ◌++◌, map, Option, Some, None, option_map, Result, Ok, Err, refl, ap, sym, ◌∙◌}
 use Rattle.std.specs.List.{AllByRecursion, list_any}
 use Rattle.std.specs.Map.{lookup}
 use Rattle.std.specs.Option.{IfSome, is_some}
-use Rattle.std.specs.Prelude.{ℤ, option_to_list, unwrap_or}
+use Rattle.std.specs.Prelude.{ℤ}
 use Rattle.std.specs.Result.{result_ok}
 use Rattle.std.proofs.lemmas.Bool.{and_parts, false≢true}
 use Rattle.std.proofs.lemmas.List.{map-append}
@@ -16,7 +16,7 @@ use Rattle.vtl_cell.specs.Range.{fit_number}
 use Rattle.vtl_cell.specs.Results.{◌>>=◌}
 use Rattle.vtl_cell.specs.ScalarArithmetic.{number, units}
 use Rattle.vtl_cell.specs.Settings.{Settings}
-use Rattle.vtl_cell.specs.Words.{is_component_name, is_name, is_reserved, is_word}
+use Rattle.vtl_cell.specs.Words.{is_name, is_reserved, is_word}
 use Rattle.vtl_cell.specs.declared.cell.Cell.{Cell}
 use Rattle.vtl_cell.specs.declared.cell.Cell.TheVariants as c
 use Rattle.vtl_cell.specs.declared.kind.Kind.{Kind}
@@ -60,7 +60,7 @@ use Rattle.vtl_check.specs.Clauses.{cell_as, filter_form, kept_of, keeping_form,
 use Rattle.vtl_check.specs.Operators.{Operands, if_placed, on_choice, on_datasets, on_measures, on_operands, on_pair, operator_form, no_operands, parted, set_form, membership, with_operand, with_value}
 use Rattle.vtl_check.specs.Places.{Env, Written, alone, at_groups, component_typed, known_by, member_inside, member_written, name_typed, written_typed}
 use Rattle.vtl_check.specs.Sets.{member_of}
-use Rattle.vtl_check.specs.Targets.{calc_clause, is_analytic, item_of, target_of}
+use Rattle.vtl_check.specs.Targets.{calc_clause, is_analytic, target_of}
 use Rattle.vtl_check.specs.Typed as typed
 use Rattle.vtl_check.specs.Typed.{TypedTree, value, dataset, components_in, condition_in, dataset_in, of_value}
 use Rattle.vtl_check.specs.Typing.{Having, as_dataset, behind, grouped_of, or_component, own_groups}
@@ -74,7 +74,7 @@ use Rattle.check_laws.specs.Gives.{Gives}
 use Rattle.check_laws.proofs.Clauses.{among-any}
 use Rattle.check_laws.proofs.Lists as lists
 use Rattle.check_laws.proofs.Literals.{IsCell, literal-cell, valued-gives}
-use Rattle.check_laws.proofs.Steps.{after, tested, then, weaker}
+use Rattle.check_laws.proofs.Steps.{after, tested, then}
 use Rattle.sql_tree.specs.Formed as sql
 use Rattle.vtl_to_sql.specs.Accepted.{is_form_translated, is_translated}
 use Rattle.vtl_to_sql.proofs.Names.{component_is_name, word_is_name}
