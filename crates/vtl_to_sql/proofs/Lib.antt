@@ -3,8 +3,10 @@ pub mod Running
 pub mod Composition
 pub mod Expressions
 pub mod Aggregates
-pub mod SelectRows
-pub mod SelectForms
+pub mod Givens
+pub mod SelectItems
+pub mod Selects
+pub mod Unions
 pub mod Sources
 pub mod Exact
 pub mod OneOperand
@@ -22,6 +24,9 @@ pub mod TranslatedScripts
 pub mod EmptyData
 pub mod TypedScripts
 pub mod LawfulScripts
+pub mod Exists
+pub mod SetQueries
+pub mod SetSteps
 pub mod AcceptedWords
 pub mod AcceptedOthers
 pub mod AcceptedTyping

@@ -38,7 +38,7 @@ use Rattle.vtl_to_sql.specs.Scripts.{create_for, export_for, input_column, input
 use Rattle.vtl_to_sql.specs.Tables.{Table}
 use Rattle.vtl_to_sql.proofs.Names.{component_is_name}
 use Rattle.vtl_to_sql.proofs.ReadTables.{all_among, columns_read}
-use Rattle.vtl_to_sql.proofs.SelectForms.{columns_count, each_column}
+use Rattle.vtl_to_sql.proofs.Givens.{columns_count, each_column}
 
 abbrev pub giving : Tables → List Text → Given
 giving tables exported = record { tables = tables; exported = exported }

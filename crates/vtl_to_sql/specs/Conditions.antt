@@ -16,7 +16,7 @@ use Rattle.vtl_meaning.specs.Made.{IsMade}
 use Rattle.vtl_meaning.specs.Meaning.{Statement}
 use Rattle.vtl_meaning.specs.Operators.{calculated_exps, measured_exps, pair_exps}
 use Rattle.vtl_meaning.specs.Trees as nodes
-use Rattle.vtl_meaning.specs.Trees.{FormTree, NodeTree, structure_of}
+use Rattle.vtl_meaning.specs.Trees.{FormTree, NodeTree, NodeTrees, structure_of}
 use Rattle.vtl_meaning.specs.clauses.SubItem.{SubItem}
 use Rattle.sql_tree.specs.Formed.{IsName}
 use Rattle.check_laws.specs.Depths.{comp_depth}
@@ -64,8 +64,16 @@ abbrev mutual
   IsFormTranslated p s (nodes.drop_named a names) = IsTranslated p a
   IsFormTranslated p s (nodes.rename a pairs) = IsTranslated p a
   IsFormTranslated p s (nodes.sub a items) = IsTranslated p a × AllByRecursion (HasValue p) items × (length items ≤ most_components)
+  IsFormTranslated p s (nodes.union ns) = AreNodesTranslated p ns
+  IsFormTranslated p s (nodes.intersect ns) = AreNodesTranslated p ns
+  IsFormTranslated p s (nodes.set_diff a b) = IsTranslated p a × IsTranslated p b
+  IsFormTranslated p s (nodes.sym_diff a b) = IsTranslated p a × IsTranslated p b
   -- the other forms are not translated yet
   IsFormTranslated p s other = ⊥
+
+  pub AreNodesTranslated : Settings → NodeTrees → Type 0
+  AreNodesTranslated p nodes.no_nodes = Unit {0}
+  AreNodesTranslated p (nodes.and_node n ns) = IsTranslated p n × AreNodesTranslated p ns
 
 -- ---- statements
 
