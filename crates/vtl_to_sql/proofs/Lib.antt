@@ -27,6 +27,7 @@ pub mod LawfulScripts
 pub mod Exists
 pub mod SetQueries
 pub mod SetSteps
+pub mod Existences
 pub mod AcceptedWords
 pub mod AcceptedOthers
 pub mod AcceptedTyping

@@ -1,4 +1,6 @@
 -- The tables of an expression on data sets mean it.
+use Rattle.vtl_to_sql.proofs.Existences.{existence_means}
+use Rattle.vtl_meaning.proofs.SetsOrders.{existence_order}
 use Rattle.sql_tree.specs.Formed.{IsName}
 use Rattle.std.proofs.Common.{◌≡◌, ◌+◌, ◌<◌, ◌^◌, ℕ, true, ◌&&◌, List, [], ◌∷◌, ◌++◌, length, Ok, Err, refl, sym, subst, arith, append-nil, length-append, ap, ◌≤◌}
 use Rattle.std.specs.Prelude.{fold}
@@ -19,7 +21,7 @@ use Rattle.vtl_meaning.specs.Made.{AreMade, IsAlternative, IsLeft, IsMade, IsMad
 use Rattle.vtl_meaning.specs.Meaning.{AreDataSets, are_nodes_built, form_value, is_built, is_built_form, known_in, node_value, nodes_value, points_named, with_first}
 use Rattle.vtl_meaning.specs.Operators.{calculated_exps, calculated_of, choice_of, left_of, measured_exps, measured_of, pair_of, sub_of}
 use Rattle.vtl_meaning.specs.Points.{with_points}
-use Rattle.vtl_meaning.specs.Sets.{all_left_of, either_only, intersected, intersection_of, reduced, union_of, united}
+use Rattle.vtl_meaning.specs.Sets.{all_left_of, either_only, intersected, intersection_of, reduced, union_of, united, existence_of}
 use Rattle.vtl_meaning.specs.Shapes.{IsShaped}
 use Rattle.vtl_meaning.specs.Trees as nodes
 use Rattle.vtl_meaning.specs.Trees.{FormTree, NodeTree, NodeTrees, structure_of}
@@ -33,7 +35,7 @@ use Rattle.sql_tree.specs.Trees.{QueryTree, Text}
 use Rattle.sql_meaning.specs.Scripts.{Data}
 use Rattle.vtl_to_sql.specs.Conditions.{AreNodesTranslated, HaveNames, IsFormTranslated, IsTranslated}
 use Rattle.vtl_to_sql.specs.Means.{AreEarlier, Means, NodeGives, SourcesGive, Stands, StandsAs, Extends}
-use Rattle.vtl_to_sql.specs.Queries.{calc_query, choose_query, copy_query, filter_query, left_query, measures_query, pair_query, rename_query, shown_query, sub_query, union_query, intersection_query, difference_query, symmetric_difference_query}
+use Rattle.vtl_to_sql.specs.Queries.{calc_query, choose_query, copy_query, filter_query, left_query, measures_query, pair_query, rename_query, shown_query, sub_query, union_query, intersection_query, difference_query, symmetric_difference_query, existence_query}
 use Rattle.vtl_to_sql.specs.Tables.{Sources, and_then, combined_of, made_of, made_of_form, numbered, over, source_of, sources_of, table_of, with_one, with_two, stored}
 use Rattle.vtl_to_sql.proofs.Choices.{choose_means}
 use Rattle.vtl_to_sql.proofs.Composition.{all_earlier, all_stand_still, alone, beside_gives, no_tables, one_gives, stored_gives, three_gives, together, two_gives}
@@ -71,6 +73,7 @@ mutual
   form_built p s (nodes.intersect ns) c = nodes_built p ns c
   form_built p s (nodes.set_diff a b) c = and_from (is_built a) (is_built b) (translated_built p a c.0) (translated_built p b c.1)
   form_built p s (nodes.sym_diff a b) c = and_from (is_built a) (is_built b) (translated_built p a c.0) (translated_built p b c.1)
+  form_built p s (nodes.exists_in a b kept) c = and_from (is_built a) (is_built b) (translated_built p a c.0) (translated_built p b c.1)
   form_built p s other c = absurd c
 
   nodes_built : (p : Settings) (ns : NodeTrees) → AreNodesTranslated p ns → are_nodes_built ns ≡ true
@@ -291,6 +294,15 @@ module _ (p : Settings) (law : Translates p) (r : Text) (word : is_word r ≡ tr
         pair_gives (λ b z. symmetric_difference_query p b z s) (either_only (key_width s)) s step w.well_formed (structure_of a) first (node_value p env a) k m before shown other (names_in p a c.0) (λ u is. node_kept p env a u (translated_built p a c.0) i.0 sets is)
         (operand_gives a m before stands apart i.0 c.0 (omega (arith, few, length-append first.tables second.tables)))
         (λ x. operand_gives k first.next (before ++ x.more) (all_stand_still before x.more env stands) (all_earlier p r word m first.next before x.more (omega (arith, x.counted)) apart x.new) i.1 c.1 (omega (arith, few, x.counted, length-append first.tables second.tables))) i.1 c.1
+    form_gives s (nodes.exists_in a k kept) m before stands apart w i n c few =
+        let first = sources_of p r a m in
+        let second = sources_of p r k first.next in
+        two_gives p r word before m (and_then first (sources_of p r k)) (existence_query p kept (structure_of a) (structure_of k) s) (structure_of a) (structure_of k) s (node_value p env a) (node_value p env k) (λ d e. Ok (existence_of (with_points (structure_of a) d) (with_points (structure_of k) e) kept))
+        (beside_gives p r word before m first (sources_of p r k) (alone p r word (structure_of a) (node_value p env a)) (alone p r word (structure_of k) (node_value p env k)) (operand_gives a m before stands apart i.0 c.0 (omega (arith, few, length-append first.tables second.tables)))
+        (λ x. operand_gives k first.next (before ++ x.more) (all_stand_still before x.more env stands) (all_earlier p r word m first.next before x.more (omega (arith, x.counted)) apart x.new) i.1 c.1 (omega (arith, few, x.counted, length-append first.tables second.tables))))
+        (λ now y z d e is is_too st su.
+        means_by p now (existence_query p kept (structure_of a) (structure_of k) s y z) s (Ok (existence_of (with_points (structure_of a) st.rows) (with_points (structure_of k) su.rows) kept)) (Ok (existence_of (with_points (structure_of a) d) (with_points (structure_of k) e) kept)) (existence_order (structure_of a) (structure_of k) st.rows d su.rows e kept st.same su.same)
+        (existence_means p law now y z (structure_of a) (structure_of k) s st.rows su.rows st.table su.table st.named su.named (names_in p a c.0) (names_in p k c.1) (set_of a now y d c.0 i.0 is st) (set_of k now z e c.1 i.1 is_too su) i.2 (columns_given s w n) kept))
     form_gives s other m before stands apart w i n c few = absurd c
 
     -- operands one after the other

@@ -68,6 +68,7 @@ abbrev mutual
   IsFormTranslated p s (nodes.intersect ns) = AreNodesTranslated p ns
   IsFormTranslated p s (nodes.set_diff a b) = IsTranslated p a × IsTranslated p b
   IsFormTranslated p s (nodes.sym_diff a b) = IsTranslated p a × IsTranslated p b
+  IsFormTranslated p s (nodes.exists_in a b kept) = IsTranslated p a × IsTranslated p b
   -- the other forms are not translated yet
   IsFormTranslated p s other = ⊥
 

@@ -10,6 +10,9 @@ use Rattle.vtl_tree.specs.Structure.{columns_of, key_width}
 use Rattle.vtl_tree.specs.declared.structure.Component.{Component}
 use Rattle.vtl_tree.specs.declared.structure.Structure.{Structure}
 use Rattle.check_shapes.specs.Pairs.{contains}
+use Rattle.vtl_syntax.specs.declared.word_groups.Retain.{Retain}
+use Rattle.vtl_syntax.specs.declared.word_groups.Retain.TheVariants as retain
+use Rattle.vtl_meaning.specs.Agreement.{common_identifiers}
 use Rattle.vtl_meaning.specs.Columns.{column_behind, column_named, columns_named, identifiers_of, measures_of}
 use Rattle.vtl_meaning.specs.Operators.{calculated_exps, measured_exps, pair_exps}
 use Rattle.vtl_meaning.specs.Trees.{ItemTree as Target, MeasureTree}
@@ -204,3 +207,15 @@ symmetric_difference_query p a b s x y = matched_select p false a s x y ∷ matc
 -- one operand alone
 abbrev pub shown_query : Settings → (a s : Structure) → (table : Text) → QueryTree
 shown_query p a s table = shown_select p a s table None ∷ []
+
+-- ---- `exists_in`: for each point whether the second operand has one that agrees on the identifiers that both have
+
+abbrev pub retained : Retain → (answer : Exp) → Option Exp
+retained retain.All e = None
+retained retain.True e = Some e
+retained retain.False e = Some (answered false e)
+
+abbrev pub existence_query : Settings → Retain → (a b s : Structure) → (first second : Text) → QueryTree
+existence_query p kept a b s x y =
+    let answer = is_matched true (common_identifiers a b) y in
+    select_as (items_as (all_to_sql p of_one (columns_named (columns_of a) (identifiers_of s)) ++ answer ∷ []) (columns_of s)) (source_as first_alias x) [] (retained kept answer) ∷ []

@@ -10,7 +10,7 @@ use Rattle.vtl_meaning.specs.Trees as nodes
 use Rattle.vtl_meaning.specs.Trees.{FormTree, NodeTree, NodeTrees, structure_of}
 use Rattle.sql_tree.specs.Trees.{Text, QueryTree}
 use Rattle.sql_meaning.specs.Scripts.{dollar}
-use Rattle.vtl_to_sql.specs.Queries.{calc_query, choose_query, copy_query, difference_query, filter_query, intersection_query, left_query, measures_query, pair_query, rename_query, shown_query, sub_query, symmetric_difference_query, union_query}
+use Rattle.vtl_to_sql.specs.Queries.{calc_query, choose_query, copy_query, difference_query, filter_query, intersection_query, left_query, measures_query, pair_query, rename_query, shown_query, sub_query, symmetric_difference_query, union_query, existence_query}
 
 -- a table by a query
 pub record Table : Type 0 where
@@ -102,6 +102,7 @@ abbrev mutual
   made_of_form p r s (nodes.intersect (nodes.and_node a ns)) n = combined_of p r (λ b c. intersection_query p b c s) s ns (structure_of a) (sources_of p r a n)
   made_of_form p r s (nodes.set_diff a b) n = over (and_then (sources_of p r a n) (sources_of p r b)) (with_two (difference_query p (structure_of a) (structure_of b) s))
   made_of_form p r s (nodes.sym_diff a b) n = over (and_then (sources_of p r a n) (sources_of p r b)) (with_two (symmetric_difference_query p (structure_of a) (structure_of b) s))
+  made_of_form p r s (nodes.exists_in a b kept) n = over (and_then (sources_of p r a n) (sources_of p r b)) (with_two (existence_query p kept (structure_of a) (structure_of b) s))
   -- no script that is translated holds another form yet
   made_of_form p r s other n = record { tables = []; query = []; next = n }
 
