@@ -16,6 +16,11 @@ pub mod Subs
 pub mod Pairs
 pub mod TwoOperands
 pub mod Choices
+pub mod ItemLists
+pub mod Unpivots
+pub mod GroupItems
+pub mod Coded
+pub mod Pivots
 pub mod Nodes
 pub mod Statements
 pub mod WholeScript

@@ -1,4 +1,5 @@
 pub mod Queries
+pub mod Turned
 pub mod Tables
 pub mod Scripts
 pub mod Runs
