@@ -19,22 +19,22 @@ use Rattle.vtl_tree.specs.declared.structure.Role.TheVariants as role
 use Rattle.vtl_tree.specs.declared.structure.Structure.{Structure}
 use Rattle.vtl_meaning.proofs.Places.{same_name-is, same_name-refl}
 use Rattle.vtl_meaning.specs.Columns.{identifiers_of, kind_named, place_of}
-use Rattle.vtl_meaning.specs.Made.{IsColumnAt, IsMade, IsMadeForm, IsSub}
-use Rattle.vtl_meaning.specs.Nodes.{form_nodes, nodes_in}
+use Rattle.vtl_meaning.specs.Made.{AreMade, IsColumnAt, IsMade, IsMadeForm, IsSub}
+use Rattle.vtl_meaning.specs.Nodes.{all_nodes, form_nodes, nodes_in}
 use Rattle.vtl_meaning.specs.Operators.{calculated_exps, measured_exps, pair_exps}
 use Rattle.vtl_meaning.specs.Shapes.{IsShaped}
 use Rattle.vtl_meaning.specs.Trees as nodes
-use Rattle.vtl_meaning.specs.Trees.{FormTree, NodeTree, structure_of}
+use Rattle.vtl_meaning.specs.Trees.{FormTree, NodeTree, NodeTrees, structure_of}
 use Rattle.vtl_meaning.specs.clauses.SubItem.{SubItem}
 use Rattle.check_laws.specs.Depths.{exps_in, held_exps, made_exps}
 use Rattle.check_laws.proofs.DepthBounds.{AreNodesUpTo, AreUpTo, IsUpTo}
 use Rattle.check_laws.proofs.Inner.{made-shaped}
 use Rattle.check_laws.proofs.Lists as lists
 use Rattle.rules_to_sql.specs.Held.{HoldsValues}
-use Rattle.vtl_to_sql.specs.Accepted.{AllHoldValues, FormHoldsConstants, HoldsConstants, is_form_translated, is_translated}
-use Rattle.vtl_to_sql.specs.Conditions.{AllCanBeWritten, CanBeWritten, HasValue, IsFormTranslated, IsTranslated}
-use Rattle.vtl_to_sql.proofs.AcceptedNames.{AreKnownNamed, columns_named, form_named}
-use Rattle.vtl_to_sql.proofs.AcceptedWords.{AreValues, FormHasWords, HasWords, IsFilled}
+use Rattle.vtl_to_sql.specs.Accepted.{AllHoldValues, FormHoldsConstants, HoldsConstants, NodesHoldConstants, are_nodes_translated, is_form_translated, is_translated}
+use Rattle.vtl_to_sql.specs.Conditions.{AllCanBeWritten, AreNodesTranslated, CanBeWritten, HasValue, IsFormTranslated, IsTranslated}
+use Rattle.vtl_to_sql.proofs.AcceptedNames.{AreKnownNamed, codes_are_texts, columns_named, components_named, form_named}
+use Rattle.vtl_to_sql.proofs.AcceptedWords.{AreValues, FormHasWords, HasWords, HaveWords, IsFilled}
 
 -- ---- expressions
 written : (e : CompExp) → HoldsValues e → IsUpTo depth_limit e → CanBeWritten e
@@ -133,4 +133,23 @@ module _ (p : Settings) (known : Named) (all : AreKnownNamed known) where
     form_translated s (nodes.drop_named a names) m t w h own d = node_translated a m.0 t w h d
     form_translated s (nodes.rename a pairs) m t w h own d = node_translated a m.0 t w.0 h d
     form_translated s (nodes.sub a items) m t w h own d = (node_translated a m.0 t w.0 h.0 d, all_values p items h.1 w.1, few_items p items (structure_of a) s (made-shaped p known a m.0) m.1 w.1)
+    form_translated s (nodes.pivot a id x) m t w h own d = (node_translated a m.0 t w.0 h d, codes_are_texts id (structure_of a) (components_named p known all a m.0 t w.0) w.1)
+    form_translated s (nodes.unpivot a id x) m t w h own d = node_translated a m.0 t w.0 h d
+    form_translated s (nodes.union ns) m t w h own d = nodes_translated ns m.0 t w h d
+    form_translated s (nodes.intersect ns) m t w h own d = nodes_translated ns m.0 t w h d
+    form_translated s (nodes.set_diff a b) m t w h own d =
+        let both = and_parts (is_translated a) (is_translated b) t in
+        (node_translated a m.0 both.0 w.0 h.0 (left (nodes_in a) (nodes_in b) d), node_translated b m.1 both.1 w.1 h.1 (right (nodes_in a) (nodes_in b) d))
+    form_translated s (nodes.sym_diff a b) m t w h own d =
+        let both = and_parts (is_translated a) (is_translated b) t in
+        (node_translated a m.0 both.0 w.0 h.0 (left (nodes_in a) (nodes_in b) d), node_translated b m.1 both.1 w.1 h.1 (right (nodes_in a) (nodes_in b) d))
+    form_translated s (nodes.exists_in a b r) m t w h own d =
+        let both = and_parts (is_translated a) (is_translated b) t in
+        (node_translated a m.0 both.0 w.0 h.0 (left (nodes_in a) (nodes_in b) d), node_translated b m.1 both.1 w.1 h.1 (right (nodes_in a) (nodes_in b) d))
     form_translated s other m t w h own d = absurd (false≢true t)
+
+    nodes_translated : (ns : NodeTrees) → AreMade p known ns → are_nodes_translated ns ≡ true → HaveWords p ns → NodesHoldConstants ns → AreNodesUpTo depth_limit (all_nodes ns) → AreNodesTranslated p ns
+    nodes_translated nodes.no_nodes m t w h d = tt
+    nodes_translated (nodes.and_node n ns) m t w h d =
+        let both = and_parts (is_translated n) (are_nodes_translated ns) t in
+        (node_translated n m.0 both.0 w.0 h.0 (left (nodes_in n) (all_nodes ns) d), nodes_translated ns m.1 both.1 w.1 h.1 (right (nodes_in n) (all_nodes ns) d))

@@ -1,9 +1,8 @@
--- The forms that are not translated yet: set operators, joins, `aggr`, `check`, `pivot` and `unpivot`. What is made of a join inside
--- its body is not translated either.
-use Rattle.std.proofs.Common.{◌≡◌, Bool, true, false, cond, List, [], ◌∷◌, map, Option, Some, None, Result, Ok, Err, refl, sym, ◌∙◌}
+-- The forms that are not translated yet: joins, `aggr` and `check`. What is made of a join inside its body is not translated either.
+use Rattle.std.proofs.Common.{◌≡◌, Bool, true, false, cond, List, [], map, Option, Some, None, Result, Ok, Err, refl, sym, ◌∙◌}
 use Rattle.std.proofs.lemmas.Bool.{false≢true}
 use Rattle.std.specs.List.{list_any}
-use Rattle.std.specs.Prelude.{ℕ, option_to_list, unwrap_or}
+use Rattle.std.specs.Prelude.{ℕ, option_to_list}
 use Rattle.vtl_cell.specs.Results.{◌>>=◌}
 use Rattle.vtl_cell.specs.Settings.{Settings}
 use Rattle.vtl_syntax.specs.Trees as tree
@@ -15,30 +14,23 @@ use Rattle.vtl_syntax.specs.declared.parts.Keeping.{Keeping}
 use Rattle.vtl_syntax.specs.declared.parts.Keeping.TheVariants as keeping
 use Rattle.vtl_syntax.specs.declared.parts.RenamePart.{RenamePart}
 use Rattle.vtl_syntax.specs.declared.word_groups.BasicOut.{BasicOut}
-use Rattle.vtl_syntax.specs.declared.word_groups.DifferenceName.{DifferenceName}
-use Rattle.vtl_syntax.specs.declared.word_groups.DifferenceName.TheVariants as difference
 use Rattle.vtl_syntax.specs.declared.word_groups.JoinKind.{JoinKind}
-use Rattle.vtl_syntax.specs.declared.word_groups.Retain.{Retain}
-use Rattle.vtl_syntax.specs.declared.word_groups.Retain.TheVariants as retain
-use Rattle.vtl_syntax.specs.declared.word_groups.SetOpName.{SetOpName}
-use Rattle.vtl_syntax.specs.declared.word_groups.SetOpName.TheVariants as set
 use Rattle.vtl_tree.specs.CompExp.{CompExp}
 use Rattle.vtl_tree.specs.declared.structure.Structure.{Structure}
 use Rattle.vtl_meaning.specs.Trees as nodes
-use Rattle.vtl_meaning.specs.Trees.{FormTree, ItemTree, NodeTree, OperandTree, maybe_node, nodes_of, operands_of, structure_of}
+use Rattle.vtl_meaning.specs.Trees.{FormTree, ItemTree, NodeTree, OperandTree, maybe_node, operands_of, structure_of}
 use Rattle.vtl_meaning.specs.specifications.CheckSpec.{CheckSpec}
 use Rattle.check_faults.specs.declared.rules.Rule.{Rule}
 use Rattle.check_shapes.specs.Clauses.{calc_form}
 use Rattle.check_shapes.specs.Pairs as pairs
 use Rattle.check_shapes.specs.declared.names.Wanted.TheVariants as wanted
 use Rattle.check_shapes.specs.declared.renaming.Renaming.{Renaming}
-use Rattle.check_values.specs.Columns.{name_of}
 use Rattle.check_values.specs.Groupings.{grouping_of, grouping_typed}
 use Rattle.vtl_check.specs.Clauses as clauses
-use Rattle.vtl_check.specs.Clauses.{filter_form, kept_of, keeping_form, keeping_tree, names_typed, pivot_names, pivot_of, references_in, renamed_of, renaming_form, unpivot_of}
+use Rattle.vtl_check.specs.Clauses.{filter_form, kept_of, keeping_form, keeping_tree, names_typed, references_in, renamed_of, renaming_form}
 use Rattle.vtl_check.specs.JoinOperands.{PartTyped, joined_node, joined_of, last_naming, left_names, operands_in, using_names}
 use Rattle.vtl_check.specs.Places.{Env, at_groups, at_points}
-use Rattle.vtl_check.specs.Sets.{check_form, check_spec, datasets_in, difference_form, difference_tree, exists_form, imbalance_in, set_of, set_tree, sets_form, structures_in}
+use Rattle.vtl_check.specs.Sets.{check_form, check_spec, imbalance_in, structures_in}
 use Rattle.vtl_check.specs.Targets.{aggr_clause, aggr_tree, calc_clause, is_analytic, target_of}
 use Rattle.vtl_check.specs.Typed as typed_as
 use Rattle.vtl_check.specs.Typed.{TypedTree, components_in, condition_in, dataset_in}
@@ -49,7 +41,7 @@ use Rattle.vtl_check.specs.targets.Made.{Made}
 use Rattle.check_laws.specs.Gives.{Gives}
 use Rattle.check_laws.proofs.Steps.{after, then, weaker}
 use Rattle.vtl_to_sql.specs.Accepted.{is_form_translated, is_translated}
-use Rattle.vtl_to_sql.proofs.AcceptedWords.{FormIsWorded, IsTreeWorded, IsWorded, dataset-worded}
+use Rattle.vtl_to_sql.proofs.AcceptedWords.{IsTreeWorded, IsWorded, dataset-worded}
 
 abbrev IsOther : NodeTree → Type 0
 IsOther n = is_translated n ≡ false
@@ -66,50 +58,12 @@ unasked-clause : (p : Settings) (r : Result NodeTree Rule) → Gives IsOther r �
 unasked-clause p r h = weaker IsOther (IsWorded p) r (unasked p) h
 
 module _ (p : Settings) where
-  -- ---- set operators
-  pub sets-worded : (f : SetOpName) (r : Result (List TypedTree) Rule) → Gives (IsTreeWorded p) (r >>= sets_form f)
-  unfolding sets_form
-  sets-worded f r = after (IsTreeWorded p) r (sets_form f) (λ xs. after (IsTreeWorded p) (datasets_in xs) (set_of f) (λ ns. dataset-worded p (set_tree f (nodes_of ns)) _ (made f ns)))
-    where
-      made : (f : SetOpName) (ns : List NodeTree) → FormIsWorded p (set_tree f (nodes_of ns))
-      made set.Union ns t = absurd (false≢true t)
-      made set.Intersect ns t = absurd (false≢true t)
-
-  pub difference-worded : (f : DifferenceName) (r s : Result TypedTree Rule) → Gives (IsTreeWorded p) (r >>= λ x. s >>= difference_form f x)
-  unfolding difference_form
-  difference-worded f r s =
-      after (IsTreeWorded p) r (λ x. s >>= difference_form f x)
-      (λ x. after (IsTreeWorded p) s (difference_form f x)
-      (λ y. after (IsTreeWorded p) (dataset_in x) (λ a. dataset_in y >>= λ b. pairs.set_form (structure_of a) (structure_of b ∷ []) >>= typed_as.made_of (difference_tree f a b))
-      (λ a. after (IsTreeWorded p) (dataset_in y) (λ b. pairs.set_form (structure_of a) (structure_of b ∷ []) >>= typed_as.made_of (difference_tree f a b)) (λ b. dataset-worded p (difference_tree f a b) _ (made f a b)))))
-    where
-      made : (f : DifferenceName) (a b : NodeTree) → FormIsWorded p (difference_tree f a b)
-      made difference.Setdiff a b t = absurd (false≢true t)
-      made difference.Symdiff a b t = absurd (false≢true t)
-
-  pub exists-worded : (q : Option Retain) (r s : Result TypedTree Rule) → Gives (IsTreeWorded p) (r >>= λ x. s >>= exists_form q x)
-  unfolding exists_form
-  exists-worded q r s =
-      after (IsTreeWorded p) r (λ x. s >>= exists_form q x)
-      (λ x. after (IsTreeWorded p) s (exists_form q x)
-      (λ y. after (IsTreeWorded p) (dataset_in x) (λ a. dataset_in y >>= λ b. pairs.exists_form (structure_of a) (structure_of b) >>= typed_as.made_of (nodes.exists_in a b (unwrap_or q retain.All)))
-      (λ a. after (IsTreeWorded p) (dataset_in y) (λ b. pairs.exists_form (structure_of a) (structure_of b) >>= typed_as.made_of (nodes.exists_in a b (unwrap_or q retain.All))) (λ b. dataset-worded p (nodes.exists_in a b (unwrap_or q retain.All)) _ (λ t. absurd (false≢true t))))))
-
   -- ---- `check`
   check-form-worded : (spec : CheckSpec) (x : TypedTree) (i : Option TypedTree) → Gives (IsTreeWorded p) (check_form spec x i)
   unfolding check_form
   check-form-worded spec x i =
       after (IsTreeWorded p) (dataset_in x) (λ a. imbalance_in i >>= λ b. pairs.check_form (structure_of a) (structures_in (option_to_list b)) >>= typed_as.made_of (nodes.check a (maybe_node b) spec))
       (λ a. after (IsTreeWorded p) (imbalance_in i) (λ b. pairs.check_form (structure_of a) (structures_in (option_to_list b)) >>= typed_as.made_of (nodes.check a (maybe_node b) spec)) (λ b. dataset-worded p (nodes.check a (maybe_node b) spec) _ (λ t. absurd (false≢true t))))
-
-  -- ---- `pivot` and `unpivot`
-  pub pivot-worded : (id m : Comp) (n : NodeTree) → Gives (IsWorded p) (pivot_of id m n)
-  unfolding pivot_of
-  pivot-worded id m n = unasked-clause p _ (after IsOther (pivot_names (name_of id) (name_of m) (components_in n)) _ (λ u. clause-other (nodes.pivot n (name_of id) (name_of m)) _ refl))
-
-  pub unpivot-worded : (id m : Comp) (n : NodeTree) → Gives (IsWorded p) (unpivot_of id m n)
-  unfolding unpivot_of
-  unpivot-worded id m n = unasked-clause p _ (clause-other (nodes.unpivot n (name_of id) (name_of m)) _ refl)
 
 pub check-worded : (env : Env) (e : Exp) (err : ErrorPart) (i : MaybeExp) (o : Option BasicOut) → Gives (IsTreeWorded env.settings) (typed env place.Outside e >>= λ x. check_spec env.settings err o >>= λ s. maybe_typed env place.Outside i >>= check_form s x)
 check-worded env e err i o =

@@ -14,7 +14,7 @@ use Rattle.check_values.specs.Operators.{exps_length, of_binary, of_function, of
 use Rattle.vtl_check.specs.Clauses.{filter_form}
 use Rattle.vtl_check.specs.Operators.{operator_form}
 use Rattle.vtl_check.specs.Places.{Env, at_points, in_aggregate}
-use Rattle.vtl_check.specs.Sets.{member_of}
+use Rattle.vtl_check.specs.Sets.{difference_form, exists_form, member_of, sets_form}
 use Rattle.vtl_check.specs.Targets.{calc_clause, calc_name, item_of, with_item}
 use Rattle.vtl_check.specs.Typed.{TypedTree, dataset_in}
 use Rattle.vtl_check.specs.Typing.{as_dataset, behind, calc_value, calcs_typed, clause_typed, grouped_of, has_exp, having_typed, maybe_typed, operands_typed, over_operand, parts_typed, targets_typed, typed}
@@ -24,7 +24,8 @@ use Rattle.vtl_check.specs.places.Place.TheVariants as place
 use Rattle.check_laws.specs.Gives.{Gives}
 use Rattle.check_laws.proofs.Lists as lists
 use Rattle.check_laws.proofs.Steps.{after, then}
-use Rattle.vtl_to_sql.proofs.AcceptedOthers.{aggr-worded, check-worded, difference-worded, exists-worded, joins-worded, pivot-worded, sets-worded, unpivot-worded}
+use Rattle.vtl_to_sql.proofs.AcceptedOthers.{aggr-worded, check-worded, joins-worded}
+use Rattle.vtl_to_sql.proofs.AcceptedSets.{difference-worded, exists-worded, pivot-worded, sets-worded, unpivot-worded}
 use Rattle.vtl_to_sql.proofs.AcceptedWords.{IsTarget, IsTreeWorded, IsWorded, behind-worded, calc-worded, component-named, dataset-step, filter-worded, grouped-worded, keeping-worded, member-worded, names-worded, operator-step, or-component-worded, over-worded, renaming-worded, set-step, sub-worded, tree-step, two-step, value-worded}
 
 -- ---- clauses
@@ -56,8 +57,8 @@ clause-worded env n (tree.targets m) w h = targets-worded env n m w h
 clause-worded env n (tree.keeping k) w h = keeping-worded env.settings None n k h
 clause-worded env n (tree.rename rs) w h = renaming-worded env.settings None n rs w.1 h
 clause-worded env n (tree.sub ss) w h = sub-worded env.settings n ss h
-clause-worded env n (tree.pivot id m) w h = pivot-worded env.settings id m n
-clause-worded env n (tree.unpivot id m) w h = unpivot-worded env.settings id m n
+clause-worded env n (tree.pivot id m) w h = pivot-worded env.settings id m n h
+clause-worded env n (tree.unpivot id m) w h = unpivot-worded env.settings id m n w.0 w.1 h
 
 -- ---- expressions
 more-exps : (es : Exps) → AreWrittenExps es → AreMoreExps es
@@ -86,9 +87,13 @@ mutual
   worded env at (tree.value_window f e o) w = after (IsTreeWorded env.settings) (typed env at e) (λ x. over_typed env.settings at (tree.value_window f e o) (Some x)) (λ x. over-worded env.settings env.settings at (tree.value_window f e o) (Some x))
   worded env at (tree.shift f e n l o) w = after (IsTreeWorded env.settings) (typed env at e) (λ x. over_typed env.settings at (tree.shift f e n l o) (Some x)) (λ x. over-worded env.settings env.settings at (tree.shift f e n l o) (Some x))
   worded env at (tree.rank o) w = over-worded env.settings env.settings at (tree.rank o) None
-  worded env at (tree.set_op f es) w = sets-worded env.settings f (operands_typed env place.Outside [] es)
-  worded env at (tree.difference f a b) w = difference-worded env.settings f (typed env place.Outside a) (typed env place.Outside b)
-  worded env at (tree.exists_in a b r) w = exists-worded env.settings r (typed env place.Outside a) (typed env place.Outside b)
+  worded env at (tree.set_op f es) w = then (AllByRecursion (IsTreeWorded env.settings)) (IsTreeWorded env.settings) (operands_typed env place.Outside [] es) (sets_form f) (operands-worded env place.Outside [] es tt (more-exps es w)) (sets-worded env.settings f)
+  worded env at (tree.difference f a b) w =
+      then (IsTreeWorded env.settings) (IsTreeWorded env.settings) (typed env place.Outside a) (λ x. typed env place.Outside b >>= difference_form f x) (worded env place.Outside a w.0)
+      (λ x hx. then (IsTreeWorded env.settings) (IsTreeWorded env.settings) (typed env place.Outside b) (difference_form f x) (worded env place.Outside b w.1) (λ y hy. difference-worded env.settings f x y hx hy))
+  worded env at (tree.exists_in a b r) w =
+      then (IsTreeWorded env.settings) (IsTreeWorded env.settings) (typed env place.Outside a) (λ x. typed env place.Outside b >>= exists_form r x) (worded env place.Outside a w.0)
+      (λ x hx. then (IsTreeWorded env.settings) (IsTreeWorded env.settings) (typed env place.Outside b) (exists_form r x) (worded env place.Outside b w.1) (λ y hy. exists-worded env.settings r x y hx hy))
   worded env at (tree.check e err i o) w = check-worded env e err i o
   worded env at (tree.check_datapoint e n o) w = after (IsTreeWorded env.settings) (typed env place.Outside e) (λ x. Err rule.UnknownRuleset) (λ x. tt)
   worded env at (tree.check_hierarchy e n r m f o) w = after (IsTreeWorded env.settings) (typed env place.Outside e) (λ x. Err rule.UnknownRuleset) (λ x. tt)

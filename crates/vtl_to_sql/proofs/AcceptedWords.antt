@@ -40,7 +40,7 @@ use Rattle.vtl_syntax.specs.declared.parts.RenamePart.{RenamePart}
 use Rattle.vtl_syntax.specs.declared.parts.SubPart.{SubPart}
 use Rattle.vtl_syntax.specs.declared.word_groups.AggregateName.{AggregateName}
 use Rattle.vtl_meaning.specs.Trees as nodes
-use Rattle.vtl_meaning.specs.Trees.{FormTree, ItemTree, NodeTree, structure_of}
+use Rattle.vtl_meaning.specs.Trees.{FormTree, ItemTree, NodeTree, NodeTrees, structure_of}
 use Rattle.vtl_meaning.specs.calls.Window.{Window}
 use Rattle.vtl_meaning.specs.clauses.SubItem.{SubItem}
 use Rattle.check_faults.specs.Rules.{ruled}
@@ -72,6 +72,7 @@ use Rattle.vtl_check.specs.places.Place.{Place}
 use Rattle.vtl_check.specs.places.Place.TheVariants as place
 use Rattle.check_laws.specs.Gives.{Gives}
 use Rattle.check_laws.proofs.Clauses.{among-any}
+use Rattle.check_laws.proofs.Left.{IsNamed}
 use Rattle.check_laws.proofs.Lists as lists
 use Rattle.check_laws.proofs.Literals.{IsCell, literal-cell, valued-gives}
 use Rattle.check_laws.proofs.Steps.{after, tested, then}
@@ -90,6 +91,14 @@ pub record AreValues (p : Settings) (items : List SubItem) : Type 0 where
   pub filled : AllByRecursion (λ i. IsFilled p i.value) items
   pub apart : all_apart same_name (sub_names items) ≡ true
 
+-- the identifier of `pivot`, whose codes are names of columns
+pub record HasCodes (id : List ℕ) (a : Structure) : Type 0 where
+  pub component : Component
+  pub named : IsNamed wanted.Identifier a.components id component
+  pub codes : List (List ℕ)
+  pub there : component.codes ≡ Some codes
+  pub names : AllByRecursion sql.IsName codes
+
 abbrev mutual
   pub HasWords : Settings → NodeTree → Type 0
   HasWords p (nodes.node s form) = FormHasWords p form
@@ -106,7 +115,18 @@ abbrev mutual
   FormHasWords p (nodes.drop_named a names) = HasWords p a
   FormHasWords p (nodes.rename a pairs) = HasWords p a × AllByRecursion (λ r. sql.IsName r.to) pairs
   FormHasWords p (nodes.sub a items) = HasWords p a × AreValues p items
+  FormHasWords p (nodes.pivot a id m) = HasWords p a × HasCodes id (structure_of a)
+  FormHasWords p (nodes.unpivot a id m) = HasWords p a × sql.IsName id × sql.IsName m
+  FormHasWords p (nodes.union ns) = HaveWords p ns
+  FormHasWords p (nodes.intersect ns) = HaveWords p ns
+  FormHasWords p (nodes.set_diff a b) = HasWords p a × HasWords p b
+  FormHasWords p (nodes.sym_diff a b) = HasWords p a × HasWords p b
+  FormHasWords p (nodes.exists_in a b r) = HasWords p a × HasWords p b
   FormHasWords p other = Unit {0}
+
+  pub HaveWords : Settings → NodeTrees → Type 0
+  HaveWords p nodes.no_nodes = Unit {0}
+  HaveWords p (nodes.and_node n ns) = HasWords p n × HaveWords p ns
 
 -- as far as it is translated
 abbrev pub IsWorded : Settings → NodeTree → Type 0
@@ -144,7 +164,7 @@ module _ (p : Settings) where
   value-worded (Ok e) = tt
   value-worded (Err broken) = tt
 
-  dataset-in-worded : (x : TypedTree) → IsTreeWorded p x → Gives (IsWorded p) (dataset_in x)
+  pub dataset-in-worded : (x : TypedTree) → IsTreeWorded p x → Gives (IsWorded p) (dataset_in x)
   dataset-in-worded (value e) h = tt
   dataset-in-worded (dataset n) h = h
 

@@ -35,6 +35,7 @@ pub mod SetSteps
 pub mod Existences
 pub mod AcceptedWords
 pub mod AcceptedOthers
+pub mod AcceptedSets
 pub mod AcceptedTyping
 pub mod AcceptedScripts
 pub mod AcceptedNames

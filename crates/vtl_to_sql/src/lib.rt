@@ -12,5 +12,5 @@ mod laws;
 
 pub use laws::{
     accepted_scripts_are_translated, inputs_have_their_columns, scripts_are_translated,
-    translated_scripts_are_lawful,
+    tables_are_counted, translated_scripts_are_lawful,
 };
