@@ -22,7 +22,8 @@ use Rattle.check_laws.proofs.Lists as lists
 use Rattle.check_laws.proofs.Scripts.{at-then}
 use Rattle.check_laws.proofs.Steps.{after, tested, then}
 use Rattle.vtl_to_sql.proofs.AcceptedTyping.{worded}
-use Rattle.vtl_to_sql.proofs.AcceptedWords.{IsWorded, dataset-step}
+use Rattle.vtl_to_sql.proofs.AcceptedOperators.{dataset-step}
+use Rattle.vtl_to_sql.proofs.AcceptedWords.{IsWorded}
 
 assigned-worded : (env : Env) (before : ℕ) (name : List ℕ) (e : Exp) → IsWrittenExp e → Gives (IsWorded env.settings) (assigned env before name e)
 unfolding assigned

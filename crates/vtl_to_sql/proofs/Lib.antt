@@ -34,10 +34,14 @@ pub mod SetQueries
 pub mod SetSteps
 pub mod Existences
 pub mod AcceptedWords
-pub mod AcceptedOthers
+pub mod AcceptedOperators
+pub mod AcceptedClauses
 pub mod AcceptedSets
+pub mod AcceptedJoins
 pub mod AcceptedTyping
 pub mod AcceptedScripts
+pub mod AcceptedComponents
+pub mod AcceptedMarks
 pub mod AcceptedNames
 pub mod AcceptedTables
 pub mod AcceptedNodes
