@@ -33,3 +33,12 @@ pub mod Exists
 pub mod SetQueries
 pub mod SetSteps
 pub mod Existences
+pub mod AcceptedWords
+pub mod AcceptedOthers
+pub mod AcceptedTyping
+pub mod AcceptedScripts
+pub mod AcceptedNames
+pub mod AcceptedTables
+pub mod AcceptedNodes
+pub mod AcceptedReads
+pub mod Accepted

@@ -6,3 +6,4 @@ pub mod Runs
 pub mod Conditions
 pub mod Means
 pub mod Exports
+pub mod Accepted

@@ -10,4 +10,7 @@
 
 mod laws;
 
-pub use laws::{inputs_have_their_columns, scripts_are_translated, translated_scripts_are_lawful};
+pub use laws::{
+    accepted_scripts_are_translated, inputs_have_their_columns, scripts_are_translated,
+    translated_scripts_are_lawful,
+};
