@@ -4,7 +4,7 @@ use Rattle.std.specs.List.{AllByRecursion, filter, find}
 use Rattle.std.specs.Option.{option_map_or, option_to_list}
 use Rattle.std.proofs.lemmas.Bool.{and_parts}
 use Rattle.vtl_lists.specs.Sorting.{insert_by, le_by, sorted_by}
-use Rattle.vtl_cell.specs.Groups.{aggregate, group_value, least, values_of}
+use Rattle.vtl_cell.specs.Groups.{aggregate, group_value, values_of}
 use Rattle.vtl_cell.specs.Kinds.{is_null}
 use Rattle.vtl_cell.specs.Order.{cell_cmp, same_cell}
 use Rattle.vtl_cell.specs.Outcome.{Outcome, fault_in, faults_by, unless}

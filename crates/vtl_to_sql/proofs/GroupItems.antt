@@ -1,6 +1,6 @@
 -- A grouped select of items whose values are known at the keys of the groups: its rows, its columns, and that it breaks no rule and
 -- can be printed.
-use Rattle.std.proofs.Common.{◌≡◌, ℕ, ◌≤◌, true, false, not, cond, List, [], ◌∷◌, ◌++◌, length, map, Option, Some, None, Ok, refl, ap, sym, ◌∙◌, subst, arith}
+use Rattle.std.proofs.Common.{◌≡◌, ℕ, ◌≤◌, true, not, cond, List, [], ◌∷◌, ◌++◌, length, map, Option, Some, None, Ok, refl, ap, sym, ◌∙◌, subst, arith}
 use Rattle.std.specs.Prelude.{IfOk, zip}
 use Rattle.std.specs.List.{AllByRecursion}
 use Rattle.grammar_forms.specs.Written.{Each}
@@ -28,7 +28,7 @@ use Rattle.sql_meaning.specs.From.{source_rows}
 use Rattle.sql_meaning.specs.Groups.{keys_by, rows_with}
 use Rattle.sql_meaning.specs.Outcomes.{row_at, row_fault}
 use Rattle.sql_meaning.specs.Scripts.{Data, base_of, tables_in}
-use Rattle.sql_meaning.specs.Selects.{group_item, group_rows, grouped_rows, having_fault, kept_keys, plain_rows, second_phase, select_value}
+use Rattle.sql_meaning.specs.Selects.{group_item, group_rows, grouped_rows, having_fault, kept_keys, plain_rows, second_phase}
 use Rattle.sql_meaning.specs.Tables.{Base}
 use Rattle.sql_meaning.specs.Values.{at_groups, at_rows, place_in, value as sql_value}
 use Rattle.vtl_to_sql.specs.Conditions.{HaveNames}

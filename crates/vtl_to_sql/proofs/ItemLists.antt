@@ -1,19 +1,18 @@
 -- Items one behind the other, items of other columns of the same kinds, and the rows of one table at which a condition holds.
-use Rattle.std.proofs.Common.{◌≡◌, Bool, true, cond, List, [], ◌∷◌, ◌++◌, map, Some, None, Ok, refl, ap, sym, ◌∙◌, subst, arith}
+use Rattle.std.proofs.Common.{◌≡◌, Bool, true, cond, List, [], ◌∷◌, ◌++◌, None, Ok, refl, ap, ◌∙◌, subst, arith}
 use Rattle.std.specs.Prelude.{IfOk}
 use Rattle.std.specs.List.{AllByRecursion, filter}
 use Rattle.vtl_cell.specs.Kinds.{is_of}
 use Rattle.vtl_cell.specs.Outcome.{Outcome, fault_in, faults_by, unless}
 use Rattle.vtl_cell.specs.Outcomes.{is_true}
 use Rattle.vtl_cell.specs.Row.{Row}
+use Rattle.vtl_cell.specs.declared.cell.Cell.{Cell}
 use Rattle.vtl_cell.specs.declared.cell.Cell.TheVariants as c
 use Rattle.vtl_cell.specs.declared.kind.Kind.TheVariants as k
 use Rattle.vtl_tree.specs.declared.structure.Component.{Component}
 use Rattle.sql_tree.specs.Trees.{Exp, Text}
 use Rattle.sql_check_parts.specs.Scopes.{Scope}
-use Rattle.sql_meaning.specs.From.{condition_fault, kept, source_rows}
 use Rattle.sql_meaning.specs.Tables.{Base}
-use Rattle.sql_meaning.specs.Values.{at_rows, value as sql_value}
 use Rattle.vtl_to_sql.specs.Turned.{text_constant}
 use Rattle.vtl_to_sql.proofs.Givens.{kinds_in}
 use Rattle.vtl_to_sql.proofs.SelectItems.{AreItems, IsItem, Valued}
@@ -57,7 +56,7 @@ module _ (b : Base) (s : Scope) (P : Row → Type 0) where
 
 -- ---- a condition that has this truth at each row
 
-pub exactly_kept : (P : Row → Type 0) (v : Row → Outcome Rattle.vtl_cell.specs.declared.cell.Cell.Cell) (f : Row → Bool) (d : List Row) → ((r : Row) → P r → v r ≡ Ok (c.Bool (f r))) → AllByRecursion P d → unless (faults_by (λ r. fault_in (v r)) d) (filter (λ r. is_true (v r)) d) ≡ Ok (filter f d)
+pub exactly_kept : (P : Row → Type 0) (v : Row → Outcome Cell) (f : Row → Bool) (d : List Row) → ((r : Row) → P r → v r ≡ Ok (c.Bool (f r))) → AllByRecursion P d → unless (faults_by (λ r. fault_in (v r)) d) (filter (λ r. is_true (v r)) d) ≡ Ok (filter f d)
 exactly_kept P v f d h all = ap (λ z. unless z (filter (λ r. is_true (v r)) d)) (none d all) ∙ ap Ok (left d all)
   where
     none : (l : List Row) → AllByRecursion P l → faults_by (λ r. fault_in (v r)) l ≡ None

@@ -21,6 +21,7 @@ pub mod Unpivots
 pub mod GroupItems
 pub mod Coded
 pub mod Pivots
+pub mod CodedTexts
 pub mod Nodes
 pub mod Statements
 pub mod WholeScript

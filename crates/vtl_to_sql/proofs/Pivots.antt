@@ -8,7 +8,7 @@ use Rattle.grammar_forms.specs.Written.{Each}
 use Rattle.vtl_cell.specs.Apart.{all_apart}
 use Rattle.vtl_cell.specs.Conversion.{as_kind}
 use Rattle.vtl_cell.specs.Groups.{group_value}
-use Rattle.vtl_cell.specs.Kinds.{is_null, is_of}
+use Rattle.vtl_cell.specs.Kinds.{is_of}
 use Rattle.vtl_cell.specs.Order.{same_cell}
 use Rattle.vtl_cell.specs.Outcome.{Outcome, after, fault_in, faults_by, join, unless}
 use Rattle.vtl_cell.specs.Outcomes.{branch, first_chosen, is_true}
@@ -40,12 +40,12 @@ use Rattle.vtl_meaning.specs.Points.{with_points}
 use Rattle.vtl_meaning.specs.Turned.{coded_value, codes_of, is_coded, other_identifiers, pivot_of, pivoted_point}
 use Rattle.vtl_meaning.proofs.JoinKept.{once_hold}
 use Rattle.vtl_meaning.proofs.JoinParts.{found_is}
-use Rattle.vtl_meaning.proofs.OwnColumns.{column_any, columns_apart, own_among}
+use Rattle.vtl_meaning.proofs.OwnColumns.{column_any, own_among}
 use Rattle.vtl_meaning.proofs.Places.{all_map, all_more, columns_split, each, identifiers_apart, same_name-sym}
 use Rattle.vtl_meaning.proofs.TurnedKept.{keys_typed, others_among}
 use Rattle.vtl_meaning.proofs.ValueKinds.{cell_is_of, null_is_of}
 use Rattle.sql_tree.specs.Formed.{IsColumn, IsMaybeExp, IsName}
-use Rattle.sql_tree.specs.Trees.{Exp, Text, binary}
+use Rattle.sql_tree.specs.Trees.{Text, binary}
 use Rattle.sql_tree.specs.declared.parts.Column.{Column}
 use Rattle.sql_check_laws.specs.Fits.{Fits, IsMaybeCondition, IsSeen}
 use Rattle.sql_check_parts.specs.Expressions.{site}
@@ -69,10 +69,10 @@ use Rattle.vtl_to_sql.proofs.Conjunctions.{equal_cells}
 use Rattle.vtl_to_sql.proofs.Exact.{IsExactly}
 use Rattle.vtl_to_sql.proofs.Expressions.{Translates}
 use Rattle.vtl_to_sql.proofs.Givens.{AreGiven, kinds_in}
-use Rattle.vtl_to_sql.proofs.GroupItems.{AreGroupItems, IsGroupItem, IsGrouped, groups_behind, groups_give, groups_like}
+use Rattle.vtl_to_sql.proofs.GroupItems.{AreGroupItems, IsGroupItem, groups_behind, groups_give, groups_like}
 use Rattle.vtl_to_sql.proofs.Identifiers.{AreIdentifiersAt, IsIdentifierAt, identifier_there, identifiers_there}
-use Rattle.vtl_to_sql.proofs.OneOperand.{known_there, one_from, own_cells, own_names, rows_there}
-use Rattle.vtl_to_sql.proofs.SelectItems.{GivesRows, Valued, each_by, gives_same, stays_after, values_at, values_fault}
+use Rattle.vtl_to_sql.proofs.OneOperand.{one_from, own_cells, own_names, rows_there}
+use Rattle.vtl_to_sql.proofs.SelectItems.{Valued, each_by, gives_same, stays_after, values_at, values_fault}
 use Rattle.vtl_to_sql.proofs.Sources.{AreApart, one_formed, one_scope}
 use Rattle.vtl_to_sql.proofs.Unions.{one_exactly}
 

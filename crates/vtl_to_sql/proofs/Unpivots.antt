@@ -1,5 +1,5 @@
 -- `unpivot` is a union of selects, one for each measure.
-use Rattle.std.proofs.Common.{◌≡◌, ℕ, Bool, true, false, not, cond, List, [], ◌∷◌, ◌++◌, map, Option, Some, None, Ok, refl, ap, sym, ◌∙◌, subst, arith, append_assoc}
+use Rattle.std.proofs.Common.{◌≡◌, ℕ, Bool, true, false, not, cond, List, [], ◌∷◌, ◌++◌, map, Some, None, Ok, refl, ap, sym, ◌∙◌, subst, arith, append_assoc}
 use Rattle.std.specs.Prelude.{is_some}
 use Rattle.std.specs.List.{AllByRecursion, filter, flat_map}
 use Rattle.std.specs.Option.{option_to_list}
@@ -11,7 +11,6 @@ use Rattle.vtl_cell.specs.Row.{Row, column_of}
 use Rattle.vtl_cell.specs.Settings.{Settings}
 use Rattle.vtl_cell.specs.declared.cell.Cell.{Cell}
 use Rattle.vtl_cell.specs.declared.cell.Cell.TheVariants as c
-use Rattle.vtl_cell.specs.declared.kind.Kind.{Kind}
 use Rattle.vtl_cell.specs.declared.kind.Kind.TheVariants as k
 use Rattle.vtl_cell.proofs.Perms.{Perm-same}
 use Rattle.vtl_cell.proofs.Sorts.{AllByRecursion-filter}
@@ -34,7 +33,7 @@ use Rattle.vtl_meaning.proofs.OwnColumns.{among_front, columns_apart, own_identi
 use Rattle.vtl_meaning.proofs.Places.{all_back, all_more, columns_split}
 use Rattle.vtl_meaning.proofs.TurnedKept.{filter_map_drawn}
 use Rattle.sql_tree.specs.Formed.{IsName}
-use Rattle.sql_tree.specs.Trees.{Exp, Text}
+use Rattle.sql_tree.specs.Trees.{Text}
 use Rattle.sql_check_parts.specs.Scopes.{add_source}
 use Rattle.sql_meaning.specs.From.{condition_fault, kept, source_rows}
 use Rattle.sql_meaning.specs.Scripts.{Data, base_of}
