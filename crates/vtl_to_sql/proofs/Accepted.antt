@@ -27,7 +27,7 @@ use Rattle.check_laws.proofs.DepthScripts.{written-depth}
 use Rattle.check_laws.proofs.Lists as lists
 use Rattle.check_laws.proofs.Over.{made_over}
 use Rattle.check_laws.proofs.Scripts.{script-made}
-use Rattle.vtl_to_sql.specs.Accepted.{AreFew, AreHeld, HoldsConstants, are_translated, is_translated}
+use Rattle.vtl_to_sql.specs.Accepted.{AreFew, AreHeld, HoldsParts, are_translated, is_translated}
 use Rattle.vtl_to_sql.specs.Conditions.{AreTranslated, IsScript}
 use Rattle.vtl_to_sql.proofs.AcceptedComponents.{AreKnownNamed, declared_named}
 use Rattle.vtl_to_sql.proofs.AcceptedNames.{components_named}
@@ -85,7 +85,7 @@ module _ (p : Settings) where
 record IsReady (p : Settings) (n : NodeTree) : Type 0 where
   words : IsWorded p n
   shallow : node_depth n ≤ depth_limit
-  held : HoldsConstants n
+  held : HoldsParts n
   translated : is_translated n ≡ true
 
 abbrev AreReady : Settings → List NodeTree → Type 0

@@ -1,12 +1,16 @@
 -- The next number of a table counts the tables that are made.
-use Rattle.std.proofs.Common.{◌≡◌, ℕ, ◌+◌, [], ◌∷◌, ◌++◌, length, arith, length-append}
+use Rattle.std.proofs.Common.{◌≡◌, ℕ, ◌+◌, List, [], ◌∷◌, ◌++◌, length, arith, length-append}
 use Rattle.vtl_cell.specs.Settings.{Settings}
 use Rattle.vtl_tree.specs.declared.structure.Structure.{Structure}
+use Rattle.vtl_syntax.specs.declared.word_groups.JoinKind.{JoinKind}
+use Rattle.vtl_syntax.specs.declared.word_groups.JoinKind.TheVariants as join
+use Rattle.vtl_meaning.specs.Made.{operands_in}
 use Rattle.vtl_meaning.specs.Trees as nodes
-use Rattle.vtl_meaning.specs.Trees.{FormTree, NodeTree, NodeTrees, structure_of}
+use Rattle.vtl_meaning.specs.Trees.{FormTree, NodeTree, NodeTrees, OperandTrees, structure_of}
+use Rattle.check_joins.specs.Joins.{structures_of}
 use Rattle.sql_tree.specs.Trees.{QueryTree, Text}
 use Rattle.vtl_to_sql.specs.Queries.{intersection_query, union_query}
-use Rattle.vtl_to_sql.specs.Tables.{Made, Sources, combined_of, made_of, made_of_form, numbered, over, and_then, source_of, sources_of, stored, table_of, with_two}
+use Rattle.vtl_to_sql.specs.Tables.{Made, Sources, and_then, combined_of, join_made, made_of, made_of_form, numbered, operands_of, over, source_of, sources_of, stored, table_of, with_two}
 
 -- the next number behind so many tables
 abbrev AreCounted : ℕ → Sources → Type 0
@@ -22,6 +26,12 @@ source_counted r form k m h = stored_counted r m k h
 -- operands, and others behind them
 behind_counted : (a b : Sources) (k : ℕ) → AreCounted k a → AreCounted a.next b → b.next ≡ k + length (a.tables ++ b.tables)
 behind_counted a b k h i = omega (arith, h, i, length-append a.tables b.tables)
+
+join_counted : (p : Settings) (kind : JoinKind) (ss : List Structure) (s : Structure) (os : Sources) (k : ℕ) → AreCounted k os → (join_made p kind ss s os).next ≡ k + length (join_made p kind ss s os).tables
+join_counted p join.Inner ss s os k h = h
+join_counted p join.Left ss s os k h = h
+join_counted p join.Cross ss s os k h = h
+join_counted p join.Full ss s os k h = h
 
 module _ (p : Settings) (r : Text) where
   mutual
@@ -54,7 +64,12 @@ module _ (p : Settings) (r : Text) where
     form_counted s (nodes.set_diff a b) k = let x = sources_of p r a k in behind_counted x (sources_of p r b x.next) k (operand_counted a k) (operand_counted b x.next)
     form_counted s (nodes.sym_diff a b) k = let x = sources_of p r a k in behind_counted x (sources_of p r b x.next) k (operand_counted a k) (operand_counted b x.next)
     form_counted s (nodes.exists_in a b kept) k = let x = sources_of p r a k in behind_counted x (sources_of p r b x.next) k (operand_counted a k) (operand_counted b x.next)
+    form_counted s (nodes.join os spec) k = join_counted p spec.kind (structures_of (operands_in os)) s (operands_of p r os k) k (operands_counted os k)
     form_counted s other k = omega arith
+
+    operands_counted : (os : OperandTrees) (k : ℕ) → (operands_of p r os k).next ≡ k + length (operands_of p r os k).tables
+    operands_counted nodes.no_operands k = omega arith
+    operands_counted (nodes.operand a alias os) k = let x = sources_of p r a k in behind_counted x (operands_of p r os x.next) k (operand_counted a k) (operands_counted os x.next)
 
     combined_counted : (q : Structure → Structure → Text → Text → QueryTree) (s : Structure) (ns : NodeTrees) (a : Structure) (os : Sources) (k : ℕ) → os.next ≡ k + length os.tables → (combined_of p r q s ns a os).next ≡ k + length (combined_of p r q s ns a os).tables
     combined_counted q s nodes.no_nodes a os k h = h

@@ -8,6 +8,7 @@ pub mod SelectItems
 pub mod Selects
 pub mod Unions
 pub mod Sources
+pub mod ManySources
 pub mod Exact
 pub mod OneOperand
 pub mod Identifiers
@@ -15,6 +16,16 @@ pub mod Conjunctions
 pub mod Subs
 pub mod Pairs
 pub mod TwoOperands
+pub mod Loose
+pub mod Ties
+pub mod HeldOperands
+pub mod Chains
+pub mod ChainSelects
+pub mod JoinedColumns
+pub mod JoinedRows
+pub mod ReferenceJoins
+pub mod CrossJoins
+pub mod Joins
 pub mod Choices
 pub mod ItemLists
 pub mod Unpivots
@@ -26,7 +37,9 @@ pub mod Nodes
 pub mod Statements
 pub mod WholeScript
 pub mod ReadTables
+pub mod InputData
 pub mod TranslatedScripts
+pub mod EmptyJoins
 pub mod EmptyData
 pub mod TypedScripts
 pub mod LawfulScripts
@@ -34,6 +47,7 @@ pub mod Exists
 pub mod SetQueries
 pub mod SetSteps
 pub mod Existences
+pub mod Examples
 pub mod AcceptedWords
 pub mod AcceptedOperators
 pub mod AcceptedClauses

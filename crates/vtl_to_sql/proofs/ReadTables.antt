@@ -18,7 +18,7 @@ use Rattle.sql_tree.specs.Formed.{IsName}
 use Rattle.sql_tree.specs.Trees.{Text}
 use Rattle.sql_tree.specs.declared.statements.InputColumn.{InputColumn}
 use Rattle.sql_check_parts.specs.Scopes.{is_among}
-use Rattle.sql_check_parts.specs.Statements.{column_entry, input_columns, is_of_key}
+use Rattle.sql_check_parts.specs.Statements.{column_entry, in_table_order, input_columns, is_of_key}
 use Rattle.sql_meaning.specs.Scripts.{Inputs, input_table, rows_read}
 use Rattle.vtl_to_sql.specs.Exports.{AreRead, tables_read}
 use Rattle.vtl_to_sql.specs.Means.{Stands, StandsAs}
@@ -92,26 +92,50 @@ turned : (P Q : InputColumn → Bool) (xs : List InputColumn) (b c : Bool) → (
 turned P Q [] b c f h = tt
 turned P Q (x ∷ xs) b c f h = (f x h.0, turned P Q xs b c f h.1)
 
-pub columns_read : (e : List ℕ × Structure) → IsStructure e.1 → input_columns (input_of e) ≡ entries (columns_of e.1)
-columns_read e w =
-    let s = e.1 in
-    let key = names_of (identifiers_of s) in
-    let ids = map input_column (identifiers_of s) in
-    let rest = map input_column (others_of s) in
-    let inside = all_among [] (identifiers_of s) in
-    let outside = none_among (identifiers_of s) (others_of s) (subst AreApart (columns_split s) (columns_apart s w)) in
-    let cols : map input_column (columns_of s) ≡ ids ++ rest = ap (map input_column) (columns_split s) ∙ columns-append (identifiers_of s) (others_of s) in
-    let first : filter (is_of_key key) (ids ++ rest) ≡ ids = filter-append (is_of_key key) ids rest ∙ ap (λ l. l ++ filter (is_of_key key) rest) (kept_all (is_of_key key) ids inside) ∙ ap (λ l. ids ++ l) (kept_none (is_of_key key) rest outside) ∙ append-nil ids in
-    let second : filter (λ x. not (is_of_key key x)) (ids ++ rest) ≡ rest =
-    filter-append (λ x. not (is_of_key key x)) ids rest
-    ∙ ap (λ l. l ++ filter (λ x. not (is_of_key key x)) rest) (kept_none (λ x. not (is_of_key key x)) ids (turned (is_of_key key) (λ x. not (is_of_key key x)) ids true false (λ x h. ap not h) inside))
-    ∙ kept_all (λ x. not (is_of_key key x)) rest (turned (is_of_key key) (λ x. not (is_of_key key x)) rest false true (λ x h. ap not h) outside) in
-    ap (λ cs. map column_entry (filter (is_of_key key) cs ++ filter (λ x. not (is_of_key key x)) cs)) cols
-    ∙ ap (λ l. map column_entry (l ++ filter (λ x. not (is_of_key key x)) (ids ++ rest))) first
-    ∙ ap (λ l. map column_entry (ids ++ l)) second
-    ∙ ap (map column_entry) (sym (columns-append (identifiers_of s) (others_of s)))
-    ∙ ap (λ xs. map column_entry (map input_column xs)) (sym (columns_split s))
-    ∙ entries_are (columns_of s)
+module _ (e : List ℕ × Structure) (w : IsStructure e.1) where
+  abbrev s : Structure
+  s = e.1
+
+  abbrev key : List Text
+  key = names_of (identifiers_of s)
+
+  abbrev is_key : InputColumn → Bool
+  is_key = is_of_key key
+
+  abbrev is_rest : InputColumn → Bool
+  is_rest x = not (is_key x)
+
+  abbrev ids : List InputColumn
+  ids = map input_column (identifiers_of s)
+
+  abbrev rest : List InputColumn
+  rest = map input_column (others_of s)
+
+  inside : AllByRecursion (λ x. is_key x ≡ true) ids
+  inside = all_among [] (identifiers_of s)
+
+  outside : AllByRecursion (λ x. is_key x ≡ false) rest
+  outside = none_among (identifiers_of s) (others_of s) (subst AreApart (columns_split s) (columns_apart s w))
+
+  both : map input_column (columns_of s) ≡ ids ++ rest
+  both = ap (map input_column) (columns_split s) ∙ columns-append (identifiers_of s) (others_of s)
+
+  -- the identifiers are those of the key
+  pub key_read : filter is_key (map input_column (columns_of s)) ≡ ids
+  key_read = ap (filter is_key) both ∙ filter-append is_key ids rest ∙ ap (λ l. l ++ filter is_key rest) (kept_all is_key ids inside) ∙ ap (λ l. ids ++ l) (kept_none is_key rest outside) ∙ append-nil ids
+
+  rest_read : filter is_rest (map input_column (columns_of s)) ≡ rest
+  rest_read =
+      ap (filter is_rest) both
+      ∙ filter-append is_rest ids rest
+      ∙ ap (λ l. l ++ filter is_rest rest) (kept_none is_rest ids (turned is_key is_rest ids true false (λ x h. ap not h) inside))
+      ∙ kept_all is_rest rest (turned is_key is_rest rest false true (λ x h. ap not h) outside)
+
+  pub order_read : in_table_order key (map input_column (columns_of s)) ≡ map input_column (columns_of s)
+  order_read = ap (λ l. l ++ filter is_rest (map input_column (columns_of s))) key_read ∙ ap (λ l. ids ++ l) rest_read ∙ sym both
+
+  pub columns_read : input_columns (input_of e) ≡ entries (columns_of s)
+  columns_read = ap (map column_entry) order_read ∙ entries_are (columns_of s)
 
 -- ---- the tables
 

@@ -1,4 +1,5 @@
 pub mod Queries
+pub mod Joins
 pub mod Turned
 pub mod Tables
 pub mod Scripts
@@ -6,4 +7,5 @@ pub mod Runs
 pub mod Conditions
 pub mod Means
 pub mod Exports
+pub mod Inputs
 pub mod Accepted

@@ -1,10 +1,11 @@
 // Laws of translated scripts.
 ghost use Rattle.std.specs.Prelude.{◌≡◌, ◌≤◌, ◌<◌, ◌+◌, ◌^◌, ℕ, List, length, true};
+ghost use Rattle.vtl_cell.specs.Row.{Row};
 ghost use Rattle.vtl_cell.specs.Settings.{Settings};
 ghost use Rattle.vtl_tree.specs.Environment.{Environment};
 ghost use Rattle.vtl_tree.specs.Structure.{IsStructure, columns_of};
 ghost use Rattle.vtl_syntax.specs.Written.{AreWritten};
-ghost use Rattle.vtl_tree.specs.Structures.{AreStructures, Named};
+ghost use Rattle.vtl_tree.specs.Structures.{AreStructures, Named, is_declarable};
 ghost use Rattle.vtl_tree.specs.declared.structure.Structure.{Structure};
 ghost use Rattle.vtl_meaning.specs.Meaning.{AreDataSets, Statement, known_in, meaning};
 ghost use Rattle.vtl_meaning.specs.Trees.{NodeTree};
@@ -13,10 +14,12 @@ ghost use Rattle.vtl_check.specs.Uses.{reads};
 ghost use Rattle.vtl_backend.specs.Statements.{statements_of};
 ghost use Rattle.sql_tree.specs.Formed.{PrintableScript};
 ghost use Rattle.sql_check_parts.specs.Statements.{IsTypedScript, input_columns};
+ghost use Rattle.sql_meaning.specs.Inputs.{IsInputData};
 ghost use Rattle.sql_meaning.specs.Scripts.{Inputs, script_value};
 ghost use Rattle.vtl_to_sql.specs.Accepted.{AreFew, AreHeld, are_translated};
 ghost use Rattle.vtl_to_sql.specs.Conditions.{HasFewTables, IsScript};
 ghost use Rattle.vtl_to_sql.specs.Exports.{AreRead, exported_as};
+ghost use Rattle.vtl_to_sql.specs.Inputs.{AreAsked};
 ghost use Rattle.vtl_to_sql.specs.Runs.{entries};
 ghost use Rattle.vtl_to_sql.specs.Scripts.{input_of, script_for};
 ghost use Rattle.vtl_to_sql.specs.Tables.{first_number, made_of};
@@ -37,6 +40,12 @@ pub fn translated_scripts_are_lawful()
 #[tactic(auto, using(crate::proofs::ReadTables::columns_read))]
 pub fn inputs_have_their_columns()
     ensures { (e : List ℕ × Structure) → IsStructure e.1 → input_columns (input_of e) ≡ entries (columns_of e.1) }
+{}
+
+/// An INPUT asks of its rows what the structure asks of the points of a data set, and that codes are those listed.
+pub fn inputs_ask_for_data_sets()
+    ensures given { (e : List ℕ × Structure) (rows : List Row) → is_declarable e.1 ≡ true → IsInputData (input_of e) rows → AreAsked e.1 rows }
+    ensures taken { (e : List ℕ × Structure) (rows : List Row) → is_declarable e.1 ≡ true → AreAsked e.1 rows → IsInputData (input_of e) rows }
 {}
 
 /// A script that the checker accepted can be translated: one whose nodes are of the forms that are translated so far,
