@@ -33,8 +33,8 @@ use Rattle.vtl_to_sql.proofs.AcceptedComponents.{AreKnownNamed, declared_named}
 use Rattle.vtl_to_sql.proofs.AcceptedNames.{components_named}
 use Rattle.vtl_to_sql.proofs.AcceptedNodes.{evaluated, node_translated}
 use Rattle.vtl_to_sql.proofs.AcceptedReads.{IsWord, reads_alike, reads_fewer, reads_readable}
-use Rattle.vtl_to_sql.proofs.AcceptedScripts.{results-named, script-worded}
-use Rattle.vtl_to_sql.proofs.AcceptedWords.{FormHasWords, HasWords, HaveWords, IsWorded, OperandsHaveWords, name-word}
+use Rattle.vtl_to_sql.proofs.AcceptedScripts.{results_named, script_worded}
+use Rattle.vtl_to_sql.proofs.AcceptedWords.{FormHasWords, HasWords, HaveWords, IsWorded, OperandsHaveWords, name_word}
 
 -- ---- the names that an expression reads are words
 module _ (p : Settings) where
@@ -46,7 +46,7 @@ module _ (p : Settings) where
     names_words b (nodes.node s form) t w = form_words b s form t w
 
     form_words : (b : Bool) (s : Structure) (form : FormTree) → is_built_form form ≡ true → FormHasWords p b form → AllByRecursion IsWord (names_in (nodes.node s form))
-    form_words b s (nodes.named name) t w = (name-word name w, tt)
+    form_words b s (nodes.named name) t w = (name_word name w, tt)
     form_words b s (nodes.measures m a) t w = names_words false a t w
     form_words b s (nodes.pair o a c) t w = let both = and_parts (is_built a) (is_built c) t in two_words (nodes_in a) (nodes_in c) (names_words false a both.0 w.0) (names_words false c both.1 w.1)
     form_words b s (nodes.choose q a c) t w =
@@ -114,7 +114,7 @@ statements_translated p known other (t ∷ ts) (n ∷ ns) alike fewer named word
     let own = here.words built in
     let rest = lists.back (λ name. lookup (same_name name) known ≡ lookup (same_name name) other) (names_in n) (names_of ns) alike in (
       record {
-        word = name-word t.name words.0;
+        word = name_word t.name words.0;
         new = fewer t.name made.0;
         made = made_over p known other n (lists.front (λ name. lookup (same_name name) known ≡ lookup (same_name name) other) (names_in n) (names_of ns) alike) made.1;
         translated = node_translated p known named false n made.1 here.translated own here.held (node-below depth_limit n here.shallow);
@@ -135,10 +135,10 @@ all_ready p (n ∷ ns) words shallow held translated = (record { words = words.0
 pub script_accepted : (t : TypedScript) → t.settings.scale ≤ 9 → AreStructures t.declared → IsTyped t → AreWritten (tree_of t) → are_translated (nodes_of t) ≡ true → AreHeld (nodes_of t) → AreFew t.settings (statements_of t) → IsScript t.settings (reads t.declared (nodes_of t)) (statements_of t)
 script_accepted t low are typed written translated held few =
     let ns = nodes_of t in
-    let ready = all_ready t.settings ns (script-worded t typed written) (written-depth t typed written) held (lists.all_pass is_translated ns translated) in
+    let ready = all_ready t.settings ns (script_worded t typed written) (written-depth t typed written) held (lists.all_pass is_translated ns translated) in
     let words = words_of t.settings ns ready in
     record {
       low = low;
       readable = reads_readable t.declared ns words are;
-      translated = statements_translated t.settings t.declared (reads t.declared ns) (transformations (tree_of t)) ns (reads_alike t.declared ns words) (reads_fewer t.declared ns words) (declared_named t.declared are) (results-named t written) ready (script-made t are typed) few;
+      translated = statements_translated t.settings t.declared (reads t.declared ns) (transformations (tree_of t)) ns (reads_alike t.declared ns words) (reads_fewer t.declared ns words) (declared_named t.declared are) (results_named t written) ready (script-made t are typed) few;
     }
