@@ -11,8 +11,6 @@ use Rattle.vtl_cell.specs.Settings.{Settings}
 use Rattle.vtl_cell.specs.declared.kind.Kind.{Kind}
 use Rattle.vtl_lists.proofs.Aparts.{apart_parts}
 use Rattle.vtl_syntax.specs.Depth.{depth_limit}
-use Rattle.vtl_syntax.specs.declared.word_groups.JoinKind.{JoinKind}
-use Rattle.vtl_syntax.specs.declared.word_groups.JoinKind.TheVariants as join
 use Rattle.vtl_tree.specs.CompExp.{CompExp}
 use Rattle.vtl_tree.specs.Structure.{most_components, names_of, same_name, same_role}
 use Rattle.vtl_tree.specs.Structures.{Named}
@@ -34,8 +32,8 @@ use Rattle.check_laws.proofs.DepthBounds.{AreNodesUpTo, AreUpTo, IsUpTo}
 use Rattle.check_laws.proofs.Inner.{made-shaped}
 use Rattle.check_laws.proofs.Lists as lists
 use Rattle.rules_to_sql.specs.Held.{HoldsValues}
-use Rattle.vtl_to_sql.specs.Accepted.{AllHoldValues, FormHoldsParts, HoldsParts, NodesHoldParts, OperandsHoldParts, are_nodes_translated, are_operands_translated, is_form_translated, is_join_translated, is_translated}
-use Rattle.vtl_to_sql.specs.Conditions.{AllCanBeWritten, AreNodesTranslated, AreOperandsTranslated, CanBeWritten, HasValue, IsFormTranslated, IsJoinTranslated, IsTranslated}
+use Rattle.vtl_to_sql.specs.Accepted.{AllHoldValues, FormHoldsParts, HoldsParts, NodesHoldParts, OperandsHoldParts, are_nodes_translated, are_operands_translated, is_form_translated, is_translated}
+use Rattle.vtl_to_sql.specs.Conditions.{AllCanBeWritten, AreNodesTranslated, AreOperandsTranslated, CanBeWritten, HasValue, IsFormTranslated, IsTranslated}
 use Rattle.vtl_to_sql.proofs.AcceptedComponents.{AreKnownNamed, codes_are_texts, columns_named}
 use Rattle.vtl_to_sql.proofs.AcceptedNames.{components_named, form_named, marks}
 use Rattle.vtl_to_sql.proofs.AcceptedWords.{AreValues, FormHasWords, HasWords, HaveWords, IsFilled, OperandsHaveWords}
@@ -130,7 +128,7 @@ mutual
   form_evaluated s (nodes.set_diff a c) t = let both = and_parts (is_translated a) (is_translated c) t in and_from (is_built a) (is_built c) (evaluated a both.0) (evaluated c both.1)
   form_evaluated s (nodes.sym_diff a c) t = let both = and_parts (is_translated a) (is_translated c) t in and_from (is_built a) (is_built c) (evaluated a both.0) (evaluated c both.1)
   form_evaluated s (nodes.exists_in a c r) t = let both = and_parts (is_translated a) (is_translated c) t in and_from (is_built a) (is_built c) (evaluated a both.0) (evaluated c both.1)
-  form_evaluated s (nodes.join os spec) t = operands_evaluated os (and_parts (is_join_translated spec.kind) (are_operands_translated os) t).1
+  form_evaluated s (nodes.join os spec) t = operands_evaluated os t
   form_evaluated s other t = absurd (false≢true t)
 
   all_evaluated : (ns : NodeTrees) → are_nodes_translated ns ≡ true → are_nodes_built ns ≡ true
@@ -140,12 +138,6 @@ mutual
   operands_evaluated : (os : OperandTrees) → are_operands_translated os ≡ true → are_operands_built os ≡ true
   operands_evaluated nodes.no_operands t = refl
   operands_evaluated (nodes.operand n alias os) t = let both = and_parts (is_translated n) (are_operands_translated os) t in and_from (is_built n) (are_operands_built os) (evaluated n both.0) (operands_evaluated os both.1)
-
-join_translated : (kind : JoinKind) → is_join_translated kind ≡ true → IsJoinTranslated kind
-join_translated join.Inner t = tt
-join_translated join.Left t = tt
-join_translated join.Cross t = tt
-join_translated join.Full t = absurd (false≢true t)
 
 -- ---- expressions on data sets
 module _ (p : Settings) (known : Named) (all : AreKnownNamed known) where
@@ -195,9 +187,7 @@ module _ (p : Settings) (known : Named) (all : AreKnownNamed known) where
     form_translated b s (nodes.exists_in a c r) m t w h own d =
         let both = and_parts (is_translated a) (is_translated c) t in
         (node_translated false a m.0 both.0 w.0 h.0 (left (nodes_in a) (nodes_in c) d), node_translated false c m.1 both.1 w.1 h.1 (right (nodes_in a) (nodes_in c) d))
-    form_translated true s (nodes.join os spec) m t w h own d =
-        let both = and_parts (is_join_translated spec.kind) (are_operands_translated os) t in
-        (operands_translated os m.0 both.1 w h.0 d, h.1, join_translated spec.kind both.0)
+    form_translated true s (nodes.join os spec) m t w h own d = (operands_translated os m.0 t w h.0 d, h.1)
     form_translated false s (nodes.join os spec) m t w h own d = absurd w
     form_translated b s other m t w h own d = absurd (false≢true t)
 

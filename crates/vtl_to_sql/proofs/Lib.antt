@@ -25,6 +25,11 @@ pub mod JoinedColumns
 pub mod JoinedRows
 pub mod ReferenceJoins
 pub mod CrossJoins
+pub mod KeyColumns
+pub mod OnceRows
+pub mod KeyTables
+pub mod FullJoins
+pub mod FullMeans
 pub mod Joins
 pub mod Choices
 pub mod ItemLists

@@ -1,4 +1,7 @@
 -- The tables of the inputs stand for the data sets that are read.
+use Rattle.vtl_meaning.proofs.SetsFolds.{filter_once}
+use Rattle.std.proofs.lemmas.List.Elements.{filter-append}
+use Rattle.std.proofs.lemmas.List.{map-append}
 use Rattle.std.proofs.Common.{◌≡◌, ℕ, Bool, true, false, not, ◌||◌, cond, List, [], ◌∷◌, ◌++◌, map, Some, refl, ap, sym, ◌∙◌, subst, append_assoc, append-nil, true≢false}
 use Rattle.std.specs.List.{AllByRecursion, filter}
 use Rattle.std.specs.Map.{lookup}
@@ -33,26 +36,10 @@ entries_are : (xs : List Component) → map column_entry (map input_column xs) �
 entries_are [] = refl
 entries_are (x ∷ xs) = ap (λ l. (x.name, x.kind) ∷ l) (entries_are xs)
 
--- lists in which a test passes each item, or none
-kept_all : {X : Type 0} (p : X → Bool) (xs : List X) → AllByRecursion (λ x. p x ≡ true) xs → filter p xs ≡ xs
-kept_all p [] all = refl
-kept_all p (x ∷ xs) all = ap (λ b. cond b (x ∷ filter p xs) (filter p xs)) all.0 ∙ ap (λ l. x ∷ l) (kept_all p xs all.1)
-
+-- a test that passes no item leaves none
 kept_none : {X : Type 0} (p : X → Bool) (xs : List X) → AllByRecursion (λ x. p x ≡ false) xs → filter p xs ≡ []
 kept_none p [] all = refl
 kept_none p (x ∷ xs) all = ap (λ b. cond b (x ∷ filter p xs) (filter p xs)) all.0 ∙ kept_none p xs all.1
-
-filter-append : {X : Type 0} (p : X → Bool) (xs ys : List X) → filter p (xs ++ ys) ≡ filter p xs ++ filter p ys
-filter-append p [] ys = refl
-filter-append p (x ∷ xs) ys = go (p x) (filter-append p xs ys)
-  where
-    go : (b : Bool) → filter p (xs ++ ys) ≡ filter p xs ++ filter p ys → cond b (x ∷ filter p (xs ++ ys)) (filter p (xs ++ ys)) ≡ cond b (x ∷ filter p xs) (filter p xs) ++ filter p ys
-    go true ih = ap (λ l. x ∷ l) ih
-    go false ih = ih
-
-columns-append : (xs ys : List Component) → map input_column (xs ++ ys) ≡ map input_column xs ++ map input_column ys
-columns-append [] ys = refl
-columns-append (x ∷ xs) ys = ap (λ l. input_column x ∷ l) (columns-append xs ys)
 
 own_true : (b : Bool) → b ≡ true → (c : Bool) → (b || c) ≡ true
 own_true true e c = refl
@@ -118,18 +105,18 @@ module _ (e : List ℕ × Structure) (w : IsStructure e.1) where
   outside = none_among (identifiers_of s) (others_of s) (subst AreApart (columns_split s) (columns_apart s w))
 
   both : map input_column (columns_of s) ≡ ids ++ rest
-  both = ap (map input_column) (columns_split s) ∙ columns-append (identifiers_of s) (others_of s)
+  both = ap (map input_column) (columns_split s) ∙ map-append input_column (identifiers_of s) (others_of s)
 
   -- the identifiers are those of the key
   pub key_read : filter is_key (map input_column (columns_of s)) ≡ ids
-  key_read = ap (filter is_key) both ∙ filter-append is_key ids rest ∙ ap (λ l. l ++ filter is_key rest) (kept_all is_key ids inside) ∙ ap (λ l. ids ++ l) (kept_none is_key rest outside) ∙ append-nil ids
+  key_read = ap (filter is_key) both ∙ filter-append is_key ids rest ∙ ap (λ l. l ++ filter is_key rest) (filter_once is_key ids inside) ∙ ap (λ l. ids ++ l) (kept_none is_key rest outside) ∙ append-nil ids
 
   rest_read : filter is_rest (map input_column (columns_of s)) ≡ rest
   rest_read =
       ap (filter is_rest) both
       ∙ filter-append is_rest ids rest
       ∙ ap (λ l. l ++ filter is_rest rest) (kept_none is_rest ids (turned is_key is_rest ids true false (λ x h. ap not h) inside))
-      ∙ kept_all is_rest rest (turned is_key is_rest rest false true (λ x h. ap not h) outside)
+      ∙ filter_once is_rest rest (turned is_key is_rest rest false true (λ x h. ap not h) outside)
 
   pub order_read : in_table_order key (map input_column (columns_of s)) ≡ map input_column (columns_of s)
   order_read = ap (λ l. l ++ filter is_rest (map input_column (columns_of s))) key_read ∙ ap (λ l. ids ++ l) rest_read ∙ sym both

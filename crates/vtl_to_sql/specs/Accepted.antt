@@ -6,8 +6,6 @@ use Rattle.vtl_cell.specs.Held.{IsHeld}
 use Rattle.vtl_cell.specs.Settings.{Settings}
 use Rattle.vtl_tree.specs.CompExp.{CompExp}
 use Rattle.vtl_tree.specs.declared.structure.Structure.{Structure}
-use Rattle.vtl_syntax.specs.declared.word_groups.JoinKind.{JoinKind}
-use Rattle.vtl_syntax.specs.declared.word_groups.JoinKind.TheVariants as join
 use Rattle.vtl_meaning.specs.Made.{operands_in}
 use Rattle.vtl_meaning.specs.Meaning.{Statement}
 use Rattle.vtl_meaning.specs.Operators.{calculated_exps, measured_exps, pair_exps}
@@ -17,12 +15,6 @@ use Rattle.rules_to_sql.specs.Held.{HoldsValues}
 use Rattle.vtl_to_sql.specs.Conditions.{HasFewTables}
 
 -- ---- which forms are translated so far. Each form has its line, so that no new one is passed over.
-abbrev pub is_join_translated : JoinKind → Bool
-is_join_translated join.Inner = true
-is_join_translated join.Left = true
-is_join_translated join.Cross = true
-is_join_translated join.Full = false
-
 abbrev mutual
   pub is_translated : NodeTree → Bool
   is_translated (nodes.node s form) = is_form_translated form
@@ -41,7 +33,7 @@ abbrev mutual
   is_form_translated (nodes.sub a items) = is_translated a
   is_form_translated (nodes.pivot a id m) = is_translated a
   is_form_translated (nodes.unpivot a id m) = is_translated a
-  is_form_translated (nodes.join os spec) = is_join_translated spec.kind && are_operands_translated os
+  is_form_translated (nodes.join os spec) = are_operands_translated os
   is_form_translated (nodes.union ns) = are_nodes_translated ns
   is_form_translated (nodes.intersect ns) = are_nodes_translated ns
   is_form_translated (nodes.set_diff a b) = is_translated a && is_translated b
