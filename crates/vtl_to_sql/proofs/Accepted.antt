@@ -1,5 +1,5 @@
 -- An accepted script whose forms are translated so far can be translated.
-use Rattle.std.proofs.Common.{inl, inr, ◌≡◌, ◌≤◌, ℕ, Bool, true, false, cond, ◌&&◌, ◌||◌, List, [], ◌∷◌, ◌++◌, Some, sym, ap, subst, true≢false}
+use Rattle.std.proofs.Common.{inl, inr, ◌≡◌, ◌≤◌, ℕ, Bool, true, false, cond, ◌&&◌, ◌||◌, List, [], ◌∷◌, ◌++◌, Some, sym, ap, subst, true≢false, ◌∙◌}
 use Rattle.std.proofs.lemmas.Bool.{and_parts, false≢true}
 use Rattle.std.specs.List.{AllByRecursion}
 use Rattle.std.specs.Map.{lookup}
@@ -31,7 +31,8 @@ use Rattle.vtl_to_sql.specs.Accepted.{AreFew, AreHeld, HoldsParts, are_translate
 use Rattle.vtl_to_sql.specs.Conditions.{AreTranslated, IsScript}
 use Rattle.vtl_to_sql.proofs.AcceptedComponents.{AreKnownNamed, declared_named}
 use Rattle.vtl_to_sql.proofs.AcceptedNames.{components_named}
-use Rattle.vtl_to_sql.proofs.AcceptedNodes.{evaluated, node_translated}
+use Rattle.vtl_to_sql.proofs.AcceptedForms.{evaluated}
+use Rattle.vtl_to_sql.proofs.AcceptedNodes.{node_translated}
 use Rattle.vtl_to_sql.proofs.AcceptedReads.{IsWord, reads_alike, reads_fewer, reads_readable}
 use Rattle.vtl_to_sql.proofs.AcceptedScripts.{results_named, script_worded}
 use Rattle.vtl_to_sql.proofs.AcceptedWords.{FormHasWords, HasWords, HaveWords, IsWorded, OperandsHaveWords, name_word}
@@ -93,7 +94,7 @@ AreReady p ns = AllByRecursion (IsReady p) ns
 
 words_of : (p : Settings) (ns : List NodeTree) → AreReady p ns → AllByRecursion IsWord (names_of ns)
 words_of p [] h = tt
-words_of p (n ∷ ns) h = lists.appended IsWord (names_in n) (names_of ns) (let built = evaluated n h.0.translated in names_words p false n built (h.0.words built)) (words_of p ns h.1)
+words_of p (n ∷ ns) h = lists.appended IsWord (names_in n) (names_of ns) (let built = sym (evaluated n) ∙ h.0.translated in names_words p false n built (h.0.words built)) (words_of p ns h.1)
 
 abbrev AreFewer : Named → Named → Type 0
 AreFewer known other = (name : List ℕ) → has_name name known ≡ false → has_name name other ≡ false
@@ -110,7 +111,7 @@ statements_translated p known other [] ns alike fewer named words ready made few
 statements_translated p known other (t ∷ ts) [] alike fewer named words ready made few = tt
 statements_translated p known other (t ∷ ts) (n ∷ ns) alike fewer named words ready made few =
     let here = ready.0 in
-    let built = evaluated n here.translated in
+    let built = sym (evaluated n) ∙ here.translated in
     let own = here.words built in
     let rest = lists.back (λ name. lookup (same_name name) known ≡ lookup (same_name name) other) (names_in n) (names_of ns) alike in (
       record {
