@@ -1,4 +1,5 @@
 -- What expressions on data sets are written as in SQL, each by computation. Between tokens stands a space.
+use Rattle.vtl_to_sql.specs.FullJoins.{full_query, key_structure, keys_query, once_query}
 use Rattle.vtl_to_sql.specs.Joins.{cross_query, reference_query}
 use Rattle.std.proofs.Common.{◌≡◌, ℕ, true, false, List, [], ◌∷◌, map, Some, None, refl, sym, ◌∙◌, arith, append-nil, ◌<◌, ◌+◌}
 use Rattle.std.specs.Prelude.{codes}
@@ -150,6 +151,19 @@ left = rw (digit 0 (omega arith), digit 1 (omega arith)) refl
 
 cross : shown (cross_query scale_six (counted ∷ sized ∷ []) crossed (table ∷ other ∷ [])) ≡ codes " SELECT \"a$0\" . \"area\" AS \"x'area\" , \"a$1\" . \"area\" AS \"y'area\" , \"a$0\" . \"people\" AS \"people\" , \"a$1\" . \"size\" AS \"size\" FROM \"A\" AS \"a$0\" CROSS JOIN \"B\" AS \"a$1\""
 cross = rw (digit 0 (omega arith), digit 1 (omega arith)) refl
+
+-- of a full join: the identifiers of all operands, each tuple of them once, and each operand joined with these
+abbrev keys : List (QueryTree × List ℕ)
+keys =
+    (keys_query scale_six counted (counted ∷ sized ∷ []) (table ∷ other ∷ []), codes " SELECT \"a\" . \"area\" AS \"area\" FROM \"A\" AS \"a\" UNION ALL SELECT \"a\" . \"area\" AS \"area\" FROM \"B\" AS \"a\"")
+    ∷ (once_query scale_six (key_structure counted) table, codes " SELECT \"a\" . \"area\" AS \"area\" FROM \"A\" AS \"a\" GROUP BY \"a\" . \"area\"")
+    ∷ []
+
+keys_are : map (λ e. shown e.0) keys ≡ map (λ e. e.1) keys
+keys_are = refl
+
+full : shown (full_query scale_six counted (counted ∷ sized ∷ []) both (table ∷ other ∷ []) (codes "K")) ≡ codes " SELECT \"a$0\" . \"area\" AS \"area\" , \"a$1\" . \"people\" AS \"people\" , \"a$2\" . \"size\" AS \"size\" FROM \"K\" AS \"a$0\" LEFT JOIN \"A\" AS \"a$1\" ON \"a$1\" . \"area\" = \"a$0\" . \"area\" LEFT JOIN \"B\" AS \"a$2\" ON \"a$2\" . \"area\" = \"a$0\" . \"area\""
+full = rw (digit 0 (omega arith), digit 1 (omega arith), digit 2 (omega arith)) refl
 
 -- ---- data sets without identifiers, which have one point at most
 
