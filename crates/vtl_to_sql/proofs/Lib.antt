@@ -37,6 +37,7 @@ pub mod Unpivots
 pub mod GroupItems
 pub mod Coded
 pub mod Pivots
+pub mod CodedTexts
 pub mod Nodes
 pub mod Statements
 pub mod WholeScript
@@ -53,3 +54,18 @@ pub mod SetQueries
 pub mod SetSteps
 pub mod Existences
 pub mod Examples
+pub mod AcceptedWords
+pub mod AcceptedOperators
+pub mod AcceptedClauses
+pub mod AcceptedSets
+pub mod AcceptedJoins
+pub mod AcceptedTyping
+pub mod AcceptedScripts
+pub mod AcceptedComponents
+pub mod AcceptedMarks
+pub mod AcceptedNames
+pub mod AcceptedTables
+pub mod AcceptedForms
+pub mod AcceptedNodes
+pub mod AcceptedReads
+pub mod Accepted

@@ -9,3 +9,4 @@ pub mod Conditions
 pub mod Means
 pub mod Exports
 pub mod Inputs
+pub mod Accepted

@@ -11,6 +11,7 @@
 mod laws;
 
 pub use laws::{
-    inputs_ask_for_data_sets, inputs_have_their_columns, scripts_are_translated,
-    scripts_are_translated_over_inputs, translated_scripts_are_lawful,
+    accepted_scripts_are_translated, inputs_ask_for_data_sets, inputs_have_their_columns,
+    scripts_are_translated, scripts_are_translated_over_inputs, tables_are_counted,
+    translated_scripts_are_lawful, what_is_evaluated_is_translated,
 };
