@@ -156,18 +156,17 @@ inner : shown (reference_query scale_six joining.Inner 0 (by_year ∷ counted �
     ≡ codes " SELECT \"a$0\" . \"area\" AS \"area\" , \"a$0\" . \"year\" AS \"year\" , \"a$0\" . \"people\" AS \"x'people\" , \"a$1\" . \"people\" AS \"y'people\" , \"a$2\" . \"size\" AS \"size\" FROM \"A\" AS \"a$0\" INNER JOIN \"B\" AS \"a$1\" ON \"a$1\" . \"area\" = \"a$0\" . \"area\" INNER JOIN \"C\" AS \"a$2\" ON \"a$2\" . \"area\" = \"a$0\" . \"area\""
 inner = rw (digit 0 (omega arith), digit 1 (omega arith), digit 2 (omega arith)) refl
 
--- a full join has two tables more: the identifiers of all operands, and each tuple of them once
-abbrev identifier_tables : List (QueryTree × List ℕ)
-identifier_tables =
+-- of a full join: the identifiers of all operands, each tuple of them once, and each operand joined with these
+abbrev keys : List (QueryTree × List ℕ)
+keys =
     (keys_query scale_six counted (counted ∷ sized ∷ []) (table ∷ other ∷ []), codes " SELECT \"a\" . \"area\" AS \"area\" FROM \"A\" AS \"a\" UNION ALL SELECT \"a\" . \"area\" AS \"area\" FROM \"B\" AS \"a\"")
-    ∷ (once_query scale_six (key_structure counted) (codes "R$1"), codes " SELECT \"a\" . \"area\" AS \"area\" FROM \"R$1\" AS \"a\" GROUP BY \"a\" . \"area\"")
+    ∷ (once_query scale_six (key_structure counted) table, codes " SELECT \"a\" . \"area\" AS \"area\" FROM \"A\" AS \"a\" GROUP BY \"a\" . \"area\"")
     ∷ []
 
-identifier_tables_are : map (λ e. shown e.0) identifier_tables ≡ map (λ e. e.1) identifier_tables
-identifier_tables_are = refl
+keys_are : map (λ e. shown e.0) keys ≡ map (λ e. e.1) keys
+keys_are = refl
 
-full : shown (full_query scale_six counted (counted ∷ sized ∷ []) (of_components (area ∷ people ∷ size ∷ [])) (table ∷ other ∷ []) (codes "R$2"))
-    ≡ codes " SELECT \"a$0\" . \"area\" AS \"area\" , \"a$1\" . \"people\" AS \"people\" , \"a$2\" . \"size\" AS \"size\" FROM \"R$2\" AS \"a$0\" LEFT JOIN \"A\" AS \"a$1\" ON \"a$1\" . \"area\" = \"a$0\" . \"area\" LEFT JOIN \"B\" AS \"a$2\" ON \"a$2\" . \"area\" = \"a$0\" . \"area\""
+full : shown (full_query scale_six counted (counted ∷ sized ∷ []) both (table ∷ other ∷ []) (codes "K")) ≡ codes " SELECT \"a$0\" . \"area\" AS \"area\" , \"a$1\" . \"people\" AS \"people\" , \"a$2\" . \"size\" AS \"size\" FROM \"K\" AS \"a$0\" LEFT JOIN \"A\" AS \"a$1\" ON \"a$1\" . \"area\" = \"a$0\" . \"area\" LEFT JOIN \"B\" AS \"a$2\" ON \"a$2\" . \"area\" = \"a$0\" . \"area\""
 full = rw (digit 0 (omega arith), digit 1 (omega arith), digit 2 (omega arith)) refl
 
 -- ---- data sets without identifiers, which have one point at most

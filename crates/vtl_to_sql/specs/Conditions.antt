@@ -76,7 +76,7 @@ abbrev mutual
   -- codes are texts
   IsFormTranslated p s (nodes.pivot a id m) = IsTranslated p a × (kind_named id (identifiers_of (structure_of a)) ≡ k.Text)
   IsFormTranslated p s (nodes.unpivot a id m) = IsTranslated p a
-  -- the other forms are not translated yet
+  -- the other forms have no meaning yet
   IsFormTranslated p s other = ⊥
 
   pub AreNodesTranslated : Settings → NodeTrees → Type 0

@@ -141,7 +141,7 @@ abbrev mutual
   made_of_form p r s (nodes.exists_in a b kept) n = over (and_then (sources_of p r a n) (sources_of p r b)) (with_two (existence_query p kept (structure_of a) (structure_of b) s))
   made_of_form p r s (nodes.pivot a id m) n = over (sources_of p r a n) (with_one (pivot_query p id m (structure_of a) s))
   made_of_form p r s (nodes.unpivot a id m) n = over (sources_of p r a n) (with_one (unpivot_query p (structure_of a) s))
-  -- no script that is translated holds another form yet
+  -- the other forms have no meaning yet, and no script that is translated holds one
   made_of_form p r s other n = record { tables = []; query = []; next = n }
 
   -- all operands of a join
