@@ -1,6 +1,4 @@
 -- What expressions on data sets are written as in SQL, each by computation. Between tokens stands a space.
-use Rattle.vtl_to_sql.specs.FullJoins.{full_query, key_structure, keys_query, once_query}
-use Rattle.vtl_to_sql.specs.Joins.{cross_query, reference_query}
 use Rattle.std.proofs.Common.{◌≡◌, ℕ, true, false, List, [], ◌∷◌, map, Some, None, refl, sym, ◌∙◌, arith, append-nil, ◌<◌, ◌+◌}
 use Rattle.std.specs.Prelude.{codes}
 use Rattle.std.specs.Fmt.{decimal}
@@ -25,6 +23,8 @@ use Rattle.sql_lexer.specs.Spelling.{spelled}
 use Rattle.sql_tree.specs.Printing.{written_query, written_statement}
 use Rattle.sql_tree.specs.Trees.{QueryTree, StatementTree}
 use Rattle.sql_tree.specs.declared.word_groups.JoinKind.TheVariants as joining
+use Rattle.vtl_to_sql.specs.FullJoins.{full_query, key_structure, keys_query, once_query}
+use Rattle.vtl_to_sql.specs.Joins.{cross_query, reference_query}
 use Rattle.vtl_to_sql.specs.Queries as q
 use Rattle.vtl_to_sql.specs.Turned as turned
 use Rattle.vtl_to_sql.specs.Scripts.{statements_for}
@@ -152,6 +152,10 @@ left = rw (digit 0 (omega arith), digit 1 (omega arith)) refl
 cross : shown (cross_query scale_six (counted ∷ sized ∷ []) crossed (table ∷ other ∷ [])) ≡ codes " SELECT \"a$0\" . \"area\" AS \"x'area\" , \"a$1\" . \"area\" AS \"y'area\" , \"a$0\" . \"people\" AS \"people\" , \"a$1\" . \"size\" AS \"size\" FROM \"A\" AS \"a$0\" CROSS JOIN \"B\" AS \"a$1\""
 cross = rw (digit 0 (omega arith), digit 1 (omega arith)) refl
 
+inner : shown (reference_query scale_six joining.Inner 0 (by_year ∷ counted ∷ sized ∷ []) (of_components (area ∷ year ∷ made (codes "x'people") role.Measure k.Int ∷ made (codes "y'people") role.Measure k.Int ∷ size ∷ [])) (table ∷ other ∷ codes "C" ∷ []))
+    ≡ codes " SELECT \"a$0\" . \"area\" AS \"area\" , \"a$0\" . \"year\" AS \"year\" , \"a$0\" . \"people\" AS \"x'people\" , \"a$1\" . \"people\" AS \"y'people\" , \"a$2\" . \"size\" AS \"size\" FROM \"A\" AS \"a$0\" INNER JOIN \"B\" AS \"a$1\" ON \"a$1\" . \"area\" = \"a$0\" . \"area\" INNER JOIN \"C\" AS \"a$2\" ON \"a$2\" . \"area\" = \"a$0\" . \"area\""
+inner = rw (digit 0 (omega arith), digit 1 (omega arith), digit 2 (omega arith)) refl
+
 -- of a full join: the identifiers of all operands, each tuple of them once, and each operand joined with these
 abbrev keys : List (QueryTree × List ℕ)
 keys =
@@ -174,6 +178,8 @@ abbrev without_identifiers : List (QueryTree × List ℕ)
 without_identifiers =
     (q.pair_query scale_six op.Add alone alone alone table other, codes " SELECT \"a\" . \"people\" + \"b\" . \"people\" AS \"people\" FROM \"A\" AS \"a\" INNER JOIN \"B\" AS \"b\" ON TRUE")
     ∷ (q.difference_query scale_six alone alone alone table other, codes " SELECT \"a\" . \"people\" AS \"people\" FROM \"A\" AS \"a\" WHERE NOT EXISTS ( SELECT 1 FROM \"B\" AS \"b\" )")
+    ∷ (keys_query scale_six alone (alone ∷ []) (table ∷ []), codes " SELECT TRUE AS \"there\" FROM \"A\" AS \"a\"")
+    ∷ (once_query scale_six (key_structure alone) (codes "R$1"), codes " SELECT \"a\" . \"there\" AS \"there\" FROM \"R$1\" AS \"a\" GROUP BY \"a\" . \"there\"")
     ∷ []
 
 without_identifiers_are : map (λ e. shown e.0) without_identifiers ≡ map (λ e. e.1) without_identifiers
