@@ -53,7 +53,7 @@ pub fn inputs_ask_for_data_sets()
     ensures taken { (e : List ℕ × Structure) (rows : List Row) → is_declarable e.1 ≡ true → AreAsked e.1 rows → IsInputData (input_of e) rows }
 {}
 
-/// A script that the checker accepted can be translated: one whose nodes are of the forms that are translated so far,
+/// A script that the checker accepted can be translated: one whose nodes are of the forms that are evaluated so far,
 /// whose constants are values that a program holds, and whose tables a program can number. It reads the declared data
 /// sets that its expressions name, and its statements are those that a back end runs.
 pub fn accepted_scripts_are_translated()

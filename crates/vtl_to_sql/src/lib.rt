@@ -4,7 +4,8 @@
 //! An expression on data sets is the tables of its operands and then one query. This crate decides which query that is,
 //! how tables are named, and in what order statements stand; how a component expression is written it leaves to
 //! `rules_to_sql`, and how a table is found to an engine.
-//! It knows definitions of both languages alone: no text, no file, and no program that runs either of them.
+//! It knows definitions of both languages alone: no text, no file, and no program that runs either of them. Only what
+//! it tells of accepted scripts knows the checker.
 //! Begin with specs/Queries.antt, Tables.antt and Scripts.antt, then Means.antt and src/laws.rt.
 #![tactic(auto)]
 
