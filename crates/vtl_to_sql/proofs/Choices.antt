@@ -1,19 +1,17 @@
 -- `if` on data sets is a union of two selects, each over a join with the condition's table.
 use Rattle.std.proofs.Common.{◌≡◌, ◌+◌, Bool, true, false, not, cond, List, [], ◌∷◌, ◌++◌, length, map, Option, Some, None, Ok, refl, ap, sym, ◌∙◌, subst, arith, append_assoc, append-nil}
-use Rattle.std.specs.Prelude.{IfOk, IsSome, option_map, zip}
+use Rattle.std.specs.Prelude.{IfOk, option_map}
 use Rattle.std.specs.List.{AllByRecursion, filter, flat_map}
 use Rattle.std.specs.Option.{option_to_list}
-use Rattle.std.proofs.lemmas.List.{get_or_append_left, get_or-append-add, length-map, map-append}
+use Rattle.std.proofs.lemmas.List.{get_or_append_left, get_or-append-add, map-append}
 use Rattle.vtl_cell.specs.Kinds.{is_of}
 use Rattle.vtl_cell.specs.Outcome.{Fault, after, fault_in, faults_by, unless}
-use Rattle.vtl_cell.specs.Outcomes.{Same, is_true}
+use Rattle.vtl_cell.specs.Outcomes.{is_true}
 use Rattle.vtl_cell.specs.Perm.{Perm, empty, chain}
 use Rattle.vtl_cell.specs.Row.{Row, column_of}
-use Rattle.vtl_cell.specs.ScalarKinds.{shared_kind}
 use Rattle.vtl_cell.specs.Settings.{Settings}
 use Rattle.vtl_cell.specs.declared.cell.Cell.{Cell}
 use Rattle.vtl_cell.specs.declared.cell.Cell.TheVariants as c
-use Rattle.vtl_cell.specs.declared.kind.Kind.{Kind}
 use Rattle.vtl_cell.specs.declared.kind.Kind.TheVariants as k
 use Rattle.vtl_cell.specs.declared.operator.ScalarOp.TheVariants as op
 use Rattle.vtl_cell.proofs.Perms.{Perm-append_back, Perm-append_comm, Perm-append_front, Perm-same}
@@ -33,29 +31,24 @@ use Rattle.vtl_meaning.specs.Operators.{choice_of, is_first_chosen, joined_point
 use Rattle.vtl_meaning.specs.Points.{beside, each_point, paired, partner, point_fault, point_of, with_points}
 use Rattle.vtl_meaning.proofs.Kept.{column_front, column_within}
 use Rattle.vtl_meaning.proofs.OwnColumns.{columns_apart}
-use Rattle.vtl_meaning.proofs.Places.{all_append, columns_split, point_length, same_name-refl}
+use Rattle.vtl_meaning.proofs.Places.{columns_split, point_length}
 use Rattle.vtl_meaning.proofs.ValueKinds.{cell_is_of}
-use Rattle.sql_tree.specs.Formed.{IsName, IsSelect}
-use Rattle.sql_tree.specs.Trees.{SelectTree, Text}
-use Rattle.sql_check_laws.specs.Selects.{IsColumnKind, IsSelectTyped}
-use Rattle.sql_check_parts.specs.Queries.{most_columns, query_columns}
-use Rattle.sql_check_parts.specs.Queries as queries
-use Rattle.sql_check_parts.specs.Scopes.{or_null}
-use Rattle.sql_meaning.specs.Scripts.{Data, base_of, tables_in}
-use Rattle.sql_meaning.specs.Selects.{appended, query_value, select_value}
-use Rattle.sql_meaning.specs.Tables.{kinds_of}
-use Rattle.rules_to_sql.specs.ToSql.{Naming}
+use Rattle.sql_tree.specs.Formed.{IsName}
+use Rattle.sql_tree.specs.Trees.{Text}
+use Rattle.sql_meaning.specs.Scripts.{Data}
 use Rattle.vtl_to_sql.specs.Conditions.{AllCanBeWritten, HaveNames}
-use Rattle.vtl_to_sql.specs.Means.{IsQueryFor, Means}
-use Rattle.vtl_to_sql.specs.Queries.{choose_query, chosen_exps, chosen_select, first_alias, is_chosen, is_not_chosen, name_of_first, of_two, source_as}
-use Rattle.vtl_to_sql.specs.Runs.{IsTable, entries, printable_depth}
+use Rattle.vtl_to_sql.specs.Means.{Means}
+use Rattle.vtl_to_sql.specs.Queries.{choose_query, chosen_exps, chosen_select, is_chosen, is_not_chosen, name_of_first}
+use Rattle.vtl_to_sql.specs.Runs.{IsTable}
 use Rattle.vtl_to_sql.proofs.Expressions.{Translates}
+use Rattle.vtl_to_sql.proofs.Exact.{means_by}
+use Rattle.vtl_to_sql.proofs.Givens.{AreGiven, kinds_in}
+use Rattle.vtl_to_sql.proofs.SelectItems.{GivesRows, gives_same}
+use Rattle.vtl_to_sql.proofs.Selects.{IsTest}
+use Rattle.vtl_to_sql.proofs.Unions.{union_there}
 use Rattle.vtl_to_sql.proofs.Identifiers.{AreIdentifiersAt, IsIdentifierAt, identifiers_there, own_there}
 use Rattle.vtl_to_sql.proofs.OneOperand.{kind_at}
-use Rattle.vtl_to_sql.proofs.Pairs.{column_later, first_typed, joins, joins_printed, joins_typed, names, points, rows_where, scope, scope_is}
-use Rattle.vtl_to_sql.proofs.SelectForms.{AreGiven, IsTest, no_null, select_printed, select_typed}
-use Rattle.vtl_to_sql.proofs.SelectRows.{columns_zipped, item_names, kinds_in, kinds_of_entries, select_kinds, select_value_is}
-use Rattle.vtl_to_sql.proofs.Sources.{first_is_name, two_formed}
+use Rattle.vtl_to_sql.proofs.Pairs.{column_later, pairs_give, points, rows_where}
 
 -- ---- lists
 
@@ -231,92 +224,10 @@ module _ (p : Settings) (law : Translates p) (before : Data) (x y : Text) (t o s
         go None = AllByRecursion-filter (λ q. is_point all_columns q ≡ true) (λ r. is_true (value p e r)) pairs (points p law before x y t o s tests d there here named nt no_ set other ours es typed written)
         go (Some g) = tt
 
-    abbrev pub select : SelectTree
-    select = chosen_select p e t o s x y
-
-    abbrev at : Naming
-    at = of_two (length (columns_of t))
-
-    pub picked_rows : select_value (base_of p before) (kinds_in (columns_of s)) select ≡ Ok (flat_map picked tests)
-    picked_rows =
-        select_value_is (base_of p before) law at all_columns es s typed written (source_as first_alias x) (joins p law before x y t o s tests d there here named nt no_ set other ours es typed written) (Some e) (scope p law before x y t o s tests d there here named nt no_ set other ours es typed written) (scope_is p law before x y t o s tests d there here named nt no_ set other ours es typed written (Some e)) (names p law before x y t o s tests d there here named nt no_ set other ours es typed written)
-        (filter_of p e pairs) (rows_where p law before x y t o s tests d there here named nt no_ set other ours es typed written e condition.0 condition.2) all_points
-        ∙ kept_is
-
-    pub picked_kinds : queries.kinds_of (tables_in before) select ≡ kinds_in (columns_of s)
-    picked_kinds = select_kinds (base_of p before) law at all_columns es s typed written (source_as first_alias x) (joins p law before x y t o s tests d there here named nt no_ set other ours es typed written) (Some e) (scope p law before x y t o s tests d there here named nt no_ set other ours es typed written) (scope_is p law before x y t o s tests d there here named nt no_ set other ours es typed written (Some e)) (names p law before x y t o s tests d there here named nt no_ set other ours es typed written)
-
-    pub picked_names : queries.names_of select ≡ names_of (columns_of s)
-    picked_names = item_names p at all_columns es (columns_of s) typed
-
-    pub picked_typed : AreGiven (columns_of s) → IsSelectTyped p (tables_in before) select
-    picked_typed given = select_typed p law (tables_in before) at all_columns es s typed written given (source_as first_alias x) (joins p law before x y t o s tests d there here named nt no_ set other ours es typed written) (Some e) condition (scope p law before x y t o s tests d there here named nt no_ set other ours es typed written) (scope_is p law before x y t o s tests d there here named nt no_ set other ours es typed written (Some e)) (names p law before x y t o s tests d there here named nt no_ set other ours es typed written) (first_typed p law before x y t o s tests d there here named nt no_ set other ours es typed written) (joins_typed p law before x y t o s tests d there here named nt no_ set other ours es typed written (Some e))
-
-    pub picked_printed : AreGiven (columns_of s) → IsSelect printable_depth select
-    picked_printed given = (select_printed p law (tables_in before) at all_columns es s typed written given (source_as first_alias x) (joins p law before x y t o s tests d there here named nt no_ set other ours es typed written) (Some e) condition (two_formed (length (columns_of t)) all_columns (all_append (λ z. IsName z.name) (columns_of t) (columns_of o) nt no_)) (named.0, first_is_name) (joins_printed p law before x y t o s tests d there here named nt no_ set other ours es typed written)).1.0
-
--- ---- two selects of the same columns
-
-shared_same : (kind : Kind) → shared_kind kind kind ≡ Some kind
-shared_same k.Null = refl
-shared_same k.Bool = refl
-shared_same k.Int = refl
-shared_same k.Num = refl
-shared_same k.Text = refl
-shared_same k.Day = refl
-shared_same k.Period = refl
-
-shared_kinds_same : (ks : List Kind) → queries.beside (map Some ks) ks ≡ map Some ks
-shared_kinds_same [] = refl
-shared_kinds_same (q ∷ ks) = ap (λ o. o ∷ queries.beside (map Some ks) ks) (shared_same q) ∙ ap (λ l. Some q ∷ l) (shared_kinds_same ks)
-
-all_known : (ks : List Kind) → AllByRecursion IsSome (map Some ks)
-all_known [] = tt
-all_known (q ∷ ks) = (refl, all_known ks)
-
-names_agree : (ns : List Text) → queries.same_names ns ns ≡ true
-names_agree [] = refl
-names_agree (n ∷ ns) = rw (same_name-refl n) (names_agree ns)
-
-module _ (p : Settings) (before : Data) (s : Structure) (q u : SelectTree) (nq : queries.names_of q ≡ names_of (columns_of s)) (nu : queries.names_of u ≡ names_of (columns_of s)) (kq : queries.kinds_of (tables_in before) q ≡ kinds_in (columns_of s)) (ku : queries.kinds_of (tables_in before) u ≡ kinds_in (columns_of s)) where
-  shared : queries.shared_kinds (tables_in before) (q ∷ u ∷ []) ≡ map Some (kinds_in (columns_of s))
-  shared =
-      ap (λ ks. queries.beside (map Some ks) (queries.kinds_of (tables_in before) u)) kq
-      ∙ ap (queries.beside (map Some (kinds_in (columns_of s)))) ku
-      ∙ shared_kinds_same (kinds_in (columns_of s))
-
-  pub union_columns : query_columns (tables_in before) (q ∷ u ∷ []) ≡ entries (columns_of s)
-  union_columns =
-      ap (λ ns. zip ns (map or_null (queries.shared_kinds (tables_in before) (q ∷ u ∷ [])))) nq
-      ∙ ap (λ os. zip (names_of (columns_of s)) (map or_null os)) shared
-      ∙ columns_zipped (columns_of s)
-
-  pub union_rows : (d e : List Row) → select_value (base_of p before) (kinds_in (columns_of s)) q ≡ Ok d → select_value (base_of p before) (kinds_in (columns_of s)) u ≡ Ok e → query_value (base_of p before) (q ∷ u ∷ []) ≡ Ok (d ++ e)
-  union_rows d e h i =
-      ap (λ cs. appended (select_value (base_of p before) (kinds_of cs) q ∷ select_value (base_of p before) (kinds_of cs) u ∷ [])) union_columns
-      ∙ ap (λ ks. appended (select_value (base_of p before) ks q ∷ select_value (base_of p before) ks u ∷ [])) (kinds_of_entries (columns_of s))
-      ∙ ap (λ m. appended (m ∷ select_value (base_of p before) (kinds_in (columns_of s)) u ∷ [])) h
-      ∙ ap (λ m. appended (Ok d ∷ m ∷ [])) i
-      ∙ ap (λ l. Ok (d ++ l)) (append-nil e)
-
-  pub union_for : AreGiven (columns_of s) → IsSelectTyped p (tables_in before) q → IsSelectTyped p (tables_in before) u → IsSelect printable_depth q → IsSelect printable_depth u → IsQueryFor p (tables_in before) s (q ∷ u ∷ [])
-  union_for given tq tu fq fu =
-      let alike = names_agree (names_of (columns_of s)) in
-      let size = ap length nq ∙ length-map (columns_of s) (λ z. z.name) in
-      let few = given.few in
-      record {
-        columns = union_columns;
-        typed = (
-          record {
-            selects = (tq, (tu, tt));
-            names = (rw nq alike, (rw nq (rw nu alike), tt));
-            kinds = subst (AllByRecursion IsSome) (sym shared) (all_known (kinds_in (columns_of s)));
-            few = omega (arith, size, few);
-          },
-          subst (AllByRecursion IsColumnKind) (sym shared) (no_null (columns_of s) given.kinds),
-        );
-        printed = (omega arith, (fq, (fu, tt)));
-      }
+    pub picked_give : AreGiven (columns_of s) → GivesRows p before s (chosen_select p e t o s x y) (Ok (flat_map picked tests))
+    picked_give given =
+        gives_same p before s (chosen_select p e t o s x y) (after (filter_of p e pairs) (each_point p es)) (Ok (flat_map picked tests)) kept_is
+        (pairs_give p law before x y t o s tests d there here named nt no_ set other ours es typed written given (Some e) condition (filter_of p e pairs) (rows_where p law before x y t o s tests d there here named nt no_ set other ours es typed written e condition.0 condition.2) all_points)
 
 -- ---- the condition's measure
 
@@ -370,28 +281,12 @@ module _ (p : Settings) (law : Translates p) (before : Data) (x y z : Text) (t a
       let both = denied p (column_of (key_width t) r) kind in
       subst (λ v. (is_true (called p k.Bool (Ok v ∷ Ok (c.Bool false) ∷ Ok (c.Bool true) ∷ []) op.If) ≡ not (is_first_chosen t r)) × (fault_in (called p k.Bool (Ok v ∷ Ok (c.Bool false) ∷ Ok (c.Bool true) ∷ []) op.If) ≡ None)) (sym (cell_same r q w)) both
 
-  abbrev q : SelectTree
-  q = chosen_select p (is_chosen t) t a s x y
-
-  abbrev u : SelectTree
-  u = chosen_select p (is_not_chosen t) t b s x z
-
   pub choose_means : AreGiven (columns_of s) → Means p before (choose_query p t a b s x y z) s (Ok (choice_of (with_points t tests) (with_points a d) (with_points b e) s))
   choose_means given =
-      let nq = picked_names p law before x y t a s tests d tx ty (nx, ny) nt na st sa i.first i.identifiers i.no_attributes (is_chosen t) (is_first_chosen t) (is_test a) calm in
-      let nu = picked_names p law before x z t b s tests e tx tz (nx, nz) nt nb st sb i.second i.identifiers i.no_attributes (is_not_chosen t) (λ r. not (is_first_chosen t r)) (is_contrary b) calm_contrary in
-      let kq = picked_kinds p law before x y t a s tests d tx ty (nx, ny) nt na st sa i.first i.identifiers i.no_attributes (is_chosen t) (is_first_chosen t) (is_test a) calm in
-      let ku = picked_kinds p law before x z t b s tests e tx tz (nx, nz) nt nb st sb i.second i.identifiers i.no_attributes (is_not_chosen t) (λ r. not (is_first_chosen t r)) (is_contrary b) calm_contrary in
-      let tq = picked_typed p law before x y t a s tests d tx ty (nx, ny) nt na st sa i.first i.identifiers i.no_attributes (is_chosen t) (is_first_chosen t) (is_test a) calm given in
-      let tu = picked_typed p law before x z t b s tests e tx tz (nx, nz) nt nb st sb i.second i.identifiers i.no_attributes (is_not_chosen t) (λ r. not (is_first_chosen t r)) (is_contrary b) calm_contrary given in
-      let fq = picked_printed p law before x y t a s tests d tx ty (nx, ny) nt na st sa i.first i.identifiers i.no_attributes (is_chosen t) (is_first_chosen t) (is_test a) calm given in
-      let fu = picked_printed p law before x z t b s tests e tx tz (nx, nz) nt nb st sb i.second i.identifiers i.no_attributes (is_not_chosen t) (λ r. not (is_first_chosen t r)) (is_contrary b) calm_contrary given in
-      let rows = union_rows p before s q u nq nu kq ku (flat_map first tests) (flat_map second tests)
-      (picked_rows p law before x y t a s tests d tx ty (nx, ny) nt na st sa i.first i.identifiers i.no_attributes (is_chosen t) (is_first_chosen t) (is_test a) calm)
-      (picked_rows p law before x z t b s tests e tx tz (nx, nz) nt nb st sb i.second i.identifiers i.no_attributes (is_not_chosen t) (λ r. not (is_first_chosen t r)) (is_contrary b) calm_contrary) in
+      let one = picked_give p law before x y t a s tests d tx ty (nx, ny) nt na st sa i.first i.identifiers i.no_attributes (is_chosen t) (is_first_chosen t) (is_test a) calm given in
+      let two = picked_give p law before x z t b s tests e tx tz (nx, nz) nt nb st sb i.second i.identifiers i.no_attributes (is_not_chosen t) (λ r. not (is_first_chosen t r)) (is_contrary b) calm_contrary given in
+      let union = union_there p before s given (chosen_select p (is_chosen t) t a s x y) (chosen_select p (is_not_chosen t) t b s x z ∷ []) (flat_map first tests) (flat_map second tests ∷ []) (one, (two, tt)) in
       let choice = choice_of (with_points t tests) (with_points a d) (with_points b e) s in
-      record {
-        query = union_for p before s q u nq nu kq ku given tq tu fq fu;
-        rows = subst (λ m. Same m (Ok choice)) (sym rows)
-            (chain (split_walk first second tests) (Perm-same (flat_map (λ r. first r ++ second r) tests) choice (same_walk (λ r. first r ++ second r) (taken_at t (with_points a d) (with_points b e) s) (λ r. taken r (is_first_chosen t r)) tests)));
-      }
+      let last : flat_map first tests ++ (flat_map second tests ++ []) ≡ flat_map first tests ++ flat_map second tests = ap (λ l. flat_map first tests ++ l) (append-nil (flat_map second tests)) in
+      means_by p before (choose_query p t a b s x y z) s (Ok (flat_map first tests ++ (flat_map second tests ++ []))) (Ok choice)
+      (chain (Perm-same (flat_map first tests ++ (flat_map second tests ++ [])) (flat_map first tests ++ flat_map second tests) last) (chain (split_walk first second tests) (Perm-same (flat_map (λ r. first r ++ second r) tests) choice (same_walk (λ r. first r ++ second r) (taken_at t (with_points a d) (with_points b e) s) (λ r. taken r (is_first_chosen t r)) tests)))) union

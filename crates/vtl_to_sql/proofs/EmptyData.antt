@@ -1,24 +1,30 @@
 -- Over data sets without points no expression has a fault.
+use Rattle.vtl_cell.specs.Row.{Row, same_key}
 use Rattle.std.proofs.Common.{◌≡◌, ℕ, Bool, true, false, cond, List, [], ◌∷◌, map, Some, Ok, refl, ap, ◌∙◌}
-use Rattle.std.specs.List.{AllByRecursion}
+use Rattle.std.specs.List.{AllByRecursion, flat_map}
 use Rattle.std.specs.Option.{option_map_or}
-use Rattle.vtl_cell.specs.Outcome.{after}
+use Rattle.vtl_cell.specs.Outcome.{Outcome, after}
 use Rattle.vtl_cell.specs.Perm.{empty}
 use Rattle.vtl_cell.specs.Settings.{Settings}
 use Rattle.vtl_tree.specs.Clauses.{filter_of}
 use Rattle.vtl_tree.specs.CompExp.{CompExp}
-use Rattle.vtl_tree.specs.Environment.{Environment, data_of}
-use Rattle.vtl_tree.specs.Structure.{IsStructure, same_name}
+use Rattle.vtl_tree.specs.Environment.{Environment, data_of, DataSet}
+use Rattle.vtl_tree.specs.Structure.{IsStructure, key_width, same_name}
 use Rattle.vtl_tree.specs.Structures.{Named}
 use Rattle.vtl_tree.specs.declared.structure.Structure.{Structure}
+use Rattle.vtl_tuples.specs.Keys.{each_once}
 use Rattle.check_shapes.specs.Pairs.{contains}
-use Rattle.vtl_meaning.specs.Meaning.{AreDataSets, Outputs, Statement, form_value, kept_output, known_in, meaning, node_value, points_named, stated, with_operand}
+use Rattle.vtl_meaning.specs.Joined.{join_of}
+use Rattle.vtl_meaning.specs.Meaning.{AreDataSets, operands_value, Outputs, Statement, form_value, kept_output, known_in, meaning, node_value, nodes_value, points_named, stated, with_first, with_operand}
 use Rattle.vtl_meaning.specs.Operators.{calculated_of, choice_of, left_of, measured_of, pair_exps, pair_of, sub_of}
 use Rattle.vtl_meaning.specs.Points.{each_point, with_points}
+use Rattle.vtl_meaning.specs.Sets.{all_left_of, difference_of, intersection_of, symmetric_difference_of, union_of, existence_of}
+use Rattle.vtl_meaning.specs.Turned.{pivot_of, unpivot_of}
 use Rattle.vtl_meaning.specs.Trees as nodes
-use Rattle.vtl_meaning.specs.Trees.{FormTree, NodeTree, structure_of}
-use Rattle.vtl_to_sql.specs.Conditions.{IsFormTranslated, IsTranslated}
+use Rattle.vtl_meaning.specs.Trees.{FormTree, NodeTree, NodeTrees, OperandTrees, structure_of}
+use Rattle.vtl_to_sql.specs.Conditions.{AreNodesTranslated, AreOperandsTranslated, IsFormTranslated, IsTranslated}
 use Rattle.vtl_to_sql.specs.Exports.{AreRead}
+use Rattle.vtl_to_sql.proofs.EmptyJoins.{empty_joined, joined_empty, none_joined}
 
 abbrev pub AreEmpty : Environment → Type 0
 AreEmpty env = AllByRecursion (λ d. d.1.points ≡ []) env
@@ -45,6 +51,12 @@ empty_read (e ∷ es) = (empty, empty_read es)
 
 -- ---- expressions
 
+abbrev no_rows : List Row
+no_rows = []
+
+abbrev no_outcome : Outcome (List Row)
+no_outcome = Ok []
+
 named_empty : (x : List ℕ) (env : Environment) → AreEmpty env → points_named x env ≡ []
 named_empty x [] h = refl
 named_empty x (d ∷ ds) h = go (same_name d.0 x) (named_empty x ds h.1)
@@ -56,6 +68,19 @@ named_empty x (d ∷ ds) h = go (same_name d.0 x) (named_empty x ds h.1)
 no_pairs : (p : Settings) (es : List CompExp) (b : Bool) → each_point p es (cond b [] []) ≡ Ok []
 no_pairs p es true = refl
 no_pairs p es false = refl
+
+-- operands without points
+abbrev empty_operands : NodeTrees → List DataSet
+empty_operands nodes.no_nodes = []
+empty_operands (nodes.and_node n ns) = with_points (structure_of n) [] ∷ empty_operands ns
+
+no_points : (ns : NodeTrees) (s : Structure) → flat_map (λ d. d) (all_left_of (empty_operands ns) s) ≡ no_rows
+no_points nodes.no_nodes s = refl
+no_points (nodes.and_node n ns) s = no_points ns s
+
+no_common : (ns : NodeTrees) (s : Structure) → (Ok (intersection_of (empty_operands ns) s)) ≡ no_outcome
+no_common nodes.no_nodes s = refl
+no_common (nodes.and_node n ns) s = refl
 
 module _ (p : Settings) (env : Environment) (h : AreEmpty env) where
   mutual
@@ -80,7 +105,29 @@ module _ (p : Settings) (env : Environment) (h : AreEmpty env) where
     form_empty s (nodes.drop_named a ns) c = ap (λ v. with_operand a v (λ d. Ok (left_of d s))) (node_empty a c)
     form_empty s (nodes.rename a pairs) c = node_empty a c
     form_empty s (nodes.sub a items) c = ap (λ v. with_operand a v (λ d. Ok (sub_of items d s))) (node_empty a c.0)
+    form_empty s (nodes.join os spec) c = ap (λ o. after o (λ ds. Ok (join_of spec.kind ds))) (operands_empty os c.0) ∙ ap Ok (none_joined spec.kind (empty_joined os) (joined_empty os))
+    form_empty s (nodes.union ns) c = ap (λ o. after o (λ ds. Ok (union_of ds s))) (nodes_empty ns c) ∙ ap (λ l. Ok (each_once (same_key (key_width s)) l)) (no_points ns s)
+    form_empty s (nodes.intersect ns) c = ap (λ o. after o (λ ds. Ok (intersection_of ds s))) (nodes_empty ns c) ∙ no_common ns s
+    form_empty s (nodes.set_diff a b) c =
+        ap (λ v. with_operand a v (λ d. with_operand b (node_value p env b) (λ e. Ok (difference_of d e s)))) (node_empty a c.0)
+        ∙ ap (λ v. with_operand b v (λ e. Ok (difference_of (with_points (structure_of a) []) e s))) (node_empty b c.1)
+    form_empty s (nodes.sym_diff a b) c =
+        ap (λ v. with_operand a v (λ d. with_operand b (node_value p env b) (λ e. Ok (symmetric_difference_of d e s)))) (node_empty a c.0)
+        ∙ ap (λ v. with_operand b v (λ e. Ok (symmetric_difference_of (with_points (structure_of a) []) e s))) (node_empty b c.1)
+    form_empty s (nodes.exists_in a b kept) c =
+        ap (λ v. with_operand a v (λ d. with_operand b (node_value p env b) (λ e. Ok (existence_of d e kept)))) (node_empty a c.0)
+        ∙ ap (λ v. with_operand b v (λ e. Ok (existence_of (with_points (structure_of a) []) e kept))) (node_empty b c.1)
+    form_empty s (nodes.pivot a id m) c = ap (λ v. with_operand a v (λ d. Ok (pivot_of d id m))) (node_empty a c.0)
+    form_empty s (nodes.unpivot a id m) c = ap (λ v. with_operand a v (λ d. Ok (unpivot_of d))) (node_empty a c)
     form_empty s other c = absurd c
+
+    nodes_empty : (ns : NodeTrees) → AreNodesTranslated p ns → nodes_value p env ns ≡ Ok (empty_operands ns)
+    nodes_empty nodes.no_nodes c = refl
+    nodes_empty (nodes.and_node n ns) c = ap (λ v. with_first n v (nodes_value p env ns)) (node_empty n c.0) ∙ ap (with_first n (Ok [])) (nodes_empty ns c.1)
+
+    operands_empty : (os : OperandTrees) → AreOperandsTranslated p os → operands_value p env os ≡ Ok (empty_joined os)
+    operands_empty nodes.no_operands c = refl
+    operands_empty (nodes.operand n alias os) c = ap (λ v. with_first n v (operands_value p env os)) (node_empty n c.0) ∙ ap (with_first n (Ok [])) (operands_empty os c.1)
 
 -- ---- statements
 

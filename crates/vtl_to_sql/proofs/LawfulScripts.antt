@@ -45,7 +45,7 @@ use Rattle.vtl_to_sql.proofs.EmptyData.{empty_are_sets, empty_empty, empty_known
 use Rattle.vtl_to_sql.proofs.Names.{word_is_name}
 use Rattle.vtl_to_sql.proofs.Nodes.{names_in}
 use Rattle.vtl_to_sql.proofs.Running.{columns_there, given_is}
-use Rattle.vtl_to_sql.proofs.SelectForms.{columns_count, each_column}
+use Rattle.vtl_to_sql.proofs.Givens.{columns_count, each_column}
 use Rattle.vtl_to_sql.proofs.TranslatedScripts.{all_apart_from, all_translated, tables_give}
 use Rattle.vtl_to_sql.proofs.TypedScripts.{IsReadable, IsWritten, all_readable, creates_fit, creates_give, exports_fit, giving, inputs_fit, inputs_give}
 use Rattle.vtl_to_sql.proofs.WholeScript.{scale_read, set_is, written_are}

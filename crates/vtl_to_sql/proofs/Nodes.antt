@@ -1,38 +1,60 @@
 -- The tables of an expression on data sets mean it.
-use Rattle.std.proofs.Common.{◌≡◌, ◌+◌, ◌<◌, ◌^◌, ℕ, true, ◌&&◌, List, [], ◌∷◌, ◌++◌, length, Ok, Err, refl, sym, subst, arith, append-nil, length-append}
+use Rattle.vtl_to_sql.proofs.Existences.{existence_means}
+use Rattle.vtl_meaning.proofs.SetsOrders.{existence_order}
+use Rattle.sql_tree.specs.Formed.{IsName}
+use Rattle.std.proofs.Common.{◌≡◌, ◌+◌, ◌<◌, ◌^◌, ℕ, true, ◌&&◌, List, [], ◌∷◌, ◌++◌, length, Ok, Err, refl, sym, subst, arith, append-nil, length-append, ap, ◌≤◌}
+use Rattle.std.specs.Prelude.{fold}
+use Rattle.std.specs.List.{AllByRecursion}
 use Rattle.std.proofs.lemmas.Bool.{and_from}
+use Rattle.std.proofs.lemmas.List.{length-map}
 use Rattle.vtl_cell.specs.Outcome.{Outcome, after}
 use Rattle.vtl_cell.specs.Row.{Row}
 use Rattle.vtl_cell.specs.Settings.{Settings}
 use Rattle.vtl_cell.specs.Words.{is_word}
+use Rattle.vtl_rows.specs.Tables.{cells_at}
 use Rattle.vtl_tree.specs.Clauses.{filter_of}
-use Rattle.vtl_tree.specs.DataSet.{IsDataSet}
-use Rattle.vtl_tree.specs.Environment.{Environment}
-use Rattle.vtl_tree.specs.Structure.{columns_of}
+use Rattle.vtl_tree.specs.DataSet.{IsDataSet, is_point}
+use Rattle.vtl_tree.specs.Environment.{DataSet, Environment}
+use Rattle.vtl_tree.specs.Structure.{columns_of, IsStructure, key_width}
 use Rattle.vtl_tree.specs.declared.structure.Structure.{Structure}
-use Rattle.vtl_meaning.specs.Made.{IsLeft, IsMade, IsMadeForm}
-use Rattle.vtl_meaning.specs.Meaning.{AreDataSets, form_value, is_built, is_built_form, known_in, node_value, points_named}
+use Rattle.vtl_meaning.specs.Columns.{identifiers_of, measures_of, others_of, places_in}
+use Rattle.check_joins.specs.Joins as joins
+use Rattle.vtl_meaning.specs.Made.{AreMade, AreMadeOperands, IsAlternative, IsLeft, IsMade, IsMadeForm, node_structures, operands_in}
+use Rattle.vtl_meaning.specs.Meaning.{AreDataSets, are_nodes_built, are_operands_built, operands_value, form_value, is_built, is_built_form, known_in, node_value, nodes_value, points_named, with_first}
 use Rattle.vtl_meaning.specs.Operators.{calculated_exps, calculated_of, choice_of, left_of, measured_exps, measured_of, pair_of, sub_of}
 use Rattle.vtl_meaning.specs.Points.{with_points}
+use Rattle.vtl_meaning.specs.Sets.{all_left_of, either_only, intersected, intersection_of, reduced, union_of, united, existence_of}
 use Rattle.vtl_meaning.specs.Shapes.{IsShaped}
 use Rattle.vtl_meaning.specs.Trees as nodes
-use Rattle.vtl_meaning.specs.Trees.{FormTree, NodeTree, structure_of}
+use Rattle.vtl_meaning.specs.Trees.{FormTree, NodeTree, NodeTrees, OperandTrees, structure_of}
+use Rattle.vtl_meaning.specs.Turned.{pivot_of, unpivot_of}
 use Rattle.vtl_meaning.proofs.Orders.{choice_respects, each_respects, filtered_respects, pair_respects, shown_respects, sub_respects}
-use Rattle.vtl_meaning.proofs.ScriptsKept.{node_kept}
-use Rattle.sql_tree.specs.Trees.{Text}
+use Rattle.vtl_meaning.proofs.OwnColumns.{own_identifiers, own_measures}
+use Rattle.vtl_meaning.proofs.Places.{all_front, all_more, columns_split}
+use Rattle.vtl_meaning.proofs.ScriptsKept.{node_kept, operands_kept}
+use Rattle.vtl_meaning.proofs.SetsFolds.{each_own, own_cells}
+use Rattle.vtl_meaning.proofs.SetsKept.{shown_kept}
+use Rattle.sql_tree.specs.Trees.{QueryTree, Text}
 use Rattle.sql_meaning.specs.Scripts.{Data}
-use Rattle.vtl_to_sql.specs.Conditions.{HaveNames, IsFormTranslated, IsTranslated}
-use Rattle.vtl_to_sql.specs.Means.{AreEarlier, Means, NodeGives, SourcesGive, Stands, StandsAs}
-use Rattle.vtl_to_sql.specs.Queries.{calc_query, choose_query, copy_query, filter_query, left_query, measures_query, pair_query, rename_query, sub_query}
-use Rattle.vtl_to_sql.specs.Tables.{and_then, made_of, made_of_form, numbered, over, source_of, sources_of, table_of, with_one}
+use Rattle.vtl_to_sql.specs.Conditions.{AreNodesTranslated, AreOperandsTranslated, HaveNames, IsFormTranslated, IsTranslated}
+use Rattle.vtl_to_sql.specs.Means.{AreEarlier, Means, NodeGives, SourcesGive, Stands, StandsAs, Extends}
+use Rattle.vtl_to_sql.specs.Queries.{calc_query, choose_query, copy_query, filter_query, left_query, measures_query, pair_query, rename_query, shown_query, sub_query, union_query, intersection_query, difference_query, symmetric_difference_query, existence_query}
+use Rattle.vtl_to_sql.specs.Tables.{Sources, and_then, combined_of, made_of, made_of_form, numbered, operands_of, over, source_of, sources_of, table_of, with_one, with_two, stored}
+use Rattle.vtl_meaning.proofs.TurnedOrders.{pivot_order, unpivot_order}
+use Rattle.vtl_to_sql.specs.Turned.{pivot_query, unpivot_query}
 use Rattle.vtl_to_sql.proofs.Choices.{choose_means}
 use Rattle.vtl_to_sql.proofs.Composition.{all_earlier, all_stand_still, alone, beside_gives, no_tables, one_gives, stored_gives, three_gives, together, two_gives}
 use Rattle.vtl_to_sql.proofs.Exact.{means_by, means_turned, set_turned}
 use Rattle.vtl_to_sql.proofs.Expressions.{Translates}
-use Rattle.vtl_to_sql.proofs.OneOperand.{calc_means, copy_means, filter_means, left_means, measures_mean, rename_means}
-use Rattle.vtl_to_sql.proofs.SelectForms.{AreGiven, columns_given}
+use Rattle.vtl_to_sql.proofs.OneOperand.{calc_means, copy_means, filter_means, left_means, measures_mean, rename_means, same_functions}
+use Rattle.vtl_to_sql.proofs.SetQueries.{IsShown, shown_means}
+use Rattle.vtl_to_sql.proofs.SetSteps.{IsStep, difference_step, intersection_step, intersections_fold, symmetric_difference_step, union_step, unions_fold}
+use Rattle.vtl_to_sql.proofs.Givens.{AreGiven, columns_given}
+use Rattle.vtl_to_sql.proofs.Joins.{join_gives, operands_first}
+use Rattle.vtl_to_sql.proofs.Pivots.{pivot_means}
 use Rattle.vtl_to_sql.proofs.Subs.{sub_means}
 use Rattle.vtl_to_sql.proofs.TwoOperands.{pair_means}
+use Rattle.vtl_to_sql.proofs.Unpivots.{unpivot_means}
 
 -- ---- what is translated is evaluated, and its columns have names
 
@@ -55,16 +77,93 @@ mutual
   form_built p s (nodes.drop_named a ns) c = translated_built p a c
   form_built p s (nodes.rename a pairs) c = translated_built p a c
   form_built p s (nodes.sub a items) c = translated_built p a c.0
+  form_built p s (nodes.join os spec) c = operands_built p os c.0
+  form_built p s (nodes.union ns) c = nodes_built p ns c
+  form_built p s (nodes.intersect ns) c = nodes_built p ns c
+  form_built p s (nodes.set_diff a b) c = and_from (is_built a) (is_built b) (translated_built p a c.0) (translated_built p b c.1)
+  form_built p s (nodes.sym_diff a b) c = and_from (is_built a) (is_built b) (translated_built p a c.0) (translated_built p b c.1)
+  form_built p s (nodes.exists_in a b kept) c = and_from (is_built a) (is_built b) (translated_built p a c.0) (translated_built p b c.1)
+  form_built p s (nodes.pivot a id q) c = translated_built p a c.0
+  form_built p s (nodes.unpivot a id q) c = translated_built p a c
   form_built p s other c = absurd c
 
-shaped_in : (p : Settings) (env : Environment) (n : NodeTree) → IsMade p (known_in env) n → IsShaped (structure_of n)
-shaped_in p env (nodes.node s form) i = i.0
+  nodes_built : (p : Settings) (ns : NodeTrees) → AreNodesTranslated p ns → are_nodes_built ns ≡ true
+  nodes_built p nodes.no_nodes c = refl
+  nodes_built p (nodes.and_node n ns) c = and_from (is_built n) (are_nodes_built ns) (translated_built p n c.0) (nodes_built p ns c.1)
+
+  operands_built : (p : Settings) (os : OperandTrees) → AreOperandsTranslated p os → are_operands_built os ≡ true
+  operands_built p nodes.no_operands c = refl
+  operands_built p (nodes.operand n alias os) c = and_from (is_built n) (are_operands_built os) (translated_built p n c.0) (operands_built p os c.1)
+
+-- the columns of each operand have names
+operands_named : (p : Settings) (os : OperandTrees) → AreOperandsTranslated p os → AllByRecursion (λ a. HaveNames (columns_of a)) (joins.structures_of (operands_in os))
+operands_named p nodes.no_operands c = tt
+operands_named p (nodes.operand n alias os) c = (names_in p n c.0, operands_named p os c.1)
 
 after_ok_is : (v : Outcome (List Row)) → after v (λ d. Ok d) ≡ v
 after_ok_is (Ok d) = refl
 after_ok_is (Err f) = refl
 
+-- ---- values of operands
+
+after_then : {A B C : Type 0} (m : Outcome A) (g : A → B) (h : B → Outcome C) → after (after m (λ x. Ok (g x))) h ≡ after m (λ x. h (g x))
+after_then (Ok x) g h = refl
+after_then (Err f) g h = refl
+
+-- what is made of the values of several operands, of which the first are there
+module _ (s : Structure) (rows : List Row → List Row → List Row) where
+  abbrev one_after : Structure → Outcome (List DataSet) → List Row → Outcome (List Row)
+  one_after a rest u = after rest (λ ds. Ok (fold rows (left_of (with_points a u) s) (all_left_of ds s)))
+
+  -- the first of all operands, and then the others
+  with_first_is : (F : List DataSet → List Row) (n : NodeTree) (v : Outcome (List Row)) (rest : Outcome (List DataSet)) → ((u : List Row) (ds : List DataSet) → v ≡ Ok u → fold rows (left_of (with_points (structure_of n) u) s) (all_left_of ds s) ≡ F (with_points (structure_of n) u ∷ ds))
+      → after v (one_after (structure_of n) rest) ≡ after (with_first n v rest) (λ ds. Ok (F ds))
+  with_first_is F n (Err f) rest same = refl
+  with_first_is F n (Ok u) (Err f) same = refl
+  with_first_is F n (Ok u) (Ok ds) same = ap (λ l. Ok l) (same u ds refl)
+
+  -- two operands, and then the others
+  two_first : (a b : Structure) (v w : Outcome (List Row)) (rest : Outcome (List DataSet)) → ((u e : List Row) → v ≡ Ok u → w ≡ Ok e → left_of (with_points s (rows (left_of (with_points a u) s) (left_of (with_points b e) s))) s ≡ rows (left_of (with_points a u) s) (left_of (with_points b e) s))
+      → after (after v (λ d. after w (λ e. Ok (rows (left_of (with_points a d) s) (left_of (with_points b e) s))))) (one_after s rest) ≡ after v (one_after a (after w (λ points. after rest (λ ds. Ok (with_points b points ∷ ds)))))
+  two_first a b (Err f) w rest own = refl
+  two_first a b (Ok u) (Err f) rest own = refl
+  two_first a b (Ok u) (Ok e) (Err f) own = refl
+  two_first a b (Ok u) (Ok e) (Ok ds) own = ap (λ l. Ok (fold rows l (all_left_of ds s))) (own u e refl refl)
+
+  -- they are data sets where the operands are
+  both_sets : (a b : Structure) (v w : Outcome (List Row)) → ((u e : List Row) → v ≡ Ok u → w ≡ Ok e → IsDataSet s (rows (left_of (with_points a u) s) (left_of (with_points b e) s))) → (u : List Row) → after v (λ d. after w (λ e. Ok (rows (left_of (with_points a d) s) (left_of (with_points b e) s)))) ≡ Ok u → IsDataSet s u
+  both_sets a b (Ok d) (Ok e) kept u h = let same : rows (left_of (with_points a d) s) (left_of (with_points b e) s) ≡ u = cc in subst (IsDataSet s) same (kept d e refl refl)
+  both_sets a b (Ok d) (Err f) kept u h = cc
+  both_sets a b (Err f) w kept u h = cc
+
+identifiers_named : (s : Structure) → HaveNames (columns_of s) → HaveNames (identifiers_of s)
+identifiers_named s n = all_front (λ x. IsName x.name) (identifiers_of s) (others_of s) (subst HaveNames (columns_split s) n)
+
+-- an operand in the columns of the result is a data set
+shown_set_of : (s a : Structure) (d : List Row) → IsStructure s → IsShown a s → IsDataSet a d → IsDataSet s (left_of (with_points a d) s)
+shown_set_of s a d w i h = shown_kept (with_points a d) s (w, i.plain) i.alternative h
+
+-- a structure of identifiers and measures has its own columns
+shown_self : (s : Structure) → IsStructure s → columns_of s ≡ identifiers_of s ++ measures_of s → IsShown s s
+shown_self s w plain = record { alternative = record { there = own_identifiers s w; back = own_identifiers s w; measures = own_measures s w }; plain = plain }
+
+shown_own : (s : Structure) (d : List Row) → IsDataSet s d → left_of (with_points s d) s ≡ d
+shown_own s d h = each_own (cells_at (places_in (columns_of s) (columns_of s))) d (all_more (λ r. is_point (columns_of s) r ≡ true) (λ r. cells_at (places_in (columns_of s) (columns_of s)) r ≡ r) (λ r i. own_cells s r h.well_formed i) d h.typed)
+
+-- the tables of operands stand before those that are made of them
+front_stays : (p : Settings) (r : Text) (q : Structure → Structure → Text → Text → QueryTree) (s : Structure) (ns : NodeTrees) (a : Structure) (os : Sources) → length os.tables ≤ length (combined_of p r q s ns a os).tables
+front_stays p r q s nodes.no_nodes a os = omega arith
+front_stays p r q s (nodes.and_node b nodes.no_nodes) a os = omega (arith, length-append os.tables (sources_of p r b os.next).tables)
+front_stays p r q s (nodes.and_node b (nodes.and_node c ns)) a os =
+    let both = over (and_then os (sources_of p r b)) (with_two (q a (structure_of b))) in
+    omega (arith, length-append os.tables (sources_of p r b os.next).tables, length-append both.tables (table_of (numbered r both.next) both.query ∷ []), front_stays p r q s (nodes.and_node c ns) s (stored r both))
+
 module _ (p : Settings) (law : Translates p) (r : Text) (word : is_word r ≡ true) (env : Environment) (sets : AreDataSets env) where
+  -- one operand and others
+  together_is : (a : Structure) (v : Outcome (List Row)) (w : Outcome (List DataSet)) → together p r word (alone p r word a v) w ≡ after v (λ points. after w (λ ds. Ok (with_points a points ∷ ds)))
+  together_is a (Ok d) w = refl
+  together_is a (Err f) w = refl
+
   -- an operand by its name, or by a table of its own
   source_gives : (before : Data) (n : ℕ) (s : Structure) (form : FormTree) → Stands before env → AreEarlier r n before → IsMadeForm p (known_in env) s form → n + length (source_of r form n (made_of_form p r s form n)).tables < 2 ^ 64
       → ((n + length (made_of_form p r s form n).tables < 2 ^ 64) → NodeGives p before r n (made_of_form p r s form n) s (form_value p env s form)) → SourcesGive p before r n (source_of r form n (made_of_form p r s form n)) (alone p r word s (form_value p env s form))
@@ -85,6 +184,22 @@ module _ (p : Settings) (law : Translates p) (r : Text) (word : is_word r ≡ tr
       one_gives p r word before m (sources_of p r a m) (left_query p (structure_of a) s) (structure_of a) s (node_value p env a) (λ d. Ok (left_of (with_points (structure_of a) d) s)) g
       (λ now x d is st. means_by p now (left_query p (structure_of a) s x) s (Ok (left_of (with_points (structure_of a) st.rows) s)) (Ok (left_of (with_points (structure_of a) d) s)) (shown_respects (columns_of (structure_of a)) (columns_of s) st.rows d st.same)
       (left_means p law now x (structure_of a) st.rows st.table st.named (names_in p a c) (set_of a now x d c i is st) s left given))
+
+  -- a step for two operands, over what the first ones give
+  pair_gives : (q : Structure → Structure → Text → Text → QueryTree) (rows : List Row → List Row → List Row) (s : Structure) → IsStep p s q rows → IsStructure s → (a : Structure) (os : Sources) (v : Outcome (List Row)) (b : NodeTree) (m : ℕ) (before : Data) → IsShown a s → IsShown (structure_of b) s → HaveNames (columns_of a)
+      → ((u : List Row) → v ≡ Ok u → IsDataSet a u) → SourcesGive p before r m os (alone p r word a v) → ((x : Extends p before r m os.tables os.next) → SourcesGive p (before ++ x.more) r os.next (sources_of p r b os.next) (alone p r word (structure_of b) (node_value p env b))) → IsMade p (known_in env) b → IsTranslated p b
+      → NodeGives p before r m (over (and_then os (sources_of p r b)) (with_two (q a (structure_of b)))) s (after v (λ d. after (node_value p env b) (λ e. Ok (rows (left_of (with_points a d) s) (left_of (with_points (structure_of b) e) s)))))
+  pair_gives q rows s step w a os v b m before ia ib na set g h i c =
+      two_gives p r word before m (and_then os (sources_of p r b)) (q a (structure_of b)) a (structure_of b) s v (node_value p env b) (λ d e. Ok (rows (left_of (with_points a d) s) (left_of (with_points (structure_of b) e) s)))
+      (beside_gives p r word before m os (sources_of p r b) (alone p r word a v) (alone p r word (structure_of b) (node_value p env b)) g h)
+      (λ now y z d e is is_too st su.
+      let one = set_turned a d st.rows st.same (set d is) in
+      let two = set_of b now z e c i is_too su in
+      let la = left_of (with_points a st.rows) s in
+      let lb = left_of (with_points (structure_of b) su.rows) s in
+      means_by p now (q a (structure_of b) y z) s (Ok (rows la lb)) (Ok (rows (left_of (with_points a d) s) (left_of (with_points (structure_of b) e) s)))
+      (step.turned la lb (left_of (with_points a d) s) (left_of (with_points (structure_of b) e) s) (shown_set_of s a st.rows w ia one) (shown_set_of s (structure_of b) su.rows w ib two) (shown_respects (columns_of a) (columns_of s) st.rows d st.same) (shown_respects (columns_of (structure_of b)) (columns_of s) su.rows e su.same))
+      (step.means now y z a (structure_of b) st.rows su.rows st.table su.table st.named su.named na (names_in p b c) one two ia ib))
 
   mutual
     pub node_gives : (n : NodeTree) (m : ℕ) (before : Data) → Stands before env → AreEarlier r m before → IsMade p (known_in env) n → IsTranslated p n → m + length (made_of p r n m).tables < 2 ^ 64 → NodeGives p before r m (made_of p r n m) (structure_of n) (node_value p env n)
@@ -155,4 +270,115 @@ module _ (p : Settings) (law : Translates p) (r : Text) (word : is_word r ≡ tr
         means_turned p now (choose_query p (structure_of o) (structure_of a) (structure_of k) s x y z) s (choice_of (with_points (structure_of o) so.rows) (with_points (structure_of a) sa.rows) (with_points (structure_of k) sk.rows) s) (choice_of (with_points (structure_of o) tests) (with_points (structure_of a) d) (with_points (structure_of k) e) s)
         (choice_respects (structure_of o) (structure_of a) (structure_of k) s so.rows tests sa.rows d sk.rows e so.same sa.same sk.same set_a.distinct set_k.distinct)
         (choose_means p law now x y z (structure_of o) (structure_of a) (structure_of k) s so.rows sa.rows sk.rows so.table sa.table sk.table so.named sa.named sk.named (names_in p o c.0) (names_in p a c.1) (names_in p k c.2) set_o set_a set_k i.3 (columns_given s w n)))
+    form_gives s (nodes.union nodes.no_nodes) m before stands apart w i n c few = absurd i.1
+    form_gives s (nodes.union (nodes.and_node a ns)) m before stands apart w i n c few =
+        let q : Structure → Structure → Text → Text → QueryTree = λ b k. union_query p b k s in
+        let rows = λ (l k : List Row). united (key_width s) (l ∷ k ∷ []) in
+        let shown : IsShown (structure_of a) s = record { alternative = i.1.operands.0; plain = i.1.no_attributes } in
+        let given = columns_given s w n in
+        let step = union_step p law s given w.well_formed (identifiers_named s n) in
+        let os = sources_of p r a m in
+        let v = node_value p env a in
+        let set : (u : List Row) → v ≡ Ok u → IsDataSet (structure_of a) u = λ u is. node_kept p env a u (translated_built p a c.0) i.0.0 sets is in
+        subst (NodeGives p before r m (combined_of p r q s ns (structure_of a) os) s) (with_first_is s rows (λ ds. union_of ds s) a v (nodes_value p env ns) (λ u ds is. unions_fold (with_points (structure_of a) u) ds s (shown_set_of s (structure_of a) u w.well_formed shown (set u is)).distinct))
+        (combined_gives ns q rows s step given n (structure_of a) os v m before stands apart shown (names_in p a c.0) set
+        (operand_gives a m before stands apart i.0.0 c.0 (omega (arith, few, front_stays p r q s ns (structure_of a) os))) i.0.1 c.1 i.1.operands.1 w.well_formed few)
+    form_gives s (nodes.intersect nodes.no_nodes) m before stands apart w i n c few = absurd i.1
+    form_gives s (nodes.intersect (nodes.and_node a ns)) m before stands apart w i n c few =
+        let q : Structure → Structure → Text → Text → QueryTree = λ b k. intersection_query p b k s in
+        let rows = λ (l k : List Row). intersected (key_width s) l (k ∷ []) in
+        let shown : IsShown (structure_of a) s = record { alternative = i.1.operands.0; plain = i.1.no_attributes } in
+        let given = columns_given s w n in
+        let step = intersection_step p law s given w.well_formed (identifiers_named s n) in
+        let os = sources_of p r a m in
+        let v = node_value p env a in
+        let set : (u : List Row) → v ≡ Ok u → IsDataSet (structure_of a) u = λ u is. node_kept p env a u (translated_built p a c.0) i.0.0 sets is in
+        subst (NodeGives p before r m (combined_of p r q s ns (structure_of a) os) s) (with_first_is s rows (λ ds. intersection_of ds s) a v (nodes_value p env ns) (λ u ds is. intersections_fold (with_points (structure_of a) u) ds s))
+        (combined_gives ns q rows s step given n (structure_of a) os v m before stands apart shown (names_in p a c.0) set
+        (operand_gives a m before stands apart i.0.0 c.0 (omega (arith, few, front_stays p r q s ns (structure_of a) os))) i.0.1 c.1 i.1.operands.1 w.well_formed few)
+    form_gives s (nodes.set_diff a k) m before stands apart w i n c few =
+        let shown : IsShown (structure_of a) s = record { alternative = i.2.operands.0; plain = i.2.no_attributes } in
+        let other : IsShown (structure_of k) s = record { alternative = i.2.operands.1.0; plain = i.2.no_attributes } in
+        let given = columns_given s w n in
+        let step = difference_step p law s given w.well_formed (identifiers_named s n) in
+        let first = sources_of p r a m in
+        let second = sources_of p r k first.next in
+        pair_gives (λ b z. difference_query p b z s) (reduced (key_width s)) s step w.well_formed (structure_of a) first (node_value p env a) k m before shown other (names_in p a c.0) (λ u is. node_kept p env a u (translated_built p a c.0) i.0 sets is)
+        (operand_gives a m before stands apart i.0 c.0 (omega (arith, few, length-append first.tables second.tables)))
+        (λ x. operand_gives k first.next (before ++ x.more) (all_stand_still before x.more env stands) (all_earlier p r word m first.next before x.more (omega (arith, x.counted)) apart x.new) i.1 c.1 (omega (arith, few, x.counted, length-append first.tables second.tables))) i.1 c.1
+    form_gives s (nodes.sym_diff a k) m before stands apart w i n c few =
+        let shown : IsShown (structure_of a) s = record { alternative = i.2.operands.0; plain = i.2.no_attributes } in
+        let other : IsShown (structure_of k) s = record { alternative = i.2.operands.1.0; plain = i.2.no_attributes } in
+        let given = columns_given s w n in
+        let step = symmetric_difference_step p law s given w.well_formed (identifiers_named s n) in
+        let first = sources_of p r a m in
+        let second = sources_of p r k first.next in
+        pair_gives (λ b z. symmetric_difference_query p b z s) (either_only (key_width s)) s step w.well_formed (structure_of a) first (node_value p env a) k m before shown other (names_in p a c.0) (λ u is. node_kept p env a u (translated_built p a c.0) i.0 sets is)
+        (operand_gives a m before stands apart i.0 c.0 (omega (arith, few, length-append first.tables second.tables)))
+        (λ x. operand_gives k first.next (before ++ x.more) (all_stand_still before x.more env stands) (all_earlier p r word m first.next before x.more (omega (arith, x.counted)) apart x.new) i.1 c.1 (omega (arith, few, x.counted, length-append first.tables second.tables))) i.1 c.1
+    form_gives s (nodes.exists_in a k kept) m before stands apart w i n c few =
+        let first = sources_of p r a m in
+        let second = sources_of p r k first.next in
+        two_gives p r word before m (and_then first (sources_of p r k)) (existence_query p kept (structure_of a) (structure_of k) s) (structure_of a) (structure_of k) s (node_value p env a) (node_value p env k) (λ d e. Ok (existence_of (with_points (structure_of a) d) (with_points (structure_of k) e) kept))
+        (beside_gives p r word before m first (sources_of p r k) (alone p r word (structure_of a) (node_value p env a)) (alone p r word (structure_of k) (node_value p env k)) (operand_gives a m before stands apart i.0 c.0 (omega (arith, few, length-append first.tables second.tables)))
+        (λ x. operand_gives k first.next (before ++ x.more) (all_stand_still before x.more env stands) (all_earlier p r word m first.next before x.more (omega (arith, x.counted)) apart x.new) i.1 c.1 (omega (arith, few, x.counted, length-append first.tables second.tables))))
+        (λ now y z d e is is_too st su.
+        means_by p now (existence_query p kept (structure_of a) (structure_of k) s y z) s (Ok (existence_of (with_points (structure_of a) st.rows) (with_points (structure_of k) su.rows) kept)) (Ok (existence_of (with_points (structure_of a) d) (with_points (structure_of k) e) kept)) (existence_order (structure_of a) (structure_of k) st.rows d su.rows e kept st.same su.same)
+        (existence_means p law now y z (structure_of a) (structure_of k) s st.rows su.rows st.table su.table st.named su.named (names_in p a c.0) (names_in p k c.1) (set_of a now y d c.0 i.0 is st) (set_of k now z e c.1 i.1 is_too su) i.2 (columns_given s w n) kept))
+    form_gives s (nodes.pivot a id q) m before stands apart w i n c few =
+        one_gives p r word before m (sources_of p r a m) (pivot_query p id q (structure_of a) s) (structure_of a) s (node_value p env a) (λ d. Ok (pivot_of (with_points (structure_of a) d) id q)) (operand_gives a m before stands apart i.0 c.0 few)
+        (λ now x d is st.
+        let set = set_of a now x d c.0 i.0 is st in
+        means_by p now (pivot_query p id q (structure_of a) s x) s (Ok (pivot_of (with_points (structure_of a) st.rows) id q)) (Ok (pivot_of (with_points (structure_of a) d) id q)) (pivot_order (structure_of a) id st.rows set d st.same q)
+        (pivot_means p law now x (structure_of a) s st.rows st.table st.named (names_in p a c.0) set id q i.1 c.1 (columns_given s w n)))
+    form_gives s (nodes.unpivot a id q) m before stands apart w i n c few =
+        one_gives p r word before m (sources_of p r a m) (unpivot_query p (structure_of a) s) (structure_of a) s (node_value p env a) (λ d. Ok (unpivot_of (with_points (structure_of a) d))) (operand_gives a m before stands apart i.0 c few)
+        (λ now x d is st. means_turned p now (unpivot_query p (structure_of a) s x) s (unpivot_of (with_points (structure_of a) st.rows)) (unpivot_of (with_points (structure_of a) d)) (unpivot_order (structure_of a) st.rows d st.same)
+        (unpivot_means p law now x (structure_of a) s st.rows st.table st.named (names_in p a c) (set_of a now x d c i.0 is st) id q i.1 (columns_given s w n)))
+    form_gives s (nodes.join os spec) m before stands apart w i n c few =
+        let ss = joins.structures_of (operands_in os) in
+        let sources = operands_of p r os m in
+        let size = length-map (operands_in os) (λ o. o.structure) in
+        let many = c.1 in
+        join_gives p law r word s (columns_given s w n) ss (operands_named p os c.0) (omega (arith, many, size)) spec.kind i.1 before m sources (operands_value p env os) (λ ds is. operands_kept p env os ds (operands_built p os c.0) i.0 sets is) apart few
+        (operands_give os m before stands apart i.0 c.0 (omega (arith, few, operands_first p r spec.kind ss s sources)))
     form_gives s other m before stands apart w i n c few = absurd c
+
+    -- the operands of a join
+    operands_give : (os : OperandTrees) (m : ℕ) (before : Data) → Stands before env → AreEarlier r m before → AreMadeOperands p (known_in env) os → AreOperandsTranslated p os → m + length (operands_of p r os m).tables < 2 ^ 64 → SourcesGive p before r m (operands_of p r os m) (operands_value p env os)
+    operands_give nodes.no_operands m before stands apart i c few = (no_tables p r word before m, tt)
+    operands_give (nodes.operand a alias os) m before stands apart i c few =
+        let first = sources_of p r a m in
+        let rest = operands_of p r os first.next in
+        let size = length-append first.tables rest.tables in
+        subst (SourcesGive p before r m (and_then first (operands_of p r os))) (together_is (structure_of a) (node_value p env a) (operands_value p env os))
+        (beside_gives p r word before m first (operands_of p r os) (alone p r word (structure_of a) (node_value p env a)) (operands_value p env os) (operand_gives a m before stands apart i.0 c.0 (omega (arith, few, size)))
+        (λ x. operands_give os first.next (before ++ x.more) (all_stand_still before x.more env stands) (all_earlier p r word m first.next before x.more (omega (arith, x.counted)) apart x.new) i.1 c.1 (omega (arith, few, x.counted, size))))
+
+    -- operands one after the other
+    combined_gives : (ns : NodeTrees) (q : Structure → Structure → Text → Text → QueryTree) (rows : List Row → List Row → List Row) (s : Structure) → IsStep p s q rows → AreGiven (columns_of s) → HaveNames (columns_of s) → (a : Structure) (os : Sources) (v : Outcome (List Row)) (m : ℕ) (before : Data) → Stands before env → AreEarlier r m before → IsShown a s → HaveNames (columns_of a)
+        → ((u : List Row) → v ≡ Ok u → IsDataSet a u) → SourcesGive p before r m os (alone p r word a v) → AreMade p (known_in env) ns → AreNodesTranslated p ns → AllByRecursion (λ b. IsAlternative s b s) (node_structures ns) → IsStructure s → m + length (combined_of p r q s ns a os).tables < 2 ^ 64
+        → NodeGives p before r m (combined_of p r q s ns a os) s (after v (one_after s rows a (nodes_value p env ns)))
+    combined_gives nodes.no_nodes q rows s step given n a os v m before stands apart ia na set g i c alike w few =
+        one_gives p r word before m os (shown_query p a s) a s v (λ d. Ok (left_of (with_points a d) s)) g
+        (λ now x d is st. means_by p now (shown_query p a s x) s (Ok (left_of (with_points a st.rows) s)) (Ok (left_of (with_points a d) s)) (shown_respects (columns_of a) (columns_of s) st.rows d st.same)
+        (shown_means p law now x a s st.rows st.table st.named na (set_turned a d st.rows st.same (set d is)) ia given))
+    combined_gives (nodes.and_node b nodes.no_nodes) q rows s step given n a os v m before stands apart ia na set g i c alike w few =
+        subst (λ f. NodeGives p before r m (combined_of p r q s (nodes.and_node b nodes.no_nodes) a os) s (after v f))
+        (same_functions (λ d. after (node_value p env b) (λ e. Ok (rows (left_of (with_points a d) s) (left_of (with_points (structure_of b) e) s)))) (one_after s rows a (nodes_value p env (nodes.and_node b nodes.no_nodes)))
+        (λ d. sym (after_then (node_value p env b) (λ points. with_points (structure_of b) points ∷ []) (λ ds. Ok (fold rows (left_of (with_points a d) s) (all_left_of ds s))))))
+        (pair_gives q rows s step w a os v b m before ia (record { alternative = alike.0; plain = ia.plain }) na set g
+        (λ x. operand_gives b os.next (before ++ x.more) (all_stand_still before x.more env stands) (all_earlier p r word m os.next before x.more (omega (arith, x.counted)) apart x.new) i.0 c.0 (omega (arith, few, x.counted, length-append os.tables (sources_of p r b os.next).tables))) i.0 c.0)
+    combined_gives (nodes.and_node b (nodes.and_node k ns)) q rows s step given n a os v m before stands apart ia na set g i c alike w few =
+        let both = over (and_then os (sources_of p r b)) (with_two (q a (structure_of b))) in
+        let ib : IsShown (structure_of b) s = record { alternative = alike.0; plain = ia.plain } in
+        let next = node_value p env b in
+        let so_far = after v (λ d. after next (λ e. Ok (rows (left_of (with_points a d) s) (left_of (with_points (structure_of b) e) s)))) in
+        let size = length-append both.tables (table_of (numbered r both.next) both.query ∷ []) in
+        let stays = front_stays p r q s (nodes.and_node k ns) s (stored r both) in
+        let all = length-append os.tables (sources_of p r b os.next).tables in
+        let inner = pair_gives q rows s step w a os v b m before ia ib na set g (λ x. operand_gives b os.next (before ++ x.more) (all_stand_still before x.more env stands) (all_earlier p r word m os.next before x.more (omega (arith, x.counted)) apart x.new) i.0 c.0 (omega (arith, few, size, stays, all, x.counted))) i.0 c.0 in
+        let kept : (u e : List Row) → v ≡ Ok u → next ≡ Ok e → IsDataSet s (rows (left_of (with_points a u) s) (left_of (with_points (structure_of b) e) s)) =
+        λ u e is is_too. step.kept (left_of (with_points a u) s) (left_of (with_points (structure_of b) e) s) (shown_set_of s a u w ia (set u is)) (shown_set_of s (structure_of b) e w ib (node_kept p env b e (translated_built p b c.0) i.0 sets is_too)) in
+        subst (NodeGives p before r m (combined_of p r q s (nodes.and_node b (nodes.and_node k ns)) a os) s) (two_first s rows a (structure_of b) v next (nodes_value p env (nodes.and_node k ns)) (λ u e is is_too. shown_own s (rows (left_of (with_points a u) s) (left_of (with_points (structure_of b) e) s)) (kept u e is is_too)))
+        (combined_gives (nodes.and_node k ns) q rows s step given n s (stored r both) so_far m before stands apart (shown_self s w ia.plain) n (both_sets s rows a (structure_of b) v next kept) (stored_gives p r word before m both s so_far apart (omega (arith, few, stays)) inner) i.1 c.1 alike.1 w few)

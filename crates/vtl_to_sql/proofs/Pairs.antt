@@ -4,9 +4,8 @@ use Rattle.std.specs.Prelude.{option_map}
 use Rattle.std.specs.List.{AllByRecursion, filter, flat_map, list_all}
 use Rattle.std.specs.Option.{option_to_list}
 use Rattle.std.proofs.lemmas.List.{get_or_append_left, get_or-append-add, length-map}
-use Rattle.grammar_forms.specs.Written.{Each}
 use Rattle.vtl_cell.specs.Order.{same_cell}
-use Rattle.vtl_cell.specs.Outcome.{Fault, Outcome, fault_in, faults_by, join, unless}
+use Rattle.vtl_cell.specs.Outcome.{Fault, Outcome, after, fault_in, faults_by, join, unless}
 use Rattle.vtl_cell.specs.Outcomes.{is_true}
 use Rattle.vtl_cell.specs.Row.{Row, column_of, same_key, same_row}
 use Rattle.vtl_cell.specs.ScalarKinds.{kinds_of, meets}
@@ -27,34 +26,36 @@ use Rattle.vtl_tree.specs.declared.structure.Component.{Component}
 use Rattle.vtl_tree.specs.declared.structure.Structure.{Structure}
 use Rattle.vtl_meaning.specs.Columns.{identifiers_of, kind_named, place_of, places_in}
 use Rattle.vtl_meaning.specs.Made.{AreFor, IsColumnAt, IsTyped}
-use Rattle.vtl_meaning.specs.Points.{beside, paired, with_points}
+use Rattle.vtl_meaning.specs.Points.{beside, each_point, paired, with_points}
 use Rattle.vtl_meaning.proofs.Drawn.{drawn_all}
 use Rattle.vtl_meaning.proofs.Kept.{Pairs, all_paired, column_front, column_within}
 use Rattle.vtl_meaning.proofs.Looks.{look_absent}
 use Rattle.vtl_meaning.proofs.OwnColumns.{columns_apart}
 use Rattle.vtl_meaning.proofs.Places.{all_append, all_more, key_cells, key_within, point_length}
 use Rattle.vtl_meaning.proofs.ValueKinds.{cell_is_of}
-use Rattle.sql_tree.specs.Formed.{IsJoin, IsName}
+use Rattle.sql_tree.specs.Formed.{IsName}
 use Rattle.sql_tree.specs.Trees.{Exp, JoinTree, SelectTree, Text, on}
 use Rattle.sql_tree.specs.declared.word_groups.JoinKind.TheVariants as joining
-use Rattle.sql_check_laws.specs.Selects.{AreJoinsTyped, IsSourceTyped}
+use Rattle.sql_check_laws.specs.Selects.{AreJoinsTyped}
 use Rattle.sql_check_parts.specs.Queries.{first_scope, scope_of}
 use Rattle.sql_check_parts.specs.Scopes.{Scope, add_source, columns_of as table_columns}
 use Rattle.sql_meaning.specs.From as from
 use Rattle.sql_meaning.specs.From.{fault_at, holds, pairs, partners, source_rows}
 use Rattle.sql_meaning.specs.Scripts.{Data, base_of, tables_in}
 use Rattle.sql_meaning.specs.Values.{View, at_rows, value as sql_value}
-use Rattle.rules_to_sql.specs.Names.{Names}
+use Rattle.rules_to_sql.specs.Names.{AreNamesFormed, Names}
 use Rattle.rules_to_sql.specs.ToSql.{Naming, to_sql}
 use Rattle.vtl_to_sql.specs.Conditions.{AllCanBeWritten, CanBeWritten, HaveNames}
-use Rattle.vtl_to_sql.specs.Queries.{agree, agrees_on, conjunction, first_alias, of_two, pairs_select, second_alias, source_as}
-use Rattle.vtl_to_sql.specs.Runs.{IsTable, entries, printable_depth}
+use Rattle.vtl_to_sql.specs.Queries.{agree, agrees_on, condition_for, conjunction, first_alias, of_two, pairs_select, second_alias, source_as}
+use Rattle.vtl_to_sql.specs.Runs.{IsTable, entries}
 use Rattle.vtl_to_sql.proofs.Conjunctions.{IsPart, alike_kinds, conjunction_kind, conjunction_typed, conjunction_value, conjunction_written, equal_cells}
 use Rattle.vtl_to_sql.proofs.Expressions.{Translates}
 use Rattle.vtl_to_sql.proofs.Identifiers.{AreIdentifiersAt, IsIdentifierAt, few_identifiers, own_there}
 use Rattle.vtl_to_sql.proofs.OneOperand.{known_there, rows_there, same_functions}
-use Rattle.vtl_to_sql.proofs.SelectForms.{condition_fits, expression_printed}
-use Rattle.vtl_to_sql.proofs.Sources.{second_is_name, two_formed, two_names, two_scope}
+use Rattle.vtl_to_sql.proofs.Givens.{AreGiven}
+use Rattle.vtl_to_sql.proofs.SelectItems.{AllRows, GivesRows, IsFrom}
+use Rattle.vtl_to_sql.proofs.Selects.{IsPointOf, IsTest, condition_fits, expression_printed, expressions_give, maybe_fits, maybe_printed}
+use Rattle.vtl_to_sql.proofs.Sources.{first_is_name, second_is_name, two_formed, two_names, two_scope}
 
 -- ---- the partners of a row are the one point with its key
 
@@ -70,7 +71,7 @@ matches test x key w (q ∷ e) all apart = go (same_row (take w q) key) refl (ma
         ∙ ap (λ l. (x ++ q) ∷ l) (ih ∙ ap (λ o. option_to_list (option_map (λ z. x ++ z) o)) none)
     go false h ih = ap (λ t. map (λ z. x ++ z) (cond t (q ∷ filter test e) (filter test e))) (all.0 ∙ h) ∙ ih
 
-same_pieces : {X Y : Type 0} (P : X → Type 0) (f g : X → List Y) → ((x : X) → P x → f x ≡ g x) → (xs : List X) → AllByRecursion P xs → flat_map f xs ≡ flat_map g xs
+pub same_pieces : {X Y : Type 0} (P : X → Type 0) (f g : X → List Y) → ((x : X) → P x → f x ≡ g x) → (xs : List X) → AllByRecursion P xs → flat_map f xs ≡ flat_map g xs
 same_pieces P f g h [] all = refl
 same_pieces P f g h (x ∷ xs) all = ap (λ l. l ++ flat_map f xs) (h x all.0) ∙ ap (λ l. g x ++ l) (same_pieces P f g h xs all.1)
 
@@ -78,7 +79,7 @@ no_fault_on : (f : Row → Option Fault) (x : Row) (e more : List Row) → AllBy
 no_fault_on f x [] more all = refl
 no_fault_on f x (q ∷ e) more all = ap (λ o. join o (faults_by f (map (λ z. x ++ z) e ++ more))) all.0 ∙ no_fault_on f x e more all.1
 
-no_faults : (P : Row → Type 0) (f : Row → Option Fault) (d e : List Row) → ((x : Row) → P x → AllByRecursion (λ q. f (x ++ q) ≡ None) e) → AllByRecursion P d → faults_by f (pairs d e) ≡ None
+pub no_faults : (P : Row → Type 0) (f : Row → Option Fault) (d e : List Row) → ((x : Row) → P x → AllByRecursion (λ q. f (x ++ q) ≡ None) e) → AllByRecursion P d → faults_by f (pairs d e) ≡ None
 no_faults P f [] e h all = refl
 no_faults P f (x ∷ d) e h all = no_fault_on f x e (pairs d e) (h x all.0) ∙ no_faults P f d e h all.1
 
@@ -88,7 +89,7 @@ pub column_later : (place : ℕ) (name : List ℕ) (kind : Kind) (xs ys : List C
 column_later place name kind [] ys i = let same : place ≡ 0 + place = omega arith in subst (λ n. IsColumnAt n name kind ys) same i
 column_later place name kind (x ∷ xs) ys i = let same : suc (length xs + place) ≡ length (x ∷ xs) + place = omega arith in subst (λ n. IsColumnAt n name kind (x ∷ xs ++ ys)) same (column_later place name kind xs ys i)
 
-same_cells : (xs ys zs : List Component) (r q : Row) → list_all (λ z. same_cell (column_of (place_of z.name ys) q) (column_of (place_of z.name xs) r)) zs ≡ same_row (cells_at (places_in ys zs) q) (cells_at (places_in xs zs) r)
+pub same_cells : (xs ys zs : List Component) (r q : Row) → list_all (λ z. same_cell (column_of (place_of z.name ys) q) (column_of (place_of z.name xs) r)) zs ≡ same_row (cells_at (places_in ys zs) q) (cells_at (places_in xs zs) r)
 same_cells xs ys [] r q = refl
 same_cells xs ys (z ∷ zs) r q = ap (λ b. same_cell (column_of (place_of z.name ys) q) (column_of (place_of z.name xs) r) && b) (same_cells xs ys zs r q)
 
@@ -236,16 +237,27 @@ module _ (p : Settings) (law : Translates p) (before : Data) (x y : Text) (a b s
 
   -- ---- its form
 
-  pub first_typed : IsSourceTyped (tables_in before) [] (source_as first_alias x)
-  first_typed = let known : (table_columns (tables_in before) x ≡ Some (entries (columns_of a))) = known_there p law before x a d there named.0 set.well_formed na in (rw known refl, refl)
+  formed : AreNamesFormed at columns
+  formed = two_formed (length (columns_of a)) columns (all_append (λ z. IsName z.name) (columns_of a) (columns_of b) na nb)
 
-  pub joins_typed : (condition : Option CompExp) → AreJoinsTyped p (tables_in before) (first_scope (tables_in before) (it condition)) joins
+  joins_typed : (condition : Option CompExp) → AreJoinsTyped p (tables_in before) (first_scope (tables_in before) (it condition)) joins
   joins_typed condition =
       let first : (table_columns (tables_in before) x ≡ Some (entries (columns_of a))) = known_there p law before x a d there named.0 set.well_formed na in
       let second : (table_columns (tables_in before) y ≡ Some (entries (columns_of b))) = known_there p law before y b e here named.1 other.well_formed nb in
       let boolean = ap (meets k.Bool) (conjunction_kind p columns (map (agrees_on (columns_of a) (columns_of b)) (identifiers_of b)) parts) in
-      let fits = condition_fits p law (tables_in before) at scope columns names (agree a b) agree_typed boolean agree_written in
+      let fits = condition_fits p law at columns formed scope names (tables_in before) (agree a b) agree_typed boolean agree_written in
       rw first (rw second ((refl, refl), fits, tt))
 
-  pub joins_printed : Each (IsJoin printable_depth) joins
-  joins_printed = (((named.1, second_is_name), expression_printed p law at columns (two_formed (length (columns_of a)) columns (all_append (λ z. IsName z.name) (columns_of a) (columns_of b) na nb)) (agree a b) agree_typed agree_written), tt)
+  from_is : (condition : Option CompExp) → IsTest p columns condition → IsFrom p before scope (it condition)
+  from_is condition test =
+      let known : (table_columns (tables_in before) x ≡ Some (entries (columns_of a))) = known_there p law before x a d there named.0 set.well_formed na in
+      record {
+        scope = scope_is condition;
+        source = ((rw known refl, refl), (named.0, first_is_name));
+        joins = (joins_typed condition, (((named.1, second_is_name), expression_printed p law at columns formed (agree a b) agree_typed agree_written), tt));
+        condition = (maybe_fits p law at columns formed scope names (tables_in before) condition test, maybe_printed p law at columns formed condition test);
+      }
+
+  -- the select over the pairs, where its rows are known
+  pub pairs_give : AreGiven (columns_of s) → (condition : Option CompExp) → IsTest p columns condition → (m : Outcome (List Row)) → source_rows (base_of p before) (it condition) ≡ m → AllRows (IsPointOf columns) m → GivesRows p before s (it condition) (after m (each_point p es))
+  pairs_give given condition test m rows all = expressions_give p law at columns formed scope names before es s i h given (source_as first_alias x) joins (condition_for p at condition) (from_is condition test) m rows all

@@ -36,7 +36,7 @@ named_within P (suc place) name kind (x ∷ xs) i all = named_within P place nam
 pub not_first : (place : ℕ) (name : List ℕ) (kind : Kind) (x : Component) (xs : List Component) → IsColumnAt place name kind xs → AreApart (x ∷ xs) → same_text name x.name ≡ false
 not_first place name kind x xs i a = same_name-sym name x.name ∙ named_within (λ n. same_name x.name n ≡ false) place name kind xs i (apart_parts same_name x.name (names_of xs) a).0
 
-kind_found : (place : ℕ) (name : List ℕ) (kind : Kind) (xs : List Component) → IsColumnAt place name kind xs → AreApart xs → lookup (same_text name) (entries xs) ≡ Some kind
+pub kind_found : (place : ℕ) (name : List ℕ) (kind : Kind) (xs : List Component) → IsColumnAt place name kind xs → AreApart xs → lookup (same_text name) (entries xs) ≡ Some kind
 kind_found place name kind [] i a = absurd i
 kind_found zero name kind (x ∷ xs) i a =
     ap (λ b. cond b (Some x.kind) (lookup (same_text name) (entries xs))) (ap (λ n. same_text n x.name) (sym i.0) ∙ same_name-refl x.name) ∙ ap Some i.1
@@ -44,7 +44,7 @@ kind_found (suc place) name kind (x ∷ xs) i a =
     ap (λ b. cond b (Some x.kind) (lookup (same_text name) (entries xs))) (not_first place name kind x xs i a)
     ∙ kind_found place name kind xs i (apart_parts same_name x.name (names_of xs) a).1
 
-place_found : (n place : ℕ) (name : List ℕ) (kind : Kind) (xs : List Component) → IsColumnAt place name kind xs → AreApart xs → lookup (same_text name) (numbered n (entries xs)) ≡ Some (n + place)
+pub place_found : (n place : ℕ) (name : List ℕ) (kind : Kind) (xs : List Component) → IsColumnAt place name kind xs → AreApart xs → lookup (same_text name) (numbered n (entries xs)) ≡ Some (n + place)
 place_found n place name kind [] i a = absurd i
 place_found n zero name kind (x ∷ xs) i a =
     ap (λ b. cond b (Some n) (lookup (same_text name) (numbered (suc n) (entries xs)))) (ap (λ m. same_text m x.name) (sym i.0) ∙ same_name-refl x.name) ∙ ap Some (omega arith)
@@ -71,7 +71,7 @@ abbrev pub two_scope : List Component → List Component → Scope
 two_scope xs ys = (first_alias, entries xs) ∷ (second_alias, entries ys) ∷ []
 
 -- a column of the first, or one of the second
-column_of_two : (xs ys : List Component) (place : ℕ) (name : List ℕ) (kind : Kind) (P : ℕ → Type 0)
+pub column_of_two : (xs ys : List Component) (place : ℕ) (name : List ℕ) (kind : Kind) (P : ℕ → Type 0)
     → ((i : ℕ) → i < length xs → IsColumnAt i name kind xs → P i) → ((j : ℕ) → IsColumnAt j name kind ys → P (length xs + j)) → IsColumnAt place name kind (xs ++ ys) → P place
 column_of_two [] ys place name kind P f g i = subst P (omega arith) (g place i)
 column_of_two (x ∷ xs) ys zero name kind P f g i = f zero (omega arith) i

@@ -38,7 +38,8 @@ use Rattle.vtl_to_sql.proofs.Exact.{IsExactly, exactly_same}
 use Rattle.vtl_to_sql.proofs.Expressions.{Translates}
 use Rattle.vtl_to_sql.proofs.Identifiers.{IsIdentifierAt, identifier_there, kind_is}
 use Rattle.vtl_to_sql.proofs.OneOperand.{columns_each, columns_for, columns_written, kept_mean}
-use Rattle.vtl_to_sql.proofs.SelectForms.{AreGiven, IsTest}
+use Rattle.vtl_to_sql.proofs.Givens.{AreGiven}
+use Rattle.vtl_to_sql.proofs.Selects.{IsTest}
 
 -- a condition that has this truth at each point keeps the points where it is true
 filter_exact : (p : Settings) (e : CompExp) (f : Row → Bool) (d : List Row) → AllByRecursion (λ r. value p e r ≡ Ok (c.Bool (f r))) d → filter_of p e d ≡ Ok (filter f d)
@@ -106,4 +107,4 @@ module _ (p : Settings) (law : Translates p) (before : Data) (name : Text) (a : 
       (λ r g. conjunction_value p r (has_value xs) (λ z. same_cell (column_of (place_of z.id xs) r) z.value) items (all_more (IsFixed p xs) (λ z. value p (has_value xs z) r ≡ Ok (c.Bool (same_cell (column_of (place_of z.id xs) r) z.value))) (truth p xs r g) items fixed)) d set.typed in
       exactly_same p before (sub_query p items a s name) s (after (filter_of p e d) (each_point p left)) (Ok (sub_of items (with_points a d) s))
       (ap (λ m. after m (each_point p left)) (filter_exact p e (has_values a items) d rows) ∙ columns_each p xs (columns_of s) (filter (has_values a items) d))
-      (kept_mean p law before name a d there named set.well_formed na left s (columns_for p xs (columns_of s) (columns_apart a set.well_formed) i.columns) (columns_written xs (columns_of s)) e test given set.typed)
+      (kept_mean p law before name a d there named set.well_formed na left s (columns_for p xs (columns_of s) (columns_apart a set.well_formed) i.columns) (columns_written xs (columns_of s)) given e test set.typed)

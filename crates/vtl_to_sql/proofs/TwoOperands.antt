@@ -1,53 +1,35 @@
 -- An operator on two data sets is a select over a join of their tables.
-use Rattle.std.proofs.Common.{◌≡◌, Bool, true, false, ◌||◌, cond, List, [], ◌∷◌, ◌++◌, length, None, Ok, refl}
+use Rattle.std.proofs.Common.{◌≡◌, Bool, true, false, ◌||◌, cond, List, [], ◌∷◌, ◌++◌, None, Ok, refl}
 use Rattle.vtl_cell.specs.Row.{Row}
 use Rattle.vtl_cell.specs.Settings.{Settings}
 use Rattle.vtl_cell.specs.declared.operator.ScalarOp.{ScalarOp}
 use Rattle.vtl_tree.specs.CompExp.{CompExp}
 use Rattle.vtl_tree.specs.DataSet.{IsDataSet}
 use Rattle.vtl_tree.specs.Structure.{columns_of}
-use Rattle.vtl_tree.specs.declared.structure.Component.{Component}
 use Rattle.vtl_tree.specs.declared.structure.Structure.{Structure}
 use Rattle.check_shapes.specs.Pairs.{contains}
 use Rattle.vtl_meaning.specs.Columns.{identifiers_of}
 use Rattle.vtl_meaning.specs.Made.{AreFor, IsPaired}
 use Rattle.vtl_meaning.specs.Operators.{pair_exps, pair_of}
 use Rattle.vtl_meaning.specs.Points.{each_point, paired, with_points}
-use Rattle.vtl_meaning.proofs.Places.{all_append}
 use Rattle.sql_tree.specs.Formed.{IsName}
 use Rattle.sql_tree.specs.Trees.{Text}
-use Rattle.sql_meaning.specs.Scripts.{Data, base_of, tables_in}
+use Rattle.sql_meaning.specs.Scripts.{Data}
 use Rattle.vtl_to_sql.specs.Conditions.{AllCanBeWritten, HaveNames}
-use Rattle.vtl_to_sql.specs.Queries.{first_alias, of_two, pair_query, pairs_select, source_as}
+use Rattle.vtl_to_sql.specs.Queries.{pair_query, pairs_select}
 use Rattle.vtl_to_sql.specs.Runs.{IsTable}
 use Rattle.vtl_to_sql.proofs.Exact.{IsExactly}
 use Rattle.vtl_to_sql.proofs.Expressions.{Translates}
+use Rattle.vtl_to_sql.proofs.Givens.{AreGiven}
+use Rattle.vtl_to_sql.proofs.Pairs.{pairs_give, points, rows_are}
+use Rattle.vtl_to_sql.proofs.Unions.{one_exactly}
 use Rattle.vtl_to_sql.proofs.Identifiers.{AreIdentifiersAt, contained_among, identifiers_there}
-use Rattle.vtl_to_sql.proofs.Pairs.{first_typed, joins, joins_printed, joins_typed, names, points, rows_are, scope, scope_is}
-use Rattle.vtl_to_sql.proofs.SelectForms.{AreGiven, select_printed, select_whole}
-use Rattle.vtl_to_sql.proofs.SelectRows.{select_columns, select_rows}
-use Rattle.vtl_to_sql.proofs.Sources.{first_is_name, two_formed}
 
 module _ (p : Settings) (law : Translates p) (before : Data) (x y : Text) (a b s : Structure) (d e : List Row) (there : IsTable before x a d) (here : IsTable before y b e) (named : IsName x × IsName y) (na : HaveNames (columns_of a)) (nb : HaveNames (columns_of b)) (set : IsDataSet a d) (other : IsDataSet b e) (ours : AreIdentifiersAt (columns_of a) (identifiers_of b)) (es : List CompExp) (i : AreFor p (columns_of a ++ columns_of b) es (columns_of s)) (h : AllCanBeWritten es) where
-  abbrev both : List Component
-  both = columns_of a ++ columns_of b
-
   pub pairs_mean : AreGiven (columns_of s) → IsExactly p before (pairs_select p es a b s None x y ∷ []) s (each_point p es (paired (with_points a d) (with_points b e)))
   pairs_mean given =
-      let at = of_two (length (columns_of a)) in
-      let over = scope p law before x y a b s d e there here named na nb set other ours es i h in
-      let tie = joins p law before x y a b s d e there here named na nb set other ours es i h in
-      let is = scope_is p law before x y a b s d e there here named na nb set other ours es i h None in
-      let known = names p law before x y a b s d e there here named na nb set other ours es i h in
-      let formed = two_formed (length (columns_of a)) both (all_append (λ z. IsName z.name) (columns_of a) (columns_of b) na nb) in
-      record {
-        query = record {
-          columns = select_columns (base_of p before) law at both es s i h (source_as first_alias x) tie None over is known;
-          typed = select_whole p law (tables_in before) at both es s i h given (source_as first_alias x) tie None tt over is known (first_typed p law before x y a b s d e there here named na nb set other ours es i h) (joins_typed p law before x y a b s d e there here named na nb set other ours es i h None);
-          printed = select_printed p law (tables_in before) at both es s i h given (source_as first_alias x) tie None tt formed (named.0, first_is_name) (joins_printed p law before x y a b s d e there here named na nb set other ours es i h);
-        };
-        rows = select_rows (base_of p before) law at both es s i h (source_as first_alias x) tie None over is known (Ok (paired (with_points a d) (with_points b e))) (rows_are p law before x y a b s d e there here named na nb set other ours es i h) (points p law before x y a b s d e there here named na nb set other ours es i h);
-      }
+      one_exactly p before s given (pairs_select p es a b s None x y) (each_point p es (paired (with_points a d) (with_points b e)))
+      (pairs_give p law before x y a b s d e there here named na nb set other ours es i h given None tt (Ok (paired (with_points a d) (with_points b e))) (rows_are p law before x y a b s d e there here named na nb set other ours es i h) (points p law before x y a b s d e there here named na nb set other ours es i h))
 
 contained_back : (a b : Bool) → (a || b) ≡ true → a ≡ false → b ≡ true
 contained_back true b h e = cc

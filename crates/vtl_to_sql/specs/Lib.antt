@@ -1,7 +1,12 @@
 pub mod Queries
+pub mod Joins
+pub mod Turned
+pub mod FullJoins
 pub mod Tables
 pub mod Scripts
 pub mod Runs
 pub mod Conditions
 pub mod Means
 pub mod Exports
+pub mod Inputs
+pub mod Accepted

@@ -4,10 +4,15 @@
 //! An expression on data sets is the tables of its operands and then one query. This crate decides which query that is,
 //! how tables are named, and in what order statements stand; how a component expression is written it leaves to
 //! `rules_to_sql`, and how a table is found to an engine.
-//! It knows definitions of both languages alone: no text, no file, and no program that runs either of them.
+//! It knows definitions of both languages alone: no text, no file, and no program that runs either of them. Only what
+//! it tells of accepted scripts knows the checker.
 //! Begin with specs/Queries.antt, Tables.antt and Scripts.antt, then Means.antt and src/laws.rt.
 #![tactic(auto)]
 
 mod laws;
 
-pub use laws::{inputs_have_their_columns, scripts_are_translated, translated_scripts_are_lawful};
+pub use laws::{
+    accepted_scripts_are_translated, inputs_ask_for_data_sets, inputs_have_their_columns,
+    scripts_are_translated, scripts_are_translated_over_inputs, tables_are_counted,
+    translated_scripts_are_lawful, what_is_evaluated_is_translated,
+};

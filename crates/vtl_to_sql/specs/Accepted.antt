@@ -1,0 +1,104 @@
+-- What is asked of an accepted script so that it is translated: the forms of its nodes are translated so far, their constants are
+-- values that a program holds, and their tables can be numbered.
+use Rattle.std.specs.Prelude.{◌+◌, ◌<◌, ◌^◌, Bool, true, false, ◌&&◌, List, length}
+use Rattle.std.specs.List.{AllByRecursion, list_all}
+use Rattle.vtl_cell.specs.Held.{IsHeld}
+use Rattle.vtl_cell.specs.Settings.{Settings}
+use Rattle.vtl_tree.specs.CompExp.{CompExp}
+use Rattle.vtl_tree.specs.declared.structure.Structure.{Structure}
+use Rattle.vtl_meaning.specs.Made.{operands_in}
+use Rattle.vtl_meaning.specs.Meaning.{Statement}
+use Rattle.vtl_meaning.specs.Operators.{calculated_exps, measured_exps, pair_exps}
+use Rattle.vtl_meaning.specs.Trees as nodes
+use Rattle.vtl_meaning.specs.Trees.{FormTree, NodeTree, NodeTrees, OperandTrees, structure_of}
+use Rattle.rules_to_sql.specs.Held.{HoldsValues}
+use Rattle.vtl_to_sql.specs.Conditions.{HasFewTables}
+
+-- ---- which forms are translated so far. Each form has its line, so that no new one is passed over.
+abbrev mutual
+  pub is_translated : NodeTree → Bool
+  is_translated (nodes.node s form) = is_form_translated form
+
+  pub is_form_translated : FormTree → Bool
+  is_form_translated (nodes.named name) = true
+  is_form_translated (nodes.measures m a) = is_translated a
+  is_form_translated (nodes.pair o a b) = is_translated a && is_translated b
+  is_form_translated (nodes.choose t a b) = is_translated t && (is_translated a && is_translated b)
+  is_form_translated (nodes.member a m) = is_translated a
+  is_form_translated (nodes.filter a e) = is_translated a
+  is_form_translated (nodes.calc a items) = is_translated a
+  is_form_translated (nodes.keep a names) = is_translated a
+  is_form_translated (nodes.drop_named a names) = is_translated a
+  is_form_translated (nodes.rename a pairs) = is_translated a
+  is_form_translated (nodes.sub a items) = is_translated a
+  is_form_translated (nodes.pivot a id m) = is_translated a
+  is_form_translated (nodes.unpivot a id m) = is_translated a
+  is_form_translated (nodes.join os spec) = are_operands_translated os
+  is_form_translated (nodes.union ns) = are_nodes_translated ns
+  is_form_translated (nodes.intersect ns) = are_nodes_translated ns
+  is_form_translated (nodes.set_diff a b) = is_translated a && is_translated b
+  is_form_translated (nodes.sym_diff a b) = is_translated a && is_translated b
+  is_form_translated (nodes.exists_in a b r) = is_translated a && is_translated b
+  is_form_translated (nodes.aggregate a spec) = false
+  is_form_translated (nodes.analytic_of a spec) = false
+  is_form_translated (nodes.check a i spec) = false
+  is_form_translated (nodes.check_datapoint a rules out) = false
+  is_form_translated (nodes.check_hierarchy a rules m out) = false
+  is_form_translated (nodes.hierarchy a rules m i out) = false
+
+  pub are_nodes_translated : NodeTrees → Bool
+  are_nodes_translated nodes.no_nodes = true
+  are_nodes_translated (nodes.and_node n ns) = is_translated n && are_nodes_translated ns
+
+  pub are_operands_translated : OperandTrees → Bool
+  are_operands_translated nodes.no_operands = true
+  are_operands_translated (nodes.operand n alias os) = is_translated n && are_operands_translated os
+
+abbrev pub are_translated : List NodeTree → Bool
+are_translated ns = list_all is_translated ns
+
+-- ---- what a program holds: constants in the expressions that queries take, values of `sub`, and joins whose operands can be numbered
+abbrev pub AllHoldValues : List CompExp → Type 0
+AllHoldValues es = AllByRecursion HoldsValues es
+
+abbrev mutual
+  pub HoldsParts : NodeTree → Type 0
+  HoldsParts (nodes.node s form) = FormHoldsParts s form
+
+  pub FormHoldsParts : Structure → FormTree → Type 0
+  FormHoldsParts s (nodes.named name) = Unit {0}
+  FormHoldsParts s (nodes.measures m a) = HoldsParts a × AllHoldValues (measured_exps m (structure_of a) s)
+  FormHoldsParts s (nodes.pair o a b) = HoldsParts a × HoldsParts b × AllHoldValues (pair_exps o (structure_of a) (structure_of b) s)
+  FormHoldsParts s (nodes.choose t a b) = HoldsParts t × HoldsParts a × HoldsParts b
+  FormHoldsParts s (nodes.member a m) = HoldsParts a
+  FormHoldsParts s (nodes.filter a e) = HoldsParts a × HoldsValues e
+  FormHoldsParts s (nodes.calc a items) = HoldsParts a × AllHoldValues (calculated_exps items (structure_of a) s)
+  FormHoldsParts s (nodes.keep a names) = HoldsParts a
+  FormHoldsParts s (nodes.drop_named a names) = HoldsParts a
+  FormHoldsParts s (nodes.rename a pairs) = HoldsParts a
+  FormHoldsParts s (nodes.sub a items) = HoldsParts a × AllByRecursion (λ i. IsHeld i.value) items
+  FormHoldsParts s (nodes.pivot a id m) = HoldsParts a
+  FormHoldsParts s (nodes.unpivot a id m) = HoldsParts a
+  FormHoldsParts s (nodes.join os spec) = OperandsHoldParts os × (1 + length (operands_in os) < 2 ^ 64)
+  FormHoldsParts s (nodes.union ns) = NodesHoldParts ns
+  FormHoldsParts s (nodes.intersect ns) = NodesHoldParts ns
+  FormHoldsParts s (nodes.set_diff a b) = HoldsParts a × HoldsParts b
+  FormHoldsParts s (nodes.sym_diff a b) = HoldsParts a × HoldsParts b
+  FormHoldsParts s (nodes.exists_in a b r) = HoldsParts a × HoldsParts b
+  -- the other forms are not translated yet
+  FormHoldsParts s other = Unit {0}
+
+  pub NodesHoldParts : NodeTrees → Type 0
+  NodesHoldParts nodes.no_nodes = Unit {0}
+  NodesHoldParts (nodes.and_node n ns) = HoldsParts n × NodesHoldParts ns
+
+  pub OperandsHoldParts : OperandTrees → Type 0
+  OperandsHoldParts nodes.no_operands = Unit {0}
+  OperandsHoldParts (nodes.operand n alias os) = HoldsParts n × OperandsHoldParts os
+
+abbrev pub AreHeld : List NodeTree → Type 0
+AreHeld ns = AllByRecursion HoldsParts ns
+
+-- ---- few tables are made for each statement
+abbrev pub AreFew : Settings → List Statement → Type 0
+AreFew p ss = AllByRecursion (HasFewTables p) ss
