@@ -4,6 +4,7 @@
 top=$(CDPATH='' cd -- "$(dirname -- "$0")/.." && pwd) || exit 1
 vtl=$top/crates/vtl/out/vtl
 probe=$top/crates/vtl_probe/out/vtl_probe
+translator=$top/crates/vtl_probe_sql/out/vtl_probe_sql
 made=$(mktemp -d) || exit 1
 trap 'chmod -R u+rwx "$made"; rm -rf "$made"' EXIT
 newline='
@@ -58,9 +59,8 @@ called() {
     (cd "$folder" && "$program" "$@" >"$made/said" 2>"$made/told" </dev/null)
 }
 
-# A whole run: a folder with its files, and what is wanted.
-run() {
-    case=$1
+# The files of a case in a folder of their own, with an empty folder for what is written.
+laid_out() {
     folder=$made/folder
     rm -rf "$folder"
     cp -R "$case" "$folder"
@@ -69,15 +69,12 @@ run() {
     mkdir "$folder/out"
     if [ -e "$case/setup" ] && ! (cd "$folder" && sh "$case/setup"); then
         fail "$case: setup failed"
-        return
+        return 1
     fi
-    words=$case/words
-    if [ ! -e "$words" ]; then
-        words=$made/words
-        set -- run script.vtl structures.csv in out
-        [ ! -e "$folder/script.sql" ] || set -- engine script.sql in out
-        printf '%s\n' "$@" >"$words"
-    fi
+}
+
+# Carries out the words in the folder: it must come to what is wanted of the case, which is reported by this name.
+ended() {
     called
     code=$?
     wanted_code=$(cat "$case/code" 2>/dev/null || echo 0)
@@ -86,17 +83,67 @@ run() {
     wanted_told=$case/told
     [ -e "$wanted_told" ] || wanted_told=/dev/null
     if [ "$code" != "$wanted_code" ]; then
-        fail "$case: exit code $code, wanted $wanted_code: $(head -n 1 "$made/said")"
+        fail "$1: exit code $code, wanted $wanted_code: $(head -n 1 "$made/said")"
     elif ! cmp -s "$wanted_line" "$made/said"; then
-        fail "$case: printed $(head -n 1 "$made/said")"
+        fail "$1: printed $(head -n 1 "$made/said")"
     elif ! cmp -s "$wanted_told" "$made/told"; then
-        fail "$case: other words on standard error"
+        fail "$1: other words on standard error"
         diff "$wanted_told" "$made/told"
     elif ! written "$case/expected" "$folder/out"; then
-        fail "$case: other files were written"
+        fail "$1: other files were written"
     else
         pass
     fi
+}
+
+# A whole run: a folder with its files, and what is wanted.
+run() {
+    case=$1
+    laid_out || return
+    words=$case/words
+    if [ ! -e "$words" ]; then
+        words=$made/words
+        set -- run script.vtl structures.csv in out
+        [ ! -e "$folder/script.sql" ] || set -- engine script.sql in out
+        printf '%s\n' "$@" >"$words"
+    fi
+    ended "$case"
+}
+
+# The script of a run in SQL, where all its forms are translated so far: over the same data it comes to the same.
+run_in_sql() {
+    case=$1
+    [ -e "$case/script.vtl" ] || return
+    set -- run script.vtl structures.csv in out
+    if [ -e "$case/words" ]; then
+        set --
+        while IFS= read -r word || [ "$word" ]; do set -- "$@" "$word"; done <"$case/words"
+    fi
+    [ "$1 $2 $3 $4 $5" = 'run script.vtl structures.csv in out' ] || return
+    shift 5
+    laid_out || return
+    (cd "$folder" && "$translator" script.vtl structures.csv "$@" >script.sql 2>"$made/told") || return
+    words=$made/words
+    printf '%s\n' engine script.sql in out >"$words"
+    ended "$case, in SQL"
+}
+
+# A script and its text in SQL, which comes to the same by the engine.
+translated() {
+    "$translator" "$1/script.vtl" "$1/structures.csv" >"$made/said" 2>"$made/told"
+    code=$?
+    if [ "$code" = 0 ] && cmp -s "$1/script.sql" "$made/said"; then
+        pass
+    else
+        fail "$1: translated otherwise, exit code $code"
+        diff "$1/script.sql" "$made/said"
+    fi
+    run "$1"
+    case=$1
+    laid_out || return
+    words=$made/words
+    printf '%s\n' run script.vtl structures.csv in out >"$words"
+    ended "$case, interpreted"
 }
 
 # A run by the launcher, which explains its line; without a structures file of its own it has the one beside the cases.
@@ -210,7 +257,7 @@ within() {
 wanted() { [ -z "$names" ] || case " $names " in *" $1 "*) ;; *) return 1 ;; esac; }
 
 names=$*
-for program in "$vtl" "$probe"; do
+for program in "$vtl" "$probe" "$translator"; do
     [ -x "$program" ] || fail "there is no program at $program; scripts/build.sh $(basename "$program") builds it"
 done
 cd "$top" || exit 1
@@ -220,6 +267,10 @@ for folder in cases/*/; do
     wanted "$word" || continue
     case $word in
         run | engine) for case in "cases/$word"/*/; do run "$top/${case%/}"; done ;;
+        translated)
+            for case in cases/translated/*/; do translated "$top/${case%/}"; done
+            for case in cases/run/*/ examples/*/; do run_in_sql "$top/${case%/}"; done
+            ;;
         explain)
             program=$top/vtl
             VTL_EXPLAIN=1
