@@ -1,0 +1,5 @@
+pub mod Constants
+pub mod ToSql
+pub mod Names
+pub mod Held
+pub mod Groups

@@ -1,0 +1,14 @@
+//! Component expressions of VTL as expressions of the SQL dialect, with the law that they mean the same.
+//!
+//! An expression of a point, or of a group, is written with one operator for each of its own, so that its SQL stays
+//! readable; over any columns that name the components it has the kind and the value that it has in VTL, faults
+//! included, fits where it stands, and can be printed. Which select it stands in is for others to decide.
+//! It knows no data sets, no nodes and no scripts of either language.
+//! Begin with specs/ToSql.antt, Constants.antt and Groups.antt, then `laws.rt`.
+#![tactic(auto)]
+
+mod laws;
+
+pub use laws::{
+    depths_grow_by_one, expressions_are_formed, expressions_fit, kinds_stay, values_stay,
+};
