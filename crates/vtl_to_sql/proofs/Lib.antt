@@ -8,3 +8,5 @@ pub mod SelectForms
 pub mod Sources
 pub mod Exact
 pub mod OneOperand
+pub mod Written
+pub mod Forms

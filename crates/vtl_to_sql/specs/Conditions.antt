@@ -14,7 +14,7 @@ use Rattle.vtl_meaning.specs.Trees as nodes
 use Rattle.vtl_meaning.specs.Trees.{FormTree, NodeTree, structure_of}
 use Rattle.vtl_meaning.specs.clauses.SubItem.{SubItem}
 use Rattle.sql_tree.specs.Formed.{IsName}
-use Rattle.rules_to_sql.specs.Fits.{comp_depth}
+use Rattle.check_laws.specs.Depths.{comp_depth}
 use Rattle.rules_to_sql.specs.Held.{HoldsValues}
 
 -- ---- parts

@@ -4,3 +4,4 @@ pub mod Scripts
 pub mod Runs
 pub mod Conditions
 pub mod Means
+pub mod Items
