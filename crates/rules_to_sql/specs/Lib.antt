@@ -3,4 +3,3 @@ pub mod ToSql
 pub mod Names
 pub mod Held
 pub mod Groups
-pub mod Aliases

@@ -7,12 +7,8 @@
 //! Begin with specs/ToSql.antt, Constants.antt and Groups.antt, then `laws.rt`.
 #![tactic(auto)]
 
-mod aliases;
 mod laws;
-mod stub;
 
-pub use aliases::Aliases;
-pub use stub::comp_to_sql;
 pub use laws::{
     depths_grow_by_one, expressions_are_formed, expressions_fit, kinds_stay, values_stay,
 };

@@ -4,5 +4,7 @@
 mod writer;
 mod components;
 mod conditions;
+mod draft;
 mod items;
 mod queries;
+mod walk;
