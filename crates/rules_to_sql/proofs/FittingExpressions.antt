@@ -24,7 +24,7 @@ use Rattle.rules_to_sql.specs.Held.{AllHoldValues, HoldsValues}
 use Rattle.rules_to_sql.specs.ToSql.{Naming, aggregate_to_sql, all_to_sql, members_behind, members_to_sql, to_sql}
 use Rattle.rules_to_sql.proofs.KeptKinds.{KindsStay, first_stays, kinds_stay, rest_stay}
 use Rattle.rules_to_sql.proofs.LiteralOperands.{literals_stay}
-use Rattle.rules_to_sql.proofs.SetMembers.{AreLiterals, are_literals, members_kinds, members_there}
+use Rattle.rules_to_sql.proofs.SetMembers.{AreLiterals, are_literals, members_kinds, members_there, operands_held}
 use Rattle.rules_to_sql.proofs.TypedCalls.{Form, before, between, called, chosen, form_of, listed, long, one, short, tested, three, two, unlisted}
 use Rattle.rules_to_sql.proofs.WrittenConstants.{constant_fits}
 
@@ -40,10 +40,11 @@ module _ (here : Site) (group : Option Grouping) (at : Naming) (low : here.setti
 
   set_fits : (negated : Bool) (a b : CompExp) (es : CompExps) → operator_kind op.In (exp_kind a ∷ exp_kind b ∷ comp_kinds es) ≡ Some k.Bool → AreLiterals p low columns aggregates (comp_exp b es) → KindsStay p at s (comp_exp a (comp_exp b es)) → Fits here group (sql a)
       → Fits here group (tree.in_list (sql a) negated (members_to_sql p (comp_exp b es)))
-  set_fits negated a b es h m i f =
-      (f,
-      ap is_some (ap (λ l. operator_kind op.In (kind_in s (sql a) ∷ l)) (members_kinds p low columns aggregates (comp_exp b es) m) ∙ ap (λ q. operator_kind op.In (q ∷ comp_kinds (comp_exp b es))) (first_stays p at s a (comp_exp b es) i) ∙ h),
-      members_there p low columns aggregates (comp_exp b es) m)
+  set_fits negated a b es h m i f = (
+    f,
+    ap is_some (ap (λ l. operator_kind op.In (kind_in s (sql a) ∷ l)) (members_kinds p low columns aggregates (comp_exp b es) m) ∙ ap (λ q. operator_kind op.In (q ∷ comp_kinds (comp_exp b es))) (first_stays p at s a (comp_exp b es) i) ∙ h),
+    members_there p low columns aggregates (comp_exp b es) m,
+  )
 
   -- the kinds of operands that are as in VTL meet the operator
   met : (o : ScalarOp) (args : CompExps) (kind : Kind) → operator_kind o (comp_kinds args) ≡ Some kind → KindsStay p at s args → is_some (operator_kind o (kinds_in s (all_to_sql p at args))) ≡ true
@@ -72,7 +73,9 @@ module _ (here : Site) (group : Option Grouping) (at : Naming) (low : here.setti
       pub expression_fits : (e : CompExp) → IsTypedOver p columns aggregates e → HoldsValues e → Fits here group (sql e)
       expression_fits (comp.column place name kind) i w = seen place name kind i
       expression_fits (comp.const v) i w = constant_fits here group low v w i
-      expression_fits (comp.call o kind args) i w = call_fits o args kind (form_of o args kind i.0) i.2 i.1 w (kinds_stay p at s columns aggregates known given args i.1) (expressions_fit args i.1 w)
+      expression_fits (comp.call o kind args) i w =
+          let held = operands_held o args i.2 w in
+          call_fits o args kind (form_of o args kind i.0) i.2 i.1 held (kinds_stay p at s columns aggregates known given args i.1) (expressions_fit args i.1 held)
       expression_fits (comp.aggregate a kind) i w = fit a kind i
 
       expressions_fit : (es : CompExps) → AreTypedOver p columns aggregates es → AllHoldValues es → AllFit here group (all_to_sql p at es)

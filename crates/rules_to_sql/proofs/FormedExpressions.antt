@@ -13,7 +13,7 @@ use Rattle.rules_to_sql.specs.Groups.{AreTypedOver, IsTypedOver}
 use Rattle.rules_to_sql.specs.Held.{AllHoldValues, HoldsValues}
 use Rattle.rules_to_sql.specs.ToSql.{Naming, aggregate_to_sql, all_to_sql, members_behind, to_sql}
 use Rattle.rules_to_sql.proofs.FormedConstants.{const_formed}
-use Rattle.rules_to_sql.proofs.SetMembers.{are_literals, members_formed}
+use Rattle.rules_to_sql.proofs.SetMembers.{are_literals, members_formed, operands_held}
 use Rattle.rules_to_sql.proofs.TypedCalls.{Form, before, between, called, chosen, form_of, listed, long, one, short, tested, two, unlisted}
 
 module _ (p : Settings) (low : p.scale ≤ 9) (at : Naming) (columns : ℕ → Text → Kind → Type 0) (aggregates : AggCall → Kind → Type 0) where
@@ -34,7 +34,9 @@ module _ (p : Settings) (low : p.scale ≤ 9) (at : Naming) (columns : ℕ → T
       pub expression_formed : (e : CompExp) → IsTypedOver p columns aggregates e → HoldsValues e → Formed (to_sql p at e)
       expression_formed (comp.column place name kind) i w = named place name kind i
       expression_formed (comp.const v) i w = const_formed p low v w i
-      expression_formed (comp.call o kind args) i w = call_formed o args kind (form_of o args kind i.0) i.2 i.1 w (expressions_formed args i.1 w)
+      expression_formed (comp.call o kind args) i w =
+          let held = operands_held o args i.2 w in
+          call_formed o args kind (form_of o args kind i.0) i.2 i.1 held (expressions_formed args i.1 held)
       expression_formed (comp.aggregate a kind) i w = fine a kind i
 
       expressions_formed : (es : CompExps) → AreTypedOver p columns aggregates es → AllHoldValues es → EachFormed (all_to_sql p at es)

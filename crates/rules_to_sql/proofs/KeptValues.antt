@@ -27,7 +27,7 @@ use Rattle.rules_to_sql.specs.Groups.{AreTypedOver, IsTypedOver, value_over, val
 use Rattle.rules_to_sql.specs.Held.{AllHoldValues, HoldsValues}
 use Rattle.rules_to_sql.specs.ToSql.{Naming, aggregate_to_sql, all_to_sql, members_behind, members_to_sql, to_sql}
 use Rattle.rules_to_sql.proofs.KeptKinds.{KindsStay, call_kind, kinds_stay}
-use Rattle.rules_to_sql.proofs.SetMembers.{AreLiterals, are_literals, members_values}
+use Rattle.rules_to_sql.proofs.SetMembers.{AreLiterals, are_literals, members_values, operands_held}
 use Rattle.rules_to_sql.proofs.TypedCalls.{Form, before, between, called, chosen, form_of, listed, long, one, short, tested, three, two, unlisted}
 use Rattle.rules_to_sql.proofs.WrittenConstants.{constant_is}
 
@@ -138,7 +138,9 @@ module _ (v : View) (r : Row) (g : List Row) (at : Naming) (cells : ℕ → Text
         pub value_stays : (e : CompExp) → IsTypedOver p columns aggregates e → HoldsValues e → sql e ≡ vtl e
         value_stays (comp.column place name kind) i w = ap Ok (seen place name kind i)
         value_stays (comp.const x) i w = constant_is v low x r g w i
-        value_stays (comp.call o kind args) i w = call_value o args kind (form_of o args kind i.0) i.2 i.1 w (kinds_stay p at v.scope columns aggregates known given args i.1) (values_stay args i.1 w)
+        value_stays (comp.call o kind args) i w =
+            let held = operands_held o args i.2 w in
+            call_value o args kind (form_of o args kind i.0) i.2 i.1 held (kinds_stay p at v.scope columns aggregates known given args i.1) (values_stay args i.1 held)
         value_stays (comp.aggregate a kind) i w = made a kind i
 
         values_stay : (es : CompExps) → AreTypedOver p columns aggregates es → AllHoldValues es → ValuesStay es

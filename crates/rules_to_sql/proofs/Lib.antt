@@ -11,3 +11,8 @@ pub mod FormedExpressions
 pub mod OverPoints
 pub mod OverGroups
 pub mod ExpressionDepths
+pub mod ConstantTexts
+pub mod Views
+pub mod MadeParts
+pub mod BracketedCalls
+mod Examples

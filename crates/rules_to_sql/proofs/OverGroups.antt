@@ -30,10 +30,10 @@ use Rattle.sql_check_parts.proofs.Grouped.{is_column_among, is_in_group}
 use Rattle.sql_meaning.specs.Outcomes.{all_values}
 use Rattle.sql_meaning.specs.Tables.{Base}
 use Rattle.sql_meaning.specs.Values.{at_groups, place_in, same_column, value}
-use Rattle.rules_to_sql.specs.Groups.{Aggregates, IsGroupedColumn, IsTypedInGroups, aggregated, group_columns, group_value}
+use Rattle.rules_to_sql.specs.Groups.{Aggregates, IsGroupedColumn, IsTypedInGroups, aggregated, group_value}
 use Rattle.rules_to_sql.specs.Held.{HoldsValues}
 use Rattle.rules_to_sql.specs.Names.{AreNamesFormed, Names}
-use Rattle.rules_to_sql.specs.ToSql.{aggregate_to_sql, of_source, to_sql}
+use Rattle.rules_to_sql.specs.ToSql.{aggregate_to_sql, group_columns, of_source, to_sql}
 use Rattle.rules_to_sql.specs.ToSql as sql
 use Rattle.rules_to_sql.proofs.FittingExpressions.{expression_fits}
 use Rattle.rules_to_sql.proofs.FormedExpressions.{expression_formed}

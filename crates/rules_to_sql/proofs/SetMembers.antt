@@ -10,11 +10,13 @@ use Rattle.vtl_cell.specs.Settings.{Settings}
 use Rattle.vtl_cell.specs.declared.cell.Cell.{Cell}
 use Rattle.vtl_cell.specs.declared.cell.Cell.TheVariants as c
 use Rattle.vtl_cell.specs.declared.kind.Kind.{Kind}
+use Rattle.vtl_cell.specs.declared.operator.ScalarOp.{ScalarOp}
+use Rattle.vtl_cell.specs.declared.operator.ScalarOp.TheVariants as op
 use Rattle.vtl_tree.specs.CompExp as comp
 use Rattle.vtl_tree.specs.CompExp.{CompExp, CompExps, no_comp_exps, comp_exp}
 use Rattle.vtl_tree.specs.declared.expression.AggCall.{AggCall}
 use Rattle.check_values.specs.Kinds.{exp_kind}
-use Rattle.vtl_meaning.specs.Literals.{all_pass, is_member}
+use Rattle.vtl_meaning.specs.Literals.{HasLiterals, all_pass, is_member}
 use Rattle.vtl_meaning.specs.Made.{kinds_in}
 use Rattle.sql_tree.specs.Formed.{IsLiteral}
 use Rattle.sql_tree.specs.Trees.{Text}
@@ -22,7 +24,7 @@ use Rattle.sql_check_laws.specs.Fits.{HasValue}
 use Rattle.sql_check_parts.specs.Literals.{literal_kind}
 use Rattle.sql_meaning.specs.Values.{literal_cell}
 use Rattle.rules_to_sql.specs.Groups.{AreTypedOver, IsTypedOver, value_over, values_over}
-use Rattle.rules_to_sql.specs.Held.{AllHoldValues, HoldsValues}
+use Rattle.rules_to_sql.specs.Held.{AllHold, AllHoldValues, HoldsValues, IsMemberHeld, OperandsHold, asks_a_set}
 use Rattle.rules_to_sql.specs.ToSql.{member_to_sql, members_to_sql}
 use Rattle.rules_to_sql.proofs.FormedConstants.{literal_formed}
 use Rattle.rules_to_sql.proofs.WrittenConstants.{literal_is, member_kind}
@@ -40,6 +42,22 @@ member_of (comp.const v) h = member v (go (is_null v) h)
 member_of (comp.column place name kind) h = cc
 member_of (comp.call o kind args) h = cc
 member_of (comp.aggregate a kind) h = cc
+
+-- the members of a typed set hold their values
+members_held : (es : CompExps) → all_pass is_member es ≡ true → AllHold true es → AllHoldValues es
+members_held no_comp_exps m h = tt
+members_held (comp_exp e es) m h =
+    let parts = and_parts (is_member e) (all_pass is_member es) m in
+    (go e (member_of e parts.0) h.0, members_held es parts.1 h.1)
+  where
+    go : (e : CompExp) → Member e → IsMemberHeld e → HoldsValues e
+    go _ (member v n) h = h
+
+pub operands_held : (o : ScalarOp) (args : CompExps) → HasLiterals o args → OperandsHold (asks_a_set o) args → AllHoldValues args
+operands_held o no_comp_exps l h = tt
+operands_held op.In (comp_exp a es) l h = (h.0, members_held es l h.1)
+operands_held op.NotIn (comp_exp a es) l h = (h.0, members_held es l h.1)
+operands_held o (comp_exp a es) l h = h
 
 module _ (p : Settings) (low : p.scale ≤ 9) (columns : ℕ → Text → Kind → Type 0) (aggregates : AggCall → Kind → Type 0) where
   -- its literal

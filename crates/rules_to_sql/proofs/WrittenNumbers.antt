@@ -70,18 +70,30 @@ module _ (p : Settings) (low : p.scale ≤ 9) (n : ℕ) (small : n < 10 ^ 18) wh
 
   without_part : SpellsNumeral (decimal q) (numeral [])
   without_part = record {
-    sign = []; separator = []; power = [];
+    sign = [];
+    separator = [];
+    power = [];
     parts = sym (append-nil (decimal q));
-    signs = no_sign; whole_digits = whole_digits; points = no_point; fraction_digits = refl;
-    some_digit = omega (arith, some); exponents = no_exponent;
+    signs = no_sign;
+    whole_digits = whole_digits;
+    points = no_point;
+    fraction_digits = refl;
+    some_digit = omega (arith, some);
+    exponents = no_exponent;
   }
 
   with_zero : SpellsNumeral (decimal q ++ 46 ∷ 48 ∷ []) (numeral (48 ∷ []))
   with_zero = record {
-    sign = []; separator = 46 ∷ []; power = [];
+    sign = [];
+    separator = 46 ∷ [];
+    power = [];
     parts = refl;
-    signs = no_sign; whole_digits = whole_digits; points = point (48 ∷ []); fraction_digits = refl;
-    some_digit = omega (arith, some); exponents = no_exponent;
+    signs = no_sign;
+    whole_digits = whole_digits;
+    points = point (48 ∷ []);
+    fraction_digits = refl;
+    some_digit = omega (arith, some);
+    exponents = no_exponent;
   }
 
   same_value : number_of p (numeral (48 ∷ [])) ≡ number_of p (numeral [])

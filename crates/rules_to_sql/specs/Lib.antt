@@ -3,3 +3,5 @@ pub mod ToSql
 pub mod Names
 pub mod Held
 pub mod Groups
+pub mod Aliases
+pub mod CallForms

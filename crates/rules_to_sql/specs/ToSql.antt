@@ -1,5 +1,5 @@
 -- Component expressions in SQL: each operator is one operator.
-use Rattle.std.specs.Prelude.{ℕ, Bool, true, false, List, [], ◌∷◌, Option, Some, None}
+use Rattle.std.specs.Prelude.{ℕ, Bool, true, false, List, [], ◌∷◌, map, Option, Some, None}
 use Rattle.vtl_cell.specs.Settings.{Settings}
 use Rattle.vtl_cell.specs.declared.operator.AggKind.{AggKind}
 use Rattle.vtl_cell.specs.declared.operator.ScalarOp.{ScalarOp}
@@ -27,6 +27,10 @@ column_of alias name = record { source = alias; name = name }
 -- one source, of which a component is the column of its name
 abbrev pub of_source : Text → Naming
 of_source alias place name = column_of alias name
+
+-- the columns of GROUP BY of one source
+abbrev pub group_columns : (alias : Text) → List Text → List Column
+group_columns alias names = map (column_of alias) names
 
 -- ---- operators
 
@@ -59,6 +63,11 @@ abbrev pub members_to_sql : Settings → CompExps → List Literal
 members_to_sql p comp.no_comp_exps = []
 members_to_sql p (comp.comp_exp e es) = member_to_sql p e ∷ members_to_sql p es
 
+-- what stands behind the first operand
+abbrev pub members_behind : Settings → CompExps → List Literal
+members_behind p comp.no_comp_exps = []
+members_behind p (comp.comp_exp e es) = members_to_sql p es
+
 -- ---- aggregates
 
 -- an aggregate stands over one source, where a column goes by its name alone
@@ -82,6 +91,6 @@ abbrev mutual
   all_to_sql p at comp.no_comp_exps = tree.no_exps
   all_to_sql p at (comp.comp_exp e es) = tree.exp (to_sql p at e) (all_to_sql p at es)
 
-  pub members_behind : Settings → CompExps → List Literal
-  members_behind p comp.no_comp_exps = []
-  members_behind p (comp.comp_exp e es) = members_to_sql p es
+-- a call of an operator on operands
+abbrev pub call_to_sql : Settings → Naming → ScalarOp → CompExps → Exp
+call_to_sql p at o args = operator_to_sql o (members_behind p args) (all_to_sql p at args)

@@ -16,10 +16,10 @@ ghost use Rattle.sql_check_parts.specs.Kinds.{kind_in};
 ghost use Rattle.sql_check_parts.specs.Scopes.{Scope, Tables, grouping_of};
 ghost use Rattle.sql_meaning.specs.Tables.{Base};
 ghost use Rattle.sql_meaning.specs.Values.{at_groups, at_rows, value};
-ghost use Rattle.rules_to_sql.specs.Groups.{IsTypedInGroups, group_columns, group_value};
+ghost use Rattle.rules_to_sql.specs.Groups.{IsTypedInGroups, group_value};
 ghost use Rattle.rules_to_sql.specs.Held.{HoldsValues};
 ghost use Rattle.rules_to_sql.specs.Names.{AreNamesFormed, Names};
-ghost use Rattle.rules_to_sql.specs.ToSql.{Naming, of_source, to_sql};
+ghost use Rattle.rules_to_sql.specs.ToSql.{Naming, group_columns, of_source, to_sql};
 
 /// An expression has in SQL the kind that it has in VTL.
 pub fn kinds_stay()
@@ -39,7 +39,7 @@ pub fn values_stay()
 {}
 
 /// An expression fits in SQL where it stands: it breaks no rule.
-pub fn expressions_fit()
+pub fn translations_fit()
     ensures points { (p : Settings) (tables : Tables) (at : Naming) (scope : Scope) (xs : List Component) → p.scale ≤ 9 → Names at scope xs → (e : CompExp) → IsTyped p xs e → HoldsValues e
         → Fits (site p tables scope) None (to_sql p at e) }
     ensures groups { (p : Settings) (tables : Tables) (alias : Text) (scope : Scope) (names : List Text) (xs : List Component) → p.scale ≤ 9 → Names (of_source alias) scope xs → (e : CompExp) → IsTypedInGroups p names xs e → HoldsValues e
@@ -47,7 +47,7 @@ pub fn expressions_fit()
 {}
 
 /// An expression has in SQL the form that the grammar spells, where names have theirs.
-pub fn expressions_are_formed()
+pub fn translations_are_formed()
     ensures points { (p : Settings) (at : Naming) (xs : List Component) → p.scale ≤ 9 → AreNamesFormed at xs → (e : CompExp) → IsTyped p xs e → HoldsValues e
         → Formed (to_sql p at e) }
     ensures groups { (p : Settings) (alias : Text) (names : List Text) (xs : List Component) → p.scale ≤ 9 → AreNamesFormed (of_source alias) xs → (e : CompExp) → IsTypedInGroups p names xs e → HoldsValues e

@@ -7,8 +7,16 @@
 //! Begin with specs/ToSql.antt, Constants.antt and Groups.antt, then `laws.rt`.
 #![tactic(auto)]
 
+mod aliases;
+mod constants;
+mod forms;
 mod laws;
+mod texts;
+mod translation;
 
+pub use aliases::Aliases;
+pub use constants::const_to_sql;
 pub use laws::{
-    depths_grow_by_one, expressions_are_formed, expressions_fit, kinds_stay, values_stay,
+    depths_grow_by_one, kinds_stay, translations_are_formed, translations_fit, values_stay,
 };
+pub use translation::comp_to_sql;

@@ -1,6 +1,6 @@
 use Rattle.rules_to_sql.proofs.OverGroups.{group_fits}
 use Rattle.rules_to_sql.proofs.OverPoints.{point_fits}
-use Rattle.rules_to_sql.proofs.laws.expressions_fit.Goals as goal
+use Rattle.rules_to_sql.proofs.laws.translations_fit.Goals as goal
 
 pub returns-clause-points : goal.returns-clause-points
 returns-clause-points c = point_fits

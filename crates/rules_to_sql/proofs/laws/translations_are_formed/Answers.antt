@@ -1,6 +1,6 @@
 use Rattle.rules_to_sql.proofs.OverGroups.{group_formed}
 use Rattle.rules_to_sql.proofs.OverPoints.{point_formed}
-use Rattle.rules_to_sql.proofs.laws.expressions_are_formed.Goals as goal
+use Rattle.rules_to_sql.proofs.laws.translations_are_formed.Goals as goal
 
 pub returns-clause-points : goal.returns-clause-points
 returns-clause-points c = point_formed
