@@ -10,3 +10,4 @@ pub mod Exact
 pub mod OneOperand
 pub mod Written
 pub mod Forms
+pub mod PairForms

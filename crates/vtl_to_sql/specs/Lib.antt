@@ -5,3 +5,4 @@ pub mod Runs
 pub mod Conditions
 pub mod Means
 pub mod Items
+pub mod PairItems

@@ -6,5 +6,8 @@ mod components;
 mod conditions;
 mod draft;
 mod items;
+mod pair_items;
+mod pair_queries;
 mod queries;
-mod walk;
+
+

@@ -2,15 +2,16 @@
 ghost use Rattle.std.specs.Prelude.{◌≡◌, IfOk};
 ghost use Rattle.sql_tree.specs.Trees.{column};
 ghost use Rattle.sql_tree.specs.View.{expr_tree};
+ghost use Rattle.rules_to_sql.specs.Constants.{const_to_sql};
 ghost use Rattle.rules_to_sql.specs.ToSql.{column_of, to_sql};
 ghost use Rattle.vtl_tree.specs.View.{comp_exp_of};
 ghost use Rattle.vtl_to_sql.specs.Queries.{first_alias, of_one, of_two, second_alias, source_as};
 
-use rules_to_sql::{Aliases, comp_to_sql};
+use rules_to_sql::{Aliases, comp_to_sql, const_to_sql};
 use sql_tree::{Column, Source, SqlExpr};
 use std::alloc::{AllocError, Global};
 use std::marker::Model;
-use vtl_cell::{Profile, Txt};
+use vtl_cell::{Cell, Profile, Txt};
 use vtl_tree::CompExpr;
 
 /// The settings of a script, and the aliases of sources. A contract sees the settings.
@@ -89,6 +90,29 @@ impl Writer {
             width,
         };
         comp_to_sql(alloc, e, &aliases, &self.profile)
+    }
+
+    // A value as a constant.
+    pub(crate) fn constant(&self, alloc: Global, value: &Cell) -> Result<SqlExpr, AllocError>
+        ensures { IfOk result (λ e. expr_tree e ≡ const_to_sql self.now value.now) }
+    {
+        const_to_sql(alloc, value, &self.profile)
+    }
+
+    // The column at a place of two sources, of which the first has so many columns.
+    pub(crate) fn column_at(
+        &self,
+        place: usize,
+        width: usize,
+        name: &Txt,
+    ) -> Result<SqlExpr, AllocError>
+        ensures { IfOk result (λ e. expr_tree e ≡ column (of_two width place name.now)) }
+    {
+        if place < width {
+            self.column(name)
+        } else {
+            self.other_column(name)
+        }
     }
 
     // A table as the first source.
