@@ -11,3 +11,4 @@ pub mod OneOperand
 pub mod Written
 pub mod Forms
 pub mod PairForms
+pub mod Walked

@@ -11,3 +11,4 @@ mod pair_queries;
 mod queries;
 
 
+mod walk;

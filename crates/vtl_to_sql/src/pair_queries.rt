@@ -20,6 +20,7 @@ use vtl_cell::{List, ScalarOp, Txt};
 use vtl_tree::{Component, Structure};
 
 /// An operand: its structure, and the table that stands for it.
+#[derive(Drop)]
 pub(crate) struct Operand<'a> {
     pub(crate) structure: &'a Structure,
     pub(crate) table: &'a Txt,

@@ -1,0 +1,127 @@
+// The tables of an expression on data sets.
+ghost use Rattle.std.specs.Prelude.{◌≡◌, ◌++◌, ◌∷◌, [], map, IfOk, OnOk};
+ghost use Rattle.vtl_nodes.specs.View.{form_tree, node_tree};
+ghost use Rattle.sql_tree.specs.View.{query_tree, statement_tree};
+ghost use Rattle.vtl_to_sql.specs.Scripts.{create_for};
+ghost use Rattle.vtl_nodes.specs.Trees.{structure_of};
+ghost use Rattle.vtl_to_sql.specs.Queries.{left_query};
+ghost use Rattle.vtl_to_sql.specs.Tables.{made_of_form, over, sources_of, with_one};
+
+use crate::draft::Draft;
+use crate::pair_queries::{Operand, choose_query, pair_query};
+use crate::queries::{
+    calc_query, filter_query, left_query, measures_query, no_query, rename_query, sub_query,
+};
+use crate::writer::Writer;
+use sql_tree::Query;
+use std::alloc::{AllocError, Global};
+use vtl_cell::Txt;
+use vtl_nodes::{Node, NodeForm};
+use vtl_tree::Structure;
+
+/// The name of a table that stands for an operand, for which tables are made first where it is more than a name.
+#[cycle(made)]
+pub(crate) fn source(
+    alloc: Global,
+    writer: &Writer,
+    node: &Node,
+    target: &Txt,
+    draft: &mut Draft,
+) -> Result<Txt, AllocError>
+    ensures name { IfOk result (λ t. t ∷ [] ≡ (sources_of writer.now target.now (node_tree node.now) draft.old.next).names) }
+    ensures tables { OnOk result (map statement_tree draft.new.statements.items ≡ map statement_tree draft.old.statements.items ++ map create_for (sources_of writer.now target.now (node_tree node.now) draft.old.next).tables) }
+    ensures next { OnOk result (draft.new.next ≡ (sources_of writer.now target.now (node_tree node.now) draft.old.next).next) }
+{
+    match &node.form {
+        NodeForm::Named(name) => name.share(),
+        form => {
+            let query = query(alloc, writer, form, &node.structure, target, draft)?;
+            draft.store(alloc, target, query)
+        }
+    }
+}
+
+// An operand with the table that stands for it.
+fn operand<'a>(node: &'a Node, table: &'a Txt) -> Operand<'a>
+    ensures structure { result.structure.now ≡ structure_of (node_tree node.now) }
+    ensures table { result.table.now ≡ table.now }
+{
+    Operand {
+        structure: &node.structure,
+        table,
+    }
+}
+
+// The columns of an operand that are left.
+#[cycle(made)]
+fn left(
+    alloc: Global,
+    writer: &Writer,
+    a: &Node,
+    s: &Structure,
+    target: &Txt,
+    draft: &mut Draft,
+) -> Result<Query, AllocError>
+    ensures query { IfOk result (λ q. query_tree q ≡ (over (sources_of writer.now target.now (node_tree a.now) draft.old.next) (with_one (left_query writer.now (structure_of (node_tree a.now)) s.now))).query) }
+    ensures tables { OnOk result (map statement_tree draft.new.statements.items ≡ map statement_tree draft.old.statements.items ++ map create_for (sources_of writer.now target.now (node_tree a.now) draft.old.next).tables) }
+    ensures next { OnOk result (draft.new.next ≡ (sources_of writer.now target.now (node_tree a.now) draft.old.next).next) }
+{
+    let table = source(alloc, writer, a, target, draft)?;
+    left_query(alloc, writer, s, &table)
+}
+
+/// The query of an expression of a structure. The tables that stand for its operands are made first.
+#[cycle(made)]
+pub(crate) fn query(
+    alloc: Global,
+    writer: &Writer,
+    form: &NodeForm,
+    s: &Structure,
+    target: &Txt,
+    draft: &mut Draft,
+) -> Result<Query, AllocError>
+    ensures query { IfOk result (λ q. query_tree q ≡ (made_of_form writer.now target.now s.now (form_tree form.now) draft.old.next).query) }
+    ensures tables { OnOk result (map statement_tree draft.new.statements.items ≡ map statement_tree draft.old.statements.items ++ map create_for (made_of_form writer.now target.now s.now (form_tree form.now) draft.old.next).tables) }
+    ensures next { OnOk result (draft.new.next ≡ (made_of_form writer.now target.now s.now (form_tree form.now) draft.old.next).next) }
+{
+    match form {
+        NodeForm::Named(name) => left_query(alloc, writer, s, name),
+        NodeForm::Measures { op, a } => {
+            let table = source(alloc, writer, a, target, draft)?;
+            measures_query(alloc, writer, op, &a.structure, s, &table)
+        }
+        NodeForm::Filter { a, c } => {
+            let table = source(alloc, writer, a, target, draft)?;
+            filter_query(alloc, writer, c, s, &table)
+        }
+        NodeForm::Calc { a, items } => {
+            let table = source(alloc, writer, a, target, draft)?;
+            calc_query(alloc, writer, items.as_slice(), s, &table)
+        }
+        NodeForm::Rename { a, .. } => {
+            let table = source(alloc, writer, a, target, draft)?;
+            rename_query(alloc, writer, &a.structure, s, &table)
+        }
+        NodeForm::Sub { a, values } => {
+            let table = source(alloc, writer, a, target, draft)?;
+            sub_query(alloc, writer, values.as_slice(), s, &table)
+        }
+        NodeForm::Member { a, .. } => left(alloc, writer, a, s, target, draft),
+        NodeForm::Keep { a, .. } => left(alloc, writer, a, s, target, draft),
+        NodeForm::DropNamed { a, .. } => left(alloc, writer, a, s, target, draft),
+        NodeForm::Pair { op, a, b } => {
+            let first = source(alloc, writer, a, target, draft)?;
+            let second = source(alloc, writer, b, target, draft)?;
+            let (first, second) = (operand(a, &first), operand(b, &second));
+            pair_query(alloc, writer, *op, &first, &second, s)
+        }
+        NodeForm::Choose { c, a, b } => {
+            let tested = source(alloc, writer, c, target, draft)?;
+            let first = source(alloc, writer, a, target, draft)?;
+            let second = source(alloc, writer, b, target, draft)?;
+            let (first, second) = (operand(a, &first), operand(b, &second));
+            choose_query(alloc, writer, &operand(c, &tested), &first, &second, s)
+        }
+        _ => Ok(no_query(alloc)),
+    }
+}
