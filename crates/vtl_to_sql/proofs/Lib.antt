@@ -12,3 +12,4 @@ pub mod Written
 pub mod Forms
 pub mod PairForms
 pub mod Walked
+pub mod ReadNames

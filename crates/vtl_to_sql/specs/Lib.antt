@@ -6,3 +6,4 @@ pub mod Conditions
 pub mod Means
 pub mod Items
 pub mod PairItems
+pub mod Reads

@@ -12,3 +12,5 @@ mod queries;
 
 
 mod walk;
+mod inputs;
+mod script;

@@ -1,0 +1,111 @@
+// A typed script in SQL.
+ghost use Rattle.std.specs.Fmt.{decimal};
+ghost use Rattle.std.specs.Prelude.{◌≡◌, ◌++◌, ◌∷◌, [], map, length, IfOk, OnOk, true};
+ghost use Rattle.vtl_syntax.specs.View.{statement_tree as vtl_statement_tree};
+ghost use Rattle.vtl_nodes.specs.View.{node_tree};
+ghost use Rattle.vtl_backend.specs.Inputs.{inputs_of};
+ghost use Rattle.vtl_backend.specs.Statements.{statements_of, with_nodes};
+ghost use Rattle.vtl_backend.specs.Transformations.{transformations};
+ghost use Rattle.sql_tree.specs.View.{script_tree, statement_tree};
+ghost use Rattle.vtl_to_sql.specs.Reads.{statement_of};
+ghost use Rattle.vtl_to_sql.specs.Scripts.{create_for, export_for, export_of, script_for, written_of};
+ghost use Rattle.vtl_to_sql.specs.Tables.{script_tables, statement_tables};
+
+use crate::draft::Draft;
+use crate::inputs::{names, push_inputs};
+use crate::walk::query;
+use crate::writer::Writer;
+use sql_tree::{SqlExport, SqlScript, Statement};
+use std::alloc::{AllocError, Global};
+use vtl_backend::Checked;
+use vtl_cell::{List, Profile, Txt};
+use vtl_nodes::Node;
+use vtl_syntax::{AssignKind, Statement as Assigned};
+use vtl_tree::Structure;
+
+// Adds the tables of a statement, of which the last one has the name of its result.
+fn push_result(
+    alloc: Global,
+    writer: &Writer,
+    draft: &mut Draft,
+    name: &Txt,
+    kind: AssignKind,
+    node: &Node,
+) -> Result<(), AllocError>
+    ensures { OnOk result (map statement_tree draft.new.statements.items ≡ map statement_tree draft.old.statements.items ++ map create_for (statement_tables writer.now (statement_of name.now kind (node_tree node.now)))) }
+{
+    draft.begin();
+    let query = query(alloc, writer, &node.form, &node.structure, name, draft)?;
+    draft.create(name, query)
+}
+
+// Adds the tables of all statements. A definition has no node, and gives nothing.
+fn push_results(
+    alloc: Global,
+    writer: &Writer,
+    draft: &mut Draft,
+    statements: &[Assigned],
+    nodes: &[Node],
+) -> Result<(), AllocError>
+    requires { length nodes.now ≡ length (transformations (map vtl_statement_tree statements.now)) }
+    ensures { OnOk result (map statement_tree draft.new.statements.items ≡ map statement_tree draft.old.statements.items ++ map create_for (script_tables writer.now (with_nodes (transformations (map vtl_statement_tree statements.now)) (map node_tree nodes.now)))) }
+{
+    let mut place = 0;
+    for statement in statements {
+        let Assigned::Assignment { name, kind, .. } = statement else {
+            continue;
+        };
+        push_result(alloc, writer, draft, name, *kind, &nodes[place])?;
+        place += 1;
+    }
+    Ok(())
+}
+
+fn export(alloc: Global, name: &Txt, s: &Structure) -> Result<SqlExport, AllocError>
+    ensures { IfOk result (λ x. x ≡ export_of (name.now, s.now)) }
+{
+    let identifiers = s.identifiers(alloc)?;
+    Ok(SqlExport {
+        name: name.share()?,
+        order: names(alloc, &identifiers)?,
+    })
+}
+
+// Adds the EXPORT of a result, where it is written.
+fn push_export(
+    alloc: Global,
+    draft: &mut Draft,
+    name: &Txt,
+    kind: AssignKind,
+    node: &Node,
+) -> Result<(), AllocError>
+    ensures { OnOk result (map statement_tree draft.new.statements.items ≡ map statement_tree draft.old.statements.items ++ map export_for (written_of (statement_of name.now kind (node_tree node.now) ∷ []))) }
+{
+    match kind {
+        AssignKind::Persistent => {
+            draft.push(Statement::Export(export(alloc, name, &node.structure)?))
+        }
+        AssignKind::Temporary => Ok(()),
+    }
+}
+
+// Adds the EXPORTs of the results that are written. A definition has no node, and gives nothing.
+fn push_exports(
+    alloc: Global,
+    draft: &mut Draft,
+    statements: &[Assigned],
+    nodes: &[Node],
+) -> Result<(), AllocError>
+    requires { length nodes.now ≡ length (transformations (map vtl_statement_tree statements.now)) }
+    ensures { OnOk result (map statement_tree draft.new.statements.items ≡ map statement_tree draft.old.statements.items ++ map export_for (written_of (with_nodes (transformations (map vtl_statement_tree statements.now)) (map node_tree nodes.now)))) }
+{
+    let mut place = 0;
+    for statement in statements {
+        let Assigned::Assignment { name, kind, .. } = statement else {
+            continue;
+        };
+        push_export(alloc, draft, name, *kind, &nodes[place])?;
+        place += 1;
+    }
+    Ok(())
+}
