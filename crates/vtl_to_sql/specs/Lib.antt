@@ -7,3 +7,4 @@ pub mod Means
 pub mod Items
 pub mod PairItems
 pub mod Reads
+pub mod Translated

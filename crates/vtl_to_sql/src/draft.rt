@@ -88,4 +88,15 @@ impl Draft {
         self.next += 1;
         Ok(name)
     }
+
+    /// The statements.
+    pub(crate) fn into_statements(self) -> Vec<Statement>
+        ensures { result.items ≡ self.statements.items }
+    {
+        let Draft {
+            statements,
+            next: _next,
+        } = self;
+        statements
+    }
 }

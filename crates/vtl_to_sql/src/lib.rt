@@ -14,3 +14,7 @@ mod queries;
 mod walk;
 mod inputs;
 mod script;
+mod translated;
+
+pub use script::translate;
+pub use translated::is_translated;

@@ -8,8 +8,9 @@ ghost use Rattle.vtl_backend.specs.Statements.{statements_of, with_nodes};
 ghost use Rattle.vtl_backend.specs.Transformations.{transformations};
 ghost use Rattle.sql_tree.specs.View.{script_tree, statement_tree};
 ghost use Rattle.vtl_to_sql.specs.Reads.{statement_of};
-ghost use Rattle.vtl_to_sql.specs.Scripts.{create_for, export_for, export_of, script_for, written_of};
+ghost use Rattle.vtl_to_sql.specs.Scripts.{create_for, export_for, export_of, script_for, statements_for, written_of};
 ghost use Rattle.vtl_to_sql.specs.Tables.{script_tables, statement_tables};
+ghost use Rattle.vtl_to_sql.specs.Translated.{has_script_queries};
 
 use crate::draft::Draft;
 use crate::inputs::{names, push_inputs};
@@ -108,4 +109,40 @@ fn push_exports(
         place += 1;
     }
     Ok(())
+}
+
+// The statements of a script behind its settings.
+fn statements(alloc: Global, script: &Checked) -> Result<Vec<Statement>, AllocError>
+    ensures { IfOk result (λ v. map statement_tree v.items ≡ statements_for script.now.settings (inputs_of script.now) (statements_of script.now)) }
+{
+    let writer = Writer::new(alloc, script.profile())?;
+    let mut draft = Draft::new(alloc);
+    push_inputs(alloc, &mut draft, script)?;
+    push_results(alloc, &writer, &mut draft, script.statements(), script.nodes())?;
+    push_exports(alloc, &mut draft, script.statements(), script.nodes())?;
+    Ok(draft.into_statements())
+}
+
+// The scale as it is written.
+fn scale(alloc: Global, p: &Profile) -> Result<Txt, AllocError>
+    ensures { IfOk result (λ t. t ≡ decimal p.now.scale) }
+{
+    let digits = format!(in alloc; "{}", p.scale())?;
+    Txt::new(alloc, &digits)
+}
+
+/// The script in SQL: its settings, an INPUT for each data set that is read, in order of first use, the tables of each
+/// statement, and an EXPORT for each result that is written, in order. It takes a script of forms that are translated so
+/// far, and fails only if memory runs out.
+pub fn translate(alloc: Global, script: &Checked) -> Result<SqlScript, AllocError>
+    requires { has_script_queries script.now ≡ true }
+    ensures { IfOk result (λ x. script_tree x ≡ script_for script.now.settings (inputs_of script.now) (statements_of script.now)) }
+{
+    let profile = script.profile();
+    let statements = statements(alloc, script)?;
+    Ok(SqlScript {
+        scale: scale(alloc, profile)?,
+        rounding: profile.rounding(),
+        statements: List::of(statements),
+    })
 }
