@@ -1,8 +1,7 @@
 -- The tables of operands one behind the other, and a query over them.
-use Rattle.std.proofs.Common.{◌≡◌, ℕ, ◌+◌, ◌<◌, ◌≤◌, ◌^◌, true, false, List, [], ◌∷◌, ◌++◌, length, Some, Ok, Err, refl, ap, sym, ◌∙◌, subst, arith, append_assoc, append-nil, length-append, inl, inr, ⊎_elim}
+use Rattle.std.proofs.Common.{◌≡◌, ℕ, ◌+◌, ◌<◌, ◌≤◌, ◌^◌, true, false, List, [], ◌∷◌, ◌++◌, length, Ok, Err, refl, ap, sym, ◌∙◌, subst, arith, append_assoc, append-nil, length-append, inl, inr, ⊎_elim}
 use Rattle.std.specs.List.{AllByRecursion}
-use Rattle.std.specs.Map.{lookup}
-use Rattle.vtl_cell.specs.Outcome.{Fault, Outcome, after}
+use Rattle.vtl_cell.specs.Outcome.{Outcome, after}
 use Rattle.vtl_cell.specs.Row.{Row}
 use Rattle.vtl_cell.specs.Settings.{Settings}
 use Rattle.vtl_cell.specs.Texts.{same_text}
@@ -12,11 +11,11 @@ use Rattle.vtl_tree.specs.declared.structure.Structure.{Structure}
 use Rattle.vtl_meaning.specs.Points.{with_points}
 use Rattle.vtl_meaning.proofs.Places.{all_append, all_more, same_name-refl}
 use Rattle.sql_tree.specs.Trees.{QueryTree, Text}
-use Rattle.sql_meaning.specs.Scripts.{Data, base_of, fault_name, tables_in}
+use Rattle.sql_meaning.specs.Scripts.{Data, base_of, tables_in}
 use Rattle.sql_meaning.specs.Selects.{query_value}
 use Rattle.vtl_to_sql.specs.Means.{AreEarlier, AreThere, Extends, IsEarlier, IsNumbered, Means, NodeGives, SourcesGive, Stands, StandsAs}
-use Rattle.vtl_to_sql.specs.Runs.{AreLawful, IsTable, held, run}
-use Rattle.vtl_to_sql.specs.Tables.{Made, Sources, Table, and_then, numbered, over, stored, table_of, with_one, with_three, with_two}
+use Rattle.vtl_to_sql.specs.Runs.{AreLawful, IsTable, held}
+use Rattle.vtl_to_sql.specs.Tables.{Made, Sources, and_then, numbered, over, stored, table_of, with_one, with_three, with_two}
 use Rattle.vtl_to_sql.proofs.Names.{numbered_is_name, numbered_name, numbers_differ, other_statement}
 use Rattle.vtl_to_sql.proofs.Running.{lawful_on, name_free, run_fault, run_on, run_one, run_stops, same_ok, there_last, there_still}
 
@@ -60,7 +59,7 @@ module _ (p : Settings) (r : Text) (word : is_word r ≡ true) where
 
   -- ---- operands
 
-  pub no_tables : (before : Data) (n : ℕ) → Extends p before r n [] n
+  abbrev pub no_tables : (before : Data) (n : ℕ) → Extends p before r n [] n
   no_tables before n = record { more = []; ran = ap Ok (sym (append-nil before)); lawful = tt; new = tt; counted = omega arith }
 
   -- one in a table of its own

@@ -13,8 +13,8 @@ use Rattle.vtl_meaning.specs.Trees.{ItemTree as Target, MeasureTree}
 use Rattle.vtl_meaning.specs.clauses.SubItem.{SubItem}
 use Rattle.sql_tree.specs.Trees.{Exp, ItemTree, QueryTree, Text}
 use Rattle.rules_to_sql.specs.ToSql.{to_sql}
-use Rattle.vtl_to_sql.specs.Items.{all_of, calculated_item, first_column, for_each_two, from_table, measured_item, renamed_item, value_equality}
-use Rattle.vtl_to_sql.specs.Queries.{calc_query, conjunction, filter_query, has_value, item_as, items_for, left_query, measures_query, of_one, rename_query, sub_query}
+use Rattle.vtl_to_sql.specs.Items.{all_of, calculated_item, first_column, for_each_two, from_table, items_for, measured_item, renamed_item, value_equality}
+use Rattle.vtl_to_sql.specs.Queries.{calc_query, conjunction, filter_query, has_value, item_as, left_query, measures_query, of_one, rename_query, sub_query}
 
 -- columns go by their names
 columns_renamed : (p : Settings) (xs ys zs : List Component) → items_for p of_one (columns_named xs ys) zs ≡ for_each_two renamed_item ys zs

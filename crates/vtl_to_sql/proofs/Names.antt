@@ -1,22 +1,21 @@
 -- The names of tables: the result's name, alone and with numbers.
-use Rattle.std.proofs.Common.{◌≡◌, ℕ, ◌+◌, ◌<◌, ◌≤◌, ◌^◌, Bool, true, false, not, ◌&&◌, List, [], ◌∷◌, ◌++◌, length, refl, ap, sym, ◌∙◌, subst, arith, append-nil, length-append}
+use Rattle.std.proofs.Common.{◌≡◌, ℕ, ◌+◌, ◌<◌, ◌≤◌, ◌^◌, Bool, true, false, not, ◌&&◌, List, [], ◌∷◌, length, refl, ap, sym, ◌∙◌, arith, append-nil, length-append}
 use Rattle.std.specs.Prelude.{◌==◌, encode_utf8_all}
 use Rattle.std.specs.Char.{is_ascii_digit, is_control}
 use Rattle.std.specs.Fmt.{decimal}
 use Rattle.std.specs.List.{list_all}
-use Rattle.std.specs.Option.{option_map_or}
-use Rattle.std.specs.Str.{IsAscii, all_ascii_digits}
+use Rattle.std.specs.Str.{all_ascii_digits}
 use Rattle.std.proofs.lemmas.Bool.{and_from, and_parts}
 use Rattle.std.proofs.lemmas.Bool.Decides.{nat_tests}
 use Rattle.std.proofs.lemmas.Fmt.{IsAscii-decimal, decimal_injective, digits_decimal, length-decimal-le}
 use Rattle.std.proofs.lemmas.List.{append_cancel_left}
 use Rattle.std.proofs.lemmas.List.Folds.{list_all-append}
-use Rattle.std.proofs.lemmas.Str.{encode_ascii, encodes-IsAscii, length-le-encodes}
+use Rattle.std.proofs.lemmas.Str.{encodes-IsAscii, length-le-encodes}
 use Rattle.std.proofs.lemmas.Str.Parse.{numerals_by_value, tells_all_ascii_digits}
 use lib.Utf8.{encode}
 use Rattle.vtl_decimal.proofs.SplitLemmas.{at, at_end, before_first-append}
 use Rattle.vtl_cell.specs.Texts.{same_text}
-use Rattle.vtl_cell.specs.Words.{fits_name, is_word, is_word_character, starts_with_letter}
+use Rattle.vtl_cell.specs.Words.{fits_name, is_component_character, is_component_name, is_word, is_word_character, starts_with_letter}
 use Rattle.vtl_meaning.proofs.Places.{same_name-is, same_name-refl}
 use Rattle.sql_lexer.specs.Spelling.{has_no_control, is_name, size}
 use Rattle.sql_lexer.specs.Spelling as sql
@@ -143,3 +142,27 @@ numbered_is_name r n h few =
     and_from (sql.fits_name (size (numbered r n))) (has_no_control (numbered r n))
     (fits (size (numbered r n)) (omega (arith, both, front.0)) (omega (arith, both, front.1, back)))
     (list_all-append (λ x. not (is_control x)) r (dollar ∷ decimal n) ∙ and_from (has_no_control r) (has_no_control (dollar ∷ decimal n)) (word_passes r h) (number_passes n few))
+
+-- ---- names of components
+
+component_is_no_control : (x : ℕ) → is_component_character x ≡ true → not (is_control x) ≡ true
+component_is_no_control x h = (and_parts (not (x == 39)) (not (is_control x)) h).1
+
+filled : (xs : Text) → not (length xs == 0) ≡ true → 1 ≤ length xs
+filled [] h = cc
+filled (x ∷ xs) h = omega arith
+
+component_parts : (x : Text) → is_component_name x ≡ true → (fits_name x ≡ true) × (1 ≤ length x) × (list_all is_component_character x ≡ true)
+unfolding is_component_name
+component_parts x h =
+    let one = and_parts (fits_name x) (not (length x == 0) && list_all is_component_character x) h in
+    let two = and_parts (not (length x == 0)) (list_all is_component_character x) one.1 in
+    (one.0, filled x two.0, two.1)
+
+pub component_is_name : (x : Text) → is_component_name x ≡ true → is_name x ≡ true
+unfolding is_name
+component_is_name x h =
+    let parts = component_parts x h in
+    let low : 1 ≤ size x = let some = parts.1 in omega (arith, some, length-le-encodes x) in
+    let high : size x ≤ 64 = let fit = parts.0 in grind (arith, nat_tests, fit) in
+    and_from (sql.fits_name (size x)) (has_no_control x) (fits (size x) low (omega (arith, high))) (all_pass is_component_character (λ c. not (is_control c)) component_is_no_control x parts.2)

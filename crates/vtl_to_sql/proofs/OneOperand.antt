@@ -1,13 +1,12 @@
 -- The forms of one operand: each is a select over its table.
-use Rattle.std.proofs.Common.{◌≡◌, ◌≤◌, ◌+◌, ℕ, zero, suc, Bool, true, false, cond, List, [], ◌∷◌, ◌++◌, map, take, Option, Some, None, Ok, refl, ap, sym, ◌∙◌, subst, arith, append-nil}
-use Rattle.std.specs.Prelude.{codes, unwrap_or}
+use Rattle.std.proofs.Common.{◌≡◌, ℕ, zero, suc, true, false, List, [], ◌∷◌, map, take, Option, Some, None, Ok, refl, ap, sym, ◌∙◌, subst, arith, append-nil}
+use Rattle.std.specs.Prelude.{unwrap_or}
 use Rattle.std.specs.List.{AllByRecursion, filter}
 use Rattle.std.proofs.Math.Seq.{take-length}
 use Rattle.vtl_cell.specs.Outcome.{Fault, Outcome, after, fault_in, faults_by, unless}
 use Rattle.vtl_cell.specs.Outcomes.{is_true}
 use Rattle.vtl_cell.specs.Row.{Row}
 use Rattle.vtl_cell.specs.Settings.{Settings}
-use Rattle.vtl_cell.specs.Texts.{same_text}
 use Rattle.vtl_cell.specs.declared.kind.Kind.{Kind}
 use Rattle.vtl_cell.proofs.Aparts.{apart_parts}
 use Rattle.vtl_cell.proofs.Sorts.{AllByRecursion-filter}
@@ -20,33 +19,34 @@ use Rattle.vtl_tree.specs.Value.{value}
 use Rattle.vtl_tree.specs.declared.structure.Component.{Component}
 use Rattle.vtl_tree.specs.declared.structure.Structure.{Structure}
 use Rattle.vtl_meaning.specs.Columns.{columns_named, kind_named, place_of, places_in}
-use Rattle.vtl_meaning.specs.Made.{AreAmong, AreFor, IsCalculated, IsColumnAt, IsFiltered, IsLeft, IsMeasured, IsRenamed, IsTyped}
+use Rattle.vtl_meaning.specs.Made.{AreAmong, AreFor, IsCalculated, IsColumnAt, IsFiltered, IsLeft, IsMeasured, IsRenamed}
 use Rattle.vtl_meaning.specs.Operators.{calculated_exps, calculated_of, left_of, measured_exps, measured_of}
 use Rattle.vtl_meaning.specs.Points.{each_point, point_fault, point_of, with_points}
-use Rattle.vtl_meaning.specs.Shapes.{IsShaped}
 use Rattle.vtl_meaning.specs.Trees.{ItemTree as Target, MeasureTree}
 use Rattle.vtl_meaning.proofs.Kept.{columns_point}
 use Rattle.vtl_meaning.proofs.OwnColumns.{columns_apart, own_columns}
 use Rattle.vtl_meaning.proofs.Places.{first_cells, point_length, same_name-refl, same_name-sym}
-use Rattle.sql_tree.specs.Formed.{IsName}
-use Rattle.sql_tree.specs.Trees.{Text}
-use Rattle.sql_check_parts.specs.Queries.{query_columns, scope_of}
+use Rattle.sql_tree.specs.Formed.{IsMaybeExp, IsName}
+use Rattle.sql_tree.specs.Trees.{Exp, ItemTree, Text}
+use Rattle.sql_check_laws.specs.Fits.{IsMaybeCondition}
+use Rattle.sql_check_parts.specs.Expressions.{site}
 use Rattle.sql_check_parts.specs.Scopes.{add_source, columns_of as table_columns}
 use Rattle.sql_meaning.specs.From.{condition_fault, kept, source_rows}
 use Rattle.sql_meaning.specs.Scripts.{Data, base_of, no_table, tables_in}
-use Rattle.sql_meaning.specs.Selects.{query_value}
 use Rattle.sql_meaning.specs.Values.{at_rows, value as sql_value}
+use Rattle.rules_to_sql.specs.Names.{Names}
 use Rattle.rules_to_sql.specs.ToSql.{to_sql}
 use Rattle.vtl_to_sql.specs.Conditions.{AllCanBeWritten, CanBeWritten, HaveNames}
-use Rattle.vtl_to_sql.specs.Means.{IsQueryFor}
 use Rattle.vtl_to_sql.specs.Queries as queries
-use Rattle.vtl_to_sql.specs.Queries.{calc_query, copy_query, filter_query, first_alias, left_query, measures_query, of_one, points_query, rename_query, select_of, source_as}
-use Rattle.vtl_to_sql.specs.Runs.{IsTable, entries, held}
+use Rattle.vtl_to_sql.specs.Queries.{all_to_sql, calc_query, copy_query, filter_query, first_alias, items_as, left_query, measures_query, of_one, points_query, rename_query, select_as, select_of, source_as}
+use Rattle.vtl_to_sql.specs.Runs.{IsTable, entries, held, printable_depth}
 use Rattle.vtl_to_sql.proofs.Exact.{IsExactly, exactly_same}
 use Rattle.vtl_to_sql.proofs.Expressions.{Translates}
 use Rattle.vtl_to_sql.proofs.Running.{columns_there}
-use Rattle.vtl_to_sql.proofs.SelectForms.{AreGiven, IsTest, columns_given, select_printed, select_whole}
-use Rattle.vtl_to_sql.proofs.SelectRows.{AllPoints, select_columns, select_rows}
+use Rattle.vtl_to_sql.proofs.Givens.{AreGiven}
+use Rattle.vtl_to_sql.proofs.SelectItems.{AllRows, GivesRows, IsFrom}
+use Rattle.vtl_to_sql.proofs.Selects.{IsPointOf, IsTest, condition_fits, expression_printed, expressions_give}
+use Rattle.vtl_to_sql.proofs.Unions.{one_exactly}
 use Rattle.vtl_to_sql.proofs.Sources.{AreApart, first_is_name, not_first, one_formed, one_names, one_scope}
 
 pub same_functions : {A B : Type 0} (f g : A → B) → ((x : A) → f x ≡ g x) → f ≡ g
@@ -107,47 +107,57 @@ module _ (p : Settings) (law : Translates p) (before : Data) (name : Text) (a : 
   pub known_there : table_columns (tables_in before) name ≡ Some (entries (columns_of a))
   known_there = columns_there before name (held a d) there
 
-  module _ (es : List CompExp) (s : Structure) (i : AreFor p (columns_of a) es (columns_of s)) (h : AllCanBeWritten es) where
-    scope_is : (condition : Option CompExp) → scope_of (tables_in before) (select_of p of_one es s (source_as first_alias name) [] condition) ≡ one_scope (columns_of a)
-    scope_is condition = ap (add_source [] first_alias) known_there
+  abbrev pub xs : List Component
+  xs = columns_of a
 
-    points_query_for : AreGiven (columns_of s) → (condition : Option CompExp) → IsTest p (columns_of a) condition → IsQueryFor p (tables_in before) s (points_query p es s condition name)
-    points_query_for given condition test =
-        let names = one_names (columns_of a) (columns_apart a w) in
-        let known : (table_columns (tables_in before) name ≡ Some (entries (columns_of a))) = known_there in
-        record {
-          columns = select_columns (base_of p before) law of_one (columns_of a) es s i h (source_as first_alias name) [] condition (one_scope (columns_of a)) (scope_is condition) names;
-          typed = select_whole p law (tables_in before) of_one (columns_of a) es s i h given (source_as first_alias name) [] condition test (one_scope (columns_of a)) (scope_is condition) names (rw known refl, refl) tt;
-          printed = select_printed p law (tables_in before) of_one (columns_of a) es s i h given (source_as first_alias name) [] condition test (one_formed (columns_of a) na) (named, first_is_name) tt;
-        }
+  pub own_names : Names of_one (one_scope xs) xs
+  own_names = one_names xs (columns_apart a w)
 
-    points_rows : (condition : Option CompExp) (m : Outcome (List Row)) → source_rows (base_of p before) (select_of p of_one es s (source_as first_alias name) [] condition) ≡ m → AllPoints (columns_of a) m → query_value (base_of p before) (points_query p es s condition name) ≡ after m (each_point p es)
-    points_rows condition m e all = select_rows (base_of p before) law of_one (columns_of a) es s i h (source_as first_alias name) [] condition (one_scope (columns_of a)) (scope_is condition) (one_names (columns_of a) (columns_apart a w)) m e all
+  -- one table as FROM, with a condition
+  pub one_from : (items : List ItemTree) (condition : Option Exp) → IsMaybeCondition (site p (tables_in before) (one_scope xs)) None condition → IsMaybeExp printable_depth condition → IsFrom p before (one_scope xs) (select_as items (source_as first_alias name) [] condition)
+  one_from items condition fits printed =
+      let known : (table_columns (tables_in before) name ≡ Some (entries xs)) = known_there in
+      record {
+        scope = ap (add_source [] first_alias) known;
+        source = ((rw known refl, refl), (named, first_is_name));
+        joins = (tt, tt);
+        condition = (fits, printed);
+      }
+
+  module _ (es : List CompExp) (s : Structure) (i : AreFor p xs es (columns_of s)) (h : AllCanBeWritten es) (given : AreGiven (columns_of s)) where
+    -- the rows that FROM and WHERE give are known
+    pub rows_give : (condition : Option Exp) → IsMaybeCondition (site p (tables_in before) (one_scope xs)) None condition → IsMaybeExp printable_depth condition → (m : Outcome (List Row)) → source_rows (base_of p before) (select_of p of_one es s (source_as first_alias name) [] condition) ≡ m → AllRows (IsPointOf xs) m
+        → GivesRows p before s (select_of p of_one es s (source_as first_alias name) [] condition) (after m (each_point p es))
+    rows_give condition fits printed m rows all =
+        expressions_give p law of_one xs (one_formed xs na) (one_scope xs) own_names before es s i h given (source_as first_alias name) [] condition
+        (one_from (items_as (all_to_sql p of_one es) (columns_of s)) condition fits printed) m rows all
 
     -- all points
-    pub points_mean : AreGiven (columns_of s) → AllByRecursion (λ r. is_point (columns_of a) r ≡ true) d → IsExactly p before (points_query p es s None name) s (each_point p es d)
-    points_mean given all = record { query = points_query_for given None tt; rows = points_rows None (Ok d) (ap Ok rows_there) all }
+    pub points_mean : AllByRecursion (IsPointOf xs) d → IsExactly p before (points_query p es s None name) s (each_point p es d)
+    points_mean all = one_exactly p before s given (select_of p of_one es s (source_as first_alias name) [] None) (each_point p es d) (rows_give None tt tt (Ok d) (ap Ok rows_there) all)
 
     -- the points at which a condition holds
-    module _ (e : CompExp) (test : IsTest p (columns_of a) (Some e)) where
-      at_each : (r : Row) → sql_value (at_rows (base_of p before) (one_scope (columns_of a))) (to_sql p of_one e) r [] ≡ value p e r
-      at_each r = law.value_at (base_of p before) of_one (one_scope (columns_of a)) (columns_of a) r [] refl (one_names (columns_of a) (columns_apart a w)) e test.0 test.2.constants
+    module _ (e : CompExp) (test : IsTest p xs (Some e)) where
+      at_each : (r : Row) → sql_value (at_rows (base_of p before) (one_scope xs)) (to_sql p of_one e) r [] ≡ value p e r
+      at_each r = law.value_at (base_of p before) of_one (one_scope xs) xs r [] refl own_names e test.0 test.2.constants
 
-      kept_rows : source_rows (base_of p before) (select_of p of_one es s (source_as first_alias name) [] (Some e)) ≡ filter_of p e d
+      kept_rows : source_rows (base_of p before) (select_of p of_one es s (source_as first_alias name) [] (Some (to_sql p of_one e))) ≡ filter_of p e d
       kept_rows =
-          ap (λ t. unless (condition_fault (at_rows (base_of p before) t) (Some (to_sql p of_one e)) ((base_of p before).rows name)) (kept (at_rows (base_of p before) t) (Some (to_sql p of_one e)) ((base_of p before).rows name))) (scope_is (Some e))
-          ∙ ap (λ l. unless (condition_fault (at_rows (base_of p before) (one_scope (columns_of a))) (Some (to_sql p of_one e)) l) (kept (at_rows (base_of p before) (one_scope (columns_of a))) (Some (to_sql p of_one e)) l)) rows_there
-          ∙ ap (λ f. unless (faults_by (λ r. fault_in (f r)) d) (filter (λ r. is_true (f r)) d)) (same_functions (λ r. sql_value (at_rows (base_of p before) (one_scope (columns_of a))) (to_sql p of_one e) r []) (value p e) at_each)
+          ap (λ t. unless (condition_fault (at_rows (base_of p before) t) (Some (to_sql p of_one e)) ((base_of p before).rows name)) (kept (at_rows (base_of p before) t) (Some (to_sql p of_one e)) ((base_of p before).rows name))) (ap (add_source [] first_alias) known_there)
+          ∙ ap (λ l. unless (condition_fault (at_rows (base_of p before) (one_scope xs)) (Some (to_sql p of_one e)) l) (kept (at_rows (base_of p before) (one_scope xs)) (Some (to_sql p of_one e)) l)) rows_there
+          ∙ ap (λ f. unless (faults_by (λ r. fault_in (f r)) d) (filter (λ r. is_true (f r)) d)) (same_functions (λ r. sql_value (at_rows (base_of p before) (one_scope xs)) (to_sql p of_one e) r []) (value p e) at_each)
 
-      kept_points : AllByRecursion (λ r. is_point (columns_of a) r ≡ true) d → (f : Option Fault) → AllPoints (columns_of a) (unless f (filter (λ r. is_true (value p e r)) d))
-      kept_points all None = AllByRecursion-filter (λ r. is_point (columns_of a) r ≡ true) (λ r. is_true (value p e r)) d all
+      kept_points : AllByRecursion (IsPointOf xs) d → (f : Option Fault) → AllRows (IsPointOf xs) (unless f (filter (λ r. is_true (value p e r)) d))
+      kept_points all None = AllByRecursion-filter (IsPointOf xs) (λ r. is_true (value p e r)) d all
       kept_points all (Some f) = tt
 
-      pub kept_mean : AreGiven (columns_of s) → AllByRecursion (λ r. is_point (columns_of a) r ≡ true) d → IsExactly p before (points_query p es s (Some e) name) s (after (filter_of p e d) (each_point p es))
-      kept_mean given all = record {
-        query = points_query_for given (Some e) test;
-        rows = points_rows (Some e) (filter_of p e d) kept_rows (kept_points all (faults_by (λ r. fault_in (value p e r)) d));
-      }
+      pub kept_gives : AllByRecursion (IsPointOf xs) d → GivesRows p before s (select_of p of_one es s (source_as first_alias name) [] (Some (to_sql p of_one e))) (after (filter_of p e d) (each_point p es))
+      kept_gives all =
+          rows_give (Some (to_sql p of_one e)) (condition_fits p law of_one xs (one_formed xs na) (one_scope xs) own_names (tables_in before) e test.0 test.1 test.2) (expression_printed p law of_one xs (one_formed xs na) e test.0 test.2)
+          (filter_of p e d) kept_rows (kept_points all (faults_by (λ r. fault_in (value p e r)) d))
+
+      pub kept_mean : AllByRecursion (IsPointOf xs) d → IsExactly p before (points_query p es s (Some e) name) s (after (filter_of p e d) (each_point p es))
+      kept_mean all = one_exactly p before s given (select_of p of_one es s (source_as first_alias name) [] (Some (to_sql p of_one e))) (after (filter_of p e d) (each_point p es)) (kept_gives all)
 
 -- ---- the forms
 
@@ -174,7 +184,7 @@ module _ (p : Settings) (law : Translates p) (before : Data) (name : Text) (a : 
   filter_means e s i h given =
       subst (λ t. IsExactly p before (filter_query p e t name) t (filter_of p e d)) (sym i.same)
       (exactly_same p before (filter_query p e a name) a (after (filter_of p e d) (each_point p (queries.own_columns a))) (filter_of p e d) (filtered_again e (faults_by (λ r. fault_in (value p e r)) d))
-      (kept_mean p law before name a d there named w na (queries.own_columns a) a own written e (i.condition, i.boolean, h) (subst (λ t. AreGiven (columns_of t)) i.same given) set.typed))
+      (kept_mean p law before name a d there named w na (queries.own_columns a) a own written (subst (λ t. AreGiven (columns_of t)) i.same given) e (i.condition, i.boolean, h) set.typed))
 
   pub calc_means : (items : List Target) (s : Structure) → IsCalculated p items a s → AllCanBeWritten (calculated_exps items a s) → AreGiven (columns_of s) → IsExactly p before (calc_query p items a s name) s (calculated_of p items (with_points a d) s)
   calc_means items s i h given = points_mean p law before name a d there named w na (calculated_exps items a s) s i.columns h given set.typed

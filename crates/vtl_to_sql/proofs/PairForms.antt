@@ -18,9 +18,9 @@ use Rattle.sql_tree.specs.declared.parts.Column.{Column}
 use Rattle.sql_tree.specs.declared.parts.Literal.TheVariants as literal
 use Rattle.sql_tree.specs.declared.word_groups.JoinKind.TheVariants as joining
 use Rattle.rules_to_sql.specs.ToSql.{column_of, operator_to_sql, to_sql}
-use Rattle.vtl_to_sql.specs.Items.{all_of, for_each_two}
-use Rattle.vtl_to_sql.specs.PairItems.{agreement_on, chosen, chosen_from, from_two, lead_column, lead_item, namesake, namesake_item, not_chosen, paired_from, paired_of, second_column, second_item, tied}
-use Rattle.vtl_to_sql.specs.Queries.{agree, agrees_on, choose_query, chosen_exps, condition_for, conjunction, first_alias, is_chosen, is_not_chosen, item_as, items_for, of_two, pair_query, pairs_select, second_alias, source_as}
+use Rattle.vtl_to_sql.specs.Items.{all_of, for_each_two, items_for}
+use Rattle.vtl_to_sql.specs.PairItems.{agreement_on, chosen, chosen_from, from_two, joined_by, lead_column, lead_item, namesake, namesake_item, not_chosen, paired_from, paired_of, second_column, second_item}
+use Rattle.vtl_to_sql.specs.Queries.{agree, agrees_on, choose_query, chosen_exps, condition_for, conjunction, first_alias, is_chosen, is_not_chosen, item_as, of_two, pair_query, pairs_select, second_alias, source_as}
 
 -- ---- columns
 
@@ -93,7 +93,7 @@ written p lead other first second condition items tie = from_two items first (tr
 two_written : (p : Settings) (lead other s : Structure) (fs : List CompExp) (made : List ItemTree) (first second : Text) (condition : Option CompExp)
     → items_for p (of_two (length (columns_of lead))) fs (measures_of s ++ of_role role.Attribute s) ≡ made
     → pairs_select p (columns_named (columns_of lead) (identifiers_of s) ++ fs) lead other s condition first second
-    ≡ from_two (map (lead_item (columns_of lead)) (identifiers_of s) ++ made) first (tied lead other second) (condition_for p (of_two (length (columns_of lead))) condition)
+    ≡ from_two (map (lead_item (columns_of lead)) (identifiers_of s) ++ made) first (joined_by lead other second) (condition_for p (of_two (length (columns_of lead))) condition)
 two_written p lead other s fs made first second condition is =
     let n = length (columns_of lead) in
     let whole = columns_named (columns_of lead) (identifiers_of s) ++ fs in

@@ -19,7 +19,7 @@ use Rattle.sql_check_parts.specs.Statements.{is_taken}
 use Rattle.sql_meaning.specs.Scripts.{Data, NamedFault, Table as Held, base_of, created, fault_name, or_named, tables_in}
 use Rattle.sql_meaning.specs.Selects.{query_value}
 use Rattle.vtl_to_sql.specs.Means.{Means}
-use Rattle.vtl_to_sql.specs.Runs.{AreLawful, IsTable, entries, given_behind, held, run}
+use Rattle.vtl_to_sql.specs.Runs.{AreLawful, entries, given_behind, held, run}
 use Rattle.vtl_to_sql.specs.Tables.{Table, table_of}
 
 -- ---- tables by name
@@ -65,7 +65,7 @@ same_err (Err g) f h = ap (λ (x : Fault). Err x) h
 
 -- ---- runs
 
-abbrev behind : Data → Table → List Row → Data
+abbrev pub behind : Data → Table → List Row → Data
 behind before t rows = before ++ (t.name, created before t.query rows) ∷ []
 
 pub run_on : (p : Settings) (before now : Data) (ts us : List Table) → run p before ts ≡ Ok now → run p before (ts ++ us) ≡ run p now us

@@ -1,6 +1,6 @@
 -- The columns of one source, and of two.
-use Rattle.std.proofs.Common.{◌≡◌, ◌<◌, ◌+◌, ℕ, zero, suc, Bool, true, false, cond, List, [], ◌∷◌, ◌++◌, length, map, Some, refl, ap, sym, ◌∙◌, subst, arith}
-use Rattle.std.specs.Prelude.{codes, nat_lt, if◌then◌else◌}
+use Rattle.std.proofs.Common.{◌≡◌, ◌<◌, ◌+◌, ℕ, zero, suc, Bool, true, false, cond, List, [], ◌∷◌, ◌++◌, length, Some, refl, ap, sym, ◌∙◌, subst, arith}
+use Rattle.std.specs.Prelude.{nat_lt, if◌then◌else◌}
 use Rattle.std.specs.List.{AllByRecursion}
 use Rattle.std.specs.Map.{lookup}
 use Rattle.std.proofs.lemmas.Bool.{le-ltb, lt-ltb}
@@ -15,7 +15,7 @@ use Rattle.vtl_meaning.specs.Made.{IsColumnAt}
 use Rattle.vtl_meaning.proofs.Places.{same_name-refl, same_name-sym}
 use Rattle.sql_lexer.specs.Spelling.{is_name}
 use Rattle.sql_tree.specs.Formed.{IsName}
-use Rattle.sql_check_parts.specs.Scopes.{Scope, found, numbered, placed}
+use Rattle.sql_check_parts.specs.Scopes.{Scope, found, numbered}
 use Rattle.sql_meaning.specs.Values.{place_in}
 use Rattle.rules_to_sql.specs.Names.{AreNamesFormed, Names}
 use Rattle.vtl_to_sql.specs.Conditions.{HaveNames}
@@ -36,7 +36,7 @@ named_within P (suc place) name kind (x ∷ xs) i all = named_within P place nam
 pub not_first : (place : ℕ) (name : List ℕ) (kind : Kind) (x : Component) (xs : List Component) → IsColumnAt place name kind xs → AreApart (x ∷ xs) → same_text name x.name ≡ false
 not_first place name kind x xs i a = same_name-sym name x.name ∙ named_within (λ n. same_name x.name n ≡ false) place name kind xs i (apart_parts same_name x.name (names_of xs) a).0
 
-kind_found : (place : ℕ) (name : List ℕ) (kind : Kind) (xs : List Component) → IsColumnAt place name kind xs → AreApart xs → lookup (same_text name) (entries xs) ≡ Some kind
+pub kind_found : (place : ℕ) (name : List ℕ) (kind : Kind) (xs : List Component) → IsColumnAt place name kind xs → AreApart xs → lookup (same_text name) (entries xs) ≡ Some kind
 kind_found place name kind [] i a = absurd i
 kind_found zero name kind (x ∷ xs) i a =
     ap (λ b. cond b (Some x.kind) (lookup (same_text name) (entries xs))) (ap (λ n. same_text n x.name) (sym i.0) ∙ same_name-refl x.name) ∙ ap Some i.1
@@ -44,7 +44,7 @@ kind_found (suc place) name kind (x ∷ xs) i a =
     ap (λ b. cond b (Some x.kind) (lookup (same_text name) (entries xs))) (not_first place name kind x xs i a)
     ∙ kind_found place name kind xs i (apart_parts same_name x.name (names_of xs) a).1
 
-place_found : (n place : ℕ) (name : List ℕ) (kind : Kind) (xs : List Component) → IsColumnAt place name kind xs → AreApart xs → lookup (same_text name) (numbered n (entries xs)) ≡ Some (n + place)
+pub place_found : (n place : ℕ) (name : List ℕ) (kind : Kind) (xs : List Component) → IsColumnAt place name kind xs → AreApart xs → lookup (same_text name) (numbered n (entries xs)) ≡ Some (n + place)
 place_found n place name kind [] i a = absurd i
 place_found n zero name kind (x ∷ xs) i a =
     ap (λ b. cond b (Some n) (lookup (same_text name) (numbered (suc n) (entries xs)))) (ap (λ m. same_text m x.name) (sym i.0) ∙ same_name-refl x.name) ∙ ap Some (omega arith)

@@ -1,21 +1,27 @@
--- Which expressions on data sets are translated: their names and constants can be written, and no expression is too deep to be
--- printed.
-use Rattle.std.specs.Prelude.{◌≤◌, ℕ, List}
+-- Which expressions on data sets and which statements are translated: their names and constants can be written, and no expression
+-- is too deep to be printed.
+use Rattle.std.specs.Prelude.{◌≡◌, ◌≤◌, ◌<◌, ◌+◌, ◌^◌, ℕ, true, false, List, [], ◌∷◌, length}
 use Rattle.std.specs.List.{AllByRecursion}
 use Rattle.vtl_cell.specs.Held.{IsHeld}
+use Rattle.vtl_cell.specs.Kinds.{is_null}
 use Rattle.vtl_cell.specs.Profile.{IsOfProfile}
 use Rattle.vtl_cell.specs.Settings.{Settings}
+use Rattle.vtl_cell.specs.Words.{is_word}
 use Rattle.vtl_tree.specs.CompExp.{CompExp}
-use Rattle.vtl_tree.specs.Structure.{columns_of}
+use Rattle.vtl_tree.specs.Structure.{columns_of, most_components}
+use Rattle.vtl_tree.specs.Structures.{AreStructures, Named, has_name}
 use Rattle.vtl_tree.specs.declared.structure.Component.{Component}
 use Rattle.vtl_tree.specs.declared.structure.Structure.{Structure}
+use Rattle.vtl_meaning.specs.Made.{IsMade}
+use Rattle.vtl_meaning.specs.Meaning.{Statement}
 use Rattle.vtl_meaning.specs.Operators.{calculated_exps, measured_exps, pair_exps}
 use Rattle.vtl_meaning.specs.Trees as nodes
-use Rattle.vtl_meaning.specs.Trees.{FormTree, NodeTree, structure_of}
+use Rattle.vtl_meaning.specs.Trees.{FormTree, NodeTree, NodeTrees, structure_of}
 use Rattle.vtl_meaning.specs.clauses.SubItem.{SubItem}
 use Rattle.sql_tree.specs.Formed.{IsName}
 use Rattle.check_laws.specs.Depths.{comp_depth}
 use Rattle.rules_to_sql.specs.Held.{HoldsValues}
+use Rattle.vtl_to_sql.specs.Tables.{first_number, made_of}
 
 -- ---- parts
 
@@ -34,9 +40,11 @@ AllCanBeWritten es = AllByRecursion CanBeWritten es
 abbrev pub HaveNames : List Component → Type 0
 HaveNames xs = AllByRecursion (λ x. IsName x.name) xs
 
--- the value of an identifier
-abbrev pub HasValue : Settings → SubItem → Type 0
-HasValue p i = IsHeld i.value × IsOfProfile p i.value
+-- the value of an identifier, as typing gives it
+pub record HasValue (p : Settings) (i : SubItem) : Type 0 where
+  pub held : IsHeld i.value
+  pub ranged : IsOfProfile p i.value
+  pub filled : is_null i.value ≡ false
 
 -- ---- expressions on data sets
 
@@ -55,6 +63,45 @@ abbrev mutual
   IsFormTranslated p s (nodes.keep a names) = IsTranslated p a
   IsFormTranslated p s (nodes.drop_named a names) = IsTranslated p a
   IsFormTranslated p s (nodes.rename a pairs) = IsTranslated p a
-  IsFormTranslated p s (nodes.sub a items) = IsTranslated p a × AllByRecursion (HasValue p) items
+  IsFormTranslated p s (nodes.sub a items) = IsTranslated p a × AllByRecursion (HasValue p) items × (length items ≤ most_components)
+  IsFormTranslated p s (nodes.union ns) = AreNodesTranslated p ns
+  IsFormTranslated p s (nodes.intersect ns) = AreNodesTranslated p ns
+  IsFormTranslated p s (nodes.set_diff a b) = IsTranslated p a × IsTranslated p b
+  IsFormTranslated p s (nodes.sym_diff a b) = IsTranslated p a × IsTranslated p b
+  IsFormTranslated p s (nodes.exists_in a b kept) = IsTranslated p a × IsTranslated p b
   -- the other forms are not translated yet
   IsFormTranslated p s other = ⊥
+
+  pub AreNodesTranslated : Settings → NodeTrees → Type 0
+  AreNodesTranslated p nodes.no_nodes = Unit {0}
+  AreNodesTranslated p (nodes.and_node n ns) = IsTranslated p n × AreNodesTranslated p ns
+
+-- ---- statements
+
+-- few tables are made for it
+abbrev pub HasFewTables : Settings → Statement → Type 0
+HasFewTables p s = 1 + length (made_of p s.result s.node first_number).tables < 2 ^ 64
+
+-- its result has a name that none of these data sets has, and its expression is translated
+pub record IsStatementTranslated (p : Settings) (known : Named) (s : Statement) : Type 0 where
+  pub word : is_word s.result ≡ true
+  pub new : has_name s.result known ≡ false
+  pub made : IsMade p known s.node
+  pub translated : IsTranslated p s.node
+  pub few : HasFewTables p s
+
+-- each behind the results of those before it
+abbrev pub AreTranslated : Settings → Named → List Statement → Type 0
+AreTranslated p known [] = Unit {0}
+AreTranslated p known (s ∷ ss) = IsStatementTranslated p known s × AreTranslated p ((s.result, structure_of s.node) ∷ known) ss
+
+-- data sets that can be declared, and have words as names
+pub record AreReadable (reads : Named) : Type 0 where
+  pub structures : AreStructures reads
+  pub words : AllByRecursion (λ e. is_word e.0 ≡ true) reads
+
+-- statements that read these data sets, in settings that there are
+pub record IsScript (p : Settings) (reads : Named) (ss : List Statement) : Type 0 where
+  pub low : p.scale ≤ 9
+  pub readable : AreReadable reads
+  pub translated : AreTranslated p reads ss

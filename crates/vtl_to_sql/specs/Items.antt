@@ -1,5 +1,5 @@
 -- Items of selects and conditions, as they are written.
-use Rattle.std.specs.Prelude.{List, [], ◌∷◌, map, Option, None}
+use Rattle.std.specs.Prelude.{List, [], ◌∷◌, Option}
 use Rattle.std.specs.Option.{option_map_or}
 use Rattle.vtl_cell.specs.Settings.{Settings}
 use Rattle.vtl_cell.specs.declared.operator.ScalarOp.TheVariants as op
@@ -7,12 +7,12 @@ use Rattle.vtl_tree.specs.declared.structure.Component.{Component}
 use Rattle.vtl_meaning.specs.Operators.{target_named, value_exp, with_measure}
 use Rattle.vtl_meaning.specs.Trees.{ItemTree as Target, MeasureTree}
 use Rattle.vtl_meaning.specs.clauses.SubItem.{SubItem}
-use Rattle.vtl_tree.specs.CompExp.{const}
+use Rattle.vtl_tree.specs.CompExp.{CompExp, const}
 use Rattle.sql_tree.specs.Trees as tree
 use Rattle.sql_tree.specs.Trees.{Exp, ItemTree, QueryTree, Text}
 use Rattle.sql_tree.specs.declared.parts.Constant.TheVariants as constant
-use Rattle.rules_to_sql.specs.ToSql.{column_of, to_sql}
-use Rattle.vtl_to_sql.specs.Queries.{first_alias, item_as, of_one, source_as}
+use Rattle.rules_to_sql.specs.ToSql.{Naming, column_of, to_sql}
+use Rattle.vtl_to_sql.specs.Queries.{all_to_sql, first_alias, item_as, items_as, of_one, select_as, source_as}
 
 -- ---- items
 
@@ -20,6 +20,10 @@ use Rattle.vtl_to_sql.specs.Queries.{first_alias, item_as, of_one, source_as}
 abbrev pub for_each_two : (Component → Component → ItemTree) → List Component → List Component → List ItemTree
 for_each_two f (x ∷ xs) (y ∷ ys) = f x y ∷ for_each_two f xs ys
 for_each_two f xs ys = []
+
+-- expressions as the columns of components
+abbrev pub items_for : Settings → Naming → List CompExp → List Component → List ItemTree
+items_for p at es ys = items_as (all_to_sql p at es) ys
 
 -- a column of the first source
 abbrev pub first_column : Text → Exp
@@ -53,11 +57,4 @@ value_equality p i = tree.binary (first_column i.id) op.Equal (to_sql p of_one (
 
 -- from one table
 abbrev pub from_table : List ItemTree → Option Exp → Text → QueryTree
-from_table items condition table = record {
-  items = items;
-  source = source_as first_alias table;
-  joins = [];
-  condition = condition;
-  group = [];
-  having = None;
-} ∷ []
+from_table items condition table = select_as items (source_as first_alias table) [] condition ∷ []

@@ -8,3 +8,4 @@ pub mod Items
 pub mod PairItems
 pub mod Reads
 pub mod Translated
+pub mod Exports

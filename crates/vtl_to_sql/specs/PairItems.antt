@@ -16,7 +16,7 @@ use Rattle.sql_tree.specs.declared.parts.Constant.TheVariants as constant
 use Rattle.sql_tree.specs.declared.word_groups.JoinKind.TheVariants as joining
 use Rattle.rules_to_sql.specs.ToSql.{column_of, to_sql}
 use Rattle.vtl_to_sql.specs.Items.{all_of, for_each_two}
-use Rattle.vtl_to_sql.specs.Queries.{first_alias, item_as, name_of_first, of_two, second_alias, source_as}
+use Rattle.vtl_to_sql.specs.Queries.{first_alias, item_as, name_of_first, of_two, second_alias, select_as, source_as}
 
 -- ---- columns
 
@@ -63,24 +63,17 @@ not_chosen e = tree.case_when (tree.branch e (tree.constant constant.False) tree
 
 -- from a table and a further source
 abbrev pub from_two : List ItemTree → (table : Text) → JoinTree → Option Exp → SelectTree
-from_two items table join condition = record {
-  items = items;
-  source = source_as first_alias table;
-  joins = join ∷ [];
-  condition = condition;
-  group = [];
-  having = None;
-}
+from_two items table join condition = select_as items (source_as first_alias table) (join ∷ []) condition
 
 -- a further source, whose identifiers agree with their namesakes in the first one
-abbrev pub tied : (lead other : Structure) → (table : Text) → JoinTree
-tied lead other table = tree.on joining.Inner (source_as second_alias table) (all_of (map (agreement_on (columns_of lead)) (identifiers_of other)))
+abbrev pub joined_by : (lead other : Structure) → (table : Text) → JoinTree
+joined_by lead other table = tree.on joining.Inner (source_as second_alias table) (all_of (map (agreement_on (columns_of lead)) (identifiers_of other)))
 
 -- the identifiers of the result, and an operator at the measures of the left operand
 abbrev pub paired_from : Settings → ScalarOp → (left_leads : Bool) → (left lead other s : Structure) → (first second : Text) → SelectTree
 paired_from p o left_leads left lead other s first second =
     let xs = columns_of lead in
-    from_two (map (lead_item xs) (identifiers_of s) ++ for_each_two (namesake_item p o left_leads xs) (measures_of left) (measures_of s)) first (tied lead other second) None
+    from_two (map (lead_item xs) (identifiers_of s) ++ for_each_two (namesake_item p o left_leads xs) (measures_of left) (measures_of s)) first (joined_by lead other second) None
 
 -- the operand with all identifiers leads
 abbrev pub paired_of : Settings → ScalarOp → (a b s : Structure) → (first second : Text) → SelectTree
@@ -89,4 +82,4 @@ paired_of p o a b s first second = if contains a b then paired_from p o true a a
 -- the identifiers of the result, and the measures of a branch
 abbrev pub chosen_from : Exp → (tested branch s : Structure) → (first second : Text) → SelectTree
 chosen_from condition tested branch s first second =
-    from_two (map (lead_item (columns_of tested)) (identifiers_of s) ++ map second_item (measures_of s)) first (tied tested branch second) (Some condition)
+    from_two (map (lead_item (columns_of tested)) (identifiers_of s) ++ map second_item (measures_of s)) first (joined_by tested branch second) (Some condition)

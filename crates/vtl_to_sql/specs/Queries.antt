@@ -1,5 +1,5 @@
 -- The query of each form of expression on data sets, over the tables of its operands.
-use Rattle.std.specs.Prelude.{ℕ, nat_lt, map, true, false, List, [], ◌∷◌, ◌++◌, length, codes, Option, Some, None, if◌then◌else◌}
+use Rattle.std.specs.Prelude.{ℕ, Bool, nat_lt, map, true, false, List, [], ◌∷◌, ◌++◌, length, codes, Option, Some, None, if◌then◌else◌}
 use Rattle.vtl_cell.specs.Settings.{Settings}
 use Rattle.vtl_cell.specs.declared.cell.Cell.TheVariants as c
 use Rattle.vtl_cell.specs.declared.kind.Kind.TheVariants as k
@@ -10,11 +10,15 @@ use Rattle.vtl_tree.specs.Structure.{columns_of, key_width}
 use Rattle.vtl_tree.specs.declared.structure.Component.{Component}
 use Rattle.vtl_tree.specs.declared.structure.Structure.{Structure}
 use Rattle.check_shapes.specs.Pairs.{contains}
+use Rattle.vtl_syntax.specs.declared.word_groups.Retain.{Retain}
+use Rattle.vtl_syntax.specs.declared.word_groups.Retain.TheVariants as retain
+use Rattle.vtl_meaning.specs.Agreement.{common_identifiers}
 use Rattle.vtl_meaning.specs.Columns.{column_behind, column_named, columns_named, identifiers_of, measures_of}
 use Rattle.vtl_meaning.specs.Operators.{calculated_exps, measured_exps, pair_exps}
 use Rattle.vtl_meaning.specs.Trees.{ItemTree as Target, MeasureTree}
 use Rattle.vtl_meaning.specs.clauses.SubItem.{SubItem}
-use Rattle.sql_tree.specs.Trees.{Text, Exp, ItemTree, JoinTree, QueryTree, SelectTree, expression, on}
+use Rattle.sql_tree.specs.Trees.{Text, Exp, ItemTree, JoinTree, QueryTree, SelectTree, exists, expression, on, unary}
+use Rattle.sql_tree.specs.declared.parts.Equality.{Equality}
 use Rattle.sql_tree.specs.declared.parts.Source.{Source}
 use Rattle.sql_tree.specs.declared.word_groups.JoinKind.TheVariants as joining
 use Rattle.rules_to_sql.specs.ToSql.{Naming, column_of, of_source, to_sql}
@@ -45,29 +49,28 @@ abbrev pub item_as : Text → Exp → ItemTree
 item_as name e = record { value = expression e; name = name }
 
 -- an item for each column of the result
-abbrev pub items_for : Settings → Naming → List CompExp → List Component → List ItemTree
-items_for p at [] ys = []
-items_for p at (e ∷ es) [] = []
-items_for p at (e ∷ es) (y ∷ ys) = item_as y.name (to_sql p at e) ∷ items_for p at es ys
+abbrev pub items_as : List Exp → List Component → List ItemTree
+items_as (e ∷ es) (y ∷ ys) = item_as y.name e ∷ items_as es ys
+items_as es ys = []
+
+-- at the rows of its sources at which a condition holds
+abbrev pub select_as : List ItemTree → Source → List JoinTree → Option Exp → SelectTree
+select_as items source joins condition = record { items = items; source = source; joins = joins; condition = condition; group = []; having = None }
+
+abbrev pub all_to_sql : Settings → Naming → List CompExp → List Exp
+all_to_sql p at es = map (to_sql p at) es
 
 abbrev pub condition_for : Settings → Naming → Option CompExp → Option Exp
 condition_for p at None = None
 condition_for p at (Some e) = Some (to_sql p at e)
 
--- these expressions as the columns of a structure, at the rows at which a condition holds
-abbrev pub select_of : Settings → Naming → List CompExp → Structure → Source → List JoinTree → Option CompExp → SelectTree
-select_of p at es s source joins condition = record {
-  items = items_for p at es (columns_of s);
-  source = source;
-  joins = joins;
-  condition = condition_for p at condition;
-  group = [];
-  having = None;
-}
+-- these expressions as the columns of a structure
+abbrev pub select_of : Settings → Naming → List CompExp → Structure → Source → List JoinTree → Option Exp → SelectTree
+select_of p at es s source joins condition = select_as (items_as (all_to_sql p at es) (columns_of s)) source joins condition
 
 -- over one table
 abbrev pub points_query : Settings → List CompExp → Structure → Option CompExp → (table : Text) → QueryTree
-points_query p es s condition table = select_of p of_one es s (source_as first_alias table) [] condition ∷ []
+points_query p es s condition table = select_of p of_one es s (source_as first_alias table) [] (condition_for p of_one condition) ∷ []
 
 -- ---- one operand
 
@@ -134,7 +137,7 @@ agree a b = conjunction (map (agrees_on (columns_of a) (columns_of b)) (identifi
 abbrev pub pairs_select : Settings → List CompExp → (a b s : Structure) → Option CompExp → (first second : Text) → SelectTree
 pairs_select p es a b s condition first second =
     let at = of_two (length (columns_of a)) in
-    select_of p at es s (source_as first_alias first) (on joining.Inner (source_as second_alias second) (to_sql p at (agree a b)) ∷ []) condition
+    select_of p at es s (source_as first_alias first) (on joining.Inner (source_as second_alias second) (to_sql p at (agree a b)) ∷ []) (condition_for p at condition)
 
 -- the operand with all identifiers stands first
 abbrev pub pair_query : Settings → ScalarOp → (a b s : Structure) → (first second : Text) → QueryTree
@@ -166,3 +169,53 @@ chosen_select p e t other s x y = pairs_select p (chosen_exps t other s) t other
 
 abbrev pub choose_query : Settings → (t a b s : Structure) → (condition first second : Text) → QueryTree
 choose_query p t a b s x y z = chosen_select p (is_chosen t) t a s x y ∷ chosen_select p (is_not_chosen t) t b s x z ∷ []
+
+-- ---- set operators: points for which another operand has a point with the same identifiers, or has none
+
+-- an identifier has the same value in the inner table as in the outer one
+abbrev pub tied : Component → Equality
+tied y = record { left = column_of second_alias y.name; right = column_of first_alias y.name }
+
+-- whether the answer is to be yes
+abbrev pub answered : Bool → Exp → Exp
+answered true e = e
+answered false e = unary op.Not e
+
+abbrev pub is_matched : Bool → List Component → (other : Text) → Exp
+is_matched wanted ids other = answered wanted (exists (source_as second_alias other) (map tied ids))
+
+-- the points of an operand in the columns of the result
+abbrev pub shown_select : Settings → (a s : Structure) → (table : Text) → Option Exp → SelectTree
+shown_select p a s table condition = select_of p of_one (columns_named (columns_of a) (columns_of s)) s (source_as first_alias table) [] condition
+
+-- those for which another operand has a point, or has none
+abbrev pub matched_select : Settings → Bool → (a s : Structure) → (table other : Text) → SelectTree
+matched_select p wanted a s table other = shown_select p a s table (Some (is_matched wanted (identifiers_of s) other))
+
+abbrev pub union_query : Settings → (a b s : Structure) → (first second : Text) → QueryTree
+union_query p a b s x y = shown_select p a s x None ∷ matched_select p false b s y x ∷ []
+
+abbrev pub intersection_query : Settings → (a b s : Structure) → (first second : Text) → QueryTree
+intersection_query p a b s x y = matched_select p true a s x y ∷ []
+
+abbrev pub difference_query : Settings → (a b s : Structure) → (first second : Text) → QueryTree
+difference_query p a b s x y = matched_select p false a s x y ∷ []
+
+abbrev pub symmetric_difference_query : Settings → (a b s : Structure) → (first second : Text) → QueryTree
+symmetric_difference_query p a b s x y = matched_select p false a s x y ∷ matched_select p false b s y x ∷ []
+
+-- one operand alone
+abbrev pub shown_query : Settings → (a s : Structure) → (table : Text) → QueryTree
+shown_query p a s table = shown_select p a s table None ∷ []
+
+-- ---- `exists_in`: for each point whether the second operand has one that agrees on the identifiers that both have
+
+abbrev pub retained : Retain → (answer : Exp) → Option Exp
+retained retain.All e = None
+retained retain.True e = Some e
+retained retain.False e = Some (answered false e)
+
+abbrev pub existence_query : Settings → Retain → (a b s : Structure) → (first second : Text) → QueryTree
+existence_query p kept a b s x y =
+    let answer = is_matched true (common_identifiers a b) y in
+    select_as (items_as (all_to_sql p of_one (columns_named (columns_of a) (identifiers_of s)) ++ answer ∷ []) (columns_of s)) (source_as first_alias x) [] (retained kept answer) ∷ []

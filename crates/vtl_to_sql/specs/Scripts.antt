@@ -1,5 +1,5 @@
 -- The script in SQL: SET, an INPUT for each data set that is read, the tables, and an EXPORT for each result that is written.
-use Rattle.std.specs.Prelude.{ℕ, List, [], ◌∷◌, ◌++◌, map, Result, Ok, Err, unwrap_or, if◌then◌else◌}
+use Rattle.std.specs.Prelude.{ℕ, List, [], ◌∷◌, ◌++◌, map, unwrap_or, if◌then◌else◌}
 use Rattle.std.specs.Fmt.{decimal}
 use Rattle.vtl_cell.specs.Settings.{Settings}
 use Rattle.vtl_tree.specs.Structure.{columns_of, names_of}
@@ -36,11 +36,11 @@ create_for t = create t.name t.query
 -- ---- EXPORT
 
 -- by its identifiers
-abbrev pub export_of : List ℕ × Structure → SqlExport
-export_of e = record { name = e.0; order = names_of (identifiers_of e.1) }
+abbrev pub ordered : List ℕ × Structure → SqlExport
+ordered e = record { name = e.0; order = names_of (identifiers_of e.1) }
 
 abbrev pub export_for : List ℕ × Structure → StatementTree
-export_for e = export (export_of e)
+export_for e = export (ordered e)
 
 -- the results that are written, with their structures
 abbrev pub written_of : List Statement → Named

@@ -7,10 +7,10 @@ use Rattle.vtl_cell.specs.Settings.{Settings}
 use Rattle.vtl_tree.specs.declared.structure.Structure.{Structure}
 use Rattle.vtl_meaning.specs.Meaning.{Statement}
 use Rattle.vtl_meaning.specs.Trees as nodes
-use Rattle.vtl_meaning.specs.Trees.{FormTree, NodeTree, structure_of}
+use Rattle.vtl_meaning.specs.Trees.{FormTree, NodeTree, NodeTrees, structure_of}
 use Rattle.sql_tree.specs.Trees.{Text, QueryTree}
 use Rattle.sql_meaning.specs.Scripts.{dollar}
-use Rattle.vtl_to_sql.specs.Queries.{calc_query, choose_query, copy_query, filter_query, left_query, measures_query, pair_query, rename_query, sub_query}
+use Rattle.vtl_to_sql.specs.Queries.{calc_query, choose_query, copy_query, difference_query, filter_query, intersection_query, left_query, measures_query, pair_query, rename_query, shown_query, sub_query, symmetric_difference_query, union_query, existence_query}
 
 -- a table by a query
 pub record Table : Type 0 where
@@ -98,8 +98,19 @@ abbrev mutual
   made_of_form p r s (nodes.drop_named a names) n = over (sources_of p r a n) (with_one (left_query p (structure_of a) s))
   made_of_form p r s (nodes.rename a pairs) n = over (sources_of p r a n) (with_one (rename_query p (structure_of a) s))
   made_of_form p r s (nodes.sub a items) n = over (sources_of p r a n) (with_one (sub_query p items (structure_of a) s))
+  made_of_form p r s (nodes.union (nodes.and_node a ns)) n = combined_of p r (λ b c. union_query p b c s) s ns (structure_of a) (sources_of p r a n)
+  made_of_form p r s (nodes.intersect (nodes.and_node a ns)) n = combined_of p r (λ b c. intersection_query p b c s) s ns (structure_of a) (sources_of p r a n)
+  made_of_form p r s (nodes.set_diff a b) n = over (and_then (sources_of p r a n) (sources_of p r b)) (with_two (difference_query p (structure_of a) (structure_of b) s))
+  made_of_form p r s (nodes.sym_diff a b) n = over (and_then (sources_of p r a n) (sources_of p r b)) (with_two (symmetric_difference_query p (structure_of a) (structure_of b) s))
+  made_of_form p r s (nodes.exists_in a b kept) n = over (and_then (sources_of p r a n) (sources_of p r b)) (with_two (existence_query p kept (structure_of a) (structure_of b) s))
   -- no script that is translated holds another form yet
   made_of_form p r s other n = record { tables = []; query = []; next = n }
+
+  -- operands one after the other: what there is and the next operand are in a table of their own, until the last operand comes
+  pub combined_of : Settings → (result : Text) → (Structure → Structure → Text → Text → QueryTree) → Structure → NodeTrees → Structure → Sources → Made
+  combined_of p r q s nodes.no_nodes a os = over os (with_one (shown_query p a s))
+  combined_of p r q s (nodes.and_node b nodes.no_nodes) a os = over (and_then os (sources_of p r b)) (with_two (q a (structure_of b)))
+  combined_of p r q s (nodes.and_node b (nodes.and_node c ns)) a os = combined_of p r q s (nodes.and_node c ns) s (stored r (over (and_then os (sources_of p r b)) (with_two (q a (structure_of b)))))
 
 -- ---- statements
 

@@ -1,20 +1,27 @@
-//! Typed scripts of VTL in the dialect of SQL.
+//! Typed scripts of VTL as scripts of the SQL dialect, with the laws that they mean the same, break no rule and can be
+//! printed.
+//!
+//! An expression on data sets is the tables of its operands and then one query. This crate decides which query that is,
+//! how tables are named, and in what order statements stand; how a component expression is written it leaves to
+//! `rules_to_sql`, and how a table is found to an engine.
+//! It knows definitions of both languages alone: no text, no file, and no program that runs either of them.
+//! Begin with specs/Queries.antt, Tables.antt and Scripts.antt, then Means.antt and src/laws.rt.
 #![tactic(auto)]
 
-mod writer;
 mod components;
 mod conditions;
 mod draft;
+mod inputs;
 mod items;
+mod laws;
 mod pair_items;
 mod pair_queries;
 mod queries;
-
-
-mod walk;
-mod inputs;
 mod script;
 mod translated;
+mod walk;
+mod writer;
 
+pub use laws::{inputs_have_their_columns, scripts_are_translated, translated_scripts_are_lawful};
 pub use script::translate;
 pub use translated::is_translated;

@@ -8,7 +8,7 @@ ghost use Rattle.vtl_backend.specs.Statements.{statements_of, with_nodes};
 ghost use Rattle.vtl_backend.specs.Transformations.{transformations};
 ghost use Rattle.sql_tree.specs.View.{script_tree, statement_tree};
 ghost use Rattle.vtl_to_sql.specs.Reads.{statement_of};
-ghost use Rattle.vtl_to_sql.specs.Scripts.{create_for, export_for, export_of, script_for, statements_for, written_of};
+ghost use Rattle.vtl_to_sql.specs.Scripts.{create_for, export_for, ordered, script_for, statements_for, written_of};
 ghost use Rattle.vtl_to_sql.specs.Tables.{script_tables, statement_tables};
 ghost use Rattle.vtl_to_sql.specs.Translated.{has_script_queries};
 
@@ -63,7 +63,7 @@ fn push_results(
 }
 
 fn export(alloc: Global, name: &Txt, s: &Structure) -> Result<SqlExport, AllocError>
-    ensures { IfOk result (λ x. x ≡ export_of (name.now, s.now)) }
+    ensures { IfOk result (λ x. x ≡ ordered (name.now, s.now)) }
 {
     let identifiers = s.identifiers(alloc)?;
     Ok(SqlExport {

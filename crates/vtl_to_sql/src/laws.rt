@@ -1,0 +1,33 @@
+// Laws of translated scripts.
+ghost use Rattle.std.specs.Prelude.{◌≡◌, ℕ, List};
+ghost use Rattle.vtl_cell.specs.Settings.{Settings};
+ghost use Rattle.vtl_tree.specs.Environment.{Environment};
+ghost use Rattle.vtl_tree.specs.Structure.{IsStructure, columns_of};
+ghost use Rattle.vtl_tree.specs.Structures.{Named};
+ghost use Rattle.vtl_tree.specs.declared.structure.Structure.{Structure};
+ghost use Rattle.vtl_meaning.specs.Meaning.{AreDataSets, Statement, known_in, meaning};
+ghost use Rattle.sql_tree.specs.Formed.{PrintableScript};
+ghost use Rattle.sql_check_parts.specs.Statements.{IsTypedScript, input_columns};
+ghost use Rattle.sql_meaning.specs.Scripts.{Inputs, script_value};
+ghost use Rattle.vtl_to_sql.specs.Conditions.{IsScript};
+ghost use Rattle.vtl_to_sql.specs.Exports.{AreRead, exported_as};
+ghost use Rattle.vtl_to_sql.specs.Runs.{entries};
+ghost use Rattle.vtl_to_sql.specs.Scripts.{input_of, script_for};
+
+/// Over the data sets that a script reads, their rows in any order, the script in SQL exports the outputs in order, each
+/// sorted by its identifiers; or it has the same fault with the name of the same result.
+pub fn scripts_are_translated()
+    ensures { (p : Settings) (reads : Named) (ss : List Statement) (env : Environment) (inputs : Inputs) → IsScript p reads ss → known_in env ≡ reads → AreDataSets env → AreRead inputs env → script_value (script_for p reads ss) inputs ≡ exported_as (meaning p ss env) }
+{}
+
+/// The script in SQL breaks no rule, and can be printed so that it reads back.
+pub fn translated_scripts_are_lawful()
+    ensures typed { (p : Settings) (reads : Named) (ss : List Statement) → IsScript p reads ss → IsTypedScript (script_for p reads ss) }
+    ensures printable { (p : Settings) (reads : Named) (ss : List Statement) → IsScript p reads ss → PrintableScript (script_for p reads ss) }
+{}
+
+/// The columns of an INPUT in the order of a table are those of the data set that it reads.
+#[tactic(auto, using(crate::proofs::ReadTables::columns_read))]
+pub fn inputs_have_their_columns()
+    ensures { (e : List ℕ × Structure) → IsStructure e.1 → input_columns (input_of e) ≡ entries (columns_of e.1) }
+{}
