@@ -9,3 +9,4 @@ pub mod PairItems
 pub mod Reads
 pub mod Translated
 pub mod Exports
+pub mod Combined

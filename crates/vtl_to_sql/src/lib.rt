@@ -18,6 +18,8 @@ mod pair_items;
 mod pair_queries;
 mod queries;
 mod script;
+mod set_operators;
+mod set_queries;
 mod translated;
 mod walk;
 mod writer;

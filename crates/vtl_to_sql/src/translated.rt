@@ -20,7 +20,9 @@ fn has_query(node: &Node) -> bool
     match &node.form {
         NodeForm::Named(_) => true,
         NodeForm::Choose { c, a, b } => has_query(c) && has_query(a) && has_query(b),
-        NodeForm::Pair { a, b, .. } => has_query(a) && has_query(b),
+        NodeForm::Pair { a, b, .. } | NodeForm::SetDiff { a, b } | NodeForm::SymDiff { a, b } => {
+            has_query(a) && has_query(b)
+        }
         NodeForm::Measures { a, .. }
         | NodeForm::Member { a, .. }
         | NodeForm::Filter { a, .. }
