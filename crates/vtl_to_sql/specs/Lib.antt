@@ -1,4 +1,5 @@
 pub mod Queries
+pub mod Turned
 pub mod Tables
 pub mod Scripts
 pub mod Runs
@@ -10,3 +11,4 @@ pub mod Reads
 pub mod Translated
 pub mod Exports
 pub mod Combined
+pub mod Accepted

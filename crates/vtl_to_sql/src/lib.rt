@@ -10,6 +10,7 @@
 
 mod components;
 mod conditions;
+mod constants;
 mod draft;
 mod inputs;
 mod items;
@@ -24,6 +25,10 @@ mod translated;
 mod walk;
 mod writer;
 
-pub use laws::{inputs_have_their_columns, scripts_are_translated, translated_scripts_are_lawful};
+pub use constants::constants_are_held;
+pub use laws::{
+    accepted_scripts_are_translated, inputs_have_their_columns, scripts_are_translated,
+    tables_are_counted, translated_scripts_are_lawful,
+};
 pub use script::translate;
 pub use translated::is_translated;
