@@ -11,7 +11,7 @@ use Rattle.vtl_meaning.specs.Columns.{column_named, columns_named, identifiers_o
 use Rattle.vtl_meaning.specs.Operators.{calculated_exp, for_measures, measured_exps, target_named, value_exp, with_measure}
 use Rattle.vtl_meaning.specs.Trees.{ItemTree as Target, MeasureTree}
 use Rattle.vtl_meaning.specs.clauses.SubItem.{SubItem}
-use Rattle.sql_tree.specs.Trees.{Exp, ItemTree, QueryTree, Text}
+use Rattle.sql_tree.specs.Trees.{Exp, Text}
 use Rattle.rules_to_sql.specs.ToSql.{to_sql}
 use Rattle.vtl_to_sql.specs.Items.{all_of, calculated_item, first_column, for_each_two, from_one, from_table, items_for, measured_item, renamed_item, value_equality}
 use Rattle.vtl_to_sql.specs.Queries.{calc_query, conjunction, filter_query, has_value, item_as, left_query, measures_query, of_one, rename_query, shown_select, sub_query}

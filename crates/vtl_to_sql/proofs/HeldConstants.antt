@@ -1,12 +1,12 @@
 -- Constants of expressions that a program holds.
-use Rattle.std.proofs.Common.{◌≡◌, ℕ, Bool, rules, true, false, cond, List, [], ◌∷◌, ◌++◌, map, length, Option, None, Some, find, sym, ap, subst, ◌∙◌}
+use Rattle.std.proofs.Common.{◌≡◌, ℕ, Bool, rules, true, false, cond, List, [], ◌∷◌, ◌++◌, map, length, Some, find, sym, ap, subst, ◌∙◌}
 use Rattle.std.specs.List.{AllByRecursion}
 use Rattle.std.specs.Prelude.{Box, Vec}
 use Rattle.std.specs.declared.alloc.Global.{Global}
 use Rattle.std.specs.Option.{option_map_or}
 use Rattle.vtl_cell.specs.declared.kind.Kind.{Kind}
 use Rattle.vtl_cell.specs.declared.operator.ScalarOp.{ScalarOp}
-use Rattle.vtl_tree.specs.CompExp.{CompExp, CompExps, aggregate, call, column, comp_exp, const, no_comp_exps}
+use Rattle.vtl_tree.specs.CompExp.{CompExp, aggregate, call, column, const}
 use Rattle.vtl_tree.specs.Structure.{columns_of}
 use Rattle.vtl_tree.specs.View.{comp_exp_of, comp_exps_of}
 use Rattle.vtl_tree.specs.declared.expression.CompExpr as exprs
@@ -90,8 +90,8 @@ pair_held o a b s = go (contains a b)
     turned n xs ys us ms = measures_hold (with_namesake o (column_behind n ys) (column_named xs)) (λ x y. call_held o y.kind (column_behind n ys x.name ∷ column_named xs x.name ∷ []) (tt, (tt, tt))) us ms
 
     go : (leads : Bool) → AllHoldValues (cond leads
-      (columns_named (columns_of a) (identifiers_of s) ++ for_measures (with_namesake o (column_named (columns_of a)) (column_behind (length (columns_of a)) (columns_of b))) (measures_of a) (measures_of s))
-      (columns_named (columns_of b) (identifiers_of s) ++ for_measures (with_namesake o (column_behind (length (columns_of b)) (columns_of a)) (column_named (columns_of b))) (measures_of a) (measures_of s)))
+        (columns_named (columns_of a) (identifiers_of s) ++ for_measures (with_namesake o (column_named (columns_of a)) (column_behind (length (columns_of a)) (columns_of b))) (measures_of a) (measures_of s))
+        (columns_named (columns_of b) (identifiers_of s) ++ for_measures (with_namesake o (column_behind (length (columns_of b)) (columns_of a)) (column_named (columns_of b))) (measures_of a) (measures_of s)))
     go true = both_hold HoldsValues (columns_named (columns_of a) (identifiers_of s)) _ (columns_hold (columns_of a) (identifiers_of s)) (namesakes (length (columns_of a)) (columns_of a) (columns_of b) (measures_of a) (measures_of s))
     go false = both_hold HoldsValues (columns_named (columns_of b) (identifiers_of s)) _ (columns_hold (columns_of b) (identifiers_of s)) (turned (length (columns_of b)) (columns_of b) (columns_of a) (measures_of a) (measures_of s))
 

@@ -1,17 +1,17 @@
 -- The queries of two and of three operands, as they are written.
-use Rattle.std.proofs.Common.{◌≡◌, ℕ, ◌+◌, ◌<◌, ◌≤◌, Bool, true, false, nat_lt, List, [], ◌∷◌, ◌++◌, length, map, cond, Option, None, Some, append_assoc, if◌then◌else◌, refl, sym, ap, ◌∙◌, arith}
+use Rattle.std.proofs.Common.{◌≡◌, ℕ, ◌+◌, Bool, true, false, nat_lt, List, [], ◌∷◌, ◌++◌, length, map, cond, Option, None, Some, append_assoc, if◌then◌else◌, refl, sym, ap, ◌∙◌, arith}
 use Rattle.std.proofs.lemmas.Bool.{le-ltb}
 use Rattle.vtl_cell.specs.Settings.{Settings}
 use Rattle.vtl_cell.specs.declared.operator.ScalarOp.{ScalarOp}
 use Rattle.vtl_cell.specs.declared.operator.ScalarOp.TheVariants as op
-use Rattle.vtl_tree.specs.CompExp.{CompExp, call, column, comp_exp, no_comp_exps}
+use Rattle.vtl_tree.specs.CompExp.{CompExp}
 use Rattle.vtl_tree.specs.Structure.{columns_of, key_width, of_role}
 use Rattle.vtl_tree.specs.declared.structure.Component.{Component}
 use Rattle.vtl_tree.specs.declared.structure.Role.TheVariants as role
 use Rattle.vtl_tree.specs.declared.structure.Structure.{Structure}
 use Rattle.check_shapes.specs.Pairs.{contains}
 use Rattle.vtl_meaning.specs.Columns.{column_behind, column_named, columns_named, identifiers_of, measures_of, place_of}
-use Rattle.vtl_meaning.specs.Operators.{for_measures, pair_exps, with_namesake}
+use Rattle.vtl_meaning.specs.Operators.{for_measures, with_namesake}
 use Rattle.sql_tree.specs.Trees as tree
 use Rattle.sql_tree.specs.Trees.{Exp, ItemTree, QueryTree, SelectTree, Text}
 use Rattle.sql_tree.specs.declared.parts.Column.{Column}
@@ -19,7 +19,7 @@ use Rattle.sql_tree.specs.declared.parts.Literal.TheVariants as literal
 use Rattle.sql_tree.specs.declared.word_groups.JoinKind.TheVariants as joining
 use Rattle.rules_to_sql.specs.ToSql.{column_of, operator_to_sql, to_sql}
 use Rattle.vtl_to_sql.specs.Items.{all_of, for_each_two, items_for}
-use Rattle.vtl_to_sql.specs.PairItems.{agreement_on, chosen, chosen_from, from_two, joined_by, lead_column, lead_item, namesake, namesake_item, not_chosen, paired_from, paired_of, second_column, second_item}
+use Rattle.vtl_to_sql.specs.PairItems.{agreement_on, chosen, chosen_from, from_two, joined_by, lead_column, lead_item, namesake_item, not_chosen, paired_from, paired_of, second_item}
 use Rattle.vtl_to_sql.specs.Queries.{agree, agrees_on, choose_query, chosen_exps, condition_for, conjunction, first_alias, is_chosen, is_not_chosen, item_as, of_two, pair_query, pairs_select, second_alias, source_as}
 
 -- ---- columns

@@ -52,7 +52,12 @@ fn value_equality(alloc: Global, writer: &Writer, item: &SubItem) -> Result<SqlE
     ensures { IfOk result (λ e. expr_tree e ≡ value_equality writer.now item.now) }
 {
     let column = writer.column(&item.id)?;
-    between(alloc, column, ScalarOp::Equal, writer.constant(alloc, &item.value)?)
+    between(
+        alloc,
+        column,
+        ScalarOp::Equal,
+        writer.constant(alloc, &item.value)?,
+    )
 }
 
 /// All identifiers have their values. It fails only if memory runs out.

@@ -48,10 +48,7 @@ fn input_column(alloc: Global, component: &Component) -> Result<InputColumn, All
     })
 }
 
-fn input_columns(
-    alloc: Global,
-    components: &[&Component],
-) -> Result<List<InputColumn>, AllocError>
+fn input_columns(alloc: Global, components: &[&Component]) -> Result<List<InputColumn>, AllocError>
     ensures { IfOk result (λ l. l ≡ map input_column (shown components.now)) }
 {
     let mut columns = Vec::with_capacity(alloc, components.len())?;
@@ -85,12 +82,7 @@ fn input(alloc: Global, name: &Txt, s: &Structure) -> Result<SqlInput, AllocErro
 }
 
 // Adds the INPUT of a data set.
-fn push_input(
-    alloc: Global,
-    draft: &mut Draft,
-    name: &Txt,
-    s: &Structure,
-) -> Result<(), AllocError>
+fn push_input(alloc: Global, draft: &mut Draft, name: &Txt, s: &Structure) -> Result<(), AllocError>
     ensures { OnOk result (map statement_tree draft.new.statements.items ≡ map statement_tree draft.old.statements.items ++ input_for (name.now, s.now) ∷ []) }
 {
     draft.push(Statement::Input(input(alloc, name, s)?))

@@ -22,11 +22,7 @@ use vtl_nodes::{CalcItem, CalcValue, MeasureOp};
 use vtl_tree::{CompExpr, Component, Structure};
 
 /// Adds an item. It fails only if memory runs out.
-pub(crate) fn push_item(
-    items: &mut Vec<Item>,
-    value: SqlExpr,
-    name: &Txt,
-) -> Result<(), AllocError>
+pub(crate) fn push_item(items: &mut Vec<Item>, value: SqlExpr, name: &Txt) -> Result<(), AllocError>
     ensures { OnOk result (map item_tree items.new.items ≡ map item_tree items.old.items ++ item_as name.now (expr_tree value) ∷ []) }
 {
     let name = name.share()?;
@@ -82,11 +78,7 @@ fn target_named<'a>(targets: &'a [CalcItem], name: &Txt) -> Option<&'a CalcItem>
 }
 
 // The expression of a target, which is no analytic call.
-fn target_value(
-    alloc: Global,
-    writer: &Writer,
-    value: &CalcValue,
-) -> Result<SqlExpr, AllocError>
+fn target_value(alloc: Global, writer: &Writer, value: &CalcValue) -> Result<SqlExpr, AllocError>
     ensures { IfOk result (λ e. expr_tree e ≡ to_sql writer.now of_one (value_exp (value_tree value.now))) }
 {
     match value {
@@ -107,7 +99,11 @@ fn push_calculated(
 {
     match target_named(targets, &column.name) {
         Some(target) => {
-            push_item(items, target_value(alloc, writer, &target.value)?, &column.name)
+            push_item(
+                items,
+                target_value(alloc, writer, &target.value)?,
+                &column.name,
+            )
         }
         None => push_item(items, writer.column(&column.name)?, &column.name),
     }
@@ -145,11 +141,7 @@ pub(crate) fn calculated_items(
 }
 
 // Puts equal expressions after others.
-fn push_copies(
-    alloc: Global,
-    out: &mut Vec<CompExpr>,
-    exps: &[CompExpr],
-) -> Result<(), AllocError>
+fn push_copies(alloc: Global, out: &mut Vec<CompExpr>, exps: &[CompExpr]) -> Result<(), AllocError>
     ensures { OnOk result (map comp_exp_of out.new.items ≡ map comp_exp_of out.old.items ++ map comp_exp_of exps.now) }
 {
     for e in exps {
@@ -215,11 +207,7 @@ fn push_all_measured(
 }
 
 // The identifiers of a structure.
-fn identifier_items(
-    alloc: Global,
-    writer: &Writer,
-    s: &Structure,
-) -> Result<Vec<Item>, AllocError>
+fn identifier_items(alloc: Global, writer: &Writer, s: &Structure) -> Result<Vec<Item>, AllocError>
     ensures { IfOk result (λ v. map item_tree v.items ≡ for_each_two renamed_item (identifiers_of s.now) (identifiers_of s.now)) }
 {
     let identifiers = s.identifiers(alloc)?;

@@ -110,7 +110,15 @@ fn push_namesakes(
     ensures { OnOk result (map item_tree items.new.items ≡ map item_tree items.old.items ++ for_each_two (namesake_item writer.now operator.op operator.left_leads (shown columns.now)) (shown measures.now) (shown made.now)) }
 {
     for i in 0..measures.len().min(made.len()) {
-        push_namesake(alloc, writer, items, operator, columns, measures[i], made[i])?;
+        push_namesake(
+            alloc,
+            writer,
+            items,
+            operator,
+            columns,
+            measures[i],
+            made[i],
+        )?;
     }
     Ok(())
 }
@@ -126,7 +134,11 @@ fn push_lead(
 {
     for column in names {
         let name = &column.name;
-        push_item(items, writer.column_at(place_of(columns, name), columns.len(), name)?, name)?;
+        push_item(
+            items,
+            writer.column_at(place_of(columns, name), columns.len(), name)?,
+            name,
+        )?;
     }
     Ok(())
 }

@@ -42,7 +42,6 @@ fn push_result(
 {
     draft.begin();
     let query = query(alloc, writer, &node.form, &node.structure, name, draft)?;
-    let _next = draft.next;
     draft.create(name, query)
 }
 
@@ -128,7 +127,13 @@ fn statements(alloc: Global, script: &Checked) -> Result<Vec<Statement>, AllocEr
     let writer = Writer::new(alloc, script.profile())?;
     let mut draft = Draft::new(alloc);
     push_inputs(alloc, &mut draft, script)?;
-    push_results(alloc, &writer, &mut draft, script.statements(), script.nodes())?;
+    push_results(
+        alloc,
+        &writer,
+        &mut draft,
+        script.statements(),
+        script.nodes(),
+    )?;
     push_exports(alloc, &mut draft, script.statements(), script.nodes())?;
     Ok(draft.into_statements())
 }

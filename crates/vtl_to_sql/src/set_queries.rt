@@ -119,10 +119,16 @@ pub(crate) fn set_query(
             two_selects(alloc, all, others)
         }
         SetOperator::Intersection => {
-            one_select(alloc, matched_select(alloc, writer, true, s, first, second)?)
+            one_select(
+                alloc,
+                matched_select(alloc, writer, true, s, first, second)?,
+            )
         }
         SetOperator::Difference => {
-            one_select(alloc, matched_select(alloc, writer, false, s, first, second)?)
+            one_select(
+                alloc,
+                matched_select(alloc, writer, false, s, first, second)?,
+            )
         }
         SetOperator::SymmetricDifference => {
             let ours = matched_select(alloc, writer, false, s, first, second)?;

@@ -136,7 +136,14 @@ pub(crate) fn query(
         NodeForm::SymDiff { a, b } => {
             let first = source(alloc, writer, a, target, draft)?;
             let second = source(alloc, writer, b, target, draft)?;
-            set_query(alloc, writer, SetOperator::SymmetricDifference, s, &first, &second)
+            set_query(
+                alloc,
+                writer,
+                SetOperator::SymmetricDifference,
+                s,
+                &first,
+                &second,
+            )
         }
         _ => unreachable!(),
     }

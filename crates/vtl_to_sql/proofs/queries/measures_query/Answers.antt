@@ -1,4 +1,4 @@
-use Rattle.std.proofs.Common.{ap, map, sym, None, Some, ◌∙◌}
+use Rattle.std.proofs.Common.{ap, sym, None, ◌∙◌}
 use Rattle.std.proofs.lemmas.Result.{IfOk-weaker}
 use Rattle.vtl_to_sql.specs.Items.{from_table}
 use Rattle.vtl_meaning.specs.View.{measure_tree}

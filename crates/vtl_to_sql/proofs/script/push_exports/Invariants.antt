@@ -10,5 +10,5 @@ abbrev pub invariant-loop-statement : goal.invariant-loop-statement
 invariant-loop-statement l = record {
   many : l.place + length (left l.statements l.statement-index) ≡ length l.nodes;
   made : map statement_tree l.draft.statements.items ++ map export_for (written_of (with_nodes (left l.statements l.statement-index) (map node_tree (drop l.place l.nodes))))
-    ≡ map statement_tree l.fn.draft.statements.items ++ map export_for (written_of (with_nodes (left l.statements 0) (map node_tree l.nodes)));
+      ≡ map statement_tree l.fn.draft.statements.items ++ map export_for (written_of (with_nodes (left l.statements 0) (map node_tree l.nodes)));
 }

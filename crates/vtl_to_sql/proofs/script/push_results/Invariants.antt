@@ -16,5 +16,5 @@ invariant-loop-statement l = record {
   queries : list_all has_query (map node_tree (drop l.place l.nodes)) ≡ true;
   few : AreFew l.writer (with_nodes (left l.statements l.statement-index) (map node_tree (drop l.place l.nodes))) → AreFew l.writer (with_nodes (left l.statements 0) (map node_tree l.nodes));
   made : map statement_tree l.draft.statements.items ++ map create_for (script_tables l.writer (with_nodes (left l.statements l.statement-index) (map node_tree (drop l.place l.nodes))))
-    ≡ map statement_tree l.fn.draft.statements.items ++ map create_for (script_tables l.writer (with_nodes (left l.statements 0) (map node_tree l.nodes)));
+      ≡ map statement_tree l.fn.draft.statements.items ++ map create_for (script_tables l.writer (with_nodes (left l.statements 0) (map node_tree l.nodes)));
 }

@@ -1,4 +1,4 @@
-use Rattle.std.proofs.Common.{List, None, [], ◌∷◌, ap, false, sym, true, ◌∙◌}
+use Rattle.std.proofs.Common.{None, [], ◌∷◌, ap, false, sym, ◌∙◌}
 use Rattle.std.proofs.lemmas.Result.{IfOk-weaker}
 use Rattle.sql_tree.specs.Trees.{SelectTree}
 use Rattle.sql_tree.specs.View.{select_tree}

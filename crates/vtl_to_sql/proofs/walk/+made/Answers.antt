@@ -1,8 +1,7 @@
 use Rattle.std.proofs.Common.{◌++◌, ℕ, ap, map, sym, ◌∙◌}
 use Rattle.std.proofs.lemmas.Result.{IfOk-weaker}
-use Rattle.vtl_nodes.specs.Trees as nodes
 use Rattle.vtl_nodes.specs.Trees.{FormTree, structure_of}
-use Rattle.vtl_nodes.specs.View.{form_tree, item_tree, node_tree}
+use Rattle.vtl_nodes.specs.View.{item_tree, node_tree}
 use Rattle.vtl_nodes.specs.declared.nodes.Node.{Node}
 use Rattle.sql_tree.specs.View.{statement_tree}
 use Rattle.vtl_to_sql.specs.Queries.{calc_query, difference_query, left_query, sub_query, symmetric_difference_query}
@@ -64,11 +63,11 @@ query-returns-in_ok-second-in-Pair-clause-tables t c =
     let b = c.deref-in-Pair-2.result.now in
     let one = c.in_ok-first-in-Pair.ensures in
     let fact =
-        behind_others (of a n) (of b) old (map statement_tree c.source-in-Pair.new.draft.statements.items) (map statement_tree c.source-in-Pair-2.new.draft.statements.items) c.source-in-Pair.new.draft.next
-        one.tables one.next c.in_ok-second-in-Pair.ensures.tables
-        ∙ ap (λ (x : Node). old ++ map create_for (and_then (of x n) (of b)).tables) c.deref-in-Pair.ensures
-        ∙ ap (λ (x : Node). old ++ map create_for (and_then (of c.in-Pair.a.value n) (of x)).tables) c.deref-in-Pair-2.ensures
-        ∙ sym (ap (λ (f : FormTree). old ++ map create_for (made_of_form p r c.args.s.now f n).tables) (tree_of_pair c.args.form.now c.in-Pair.op c.in-Pair.a c.in-Pair.b c.in-Pair.is))
+    behind_others (of a n) (of b) old (map statement_tree c.source-in-Pair.new.draft.statements.items) (map statement_tree c.source-in-Pair-2.new.draft.statements.items) c.source-in-Pair.new.draft.next
+    one.tables one.next c.in_ok-second-in-Pair.ensures.tables
+    ∙ ap (λ (x : Node). old ++ map create_for (and_then (of x n) (of b)).tables) c.deref-in-Pair.ensures
+    ∙ ap (λ (x : Node). old ++ map create_for (and_then (of c.in-Pair.a.value n) (of x)).tables) c.deref-in-Pair-2.ensures
+    ∙ sym (ap (λ (f : FormTree). old ++ map create_for (made_of_form p r c.args.s.now f n).tables) (tree_of_pair c.args.form.now c.in-Pair.op c.in-Pair.a c.in-Pair.b c.in-Pair.is))
     in
     IfOk-weaker c.pair_query.result _ _ (λ q e. fact) c.pair_query.ensures
 
@@ -88,12 +87,12 @@ query-returns-in_ok-second-in-Choose-clause-tables t c =
     let one = c.in_ok-tested-in-Choose.ensures in
     let two = c.in_ok-first-in-Choose.ensures in
     let fact =
-        behind_others (of u n) (λ m. and_then (of a m) (of b)) old tested new c.source-in-Choose.new.draft.next one.tables one.next
-        (behind_others (of a c.source-in-Choose.new.draft.next) (of b) tested (map statement_tree first.statements.items) new first.next two.tables two.next c.in_ok-second-in-Choose.ensures.tables)
-        ∙ ap (λ (x : Node). old ++ map create_for (and_then (of x n) (λ m. and_then (of a m) (of b))).tables) c.deref-in-Choose.ensures
-        ∙ ap (λ (x : Node). old ++ map create_for (and_then (of c.in-Choose.c.value n) (λ m. and_then (of x m) (of b))).tables) c.deref-in-Choose-2.ensures
-        ∙ ap (λ (x : Node). old ++ map create_for (and_then (of c.in-Choose.c.value n) (λ m. and_then (of c.in-Choose.a.value m) (of x))).tables) c.deref-in-Choose-3.ensures
-        ∙ sym (ap (λ (f : FormTree). old ++ map create_for (made_of_form p r c.args.s.now f n).tables) (tree_of_choose c.args.form.now c.in-Choose.c c.in-Choose.a c.in-Choose.b c.in-Choose.is))
+    behind_others (of u n) (λ m. and_then (of a m) (of b)) old tested new c.source-in-Choose.new.draft.next one.tables one.next
+    (behind_others (of a c.source-in-Choose.new.draft.next) (of b) tested (map statement_tree first.statements.items) new first.next two.tables two.next c.in_ok-second-in-Choose.ensures.tables)
+    ∙ ap (λ (x : Node). old ++ map create_for (and_then (of x n) (λ m. and_then (of a m) (of b))).tables) c.deref-in-Choose.ensures
+    ∙ ap (λ (x : Node). old ++ map create_for (and_then (of c.in-Choose.c.value n) (λ m. and_then (of x m) (of b))).tables) c.deref-in-Choose-2.ensures
+    ∙ ap (λ (x : Node). old ++ map create_for (and_then (of c.in-Choose.c.value n) (λ m. and_then (of c.in-Choose.a.value m) (of x))).tables) c.deref-in-Choose-3.ensures
+    ∙ sym (ap (λ (f : FormTree). old ++ map create_for (made_of_form p r c.args.s.now f n).tables) (tree_of_choose c.args.form.now c.in-Choose.c c.in-Choose.a c.in-Choose.b c.in-Choose.is))
     in
     IfOk-weaker c.choose_query.result _ _ (λ q e. fact) c.choose_query.ensures
 
@@ -109,9 +108,9 @@ query-returns-in_ok-second-in-SetDiff-clause-query t c =
     let one = c.in_ok-first-in-SetDiff.ensures in
     let two = c.in_ok-second-in-SetDiff.ensures in
     let named =
-        behind_names (of c.deref-in-SetDiff.result.now n) (of c.deref-in-SetDiff-2.result.now) c.in_ok-first-in-SetDiff.first c.in_ok-second-in-SetDiff.second c.source-in-SetDiff.new.draft.next one.name one.next two.name
-        ∙ ap (λ (x : Node). (and_then (of x n) (of c.deref-in-SetDiff-2.result.now)).names) c.deref-in-SetDiff.ensures
-        ∙ ap (λ (x : Node). (and_then (of a n) (of x)).names) c.deref-in-SetDiff-2.ensures
+    behind_names (of c.deref-in-SetDiff.result.now n) (of c.deref-in-SetDiff-2.result.now) c.in_ok-first-in-SetDiff.first c.in_ok-second-in-SetDiff.second c.source-in-SetDiff.new.draft.next one.name one.next two.name
+    ∙ ap (λ (x : Node). (and_then (of x n) (of c.deref-in-SetDiff-2.result.now)).names) c.deref-in-SetDiff.ensures
+    ∙ ap (λ (x : Node). (and_then (of a n) (of x)).names) c.deref-in-SetDiff-2.ensures
     in
     IfOk-weaker c.set_query.result _ _
     (λ z e. e (structure_of (node_tree a)) (structure_of (node_tree b)) ∙ ap (with_two (difference_query p (structure_of (node_tree a)) (structure_of (node_tree b)) s)) named
@@ -128,11 +127,11 @@ query-returns-in_ok-second-in-SetDiff-clause-tables t c =
     let b = c.deref-in-SetDiff-2.result.now in
     let one = c.in_ok-first-in-SetDiff.ensures in
     let fact =
-        behind_others (of a n) (of b) old (map statement_tree c.source-in-SetDiff.new.draft.statements.items) (map statement_tree c.source-in-SetDiff-2.new.draft.statements.items) c.source-in-SetDiff.new.draft.next
-        one.tables one.next c.in_ok-second-in-SetDiff.ensures.tables
-        ∙ ap (λ (x : Node). old ++ map create_for (and_then (of x n) (of b)).tables) c.deref-in-SetDiff.ensures
-        ∙ ap (λ (x : Node). old ++ map create_for (and_then (of c.in-SetDiff.a.value n) (of x)).tables) c.deref-in-SetDiff-2.ensures
-        ∙ sym (ap (λ (f : FormTree). old ++ map create_for (made_of_form p r c.args.s.now f n).tables) (tree_of_difference c.args.form.now c.in-SetDiff.a c.in-SetDiff.b c.in-SetDiff.is))
+    behind_others (of a n) (of b) old (map statement_tree c.source-in-SetDiff.new.draft.statements.items) (map statement_tree c.source-in-SetDiff-2.new.draft.statements.items) c.source-in-SetDiff.new.draft.next
+    one.tables one.next c.in_ok-second-in-SetDiff.ensures.tables
+    ∙ ap (λ (x : Node). old ++ map create_for (and_then (of x n) (of b)).tables) c.deref-in-SetDiff.ensures
+    ∙ ap (λ (x : Node). old ++ map create_for (and_then (of c.in-SetDiff.a.value n) (of x)).tables) c.deref-in-SetDiff-2.ensures
+    ∙ sym (ap (λ (f : FormTree). old ++ map create_for (made_of_form p r c.args.s.now f n).tables) (tree_of_difference c.args.form.now c.in-SetDiff.a c.in-SetDiff.b c.in-SetDiff.is))
     in
     IfOk-weaker c.set_query.result _ _ (λ q e. fact) c.set_query.ensures
 
@@ -148,9 +147,9 @@ query-returns-in_ok-second-in-SymDiff-clause-query t c =
     let one = c.in_ok-first-in-SymDiff.ensures in
     let two = c.in_ok-second-in-SymDiff.ensures in
     let named =
-        behind_names (of c.deref-in-SymDiff.result.now n) (of c.deref-in-SymDiff-2.result.now) c.in_ok-first-in-SymDiff.first c.in_ok-second-in-SymDiff.second c.source-in-SymDiff.new.draft.next one.name one.next two.name
-        ∙ ap (λ (x : Node). (and_then (of x n) (of c.deref-in-SymDiff-2.result.now)).names) c.deref-in-SymDiff.ensures
-        ∙ ap (λ (x : Node). (and_then (of a n) (of x)).names) c.deref-in-SymDiff-2.ensures
+    behind_names (of c.deref-in-SymDiff.result.now n) (of c.deref-in-SymDiff-2.result.now) c.in_ok-first-in-SymDiff.first c.in_ok-second-in-SymDiff.second c.source-in-SymDiff.new.draft.next one.name one.next two.name
+    ∙ ap (λ (x : Node). (and_then (of x n) (of c.deref-in-SymDiff-2.result.now)).names) c.deref-in-SymDiff.ensures
+    ∙ ap (λ (x : Node). (and_then (of a n) (of x)).names) c.deref-in-SymDiff-2.ensures
     in
     IfOk-weaker c.set_query-in-SymDiff.result _ _
     (λ z e. e (structure_of (node_tree a)) (structure_of (node_tree b)) ∙ ap (with_two (symmetric_difference_query p (structure_of (node_tree a)) (structure_of (node_tree b)) s)) named
@@ -167,10 +166,10 @@ query-returns-in_ok-second-in-SymDiff-clause-tables t c =
     let b = c.deref-in-SymDiff-2.result.now in
     let one = c.in_ok-first-in-SymDiff.ensures in
     let fact =
-        behind_others (of a n) (of b) old (map statement_tree c.source-in-SymDiff.new.draft.statements.items) (map statement_tree c.source-in-SymDiff-2.new.draft.statements.items) c.source-in-SymDiff.new.draft.next
-        one.tables one.next c.in_ok-second-in-SymDiff.ensures.tables
-        ∙ ap (λ (x : Node). old ++ map create_for (and_then (of x n) (of b)).tables) c.deref-in-SymDiff.ensures
-        ∙ ap (λ (x : Node). old ++ map create_for (and_then (of c.in-SymDiff.a.value n) (of x)).tables) c.deref-in-SymDiff-2.ensures
-        ∙ sym (ap (λ (f : FormTree). old ++ map create_for (made_of_form p r c.args.s.now f n).tables) (tree_of_symmetric_difference c.args.form.now c.in-SymDiff.a c.in-SymDiff.b c.in-SymDiff.is))
+    behind_others (of a n) (of b) old (map statement_tree c.source-in-SymDiff.new.draft.statements.items) (map statement_tree c.source-in-SymDiff-2.new.draft.statements.items) c.source-in-SymDiff.new.draft.next
+    one.tables one.next c.in_ok-second-in-SymDiff.ensures.tables
+    ∙ ap (λ (x : Node). old ++ map create_for (and_then (of x n) (of b)).tables) c.deref-in-SymDiff.ensures
+    ∙ ap (λ (x : Node). old ++ map create_for (and_then (of c.in-SymDiff.a.value n) (of x)).tables) c.deref-in-SymDiff-2.ensures
+    ∙ sym (ap (λ (f : FormTree). old ++ map create_for (made_of_form p r c.args.s.now f n).tables) (tree_of_symmetric_difference c.args.form.now c.in-SymDiff.a c.in-SymDiff.b c.in-SymDiff.is))
     in
     IfOk-weaker c.set_query-in-SymDiff.result _ _ (λ q e. fact) c.set_query-in-SymDiff.ensures
