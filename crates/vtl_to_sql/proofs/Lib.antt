@@ -54,3 +54,4 @@ pub mod AcceptedNodes
 pub mod AcceptedReads
 pub mod Accepted
 pub mod HeldConstants
+pub mod WrittenForms

@@ -1,7 +1,7 @@
 // A typed script in SQL.
 ghost use Rattle.std.specs.Fmt.{decimal};
 ghost use Rattle.std.specs.List.{list_all};
-ghost use Rattle.std.specs.Prelude.{◌≡◌, ◌++◌, ◌∷◌, [], map, length, IfOk, OnOk, true};
+ghost use Rattle.std.specs.Prelude.{◌≡◌, ◌≤◌, ◌++◌, ◌∷◌, [], map, length, IfOk, OnOk, true};
 ghost use Rattle.vtl_syntax.specs.View.{statement_tree as vtl_statement_tree};
 ghost use Rattle.vtl_nodes.specs.View.{node_tree};
 ghost use Rattle.vtl_backend.specs.Inputs.{inputs_of};
@@ -9,12 +9,13 @@ ghost use Rattle.vtl_backend.specs.Statements.{statements_of, with_nodes};
 ghost use Rattle.vtl_backend.specs.Transformations.{transformations};
 ghost use Rattle.sql_tree.specs.View.{script_tree, statement_tree};
 ghost use Rattle.vtl_to_sql.specs.Accepted.{AreFew};
-ghost use Rattle.vtl_to_sql.specs.Conditions.{HasFewTables};
+ghost use Rattle.vtl_to_sql.specs.Conditions.{HasFewTables, IsScript};
 ghost use Rattle.vtl_to_sql.specs.Reads.{statement_of};
 ghost use Rattle.vtl_to_sql.specs.Scripts.{create_for, export_for, ordered, script_for, statements_for, written_of};
 ghost use Rattle.vtl_to_sql.specs.Tables.{script_tables, statement_tables};
 ghost use Rattle.vtl_to_sql.specs.Translated.{has_query, has_script_queries};
 
+use crate::constants::constants_are_held;
 use crate::draft::Draft;
 use crate::inputs::{names, push_inputs};
 use crate::walk::query;
@@ -140,22 +141,36 @@ fn statements(alloc: Global, script: &Checked) -> Result<Vec<Statement>, AllocEr
 
 // The scale as it is written.
 fn scale(alloc: Global, p: &Profile) -> Result<Txt, AllocError>
-    ensures { IfOk result (λ t. t ≡ decimal p.now.scale) }
+    ensures text { IfOk result (λ t. t ≡ decimal p.now.scale) }
+    ensures low { p.now.scale ≤ 9 }
 {
     let digits = format!(in alloc; "{}", p.scale())?;
     Txt::new(alloc, &digits)
 }
 
+// The statements of a script behind its settings, with what the laws of translated scripts ask.
+fn accepted_statements(alloc: Global, script: &Checked) -> Result<Vec<Statement>, AllocError>
+    requires { has_script_queries script.now ≡ true }
+    ensures statements { IfOk result (λ v. map statement_tree v.items ≡ statements_for script.now.settings (inputs_of script.now) (statements_of script.now)) }
+    ensures accepted { IfOk result (λ v. script.now.settings.scale ≤ 9 → IsScript script.now.settings (inputs_of script.now) (statements_of script.now)) }
+{
+    constants_are_held(alloc, script);
+    let statements = statements(alloc, script)?;
+    let _nodes = script.nodes();
+    Ok(statements)
+}
+
 /// The script in SQL: its settings, an INPUT for each data set that is read, in order of first use, the tables of each
-/// statement, and an EXPORT for each result that is written, in order. Besides, no statement has more tables than can be
-/// numbered. It takes a script of forms that are translated so far, and fails only if memory runs out.
+/// statement, and an EXPORT for each result that is written, in order. It meets what the laws of translated scripts ask,
+/// so it means the same as the script. It takes a script of forms that are translated so far, and fails only if memory
+/// runs out.
 pub fn translate(alloc: Global, script: &Checked) -> Result<SqlScript, AllocError>
     requires { has_script_queries script.now ≡ true }
     ensures script { IfOk result (λ x. script_tree x ≡ script_for script.now.settings (inputs_of script.now) (statements_of script.now)) }
-    ensures few { IfOk result (λ x. AreFew script.now.settings (statements_of script.now)) }
+    ensures accepted { IfOk result (λ x. IsScript script.now.settings (inputs_of script.now) (statements_of script.now)) }
 {
     let profile = script.profile();
-    let statements = statements(alloc, script)?;
+    let statements = accepted_statements(alloc, script)?;
     Ok(SqlScript {
         scale: scale(alloc, profile)?,
         rounding: profile.rounding(),
