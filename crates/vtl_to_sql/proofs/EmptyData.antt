@@ -18,6 +18,7 @@ use Rattle.vtl_meaning.specs.Meaning.{AreDataSets, Outputs, Statement, form_valu
 use Rattle.vtl_meaning.specs.Operators.{calculated_of, choice_of, left_of, measured_of, pair_exps, pair_of, sub_of}
 use Rattle.vtl_meaning.specs.Points.{each_point, with_points}
 use Rattle.vtl_meaning.specs.Sets.{all_left_of, difference_of, intersection_of, symmetric_difference_of, union_of, existence_of}
+use Rattle.vtl_meaning.specs.Turned.{pivot_of, unpivot_of}
 use Rattle.vtl_meaning.specs.Trees as nodes
 use Rattle.vtl_meaning.specs.Trees.{FormTree, NodeTree, NodeTrees, structure_of}
 use Rattle.vtl_to_sql.specs.Conditions.{AreNodesTranslated, IsFormTranslated, IsTranslated}
@@ -113,6 +114,8 @@ module _ (p : Settings) (env : Environment) (h : AreEmpty env) where
     form_empty s (nodes.exists_in a b kept) c =
         ap (λ v. with_operand a v (λ d. with_operand b (node_value p env b) (λ e. Ok (existence_of d e kept)))) (node_empty a c.0)
         ∙ ap (λ v. with_operand b v (λ e. Ok (existence_of (with_points (structure_of a) []) e kept))) (node_empty b c.1)
+    form_empty s (nodes.pivot a id m) c = ap (λ v. with_operand a v (λ d. Ok (pivot_of d id m))) (node_empty a c.0)
+    form_empty s (nodes.unpivot a id m) c = ap (λ v. with_operand a v (λ d. Ok (unpivot_of d))) (node_empty a c)
     form_empty s other c = absurd c
 
     nodes_empty : (ns : NodeTrees) → AreNodesTranslated p ns → nodes_value p env ns ≡ Ok (empty_operands ns)

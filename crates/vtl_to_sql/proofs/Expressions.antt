@@ -23,6 +23,7 @@ use Rattle.rules_to_sql.proofs.OverPoints.{point_fits, point_formed, point_kind,
 
 -- an expression has in SQL its kind and its value, breaks no rule, has the form of the grammar, and is at most one deeper
 pub record Translates (p : Settings) : Type 0 where
+  pub low : p.scale ≤ 9
   pub kind : (at : Naming) (scope : Scope) (xs : List Component) → Names at scope xs → (e : CompExp) → IsTyped p xs e → kind_in scope (to_sql p at e) ≡ exp_kind e
   pub value_at : (b : Base) (at : Naming) (scope : Scope) (xs : List Component) (r : Row) (g : List Row) → b.settings ≡ p → Names at scope xs → (e : CompExp) → IsTyped p xs e → HoldsValues e → value (at_rows b scope) (to_sql p at e) r g ≡ points.value p e r
   pub fits : (tables : Tables) (at : Naming) (scope : Scope) (xs : List Component) → Names at scope xs → (e : CompExp) → IsTyped p xs e → HoldsValues e → Fits (site p tables scope) None (to_sql p at e)
@@ -31,6 +32,7 @@ pub record Translates (p : Settings) : Type 0 where
 
 pub translates : (p : Settings) → p.scale ≤ 9 → Translates p
 translates p low = record {
+  low = low;
   kind = point_kind p;
   value_at = λ b at scope xs r g same names e i w.
       subst (λ q. value (at_rows b scope) (to_sql q at e) r g ≡ points.value q e r) same

@@ -21,6 +21,12 @@ pub mod Subs
 pub mod Pairs
 pub mod TwoOperands
 pub mod Choices
+pub mod ItemLists
+pub mod Unpivots
+pub mod GroupItems
+pub mod Coded
+pub mod Pivots
+pub mod CodedTexts
 pub mod Nodes
 pub mod Statements
 pub mod WholeScript
@@ -33,3 +39,12 @@ pub mod Exists
 pub mod SetQueries
 pub mod SetSteps
 pub mod Existences
+pub mod AcceptedWords
+pub mod AcceptedOthers
+pub mod AcceptedTyping
+pub mod AcceptedScripts
+pub mod AcceptedNames
+pub mod AcceptedTables
+pub mod AcceptedNodes
+pub mod AcceptedReads
+pub mod Accepted

@@ -25,6 +25,7 @@ use Rattle.vtl_meaning.specs.Sets.{all_left_of, either_only, intersected, inters
 use Rattle.vtl_meaning.specs.Shapes.{IsShaped}
 use Rattle.vtl_meaning.specs.Trees as nodes
 use Rattle.vtl_meaning.specs.Trees.{FormTree, NodeTree, NodeTrees, structure_of}
+use Rattle.vtl_meaning.specs.Turned.{pivot_of, unpivot_of}
 use Rattle.vtl_meaning.proofs.Orders.{choice_respects, each_respects, filtered_respects, pair_respects, shown_respects, sub_respects}
 use Rattle.vtl_meaning.proofs.OwnColumns.{own_identifiers, own_measures}
 use Rattle.vtl_meaning.proofs.Places.{all_front, all_more, columns_split}
@@ -37,6 +38,8 @@ use Rattle.vtl_to_sql.specs.Conditions.{AreNodesTranslated, HaveNames, IsFormTra
 use Rattle.vtl_to_sql.specs.Means.{AreEarlier, Means, NodeGives, SourcesGive, Stands, StandsAs, Extends}
 use Rattle.vtl_to_sql.specs.Queries.{calc_query, choose_query, copy_query, filter_query, left_query, measures_query, pair_query, rename_query, shown_query, sub_query, union_query, intersection_query, difference_query, symmetric_difference_query, existence_query}
 use Rattle.vtl_to_sql.specs.Tables.{Sources, and_then, combined_of, made_of, made_of_form, numbered, over, source_of, sources_of, table_of, with_one, with_two, stored}
+use Rattle.vtl_meaning.proofs.TurnedOrders.{pivot_order, unpivot_order}
+use Rattle.vtl_to_sql.specs.Turned.{pivot_query, unpivot_query}
 use Rattle.vtl_to_sql.proofs.Choices.{choose_means}
 use Rattle.vtl_to_sql.proofs.Composition.{all_earlier, all_stand_still, alone, beside_gives, no_tables, one_gives, stored_gives, three_gives, together, two_gives}
 use Rattle.vtl_to_sql.proofs.Exact.{means_by, means_turned, set_turned}
@@ -45,8 +48,10 @@ use Rattle.vtl_to_sql.proofs.OneOperand.{calc_means, copy_means, filter_means, l
 use Rattle.vtl_to_sql.proofs.SetQueries.{IsShown, shown_means}
 use Rattle.vtl_to_sql.proofs.SetSteps.{IsStep, difference_step, intersection_step, intersections_fold, symmetric_difference_step, union_step, unions_fold}
 use Rattle.vtl_to_sql.proofs.Givens.{AreGiven, columns_given}
+use Rattle.vtl_to_sql.proofs.Pivots.{pivot_means}
 use Rattle.vtl_to_sql.proofs.Subs.{sub_means}
 use Rattle.vtl_to_sql.proofs.TwoOperands.{pair_means}
+use Rattle.vtl_to_sql.proofs.Unpivots.{unpivot_means}
 
 -- ---- what is translated is evaluated, and its columns have names
 
@@ -74,6 +79,8 @@ mutual
   form_built p s (nodes.set_diff a b) c = and_from (is_built a) (is_built b) (translated_built p a c.0) (translated_built p b c.1)
   form_built p s (nodes.sym_diff a b) c = and_from (is_built a) (is_built b) (translated_built p a c.0) (translated_built p b c.1)
   form_built p s (nodes.exists_in a b kept) c = and_from (is_built a) (is_built b) (translated_built p a c.0) (translated_built p b c.1)
+  form_built p s (nodes.pivot a id q) c = translated_built p a c.0
+  form_built p s (nodes.unpivot a id q) c = translated_built p a c
   form_built p s other c = absurd c
 
   nodes_built : (p : Settings) (ns : NodeTrees) → AreNodesTranslated p ns → are_nodes_built ns ≡ true
@@ -303,6 +310,16 @@ module _ (p : Settings) (law : Translates p) (r : Text) (word : is_word r ≡ tr
         (λ now y z d e is is_too st su.
         means_by p now (existence_query p kept (structure_of a) (structure_of k) s y z) s (Ok (existence_of (with_points (structure_of a) st.rows) (with_points (structure_of k) su.rows) kept)) (Ok (existence_of (with_points (structure_of a) d) (with_points (structure_of k) e) kept)) (existence_order (structure_of a) (structure_of k) st.rows d su.rows e kept st.same su.same)
         (existence_means p law now y z (structure_of a) (structure_of k) s st.rows su.rows st.table su.table st.named su.named (names_in p a c.0) (names_in p k c.1) (set_of a now y d c.0 i.0 is st) (set_of k now z e c.1 i.1 is_too su) i.2 (columns_given s w n) kept))
+    form_gives s (nodes.pivot a id q) m before stands apart w i n c few =
+        one_gives p r word before m (sources_of p r a m) (pivot_query p id q (structure_of a) s) (structure_of a) s (node_value p env a) (λ d. Ok (pivot_of (with_points (structure_of a) d) id q)) (operand_gives a m before stands apart i.0 c.0 few)
+        (λ now x d is st.
+        let set = set_of a now x d c.0 i.0 is st in
+        means_by p now (pivot_query p id q (structure_of a) s x) s (Ok (pivot_of (with_points (structure_of a) st.rows) id q)) (Ok (pivot_of (with_points (structure_of a) d) id q)) (pivot_order (structure_of a) id st.rows set d st.same q)
+        (pivot_means p law now x (structure_of a) s st.rows st.table st.named (names_in p a c.0) set id q i.1 c.1 (columns_given s w n)))
+    form_gives s (nodes.unpivot a id q) m before stands apart w i n c few =
+        one_gives p r word before m (sources_of p r a m) (unpivot_query p (structure_of a) s) (structure_of a) s (node_value p env a) (λ d. Ok (unpivot_of (with_points (structure_of a) d))) (operand_gives a m before stands apart i.0 c few)
+        (λ now x d is st. means_turned p now (unpivot_query p (structure_of a) s x) s (unpivot_of (with_points (structure_of a) st.rows)) (unpivot_of (with_points (structure_of a) d)) (unpivot_order (structure_of a) st.rows d st.same)
+        (unpivot_means p law now x (structure_of a) s st.rows st.table st.named (names_in p a c) (set_of a now x d c i.0 is st) id q i.1 (columns_given s w n)))
     form_gives s other m before stands apart w i n c few = absurd c
 
     -- operands one after the other

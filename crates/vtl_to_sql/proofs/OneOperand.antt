@@ -86,7 +86,7 @@ columns_each p xs ys d = ap (λ f. unless f (map (point_of p (columns_named xs y
     go [] = refl
     go (r ∷ e) = ap (λ q. q ∷ map (point_of p (columns_named xs ys)) e) (columns_point p xs ys r) ∙ ap (λ l. cells_at (places_in xs ys) r ∷ l) (go e)
 
-own_cells : (xs : List Component) (r : Row) → AreApart xs → is_point xs r ≡ true → cells_at (places_in xs xs) r ≡ r
+pub own_cells : (xs : List Component) (r : Row) → AreApart xs → is_point xs r ≡ true → cells_at (places_in xs xs) r ≡ r
 own_cells xs r a h =
     let wide = point_length xs r h in
     ap (λ ys. cells_at (places_in ys xs) r) (sym (append-nil xs)) ∙ first_cells xs [] r a (omega (arith, wide)) ∙ ap (λ n. take n r) (sym wide) ∙ take-length r

@@ -89,7 +89,7 @@ stays : (p : Settings) (kind : Kind) (v : Cell) → is_of kind v ≡ true → as
 stays p k.Num (c.Int n) h = cc
 stays p kind v h = refl
 
-stays_after : (p : Settings) (kind : Kind) (m : Outcome Cell) → IfOk m (λ v. is_of kind v ≡ true) → after m (as_kind p kind) ≡ m
+pub stays_after : (p : Settings) (kind : Kind) (m : Outcome Cell) → IfOk m (λ v. is_of kind v ≡ true) → after m (as_kind p kind) ≡ m
 stays_after p kind (Ok v) h = stays p kind v h
 stays_after p kind (Err f) h = refl
 

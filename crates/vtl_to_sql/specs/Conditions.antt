@@ -7,11 +7,13 @@ use Rattle.vtl_cell.specs.Kinds.{is_null}
 use Rattle.vtl_cell.specs.Profile.{IsOfProfile}
 use Rattle.vtl_cell.specs.Settings.{Settings}
 use Rattle.vtl_cell.specs.Words.{is_word}
+use Rattle.vtl_cell.specs.declared.kind.Kind.TheVariants as k
 use Rattle.vtl_tree.specs.CompExp.{CompExp}
 use Rattle.vtl_tree.specs.Structure.{columns_of, most_components}
 use Rattle.vtl_tree.specs.Structures.{AreStructures, Named, has_name}
 use Rattle.vtl_tree.specs.declared.structure.Component.{Component}
 use Rattle.vtl_tree.specs.declared.structure.Structure.{Structure}
+use Rattle.vtl_meaning.specs.Columns.{identifiers_of, kind_named}
 use Rattle.vtl_meaning.specs.Made.{IsMade}
 use Rattle.vtl_meaning.specs.Meaning.{Statement}
 use Rattle.vtl_meaning.specs.Operators.{calculated_exps, measured_exps, pair_exps}
@@ -69,6 +71,9 @@ abbrev mutual
   IsFormTranslated p s (nodes.set_diff a b) = IsTranslated p a × IsTranslated p b
   IsFormTranslated p s (nodes.sym_diff a b) = IsTranslated p a × IsTranslated p b
   IsFormTranslated p s (nodes.exists_in a b kept) = IsTranslated p a × IsTranslated p b
+  -- codes are texts
+  IsFormTranslated p s (nodes.pivot a id m) = IsTranslated p a × (kind_named id (identifiers_of (structure_of a)) ≡ k.Text)
+  IsFormTranslated p s (nodes.unpivot a id m) = IsTranslated p a
   -- the other forms are not translated yet
   IsFormTranslated p s other = ⊥
 

@@ -1,4 +1,5 @@
 pub mod Queries
+pub mod Turned
 pub mod Tables
 pub mod Scripts
 pub mod Runs
@@ -9,3 +10,4 @@ pub mod PairItems
 pub mod Reads
 pub mod Translated
 pub mod Exports
+pub mod Accepted

@@ -22,6 +22,9 @@ mod translated;
 mod walk;
 mod writer;
 
-pub use laws::{inputs_have_their_columns, scripts_are_translated, translated_scripts_are_lawful};
+pub use laws::{
+    accepted_scripts_are_translated, inputs_have_their_columns, scripts_are_translated,
+    translated_scripts_are_lawful,
+};
 pub use script::translate;
 pub use translated::is_translated;

@@ -1,0 +1,136 @@
+-- An expression on data sets that is made over data sets with names is translated, where its words are names, its constants are held
+-- and it is not too deep.
+use Rattle.std.proofs.Common.{◌≡◌, ◌≤◌, ℕ, zero, suc, Bool, true, false, cond, ◌&&◌, ◌||◌, not, List, [], ◌∷◌, ◌++◌, map, length, refl, sym, ap, ◌∙◌, arith}
+use Rattle.std.proofs.lemmas.Bool.{and_parts, false≢true}
+use Rattle.std.proofs.lemmas.List.{length-map}
+use Rattle.std.proofs.lemmas.List.Filters.{length-filter_both}
+use Rattle.std.specs.List.{AllByRecursion, filter, list_any}
+use Rattle.vtl_cell.specs.Apart.{all_apart}
+use Rattle.vtl_cell.specs.Held.{IsHeld}
+use Rattle.vtl_cell.specs.Settings.{Settings}
+use Rattle.vtl_cell.specs.declared.kind.Kind.{Kind}
+use Rattle.vtl_lists.proofs.Aparts.{apart_parts}
+use Rattle.vtl_syntax.specs.Depth.{depth_limit}
+use Rattle.vtl_tree.specs.CompExp.{CompExp}
+use Rattle.vtl_tree.specs.Structure.{most_components, names_of, same_name, same_role}
+use Rattle.vtl_tree.specs.Structures.{Named}
+use Rattle.vtl_tree.specs.declared.structure.Component.{Component}
+use Rattle.vtl_tree.specs.declared.structure.Role.TheVariants as role
+use Rattle.vtl_tree.specs.declared.structure.Structure.{Structure}
+use Rattle.vtl_meaning.proofs.Places.{same_name-is, same_name-refl}
+use Rattle.vtl_meaning.specs.Columns.{identifiers_of, kind_named, place_of}
+use Rattle.vtl_meaning.specs.Made.{IsColumnAt, IsMade, IsMadeForm, IsSub}
+use Rattle.vtl_meaning.specs.Nodes.{form_nodes, nodes_in}
+use Rattle.vtl_meaning.specs.Operators.{calculated_exps, measured_exps, pair_exps}
+use Rattle.vtl_meaning.specs.Shapes.{IsShaped}
+use Rattle.vtl_meaning.specs.Trees as nodes
+use Rattle.vtl_meaning.specs.Trees.{FormTree, NodeTree, structure_of}
+use Rattle.vtl_meaning.specs.clauses.SubItem.{SubItem}
+use Rattle.check_laws.specs.Depths.{exps_in, held_exps, made_exps}
+use Rattle.check_laws.proofs.DepthBounds.{AreNodesUpTo, AreUpTo, IsUpTo}
+use Rattle.check_laws.proofs.Inner.{made-shaped}
+use Rattle.check_laws.proofs.Lists as lists
+use Rattle.rules_to_sql.specs.Held.{HoldsValues}
+use Rattle.vtl_to_sql.specs.Accepted.{AllHoldValues, FormHoldsConstants, HoldsConstants, is_form_translated, is_translated}
+use Rattle.vtl_to_sql.specs.Conditions.{AllCanBeWritten, CanBeWritten, HasValue, IsFormTranslated, IsTranslated}
+use Rattle.vtl_to_sql.proofs.AcceptedNames.{AreKnownNamed, columns_named, form_named}
+use Rattle.vtl_to_sql.proofs.AcceptedWords.{AreValues, FormHasWords, HasWords, IsFilled}
+
+-- ---- expressions
+written : (e : CompExp) → HoldsValues e → IsUpTo depth_limit e → CanBeWritten e
+written e h d = record { constants = h; shallow = omega arith }
+
+all_written : (es : List CompExp) → AllHoldValues es → AreUpTo depth_limit es → AllCanBeWritten es
+all_written es h d = lists.joined HoldsValues (IsUpTo depth_limit) CanBeWritten es written h d
+
+-- ---- no more texts that are apart than there are texts that they are among
+IsAmong : List (List ℕ) → List ℕ → Type 0
+IsAmong ys x = list_any (same_name x) ys ≡ true
+
+some_passes : (f : List ℕ → Bool) (ys : List (List ℕ)) → list_any f ys ≡ true → 1 ≤ length (filter f ys)
+some_passes f [] h = cc
+some_passes f (y ∷ ys) h = go (f y) h (some_passes f ys)
+  where
+    go : (b : Bool) → (b || list_any f ys) ≡ true → (list_any f ys ≡ true → 1 ≤ length (filter f ys)) → 1 ≤ length (cond b (y ∷ filter f ys) (filter f ys))
+    go true k ih = omega arith
+    go false k ih = ih k
+
+-- one that is apart from another is still among those that are not the other
+still_among : (x z : List ℕ) (ys : List (List ℕ)) → same_name x z ≡ false → IsAmong ys z → IsAmong (filter (λ y. not (same_name x y)) ys) z
+unfolding IsAmong
+still_among x z [] apart h = h
+still_among x z (y ∷ ys) apart h = go (same_name z y) refl (same_name x y) refl h (still_among x z ys apart)
+  where
+    kept : List (List ℕ)
+    kept = filter (λ y. not (same_name x y)) ys
+
+    go : (b : Bool) → same_name z y ≡ b → (q : Bool) → same_name x y ≡ q → (b || list_any (same_name z) ys) ≡ true → (list_any (same_name z) ys ≡ true → list_any (same_name z) kept ≡ true) → list_any (same_name z) (cond (not q) (y ∷ kept) kept) ≡ true
+    go true e true d k ih = absurd (false≢true (sym apart ∙ ap (same_name x) (same_name-is z y e) ∙ d))
+    go true e false d k ih = ap (λ b. b || list_any (same_name z) kept) e
+    go false e true d k ih = ih k
+    go false e false d k ih = ap (λ b. b || list_any (same_name z) kept) e ∙ ih k
+
+no_more : (xs ys : List (List ℕ)) → all_apart same_name xs ≡ true → AllByRecursion (IsAmong ys) xs → length xs ≤ length ys
+unfolding IsAmong
+no_more [] ys apart all = omega arith
+no_more (x ∷ xs) ys apart all =
+    let parts = apart_parts same_name x xs apart in
+    let others = filter (λ y. not (same_name x y)) ys in
+    let rest = no_more xs others parts.1 (lists.joined (λ z. same_name x z ≡ false) (IsAmong ys) (IsAmong others) xs (λ z a k. still_among x z ys a k) parts.0 all.1) in
+    omega (arith, rest, some_passes (same_name x) ys all.0, length-filter_both (same_name x) (λ y. not (same_name x y)) (λ y. refl) ys)
+
+-- ---- `sub`
+column_among : (place : ℕ) (name : List ℕ) (kind : Kind) (xs : List Component) → IsColumnAt place name kind xs → IsAmong (names_of xs) name
+unfolding IsAmong
+column_among place name kind [] h = absurd h
+column_among zero name kind (x ∷ xs) h = ap (λ b. b || list_any (same_name name) (names_of xs)) (ap (same_name name) h.0 ∙ same_name-refl name)
+column_among (suc place) name kind (x ∷ xs) h = ap (λ b. same_name name x.name || b) (column_among place name kind xs h) ∙ or_true (same_name name x.name)
+  where
+    or_true : (b : Bool) → (b || true) ≡ true
+    or_true true = refl
+    or_true false = refl
+
+few_items : (p : Settings) (items : List SubItem) (a s : Structure) → IsShaped a → IsSub items a s → AreValues p items → length items ≤ most_components
+few_items p items a s shaped is are =
+    let among = lists.mapped (IsAmong (names_of (identifiers_of a))) (λ i. i.id) items (lists.weaker (λ i. _) (λ i. IsAmong (names_of (identifiers_of a)) i.id) items (λ i h. column_among (place_of i.id (identifiers_of a)) i.id (kind_named i.id (identifiers_of a)) (identifiers_of a) h.1) is.values) in
+    omega
+    (arith, no_more (map (λ i. i.id) items) (names_of (identifiers_of a)) are.apart among, length-map items (λ (i : SubItem). i.id), length-map (identifiers_of a) (λ (x : Component). x.name), length-filter_both (λ (x : Component). same_role x.role role.Identifier) (λ x. not (same_role x.role role.Identifier)) (λ x. refl) a.components, shaped.well_formed.few)
+
+all_values : (p : Settings) (items : List SubItem) → AllByRecursion (λ i. IsHeld i.value) items → AreValues p items → AllByRecursion (HasValue p) items
+all_values p items h are = lists.joined (λ i. IsHeld i.value) (λ i. IsFilled p i.value) (HasValue p) items (λ i held filled. record { held = held; ranged = filled.0; filled = filled.1 }) h are.filled
+
+-- ---- expressions on data sets
+module _ (p : Settings) (known : Named) (all : AreKnownNamed known) where
+  -- the depths of operands beside each other
+  left : (xs ys : List NodeTree) → AreNodesUpTo depth_limit (xs ++ ys) → AreNodesUpTo depth_limit xs
+  left xs ys d = lists.front (λ n. AreUpTo depth_limit (exps_in n)) xs ys d
+
+  right : (xs ys : List NodeTree) → AreNodesUpTo depth_limit (xs ++ ys) → AreNodesUpTo depth_limit ys
+  right xs ys d = lists.back (λ n. AreUpTo depth_limit (exps_in n)) xs ys d
+
+  made_shallow : (s : Structure) (form : FormTree) → AreUpTo depth_limit (exps_in (nodes.node s form)) → AreUpTo depth_limit (made_exps s form)
+  made_shallow s form d = lists.back (IsUpTo depth_limit) (held_exps form) (made_exps s form) d
+
+  mutual
+    pub node_translated : (n : NodeTree) → IsMade p known n → is_translated n ≡ true → HasWords p n → HoldsConstants n → AreNodesUpTo depth_limit (nodes_in n) → IsTranslated p n
+    node_translated (nodes.node s form) m t w h d = (columns_named s (form_named p known all s form m.1 t w), form_translated s form m.1 t w h d.0 d.1)
+
+    form_translated : (s : Structure) (form : FormTree) → IsMadeForm p known s form → is_form_translated form ≡ true → FormHasWords p form → FormHoldsConstants s form → AreUpTo depth_limit (exps_in (nodes.node s form)) → AreNodesUpTo depth_limit (form_nodes form) → IsFormTranslated p s form
+    form_translated s (nodes.named x) m t w h own d = tt
+    form_translated s (nodes.measures o a) m t w h own d = (node_translated a m.0 t w h.0 d, all_written (measured_exps o (structure_of a) s) h.1 (made_shallow s (nodes.measures o a) own))
+    form_translated s (nodes.pair o a b) m t w h own d =
+        let both = and_parts (is_translated a) (is_translated b) t in
+        (node_translated a m.0 both.0 w.0 h.0 (left (nodes_in a) (nodes_in b) d), node_translated b m.1 both.1 w.1 h.1 (right (nodes_in a) (nodes_in b) d), all_written (pair_exps o (structure_of a) (structure_of b) s) h.2 (made_shallow s (nodes.pair o a b) own))
+    form_translated s (nodes.choose q a b) m t w h own d =
+        let first = and_parts (is_translated q) (is_translated a && is_translated b) t in
+        let both = and_parts (is_translated a) (is_translated b) first.1 in
+        let more = right (nodes_in q) (nodes_in a ++ nodes_in b) d in
+        (node_translated q m.0 first.0 w.0 h.0 (left (nodes_in q) (nodes_in a ++ nodes_in b) d), node_translated a m.1 both.0 w.1 h.1 (left (nodes_in a) (nodes_in b) more), node_translated b m.2 both.1 w.2 h.2 (right (nodes_in a) (nodes_in b) more))
+    form_translated s (nodes.member a x) m t w h own d = node_translated a m.0 t w h d
+    form_translated s (nodes.filter a e) m t w h own d = (node_translated a m.0 t w h.0 d, written e h.1 own.0)
+    form_translated s (nodes.calc a items) m t w h own d = (node_translated a m.0 t w.0 h.0 d, all_written (calculated_exps items (structure_of a) s) h.1 (made_shallow s (nodes.calc a items) own))
+    form_translated s (nodes.keep a names) m t w h own d = node_translated a m.0 t w h d
+    form_translated s (nodes.drop_named a names) m t w h own d = node_translated a m.0 t w h d
+    form_translated s (nodes.rename a pairs) m t w h own d = node_translated a m.0 t w.0 h d
+    form_translated s (nodes.sub a items) m t w h own d = (node_translated a m.0 t w.0 h.0 d, all_values p items h.1 w.1, few_items p items (structure_of a) s (made-shaped p known a m.0) m.1 w.1)
+    form_translated s other m t w h own d = absurd (false≢true t)
