@@ -48,3 +48,5 @@ pub mod AcceptedTables
 pub mod AcceptedNodes
 pub mod AcceptedReads
 pub mod Accepted
+pub mod NamedItems
+pub mod TurnedForms

@@ -11,3 +11,5 @@ pub mod Reads
 pub mod Translated
 pub mod Exports
 pub mod Accepted
+pub mod NamedItems
+pub mod TurnedItems

@@ -14,11 +14,14 @@ mod draft;
 mod inputs;
 mod items;
 mod laws;
+mod named_items;
 mod pair_items;
 mod pair_queries;
+mod pivot_queries;
 mod queries;
 mod script;
 mod translated;
+mod unpivot_queries;
 mod walk;
 mod writer;
 
