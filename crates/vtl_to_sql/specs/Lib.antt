@@ -13,3 +13,4 @@ pub mod Exports
 pub mod Accepted
 pub mod NamedItems
 pub mod TurnedItems
+pub mod Combined

@@ -20,6 +20,8 @@ mod pair_queries;
 mod pivot_queries;
 mod queries;
 mod script;
+mod set_operators;
+mod set_queries;
 mod translated;
 mod unpivot_queries;
 mod walk;
