@@ -50,3 +50,4 @@ pub mod AcceptedReads
 pub mod Accepted
 pub mod NamedItems
 pub mod TurnedForms
+pub mod ExistenceForms

@@ -2,13 +2,16 @@
 use Rattle.std.proofs.Common.{◌≡◌, ℕ, zero, suc, ◌+◌, ◌<◌, ◌≤◌, List, [], ◌∷◌, ◌++◌, map, length, get_or, take, refl, sym, ap, ◌∙◌, arith, append_assoc, append-nil}
 use Rattle.std.proofs.lemmas.List.{length-map}
 use Rattle.std.specs.Borrow.{Bor}
+use Rattle.vtl_cell.specs.Settings.{Settings}
 use Rattle.vtl_tree.specs.Shown.{shown}
 use Rattle.vtl_tree.specs.declared.structure.Component.{Component}
+use Rattle.vtl_meaning.specs.Columns.{columns_named}
 use Rattle.sql_tree.specs.Trees.{Exp, ItemTree}
 use Rattle.sql_tree.specs.View.{item_tree}
 use Rattle.sql_tree.specs.declared.statements.Item.{Item}
-use Rattle.vtl_to_sql.specs.Queries.{item_as, items_as}
-use Rattle.vtl_to_sql.specs.NamedItems.{AreNext}
+use Rattle.vtl_to_sql.specs.Queries.{all_to_sql, item_as, items_as, of_one}
+use Rattle.vtl_to_sql.specs.Items.{first_column}
+use Rattle.vtl_to_sql.specs.NamedItems.{AreNext, own_columns}
 
 named : (es : List Exp) (ys : List (Bor Component)) (e : Exp) (y : Bor Component) (n : ℕ) → n ≡ length (items_as es (shown ys)) → n < length ys → y ≡ get_or ys n y → items_as (es ++ e ∷ []) (shown ys) ≡ items_as es (shown ys) ++ item_as y.now.name e ∷ []
 named [] [] e y n is h at = absurd (omega (arith, h))
@@ -44,6 +47,11 @@ none_is_next old ys e n len h es o = o ∙ sym (full es ys e (omega (arith, h, l
 -- items for some expressions, and then for others
 pub next_behind : (old between new : List Item) (fs gs : List Exp) (ys : List Component) → AreNext old between fs ys → AreNext between new gs ys → AreNext old new (fs ++ gs) ys
 next_behind old between new fs gs ys a b es o = b (es ++ fs) (a es o) ∙ ap (λ l. items_as l ys) (append_assoc es fs gs)
+
+-- columns go by their names
+pub own_written : (p : Settings) (xs ys : List Component) → all_to_sql p of_one (columns_named xs ys) ≡ own_columns ys
+own_written p xs [] = refl
+own_written p xs (y ∷ ys) = ap (λ l. first_column y.name ∷ l) (own_written p xs ys)
 
 -- ---- components one by one
 

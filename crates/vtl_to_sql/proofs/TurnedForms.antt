@@ -4,18 +4,16 @@ use Rattle.vtl_cell.specs.Settings.{Settings}
 use Rattle.vtl_tree.specs.Structure.{columns_of, names_of}
 use Rattle.vtl_tree.specs.declared.structure.Component.{Component}
 use Rattle.vtl_tree.specs.declared.structure.Structure.{Structure}
-use Rattle.vtl_meaning.specs.Columns.{columns_named, identifiers_of, measures_of}
+use Rattle.vtl_meaning.specs.Columns.{identifiers_of, measures_of}
 use Rattle.vtl_meaning.specs.Turned.{codes_of, other_identifiers}
 use Rattle.sql_tree.specs.Trees.{Exp, Text}
 use Rattle.rules_to_sql.specs.ToSql.{column_of, group_columns}
 use Rattle.vtl_to_sql.specs.Items.{first_column, from_one}
-use Rattle.vtl_to_sql.specs.Queries.{all_to_sql, first_alias, items_as, of_one, source_as}
+use Rattle.vtl_to_sql.specs.Queries.{first_alias, items_as, source_as}
 use Rattle.vtl_to_sql.specs.Turned.{coded_item, grouped_as, is_filled, kept_groups, pivot_query, text_constant, unpivot_query, unpivoted_select}
-use Rattle.vtl_to_sql.specs.TurnedItems.{coded_values, group_of, grouped_by, measure_select, own_columns}
-
-own_written : (p : Settings) (xs ys : List Component) → all_to_sql p of_one (columns_named xs ys) ≡ own_columns ys
-own_written p xs [] = refl
-own_written p xs (y ∷ ys) = ap (λ l. first_column y.name ∷ l) (own_written p xs ys)
+use Rattle.vtl_to_sql.specs.NamedItems.{own_columns}
+use Rattle.vtl_to_sql.specs.TurnedItems.{coded_values, group_of, grouped_by, measure_select}
+use Rattle.vtl_to_sql.proofs.NamedItems.{own_written}
 
 -- ---- `unpivot`
 

@@ -14,3 +14,4 @@ pub mod Accepted
 pub mod NamedItems
 pub mod TurnedItems
 pub mod Combined
+pub mod Existences

@@ -5,12 +5,9 @@ use Rattle.sql_tree.specs.Trees.{Exp, ItemTree, SelectTree, Text}
 use Rattle.sql_tree.specs.declared.parts.Column.{Column}
 use Rattle.rules_to_sql.specs.ToSql.{column_of}
 use Rattle.vtl_to_sql.specs.Items.{first_column, from_one}
+use Rattle.vtl_to_sql.specs.NamedItems.{own_columns}
 use Rattle.vtl_to_sql.specs.Queries.{first_alias, items_as, source_as}
 use Rattle.vtl_to_sql.specs.Turned.{coded_item, grouped_as, is_filled, kept_groups, text_constant}
-
--- the columns of the first source
-abbrev pub own_columns : List Component → List Exp
-own_columns xs = map (λ x. first_column x.name) xs
 
 -- ---- `unpivot`
 

@@ -11,6 +11,7 @@
 mod components;
 mod conditions;
 mod draft;
+mod existence_queries;
 mod inputs;
 mod items;
 mod laws;

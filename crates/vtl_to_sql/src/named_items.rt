@@ -2,8 +2,7 @@
 ghost use Rattle.std.specs.Prelude.{◌∷◌, [], OnOk};
 ghost use Rattle.vtl_tree.specs.Shown.{shown};
 ghost use Rattle.sql_tree.specs.View.{expr_tree};
-ghost use Rattle.vtl_to_sql.specs.NamedItems.{AreNext};
-ghost use Rattle.vtl_to_sql.specs.TurnedItems.{own_columns};
+ghost use Rattle.vtl_to_sql.specs.NamedItems.{AreNext, own_columns};
 
 use crate::items::push_item;
 use crate::writer::Writer;

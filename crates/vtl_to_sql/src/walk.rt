@@ -9,6 +9,7 @@ ghost use Rattle.vtl_to_sql.specs.Tables.{made_of_form, over, sources_of, with_o
 ghost use Rattle.vtl_to_sql.specs.Translated.{has_form_query, has_query};
 
 use crate::draft::Draft;
+use crate::existence_queries::existence_query;
 use crate::pair_queries::{Operand, choose_query, pair_query};
 use crate::pivot_queries::pivot_query;
 use crate::queries::{
@@ -147,6 +148,12 @@ pub(crate) fn query(
             let first = source(alloc, writer, a, target, draft)?;
             let second = source(alloc, writer, b, target, draft)?;
             set_query(alloc, writer, SetOperator::SymmetricDifference, s, &first, &second)
+        }
+        NodeForm::ExistsIn { a, b, retain } => {
+            let first = source(alloc, writer, a, target, draft)?;
+            let second = source(alloc, writer, b, target, draft)?;
+            let (first, second) = (operand(a, &first), operand(b, &second));
+            existence_query(alloc, writer, *retain, &first, &second, s)
         }
         _ => unreachable!(),
     }

@@ -4,8 +4,7 @@ use Rattle.vtl_tree.specs.Shown.{shown}
 use Rattle.sql_tree.specs.Trees.{Exp}
 use Rattle.sql_tree.specs.View.{expr_tree}
 use Rattle.vtl_to_sql.specs.Items.{first_column}
-use Rattle.vtl_to_sql.specs.NamedItems.{AreNext}
-use Rattle.vtl_to_sql.specs.TurnedItems.{own_columns}
+use Rattle.vtl_to_sql.specs.NamedItems.{AreNext, own_columns}
 use Rattle.vtl_to_sql.proofs.NamedItems.{each_more, next_behind, none_behind}
 use Rattle.vtl_to_sql.proofs.named_items.push_own.Goals as goal
 

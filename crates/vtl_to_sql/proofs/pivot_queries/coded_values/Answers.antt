@@ -1,7 +1,7 @@
 use Rattle.std.proofs.Common.{[], ap, map}
 use Rattle.vtl_tree.specs.Shown.{shown}
 use Rattle.sql_tree.specs.View.{item_tree}
-use Rattle.vtl_to_sql.specs.TurnedItems.{own_columns}
+use Rattle.vtl_to_sql.specs.NamedItems.{own_columns}
 use Rattle.vtl_to_sql.proofs.pivot_queries.coded_values.Goals as goal
 
 pub returns : goal.returns

@@ -5,7 +5,7 @@ use Rattle.sql_tree.specs.View.{expr_tree, item_tree}
 use Rattle.vtl_to_sql.specs.Items.{first_column}
 use Rattle.vtl_to_sql.specs.Queries.{items_as}
 use Rattle.vtl_to_sql.specs.Turned.{text_constant}
-use Rattle.vtl_to_sql.specs.TurnedItems.{own_columns}
+use Rattle.vtl_to_sql.specs.NamedItems.{own_columns}
 use Rattle.vtl_to_sql.proofs.unpivot_queries.named_values.Goals as goal
 
 pub returns : goal.returns
