@@ -1,5 +1,5 @@
 -- An accepted script whose forms are translated so far can be translated.
-use Rattle.std.proofs.Common.{◌≡◌, ◌≤◌, ℕ, Bool, true, false, cond, ◌&&◌, ◌||◌, List, [], ◌∷◌, ◌++◌, Some, sym, ap, subst, arith, true≢false}
+use Rattle.std.proofs.Common.{inl, inr, ◌≡◌, ◌≤◌, ℕ, Bool, true, false, cond, ◌&&◌, ◌||◌, List, [], ◌∷◌, ◌++◌, Some, sym, ap, subst, true≢false}
 use Rattle.std.proofs.lemmas.Bool.{and_parts, false≢true}
 use Rattle.std.specs.List.{AllByRecursion}
 use Rattle.std.specs.Map.{lookup}
@@ -10,16 +10,16 @@ use Rattle.vtl_syntax.specs.Written.{AreWritten}
 use Rattle.vtl_tree.specs.Structure.{same_name}
 use Rattle.vtl_tree.specs.Structures.{AreStructures, Named, has_name}
 use Rattle.vtl_tree.specs.declared.structure.Structure.{Structure}
-use Rattle.vtl_meaning.specs.Meaning.{Statement}
-use Rattle.vtl_meaning.specs.Nodes.{nodes_in}
+use Rattle.vtl_meaning.specs.Meaning.{are_nodes_built, are_operands_built, is_built, is_built_form}
+use Rattle.vtl_meaning.specs.Nodes.{all_nodes, nodes_in, operand_nodes}
 use Rattle.vtl_meaning.specs.Trees as nodes
-use Rattle.vtl_meaning.specs.Trees.{FormTree, NodeTree, structure_of}
+use Rattle.vtl_meaning.specs.Trees.{FormTree, NodeTree, NodeTrees, OperandTrees, structure_of}
 use Rattle.vtl_check.specs.Checked.{IsTyped, TypedScript, nodes_of, tree_of}
 use Rattle.vtl_check.specs.Names.{names_at, names_in, names_of}
 use Rattle.vtl_check.specs.Transformations.{Transformation, transformations}
 use Rattle.vtl_check.specs.Uses.{reads}
 use Rattle.vtl_check.proofs.NameLemmas.{names_append}
-use Rattle.vtl_backend.specs.Statements.{is_written, statements_of, with_nodes}
+use Rattle.vtl_backend.specs.Statements.{statements_of, with_nodes}
 use Rattle.check_laws.specs.Depths.{node_depth}
 use Rattle.check_laws.specs.Scripts.{AreKnownAlike, AreMadeFrom}
 use Rattle.check_laws.proofs.DepthBounds.{node-below}
@@ -27,15 +27,14 @@ use Rattle.check_laws.proofs.DepthScripts.{written-depth}
 use Rattle.check_laws.proofs.Lists as lists
 use Rattle.check_laws.proofs.Over.{made_over}
 use Rattle.check_laws.proofs.Scripts.{script-made}
-use Rattle.vtl_to_sql.specs.Accepted.{AreHeld, HoldsConstants, are_translated, is_form_translated, is_translated}
-use Rattle.vtl_to_sql.specs.Conditions.{AreTranslated, HasFewTables, IsScript}
-use Rattle.vtl_to_sql.specs.Tables.{first_number}
-use Rattle.vtl_to_sql.proofs.AcceptedNames.{AreKnownNamed, components_named, declared_named}
-use Rattle.vtl_to_sql.proofs.AcceptedNodes.{node_translated}
+use Rattle.vtl_to_sql.specs.Accepted.{AreFew, AreHeld, HoldsConstants, are_translated, is_translated}
+use Rattle.vtl_to_sql.specs.Conditions.{AreTranslated, IsScript}
+use Rattle.vtl_to_sql.proofs.AcceptedComponents.{AreKnownNamed, declared_named}
+use Rattle.vtl_to_sql.proofs.AcceptedNames.{components_named}
+use Rattle.vtl_to_sql.proofs.AcceptedNodes.{evaluated, node_translated}
 use Rattle.vtl_to_sql.proofs.AcceptedReads.{IsWord, reads_alike, reads_fewer, reads_readable}
-use Rattle.vtl_to_sql.proofs.AcceptedScripts.{IsFit, results-named, script-fit}
-use Rattle.vtl_to_sql.proofs.AcceptedTables.{made_few}
-use Rattle.vtl_to_sql.proofs.AcceptedWords.{FormHasWords, HasWords, name-word}
+use Rattle.vtl_to_sql.proofs.AcceptedScripts.{results-named, script-worded}
+use Rattle.vtl_to_sql.proofs.AcceptedWords.{FormHasWords, HasWords, HaveWords, IsWorded, OperandsHaveWords, name-word}
 
 -- ---- the names that an expression reads are words
 module _ (p : Settings) where
@@ -43,30 +42,48 @@ module _ (p : Settings) where
   two_words xs ys h k = subst (AllByRecursion IsWord) (sym (names_append xs ys)) (lists.appended IsWord (names_at xs) (names_at ys) h k)
 
   mutual
-    names_words : (n : NodeTree) → is_translated n ≡ true → HasWords p n → AllByRecursion IsWord (names_in n)
-    names_words (nodes.node s form) t w = form_words s form t w
+    names_words : (b : Bool) (n : NodeTree) → is_built n ≡ true → HasWords p b n → AllByRecursion IsWord (names_in n)
+    names_words b (nodes.node s form) t w = form_words b s form t w
 
-    form_words : (s : Structure) (form : FormTree) → is_form_translated form ≡ true → FormHasWords p form → AllByRecursion IsWord (names_in (nodes.node s form))
-    form_words s (nodes.named name) t w = (name-word name w, tt)
-    form_words s (nodes.measures m a) t w = names_words a t w
-    form_words s (nodes.pair o a b) t w = let both = and_parts (is_translated a) (is_translated b) t in two_words (nodes_in a) (nodes_in b) (names_words a both.0 w.0) (names_words b both.1 w.1)
-    form_words s (nodes.choose q a b) t w =
-        let first = and_parts (is_translated q) (is_translated a && is_translated b) t in
-        let both = and_parts (is_translated a) (is_translated b) first.1 in
-        two_words (nodes_in q) (nodes_in a ++ nodes_in b) (names_words q first.0 w.0) (two_words (nodes_in a) (nodes_in b) (names_words a both.0 w.1) (names_words b both.1 w.2))
-    form_words s (nodes.member a m) t w = names_words a t w
-    form_words s (nodes.filter a e) t w = names_words a t w
-    form_words s (nodes.calc a items) t w = names_words a t w.0
-    form_words s (nodes.keep a names) t w = names_words a t w
-    form_words s (nodes.drop_named a names) t w = names_words a t w
-    form_words s (nodes.rename a pairs) t w = names_words a t w.0
-    form_words s (nodes.sub a items) t w = names_words a t w.0
-    form_words s other t w = absurd (false≢true t)
+    form_words : (b : Bool) (s : Structure) (form : FormTree) → is_built_form form ≡ true → FormHasWords p b form → AllByRecursion IsWord (names_in (nodes.node s form))
+    form_words b s (nodes.named name) t w = (name-word name w, tt)
+    form_words b s (nodes.measures m a) t w = names_words false a t w
+    form_words b s (nodes.pair o a c) t w = let both = and_parts (is_built a) (is_built c) t in two_words (nodes_in a) (nodes_in c) (names_words false a both.0 w.0) (names_words false c both.1 w.1)
+    form_words b s (nodes.choose q a c) t w =
+        let first = and_parts (is_built q) (is_built a && is_built c) t in
+        let both = and_parts (is_built a) (is_built c) first.1 in
+        two_words (nodes_in q) (nodes_in a ++ nodes_in c) (names_words false q first.0 w.0) (two_words (nodes_in a) (nodes_in c) (names_words false a both.0 w.1) (names_words false c both.1 w.2))
+    form_words b s (nodes.member a m) t w = names_words false a t w
+    form_words b s (nodes.filter a e) t w = names_words b a t w
+    form_words b s (nodes.calc a items) t w = names_words b a t w.0
+    form_words b s (nodes.keep a names) t w = names_words b a t w
+    form_words b s (nodes.drop_named a names) t w = names_words b a t w
+    form_words b s (nodes.rename a pairs) t (inl w) = names_words b a t w.0
+    form_words b s (nodes.rename a pairs) t (inr w) = names_words true a t w.0
+    form_words true s (nodes.join os spec) t w = operand_words os t w
+    form_words false s (nodes.join os spec) t w = absurd w
+    form_words b s (nodes.sub a items) t w = names_words false a t w.0
+    form_words b s (nodes.pivot a id m) t w = names_words false a t w.0
+    form_words b s (nodes.unpivot a id m) t w = names_words false a t w.0
+    form_words b s (nodes.union ns) t w = all_words ns t w
+    form_words b s (nodes.intersect ns) t w = all_words ns t w
+    form_words b s (nodes.set_diff a c) t w = let both = and_parts (is_built a) (is_built c) t in two_words (nodes_in a) (nodes_in c) (names_words false a both.0 w.0) (names_words false c both.1 w.1)
+    form_words b s (nodes.sym_diff a c) t w = let both = and_parts (is_built a) (is_built c) t in two_words (nodes_in a) (nodes_in c) (names_words false a both.0 w.0) (names_words false c both.1 w.1)
+    form_words b s (nodes.exists_in a c r) t w = let both = and_parts (is_built a) (is_built c) t in two_words (nodes_in a) (nodes_in c) (names_words false a both.0 w.0) (names_words false c both.1 w.1)
+    form_words b s other t w = absurd (false≢true t)
+
+    all_words : (ns : NodeTrees) → are_nodes_built ns ≡ true → HaveWords p ns → AllByRecursion IsWord (names_at (all_nodes ns))
+    all_words nodes.no_nodes t w = tt
+    all_words (nodes.and_node n ns) t w = let both = and_parts (is_built n) (are_nodes_built ns) t in two_words (nodes_in n) (all_nodes ns) (names_words false n both.0 w.0) (all_words ns both.1 w.1)
+
+    operand_words : (os : OperandTrees) → are_operands_built os ≡ true → OperandsHaveWords p os → AllByRecursion IsWord (names_at (operand_nodes os))
+    operand_words nodes.no_operands t w = tt
+    operand_words (nodes.operand n alias os) t w = let both = and_parts (is_built n) (are_operands_built os) t in two_words (nodes_in n) (operand_nodes os) (names_words false n both.0 w.0) (operand_words os both.1 w.2)
 
 -- ---- statements
 -- what holds of a node of an accepted script
 record IsReady (p : Settings) (n : NodeTree) : Type 0 where
-  fit : IsFit p n
+  words : IsWorded p n
   shallow : node_depth n ≤ depth_limit
   held : HoldsConstants n
   translated : is_translated n ≡ true
@@ -76,7 +93,7 @@ AreReady p ns = AllByRecursion (IsReady p) ns
 
 words_of : (p : Settings) (ns : List NodeTree) → AreReady p ns → AllByRecursion IsWord (names_of ns)
 words_of p [] h = tt
-words_of p (n ∷ ns) h = lists.appended IsWord (names_in n) (names_of ns) (names_words p n h.0.translated (h.0.fit.words h.0.translated)) (words_of p ns h.1)
+words_of p (n ∷ ns) h = lists.appended IsWord (names_in n) (names_of ns) (let built = evaluated n h.0.translated in names_words p false n built (h.0.words built)) (words_of p ns h.1)
 
 abbrev AreFewer : Named → Named → Type 0
 AreFewer known other = (name : List ℕ) → has_name name known ≡ false → has_name name other ≡ false
@@ -88,42 +105,40 @@ fewer_still known other e fewer name h = go (same_name name e.0) h
     go true k = absurd (true≢false k)
     go false k = fewer name k
 
-few_tables : (p : Settings) (s : Statement) → is_translated s.node ≡ true → IsFit p s.node → HasFewTables p s
-few_tables p s t fit = omega (arith, made_few p s.result s.node first_number t, fit.few)
-
-statements_translated : (p : Settings) (known other : Named) (ts : List Transformation) (ns : List NodeTree) → AreKnownAlike known other (names_of ns) → AreFewer known other → AreKnownNamed known → AllByRecursion (λ r. is_name r.name ≡ true) ts → AreReady p ns → AreMadeFrom p known ts ns → AreTranslated p other (with_nodes ts ns)
-statements_translated p known other [] ns alike fewer named words ready made = tt
-statements_translated p known other (t ∷ ts) [] alike fewer named words ready made = tt
-statements_translated p known other (t ∷ ts) (n ∷ ns) alike fewer named words ready made =
+statements_translated : (p : Settings) (known other : Named) (ts : List Transformation) (ns : List NodeTree) → AreKnownAlike known other (names_of ns) → AreFewer known other → AreKnownNamed known → AllByRecursion (λ r. is_name r.name ≡ true) ts → AreReady p ns → AreMadeFrom p known ts ns → AreFew p (with_nodes ts ns) → AreTranslated p other (with_nodes ts ns)
+statements_translated p known other [] ns alike fewer named words ready made few = tt
+statements_translated p known other (t ∷ ts) [] alike fewer named words ready made few = tt
+statements_translated p known other (t ∷ ts) (n ∷ ns) alike fewer named words ready made few =
     let here = ready.0 in
-    let own = here.fit.words here.translated in
+    let built = evaluated n here.translated in
+    let own = here.words built in
     let rest = lists.back (λ name. lookup (same_name name) known ≡ lookup (same_name name) other) (names_in n) (names_of ns) alike in (
       record {
         word = name-word t.name words.0;
         new = fewer t.name made.0;
         made = made_over p known other n (lists.front (λ name. lookup (same_name name) known ≡ lookup (same_name name) other) (names_in n) (names_of ns) alike) made.1;
-        translated = node_translated p known named n made.1 here.translated own here.held (node-below depth_limit n here.shallow);
-        few = few_tables p (record { result = t.name; persistent = is_written t.kind; node = n }) here.translated here.fit;
+        translated = node_translated p known named false n made.1 here.translated own here.held (node-below depth_limit n here.shallow);
+        few = few.0;
       },
       statements_translated p ((t.name, structure_of n) ∷ known) ((t.name, structure_of n) ∷ other) ts ns
           (lists.weaker (λ name. lookup (same_name name) known ≡ lookup (same_name name) other) (λ name. lookup (same_name name) ((t.name, structure_of n) ∷ known) ≡ lookup (same_name name) ((t.name, structure_of n) ∷ other)) (names_of ns) (λ name e. ap (cond (same_name name t.name) (Some (structure_of n))) e) rest)
           (fewer_still known other (t.name, structure_of n) fewer)
-          (components_named p known named n made.1 here.translated own, named)
-          words.1 ready.1 made.2,
+          ((components_named p known named false n made.1 built own).0, named)
+          words.1 ready.1 made.2 few.1,
     )
 
 -- ---- scripts
-all_ready : (p : Settings) (ns : List NodeTree) → AllByRecursion (IsFit p) ns → AllByRecursion (λ n. node_depth n ≤ depth_limit) ns → AreHeld ns → AllByRecursion (λ n. is_translated n ≡ true) ns → AreReady p ns
-all_ready p [] fit shallow held translated = tt
-all_ready p (n ∷ ns) fit shallow held translated = (record { fit = fit.0; shallow = shallow.0; held = held.0; translated = translated.0 }, all_ready p ns fit.1 shallow.1 held.1 translated.1)
+all_ready : (p : Settings) (ns : List NodeTree) → AllByRecursion (IsWorded p) ns → AllByRecursion (λ n. node_depth n ≤ depth_limit) ns → AreHeld ns → AllByRecursion (λ n. is_translated n ≡ true) ns → AreReady p ns
+all_ready p [] words shallow held translated = tt
+all_ready p (n ∷ ns) words shallow held translated = (record { words = words.0; shallow = shallow.0; held = held.0; translated = translated.0 }, all_ready p ns words.1 shallow.1 held.1 translated.1)
 
-pub script_accepted : (t : TypedScript) → t.settings.scale ≤ 9 → AreStructures t.declared → IsTyped t → AreWritten (tree_of t) → are_translated (nodes_of t) ≡ true → AreHeld (nodes_of t) → IsScript t.settings (reads t.declared (nodes_of t)) (statements_of t)
-script_accepted t low are typed written translated held =
+pub script_accepted : (t : TypedScript) → t.settings.scale ≤ 9 → AreStructures t.declared → IsTyped t → AreWritten (tree_of t) → are_translated (nodes_of t) ≡ true → AreHeld (nodes_of t) → AreFew t.settings (statements_of t) → IsScript t.settings (reads t.declared (nodes_of t)) (statements_of t)
+script_accepted t low are typed written translated held few =
     let ns = nodes_of t in
-    let ready = all_ready t.settings ns (script-fit t typed written) (written-depth t typed written) held (lists.all_pass is_translated ns translated) in
+    let ready = all_ready t.settings ns (script-worded t typed written) (written-depth t typed written) held (lists.all_pass is_translated ns translated) in
     let words = words_of t.settings ns ready in
     record {
       low = low;
       readable = reads_readable t.declared ns words are;
-      translated = statements_translated t.settings t.declared (reads t.declared ns) (transformations (tree_of t)) ns (reads_alike t.declared ns words) (reads_fewer t.declared ns words) (declared_named t.declared are) (results-named t written) ready (script-made t are typed);
+      translated = statements_translated t.settings t.declared (reads t.declared ns) (transformations (tree_of t)) ns (reads_alike t.declared ns words) (reads_fewer t.declared ns words) (declared_named t.declared are) (results-named t written) ready (script-made t are typed) few;
     }

@@ -1,9 +1,7 @@
--- The nodes of a typed, written script have its words, and each has few nodes.
-use Rattle.std.proofs.Common.{◌≡◌, ◌≤◌, ℕ, suc, ◌+◌, true, false, List, [], ◌∷◌, ◌++◌, subst, arith}
-use Rattle.std.proofs.lemmas.Bool.Decides.{nat_tests}
+-- The nodes of a typed, written script have its words.
+use Rattle.std.proofs.Common.{◌≡◌, ℕ, suc, ◌+◌, true, List, [], ◌∷◌, ◌++◌, subst}
 use Rattle.std.specs.List.{AllByRecursion}
 use Rattle.vtl_cell.specs.Results.{◌>>=◌}
-use Rattle.vtl_cell.specs.Settings.{Settings}
 use Rattle.vtl_cell.specs.Words.{is_name}
 use Rattle.vtl_syntax.specs.Trees as tree
 use Rattle.vtl_syntax.specs.Trees.{Exp, ScriptTree}
@@ -16,7 +14,7 @@ use Rattle.vtl_check.specs.Places.{Env}
 use Rattle.vtl_check.specs.places.Place.TheVariants as place
 use Rattle.vtl_check.specs.Checked.{IsTyped, TypedScript, env_over, nodes_of, tree_of}
 use Rattle.vtl_check.specs.Count.{count}
-use Rattle.vtl_check.specs.Script.{assigned, is_too_much, most_nodes, transformations_typed, value_typed, with_result}
+use Rattle.vtl_check.specs.Script.{assigned, is_too_much, transformations_typed, value_typed, with_result}
 use Rattle.vtl_check.specs.Transformations.{transformations, transformations_from}
 use Rattle.vtl_check.specs.Typing.{typed}
 use Rattle.check_laws.specs.Gives.{Gives}
@@ -24,33 +22,26 @@ use Rattle.check_laws.proofs.Lists as lists
 use Rattle.check_laws.proofs.Scripts.{at-then}
 use Rattle.check_laws.proofs.Steps.{after, tested, then}
 use Rattle.vtl_to_sql.proofs.AcceptedTyping.{worded}
-use Rattle.vtl_to_sql.proofs.AcceptedWords.{IsWorded, dataset-step}
+use Rattle.vtl_to_sql.proofs.AcceptedOperators.{dataset-step}
+use Rattle.vtl_to_sql.proofs.AcceptedWords.{IsWorded}
 
--- a node with the words of a script, and no more nodes in it than a script may have
-pub record IsFit (p : Settings) (n : NodeTree) : Type 0 where
-  pub words : IsWorded p n
-  pub few : count n ≤ most_nodes
-
-count-few : (before : ℕ) (n : NodeTree) → is_too_much before n ≡ false → count n ≤ most_nodes
-count-few before n h = grind (arith, nat_tests, h)
-
-assigned-fit : (env : Env) (before : ℕ) (name : List ℕ) (e : Exp) → IsWrittenExp e → Gives (IsFit env.settings) (assigned env before name e)
+assigned-worded : (env : Env) (before : ℕ) (name : List ℕ) (e : Exp) → IsWrittenExp e → Gives (IsWorded env.settings) (assigned env before name e)
 unfolding assigned
-assigned-fit env before name e w =
-    after (IsFit env.settings) (ruled ((rule.NameTaken, has_name name env.known) ∷ []) (tt {0})) (λ u. value_typed env e >>= λ n. ruled ((rule.TooManyNodes, is_too_much before n) ∷ []) n)
-    (λ u. then (IsWorded env.settings) (IsFit env.settings) (value_typed env e) (λ n. ruled ((rule.TooManyNodes, is_too_much before n) ∷ []) n) (dataset-step env.settings (typed env place.Outside e) (worded env place.Outside e w))
-    (λ n h. tested (IsFit env.settings) ((rule.TooManyNodes, is_too_much before n) ∷ []) n (λ passed. record { words = h; few = count-few before n passed.0 })))
+assigned-worded env before name e w =
+    after (IsWorded env.settings) (ruled ((rule.NameTaken, has_name name env.known) ∷ []) (tt {0})) (λ u. value_typed env e >>= λ n. ruled ((rule.TooManyNodes, is_too_much before n) ∷ []) n)
+    (λ u. then (IsWorded env.settings) (IsWorded env.settings) (value_typed env e) (λ n. ruled ((rule.TooManyNodes, is_too_much before n) ∷ []) n) (dataset-step env.settings (typed env place.Outside e) (worded env place.Outside e w))
+    (λ n h. tested (IsWorded env.settings) ((rule.TooManyNodes, is_too_much before n) ∷ []) n (λ passed. h)))
 
-statements-fit : (env : Env) (i before : ℕ) (done : List NodeTree) (ss : ScriptTree) → AreWritten ss → AllByRecursion (IsFit env.settings) done → Gives (AllByRecursion (IsFit env.settings)) (transformations_typed env before done (transformations_from i ss))
-statements-fit env i before done [] w h = h
-statements-fit env i before done (tree.assignment name kind e ∷ ss) w h =
-    at-then (IsFit env.settings) (AllByRecursion (IsFit env.settings)) i (assigned env before name e) (λ n. transformations_typed (with_result env name n) (before + count n) (done ++ n ∷ []) (transformations_from (suc i) ss)) (assigned-fit env before name e w.0.parts.1)
-    (λ n k. statements-fit (with_result env name n) (suc i) (before + count n) (done ++ n ∷ []) ss w.1 (lists.appended (IsFit env.settings) done (n ∷ []) h (k, tt)))
-statements-fit env i before done (tree.datapoint n vs rs b ∷ ss) w h = statements-fit env (suc i) before done ss w.1 h
-statements-fit env i before done (tree.hierarchical n v rs b ∷ ss) w h = statements-fit env (suc i) before done ss w.1 h
+statements-worded : (env : Env) (i before : ℕ) (done : List NodeTree) (ss : ScriptTree) → AreWritten ss → AllByRecursion (IsWorded env.settings) done → Gives (AllByRecursion (IsWorded env.settings)) (transformations_typed env before done (transformations_from i ss))
+statements-worded env i before done [] w h = h
+statements-worded env i before done (tree.assignment name kind e ∷ ss) w h =
+    at-then (IsWorded env.settings) (AllByRecursion (IsWorded env.settings)) i (assigned env before name e) (λ n. transformations_typed (with_result env name n) (before + count n) (done ++ n ∷ []) (transformations_from (suc i) ss)) (assigned-worded env before name e w.0.parts.1)
+    (λ n k. statements-worded (with_result env name n) (suc i) (before + count n) (done ++ n ∷ []) ss w.1 (lists.appended (IsWorded env.settings) done (n ∷ []) h (k, tt)))
+statements-worded env i before done (tree.datapoint n vs rs b ∷ ss) w h = statements-worded env (suc i) before done ss w.1 h
+statements-worded env i before done (tree.hierarchical n v rs b ∷ ss) w h = statements-worded env (suc i) before done ss w.1 h
 
-pub script-fit : (t : TypedScript) → IsTyped t → AreWritten (tree_of t) → AllByRecursion (IsFit t.settings) (nodes_of t)
-script-fit t is written = subst (Gives (AllByRecursion (IsFit t.settings))) is (statements-fit (env_over t.settings t.declared) 1 0 [] (tree_of t) written tt)
+pub script-worded : (t : TypedScript) → IsTyped t → AreWritten (tree_of t) → AllByRecursion (IsWorded t.settings) (nodes_of t)
+script-worded t is written = subst (Gives (AllByRecursion (IsWorded t.settings))) is (statements-worded (env_over t.settings t.declared) 1 0 [] (tree_of t) written tt)
 
 -- the names of results
 names-from : (i : ℕ) (ss : ScriptTree) → AreWritten ss → AllByRecursion (λ t. is_name t.name ≡ true) (transformations_from i ss)

@@ -1,59 +1,64 @@
--- An expression has no more tables than nodes that count.
-use Rattle.std.proofs.Common.{◌≡◌, ◌≤◌, ℕ, ◌+◌, true, ◌&&◌, List, [], ◌∷◌, ◌++◌, length, ap, ◌∙◌, arith, length-append}
-use Rattle.std.proofs.lemmas.Bool.{and_parts, false≢true}
-use Rattle.std.proofs.lemmas.List.Elements.{filter-append}
-use Rattle.std.specs.List.{filter}
+-- The next number of a table counts the tables that are made.
+use Rattle.std.proofs.Common.{◌≡◌, ℕ, ◌+◌, [], ◌∷◌, ◌++◌, length, arith, length-append}
 use Rattle.vtl_cell.specs.Settings.{Settings}
 use Rattle.vtl_tree.specs.declared.structure.Structure.{Structure}
-use Rattle.vtl_meaning.specs.Nodes.{form_nodes, nodes_in}
 use Rattle.vtl_meaning.specs.Trees as nodes
-use Rattle.vtl_meaning.specs.Trees.{FormTree, NodeTree}
-use Rattle.vtl_check.specs.Count.{count, counted, is_counted}
-use Rattle.sql_tree.specs.Trees.{Text}
-use Rattle.vtl_to_sql.specs.Accepted.{is_form_translated, is_translated}
-use Rattle.vtl_to_sql.specs.Tables.{Made, made_of, made_of_form, numbered, source_of, sources_of, table_of}
+use Rattle.vtl_meaning.specs.Trees.{FormTree, NodeTree, NodeTrees, structure_of}
+use Rattle.sql_tree.specs.Trees.{QueryTree, Text}
+use Rattle.vtl_to_sql.specs.Queries.{intersection_query, union_query}
+use Rattle.vtl_to_sql.specs.Tables.{Made, Sources, combined_of, made_of, made_of_form, numbered, over, and_then, source_of, sources_of, stored, table_of, with_two}
 
-counted_append : (xs ys : List NodeTree) → counted (xs ++ ys) ≡ counted xs + counted ys
-counted_append xs ys = ap length (filter-append is_counted xs ys) ∙ length-append (filter is_counted xs) (filter is_counted ys)
+-- the next number behind so many tables
+abbrev AreCounted : ℕ → Sources → Type 0
+AreCounted k os = os.next ≡ k + length os.tables
 
--- a table of its own for an operand that is no name
-stored_few : (r : Text) (s : Structure) (form : FormTree) (k : ℕ) (m : Made) → is_form_translated form ≡ true → length m.tables ≤ counted (form_nodes form) → length (source_of r form k m).tables ≤ counted (nodes.node s form ∷ form_nodes form)
-stored_few r s (nodes.named x) k m t h = omega arith
-stored_few r s (nodes.join os spec) k m t h = absurd (false≢true t)
-stored_few r s form k m t h = omega (arith, h, length-append m.tables (table_of (numbered r m.next) m.query ∷ []))
+stored_counted : (r : Text) (m : Made) (k : ℕ) → m.next ≡ k + length m.tables → AreCounted k (stored r m)
+stored_counted r m k h = omega (arith, h, length-append m.tables (table_of (numbered r m.next) m.query ∷ []))
+
+source_counted : (r : Text) (form : FormTree) (k : ℕ) (m : Made) → m.next ≡ k + length m.tables → AreCounted k (source_of r form k m)
+source_counted r (nodes.named x) k m h = omega arith
+source_counted r form k m h = stored_counted r m k h
+
+-- operands, and others behind them
+behind_counted : (a b : Sources) (k : ℕ) → AreCounted k a → AreCounted a.next b → b.next ≡ k + length (a.tables ++ b.tables)
+behind_counted a b k h i = omega (arith, h, i, length-append a.tables b.tables)
 
 module _ (p : Settings) (r : Text) where
   mutual
-    source_few : (n : NodeTree) (k : ℕ) → is_translated n ≡ true → length (sources_of p r n k).tables ≤ count n
-    source_few (nodes.node s form) k t = stored_few r s form k (made_of_form p r s form k) t (form_few s form k t)
+    pub made_counted : (n : NodeTree) (k : ℕ) → (made_of p r n k).next ≡ k + length (made_of p r n k).tables
+    made_counted (nodes.node s form) k = form_counted s form k
 
-    form_few : (s : Structure) (form : FormTree) (k : ℕ) → is_form_translated form ≡ true → length (made_of_form p r s form k).tables ≤ counted (form_nodes form)
-    form_few s (nodes.named x) k t = omega arith
-    form_few s (nodes.measures m a) k t = source_few a k t
-    form_few s (nodes.pair o a b) k t =
-        let both = and_parts (is_translated a) (is_translated b) t in
-        let x = sources_of p r a k in
-        let y = sources_of p r b x.next in
-        omega (arith, length-append x.tables y.tables, counted_append (nodes_in a) (nodes_in b), source_few a k both.0, source_few b x.next both.1)
-    form_few s (nodes.choose q a b) k t =
-        let first = and_parts (is_translated q) (is_translated a && is_translated b) t in
-        let both = and_parts (is_translated a) (is_translated b) first.1 in
+    operand_counted : (n : NodeTree) (k : ℕ) → (sources_of p r n k).next ≡ k + length (sources_of p r n k).tables
+    operand_counted (nodes.node s form) k = source_counted r form k (made_of_form p r s form k) (form_counted s form k)
+
+    form_counted : (s : Structure) (form : FormTree) (k : ℕ) → (made_of_form p r s form k).next ≡ k + length (made_of_form p r s form k).tables
+    form_counted s (nodes.named x) k = omega arith
+    form_counted s (nodes.measures m a) k = operand_counted a k
+    form_counted s (nodes.pair o a b) k = let x = sources_of p r a k in behind_counted x (sources_of p r b x.next) k (operand_counted a k) (operand_counted b x.next)
+    form_counted s (nodes.choose q a b) k =
         let x = sources_of p r q k in
         let y = sources_of p r a x.next in
         let z = sources_of p r b y.next in
-        omega (arith, length-append x.tables (y.tables ++ z.tables), length-append y.tables z.tables, counted_append (nodes_in q) (nodes_in a ++ nodes_in b), counted_append (nodes_in a) (nodes_in b), source_few q k first.0, source_few a x.next both.0, source_few b y.next both.1)
-    form_few s (nodes.member a m) k t = source_few a k t
-    form_few s (nodes.filter a e) k t = source_few a k t
-    form_few s (nodes.calc a items) k t = source_few a k t
-    form_few s (nodes.keep a names) k t = source_few a k t
-    form_few s (nodes.drop_named a names) k t = source_few a k t
-    form_few s (nodes.rename a pairs) k t = source_few a k t
-    form_few s (nodes.sub a items) k t = source_few a k t
-    form_few s other k t = absurd (false≢true t)
+        behind_counted x (record { names = y.names ++ z.names; tables = y.tables ++ z.tables; next = z.next }) k (operand_counted q k) (behind_counted y z x.next (operand_counted a x.next) (operand_counted b y.next))
+    form_counted s (nodes.member a m) k = operand_counted a k
+    form_counted s (nodes.filter a e) k = operand_counted a k
+    form_counted s (nodes.calc a items) k = operand_counted a k
+    form_counted s (nodes.keep a names) k = operand_counted a k
+    form_counted s (nodes.drop_named a names) k = operand_counted a k
+    form_counted s (nodes.rename a pairs) k = operand_counted a k
+    form_counted s (nodes.sub a items) k = operand_counted a k
+    form_counted s (nodes.pivot a id m) k = operand_counted a k
+    form_counted s (nodes.unpivot a id m) k = operand_counted a k
+    form_counted s (nodes.union (nodes.and_node a ns)) k = combined_counted (λ b c. union_query p b c s) s ns (structure_of a) (sources_of p r a k) k (operand_counted a k)
+    form_counted s (nodes.intersect (nodes.and_node a ns)) k = combined_counted (λ b c. intersection_query p b c s) s ns (structure_of a) (sources_of p r a k) k (operand_counted a k)
+    form_counted s (nodes.set_diff a b) k = let x = sources_of p r a k in behind_counted x (sources_of p r b x.next) k (operand_counted a k) (operand_counted b x.next)
+    form_counted s (nodes.sym_diff a b) k = let x = sources_of p r a k in behind_counted x (sources_of p r b x.next) k (operand_counted a k) (operand_counted b x.next)
+    form_counted s (nodes.exists_in a b kept) k = let x = sources_of p r a k in behind_counted x (sources_of p r b x.next) k (operand_counted a k) (operand_counted b x.next)
+    form_counted s other k = omega arith
 
-  counted_more : (n : NodeTree) (ns : List NodeTree) → counted ns ≤ counted (n ∷ ns)
-  counted_more n ns = omega (arith, counted_append (n ∷ []) ns)
-
-  -- the tables before its own query
-  pub made_few : (n : NodeTree) (k : ℕ) → is_translated n ≡ true → length (made_of p r n k).tables ≤ count n
-  made_few (nodes.node s form) k t = omega (arith, form_few s form k t, counted_more (nodes.node s form) (form_nodes form))
+    combined_counted : (q : Structure → Structure → Text → Text → QueryTree) (s : Structure) (ns : NodeTrees) (a : Structure) (os : Sources) (k : ℕ) → os.next ≡ k + length os.tables → (combined_of p r q s ns a os).next ≡ k + length (combined_of p r q s ns a os).tables
+    combined_counted q s nodes.no_nodes a os k h = h
+    combined_counted q s (nodes.and_node b nodes.no_nodes) a os k h = behind_counted os (sources_of p r b os.next) k h (operand_counted b os.next)
+    combined_counted q s (nodes.and_node b (nodes.and_node c ns)) a os k h =
+        let m = over (and_then os (sources_of p r b)) (with_two (q a (structure_of b))) in
+        combined_counted q s (nodes.and_node c ns) s (stored r m) k (stored_counted r m k (behind_counted os (sources_of p r b os.next) k h (operand_counted b os.next)))

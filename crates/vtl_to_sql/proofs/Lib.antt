@@ -40,9 +40,14 @@ pub mod SetQueries
 pub mod SetSteps
 pub mod Existences
 pub mod AcceptedWords
-pub mod AcceptedOthers
+pub mod AcceptedOperators
+pub mod AcceptedClauses
+pub mod AcceptedSets
+pub mod AcceptedJoins
 pub mod AcceptedTyping
 pub mod AcceptedScripts
+pub mod AcceptedComponents
+pub mod AcceptedMarks
 pub mod AcceptedNames
 pub mod AcceptedTables
 pub mod AcceptedNodes
@@ -51,3 +56,4 @@ pub mod Accepted
 pub mod NamedItems
 pub mod TurnedForms
 pub mod ExistenceForms
+pub mod HeldConstants

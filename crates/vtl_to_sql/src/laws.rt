@@ -1,5 +1,5 @@
 // Laws of translated scripts.
-ghost use Rattle.std.specs.Prelude.{◌≡◌, ◌≤◌, ℕ, List, true};
+ghost use Rattle.std.specs.Prelude.{◌≡◌, ◌≤◌, ◌<◌, ◌+◌, ◌^◌, ℕ, List, length, true};
 ghost use Rattle.vtl_cell.specs.Settings.{Settings};
 ghost use Rattle.vtl_tree.specs.Environment.{Environment};
 ghost use Rattle.vtl_tree.specs.Structure.{IsStructure, columns_of};
@@ -7,17 +7,19 @@ ghost use Rattle.vtl_syntax.specs.Written.{AreWritten};
 ghost use Rattle.vtl_tree.specs.Structures.{AreStructures, Named};
 ghost use Rattle.vtl_tree.specs.declared.structure.Structure.{Structure};
 ghost use Rattle.vtl_meaning.specs.Meaning.{AreDataSets, Statement, known_in, meaning};
+ghost use Rattle.vtl_meaning.specs.Trees.{NodeTree};
 ghost use Rattle.vtl_check.specs.Checked.{IsTyped, TypedScript, nodes_of, tree_of};
 ghost use Rattle.vtl_check.specs.Uses.{reads};
 ghost use Rattle.vtl_backend.specs.Statements.{statements_of};
 ghost use Rattle.sql_tree.specs.Formed.{PrintableScript};
 ghost use Rattle.sql_check_parts.specs.Statements.{IsTypedScript, input_columns};
 ghost use Rattle.sql_meaning.specs.Scripts.{Inputs, script_value};
-ghost use Rattle.vtl_to_sql.specs.Accepted.{AreHeld, are_translated};
-ghost use Rattle.vtl_to_sql.specs.Conditions.{IsScript};
+ghost use Rattle.vtl_to_sql.specs.Accepted.{AreFew, AreHeld, are_translated};
+ghost use Rattle.vtl_to_sql.specs.Conditions.{HasFewTables, IsScript};
 ghost use Rattle.vtl_to_sql.specs.Exports.{AreRead, exported_as};
 ghost use Rattle.vtl_to_sql.specs.Runs.{entries};
 ghost use Rattle.vtl_to_sql.specs.Scripts.{input_of, script_for};
+ghost use Rattle.vtl_to_sql.specs.Tables.{first_number, made_of};
 
 /// Over the data sets that a script reads, their rows in any order, the script in SQL exports the outputs in order, each
 /// sorted by its identifiers; or it has the same fault with the name of the same result.
@@ -37,9 +39,16 @@ pub fn inputs_have_their_columns()
     ensures { (e : List ℕ × Structure) → IsStructure e.1 → input_columns (input_of e) ≡ entries (columns_of e.1) }
 {}
 
-/// A script that the checker accepted can be translated: one whose nodes are of the forms that are translated so far, and
-/// whose constants are values that a program holds. It reads the declared data sets that its expressions name, and its
-/// statements are those that a back end runs.
+/// A script that the checker accepted can be translated: one whose nodes are of the forms that are translated so far,
+/// whose constants are values that a program holds, and whose tables a program can number. It reads the declared data
+/// sets that its expressions name, and its statements are those that a back end runs.
 pub fn accepted_scripts_are_translated()
-    ensures { (t : TypedScript) → t.settings.scale ≤ 9 → AreStructures t.declared → IsTyped t → AreWritten (tree_of t) → are_translated (nodes_of t) ≡ true → AreHeld (nodes_of t) → IsScript t.settings (reads t.declared (nodes_of t)) (statements_of t) }
+    ensures { (t : TypedScript) → t.settings.scale ≤ 9 → AreStructures t.declared → IsTyped t → AreWritten (tree_of t) → are_translated (nodes_of t) ≡ true → AreHeld (nodes_of t) → AreFew t.settings (statements_of t) → IsScript t.settings (reads t.declared (nodes_of t)) (statements_of t) }
+{}
+
+/// Behind the tables of an expression comes the next number. So a statement has few tables where a program can hold that
+/// number.
+pub fn tables_are_counted()
+    ensures counted { (p : Settings) (target : List ℕ) (n : NodeTree) (k : ℕ) → (made_of p target n k).next ≡ k + length (made_of p target n k).tables }
+    ensures few { (p : Settings) (s : Statement) → (made_of p s.result s.node first_number).next < 2 ^ 64 → HasFewTables p s }
 {}

@@ -10,6 +10,7 @@
 
 mod components;
 mod conditions;
+mod constants;
 mod draft;
 mod existence_queries;
 mod inputs;
@@ -28,9 +29,10 @@ mod unpivot_queries;
 mod walk;
 mod writer;
 
+pub use constants::constants_are_held;
 pub use laws::{
     accepted_scripts_are_translated, inputs_have_their_columns, scripts_are_translated,
-    translated_scripts_are_lawful,
+    tables_are_counted, translated_scripts_are_lawful,
 };
 pub use script::translate;
 pub use translated::is_translated;

@@ -8,6 +8,8 @@ ghost use Rattle.vtl_backend.specs.Inputs.{inputs_of};
 ghost use Rattle.vtl_backend.specs.Statements.{statements_of, with_nodes};
 ghost use Rattle.vtl_backend.specs.Transformations.{transformations};
 ghost use Rattle.sql_tree.specs.View.{script_tree, statement_tree};
+ghost use Rattle.vtl_to_sql.specs.Accepted.{AreFew};
+ghost use Rattle.vtl_to_sql.specs.Conditions.{HasFewTables};
 ghost use Rattle.vtl_to_sql.specs.Reads.{statement_of};
 ghost use Rattle.vtl_to_sql.specs.Scripts.{create_for, export_for, ordered, script_for, statements_for, written_of};
 ghost use Rattle.vtl_to_sql.specs.Tables.{script_tables, statement_tables};
@@ -35,10 +37,12 @@ fn push_result(
     node: &Node,
 ) -> Result<(), AllocError>
     requires { has_query (node_tree node.now) ≡ true }
-    ensures { OnOk result (map statement_tree draft.new.statements.items ≡ map statement_tree draft.old.statements.items ++ map create_for (statement_tables writer.now (statement_of name.now kind (node_tree node.now)))) }
+    ensures tables { OnOk result (map statement_tree draft.new.statements.items ≡ map statement_tree draft.old.statements.items ++ map create_for (statement_tables writer.now (statement_of name.now kind (node_tree node.now)))) }
+    ensures few { OnOk result (HasFewTables writer.now (statement_of name.now kind (node_tree node.now))) }
 {
     draft.begin();
     let query = query(alloc, writer, &node.form, &node.structure, name, draft)?;
+    let _next = draft.next;
     draft.create(name, query)
 }
 
@@ -52,7 +56,8 @@ fn push_results(
 ) -> Result<(), AllocError>
     requires many { length nodes.now ≡ length (transformations (map vtl_statement_tree statements.now)) }
     requires queries { list_all has_query (map node_tree nodes.now) ≡ true }
-    ensures { OnOk result (map statement_tree draft.new.statements.items ≡ map statement_tree draft.old.statements.items ++ map create_for (script_tables writer.now (with_nodes (transformations (map vtl_statement_tree statements.now)) (map node_tree nodes.now)))) }
+    ensures tables { OnOk result (map statement_tree draft.new.statements.items ≡ map statement_tree draft.old.statements.items ++ map create_for (script_tables writer.now (with_nodes (transformations (map vtl_statement_tree statements.now)) (map node_tree nodes.now)))) }
+    ensures few { OnOk result (AreFew writer.now (with_nodes (transformations (map vtl_statement_tree statements.now)) (map node_tree nodes.now))) }
 {
     let mut place = 0;
     for statement in statements {
@@ -117,7 +122,8 @@ fn push_exports(
 // The statements of a script behind its settings.
 fn statements(alloc: Global, script: &Checked) -> Result<Vec<Statement>, AllocError>
     requires { has_script_queries script.now ≡ true }
-    ensures { IfOk result (λ v. map statement_tree v.items ≡ statements_for script.now.settings (inputs_of script.now) (statements_of script.now)) }
+    ensures statements { IfOk result (λ v. map statement_tree v.items ≡ statements_for script.now.settings (inputs_of script.now) (statements_of script.now)) }
+    ensures few { IfOk result (λ v. AreFew script.now.settings (statements_of script.now)) }
 {
     let writer = Writer::new(alloc, script.profile())?;
     let mut draft = Draft::new(alloc);
@@ -136,11 +142,12 @@ fn scale(alloc: Global, p: &Profile) -> Result<Txt, AllocError>
 }
 
 /// The script in SQL: its settings, an INPUT for each data set that is read, in order of first use, the tables of each
-/// statement, and an EXPORT for each result that is written, in order. It takes a script of forms that are translated so
-/// far, and fails only if memory runs out.
+/// statement, and an EXPORT for each result that is written, in order. Besides, no statement has more tables than can be
+/// numbered. It takes a script of forms that are translated so far, and fails only if memory runs out.
 pub fn translate(alloc: Global, script: &Checked) -> Result<SqlScript, AllocError>
     requires { has_script_queries script.now ≡ true }
-    ensures { IfOk result (λ x. script_tree x ≡ script_for script.now.settings (inputs_of script.now) (statements_of script.now)) }
+    ensures script { IfOk result (λ x. script_tree x ≡ script_for script.now.settings (inputs_of script.now) (statements_of script.now)) }
+    ensures few { IfOk result (λ x. AreFew script.now.settings (statements_of script.now)) }
 {
     let profile = script.profile();
     let statements = statements(alloc, script)?;

@@ -1,0 +1,192 @@
+-- Components with names, and what operators and clauses make of them.
+use Rattle.std.proofs.Common.{◌≡◌, ◌⊎◌, inl, inr, ℕ, Bool, true, false, cond, ◌&&◌, not, List, [], ◌∷◌, map, length, Option, Some, None, refl, sym, ap, ◌∙◌, subst}
+use Rattle.std.proofs.lemmas.Bool.{and_parts, false≢true}
+use Rattle.std.specs.List.{AllByRecursion, filter, list_all, list_any}
+use Rattle.std.specs.Map.{lookup}
+use Rattle.std.specs.Option.{IfSome, option_and_then, option_map_or}
+use Rattle.std.specs.Prelude.{nat_le}
+use lib.Utf8.{encode}
+use Rattle.vtl_cell.specs.declared.kind.Kind.{Kind}
+use Rattle.vtl_cell.specs.declared.kind.Kind.TheVariants as k
+use Rattle.vtl_cell.specs.Words.{is_component_name}
+use Rattle.vtl_cell.specs.Apart.{all_apart}
+use Rattle.vtl_tree.specs.Structure.{columns_of, most_components, names_of, of_role, same_name, same_role}
+use Rattle.vtl_tree.specs.Structures.{AreStructures, Named, are_codes, codes_fit, is_declarable, is_declarable_component, is_declarable_entry, is_null_kind, is_string_identifier, is_text_kind}
+use Rattle.vtl_tree.specs.declared.structure.Component.{Component}
+use Rattle.vtl_tree.specs.declared.structure.Role.{Role}
+use Rattle.vtl_tree.specs.declared.structure.Role.TheVariants as role
+use Rattle.vtl_tree.specs.declared.structure.Structure.{Structure}
+use Rattle.vtl_meaning.specs.Columns.{identifiers_of, kind_named}
+use Rattle.vtl_meaning.specs.Shapes.{calculated_components}
+use Rattle.vtl_meaning.specs.Turned.{codes_of}
+use Rattle.check_shapes.specs.Choices.{chosen, is_chosen, is_identifier}
+use Rattle.check_shapes.specs.Clauses.{calculated, code_measure, first_kind, is_new, names_column, new_name, pivot_components, renamed, retargeted, target_component}
+use Rattle.check_shapes.specs.Clauses as clauses
+use Rattle.check_shapes.specs.Measures.{Gives, bool_var, given_measure, given_measures, int_var, is_measure, measures}
+use Rattle.check_shapes.specs.Operands.{agreed, agreed_identifiers, is_coded_alike}
+use Rattle.check_shapes.specs.Pairs.{contains, pair_identifiers}
+use Rattle.check_shapes.specs.declared.choices.Choice.{Choice}
+use Rattle.check_shapes.specs.declared.choices.Choice.TheVariants as choice
+use Rattle.check_shapes.specs.declared.measures.Outcome.{Outcome}
+use Rattle.check_shapes.specs.declared.measures.Outcome.TheVariants as outcome
+use Rattle.check_shapes.specs.declared.renaming.Renaming.{Renaming}
+use Rattle.check_shapes.specs.declared.targets.Target.{Target}
+use Rattle.check_laws.proofs.Columns.{at-found, found-filter, kind-found, of-columns}
+use Rattle.check_laws.proofs.Lists as lists
+use Rattle.sql_tree.specs.Formed.{IsName}
+use Rattle.vtl_to_sql.specs.Conditions.{HaveNames}
+use Rattle.vtl_to_sql.proofs.AcceptedWords.{AreRenamings, HasCodes, IsColumnName}
+use Rattle.vtl_to_sql.proofs.Names.{component_is_name}
+
+-- ---- components
+-- one of the names that renamings are from
+abbrev pub IsFrom : List Renaming → List ℕ → Type 0
+IsFrom rs name = list_any (λ r. same_name r.from name) rs ≡ true
+
+-- A component with a name that SQL can write, which is a component's name or one that a join gives back, and with codes only where its
+-- values are texts.
+abbrev pub IsPlain : List Renaming → Component → Type 0
+IsPlain rs x = IsName x.name × (IsColumnName x.name ⊎ IsFrom rs x.name) × IfSome x.codes (λ texts. x.kind ≡ k.Text)
+
+abbrev pub ArePlain : List Renaming → List Component → Type 0
+ArePlain rs xs = AllByRecursion (IsPlain rs) xs
+
+pub plain : (rs : List Renaming) (x : Component) → IsColumnName x.name → IfSome x.codes (λ texts. x.kind ≡ k.Text) → IsPlain rs x
+plain rs x name coded = (component_is_name x.name name, inl name, coded)
+
+-- outside of joins it has a component's name
+pub column_name : (x : Component) → IsPlain [] x → IsColumnName x.name
+column_name x h = go h.1
+  where
+    go : IsColumnName x.name ⊎ IsFrom [] x.name → IsColumnName x.name
+    go (inl name) = name
+    go (inr none) = absurd (false≢true none)
+
+pub all_weaker : (rs : List Renaming) (xs : List Component) → ArePlain [] xs → ArePlain rs xs
+all_weaker rs xs h = lists.weaker (IsPlain []) (IsPlain rs) xs (λ x k. (k.0, inl (column_name x k), k.2)) h
+
+-- what a structure's components and the renamings are
+abbrev pub Fits : List Renaming → List Component → Type 0
+Fits rs xs = ArePlain rs xs × AreRenamings rs
+
+pub columns_named : (rs : List Renaming) (s : Structure) → ArePlain rs s.components → HaveNames (columns_of s)
+columns_named rs s h = lists.weaker (IsPlain rs) (λ x. IsName x.name) (columns_of s) (λ x k. k.0) (of-columns (IsPlain rs) s h)
+
+-- ---- data sets that are declared
+text_kind : (kind : Kind) → is_text_kind kind ≡ true → kind ≡ k.Text
+text_kind k.Text h = refl
+text_kind kind h = absurd (false≢true h)
+
+declared_component : (x : Component) → is_declarable_component x ≡ true → IsPlain [] x
+declared_component x h =
+    let two = and_parts (is_component_name x.name && not (is_null_kind x.kind)) (codes_fit x) h in
+    let one = and_parts (is_component_name x.name) (not (is_null_kind x.kind)) two.0 in
+    plain [] x one.0 (go x.codes two.1)
+  where
+    go : (o : Option (List (List ℕ))) → option_map_or (λ texts. is_string_identifier x.role x.kind && are_codes texts) o true ≡ true → IfSome o (λ texts. x.kind ≡ k.Text)
+    go None e = tt
+    go (Some texts) e =
+        let string = and_parts (is_string_identifier x.role x.kind) (are_codes texts) e in
+        text_kind x.kind (and_parts (same_role x.role role.Identifier) (is_text_kind x.kind) string.0).1
+
+declared_structure : (s : Structure) → is_declarable s ≡ true → ArePlain [] s.components
+declared_structure s h =
+    let parts = and_parts (nat_le 1 (length s.components) && nat_le (length s.components) most_components && all_apart same_name (names_of s.components)) (list_all is_declarable_component s.components) h in
+    lists.weaker (λ x. is_declarable_component x ≡ true) (IsPlain []) s.components declared_component (lists.all_pass is_declarable_component s.components parts.1)
+
+-- the structures that are known
+abbrev pub AreKnownNamed : Named → Type 0
+AreKnownNamed known = AllByRecursion (λ e. ArePlain [] e.1.components) known
+
+pub declared_named : (known : Named) → AreStructures known → AreKnownNamed known
+declared_named known are = lists.weaker (λ e. is_declarable_entry e ≡ true) (λ e. ArePlain [] e.1.components) known (λ e h. declared_structure e.1 h) (lists.all_pass is_declarable_entry known are.declarable)
+
+pub found_named : (test : List ℕ → Bool) (known : Named) (s : Structure) → AreKnownNamed known → lookup test known ≡ Some s → ArePlain [] s.components
+found_named test [] s h e = cc
+found_named test (x ∷ xs) s h e = go (test x.0) e (found_named test xs s h.1)
+  where
+    go : (b : Bool) → cond b (Some x.1) (lookup test xs) ≡ Some s → (lookup test xs ≡ Some s → ArePlain [] s.components) → ArePlain [] s.components
+    go true k ih = let same : x.1 ≡ s = cc in subst (λ (z : Structure). ArePlain [] z.components) same h.0
+    go false k ih = ih k
+
+-- ---- what operators give
+pub bool_var_named : IsPlain [] bool_var
+unfolding is_component_name encode
+bool_var_named = plain [] bool_var refl tt
+
+int_var_named : IsPlain [] int_var
+unfolding is_component_name encode
+int_var_named = plain [] int_var refl tt
+
+-- ---- what operators and clauses give
+module _ (rs : List Renaming) where
+  pub role_named : (r : Role) (s : Structure) → ArePlain rs s.components → ArePlain rs (of_role r s)
+  role_named r s h = lists.filtered (IsPlain rs) (λ x. same_role x.role r) s.components h
+
+  pub agreed_named : (others : List Structure) (xs : List Component) → ArePlain rs xs → ArePlain rs (agreed_identifiers others xs)
+  agreed_named others xs h = lists.mapped (IsPlain rs) (agreed others) (filter is_identifier xs) (lists.weaker (IsPlain rs) (λ x. IsPlain rs (agreed others x)) (filter is_identifier xs) one (lists.filtered (IsPlain rs) is_identifier xs h))
+    where
+      one : (x : Component) → IsPlain rs x → IsPlain rs (agreed others x)
+      one x k = go (list_all (λ s. is_coded_alike x s.components) others)
+        where
+          go : (b : Bool) → IsPlain rs (cond b x (record x { codes = None }))
+          go true = k
+          go false = (k.0, k.1, tt)
+
+  pub chosen_named : (w : Choice) (names : List (List ℕ)) (xs : List Component) → ArePlain rs xs → ArePlain rs (chosen w names xs)
+  chosen_named w names xs h = lists.filtered (IsPlain rs) (is_chosen w names) xs h
+
+  pub calculated_named : (ts : List Target) (xs : List Component) → AllByRecursion (λ t. IsColumnName t.name) ts → ArePlain rs xs → ArePlain rs (calculated_components ts xs)
+  calculated_named ts xs named h =
+      lists.appended (IsPlain rs) (map (calculated ts) xs) (map target_component (filter (is_new xs) ts)) (lists.mapped (IsPlain rs) (calculated ts) xs (lists.weaker (IsPlain rs) (λ x. IsPlain rs (calculated ts x)) xs one h))
+      (lists.mapped (IsPlain rs) target_component (filter (is_new xs) ts) (lists.weaker (λ t. IsColumnName t.name) (λ t. IsPlain rs (target_component t)) (filter (is_new xs) ts) (λ t name. plain rs (target_component t) name tt) (lists.filtered (λ t. IsColumnName t.name) (is_new xs) ts named)))
+    where
+      one : (x : Component) → IsPlain rs x → IsPlain rs (calculated ts x)
+      one x k = go (clauses.target_of x.name ts)
+        where
+          go : (o : Option Target) → IsPlain rs (retargeted x o)
+          go None = k
+          go (Some t) = (k.0, k.1, tt)
+
+  new_named : (pairs : List Renaming) (x : Component) → AreRenamings pairs → IsPlain rs x → IsPlain rs (record x { name = new_name pairs x.name })
+  new_named [] x named h = h
+  new_named (r ∷ pairs) x named h = go (same_name r.from x.name) (new_named pairs x named.1 h)
+    where
+      go : (b : Bool) → IsPlain rs (record x { name = new_name pairs x.name }) → IsPlain rs (record x { name = cond b r.to (new_name pairs x.name) })
+      go true ih = plain rs (record x { name = r.to }) named.0 h.2
+      go false ih = ih
+
+  pub renamed_named : (pairs : List Renaming) (xs : List Component) → AreRenamings pairs → ArePlain rs xs → ArePlain rs (map (renamed pairs) xs)
+  renamed_named pairs xs named h = lists.mapped (IsPlain rs) (renamed pairs) xs (lists.weaker (IsPlain rs) (λ x. IsPlain rs (renamed pairs x)) xs (λ x k. new_named pairs x named k) h)
+
+-- ---- what operators give of measures
+each_given : (f : Gives) (others : Option (List Component)) (xs : List Component) → ArePlain [] xs → ArePlain [] (map (given_measure f others) (measures xs))
+each_given f others xs h = lists.mapped (IsPlain []) (given_measure f others) (measures xs) (lists.weaker (IsPlain []) (λ x. IsPlain [] (given_measure f others x)) (measures xs) (λ x k. (k.0, k.1, tt)) (lists.filtered (IsPlain []) is_measure xs h))
+
+pub given_named : (o : Outcome) (f : Gives) (others : Option (List Component)) (xs : List Component) → ArePlain [] xs → ArePlain [] (given_measures o f others xs)
+given_named outcome.Each f others xs h = each_given f others xs h
+given_named outcome.All f others xs h = each_given f others xs h
+given_named outcome.Truth f others xs h = (bool_var_named, tt)
+given_named outcome.Count f others xs h = (int_var_named, tt)
+
+pub pair_named : (a b : Structure) → ArePlain [] a.components → ArePlain [] b.components → ArePlain [] (pair_identifiers a b)
+pair_named a b ha hb = go (contains a b)
+  where
+    go : (t : Bool) → ArePlain [] (cond t (agreed_identifiers (b ∷ []) a.components) (agreed_identifiers (a ∷ []) b.components))
+    go true = agreed_named [] (b ∷ []) a.components ha
+    go false = agreed_named [] (a ∷ []) b.components hb
+
+-- ---- `pivot`: codes are texts
+pub codes_are_texts : (id : List ℕ) (a : Structure) → ArePlain [] a.components → HasCodes id a → kind_named id (identifiers_of a) ≡ k.Text
+codes_are_texts id a h coded =
+    let x = coded.component in
+    let own = at-found (IsPlain []) id a.components x h coded.named.0 in
+    kind-found id (identifiers_of a) x (found-filter is_identifier id a.components x coded.named.0 coded.named.1) ∙ subst (λ o. IfSome o (λ texts. x.kind ≡ k.Text)) coded.there own.2
+
+codes_found : (id : List ℕ) (a : Structure) (coded : HasCodes id a) → codes_of id a ≡ coded.codes
+codes_found id a coded = ap (λ o. option_map_or (λ codes. codes) (option_and_then (λ x. x.codes) o) []) coded.named.0 ∙ ap (λ codes. option_map_or (λ codes. codes) codes []) coded.there
+
+pub pivot_named : (id : List ℕ) (kind : Kind) (a : Structure) → ArePlain [] a.components → HasCodes id a → ArePlain [] (pivot_components id kind (codes_of id a) a.components)
+pivot_named id kind a h coded =
+    lists.appended (IsPlain []) (chosen choice.Except (id ∷ []) a.components) (map (code_measure kind) (codes_of id a)) (chosen_named [] choice.Except (id ∷ []) a.components h)
+    (lists.mapped (IsPlain []) (code_measure kind) (codes_of id a) (lists.weaker IsColumnName (λ text. IsPlain [] (code_measure kind text)) (codes_of id a) (λ text name. plain [] (code_measure kind text) name tt) (subst (AllByRecursion IsColumnName) (sym (codes_found id a coded)) coded.names)))
