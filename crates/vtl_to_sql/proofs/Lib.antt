@@ -53,5 +53,8 @@ pub mod AcceptedTables
 pub mod AcceptedNodes
 pub mod AcceptedReads
 pub mod Accepted
+pub mod NamedItems
+pub mod TurnedForms
+pub mod ExistenceForms
 pub mod HeldConstants
 pub mod WrittenForms

@@ -4,6 +4,7 @@ use Rattle.std.specs.Prelude.{Box}
 use Rattle.std.specs.declared.alloc.Global.{Global}
 use Rattle.std.proofs.lemmas.List.{map-append}
 use Rattle.vtl_cell.specs.declared.operator.ScalarOp.{ScalarOp}
+use Rattle.vtl_syntax.specs.declared.word_groups.Retain.{Retain}
 use Rattle.vtl_text.specs.declared.shared_text.Txt.{Txt}
 use Rattle.vtl_nodes.specs.Trees as nodes
 use Rattle.vtl_nodes.specs.View.{form_tree, item_tree, node_tree}
@@ -39,6 +40,9 @@ tree_of_difference f a b e = ap form_tree e ∙ search (rules, forms.the_lemmas)
 
 pub tree_of_symmetric_difference : (f : NodeForm) (a b : Box Node Global) → f ≡ form.SymDiff a b → form_tree f ≡ nodes.sym_diff (node_tree a.value) (node_tree b.value)
 tree_of_symmetric_difference f a b e = ap form_tree e ∙ search (rules, forms.the_lemmas)
+
+pub tree_of_existence : (f : NodeForm) (a b : Box Node Global) (kept : Retain) → f ≡ form.ExistsIn a b kept → form_tree f ≡ nodes.exists_in (node_tree a.value) (node_tree b.value) kept
+tree_of_existence f a b kept e = ap form_tree e ∙ search (rules, forms.the_lemmas)
 
 -- ---- tables
 

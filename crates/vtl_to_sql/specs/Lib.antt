@@ -10,5 +10,8 @@ pub mod PairItems
 pub mod Reads
 pub mod Translated
 pub mod Exports
-pub mod Combined
 pub mod Accepted
+pub mod NamedItems
+pub mod TurnedItems
+pub mod Combined
+pub mod Existences

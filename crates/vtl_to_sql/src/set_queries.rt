@@ -56,8 +56,8 @@ fn answered(alloc: Global, wanted: bool, condition: SqlExpr) -> Result<SqlExpr, 
     })
 }
 
-// Another table has a row with the same values of these identifiers, or has none.
-fn is_matched(
+/// Another table has a row with the same values of these identifiers, or has none. It fails only if memory runs out.
+pub(crate) fn is_matched(
     alloc: Global,
     writer: &Writer,
     wanted: bool,

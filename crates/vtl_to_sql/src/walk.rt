@@ -9,12 +9,15 @@ ghost use Rattle.vtl_to_sql.specs.Tables.{made_of_form, over, sources_of, with_o
 ghost use Rattle.vtl_to_sql.specs.Translated.{has_form_query, has_query};
 
 use crate::draft::Draft;
+use crate::existence_queries::existence_query;
 use crate::pair_queries::{Operand, choose_query, pair_query};
+use crate::pivot_queries::pivot_query;
 use crate::queries::{
     calc_query, filter_query, left_query, measures_query, rename_query, sub_query,
 };
 use crate::set_operators::SetOperator;
 use crate::set_queries::set_query;
+use crate::unpivot_queries::unpivot_query;
 use crate::writer::Writer;
 use sql_tree::Query;
 use std::alloc::{AllocError, Global};
@@ -112,6 +115,14 @@ pub(crate) fn query(
             let table = source(alloc, writer, a, target, draft)?;
             sub_query(alloc, writer, values.as_slice(), s, &table)
         }
+        NodeForm::Pivot { a, id, m } => {
+            let table = source(alloc, writer, a, target, draft)?;
+            pivot_query(alloc, writer, id, m, &a.structure, s, &table)
+        }
+        NodeForm::Unpivot { a, .. } => {
+            let table = source(alloc, writer, a, target, draft)?;
+            unpivot_query(alloc, writer, &a.structure, s, &table)
+        }
         NodeForm::Member { a, .. } => left(alloc, writer, a, s, target, draft),
         NodeForm::Keep { a, .. } => left(alloc, writer, a, s, target, draft),
         NodeForm::DropNamed { a, .. } => left(alloc, writer, a, s, target, draft),
@@ -144,6 +155,12 @@ pub(crate) fn query(
                 &first,
                 &second,
             )
+        }
+        NodeForm::ExistsIn { a, b, retain } => {
+            let first = source(alloc, writer, a, target, draft)?;
+            let second = source(alloc, writer, b, target, draft)?;
+            let (first, second) = (operand(a, &first), operand(b, &second));
+            existence_query(alloc, writer, *retain, &first, &second, s)
         }
         _ => unreachable!(),
     }

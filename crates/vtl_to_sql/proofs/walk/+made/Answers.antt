@@ -7,7 +7,7 @@ use Rattle.sql_tree.specs.View.{statement_tree}
 use Rattle.vtl_to_sql.specs.Queries.{calc_query, difference_query, left_query, sub_query, symmetric_difference_query}
 use Rattle.vtl_to_sql.specs.Scripts.{create_for}
 use Rattle.vtl_to_sql.specs.Tables.{and_then, made_of_form, sources_of, with_one, with_two}
-use Rattle.vtl_to_sql.proofs.Walked.{behind_names, behind_others, tree_of_calc, tree_of_choose, tree_of_difference, tree_of_named, tree_of_pair, tree_of_sub, tree_of_symmetric_difference}
+use Rattle.vtl_to_sql.proofs.Walked.{behind_names, behind_others, tree_of_calc, tree_of_choose, tree_of_difference, tree_of_existence, tree_of_named, tree_of_pair, tree_of_sub, tree_of_symmetric_difference}
 use Rattle.vtl_to_sql.proofs.walk.+made.Goals as goal
 
 pub left-returns-clause-query : goal.left-returns-clause-query
@@ -173,3 +173,22 @@ query-returns-in_ok-second-in-SymDiff-clause-tables t c =
     ∙ sym (ap (λ (f : FormTree). old ++ map create_for (made_of_form p r c.args.s.now f n).tables) (tree_of_symmetric_difference c.args.form.now c.in-SymDiff.a c.in-SymDiff.b c.in-SymDiff.is))
     in
     IfOk-weaker c.set_query-in-SymDiff.result _ _ (λ q e. fact) c.set_query-in-SymDiff.ensures
+
+pub query-returns-in_ok-second-in-ExistsIn-clause-tables : goal.query-returns-in_ok-second-in-ExistsIn-clause-tables
+query-returns-in_ok-second-in-ExistsIn-clause-tables t c =
+    let p = c.args.writer.now in
+    let r = c.args.target.now in
+    let n = c.args.draft.now.next in
+    let old = map statement_tree c.args.draft.now.statements.items in
+    let of = λ (x : Node) (m : ℕ). sources_of p r (node_tree x) m in
+    let a = c.deref-in-ExistsIn.result.now in
+    let b = c.deref-in-ExistsIn-2.result.now in
+    let one = c.in_ok-first-in-ExistsIn.ensures in
+    let fact =
+        behind_others (of a n) (of b) old (map statement_tree c.source-in-ExistsIn.new.draft.statements.items) (map statement_tree c.source-in-ExistsIn-2.new.draft.statements.items) c.source-in-ExistsIn.new.draft.next
+        one.tables one.next c.in_ok-second-in-ExistsIn.ensures.tables
+        ∙ ap (λ (x : Node). old ++ map create_for (and_then (of x n) (of b)).tables) c.deref-in-ExistsIn.ensures
+        ∙ ap (λ (x : Node). old ++ map create_for (and_then (of c.in-ExistsIn.a.value n) (of x)).tables) c.deref-in-ExistsIn-2.ensures
+        ∙ sym (ap (λ (f : FormTree). old ++ map create_for (made_of_form p r c.args.s.now f n).tables) (tree_of_existence c.args.form.now c.in-ExistsIn.a c.in-ExistsIn.b c.in-ExistsIn.retain c.in-ExistsIn.is))
+    in
+    IfOk-weaker c.existence_query.result _ _ (λ q e. fact) c.existence_query.ensures
