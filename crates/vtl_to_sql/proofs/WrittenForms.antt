@@ -28,14 +28,14 @@ mutual
   form_translated (nodes.drop_named a names) h = node_translated a h
   form_translated (nodes.rename a pairs) h = node_translated a h
   form_translated (nodes.sub a items) h = node_translated a h
-  form_translated (nodes.pivot a id m) h = cc
-  form_translated (nodes.unpivot a id m) h = cc
+  form_translated (nodes.pivot a id m) h = node_translated a h
+  form_translated (nodes.unpivot a id m) h = node_translated a h
   form_translated (nodes.join os spec) h = cc
   form_translated (nodes.union ns) h = cc
   form_translated (nodes.intersect ns) h = cc
   form_translated (nodes.set_diff a b) h = both (has_query a) (has_query b) (is_translated a) (is_translated b) (node_translated a) (node_translated b) h
   form_translated (nodes.sym_diff a b) h = both (has_query a) (has_query b) (is_translated a) (is_translated b) (node_translated a) (node_translated b) h
-  form_translated (nodes.exists_in a b kept) h = cc
+  form_translated (nodes.exists_in a b kept) h = both (has_query a) (has_query b) (is_translated a) (is_translated b) (node_translated a) (node_translated b) h
   form_translated (nodes.aggregate a spec) h = cc
   form_translated (nodes.analytic_of a spec) h = cc
   form_translated (nodes.check a i spec) h = cc
