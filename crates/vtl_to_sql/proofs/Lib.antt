@@ -8,6 +8,7 @@ pub mod SelectItems
 pub mod Selects
 pub mod Unions
 pub mod Sources
+pub mod ManySources
 pub mod Exact
 pub mod OneOperand
 pub mod Written
@@ -20,6 +21,15 @@ pub mod Conjunctions
 pub mod Subs
 pub mod Pairs
 pub mod TwoOperands
+pub mod Loose
+pub mod Ties
+pub mod HeldOperands
+pub mod Chains
+pub mod ChainSelects
+pub mod JoinedColumns
+pub mod JoinedRows
+pub mod ReferenceJoins
+pub mod CrossJoins
 pub mod Choices
 pub mod ItemLists
 pub mod Unpivots

@@ -1,4 +1,5 @@
 pub mod Queries
+pub mod Joins
 pub mod Turned
 pub mod Tables
 pub mod Scripts
