@@ -58,3 +58,6 @@ pub mod AcceptedTables
 pub mod AcceptedNodes
 pub mod AcceptedReads
 pub mod Accepted
+pub mod JoinWritten
+pub mod References
+pub mod JoinForms

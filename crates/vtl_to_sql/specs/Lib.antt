@@ -12,3 +12,4 @@ pub mod Reads
 pub mod Translated
 pub mod Exports
 pub mod Accepted
+pub mod JoinItems
