@@ -30,6 +30,11 @@ pub mod JoinedColumns
 pub mod JoinedRows
 pub mod ReferenceJoins
 pub mod CrossJoins
+pub mod KeyColumns
+pub mod OnceRows
+pub mod KeyTables
+pub mod FullJoins
+pub mod Joins
 pub mod Choices
 pub mod ItemLists
 pub mod Unpivots
@@ -42,6 +47,7 @@ pub mod Statements
 pub mod WholeScript
 pub mod ReadTables
 pub mod TranslatedScripts
+pub mod EmptyJoins
 pub mod EmptyData
 pub mod TypedScripts
 pub mod LawfulScripts

@@ -8,17 +8,19 @@ use Rattle.vtl_cell.specs.Profile.{IsOfProfile}
 use Rattle.vtl_cell.specs.Settings.{Settings}
 use Rattle.vtl_cell.specs.Words.{is_word}
 use Rattle.vtl_cell.specs.declared.kind.Kind.TheVariants as k
+use Rattle.vtl_syntax.specs.declared.word_groups.JoinKind.{JoinKind}
+use Rattle.vtl_syntax.specs.declared.word_groups.JoinKind.TheVariants as join
 use Rattle.vtl_tree.specs.CompExp.{CompExp}
 use Rattle.vtl_tree.specs.Structure.{columns_of, most_components}
 use Rattle.vtl_tree.specs.Structures.{AreStructures, Named, has_name}
 use Rattle.vtl_tree.specs.declared.structure.Component.{Component}
 use Rattle.vtl_tree.specs.declared.structure.Structure.{Structure}
 use Rattle.vtl_meaning.specs.Columns.{identifiers_of, kind_named}
-use Rattle.vtl_meaning.specs.Made.{IsMade}
+use Rattle.vtl_meaning.specs.Made.{IsMade, operands_in}
 use Rattle.vtl_meaning.specs.Meaning.{Statement}
 use Rattle.vtl_meaning.specs.Operators.{calculated_exps, measured_exps, pair_exps}
 use Rattle.vtl_meaning.specs.Trees as nodes
-use Rattle.vtl_meaning.specs.Trees.{FormTree, NodeTree, NodeTrees, structure_of}
+use Rattle.vtl_meaning.specs.Trees.{FormTree, NodeTree, NodeTrees, OperandTrees, structure_of}
 use Rattle.vtl_meaning.specs.clauses.SubItem.{SubItem}
 use Rattle.sql_tree.specs.Formed.{IsName}
 use Rattle.check_laws.specs.Depths.{comp_depth}
@@ -50,6 +52,12 @@ pub record HasValue (p : Settings) (i : SubItem) : Type 0 where
 
 -- ---- expressions on data sets
 
+abbrev pub IsJoinTranslated : JoinKind → Type 0
+IsJoinTranslated join.Inner = Unit {0}
+IsJoinTranslated join.Left = Unit {0}
+IsJoinTranslated join.Cross = Unit {0}
+IsJoinTranslated join.Full = ⊥
+
 abbrev mutual
   pub IsTranslated : Settings → NodeTree → Type 0
   IsTranslated p (nodes.node s form) = HaveNames (columns_of s) × IsFormTranslated p s form
@@ -66,6 +74,8 @@ abbrev mutual
   IsFormTranslated p s (nodes.drop_named a names) = IsTranslated p a
   IsFormTranslated p s (nodes.rename a pairs) = IsTranslated p a
   IsFormTranslated p s (nodes.sub a items) = IsTranslated p a × AllByRecursion (HasValue p) items × (length items ≤ most_components)
+  -- the operands can be numbered
+  IsFormTranslated p s (nodes.join os spec) = AreOperandsTranslated p os × (1 + length (operands_in os) < 2 ^ 64) × IsJoinTranslated spec.kind
   IsFormTranslated p s (nodes.union ns) = AreNodesTranslated p ns
   IsFormTranslated p s (nodes.intersect ns) = AreNodesTranslated p ns
   IsFormTranslated p s (nodes.set_diff a b) = IsTranslated p a × IsTranslated p b
@@ -80,6 +90,10 @@ abbrev mutual
   pub AreNodesTranslated : Settings → NodeTrees → Type 0
   AreNodesTranslated p nodes.no_nodes = Unit {0}
   AreNodesTranslated p (nodes.and_node n ns) = IsTranslated p n × AreNodesTranslated p ns
+
+  pub AreOperandsTranslated : Settings → OperandTrees → Type 0
+  AreOperandsTranslated p nodes.no_operands = Unit {0}
+  AreOperandsTranslated p (nodes.operand n alias os) = IsTranslated p n × AreOperandsTranslated p os
 
 -- ---- statements
 

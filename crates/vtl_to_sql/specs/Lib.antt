@@ -1,6 +1,7 @@
 pub mod Queries
 pub mod Joins
 pub mod Turned
+pub mod FullJoins
 pub mod Tables
 pub mod Scripts
 pub mod Runs
