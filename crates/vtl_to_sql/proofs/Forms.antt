@@ -13,8 +13,8 @@ use Rattle.vtl_meaning.specs.Trees.{ItemTree as Target, MeasureTree}
 use Rattle.vtl_meaning.specs.clauses.SubItem.{SubItem}
 use Rattle.sql_tree.specs.Trees.{Exp, ItemTree, QueryTree, Text}
 use Rattle.rules_to_sql.specs.ToSql.{to_sql}
-use Rattle.vtl_to_sql.specs.Items.{all_of, calculated_item, first_column, for_each_two, from_table, items_for, measured_item, renamed_item, value_equality}
-use Rattle.vtl_to_sql.specs.Queries.{calc_query, conjunction, filter_query, has_value, item_as, left_query, measures_query, of_one, rename_query, sub_query}
+use Rattle.vtl_to_sql.specs.Items.{all_of, calculated_item, first_column, for_each_two, from_one, from_table, items_for, measured_item, renamed_item, value_equality}
+use Rattle.vtl_to_sql.specs.Queries.{calc_query, conjunction, filter_query, has_value, item_as, left_query, measures_query, of_one, rename_query, shown_select, sub_query}
 
 -- columns go by their names
 columns_renamed : (p : Settings) (xs ys zs : List Component) → items_for p of_one (columns_named xs ys) zs ≡ for_each_two renamed_item ys zs
@@ -24,6 +24,9 @@ columns_renamed p xs (y ∷ ys) (z ∷ zs) = ap (λ l. renamed_item y z ∷ l) (
 
 pub left_written : (p : Settings) (a s : Structure) (table : Text) → left_query p a s table ≡ from_table (for_each_two renamed_item (columns_of s) (columns_of s)) None table
 left_written p a s table = ap (λ l. from_table l None table) (columns_renamed p (columns_of a) (columns_of s) (columns_of s))
+
+pub shown_written : (p : Settings) (a s : Structure) (table : Text) (condition : Option Exp) → shown_select p a s table condition ≡ from_one (for_each_two renamed_item (columns_of s) (columns_of s)) condition table
+shown_written p a s table condition = ap (λ l. from_one l condition table) (columns_renamed p (columns_of a) (columns_of s) (columns_of s))
 
 pub filter_written : (p : Settings) (e : CompExp) (s : Structure) (table : Text) → filter_query p e s table ≡ from_table (for_each_two renamed_item (columns_of s) (columns_of s)) (Some (to_sql p of_one e)) table
 filter_written p e s table = ap (λ l. from_table l (Some (to_sql p of_one e)) table) (columns_renamed p (columns_of s) (columns_of s) (columns_of s))

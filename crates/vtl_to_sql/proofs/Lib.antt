@@ -67,3 +67,5 @@ pub mod Accepted
 pub mod JoinWritten
 pub mod References
 pub mod JoinForms
+pub mod NamedItems
+pub mod TurnedForms

@@ -1,5 +1,5 @@
 -- Expressions as trees, and the tables of several operands one behind the other.
-use Rattle.std.proofs.Common.{◌≡◌, ℕ, List, ◌++◌, map, append_assoc, rules, sym, ap, ◌∙◌}
+use Rattle.std.proofs.Common.{◌≡◌, ℕ, List, [], ◌∷◌, ◌++◌, map, append_assoc, rules, sym, ap, ◌∙◌}
 use Rattle.std.specs.Prelude.{Box}
 use Rattle.std.specs.declared.alloc.Global.{Global}
 use Rattle.std.proofs.lemmas.List.{map-append}
@@ -13,7 +13,7 @@ use Rattle.vtl_nodes.specs.declared.nodes.Node.{Node}
 use Rattle.vtl_nodes.specs.declared.nodes.NodeForm as forms
 use Rattle.vtl_nodes.specs.declared.nodes.NodeForm.{NodeForm}
 use Rattle.vtl_nodes.specs.declared.nodes.NodeForm.TheVariants as form
-use Rattle.sql_tree.specs.Trees.{StatementTree}
+use Rattle.sql_tree.specs.Trees.{StatementTree, Text}
 use Rattle.vtl_to_sql.specs.Scripts.{create_for}
 use Rattle.vtl_to_sql.specs.Tables.{Sources, and_then}
 
@@ -34,6 +34,12 @@ tree_of_pair f o a b e = ap form_tree e ∙ search (rules, forms.the_lemmas)
 pub tree_of_choose : (f : NodeForm) (c a b : Box Node Global) → f ≡ form.Choose c a b → form_tree f ≡ nodes.choose (node_tree c.value) (node_tree a.value) (node_tree b.value)
 tree_of_choose f c a b e = ap form_tree e ∙ search (rules, forms.the_lemmas)
 
+pub tree_of_difference : (f : NodeForm) (a b : Box Node Global) → f ≡ form.SetDiff a b → form_tree f ≡ nodes.set_diff (node_tree a.value) (node_tree b.value)
+tree_of_difference f a b e = ap form_tree e ∙ search (rules, forms.the_lemmas)
+
+pub tree_of_symmetric_difference : (f : NodeForm) (a b : Box Node Global) → f ≡ form.SymDiff a b → form_tree f ≡ nodes.sym_diff (node_tree a.value) (node_tree b.value)
+tree_of_symmetric_difference f a b e = ap form_tree e ∙ search (rules, forms.the_lemmas)
+
 -- ---- tables
 
 -- the tables of operands behind those of others
@@ -45,3 +51,7 @@ behind_others os f old between new next b n e =
     ∙ ap (λ l. l ++ map create_for theirs) b
     ∙ append_assoc old (map create_for os.tables) (map create_for theirs)
     ∙ ap (λ l. old ++ l) (sym (map-append create_for os.tables theirs))
+
+-- the names of two operands
+pub behind_names : (os : Sources) (f : ℕ → Sources) (x y : Text) (next : ℕ) → x ∷ [] ≡ os.names → next ≡ os.next → y ∷ [] ≡ (f next).names → x ∷ y ∷ [] ≡ (and_then os f).names
+behind_names os f x y next a n b = ap (λ l. l ++ y ∷ []) a ∙ ap (λ l. os.names ++ l) (b ∙ ap (λ (m : ℕ). (f m).names) n)

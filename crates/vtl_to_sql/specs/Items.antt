@@ -9,7 +9,7 @@ use Rattle.vtl_meaning.specs.Trees.{ItemTree as Target, MeasureTree}
 use Rattle.vtl_meaning.specs.clauses.SubItem.{SubItem}
 use Rattle.vtl_tree.specs.CompExp.{CompExp, const}
 use Rattle.sql_tree.specs.Trees as tree
-use Rattle.sql_tree.specs.Trees.{Exp, ItemTree, QueryTree, Text}
+use Rattle.sql_tree.specs.Trees.{Exp, ItemTree, QueryTree, SelectTree, Text}
 use Rattle.sql_tree.specs.declared.parts.Constant.TheVariants as constant
 use Rattle.rules_to_sql.specs.ToSql.{Naming, column_of, to_sql}
 use Rattle.vtl_to_sql.specs.Queries.{all_to_sql, first_alias, item_as, items_as, of_one, select_as, source_as}
@@ -56,5 +56,8 @@ value_equality p i = tree.binary (first_column i.id) op.Equal (to_sql p of_one (
 -- ---- selects
 
 -- from one table
+abbrev pub from_one : List ItemTree → Option Exp → Text → SelectTree
+from_one items condition table = select_as items (source_as first_alias table) [] condition
+
 abbrev pub from_table : List ItemTree → Option Exp → Text → QueryTree
-from_table items condition table = select_as items (source_as first_alias table) [] condition ∷ []
+from_table items condition table = from_one items condition table ∷ []

@@ -14,3 +14,6 @@ pub mod Translated
 pub mod Exports
 pub mod Accepted
 pub mod JoinItems
+pub mod NamedItems
+pub mod TurnedItems
+pub mod Combined

@@ -21,6 +21,10 @@ abbrev mutual
   has_form_query (nodes.drop_named a names) = has_query a
   has_form_query (nodes.rename a pairs) = has_query a
   has_form_query (nodes.sub a items) = has_query a
+  has_form_query (nodes.pivot a id m) = has_query a
+  has_form_query (nodes.unpivot a id m) = has_query a
+  has_form_query (nodes.set_diff a b) = has_query a && has_query b
+  has_form_query (nodes.sym_diff a b) = has_query a && has_query b
   has_form_query other = false
 
 abbrev pub has_script_queries : TypedScript → Bool

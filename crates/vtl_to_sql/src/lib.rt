@@ -17,11 +17,16 @@ mod join_items;
 mod join_operands;
 mod join_queries;
 mod laws;
+mod named_items;
 mod pair_items;
 mod pair_queries;
+mod pivot_queries;
 mod queries;
 mod script;
+mod set_operators;
+mod set_queries;
 mod translated;
+mod unpivot_queries;
 mod walk;
 mod writer;
 

@@ -12,6 +12,7 @@ ghost use Rattle.vtl_to_sql.specs.Queries.{choose_query, pair_query, second_alia
 
 use crate::conditions::{agreement, chosen, not_chosen};
 use crate::pair_items::{Namesakes, chosen_items, paired_items};
+use crate::queries::{one_select, two_selects};
 use crate::writer::Writer;
 use check_shapes::contains;
 use sql_tree::{Item, Join, JoinKind, Query, Select, SqlExpr};
@@ -105,29 +106,6 @@ fn pairs_select(
     } else {
         paired(alloc, writer, operator, left, b, a, s)
     }
-}
-
-// A query of one select.
-fn one_select(alloc: Global, select: Select) -> Result<Query, AllocError>
-    ensures { IfOk result (λ q. query_tree q ≡ select_tree select ∷ []) }
-{
-    let mut selects = Vec::with_capacity(alloc, 1)?;
-    selects.push(select)?;
-    Ok(Query {
-        selects: List::of(selects),
-    })
-}
-
-// A query of two selects.
-fn two_selects(alloc: Global, first: Select, second: Select) -> Result<Query, AllocError>
-    ensures { IfOk result (λ q. query_tree q ≡ select_tree first ∷ select_tree second ∷ []) }
-{
-    let mut selects = Vec::with_capacity(alloc, 2)?;
-    selects.push(first)?;
-    selects.push(second)?;
-    Ok(Query {
-        selects: List::of(selects),
-    })
 }
 
 /// An operator on the measures of two operands. The operand with all identifiers stands first.

@@ -1,11 +1,11 @@
 // The query of each form of one operand, over the table of the operand.
-ghost use Rattle.std.specs.Prelude.{◌≡◌, [], map, IfOk};
+ghost use Rattle.std.specs.Prelude.{◌≡◌, ◌∷◌, [], map, IfOk};
 ghost use Rattle.std.specs.Option.{option_map};
 ghost use Rattle.vtl_tree.specs.View.{comp_exp_of};
 ghost use Rattle.vtl_tree.specs.declared.structure.Structure.{Structure as StructureOf};
 ghost use Rattle.vtl_meaning.specs.View.{item_tree as target_tree, measure_tree};
-ghost use Rattle.sql_tree.specs.View.{expr_tree, item_tree, query_tree};
-ghost use Rattle.vtl_to_sql.specs.Items.{from_table};
+ghost use Rattle.sql_tree.specs.View.{expr_tree, item_tree, query_tree, select_tree};
+ghost use Rattle.vtl_to_sql.specs.Items.{from_one, from_table};
 ghost use Rattle.vtl_to_sql.specs.Queries.{calc_query, filter_query, left_query, measures_query, rename_query, sub_query};
 
 use crate::conditions::value_equalities;
@@ -17,6 +17,49 @@ use vtl_cell::{List, Txt};
 use vtl_nodes::{CalcItem, MeasureOp, SubItem};
 use vtl_tree::{CompExpr, Structure};
 
+/// A select from one table. It fails only if memory runs out.
+pub(crate) fn from_one(
+    alloc: Global,
+    writer: &Writer,
+    items: Vec<Item>,
+    condition: Option<SqlExpr>,
+    table: &Txt,
+) -> Result<Select, AllocError>
+    ensures { IfOk result (λ x. select_tree x ≡ from_one (map item_tree items.items) (option_map expr_tree condition) table.now) }
+{
+    Ok(Select {
+        items: List::of(items),
+        from: writer.source(table)?,
+        joins: List::of(Vec::new(alloc)),
+        condition,
+        group: List::of(Vec::new(alloc)),
+        having: None,
+    })
+}
+
+/// A query of one select. It fails only if memory runs out.
+pub(crate) fn one_select(alloc: Global, select: Select) -> Result<Query, AllocError>
+    ensures { IfOk result (λ q. query_tree q ≡ select_tree select ∷ []) }
+{
+    let mut selects = Vec::with_capacity(alloc, 1)?;
+    selects.push(select)?;
+    Ok(Query {
+        selects: List::of(selects),
+    })
+}
+
+/// A query of two selects. It fails only if memory runs out.
+pub(crate) fn two_selects(alloc: Global, first: Select, second: Select) -> Result<Query, AllocError>
+    ensures { IfOk result (λ q. query_tree q ≡ select_tree first ∷ select_tree second ∷ []) }
+{
+    let mut selects = Vec::with_capacity(alloc, 2)?;
+    selects.push(first)?;
+    selects.push(second)?;
+    Ok(Query {
+        selects: List::of(selects),
+    })
+}
+
 // A query of one select from one table.
 fn from_table(
     alloc: Global,
@@ -27,19 +70,7 @@ fn from_table(
 ) -> Result<Query, AllocError>
     ensures { IfOk result (λ q. query_tree q ≡ from_table (map item_tree items.items) (option_map expr_tree condition) table.now) }
 {
-    let from = writer.source(table)?;
-    let mut selects = Vec::with_capacity(alloc, 1)?;
-    selects.push(Select {
-        items: List::of(items),
-        from,
-        joins: List::of(Vec::new(alloc)),
-        condition,
-        group: List::of(Vec::new(alloc)),
-        having: None,
-    })?;
-    Ok(Query {
-        selects: List::of(selects),
-    })
+    one_select(alloc, from_one(alloc, writer, items, condition, table)?)
 }
 
 /// The columns that are left, of a table that has them.
@@ -126,13 +157,4 @@ pub(crate) fn measures_query(
 {
     let items = measured_items(alloc, writer, op, a, s)?;
     from_table(alloc, writer, items, None, table)
-}
-
-/// No query, for a form that is not translated yet.
-pub(crate) fn no_query(alloc: Global) -> Query
-    ensures { query_tree result ≡ [] }
-{
-    Query {
-        selects: List::of(Vec::new(alloc)),
-    }
 }

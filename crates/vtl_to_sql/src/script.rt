@@ -1,5 +1,6 @@
 // A typed script in SQL.
 ghost use Rattle.std.specs.Fmt.{decimal};
+ghost use Rattle.std.specs.List.{list_all};
 ghost use Rattle.std.specs.Prelude.{◌≡◌, ◌++◌, ◌∷◌, [], map, length, IfOk, OnOk, true};
 ghost use Rattle.vtl_syntax.specs.View.{statement_tree as vtl_statement_tree};
 ghost use Rattle.vtl_nodes.specs.View.{node_tree};
@@ -10,7 +11,7 @@ ghost use Rattle.sql_tree.specs.View.{script_tree, statement_tree};
 ghost use Rattle.vtl_to_sql.specs.Reads.{statement_of};
 ghost use Rattle.vtl_to_sql.specs.Scripts.{create_for, export_for, ordered, script_for, statements_for, written_of};
 ghost use Rattle.vtl_to_sql.specs.Tables.{script_tables, statement_tables};
-ghost use Rattle.vtl_to_sql.specs.Translated.{has_script_queries};
+ghost use Rattle.vtl_to_sql.specs.Translated.{has_query, has_script_queries};
 
 use crate::draft::Draft;
 use crate::inputs::{names, push_inputs};
@@ -33,6 +34,7 @@ fn push_result(
     kind: AssignKind,
     node: &Node,
 ) -> Result<(), AllocError>
+    requires { has_query (node_tree node.now) ≡ true }
     ensures { OnOk result (map statement_tree draft.new.statements.items ≡ map statement_tree draft.old.statements.items ++ map create_for (statement_tables writer.now (statement_of name.now kind (node_tree node.now)))) }
 {
     draft.begin();
@@ -48,7 +50,8 @@ fn push_results(
     statements: &[Assigned],
     nodes: &[Node],
 ) -> Result<(), AllocError>
-    requires { length nodes.now ≡ length (transformations (map vtl_statement_tree statements.now)) }
+    requires many { length nodes.now ≡ length (transformations (map vtl_statement_tree statements.now)) }
+    requires queries { list_all has_query (map node_tree nodes.now) ≡ true }
     ensures { OnOk result (map statement_tree draft.new.statements.items ≡ map statement_tree draft.old.statements.items ++ map create_for (script_tables writer.now (with_nodes (transformations (map vtl_statement_tree statements.now)) (map node_tree nodes.now)))) }
 {
     let mut place = 0;
@@ -113,6 +116,7 @@ fn push_exports(
 
 // The statements of a script behind its settings.
 fn statements(alloc: Global, script: &Checked) -> Result<Vec<Statement>, AllocError>
+    requires { has_script_queries script.now ≡ true }
     ensures { IfOk result (λ v. map statement_tree v.items ≡ statements_for script.now.settings (inputs_of script.now) (statements_of script.now)) }
 {
     let writer = Writer::new(alloc, script.profile())?;

@@ -20,7 +20,9 @@ fn has_query(node: &Node) -> bool
     match &node.form {
         NodeForm::Named(_) => true,
         NodeForm::Choose { c, a, b } => has_query(c) && has_query(a) && has_query(b),
-        NodeForm::Pair { a, b, .. } => has_query(a) && has_query(b),
+        NodeForm::Pair { a, b, .. } | NodeForm::SetDiff { a, b } | NodeForm::SymDiff { a, b } => {
+            has_query(a) && has_query(b)
+        }
         NodeForm::Measures { a, .. }
         | NodeForm::Member { a, .. }
         | NodeForm::Filter { a, .. }
@@ -28,7 +30,9 @@ fn has_query(node: &Node) -> bool
         | NodeForm::Keep { a, .. }
         | NodeForm::DropNamed { a, .. }
         | NodeForm::Rename { a, .. }
-        | NodeForm::Sub { a, .. } => has_query(a),
+        | NodeForm::Sub { a, .. }
+        | NodeForm::Pivot { a, .. }
+        | NodeForm::Unpivot { a, .. } => has_query(a),
         _ => false,
     }
 }

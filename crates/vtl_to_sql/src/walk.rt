@@ -1,17 +1,22 @@
 // The tables of an expression on data sets.
-ghost use Rattle.std.specs.Prelude.{◌≡◌, ◌++◌, ◌∷◌, [], map, IfOk, OnOk};
+ghost use Rattle.std.specs.Prelude.{◌≡◌, ◌++◌, ◌∷◌, [], map, true, IfOk, OnOk};
 ghost use Rattle.vtl_nodes.specs.View.{form_tree, node_tree};
 ghost use Rattle.sql_tree.specs.View.{query_tree, statement_tree};
 ghost use Rattle.vtl_to_sql.specs.Scripts.{create_for};
 ghost use Rattle.vtl_nodes.specs.Trees.{structure_of};
 ghost use Rattle.vtl_to_sql.specs.Queries.{left_query};
 ghost use Rattle.vtl_to_sql.specs.Tables.{made_of_form, over, sources_of, with_one};
+ghost use Rattle.vtl_to_sql.specs.Translated.{has_form_query, has_query};
 
 use crate::draft::Draft;
 use crate::pair_queries::{Operand, choose_query, pair_query};
+use crate::pivot_queries::pivot_query;
 use crate::queries::{
-    calc_query, filter_query, left_query, measures_query, no_query, rename_query, sub_query,
+    calc_query, filter_query, left_query, measures_query, rename_query, sub_query,
 };
+use crate::set_operators::SetOperator;
+use crate::set_queries::set_query;
+use crate::unpivot_queries::unpivot_query;
 use crate::writer::Writer;
 use sql_tree::Query;
 use std::alloc::{AllocError, Global};
@@ -28,6 +33,7 @@ pub(crate) fn source(
     target: &Txt,
     draft: &mut Draft,
 ) -> Result<Txt, AllocError>
+    requires { has_query (node_tree node.now) ≡ true }
     ensures name { IfOk result (λ t. t ∷ [] ≡ (sources_of writer.now target.now (node_tree node.now) draft.old.next).names) }
     ensures tables { OnOk result (map statement_tree draft.new.statements.items ≡ map statement_tree draft.old.statements.items ++ map create_for (sources_of writer.now target.now (node_tree node.now) draft.old.next).tables) }
     ensures next { OnOk result (draft.new.next ≡ (sources_of writer.now target.now (node_tree node.now) draft.old.next).next) }
@@ -62,6 +68,7 @@ fn left(
     target: &Txt,
     draft: &mut Draft,
 ) -> Result<Query, AllocError>
+    requires { has_query (node_tree a.now) ≡ true }
     ensures query { IfOk result (λ q. query_tree q ≡ (over (sources_of writer.now target.now (node_tree a.now) draft.old.next) (with_one (left_query writer.now (structure_of (node_tree a.now)) s.now))).query) }
     ensures tables { OnOk result (map statement_tree draft.new.statements.items ≡ map statement_tree draft.old.statements.items ++ map create_for (sources_of writer.now target.now (node_tree a.now) draft.old.next).tables) }
     ensures next { OnOk result (draft.new.next ≡ (sources_of writer.now target.now (node_tree a.now) draft.old.next).next) }
@@ -80,6 +87,7 @@ pub(crate) fn query(
     target: &Txt,
     draft: &mut Draft,
 ) -> Result<Query, AllocError>
+    requires { has_form_query (form_tree form.now) ≡ true }
     ensures query { IfOk result (λ q. query_tree q ≡ (made_of_form writer.now target.now s.now (form_tree form.now) draft.old.next).query) }
     ensures tables { OnOk result (map statement_tree draft.new.statements.items ≡ map statement_tree draft.old.statements.items ++ map create_for (made_of_form writer.now target.now s.now (form_tree form.now) draft.old.next).tables) }
     ensures next { OnOk result (draft.new.next ≡ (made_of_form writer.now target.now s.now (form_tree form.now) draft.old.next).next) }
@@ -106,6 +114,14 @@ pub(crate) fn query(
             let table = source(alloc, writer, a, target, draft)?;
             sub_query(alloc, writer, values.as_slice(), s, &table)
         }
+        NodeForm::Pivot { a, id, m } => {
+            let table = source(alloc, writer, a, target, draft)?;
+            pivot_query(alloc, writer, id, m, &a.structure, s, &table)
+        }
+        NodeForm::Unpivot { a, .. } => {
+            let table = source(alloc, writer, a, target, draft)?;
+            unpivot_query(alloc, writer, &a.structure, s, &table)
+        }
         NodeForm::Member { a, .. } => left(alloc, writer, a, s, target, draft),
         NodeForm::Keep { a, .. } => left(alloc, writer, a, s, target, draft),
         NodeForm::DropNamed { a, .. } => left(alloc, writer, a, s, target, draft),
@@ -122,6 +138,16 @@ pub(crate) fn query(
             let (first, second) = (operand(a, &first), operand(b, &second));
             choose_query(alloc, writer, &operand(c, &tested), &first, &second, s)
         }
-        _ => Ok(no_query(alloc)),
+        NodeForm::SetDiff { a, b } => {
+            let first = source(alloc, writer, a, target, draft)?;
+            let second = source(alloc, writer, b, target, draft)?;
+            set_query(alloc, writer, SetOperator::Difference, s, &first, &second)
+        }
+        NodeForm::SymDiff { a, b } => {
+            let first = source(alloc, writer, a, target, draft)?;
+            let second = source(alloc, writer, b, target, draft)?;
+            set_query(alloc, writer, SetOperator::SymmetricDifference, s, &first, &second)
+        }
+        _ => unreachable!(),
     }
 }

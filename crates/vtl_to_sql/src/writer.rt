@@ -57,24 +57,38 @@ impl Writer {
         numbered(alloc, &self.first, number as u64)
     }
 
+    // A name of a column of the first source.
+    pub(crate) fn first(&self, name: &Txt) -> Result<Column, AllocError>
+        ensures { IfOk result (λ c. c ≡ column_of first_alias name.now) }
+    {
+        Ok(Column {
+            source: self.first.share()?,
+            name: name.share()?,
+        })
+    }
+
+    // A name of a column of the second source.
+    pub(crate) fn second(&self, name: &Txt) -> Result<Column, AllocError>
+        ensures { IfOk result (λ c. c ≡ column_of second_alias name.now) }
+    {
+        Ok(Column {
+            source: self.second.share()?,
+            name: name.share()?,
+        })
+    }
+
     // A column of the first source.
     pub(crate) fn column(&self, name: &Txt) -> Result<SqlExpr, AllocError>
         ensures { IfOk result (λ e. expr_tree e ≡ column (column_of first_alias name.now)) }
     {
-        Ok(SqlExpr::Column(Column {
-            source: self.first.share()?,
-            name: name.share()?,
-        }))
+        Ok(SqlExpr::Column(self.first(name)?))
     }
 
     // A column of the second source.
     pub(crate) fn other_column(&self, name: &Txt) -> Result<SqlExpr, AllocError>
         ensures { IfOk result (λ e. expr_tree e ≡ column (column_of second_alias name.now)) }
     {
-        Ok(SqlExpr::Column(Column {
-            source: self.second.share()?,
-            name: name.share()?,
-        }))
+        Ok(SqlExpr::Column(self.second(name)?))
     }
 
     // An expression over the columns of one source.

@@ -5,10 +5,10 @@ use Rattle.vtl_nodes.specs.Trees.{FormTree, structure_of}
 use Rattle.vtl_nodes.specs.View.{form_tree, item_tree, node_tree}
 use Rattle.vtl_nodes.specs.declared.nodes.Node.{Node}
 use Rattle.sql_tree.specs.View.{statement_tree}
-use Rattle.vtl_to_sql.specs.Queries.{calc_query, left_query, sub_query}
+use Rattle.vtl_to_sql.specs.Queries.{calc_query, difference_query, left_query, sub_query, symmetric_difference_query}
 use Rattle.vtl_to_sql.specs.Scripts.{create_for}
-use Rattle.vtl_to_sql.specs.Tables.{and_then, made_of_form, sources_of, with_one}
-use Rattle.vtl_to_sql.proofs.Walked.{behind_others, tree_of_calc, tree_of_choose, tree_of_named, tree_of_pair, tree_of_sub}
+use Rattle.vtl_to_sql.specs.Tables.{and_then, made_of_form, sources_of, with_one, with_two}
+use Rattle.vtl_to_sql.proofs.Walked.{behind_names, behind_others, tree_of_calc, tree_of_choose, tree_of_difference, tree_of_named, tree_of_pair, tree_of_sub, tree_of_symmetric_difference}
 use Rattle.vtl_to_sql.proofs.walk.+made.Goals as goal
 
 pub left-returns-clause-query : goal.left-returns-clause-query
@@ -96,3 +96,81 @@ query-returns-in_ok-second-in-Choose-clause-tables t c =
         ∙ sym (ap (λ (f : FormTree). old ++ map create_for (made_of_form p r c.args.s.now f n).tables) (tree_of_choose c.args.form.now c.in-Choose.c c.in-Choose.a c.in-Choose.b c.in-Choose.is))
     in
     IfOk-weaker c.choose_query.result _ _ (λ q e. fact) c.choose_query.ensures
+
+pub query-returns-in_ok-second-in-SetDiff-clause-query : goal.query-returns-in_ok-second-in-SetDiff-clause-query
+query-returns-in_ok-second-in-SetDiff-clause-query t c =
+    let p = c.args.writer.now in
+    let r = c.args.target.now in
+    let s = c.args.s.now in
+    let n = c.args.draft.now.next in
+    let of = λ (x : Node) (m : ℕ). sources_of p r (node_tree x) m in
+    let a = c.in-SetDiff.a.value in
+    let b = c.in-SetDiff.b.value in
+    let one = c.in_ok-first-in-SetDiff.ensures in
+    let two = c.in_ok-second-in-SetDiff.ensures in
+    let named =
+        behind_names (of c.deref-in-SetDiff.result.now n) (of c.deref-in-SetDiff-2.result.now) c.in_ok-first-in-SetDiff.first c.in_ok-second-in-SetDiff.second c.source-in-SetDiff.new.draft.next one.name one.next two.name
+        ∙ ap (λ (x : Node). (and_then (of x n) (of c.deref-in-SetDiff-2.result.now)).names) c.deref-in-SetDiff.ensures
+        ∙ ap (λ (x : Node). (and_then (of a n) (of x)).names) c.deref-in-SetDiff-2.ensures
+    in
+    IfOk-weaker c.set_query.result _ _
+    (λ z e. e (structure_of (node_tree a)) (structure_of (node_tree b)) ∙ ap (with_two (difference_query p (structure_of (node_tree a)) (structure_of (node_tree b)) s)) named
+    ∙ sym (ap (λ (f : FormTree). (made_of_form p r s f n).query) (tree_of_difference c.args.form.now c.in-SetDiff.a c.in-SetDiff.b c.in-SetDiff.is))) c.set_query.ensures
+
+pub query-returns-in_ok-second-in-SetDiff-clause-tables : goal.query-returns-in_ok-second-in-SetDiff-clause-tables
+query-returns-in_ok-second-in-SetDiff-clause-tables t c =
+    let p = c.args.writer.now in
+    let r = c.args.target.now in
+    let n = c.args.draft.now.next in
+    let old = map statement_tree c.args.draft.now.statements.items in
+    let of = λ (x : Node) (m : ℕ). sources_of p r (node_tree x) m in
+    let a = c.deref-in-SetDiff.result.now in
+    let b = c.deref-in-SetDiff-2.result.now in
+    let one = c.in_ok-first-in-SetDiff.ensures in
+    let fact =
+        behind_others (of a n) (of b) old (map statement_tree c.source-in-SetDiff.new.draft.statements.items) (map statement_tree c.source-in-SetDiff-2.new.draft.statements.items) c.source-in-SetDiff.new.draft.next
+        one.tables one.next c.in_ok-second-in-SetDiff.ensures.tables
+        ∙ ap (λ (x : Node). old ++ map create_for (and_then (of x n) (of b)).tables) c.deref-in-SetDiff.ensures
+        ∙ ap (λ (x : Node). old ++ map create_for (and_then (of c.in-SetDiff.a.value n) (of x)).tables) c.deref-in-SetDiff-2.ensures
+        ∙ sym (ap (λ (f : FormTree). old ++ map create_for (made_of_form p r c.args.s.now f n).tables) (tree_of_difference c.args.form.now c.in-SetDiff.a c.in-SetDiff.b c.in-SetDiff.is))
+    in
+    IfOk-weaker c.set_query.result _ _ (λ q e. fact) c.set_query.ensures
+
+pub query-returns-in_ok-second-in-SymDiff-clause-query : goal.query-returns-in_ok-second-in-SymDiff-clause-query
+query-returns-in_ok-second-in-SymDiff-clause-query t c =
+    let p = c.args.writer.now in
+    let r = c.args.target.now in
+    let s = c.args.s.now in
+    let n = c.args.draft.now.next in
+    let of = λ (x : Node) (m : ℕ). sources_of p r (node_tree x) m in
+    let a = c.in-SymDiff.a.value in
+    let b = c.in-SymDiff.b.value in
+    let one = c.in_ok-first-in-SymDiff.ensures in
+    let two = c.in_ok-second-in-SymDiff.ensures in
+    let named =
+        behind_names (of c.deref-in-SymDiff.result.now n) (of c.deref-in-SymDiff-2.result.now) c.in_ok-first-in-SymDiff.first c.in_ok-second-in-SymDiff.second c.source-in-SymDiff.new.draft.next one.name one.next two.name
+        ∙ ap (λ (x : Node). (and_then (of x n) (of c.deref-in-SymDiff-2.result.now)).names) c.deref-in-SymDiff.ensures
+        ∙ ap (λ (x : Node). (and_then (of a n) (of x)).names) c.deref-in-SymDiff-2.ensures
+    in
+    IfOk-weaker c.set_query-in-SymDiff.result _ _
+    (λ z e. e (structure_of (node_tree a)) (structure_of (node_tree b)) ∙ ap (with_two (symmetric_difference_query p (structure_of (node_tree a)) (structure_of (node_tree b)) s)) named
+    ∙ sym (ap (λ (f : FormTree). (made_of_form p r s f n).query) (tree_of_symmetric_difference c.args.form.now c.in-SymDiff.a c.in-SymDiff.b c.in-SymDiff.is))) c.set_query-in-SymDiff.ensures
+
+pub query-returns-in_ok-second-in-SymDiff-clause-tables : goal.query-returns-in_ok-second-in-SymDiff-clause-tables
+query-returns-in_ok-second-in-SymDiff-clause-tables t c =
+    let p = c.args.writer.now in
+    let r = c.args.target.now in
+    let n = c.args.draft.now.next in
+    let old = map statement_tree c.args.draft.now.statements.items in
+    let of = λ (x : Node) (m : ℕ). sources_of p r (node_tree x) m in
+    let a = c.deref-in-SymDiff.result.now in
+    let b = c.deref-in-SymDiff-2.result.now in
+    let one = c.in_ok-first-in-SymDiff.ensures in
+    let fact =
+        behind_others (of a n) (of b) old (map statement_tree c.source-in-SymDiff.new.draft.statements.items) (map statement_tree c.source-in-SymDiff-2.new.draft.statements.items) c.source-in-SymDiff.new.draft.next
+        one.tables one.next c.in_ok-second-in-SymDiff.ensures.tables
+        ∙ ap (λ (x : Node). old ++ map create_for (and_then (of x n) (of b)).tables) c.deref-in-SymDiff.ensures
+        ∙ ap (λ (x : Node). old ++ map create_for (and_then (of c.in-SymDiff.a.value n) (of x)).tables) c.deref-in-SymDiff-2.ensures
+        ∙ sym (ap (λ (f : FormTree). old ++ map create_for (made_of_form p r c.args.s.now f n).tables) (tree_of_symmetric_difference c.args.form.now c.in-SymDiff.a c.in-SymDiff.b c.in-SymDiff.is))
+    in
+    IfOk-weaker c.set_query-in-SymDiff.result _ _ (λ q e. fact) c.set_query-in-SymDiff.ensures
