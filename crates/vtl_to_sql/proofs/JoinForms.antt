@@ -15,7 +15,7 @@ use Rattle.check_shapes.specs.Names.{is_among}
 use Rattle.vtl_meaning.specs.Agreement.{common_identifiers, has_identifier}
 use Rattle.vtl_meaning.specs.Columns.{column_behind, identifiers_of, measures_of, place_of}
 use Rattle.vtl_meaning.specs.Made.{attributes_of}
-use Rattle.vtl_meaning.proofs.Places.{all_back, all_front, same_name-refl}
+use Rattle.vtl_meaning.proofs.Places.{same_name-refl}
 use Rattle.sql_tree.specs.Trees as tree
 use Rattle.sql_tree.specs.Trees.{Exp, JoinTree, QueryTree, Text}
 use Rattle.sql_tree.specs.declared.word_groups.JoinKind.{JoinKind}
@@ -50,16 +50,17 @@ all_within front (y ∷ ys) back = (
 abbrev IsOwn : (Structure → List Component) → Type 0
 IsOwn f = (a : Structure) → AllByRecursion (IsWithin (columns_of a)) (f a)
 
+columns_split : (a : Structure) → identifiers_of a ++ (measures_of a ++ attributes_of a) ≡ columns_of a
+columns_split a = sym (append_assoc (identifiers_of a) (measures_of a) (attributes_of a))
+
 own_identifiers : IsOwn identifiers_of
-own_identifiers a = all_within [] (identifiers_of a) (measures_of a ++ attributes_of a)
+own_identifiers a = subst (λ l. AllByRecursion (IsWithin l) (identifiers_of a)) (columns_split a) (all_within [] (identifiers_of a) (measures_of a ++ attributes_of a))
 
 own_measures : IsOwn measures_of
-own_measures a = all_within (identifiers_of a) (measures_of a) (attributes_of a)
+own_measures a = subst (λ l. AllByRecursion (IsWithin l) (measures_of a)) (columns_split a) (all_within (identifiers_of a) (measures_of a) (attributes_of a))
 
 own_attributes : IsOwn attributes_of
-own_attributes a =
-    subst (λ l. AllByRecursion (IsWithin l) (attributes_of a)) (append_assoc (identifiers_of a) (measures_of a) (attributes_of a ++ []) ∙ ap (λ l. identifiers_of a ++ measures_of a ++ l) (append-nil (attributes_of a)))
-    (all_within (identifiers_of a ++ measures_of a) (attributes_of a) [])
+own_attributes a = subst (λ l. AllByRecursion (IsWithin l) (attributes_of a)) (ap (λ l. identifiers_of a ++ measures_of a ++ l) (append-nil (attributes_of a))) (all_within (identifiers_of a ++ measures_of a) (attributes_of a) [])
 
 all_left : (P : Component → Type 0) (q : Component → Bool) (xs : List Component) → AllByRecursion P xs → AllByRecursion P (filter q xs)
 all_left P q [] all = tt
@@ -86,7 +87,7 @@ theirs r [] = tt
 theirs r (x ∷ xs) = go (has_identifier r x.name) refl (theirs r xs)
   where
     go : (b : Bool) → has_identifier r x.name ≡ b → AllByRecursion (IsWithin (columns_of r)) (filter (λ i. has_identifier r i.name) xs) → AllByRecursion (IsWithin (columns_of r)) (cond b (x ∷ filter (λ i. has_identifier r i.name) xs) (filter (λ i. has_identifier r i.name) xs))
-    go true e h = (among_within x.name (identifiers_of r) (measures_of r ++ attributes_of r) e, h)
+    go true e h = (subst (λ l. place_of x.name l < length l) (columns_split r) (among_within x.name (identifiers_of r) (measures_of r ++ attributes_of r) e), h)
     go false e h = h
 
 -- ---- numbers of operands
@@ -169,6 +170,9 @@ module _ (p : Settings) (at : Naming) where
   abbrev IsFirst : Structure → Type 0
   IsFirst r = (k : ℕ) (name : Text) → k < width_of r → at k name ≡ column_of (alias_of 0) name
 
+  first_sits : (r : Structure) (x : Text) → IsFirst r → Sits (placed_at 0 r) (aliased 0 r x)
+  first_sits r x f = record { same = refl; named = λ k name within. let none : 0 + k ≡ k = omega arith in ap (λ m. at m name) none ∙ f k name within }
+
   around : (r : Structure) (j n i : ℕ) (ss : List Structure) (xs : List Text) → length xs ≡ length ss → slice_get ss j ≡ Some r → IsFirst r → AreFrom n (suc i) (without j ss) → AllSit (placed_around j n ss) (aliased_around (i + j) i ss xs)
   around r j n i [] xs e g f h = tt
   around r j n i (a ∷ ss) [] e g f h = absurd (omega (arith, e))
@@ -176,7 +180,7 @@ module _ (p : Settings) (at : Naming) where
       let same : r ≡ a = cc in
       let number = number_at (i + 0) i (omega arith) in
       (
-        record { same = refl; named = λ k name within. f k name (subst (λ b. k < width_of b) (sym same) within) ∙ ap (λ m. column_of (alias_of m) name) (sym number) },
+        subst (λ m. Sits (placed_at 0 a) (aliased m a x)) (sym number) (first_sits a x (subst IsFirst same f)),
         subst (AllSit (placed_from n ss)) (sym (behind (i + 0) (suc i) ss xs (omega arith))) (all_sit n (suc i) ss xs (omega (arith, e)) h),
       )
   around r (suc j) n i (a ∷ ss) (x ∷ xs) e g f h =
@@ -208,12 +212,12 @@ module _ (p : Settings) (at : Naming) where
 
   values_written : (ids all : List Placed) (us qs : List Aliased) → AllSit ids us → AllSit all qs → map (to_sql p at) (joined_exps ids all) ≡ joined_values (columns_from_all identifiers_of us) qs
   values_written ids all us qs there here =
-      map-append (to_sql p at) (columns_in identifiers_of ids) (columns_in measures_of all ++ columns_in attributes_of all)
-      ∙ ap (λ l. l ++ map (to_sql p at) (columns_in measures_of all ++ columns_in attributes_of all)) (columns_of_all identifiers_of own_identifiers ids us there)
-      ∙ ap (λ l. columns_from_all identifiers_of us ++ l)
-      (map-append (to_sql p at) (columns_in measures_of all) (columns_in attributes_of all)
-      ∙ ap (λ l. l ++ map (to_sql p at) (columns_in attributes_of all)) (columns_of_all measures_of own_measures all qs here)
-      ∙ ap (λ l. columns_from_all measures_of qs ++ l) (columns_of_all attributes_of own_attributes all qs here))
+      map-append (to_sql p at) (columns_in identifiers_of ids ++ columns_in measures_of all) (columns_in attributes_of all)
+      ∙ ap (λ l. l ++ map (to_sql p at) (columns_in attributes_of all))
+      (map-append (to_sql p at) (columns_in identifiers_of ids) (columns_in measures_of all)
+      ∙ ap (λ l. l ++ map (to_sql p at) (columns_in measures_of all)) (columns_of_all identifiers_of own_identifiers ids us there)
+      ∙ ap (λ l. columns_from_all identifiers_of us ++ l) (columns_of_all measures_of own_measures all qs here))
+      ∙ ap (λ l. columns_from_all identifiers_of us ++ columns_from_all measures_of qs ++ l) (columns_of_all attributes_of own_attributes all qs here)
 
   -- ---- conditions
 
@@ -248,7 +252,7 @@ from_written p kind i ss s xs e r x g =
     let os = aliased_around i 0 ss xs in
     let first : IsFirst p at r = λ k name h. of_first 0 (width_of r) k (map width_of (without i ss)) name h in
     let rest : AreFrom p at (width_of r) 1 (without i ss) = λ k name. of_later 0 (width_of r) k (map width_of (without i ss)) name in
-    let lead : AllSit p at (placed_at 0 r ∷ []) (aliased 0 r x ∷ []) = (record { same = refl; named = first }, tt) in
+    let lead : AllSit p at (placed_at 0 r ∷ []) (aliased 0 r x ∷ []) = (first_sits p at r x first, tt) in
     let same : 0 + i ≡ i = omega arith in
     let all : AllSit p at (placed_around i (width_of r) ss) os = subst (λ m. AllSit p at (placed_around i (width_of r) ss) (aliased_around m 0 ss xs)) same (around p at r i (width_of r) 0 ss xs e g first rest) in
     let joins = joins_on p kind at (columns_of r) (common_identifiers r) 1 (placed_from (width_of r) (without i ss)) (without i xs) in
@@ -281,7 +285,7 @@ cross_written p (a ∷ ss) s [] e = refl
 cross_written p (a ∷ ss) s (x ∷ xs) e =
     let at = of_many 0 (map width_of (a ∷ ss)) in
     let os = in_line 0 (a ∷ ss) (x ∷ xs) in
-    let start : AreFrom p at 0 0 (a ∷ ss) = λ k name. refl in
+    let start : AreFrom p at 0 0 (a ∷ ss) = λ k name. (let none : 0 + k ≡ k = omega arith in ap (λ m. at m name) none) in
     let all = all_sit p at 0 0 (a ∷ ss) (x ∷ xs) e start in
     ap (λ l. joined_query l s (aliased 0 a x) (crosses 1 xs)) (values_written p at (placed_from 0 (a ∷ ss)) (placed_from 0 (a ∷ ss)) os os all all)
     ∙ ap (joined_query (joined_values (columns_from_all identifiers_of os) os) s (aliased 0 a x)) (crosses_written 1 ss xs (omega (arith, e)))

@@ -1,10 +1,11 @@
 -- Items of joins are written one by one.
-use Rattle.std.proofs.Common.{◌≡◌, ℕ, zero, suc, ◌+◌, ◌<◌, ◌≤◌, min, List, [], ◌∷◌, ◌++◌, map, length, take, get_or, refl, sym, ap, ◌∙◌, arith, append_assoc}
+use Rattle.std.proofs.Common.{◌≡◌, ℕ, zero, suc, ◌+◌, ◌<◌, ◌≤◌, min, List, [], ◌∷◌, ◌++◌, map, length, take, drop, get_or, refl, sym, ap, ◌∙◌, arith, append_assoc}
 use Rattle.std.specs.Borrow.{Bor}
 use Rattle.vtl_tree.specs.Shown.{shown}
 use Rattle.vtl_tree.specs.declared.structure.Component.{Component}
 use Rattle.sql_tree.specs.Trees.{ItemTree}
 use Rattle.vtl_to_sql.specs.JoinItems.{picked_column}
+use Rattle.vtl_to_sql.specs.Joins.{without}
 use Rattle.vtl_to_sql.specs.Queries.{item_as, items_as}
 use Rattle.vtl_to_sql.specs.declared.join_items.Picked.{Picked}
 
@@ -39,3 +40,18 @@ one_named old new done ps ys i q y n o h at bt =
     n ∙ ap (λ l. l ++ item_as y.now.name (picked_column q) ∷ []) o
     ∙ append_assoc done (first i ps ys) (item_as y.now.name (picked_column q) ∷ [])
     ∙ ap (λ l. done ++ l) (sym (ap (λ m. first m ps ys) next ∙ more ps ys i q y (omega (arith, h)) (omega (arith, h)) at bt))
+
+-- ---- operands
+
+none_left : {X : Type 0} (i : ℕ) → drop {A = X} i [] ≡ []
+none_left zero = refl
+none_left (suc i) = refl
+
+-- all but the one at a place
+pub all_others : {X Y Z : Type 0} (g : Y → Z) (f : X → Y) (i : ℕ) (xs : List X) → map g (without i (map f xs)) ≡ map g (map f (take i xs)) ++ map g (map f (drop (i + 1) xs))
+all_others g f zero [] = refl
+all_others g f (suc i) [] = ap (λ l. map g (map f l)) (sym (none_left (suc i + 1)))
+all_others g f zero (x ∷ xs) = refl
+all_others g f (suc i) (x ∷ xs) =
+    let next : suc (i + 1) ≡ suc i + 1 = omega arith in
+    ap (λ l. g (f x) ∷ l) (all_others g f i xs) ∙ ap (λ n. g (f x) ∷ (map g (map f (take i xs)) ++ map g (map f (drop n (x ∷ xs))))) next

@@ -67,10 +67,10 @@ columns_more (zs ∷ yss) ys = ap (λ l. zs ++ l) (columns_more yss ys) ∙ sym 
 -- ---- names
 
 -- a column of the first source, and one of those behind it
-of_first : (i w j : ℕ) (ws : List ℕ) (name : List ℕ) → j < w → of_many i (w ∷ ws) j name ≡ column_of (alias_of i) name
+pub of_first : (i w j : ℕ) (ws : List ℕ) (name : List ℕ) → j < w → of_many i (w ∷ ws) j name ≡ column_of (alias_of i) name
 of_first i w j ws name h = ap (λ b. if b then column_of (alias_of i) name else of_many (suc i) ws (j - w) name) (lt-ltb j w h)
 
-of_later : (i w j : ℕ) (ws : List ℕ) (name : List ℕ) → of_many i (w ∷ ws) (w + j) name ≡ of_many (suc i) ws j name
+pub of_later : (i w j : ℕ) (ws : List ℕ) (name : List ℕ) → of_many i (w ∷ ws) (w + j) name ≡ of_many (suc i) ws j name
 of_later i w j ws name =
     let less : (w + j) - w ≡ j = omega arith in
     ap (λ b. if b then column_of (alias_of i) name else of_many (suc i) ws ((w + j) - w) name) (le-ltb (w + j) w (omega arith)) ∙ ap (λ n. of_many (suc i) ws n name) less

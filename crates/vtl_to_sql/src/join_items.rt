@@ -19,9 +19,9 @@ use vtl_tree::{Component, Role, Structure};
 
 /// A column of an operand: the alias of its source, and its name.
 #[derive(Drop)]
-pub(crate) struct Picked<'a> {
+pub(crate) struct Picked<'a, 'b> {
     alias: &'a Txt,
-    name: &'a Txt,
+    name: &'b Txt,
 }
 
 // A column of a source.
@@ -35,10 +35,10 @@ fn column(alias: &Txt, name: &Txt) -> Result<SqlExpr, AllocError>
 }
 
 /// Adds columns of a source. It fails only if memory runs out.
-pub(crate) fn push_columns<'a>(
-    picked: &mut Vec<Picked<'a>>,
+pub(crate) fn push_columns<'a, 'b>(
+    picked: &mut Vec<Picked<'a, 'b>>,
     alias: &'a Txt,
-    components: &[&'a Component],
+    components: &[&'b Component],
 ) -> Result<(), AllocError>
     ensures { OnOk result (map picked_column picked.new.items ≡ map picked_column picked.old.items ++ map (column_from alias.now) (shown components.now)) }
 {
@@ -50,10 +50,10 @@ pub(crate) fn push_columns<'a>(
 }
 
 // Adds the columns of a role of an operand.
-fn push_role<'a>(
+fn push_role<'a, 'b>(
     alloc: Global,
-    picked: &mut Vec<Picked<'a>>,
-    operand: &'a Aliased<'a>,
+    picked: &mut Vec<Picked<'a, 'b>>,
+    operand: &'a Aliased<'b>,
     role: Role,
 ) -> Result<(), AllocError>
     ensures { OnOk result (map picked_column picked.new.items ≡ map picked_column picked.old.items ++ columns_from (of_role role) (aliased_of operand.now)) }
@@ -63,10 +63,10 @@ fn push_role<'a>(
 }
 
 /// Adds the columns of a role of all operands. It fails only if memory runs out.
-pub(crate) fn push_roles<'a>(
+pub(crate) fn push_roles<'a, 'b>(
     alloc: Global,
-    picked: &mut Vec<Picked<'a>>,
-    operands: &'a [Aliased<'a>],
+    picked: &mut Vec<Picked<'a, 'b>>,
+    operands: &'a [Aliased<'b>],
     role: Role,
 ) -> Result<(), AllocError>
     ensures { OnOk result (map picked_column picked.new.items ≡ map picked_column picked.old.items ++ columns_from_all (of_role role) (map aliased_of operands.now)) }
@@ -81,7 +81,7 @@ pub(crate) fn push_roles<'a>(
 #[tactic(auto, using(crate::proofs::JoinWritten::all_named))]
 pub(crate) fn named_items(
     alloc: Global,
-    picked: &[Picked<'_>],
+    picked: &[Picked<'_, '_>],
     s: &Structure,
 ) -> Result<Vec<Item>, AllocError>
     ensures { IfOk result (λ v. map item_tree v.items ≡ items_as (map picked_column picked.now) (columns_of s.now)) }
@@ -96,13 +96,14 @@ pub(crate) fn named_items(
 #[tactic(auto, using(crate::proofs::JoinWritten::all_named))]
 fn push_named(
     items: &mut Vec<Item>,
-    picked: &[Picked<'_>],
+    picked: &[Picked<'_, '_>],
     names: &[&Component],
 ) -> Result<(), AllocError>
     ensures { OnOk result (map item_tree items.new.items ≡ map item_tree items.old.items ++ items_as (map picked_column picked.now) (shown names.now)) }
 {
     for i in 0..picked.len().min(names.len()) {
-        push_item(items, column(picked[i].alias, picked[i].name)?, &names[i].name)?;
+        let next = &picked[i];
+        push_item(items, column(next.alias, next.name)?, &names[i].name)?;
     }
     Ok(())
 }

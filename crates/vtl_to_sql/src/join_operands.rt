@@ -40,7 +40,7 @@ fn number_around(place: usize, i: usize) -> usize
 
 /// Operands with the tables that stand for them, where the one at a place stands before all others. It fails only if
 /// memory runs out.
-pub(crate) fn aliased<'a>(
+pub(crate) fn with_aliases<'a>(
     alloc: Global,
     writer: &Writer,
     place: usize,

@@ -1,5 +1,5 @@
 // The queries of joins, over the tables of the operands.
-ghost use Rattle.std.specs.Prelude.{◌≡◌, ◌<◌, ◌++◌, length, map, slice_get, IfOk, OnOk};
+ghost use Rattle.std.specs.Prelude.{◌≡◌, ◌<◌, ◌++◌, [], length, map, slice_get, IfOk, OnOk};
 ghost use Rattle.vtl_tree.specs.Shown.{shown};
 ghost use Rattle.sql_tree.specs.View.{join_tree, query_tree};
 ghost use Rattle.vtl_to_sql.specs.JoinItems.{aliased_of, crossed_query, crossed_with, joined_query, joined_values, joined_with, picked_column, referred_query};
@@ -7,13 +7,21 @@ ghost use Rattle.vtl_to_sql.specs.Joins.{cross_query, reference_query, without};
 ghost use Rattle.vtl_to_sql.specs.Queries.{source_as};
 
 use crate::join_items::{Picked, all_tied, named_items, push_columns, push_roles};
-use crate::join_operands::{Aliased, aliased, common_identifiers};
-use crate::queries::no_query;
+use crate::join_operands::{Aliased, common_identifiers, with_aliases};
 use crate::writer::Writer;
 use sql_tree::{Join, JoinKind, Query, Select, Source};
 use std::alloc::{AllocError, Global};
 use vtl_cell::{List, Txt};
 use vtl_tree::{Role, Structure};
+
+// No query, where a join has no operand to begin with.
+fn no_query(alloc: Global) -> Query
+    ensures { query_tree result ≡ [] }
+{
+    Query {
+        selects: List::of(Vec::new(alloc)),
+    }
+}
 
 fn source(operand: &Aliased<'_>) -> Result<Source, AllocError>
     ensures { IfOk result (λ x. x ≡ source_as (aliased_of operand.now).alias (aliased_of operand.now).table) }
@@ -28,7 +36,7 @@ fn source(operand: &Aliased<'_>) -> Result<Source, AllocError>
 // result.
 fn joined_query(
     alloc: Global,
-    picked: &[Picked<'_>],
+    picked: &[Picked<'_, '_>],
     s: &Structure,
     first: &Aliased<'_>,
     joins: Vec<Join>,
@@ -50,10 +58,10 @@ fn joined_query(
 }
 
 // Adds the measures of all operands, and then the attributes.
-fn push_others<'a>(
+fn push_others<'a, 'b>(
     alloc: Global,
-    picked: &mut Vec<Picked<'a>>,
-    operands: &'a [Aliased<'a>],
+    picked: &mut Vec<Picked<'a, 'b>>,
+    operands: &'a [Aliased<'b>],
 ) -> Result<(), AllocError>
     ensures { OnOk result (map picked_column picked.new.items ≡ joined_values (map picked_column picked.old.items) (map aliased_of operands.now)) }
 {
@@ -145,7 +153,7 @@ pub(crate) fn reference_query(
     requires { length tables.now ≡ length structures.now }
     ensures { IfOk result (λ q. query_tree q ≡ reference_query writer.now kind place (shown structures.now) s.now tables.now) }
 {
-    let operands = aliased(alloc, writer, place, structures, tables)?;
+    let operands = with_aliases(alloc, writer, place, structures, tables)?;
     referred_query(alloc, kind, place, &operands, s)
 }
 
@@ -189,6 +197,6 @@ pub(crate) fn cross_query(
     requires { length tables.now ≡ length structures.now }
     ensures { IfOk result (λ q. query_tree q ≡ cross_query writer.now (shown structures.now) s.now tables.now) }
 {
-    let operands = aliased(alloc, writer, 0, structures, tables)?;
+    let operands = with_aliases(alloc, writer, 0, structures, tables)?;
     crossed_query(alloc, &operands, s)
 }
