@@ -395,7 +395,7 @@ module _ (p : Settings) (law : Translates p) (before : Data) (first : List Compo
         it.0,
         it.1,
         subst (λ z. AreJoinsTyped p (tables_in before) z (joins (suc i) (n + width_of d.structure) ds xs)) (sym (source_more done d ds x i n a.number a.many a.stage t.0 here.0))
-        (chained_typed ds xs (suc i) (n + width_of d.structure) (with_one done d) (is_next i n done d ds t.0 a) t.1 here.1),
+            (chained_typed ds xs (suc i) (n + width_of d.structure) (with_one done d) (is_next i n done d ds t.0 a) t.1 here.1),
       )
 
   pub chained_printed : (ds : List DataSet) (xs : List Text) (i n : ℕ) (done : List (List Component)) → IsAt i n done ds → AllTied ds → AreHeld before xs ds → Each (IsJoin printable_depth) (joins i n ds xs)

@@ -98,11 +98,11 @@ points_shown (x ∷ t) front n e all =
       refl,
       all.0.well_formed,
       (λ place h.
-      ap (λ m. column_of (m + place) (front ++ (own ++ row_with t))) e
-      ∙ get_or-append-add front (own ++ row_with t) place c.Null
-      ∙ get_or_append_left own (row_with t) c.Null place (omega (arith, h, long))),
+          ap (λ m. column_of (m + place) (front ++ (own ++ row_with t))) e
+          ∙ get_or-append-add front (own ++ row_with t) place c.Null
+          ∙ get_or_append_left own (row_with t) c.Null place (omega (arith, h, long))),
       subst (λ l. AllShown l (placed_from (n + width_of x.structure) (map (λ y. y.structure) t)) (map present t)) (append_assoc front own (row_with t))
-      (points_shown t (front ++ own) (n + width_of x.structure) (omega (arith, e, long, sum)) all.1),
+          (points_shown t (front ++ own) (n + width_of x.structure) (omega (arith, e, long, sum)) all.1),
     )
 
 keys_shown : (t : List OperandPoint) → AllByRecursion IsOperandPoint t → flat_map (λ q. values_or_nulls q.structure (identifiers_of q.structure) q.point) (map present t) ≡ flat_map (λ x. key_of x.structure x.point) t
@@ -157,7 +157,7 @@ module _ (p : Settings) (before : Data) where
     (ap is_some h.0.known, alias_new before done x d i e (omega (arith, few)) h.0),
     tt,
     subst (λ z. AreJoinsTyped p (tables_in before) z (crosses (suc i) xs)) (sym (source_behind before done x d i e (omega (arith, few)) h.0))
-    (crosses_typed ds xs (suc i) (done ++ columns_of d.structure ∷ []) (next_number i done (columns_of d.structure) e) (omega (arith, few)) h.1),
+        (crosses_typed ds xs (suc i) (done ++ columns_of d.structure ∷ []) (next_number i done (columns_of d.structure) e) (omega (arith, few)) h.1),
   )
 
   crosses_printed : (ds : List DataSet) (xs : List Text) (i : ℕ) → i + length ds < 2 ^ 64 → AreHeld before xs ds → Each (IsJoin printable_depth) (crosses i xs)

@@ -20,7 +20,7 @@ use Rattle.vtl_tuples.specs.Keys.{item_at}
 use Rattle.vtl_tuples.proofs.Lists.{filter_each, flat_map_same, map-flat_map, map-map, map_each, map_same}
 use Rattle.vtl_meaning.specs.Agreement.{values_in}
 use Rattle.vtl_meaning.specs.Columns.{identifiers_of, measures_of, places_in}
-use Rattle.vtl_meaning.specs.Joined.{Tuple, all_keys, part_of, structures_of, tuple_at, tuple_point, values_or_nulls}
+use Rattle.vtl_meaning.specs.Joined.{Tuple, part_of, structures_of, tuple_at, tuple_point}
 use Rattle.vtl_meaning.specs.Made.{AreAmong, AreFor, HasIdentifiers, attributes_of, component_kinds, kinds_of_all}
 use Rattle.vtl_meaning.specs.Points.{each_point, point_of, with_points}
 use Rattle.vtl_meaning.proofs.JoinAgreements.{covers, key_only}
@@ -33,7 +33,7 @@ use Rattle.sql_tree.specs.declared.word_groups.JoinKind.TheVariants as joining
 use Rattle.sql_meaning.specs.Scripts.{Data}
 use Rattle.vtl_to_sql.specs.Conditions.{HaveNames}
 use Rattle.vtl_to_sql.specs.FullJoins.{full_query, key_structure}
-use Rattle.vtl_to_sql.specs.Joins.{Placed, chain_select, joined_exps, placed_at, placed_from, width_of}
+use Rattle.vtl_to_sql.specs.Joins.{Placed, joined_exps, placed_at, placed_from, width_of}
 use Rattle.vtl_to_sql.proofs.Chains.{AllTied, IsTied, agrees, extended_by, found}
 use Rattle.vtl_to_sql.proofs.ChainSelects.{chain_exactly, chain_rows}
 use Rattle.vtl_to_sql.proofs.Exact.{IsExactly, exactly_same}

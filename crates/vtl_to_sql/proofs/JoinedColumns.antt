@@ -62,7 +62,7 @@ around_all r (suc i) front n (a ∷ ss) e g own =
     let back = append_assoc front (columns_of a) rest in (
       record { front = front; back = rest; is = refl; many = e },
       subst (λ xs. ArePlaced xs (placed_around i (n + width_of a) ss)) back
-      (around_all r i (front ++ columns_of a) (n + width_of a) ss (omega (arith, e, sum)) g (subst (λ xs. IsPlaced xs (placed_at 0 r)) (sym back) own)),
+          (around_all r i (front ++ columns_of a) (n + width_of a) ss (omega (arith, e, sum)) g (subst (λ xs. IsPlaced xs (placed_at 0 r)) (sym back) own)),
     )
 
 -- the first of them

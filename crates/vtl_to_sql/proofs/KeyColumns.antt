@@ -1,22 +1,19 @@
 -- The columns of a table of identifiers.
-use Rattle.std.proofs.Common.{◌≡◌, ◌≤◌, Bool, true, false, ◌&&◌, cond, not, List, [], ◌∷◌, ◌++◌, length, map, Ok, refl, ap, sym, ◌∙◌, subst, arith, append-nil}
-use Rattle.std.specs.List.{AllByRecursion, filter, list_any}
-use Rattle.vtl_cell.specs.Apart.{all_apart}
+use Rattle.std.proofs.Common.{◌≡◌, ◌≤◌, Bool, true, false, cond, not, List, [], ◌∷◌, ◌++◌, length, map, refl, ap, sym, ◌∙◌, subst, arith, append-nil}
+use Rattle.std.specs.List.{AllByRecursion, filter}
 use Rattle.vtl_cell.specs.Row.{Row, same_row}
-use Rattle.vtl_cell.specs.Settings.{Settings}
 use Rattle.vtl_cell.specs.declared.cell.Cell.TheVariants as c
 use Rattle.vtl_rows.specs.Tables.{cells_at}
 use Rattle.vtl_kinds.specs.Literals.{is_null_kind}
 use Rattle.vtl_tree.specs.DataSet.{is_point}
-use Rattle.vtl_tree.specs.Structure.{IsStructure, columns_of, most_components, names_of, same_name, same_role}
+use Rattle.vtl_tree.specs.Structure.{IsStructure, columns_of, most_components, same_role}
 use Rattle.vtl_tree.specs.declared.structure.Component.{Component}
 use Rattle.vtl_tree.specs.declared.structure.Role.TheVariants as role
 use Rattle.vtl_tree.specs.declared.structure.Structure.{Structure}
 use Rattle.vtl_tuples.specs.Keys.{each_once}
 use Rattle.vtl_tuples.proofs.Lists.{filter_each, filter-map}
 use Rattle.vtl_meaning.specs.Columns.{identifiers_of, others_of, places_in}
-use Rattle.vtl_meaning.specs.Made.{AreFor, HasIdentifiers}
-use Rattle.vtl_meaning.specs.Points.{each_point, point_of}
+use Rattle.vtl_meaning.specs.Made.{HasIdentifiers}
 use Rattle.vtl_meaning.proofs.Places.{IsIdentifier, all_front, all_map, all_more, all_of_map, are_identifiers, columns_split, identifier_role, identifiers_apart}
 use Rattle.sql_lexer.specs.Spelling.{is_name}
 use Rattle.sql_tree.specs.Formed.{IsName}

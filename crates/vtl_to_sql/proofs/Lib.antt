@@ -34,6 +34,7 @@ pub mod KeyColumns
 pub mod OnceRows
 pub mod KeyTables
 pub mod FullJoins
+pub mod FullMeans
 pub mod Joins
 pub mod Choices
 pub mod ItemLists
@@ -46,6 +47,7 @@ pub mod Nodes
 pub mod Statements
 pub mod WholeScript
 pub mod ReadTables
+pub mod InputData
 pub mod TranslatedScripts
 pub mod EmptyJoins
 pub mod EmptyData
@@ -69,3 +71,4 @@ pub mod References
 pub mod JoinForms
 pub mod NamedItems
 pub mod TurnedForms
+pub mod Examples

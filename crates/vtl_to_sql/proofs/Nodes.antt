@@ -100,9 +100,6 @@ operands_named : (p : Settings) (os : OperandTrees) → AreOperandsTranslated p 
 operands_named p nodes.no_operands c = tt
 operands_named p (nodes.operand n alias os) c = (names_in p n c.0, operands_named p os c.1)
 
-shaped_in : (p : Settings) (env : Environment) (n : NodeTree) → IsMade p (known_in env) n → IsShaped (structure_of n)
-shaped_in p env (nodes.node s form) i = i.0
-
 after_ok_is : (v : Outcome (List Row)) → after v (λ d. Ok d) ≡ v
 after_ok_is (Ok d) = refl
 after_ok_is (Err f) = refl
@@ -343,8 +340,8 @@ module _ (p : Settings) (law : Translates p) (r : Text) (word : is_word r ≡ tr
         let sources = operands_of p r os m in
         let size = length-map (operands_in os) (λ o. o.structure) in
         let many = c.1 in
-        join_gives p law r word s (columns_given s w n) ss (operands_named p os c.0) (omega (arith, many, size)) spec.kind c.2 i.1 before m sources (operands_value p env os) (λ ds is. operands_kept p env os ds (operands_built p os c.0) i.0 sets is)
-        (operands_give os m before stands apart i.0 c.0 (omega (arith, few, operands_first p spec.kind ss s sources)))
+        join_gives p law r word s (columns_given s w n) ss (operands_named p os c.0) (omega (arith, many, size)) spec.kind i.1 before m sources (operands_value p env os) (λ ds is. operands_kept p env os ds (operands_built p os c.0) i.0 sets is) apart few
+        (operands_give os m before stands apart i.0 c.0 (omega (arith, few, operands_first p r spec.kind ss s sources)))
     form_gives s other m before stands apart w i n c few = absurd c
 
     -- the operands of a join

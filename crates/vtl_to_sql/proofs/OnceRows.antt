@@ -1,5 +1,5 @@
 -- A grouped select by all columns of a table gives each of its rows once.
-use Rattle.std.proofs.Common.{◌≡◌, ◌≤◌, ℕ, true, Bool, List, [], ◌∷◌, map, None, Ok, refl, ap, sym, ◌∙◌, subst, arith}
+use Rattle.std.proofs.Common.{◌≡◌, ◌≤◌, ℕ, true, List, [], ◌∷◌, map, None, Ok, refl, ap, sym, ◌∙◌, arith}
 use Rattle.std.specs.Prelude.{is_some, length}
 use Rattle.std.specs.List.{AllByRecursion, list_any}
 use Rattle.grammar_forms.specs.Written.{Each}
@@ -14,7 +14,7 @@ use Rattle.vtl_tree.specs.declared.structure.Component.{Component}
 use Rattle.vtl_tree.specs.declared.structure.Structure.{Structure}
 use Rattle.vtl_tuples.specs.Keys.{each_once}
 use Rattle.vtl_meaning.specs.Columns.{columns_named, place_of, places_in}
-use Rattle.vtl_meaning.specs.Made.{AreAmong, IsColumnAt}
+use Rattle.vtl_meaning.specs.Made.{IsColumnAt}
 use Rattle.vtl_meaning.proofs.JoinKept.{once_hold}
 use Rattle.vtl_meaning.proofs.OwnColumns.{column_any, columns_apart, own_columns}
 use Rattle.vtl_meaning.proofs.ValueKinds.{cell_is_of}
@@ -31,7 +31,6 @@ use Rattle.sql_meaning.specs.Tables.{Base}
 use Rattle.sql_meaning.specs.Values.{place_in}
 use Rattle.rules_to_sql.specs.ToSql.{group_columns}
 use Rattle.rules_to_sql.proofs.OverGroups.{group_fits, group_value_is}
-use Rattle.vtl_to_sql.specs.Conditions.{HaveNames}
 use Rattle.vtl_to_sql.specs.FullJoins.{once_query}
 use Rattle.vtl_to_sql.specs.Queries.{all_to_sql, first_alias, items_as, of_one, source_as}
 use Rattle.vtl_to_sql.specs.Runs.{IsTable}

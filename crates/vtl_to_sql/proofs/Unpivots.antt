@@ -132,7 +132,7 @@ module _ (p : Settings) (law : Translates p) (before : Data) (name : Text) (a s 
         let names = own_names p law before name a d there named set.well_formed na in
         let apart = columns_apart a set.well_formed in
         let columns : (ys : List Component) → AreAmong ys xs → AreItems b (one_scope xs) P (valued p (columns_named xs ys)) (all_to_sql p of_one (columns_named xs ys)) ys =
-            λ ys h. expression_items p law of_one xs (one_formed xs na) (one_scope xs) names before (columns_named xs ys) ys (columns_for p xs ys apart h) (columns_written xs ys) in
+        λ ys h. expression_items p law of_one xs (one_formed xs na) (one_scope xs) names before (columns_named xs ys) ys (columns_for p xs ys apart h) (columns_written xs ys) in
         items_like b (one_scope xs) P (all x) (unpivoted_items p a x) (ids ++ names_column id (measures_of a) ∷ x ∷ []) (columns_of s) (kinds_same x kind)
         (items_behind b (one_scope xs) P (valued p (columns_named xs ids)) (last x) (all_to_sql p of_one (columns_named xs ids)) (text_constant x.name ∷ own_column x.name ∷ []) ids (names_column id (measures_of a) ∷ x ∷ [])
         (columns ids (subst (λ zs. AreAmong ids zs) (sym (columns_split a)) (among_front ids ids (others_of a) (own_identifiers a set.well_formed))))

@@ -8,8 +8,6 @@ use Rattle.vtl_cell.specs.Profile.{IsOfProfile}
 use Rattle.vtl_cell.specs.Settings.{Settings}
 use Rattle.vtl_cell.specs.Words.{is_word}
 use Rattle.vtl_cell.specs.declared.kind.Kind.TheVariants as k
-use Rattle.vtl_syntax.specs.declared.word_groups.JoinKind.{JoinKind}
-use Rattle.vtl_syntax.specs.declared.word_groups.JoinKind.TheVariants as join
 use Rattle.vtl_tree.specs.CompExp.{CompExp}
 use Rattle.vtl_tree.specs.Structure.{columns_of, most_components}
 use Rattle.vtl_tree.specs.Structures.{AreStructures, Named, has_name}
@@ -52,12 +50,6 @@ pub record HasValue (p : Settings) (i : SubItem) : Type 0 where
 
 -- ---- expressions on data sets
 
-abbrev pub IsJoinTranslated : JoinKind → Type 0
-IsJoinTranslated join.Inner = Unit {0}
-IsJoinTranslated join.Left = Unit {0}
-IsJoinTranslated join.Cross = Unit {0}
-IsJoinTranslated join.Full = ⊥
-
 abbrev mutual
   pub IsTranslated : Settings → NodeTree → Type 0
   IsTranslated p (nodes.node s form) = HaveNames (columns_of s) × IsFormTranslated p s form
@@ -75,7 +67,7 @@ abbrev mutual
   IsFormTranslated p s (nodes.rename a pairs) = IsTranslated p a
   IsFormTranslated p s (nodes.sub a items) = IsTranslated p a × AllByRecursion (HasValue p) items × (length items ≤ most_components)
   -- the operands can be numbered
-  IsFormTranslated p s (nodes.join os spec) = AreOperandsTranslated p os × (1 + length (operands_in os) < 2 ^ 64) × IsJoinTranslated spec.kind
+  IsFormTranslated p s (nodes.join os spec) = AreOperandsTranslated p os × (1 + length (operands_in os) < 2 ^ 64)
   IsFormTranslated p s (nodes.union ns) = AreNodesTranslated p ns
   IsFormTranslated p s (nodes.intersect ns) = AreNodesTranslated p ns
   IsFormTranslated p s (nodes.set_diff a b) = IsTranslated p a × IsTranslated p b
@@ -84,7 +76,7 @@ abbrev mutual
   -- codes are texts
   IsFormTranslated p s (nodes.pivot a id m) = IsTranslated p a × (kind_named id (identifiers_of (structure_of a)) ≡ k.Text)
   IsFormTranslated p s (nodes.unpivot a id m) = IsTranslated p a
-  -- the other forms are not translated yet
+  -- the other forms have no meaning yet
   IsFormTranslated p s other = ⊥
 
   pub AreNodesTranslated : Settings → NodeTrees → Type 0

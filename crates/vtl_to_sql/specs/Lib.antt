@@ -17,3 +17,4 @@ pub mod JoinItems
 pub mod NamedItems
 pub mod TurnedItems
 pub mod Combined
+pub mod Inputs

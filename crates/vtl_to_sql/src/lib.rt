@@ -31,8 +31,8 @@ mod walk;
 mod writer;
 
 pub use laws::{
-    accepted_scripts_are_translated, inputs_have_their_columns, scripts_are_translated,
-    translated_scripts_are_lawful,
+    accepted_scripts_are_translated, inputs_ask_for_data_sets, inputs_have_their_columns,
+    scripts_are_translated, translated_scripts_are_lawful,
 };
 pub use script::translate;
 pub use translated::is_translated;
