@@ -1,5 +1,5 @@
 // The operands of joins, under aliases, and which of them is the reference.
-ghost use Rattle.std.specs.Prelude.{◌≡◌, ◌∷◌, IfOk, filter, length, map};
+ghost use Rattle.std.specs.Prelude.{◌≡◌, ◌<◌, IfOk, filter, length, map};
 ghost use Rattle.vtl_tree.specs.Shown.{shown};
 ghost use Rattle.vtl_tree.specs.Structure.{names_of, of_role};
 ghost use Rattle.check_shapes.specs.Names.{is_among};
