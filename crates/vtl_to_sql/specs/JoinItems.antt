@@ -1,21 +1,26 @@
 -- Joins as they are written: operands under aliases, and what a select has of them.
-use Rattle.std.specs.Prelude.{ℕ, suc, nat_lt, List, [], ◌∷◌, ◌++◌, map, slice_get, Option, Some, None, if◌then◌else◌}
+use Rattle.std.specs.Prelude.{ℕ, Bool, true, false, suc, nat_lt, List, [], ◌∷◌, ◌++◌, map, slice_get, Option, Some, None, if◌then◌else◌}
 use Rattle.std.specs.List.{flat_map}
+use Rattle.vtl_cell.specs.Settings.{Settings}
 use Rattle.vtl_cell.specs.declared.operator.ScalarOp.TheVariants as op
+use Rattle.vtl_syntax.specs.declared.word_groups.JoinKind.{JoinKind as JoinOf}
+use Rattle.vtl_syntax.specs.declared.word_groups.JoinKind.TheVariants as join
 use Rattle.vtl_tree.specs.Structure.{columns_of}
 use Rattle.vtl_tree.specs.declared.structure.Component.{Component}
 use Rattle.vtl_tree.specs.declared.structure.Structure.{Structure}
 use Rattle.vtl_meaning.specs.Agreement.{common_identifiers}
 use Rattle.vtl_meaning.specs.Columns.{identifiers_of, measures_of}
+use Rattle.vtl_meaning.specs.Joined.{reference_place}
 use Rattle.vtl_meaning.specs.Made.{attributes_of}
 use Rattle.sql_tree.specs.Trees as tree
 use Rattle.sql_tree.specs.Trees.{Exp, JoinTree, QueryTree, Text}
 use Rattle.sql_tree.specs.declared.word_groups.JoinKind.{JoinKind}
+use Rattle.sql_tree.specs.declared.word_groups.JoinKind.TheVariants as joining
 use Rattle.rules_to_sql.specs.ToSql.{column_of}
 use Rattle.vtl_to_sql.specs.declared.join_items.Picked.{Picked}
 use Rattle.vtl_to_sql.specs.declared.join_operands.Aliased as declared
 use Rattle.vtl_to_sql.specs.Items.{all_of}
-use Rattle.vtl_to_sql.specs.Joins.{alias_of, without}
+use Rattle.vtl_to_sql.specs.Joins.{alias_of, cross_query, reference_query, without}
 use Rattle.vtl_to_sql.specs.Queries.{items_as, select_as, source_as}
 
 -- ---- operands
@@ -86,3 +91,16 @@ referred_query kind place os s (Some r) = joined_query (joined_values (columns_f
 abbrev pub crossed_query : List Aliased → Structure → QueryTree
 crossed_query [] s = []
 crossed_query (o ∷ os) s = joined_query (joined_values (columns_from_all identifiers_of (o ∷ os)) (o ∷ os)) s o (map crossed_with os)
+
+-- ---- kinds of joins
+
+-- a join of this kind is one query over its operands
+abbrev pub is_one_query : JoinOf → Bool
+is_one_query join.Full = false
+is_one_query kind = true
+
+abbrev pub one_query : Settings → JoinOf → List Structure → Structure → List Text → QueryTree
+one_query p join.Inner ss s xs = reference_query p joining.Inner (reference_place join.Inner ss) ss s xs
+one_query p join.Left ss s xs = reference_query p joining.Left (reference_place join.Left ss) ss s xs
+one_query p join.Cross ss s xs = cross_query p ss s xs
+one_query p join.Full ss s xs = []

@@ -1,17 +1,18 @@
 // The queries of joins, over the tables of the operands.
-ghost use Rattle.std.specs.Prelude.{◌≡◌, ◌<◌, ◌++◌, [], length, map, slice_get, IfOk, OnOk};
+ghost use Rattle.std.specs.Prelude.{◌≡◌, ◌<◌, ◌++◌, [], length, map, slice_get, true, IfOk, OnOk};
 ghost use Rattle.vtl_tree.specs.Shown.{shown};
 ghost use Rattle.sql_tree.specs.View.{join_tree, query_tree};
-ghost use Rattle.vtl_to_sql.specs.JoinItems.{aliased_of, crossed_query, crossed_with, joined_query, joined_values, joined_with, picked_column, referred_query};
+ghost use Rattle.vtl_to_sql.specs.JoinItems.{aliased_of, crossed_query, crossed_with, joined_query, joined_values, is_one_query, joined_with, one_query, picked_column, referred_query};
 ghost use Rattle.vtl_to_sql.specs.Joins.{cross_query, reference_query, without};
 ghost use Rattle.vtl_to_sql.specs.Queries.{source_as};
 
 use crate::join_items::{Picked, all_tied, named_items, push_columns, push_roles};
-use crate::join_operands::{Aliased, common_identifiers, with_aliases};
+use crate::join_operands::{Aliased, common_identifiers, reference_place, with_aliases};
 use crate::writer::Writer;
 use sql_tree::{Join, JoinKind, Query, Select, Source};
 use std::alloc::{AllocError, Global};
 use vtl_cell::{List, Txt};
+use vtl_syntax::JoinKind as JoinOf;
 use vtl_tree::{Role, Structure};
 
 // No query, where a join has no operand to begin with.
@@ -140,8 +141,15 @@ fn referred_query(
     joined_query(alloc, &picked, s, reference, joins)
 }
 
-/// `inner_join` and `left_join`: each other operand joined with the one at a place. It fails only if memory runs out.
-pub(crate) fn reference_query(
+/// Whether a join of this kind is one query over its operands.
+pub(crate) fn is_one_query(kind: JoinOf) -> bool
+    ensures { result ≡ is_one_query kind }
+{
+    !matches!(kind, JoinOf::Full)
+}
+
+// `inner_join` and `left_join`: each other operand joined with the one at a place.
+fn reference_query(
     alloc: Global,
     writer: &Writer,
     kind: JoinKind,
@@ -186,8 +194,8 @@ fn crossed_query(
     joined_query(alloc, &picked, s, first, joins)
 }
 
-/// `cross_join`: each point with each. It fails only if memory runs out.
-pub(crate) fn cross_query(
+// `cross_join`: each point with each.
+fn cross_query(
     alloc: Global,
     writer: &Writer,
     structures: &[&Structure],
@@ -199,4 +207,30 @@ pub(crate) fn cross_query(
 {
     let operands = with_aliases(alloc, writer, 0, structures, tables)?;
     crossed_query(alloc, &operands, s)
+}
+
+/// A join that is one query over its operands. It fails only if memory runs out.
+pub(crate) fn join_query(
+    alloc: Global,
+    writer: &Writer,
+    kind: JoinOf,
+    structures: &[&Structure],
+    tables: &[Txt],
+    s: &Structure,
+) -> Result<Query, AllocError>
+    requires kind { is_one_query kind ≡ true }
+    requires many { length tables.now ≡ length structures.now }
+    ensures { IfOk result (λ q. query_tree q ≡ one_query writer.now kind (shown structures.now) s.now tables.now) }
+{
+    let place = reference_place(kind, structures);
+    match kind {
+        JoinOf::Inner => {
+            reference_query(alloc, writer, JoinKind::Inner, place, structures, tables, s)
+        }
+        JoinOf::Left => {
+            reference_query(alloc, writer, JoinKind::Left, place, structures, tables, s)
+        }
+        JoinOf::Cross => cross_query(alloc, writer, structures, tables, s),
+        JoinOf::Full => unreachable!(),
+    }
 }
