@@ -112,7 +112,7 @@ module _ (p : Settings) (r : Text) (word : is_word r ≡ true) where
 
   -- ---- a query over operands
 
-  over_gives : (before : Data) (n : ℕ) (os : Sources) (q : List Text → QueryTree) (s : Structure) (v : Outcome (List DataSet)) (F : List DataSet → Outcome (List Row)) → SourcesGive p before r n os v
+  pub over_gives : (before : Data) (n : ℕ) (os : Sources) (q : List Text → QueryTree) (s : Structure) (v : Outcome (List DataSet)) (F : List DataSet → Outcome (List Row)) → SourcesGive p before r n os v
       → ((now : Data) (ds : List DataSet) → v ≡ Ok ds → AreThere now os.names ds → Means p now (q os.names) s (F ds)) → NodeGives p before r n (over os q) s (after v F)
   over_gives before n os q s (Err f) F g h = λ name e. run_stops p before os.tables (table_of name (q os.names) ∷ []) (f, r) g
   over_gives before n os q s (Ok ds) F g h = go (F ds) (h (before ++ g.0.more) ds refl g.1)

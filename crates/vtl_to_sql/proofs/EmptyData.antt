@@ -14,15 +14,17 @@ use Rattle.vtl_tree.specs.Structures.{Named}
 use Rattle.vtl_tree.specs.declared.structure.Structure.{Structure}
 use Rattle.vtl_tuples.specs.Keys.{each_once}
 use Rattle.check_shapes.specs.Pairs.{contains}
-use Rattle.vtl_meaning.specs.Meaning.{AreDataSets, Outputs, Statement, form_value, kept_output, known_in, meaning, node_value, nodes_value, points_named, stated, with_first, with_operand}
+use Rattle.vtl_meaning.specs.Joined.{join_of}
+use Rattle.vtl_meaning.specs.Meaning.{AreDataSets, operands_value, Outputs, Statement, form_value, kept_output, known_in, meaning, node_value, nodes_value, points_named, stated, with_first, with_operand}
 use Rattle.vtl_meaning.specs.Operators.{calculated_of, choice_of, left_of, measured_of, pair_exps, pair_of, sub_of}
 use Rattle.vtl_meaning.specs.Points.{each_point, with_points}
 use Rattle.vtl_meaning.specs.Sets.{all_left_of, difference_of, intersection_of, symmetric_difference_of, union_of, existence_of}
 use Rattle.vtl_meaning.specs.Turned.{pivot_of, unpivot_of}
 use Rattle.vtl_meaning.specs.Trees as nodes
-use Rattle.vtl_meaning.specs.Trees.{FormTree, NodeTree, NodeTrees, structure_of}
-use Rattle.vtl_to_sql.specs.Conditions.{AreNodesTranslated, IsFormTranslated, IsTranslated}
+use Rattle.vtl_meaning.specs.Trees.{FormTree, NodeTree, NodeTrees, OperandTrees, structure_of}
+use Rattle.vtl_to_sql.specs.Conditions.{AreNodesTranslated, AreOperandsTranslated, IsFormTranslated, IsTranslated}
 use Rattle.vtl_to_sql.specs.Exports.{AreRead}
+use Rattle.vtl_to_sql.proofs.EmptyJoins.{empty_joined, joined_empty, none_joined}
 
 abbrev pub AreEmpty : Environment → Type 0
 AreEmpty env = AllByRecursion (λ d. d.1.points ≡ []) env
@@ -103,6 +105,7 @@ module _ (p : Settings) (env : Environment) (h : AreEmpty env) where
     form_empty s (nodes.drop_named a ns) c = ap (λ v. with_operand a v (λ d. Ok (left_of d s))) (node_empty a c)
     form_empty s (nodes.rename a pairs) c = node_empty a c
     form_empty s (nodes.sub a items) c = ap (λ v. with_operand a v (λ d. Ok (sub_of items d s))) (node_empty a c.0)
+    form_empty s (nodes.join os spec) c = ap (λ o. after o (λ ds. Ok (join_of spec.kind ds))) (operands_empty os c.0) ∙ ap Ok (none_joined spec.kind (empty_joined os) (joined_empty os))
     form_empty s (nodes.union ns) c = ap (λ o. after o (λ ds. Ok (union_of ds s))) (nodes_empty ns c) ∙ ap (λ l. Ok (each_once (same_key (key_width s)) l)) (no_points ns s)
     form_empty s (nodes.intersect ns) c = ap (λ o. after o (λ ds. Ok (intersection_of ds s))) (nodes_empty ns c) ∙ no_common ns s
     form_empty s (nodes.set_diff a b) c =
@@ -121,6 +124,10 @@ module _ (p : Settings) (env : Environment) (h : AreEmpty env) where
     nodes_empty : (ns : NodeTrees) → AreNodesTranslated p ns → nodes_value p env ns ≡ Ok (empty_operands ns)
     nodes_empty nodes.no_nodes c = refl
     nodes_empty (nodes.and_node n ns) c = ap (λ v. with_first n v (nodes_value p env ns)) (node_empty n c.0) ∙ ap (with_first n (Ok [])) (nodes_empty ns c.1)
+
+    operands_empty : (os : OperandTrees) → AreOperandsTranslated p os → operands_value p env os ≡ Ok (empty_joined os)
+    operands_empty nodes.no_operands c = refl
+    operands_empty (nodes.operand n alias os) c = ap (λ v. with_first n v (operands_value p env os)) (node_empty n c.0) ∙ ap (with_first n (Ok [])) (operands_empty os c.1)
 
 -- ---- statements
 

@@ -87,7 +87,7 @@ pub own_there : (t : Structure) → IsStructure t → AreIdentifiersAt (columns_
 own_there t w = identifiers_there t w (identifiers_of t) (own_identifiers t w)
 
 -- there are not more of them than components
-fewer : {X : Type 0} (p : X → Bool) (xs : List X) → length (filter p xs) ≤ length xs
+pub fewer : {X : Type 0} (p : X → Bool) (xs : List X) → length (filter p xs) ≤ length xs
 fewer p [] = omega arith
 fewer p (x ∷ xs) = go (p x) (fewer p xs)
   where

@@ -6,6 +6,7 @@ use Rattle.std.proofs.Common.{◌≡◌, ◌+◌, ◌<◌, ◌^◌, ℕ, true, �
 use Rattle.std.specs.Prelude.{fold}
 use Rattle.std.specs.List.{AllByRecursion}
 use Rattle.std.proofs.lemmas.Bool.{and_from}
+use Rattle.std.proofs.lemmas.List.{length-map}
 use Rattle.vtl_cell.specs.Outcome.{Outcome, after}
 use Rattle.vtl_cell.specs.Row.{Row}
 use Rattle.vtl_cell.specs.Settings.{Settings}
@@ -17,27 +18,28 @@ use Rattle.vtl_tree.specs.Environment.{DataSet, Environment}
 use Rattle.vtl_tree.specs.Structure.{columns_of, IsStructure, key_width}
 use Rattle.vtl_tree.specs.declared.structure.Structure.{Structure}
 use Rattle.vtl_meaning.specs.Columns.{identifiers_of, measures_of, others_of, places_in}
-use Rattle.vtl_meaning.specs.Made.{AreMade, IsAlternative, IsLeft, IsMade, IsMadeForm, node_structures}
-use Rattle.vtl_meaning.specs.Meaning.{AreDataSets, are_nodes_built, form_value, is_built, is_built_form, known_in, node_value, nodes_value, points_named, with_first}
+use Rattle.check_joins.specs.Joins as joins
+use Rattle.vtl_meaning.specs.Made.{AreMade, AreMadeOperands, IsAlternative, IsLeft, IsMade, IsMadeForm, node_structures, operands_in}
+use Rattle.vtl_meaning.specs.Meaning.{AreDataSets, are_nodes_built, are_operands_built, operands_value, form_value, is_built, is_built_form, known_in, node_value, nodes_value, points_named, with_first}
 use Rattle.vtl_meaning.specs.Operators.{calculated_exps, calculated_of, choice_of, left_of, measured_exps, measured_of, pair_of, sub_of}
 use Rattle.vtl_meaning.specs.Points.{with_points}
 use Rattle.vtl_meaning.specs.Sets.{all_left_of, either_only, intersected, intersection_of, reduced, union_of, united, existence_of}
 use Rattle.vtl_meaning.specs.Shapes.{IsShaped}
 use Rattle.vtl_meaning.specs.Trees as nodes
-use Rattle.vtl_meaning.specs.Trees.{FormTree, NodeTree, NodeTrees, structure_of}
+use Rattle.vtl_meaning.specs.Trees.{FormTree, NodeTree, NodeTrees, OperandTrees, structure_of}
 use Rattle.vtl_meaning.specs.Turned.{pivot_of, unpivot_of}
 use Rattle.vtl_meaning.proofs.Orders.{choice_respects, each_respects, filtered_respects, pair_respects, shown_respects, sub_respects}
 use Rattle.vtl_meaning.proofs.OwnColumns.{own_identifiers, own_measures}
 use Rattle.vtl_meaning.proofs.Places.{all_front, all_more, columns_split}
-use Rattle.vtl_meaning.proofs.ScriptsKept.{node_kept}
+use Rattle.vtl_meaning.proofs.ScriptsKept.{node_kept, operands_kept}
 use Rattle.vtl_meaning.proofs.SetsFolds.{each_own, own_cells}
 use Rattle.vtl_meaning.proofs.SetsKept.{shown_kept}
 use Rattle.sql_tree.specs.Trees.{QueryTree, Text}
 use Rattle.sql_meaning.specs.Scripts.{Data}
-use Rattle.vtl_to_sql.specs.Conditions.{AreNodesTranslated, HaveNames, IsFormTranslated, IsTranslated}
+use Rattle.vtl_to_sql.specs.Conditions.{AreNodesTranslated, AreOperandsTranslated, HaveNames, IsFormTranslated, IsTranslated}
 use Rattle.vtl_to_sql.specs.Means.{AreEarlier, Means, NodeGives, SourcesGive, Stands, StandsAs, Extends}
 use Rattle.vtl_to_sql.specs.Queries.{calc_query, choose_query, copy_query, filter_query, left_query, measures_query, pair_query, rename_query, shown_query, sub_query, union_query, intersection_query, difference_query, symmetric_difference_query, existence_query}
-use Rattle.vtl_to_sql.specs.Tables.{Sources, and_then, combined_of, made_of, made_of_form, numbered, over, source_of, sources_of, table_of, with_one, with_two, stored}
+use Rattle.vtl_to_sql.specs.Tables.{Sources, and_then, combined_of, made_of, made_of_form, numbered, operands_of, over, source_of, sources_of, table_of, with_one, with_two, stored}
 use Rattle.vtl_meaning.proofs.TurnedOrders.{pivot_order, unpivot_order}
 use Rattle.vtl_to_sql.specs.Turned.{pivot_query, unpivot_query}
 use Rattle.vtl_to_sql.proofs.Choices.{choose_means}
@@ -48,6 +50,7 @@ use Rattle.vtl_to_sql.proofs.OneOperand.{calc_means, copy_means, filter_means, l
 use Rattle.vtl_to_sql.proofs.SetQueries.{IsShown, shown_means}
 use Rattle.vtl_to_sql.proofs.SetSteps.{IsStep, difference_step, intersection_step, intersections_fold, symmetric_difference_step, union_step, unions_fold}
 use Rattle.vtl_to_sql.proofs.Givens.{AreGiven, columns_given}
+use Rattle.vtl_to_sql.proofs.Joins.{join_gives, operands_first}
 use Rattle.vtl_to_sql.proofs.Pivots.{pivot_means}
 use Rattle.vtl_to_sql.proofs.Subs.{sub_means}
 use Rattle.vtl_to_sql.proofs.TwoOperands.{pair_means}
@@ -74,6 +77,7 @@ mutual
   form_built p s (nodes.drop_named a ns) c = translated_built p a c
   form_built p s (nodes.rename a pairs) c = translated_built p a c
   form_built p s (nodes.sub a items) c = translated_built p a c.0
+  form_built p s (nodes.join os spec) c = operands_built p os c.0
   form_built p s (nodes.union ns) c = nodes_built p ns c
   form_built p s (nodes.intersect ns) c = nodes_built p ns c
   form_built p s (nodes.set_diff a b) c = and_from (is_built a) (is_built b) (translated_built p a c.0) (translated_built p b c.1)
@@ -87,8 +91,14 @@ mutual
   nodes_built p nodes.no_nodes c = refl
   nodes_built p (nodes.and_node n ns) c = and_from (is_built n) (are_nodes_built ns) (translated_built p n c.0) (nodes_built p ns c.1)
 
-shaped_in : (p : Settings) (env : Environment) (n : NodeTree) → IsMade p (known_in env) n → IsShaped (structure_of n)
-shaped_in p env (nodes.node s form) i = i.0
+  operands_built : (p : Settings) (os : OperandTrees) → AreOperandsTranslated p os → are_operands_built os ≡ true
+  operands_built p nodes.no_operands c = refl
+  operands_built p (nodes.operand n alias os) c = and_from (is_built n) (are_operands_built os) (translated_built p n c.0) (operands_built p os c.1)
+
+-- the columns of each operand have names
+operands_named : (p : Settings) (os : OperandTrees) → AreOperandsTranslated p os → AllByRecursion (λ a. HaveNames (columns_of a)) (joins.structures_of (operands_in os))
+operands_named p nodes.no_operands c = tt
+operands_named p (nodes.operand n alias os) c = (names_in p n c.0, operands_named p os c.1)
 
 after_ok_is : (v : Outcome (List Row)) → after v (λ d. Ok d) ≡ v
 after_ok_is (Ok d) = refl
@@ -149,6 +159,11 @@ front_stays p r q s (nodes.and_node b (nodes.and_node c ns)) a os =
     omega (arith, length-append os.tables (sources_of p r b os.next).tables, length-append both.tables (table_of (numbered r both.next) both.query ∷ []), front_stays p r q s (nodes.and_node c ns) s (stored r both))
 
 module _ (p : Settings) (law : Translates p) (r : Text) (word : is_word r ≡ true) (env : Environment) (sets : AreDataSets env) where
+  -- one operand and others
+  together_is : (a : Structure) (v : Outcome (List Row)) (w : Outcome (List DataSet)) → together p r word (alone p r word a v) w ≡ after v (λ points. after w (λ ds. Ok (with_points a points ∷ ds)))
+  together_is a (Ok d) w = refl
+  together_is a (Err f) w = refl
+
   -- an operand by its name, or by a table of its own
   source_gives : (before : Data) (n : ℕ) (s : Structure) (form : FormTree) → Stands before env → AreEarlier r n before → IsMadeForm p (known_in env) s form → n + length (source_of r form n (made_of_form p r s form n)).tables < 2 ^ 64
       → ((n + length (made_of_form p r s form n).tables < 2 ^ 64) → NodeGives p before r n (made_of_form p r s form n) s (form_value p env s form)) → SourcesGive p before r n (source_of r form n (made_of_form p r s form n)) (alone p r word s (form_value p env s form))
@@ -320,7 +335,25 @@ module _ (p : Settings) (law : Translates p) (r : Text) (word : is_word r ≡ tr
         one_gives p r word before m (sources_of p r a m) (unpivot_query p (structure_of a) s) (structure_of a) s (node_value p env a) (λ d. Ok (unpivot_of (with_points (structure_of a) d))) (operand_gives a m before stands apart i.0 c few)
         (λ now x d is st. means_turned p now (unpivot_query p (structure_of a) s x) s (unpivot_of (with_points (structure_of a) st.rows)) (unpivot_of (with_points (structure_of a) d)) (unpivot_order (structure_of a) st.rows d st.same)
         (unpivot_means p law now x (structure_of a) s st.rows st.table st.named (names_in p a c) (set_of a now x d c i.0 is st) id q i.1 (columns_given s w n)))
+    form_gives s (nodes.join os spec) m before stands apart w i n c few =
+        let ss = joins.structures_of (operands_in os) in
+        let sources = operands_of p r os m in
+        let size = length-map (operands_in os) (λ o. o.structure) in
+        let many = c.1 in
+        join_gives p law r word s (columns_given s w n) ss (operands_named p os c.0) (omega (arith, many, size)) spec.kind i.1 before m sources (operands_value p env os) (λ ds is. operands_kept p env os ds (operands_built p os c.0) i.0 sets is) apart few
+        (operands_give os m before stands apart i.0 c.0 (omega (arith, few, operands_first p r spec.kind ss s sources)))
     form_gives s other m before stands apart w i n c few = absurd c
+
+    -- the operands of a join
+    operands_give : (os : OperandTrees) (m : ℕ) (before : Data) → Stands before env → AreEarlier r m before → AreMadeOperands p (known_in env) os → AreOperandsTranslated p os → m + length (operands_of p r os m).tables < 2 ^ 64 → SourcesGive p before r m (operands_of p r os m) (operands_value p env os)
+    operands_give nodes.no_operands m before stands apart i c few = (no_tables p r word before m, tt)
+    operands_give (nodes.operand a alias os) m before stands apart i c few =
+        let first = sources_of p r a m in
+        let rest = operands_of p r os first.next in
+        let size = length-append first.tables rest.tables in
+        subst (SourcesGive p before r m (and_then first (operands_of p r os))) (together_is (structure_of a) (node_value p env a) (operands_value p env os))
+        (beside_gives p r word before m first (operands_of p r os) (alone p r word (structure_of a) (node_value p env a)) (operands_value p env os) (operand_gives a m before stands apart i.0 c.0 (omega (arith, few, size)))
+        (λ x. operands_give os first.next (before ++ x.more) (all_stand_still before x.more env stands) (all_earlier p r word m first.next before x.more (omega (arith, x.counted)) apart x.new) i.1 c.1 (omega (arith, few, x.counted, size))))
 
     -- operands one after the other
     combined_gives : (ns : NodeTrees) (q : Structure → Structure → Text → Text → QueryTree) (rows : List Row → List Row → List Row) (s : Structure) → IsStep p s q rows → AreGiven (columns_of s) → HaveNames (columns_of s) → (a : Structure) (os : Sources) (v : Outcome (List Row)) (m : ℕ) (before : Data) → Stands before env → AreEarlier r m before → IsShown a s → HaveNames (columns_of a)

@@ -71,7 +71,7 @@ matches test x key w (q ∷ e) all apart = go (same_row (take w q) key) refl (ma
         ∙ ap (λ l. (x ++ q) ∷ l) (ih ∙ ap (λ o. option_to_list (option_map (λ z. x ++ z) o)) none)
     go false h ih = ap (λ t. map (λ z. x ++ z) (cond t (q ∷ filter test e) (filter test e))) (all.0 ∙ h) ∙ ih
 
-same_pieces : {X Y : Type 0} (P : X → Type 0) (f g : X → List Y) → ((x : X) → P x → f x ≡ g x) → (xs : List X) → AllByRecursion P xs → flat_map f xs ≡ flat_map g xs
+pub same_pieces : {X Y : Type 0} (P : X → Type 0) (f g : X → List Y) → ((x : X) → P x → f x ≡ g x) → (xs : List X) → AllByRecursion P xs → flat_map f xs ≡ flat_map g xs
 same_pieces P f g h [] all = refl
 same_pieces P f g h (x ∷ xs) all = ap (λ l. l ++ flat_map f xs) (h x all.0) ∙ ap (λ l. g x ++ l) (same_pieces P f g h xs all.1)
 
@@ -79,7 +79,7 @@ no_fault_on : (f : Row → Option Fault) (x : Row) (e more : List Row) → AllBy
 no_fault_on f x [] more all = refl
 no_fault_on f x (q ∷ e) more all = ap (λ o. join o (faults_by f (map (λ z. x ++ z) e ++ more))) all.0 ∙ no_fault_on f x e more all.1
 
-no_faults : (P : Row → Type 0) (f : Row → Option Fault) (d e : List Row) → ((x : Row) → P x → AllByRecursion (λ q. f (x ++ q) ≡ None) e) → AllByRecursion P d → faults_by f (pairs d e) ≡ None
+pub no_faults : (P : Row → Type 0) (f : Row → Option Fault) (d e : List Row) → ((x : Row) → P x → AllByRecursion (λ q. f (x ++ q) ≡ None) e) → AllByRecursion P d → faults_by f (pairs d e) ≡ None
 no_faults P f [] e h all = refl
 no_faults P f (x ∷ d) e h all = no_fault_on f x e (pairs d e) (h x all.0) ∙ no_faults P f d e h all.1
 
@@ -89,7 +89,7 @@ pub column_later : (place : ℕ) (name : List ℕ) (kind : Kind) (xs ys : List C
 column_later place name kind [] ys i = let same : place ≡ 0 + place = omega arith in subst (λ n. IsColumnAt n name kind ys) same i
 column_later place name kind (x ∷ xs) ys i = let same : suc (length xs + place) ≡ length (x ∷ xs) + place = omega arith in subst (λ n. IsColumnAt n name kind (x ∷ xs ++ ys)) same (column_later place name kind xs ys i)
 
-same_cells : (xs ys zs : List Component) (r q : Row) → list_all (λ z. same_cell (column_of (place_of z.name ys) q) (column_of (place_of z.name xs) r)) zs ≡ same_row (cells_at (places_in ys zs) q) (cells_at (places_in xs zs) r)
+pub same_cells : (xs ys zs : List Component) (r q : Row) → list_all (λ z. same_cell (column_of (place_of z.name ys) q) (column_of (place_of z.name xs) r)) zs ≡ same_row (cells_at (places_in ys zs) q) (cells_at (places_in xs zs) r)
 same_cells xs ys [] r q = refl
 same_cells xs ys (z ∷ zs) r q = ap (λ b. same_cell (column_of (place_of z.name ys) q) (column_of (place_of z.name xs) r) && b) (same_cells xs ys zs r q)
 

@@ -78,11 +78,11 @@ use Rattle.vtl_to_sql.proofs.Unions.{one_exactly}
 
 -- ---- names
 
-among_names : (name : Text) (zs : List Component) → list_any (same_text name) (names_of zs) ≡ list_any (λ z. same_name z.name name) zs
+pub among_names : (name : Text) (zs : List Component) → list_any (same_text name) (names_of zs) ≡ list_any (λ z. same_name z.name name) zs
 among_names name [] = refl
 among_names name (z ∷ zs) = ap (λ b. b || list_any (same_text name) (names_of zs)) (same_name-sym name z.name) ∙ ap (λ b. same_name z.name name || b) (among_names name zs)
 
-place_by_names : (name : Text) (zs : List Component) → position_or_len (same_text name) (names_of zs) ≡ place_of name zs
+pub place_by_names : (name : Text) (zs : List Component) → position_or_len (same_text name) (names_of zs) ≡ place_of name zs
 place_by_names name [] = refl
 place_by_names name (z ∷ zs) = ap (λ b. cond (not b) (1 + position_or_len (same_text name) (names_of zs)) 0) (same_name-sym name z.name) ∙ ap (λ n. cond (not (same_name z.name name)) (1 + n) 0) (place_by_names name zs)
 

@@ -1,4 +1,7 @@
 -- The tables of the inputs stand for the data sets that are read.
+use Rattle.vtl_meaning.proofs.SetsFolds.{filter_once}
+use Rattle.std.proofs.lemmas.List.Elements.{filter-append}
+use Rattle.std.proofs.lemmas.List.{map-append}
 use Rattle.std.proofs.Common.{◌≡◌, ℕ, Bool, true, false, not, ◌||◌, cond, List, [], ◌∷◌, ◌++◌, map, Some, refl, ap, sym, ◌∙◌, subst, append_assoc, append-nil, true≢false}
 use Rattle.std.specs.List.{AllByRecursion, filter}
 use Rattle.std.specs.Map.{lookup}
@@ -18,7 +21,7 @@ use Rattle.sql_tree.specs.Formed.{IsName}
 use Rattle.sql_tree.specs.Trees.{Text}
 use Rattle.sql_tree.specs.declared.statements.InputColumn.{InputColumn}
 use Rattle.sql_check_parts.specs.Scopes.{is_among}
-use Rattle.sql_check_parts.specs.Statements.{column_entry, input_columns, is_of_key}
+use Rattle.sql_check_parts.specs.Statements.{column_entry, in_table_order, input_columns, is_of_key}
 use Rattle.sql_meaning.specs.Scripts.{Inputs, input_table, rows_read}
 use Rattle.vtl_to_sql.specs.Exports.{AreRead, tables_read}
 use Rattle.vtl_to_sql.specs.Means.{Stands, StandsAs}
@@ -33,26 +36,10 @@ entries_are : (xs : List Component) → map column_entry (map input_column xs) �
 entries_are [] = refl
 entries_are (x ∷ xs) = ap (λ l. (x.name, x.kind) ∷ l) (entries_are xs)
 
--- lists in which a test passes each item, or none
-kept_all : {X : Type 0} (p : X → Bool) (xs : List X) → AllByRecursion (λ x. p x ≡ true) xs → filter p xs ≡ xs
-kept_all p [] all = refl
-kept_all p (x ∷ xs) all = ap (λ b. cond b (x ∷ filter p xs) (filter p xs)) all.0 ∙ ap (λ l. x ∷ l) (kept_all p xs all.1)
-
+-- a test that passes no item leaves none
 kept_none : {X : Type 0} (p : X → Bool) (xs : List X) → AllByRecursion (λ x. p x ≡ false) xs → filter p xs ≡ []
 kept_none p [] all = refl
 kept_none p (x ∷ xs) all = ap (λ b. cond b (x ∷ filter p xs) (filter p xs)) all.0 ∙ kept_none p xs all.1
-
-filter-append : {X : Type 0} (p : X → Bool) (xs ys : List X) → filter p (xs ++ ys) ≡ filter p xs ++ filter p ys
-filter-append p [] ys = refl
-filter-append p (x ∷ xs) ys = go (p x) (filter-append p xs ys)
-  where
-    go : (b : Bool) → filter p (xs ++ ys) ≡ filter p xs ++ filter p ys → cond b (x ∷ filter p (xs ++ ys)) (filter p (xs ++ ys)) ≡ cond b (x ∷ filter p xs) (filter p xs) ++ filter p ys
-    go true ih = ap (λ l. x ∷ l) ih
-    go false ih = ih
-
-columns-append : (xs ys : List Component) → map input_column (xs ++ ys) ≡ map input_column xs ++ map input_column ys
-columns-append [] ys = refl
-columns-append (x ∷ xs) ys = ap (λ l. input_column x ∷ l) (columns-append xs ys)
 
 own_true : (b : Bool) → b ≡ true → (c : Bool) → (b || c) ≡ true
 own_true true e c = refl
@@ -92,26 +79,50 @@ turned : (P Q : InputColumn → Bool) (xs : List InputColumn) (b c : Bool) → (
 turned P Q [] b c f h = tt
 turned P Q (x ∷ xs) b c f h = (f x h.0, turned P Q xs b c f h.1)
 
-pub columns_read : (e : List ℕ × Structure) → IsStructure e.1 → input_columns (input_of e) ≡ entries (columns_of e.1)
-columns_read e w =
-    let s = e.1 in
-    let key = names_of (identifiers_of s) in
-    let ids = map input_column (identifiers_of s) in
-    let rest = map input_column (others_of s) in
-    let inside = all_among [] (identifiers_of s) in
-    let outside = none_among (identifiers_of s) (others_of s) (subst AreApart (columns_split s) (columns_apart s w)) in
-    let cols : map input_column (columns_of s) ≡ ids ++ rest = ap (map input_column) (columns_split s) ∙ columns-append (identifiers_of s) (others_of s) in
-    let first : filter (is_of_key key) (ids ++ rest) ≡ ids = filter-append (is_of_key key) ids rest ∙ ap (λ l. l ++ filter (is_of_key key) rest) (kept_all (is_of_key key) ids inside) ∙ ap (λ l. ids ++ l) (kept_none (is_of_key key) rest outside) ∙ append-nil ids in
-    let second : filter (λ x. not (is_of_key key x)) (ids ++ rest) ≡ rest =
-    filter-append (λ x. not (is_of_key key x)) ids rest
-    ∙ ap (λ l. l ++ filter (λ x. not (is_of_key key x)) rest) (kept_none (λ x. not (is_of_key key x)) ids (turned (is_of_key key) (λ x. not (is_of_key key x)) ids true false (λ x h. ap not h) inside))
-    ∙ kept_all (λ x. not (is_of_key key x)) rest (turned (is_of_key key) (λ x. not (is_of_key key x)) rest false true (λ x h. ap not h) outside) in
-    ap (λ cs. map column_entry (filter (is_of_key key) cs ++ filter (λ x. not (is_of_key key x)) cs)) cols
-    ∙ ap (λ l. map column_entry (l ++ filter (λ x. not (is_of_key key x)) (ids ++ rest))) first
-    ∙ ap (λ l. map column_entry (ids ++ l)) second
-    ∙ ap (map column_entry) (sym (columns-append (identifiers_of s) (others_of s)))
-    ∙ ap (λ xs. map column_entry (map input_column xs)) (sym (columns_split s))
-    ∙ entries_are (columns_of s)
+module _ (e : List ℕ × Structure) (w : IsStructure e.1) where
+  abbrev s : Structure
+  s = e.1
+
+  abbrev key : List Text
+  key = names_of (identifiers_of s)
+
+  abbrev is_key : InputColumn → Bool
+  is_key = is_of_key key
+
+  abbrev is_rest : InputColumn → Bool
+  is_rest x = not (is_key x)
+
+  abbrev ids : List InputColumn
+  ids = map input_column (identifiers_of s)
+
+  abbrev rest : List InputColumn
+  rest = map input_column (others_of s)
+
+  inside : AllByRecursion (λ x. is_key x ≡ true) ids
+  inside = all_among [] (identifiers_of s)
+
+  outside : AllByRecursion (λ x. is_key x ≡ false) rest
+  outside = none_among (identifiers_of s) (others_of s) (subst AreApart (columns_split s) (columns_apart s w))
+
+  both : map input_column (columns_of s) ≡ ids ++ rest
+  both = ap (map input_column) (columns_split s) ∙ map-append input_column (identifiers_of s) (others_of s)
+
+  -- the identifiers are those of the key
+  pub key_read : filter is_key (map input_column (columns_of s)) ≡ ids
+  key_read = ap (filter is_key) both ∙ filter-append is_key ids rest ∙ ap (λ l. l ++ filter is_key rest) (filter_once is_key ids inside) ∙ ap (λ l. ids ++ l) (kept_none is_key rest outside) ∙ append-nil ids
+
+  rest_read : filter is_rest (map input_column (columns_of s)) ≡ rest
+  rest_read =
+      ap (filter is_rest) both
+      ∙ filter-append is_rest ids rest
+      ∙ ap (λ l. l ++ filter is_rest rest) (kept_none is_rest ids (turned is_key is_rest ids true false (λ x h. ap not h) inside))
+      ∙ filter_once is_rest rest (turned is_key is_rest rest false true (λ x h. ap not h) outside)
+
+  pub order_read : in_table_order key (map input_column (columns_of s)) ≡ map input_column (columns_of s)
+  order_read = ap (λ l. l ++ filter is_rest (map input_column (columns_of s))) key_read ∙ ap (λ l. ids ++ l) rest_read ∙ sym both
+
+  pub columns_read : input_columns (input_of e) ≡ entries (columns_of s)
+  columns_read = ap (map column_entry) order_read ∙ entries_are (columns_of s)
 
 -- ---- the tables
 

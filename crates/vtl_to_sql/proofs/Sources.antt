@@ -71,7 +71,7 @@ abbrev pub two_scope : List Component → List Component → Scope
 two_scope xs ys = (first_alias, entries xs) ∷ (second_alias, entries ys) ∷ []
 
 -- a column of the first, or one of the second
-column_of_two : (xs ys : List Component) (place : ℕ) (name : List ℕ) (kind : Kind) (P : ℕ → Type 0)
+pub column_of_two : (xs ys : List Component) (place : ℕ) (name : List ℕ) (kind : Kind) (P : ℕ → Type 0)
     → ((i : ℕ) → i < length xs → IsColumnAt i name kind xs → P i) → ((j : ℕ) → IsColumnAt j name kind ys → P (length xs + j)) → IsColumnAt place name kind (xs ++ ys) → P place
 column_of_two [] ys place name kind P f g i = subst P (omega arith) (g place i)
 column_of_two (x ∷ xs) ys zero name kind P f g i = f zero (omega arith) i

@@ -6,7 +6,6 @@ use Rattle.vtl_cell.specs.declared.operator.ScalarOp.{ScalarOp}
 use Rattle.vtl_tree.specs.CompExp.{CompExp}
 use Rattle.vtl_tree.specs.DataSet.{IsDataSet}
 use Rattle.vtl_tree.specs.Structure.{columns_of}
-use Rattle.vtl_tree.specs.declared.structure.Component.{Component}
 use Rattle.vtl_tree.specs.declared.structure.Structure.{Structure}
 use Rattle.check_shapes.specs.Pairs.{contains}
 use Rattle.vtl_meaning.specs.Columns.{identifiers_of}
@@ -27,9 +26,6 @@ use Rattle.vtl_to_sql.proofs.Unions.{one_exactly}
 use Rattle.vtl_to_sql.proofs.Identifiers.{AreIdentifiersAt, contained_among, identifiers_there}
 
 module _ (p : Settings) (law : Translates p) (before : Data) (x y : Text) (a b s : Structure) (d e : List Row) (there : IsTable before x a d) (here : IsTable before y b e) (named : IsName x × IsName y) (na : HaveNames (columns_of a)) (nb : HaveNames (columns_of b)) (set : IsDataSet a d) (other : IsDataSet b e) (ours : AreIdentifiersAt (columns_of a) (identifiers_of b)) (es : List CompExp) (i : AreFor p (columns_of a ++ columns_of b) es (columns_of s)) (h : AllCanBeWritten es) where
-  abbrev both : List Component
-  both = columns_of a ++ columns_of b
-
   pub pairs_mean : AreGiven (columns_of s) → IsExactly p before (pairs_select p es a b s None x y ∷ []) s (each_point p es (paired (with_points a d) (with_points b e)))
   pairs_mean given =
       one_exactly p before s given (pairs_select p es a b s None x y) (each_point p es (paired (with_points a d) (with_points b e)))

@@ -64,21 +64,24 @@ component_parts x h =
 components_declarable : (s : Structure) → is_declarable s ≡ true → list_all is_declarable_component s.components ≡ true
 components_declarable s h = (and_parts (nat_le 1 (length s.components) && nat_le (length s.components) most_components && all_apart same_name (names_of s.components)) (list_all is_declarable_component s.components) h).1
 
+pub declared_shaped : (e : List ℕ × Structure) → is_declarable e.1 ≡ true → IsShaped e.1
+declared_shaped e h = (structures-shaped (e ∷ []) (record { declarable = and_from (is_declarable e.1) true h refl; distinct = refl })).0
+
+declared_each : (s : Structure) → is_declarable s ≡ true → AllByRecursion (λ x. is_declarable_component x ≡ true) s.components
+declared_each s h = passed_each is_declarable_component s.components (components_declarable s h)
+
+pub declared_coded : (s : Structure) → is_declarable s ≡ true → AllByRecursion (λ x. structures.codes_fit x ≡ true) (columns_of s)
+declared_coded s h = each_column (λ x. structures.codes_fit x ≡ true) s (all_more (λ x. is_declarable_component x ≡ true) (λ x. structures.codes_fit x ≡ true) (λ x i. (component_parts x i).1) s.components (declared_each s h))
+
+declared_named : (s : Structure) → is_declarable s ≡ true → HaveNames (columns_of s)
+declared_named s h = each_column (λ x. IsName x.name) s (all_more (λ x. is_declarable_component x ≡ true) (λ x. IsName x.name) (λ x i. component_is_name x.name (component_parts x i).0) s.components (declared_each s h))
+
 pub all_readable : (reads : Named) → AreReadable reads → AllByRecursion IsReadable reads
-all_readable reads h = go reads (passed_each is_declarable_entry reads h.structures.declarable) (structures-shaped reads h.structures) h.words
+all_readable reads h = go reads (passed_each is_declarable_entry reads h.structures.declarable) h.words
   where
-    go : (es : Named) → AllByRecursion (λ e. is_declarable_entry e ≡ true) es → AllByRecursion (λ e. IsShaped e.1) es → AllByRecursion (λ e. is_word e.0 ≡ true) es → AllByRecursion IsReadable es
-    go [] d s w = tt
-    go (e ∷ es) d s w =
-        let all = passed_each is_declarable_component e.1.components (components_declarable e.1 d.0) in (
-          record {
-            word = w.0;
-            shaped = s.0;
-            named = each_column (λ x. IsName x.name) e.1 (all_more (λ x. is_declarable_component x ≡ true) (λ x. IsName x.name) (λ x i. component_is_name x.name (component_parts x i).0) e.1.components all);
-            coded = each_column (λ x. structures.codes_fit x ≡ true) e.1 (all_more (λ x. is_declarable_component x ≡ true) (λ x. structures.codes_fit x ≡ true) (λ x i. (component_parts x i).1) e.1.components all);
-          },
-          go es d.1 s.1 w.1,
-        )
+    go : (es : Named) → AllByRecursion (λ e. is_declarable_entry e ≡ true) es → AllByRecursion (λ e. is_word e.0 ≡ true) es → AllByRecursion IsReadable es
+    go [] d w = tt
+    go (e ∷ es) d w = (record { word = w.0; shaped = declared_shaped e d.0; named = declared_named e.1 d.0; coded = declared_coded e.1 d.0 }, go es d.1 w.1)
 
 -- ---- columns by their names
 

@@ -14,11 +14,11 @@ use Rattle.vtl_tree.specs.Structures.{AreStructures, Named, has_name}
 use Rattle.vtl_tree.specs.declared.structure.Component.{Component}
 use Rattle.vtl_tree.specs.declared.structure.Structure.{Structure}
 use Rattle.vtl_meaning.specs.Columns.{identifiers_of, kind_named}
-use Rattle.vtl_meaning.specs.Made.{IsMade}
+use Rattle.vtl_meaning.specs.Made.{IsMade, operands_in}
 use Rattle.vtl_meaning.specs.Meaning.{Statement}
 use Rattle.vtl_meaning.specs.Operators.{calculated_exps, measured_exps, pair_exps}
 use Rattle.vtl_meaning.specs.Trees as nodes
-use Rattle.vtl_meaning.specs.Trees.{FormTree, NodeTree, NodeTrees, structure_of}
+use Rattle.vtl_meaning.specs.Trees.{FormTree, NodeTree, NodeTrees, OperandTrees, structure_of}
 use Rattle.vtl_meaning.specs.clauses.SubItem.{SubItem}
 use Rattle.sql_tree.specs.Formed.{IsName}
 use Rattle.check_laws.specs.Depths.{comp_depth}
@@ -66,6 +66,8 @@ abbrev mutual
   IsFormTranslated p s (nodes.drop_named a names) = IsTranslated p a
   IsFormTranslated p s (nodes.rename a pairs) = IsTranslated p a
   IsFormTranslated p s (nodes.sub a items) = IsTranslated p a × AllByRecursion (HasValue p) items × (length items ≤ most_components)
+  -- the operands can be numbered
+  IsFormTranslated p s (nodes.join os spec) = AreOperandsTranslated p os × (1 + length (operands_in os) < 2 ^ 64)
   IsFormTranslated p s (nodes.union ns) = AreNodesTranslated p ns
   IsFormTranslated p s (nodes.intersect ns) = AreNodesTranslated p ns
   IsFormTranslated p s (nodes.set_diff a b) = IsTranslated p a × IsTranslated p b
@@ -74,12 +76,16 @@ abbrev mutual
   -- codes are texts
   IsFormTranslated p s (nodes.pivot a id m) = IsTranslated p a × (kind_named id (identifiers_of (structure_of a)) ≡ k.Text)
   IsFormTranslated p s (nodes.unpivot a id m) = IsTranslated p a
-  -- the other forms are not translated yet
+  -- the other forms have no meaning yet
   IsFormTranslated p s other = ⊥
 
   pub AreNodesTranslated : Settings → NodeTrees → Type 0
   AreNodesTranslated p nodes.no_nodes = Unit {0}
   AreNodesTranslated p (nodes.and_node n ns) = IsTranslated p n × AreNodesTranslated p ns
+
+  pub AreOperandsTranslated : Settings → OperandTrees → Type 0
+  AreOperandsTranslated p nodes.no_operands = Unit {0}
+  AreOperandsTranslated p (nodes.operand n alias os) = IsTranslated p n × AreOperandsTranslated p os
 
 -- ---- statements
 

@@ -1,5 +1,7 @@
 pub mod Queries
+pub mod Joins
 pub mod Turned
+pub mod FullJoins
 pub mod Tables
 pub mod Scripts
 pub mod Runs
@@ -11,7 +13,9 @@ pub mod Reads
 pub mod Translated
 pub mod Exports
 pub mod Accepted
+pub mod JoinItems
 pub mod NamedItems
 pub mod TurnedItems
 pub mod Combined
 pub mod Existences
+pub mod Inputs

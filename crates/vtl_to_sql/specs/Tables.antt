@@ -5,11 +5,19 @@ use Rattle.std.specs.List.{flat_map}
 use Rattle.std.specs.Fmt.{decimal}
 use Rattle.vtl_cell.specs.Settings.{Settings}
 use Rattle.vtl_tree.specs.declared.structure.Structure.{Structure}
+use Rattle.vtl_syntax.specs.declared.word_groups.JoinKind.{JoinKind}
+use Rattle.vtl_syntax.specs.declared.word_groups.JoinKind.TheVariants as join
+use Rattle.check_joins.specs.Joins as joins
+use Rattle.vtl_meaning.specs.Joined.{reference_place}
+use Rattle.vtl_meaning.specs.Made.{operands_in}
 use Rattle.vtl_meaning.specs.Meaning.{Statement}
 use Rattle.vtl_meaning.specs.Trees as nodes
-use Rattle.vtl_meaning.specs.Trees.{FormTree, NodeTree, NodeTrees, structure_of}
+use Rattle.vtl_meaning.specs.Trees.{FormTree, NodeTree, NodeTrees, OperandTrees, structure_of}
 use Rattle.sql_tree.specs.Trees.{Text, QueryTree}
+use Rattle.sql_tree.specs.declared.word_groups.JoinKind.TheVariants as joining
 use Rattle.sql_meaning.specs.Scripts.{dollar}
+use Rattle.vtl_to_sql.specs.FullJoins.{full_query, key_structure, keys_query, once_query}
+use Rattle.vtl_to_sql.specs.Joins.{cross_query, reference_query}
 use Rattle.vtl_to_sql.specs.Queries.{calc_query, choose_query, copy_query, difference_query, filter_query, intersection_query, left_query, measures_query, pair_query, rename_query, shown_query, sub_query, symmetric_difference_query, union_query, existence_query}
 use Rattle.vtl_to_sql.specs.Turned.{pivot_query, unpivot_query}
 
@@ -77,6 +85,32 @@ with_three q names = []
 abbrev pub over : Sources → (List Text → QueryTree) → Made
 over os q = record { tables = os.tables; query = q os.names; next = os.next }
 
+-- by names of tables that there are
+abbrev pub by_names : List Text → ℕ → Sources
+by_names xs n = record { names = xs; tables = []; next = n }
+
+-- the names of operands, and of one behind them
+abbrev pub with_last : (List Text → Text → QueryTree) → List Text → QueryTree
+with_last q [] = []
+with_last q (x ∷ []) = q [] x
+with_last q (x ∷ y ∷ xs) = with_last (λ zs z. q (x ∷ zs) z) (y ∷ xs)
+
+-- ---- joins
+
+-- the identifiers of operands in a table of their own, and each tuple of them once in another one
+abbrev pub keys_of : Settings → (result : Text) → Structure → List Structure → List Text → ℕ → Sources
+keys_of p r a ss xs n = stored r (over (stored r (over (by_names xs n) (keys_query p a ss))) (with_one (once_query p (key_structure a))))
+
+abbrev pub full_made : Settings → (result : Text) → List Structure → Structure → Sources → Made
+full_made p r [] s os = over os (λ names. [])
+full_made p r (a ∷ ss) s os = over (and_then os (keys_of p r a (a ∷ ss) os.names)) (with_last (full_query p a (a ∷ ss) s))
+
+abbrev pub join_made : Settings → (result : Text) → JoinKind → List Structure → Structure → Sources → Made
+join_made p r join.Inner ss s os = over os (reference_query p joining.Inner (reference_place join.Inner ss) ss s)
+join_made p r join.Left ss s os = over os (reference_query p joining.Left (reference_place join.Left ss) ss s)
+join_made p r join.Cross ss s os = over os (cross_query p ss s)
+join_made p r join.Full ss s os = full_made p r ss s os
+
 -- ---- expressions
 
 abbrev mutual
@@ -99,6 +133,7 @@ abbrev mutual
   made_of_form p r s (nodes.drop_named a names) n = over (sources_of p r a n) (with_one (left_query p (structure_of a) s))
   made_of_form p r s (nodes.rename a pairs) n = over (sources_of p r a n) (with_one (rename_query p (structure_of a) s))
   made_of_form p r s (nodes.sub a items) n = over (sources_of p r a n) (with_one (sub_query p items (structure_of a) s))
+  made_of_form p r s (nodes.join os spec) n = join_made p r spec.kind (joins.structures_of (operands_in os)) s (operands_of p r os n)
   made_of_form p r s (nodes.union (nodes.and_node a ns)) n = combined_of p r (λ b c. union_query p b c s) s ns (structure_of a) (sources_of p r a n)
   made_of_form p r s (nodes.intersect (nodes.and_node a ns)) n = combined_of p r (λ b c. intersection_query p b c s) s ns (structure_of a) (sources_of p r a n)
   made_of_form p r s (nodes.set_diff a b) n = over (and_then (sources_of p r a n) (sources_of p r b)) (with_two (difference_query p (structure_of a) (structure_of b) s))
@@ -106,8 +141,13 @@ abbrev mutual
   made_of_form p r s (nodes.exists_in a b kept) n = over (and_then (sources_of p r a n) (sources_of p r b)) (with_two (existence_query p kept (structure_of a) (structure_of b) s))
   made_of_form p r s (nodes.pivot a id m) n = over (sources_of p r a n) (with_one (pivot_query p id m (structure_of a) s))
   made_of_form p r s (nodes.unpivot a id m) n = over (sources_of p r a n) (with_one (unpivot_query p (structure_of a) s))
-  -- no script that is translated holds another form yet
+  -- the other forms have no meaning yet, and no script that is translated holds one
   made_of_form p r s other n = record { tables = []; query = []; next = n }
+
+  -- all operands of a join
+  pub operands_of : Settings → (result : Text) → OperandTrees → ℕ → Sources
+  operands_of p r nodes.no_operands n = by_names [] n
+  operands_of p r (nodes.operand a alias os) n = and_then (sources_of p r a n) (operands_of p r os)
 
   -- operands one after the other: what there is and the next operand are in a table of their own, until the last operand comes
   pub combined_of : Settings → (result : Text) → (Structure → Structure → Text → Text → QueryTree) → Structure → NodeTrees → Structure → Sources → Made

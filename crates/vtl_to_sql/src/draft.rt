@@ -27,8 +27,8 @@ impl Drop for Draft {
     }
 }
 
-// The name of a table that is made for a result.
-fn numbered(alloc: Global, name: &Txt, number: u64) -> Result<Txt, AllocError>
+/// A name and a number, which are the name of a table that is made for a result. It fails only if memory runs out.
+pub(crate) fn numbered(alloc: Global, name: &Txt, number: u64) -> Result<Txt, AllocError>
     ensures { IfOk result (λ t. t ≡ numbered name.now number) }
 {
     let text = format!(in alloc; "{}${}", name.as_str(), number)?;

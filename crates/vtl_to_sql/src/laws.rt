@@ -1,10 +1,11 @@
 // Laws of translated scripts.
 ghost use Rattle.std.specs.Prelude.{◌≡◌, ◌≤◌, ◌<◌, ◌+◌, ◌^◌, ℕ, List, length, true};
+ghost use Rattle.vtl_cell.specs.Row.{Row};
 ghost use Rattle.vtl_cell.specs.Settings.{Settings};
 ghost use Rattle.vtl_tree.specs.Environment.{Environment};
 ghost use Rattle.vtl_tree.specs.Structure.{IsStructure, columns_of};
 ghost use Rattle.vtl_syntax.specs.Written.{AreWritten};
-ghost use Rattle.vtl_tree.specs.Structures.{AreStructures, Named};
+ghost use Rattle.vtl_tree.specs.Structures.{AreStructures, Named, is_declarable};
 ghost use Rattle.vtl_tree.specs.declared.structure.Structure.{Structure};
 ghost use Rattle.vtl_meaning.specs.Meaning.{AreDataSets, Statement, known_in, meaning};
 ghost use Rattle.vtl_meaning.specs.Trees.{NodeTree};
@@ -13,10 +14,12 @@ ghost use Rattle.vtl_check.specs.Uses.{reads};
 ghost use Rattle.vtl_backend.specs.Statements.{statements_of};
 ghost use Rattle.sql_tree.specs.Formed.{PrintableScript};
 ghost use Rattle.sql_check_parts.specs.Statements.{IsTypedScript, input_columns};
+ghost use Rattle.sql_meaning.specs.Inputs.{IsInputData};
 ghost use Rattle.sql_meaning.specs.Scripts.{Inputs, script_value};
 ghost use Rattle.vtl_to_sql.specs.Accepted.{AreFew, AreHeld, are_translated};
 ghost use Rattle.vtl_to_sql.specs.Conditions.{HasFewTables, IsScript};
 ghost use Rattle.vtl_to_sql.specs.Exports.{AreRead, exported_as};
+ghost use Rattle.vtl_to_sql.specs.Inputs.{AreAsked};
 ghost use Rattle.vtl_to_sql.specs.Runs.{entries};
 ghost use Rattle.vtl_to_sql.specs.Scripts.{input_of, script_for};
 ghost use Rattle.vtl_to_sql.specs.Tables.{first_number, made_of};
@@ -51,4 +54,10 @@ pub fn accepted_scripts_are_translated()
 pub fn tables_are_counted()
     ensures counted { (p : Settings) (target : List ℕ) (n : NodeTree) (k : ℕ) → (made_of p target n k).next ≡ k + length (made_of p target n k).tables }
     ensures few { (p : Settings) (s : Statement) → (made_of p s.result s.node first_number).next < 2 ^ 64 → HasFewTables p s }
+{}
+
+/// An INPUT asks of its rows what the structure asks of the points of a data set, and that codes are those listed.
+pub fn inputs_ask_for_data_sets()
+    ensures given { (e : List ℕ × Structure) (rows : List Row) → is_declarable e.1 ≡ true → IsInputData (input_of e) rows → AreAsked e.1 rows }
+    ensures taken { (e : List ℕ × Structure) (rows : List Row) → is_declarable e.1 ≡ true → AreAsked e.1 rows → IsInputData (input_of e) rows }
 {}

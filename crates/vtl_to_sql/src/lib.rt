@@ -15,6 +15,9 @@ mod draft;
 mod existence_queries;
 mod inputs;
 mod items;
+mod join_items;
+mod join_operands;
+mod join_queries;
 mod laws;
 mod named_items;
 mod pair_items;
@@ -31,8 +34,8 @@ mod writer;
 
 pub use constants::constants_are_held;
 pub use laws::{
-    accepted_scripts_are_translated, inputs_have_their_columns, scripts_are_translated,
-    tables_are_counted, translated_scripts_are_lawful,
+    accepted_scripts_are_translated, inputs_ask_for_data_sets, inputs_have_their_columns,
+    scripts_are_translated, tables_are_counted, translated_scripts_are_lawful,
 };
 pub use script::translate;
 pub use translated::is_translated;

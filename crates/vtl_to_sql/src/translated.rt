@@ -1,11 +1,13 @@
 // Whether all forms of a script are translated so far.
 ghost use Rattle.std.specs.List.{list_all};
 ghost use Rattle.std.specs.Prelude.{◌≡◌, map};
-ghost use Rattle.vtl_nodes.specs.View.{node_tree};
-ghost use Rattle.vtl_to_sql.specs.Translated.{has_query as has_tree_query, has_script_queries};
+ghost use Rattle.vtl_nodes.specs.Trees.{operands_of};
+ghost use Rattle.vtl_nodes.specs.View.{node_tree, operand_tree};
+ghost use Rattle.vtl_to_sql.specs.Translated.{has_query as has_tree_query, has_script_queries, have_operand_queries};
 
+use crate::join_queries::is_one_query;
 use vtl_backend::Checked;
-use vtl_nodes::{Node, NodeForm};
+use vtl_nodes::{JoinOperand, Node, NodeForm};
 
 /// Whether a script holds only forms that are translated so far.
 pub fn is_translated(script: &Checked) -> bool
@@ -14,6 +16,7 @@ pub fn is_translated(script: &Checked) -> bool
     have_queries(script.nodes())
 }
 
+#[cycle(translated)]
 fn has_query(node: &Node) -> bool
     ensures { result ≡ has_tree_query (node_tree node.now) }
 {
@@ -34,8 +37,23 @@ fn has_query(node: &Node) -> bool
         | NodeForm::Sub { a, .. }
         | NodeForm::Pivot { a, .. }
         | NodeForm::Unpivot { a, .. } => has_query(a),
+        NodeForm::Join { operands, spec } => {
+            have_operand_queries(operands) && is_one_query(spec.kind)
+        }
         _ => false,
     }
+}
+
+#[cycle(translated)]
+fn have_operand_queries(operands: &[JoinOperand]) -> bool
+    ensures { result ≡ have_operand_queries (operands_of (map operand_tree operands.now)) }
+{
+    for operand in operands {
+        if !has_query(&operand.node) {
+            return false;
+        }
+    }
+    true
 }
 
 fn have_queries(nodes: &[Node]) -> bool

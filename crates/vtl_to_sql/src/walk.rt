@@ -1,15 +1,19 @@
 // The tables of an expression on data sets.
-ghost use Rattle.std.specs.Prelude.{◌≡◌, ◌++◌, ◌∷◌, [], map, true, IfOk, OnOk};
-ghost use Rattle.vtl_nodes.specs.View.{form_tree, node_tree};
+ghost use Rattle.std.specs.Prelude.{◌≡◌, ◌++◌, ◌∷◌, [], length, map, true, IfOk, OnOk};
+ghost use Rattle.vtl_nodes.specs.View.{form_tree, node_tree, operand_tree};
 ghost use Rattle.sql_tree.specs.View.{query_tree, statement_tree};
 ghost use Rattle.vtl_to_sql.specs.Scripts.{create_for};
-ghost use Rattle.vtl_nodes.specs.Trees.{structure_of};
+ghost use Rattle.vtl_nodes.specs.Trees.{operands_of, structure_of};
+ghost use Rattle.vtl_tree.specs.Shown.{shown};
+ghost use Rattle.check_joins.specs.Joins.{structures_of};
+ghost use Rattle.vtl_meaning.specs.Made.{operands_in};
 ghost use Rattle.vtl_to_sql.specs.Queries.{left_query};
-ghost use Rattle.vtl_to_sql.specs.Tables.{made_of_form, over, sources_of, with_one};
-ghost use Rattle.vtl_to_sql.specs.Translated.{has_form_query, has_query};
+ghost use Rattle.vtl_to_sql.specs.Tables.{made_of_form, operands_of as joined_sources, over, sources_of, with_one};
+ghost use Rattle.vtl_to_sql.specs.Translated.{has_form_query, has_query, have_operand_queries};
 
 use crate::draft::Draft;
 use crate::existence_queries::existence_query;
+use crate::join_queries::join_query;
 use crate::pair_queries::{Operand, choose_query, pair_query};
 use crate::pivot_queries::pivot_query;
 use crate::queries::{
@@ -22,7 +26,7 @@ use crate::writer::Writer;
 use sql_tree::Query;
 use std::alloc::{AllocError, Global};
 use vtl_cell::Txt;
-use vtl_nodes::{Node, NodeForm};
+use vtl_nodes::{JoinOperand, Node, NodeForm};
 use vtl_tree::Structure;
 
 /// The name of a table that stands for an operand, for which tables are made first where it is more than a name.
@@ -76,6 +80,43 @@ fn left(
 {
     let table = source(alloc, writer, a, target, draft)?;
     left_query(alloc, writer, s, &table)
+}
+
+// The structures of the operands of a join.
+fn joined_structures(
+    alloc: Global,
+    operands: &[JoinOperand],
+) -> Result<Vec<&Structure>, AllocError>
+    ensures structures { IfOk result (λ v. shown v.items ≡ structures_of (operands_in (operands_of (map operand_tree operands.now)))) }
+    ensures many { IfOk result (λ v. length v.items ≡ length operands.now) }
+{
+    let mut structures = Vec::with_capacity(alloc, operands.len())?;
+    for operand in operands {
+        structures.push(&operand.node.structure)?;
+    }
+    Ok(structures)
+}
+
+// The names of the tables that stand for the operands of a join, for which tables are made first.
+#[cycle(made)]
+fn joined_sources(
+    alloc: Global,
+    writer: &Writer,
+    operands: &[JoinOperand],
+    target: &Txt,
+    draft: &mut Draft,
+) -> Result<Vec<Txt>, AllocError>
+    requires { have_operand_queries (operands_of (map operand_tree operands.now)) ≡ true }
+    ensures names { IfOk result (λ v. v.items ≡ (joined_sources writer.now target.now (operands_of (map operand_tree operands.now)) draft.old.next).names) }
+    ensures many { IfOk result (λ v. length v.items ≡ length operands.now) }
+    ensures tables { OnOk result (map statement_tree draft.new.statements.items ≡ map statement_tree draft.old.statements.items ++ map create_for (joined_sources writer.now target.now (operands_of (map operand_tree operands.now)) draft.old.next).tables) }
+    ensures next { OnOk result (draft.new.next ≡ (joined_sources writer.now target.now (operands_of (map operand_tree operands.now)) draft.old.next).next) }
+{
+    let mut tables = Vec::with_capacity(alloc, operands.len())?;
+    for operand in operands {
+        tables.push(source(alloc, writer, &operand.node, target, draft)?)?;
+    }
+    Ok(tables)
 }
 
 /// The query of an expression of a structure. The tables that stand for its operands are made first.
@@ -161,6 +202,11 @@ pub(crate) fn query(
             let second = source(alloc, writer, b, target, draft)?;
             let (first, second) = (operand(a, &first), operand(b, &second));
             existence_query(alloc, writer, *retain, &first, &second, s)
+        }
+        NodeForm::Join { operands, spec } => {
+            let structures = joined_structures(alloc, operands)?;
+            let tables = joined_sources(alloc, writer, operands, target, draft)?;
+            join_query(alloc, writer, spec.kind, &structures, &tables, s)
         }
         _ => unreachable!(),
     }

@@ -5,8 +5,10 @@ ghost use Rattle.sql_tree.specs.View.{expr_tree};
 ghost use Rattle.rules_to_sql.specs.Constants.{const_to_sql};
 ghost use Rattle.rules_to_sql.specs.ToSql.{column_of, to_sql};
 ghost use Rattle.vtl_tree.specs.View.{comp_exp_of};
+ghost use Rattle.vtl_to_sql.specs.Joins.{alias_of};
 ghost use Rattle.vtl_to_sql.specs.Queries.{first_alias, of_one, of_two, second_alias, source_as};
 
+use crate::draft::numbered;
 use rules_to_sql::{Aliases, comp_to_sql, const_to_sql};
 use sql_tree::{Column, Source, SqlExpr};
 use std::alloc::{AllocError, Global};
@@ -46,6 +48,13 @@ impl Writer {
             first,
             second,
         })
+    }
+
+    // The alias of the source of a number, where there are many.
+    pub(crate) fn alias(&self, alloc: Global, number: usize) -> Result<Txt, AllocError>
+        ensures { IfOk result (λ t. t ≡ alias_of number) }
+    {
+        numbered(alloc, &self.first, number as u64)
     }
 
     // A name of a column of the first source.

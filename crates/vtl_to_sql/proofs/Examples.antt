@@ -1,0 +1,218 @@
+-- What expressions on data sets are written as in SQL, each by computation. Between tokens stands a space.
+use Rattle.std.proofs.Common.{◌≡◌, ℕ, true, false, List, [], ◌∷◌, map, Some, None, refl, sym, ◌∙◌, arith, append-nil, ◌<◌, ◌+◌}
+use Rattle.std.specs.Prelude.{codes}
+use Rattle.std.specs.Fmt.{decimal}
+use Rattle.grammar_forms.specs.Written.{run}
+use Rattle.vtl_decimal.proofs.WritingLemmas.{decimal_last}
+use Rattle.vtl_cell.specs.Settings.{Settings}
+use Rattle.vtl_cell.specs.settings.Rounding.TheVariants.{HalfUp}
+use Rattle.vtl_cell.specs.declared.cell.Cell.TheVariants as c
+use Rattle.vtl_cell.specs.declared.kind.Kind.TheVariants as k
+use Rattle.vtl_cell.specs.declared.operator.ScalarOp.TheVariants as op
+use Rattle.vtl_tree.specs.CompExp.{CompExp, call, comp_exp, no_comp_exps}
+use Rattle.vtl_tree.specs.declared.structure.Component.{Component}
+use Rattle.vtl_tree.specs.declared.structure.Role.TheVariants as role
+use Rattle.vtl_tree.specs.declared.structure.Structure.{Structure}
+use Rattle.check_shapes.specs.Measures.{made}
+use Rattle.vtl_syntax.specs.declared.word_groups.Retain.TheVariants as retain
+use Rattle.vtl_meaning.specs.Columns.{column_named}
+use Rattle.vtl_meaning.specs.Meaning.{Statement}
+use Rattle.vtl_meaning.specs.Trees as nodes
+use Rattle.vtl_meaning.specs.Trees.{NodeTree}
+use Rattle.sql_lexer.specs.Spelling.{spelled}
+use Rattle.sql_tree.specs.Printing.{written_query, written_statement}
+use Rattle.sql_tree.specs.Trees.{QueryTree, StatementTree}
+use Rattle.sql_tree.specs.declared.word_groups.JoinKind.TheVariants as joining
+use Rattle.vtl_to_sql.specs.FullJoins.{full_query, key_structure, keys_query, once_query}
+use Rattle.vtl_to_sql.specs.Joins.{cross_query, reference_query}
+use Rattle.vtl_to_sql.specs.Queries as q
+use Rattle.vtl_to_sql.specs.Turned as turned
+use Rattle.vtl_to_sql.specs.Scripts.{statements_for}
+
+abbrev scale_six : Settings
+scale_six = record { scale = 6; rounding = HalfUp }
+
+abbrev shown : QueryTree → List ℕ
+shown x = run (λ t. 32 ∷ spelled t) (written_query x)
+
+-- ---- structures
+
+abbrev of_components : List Component → Structure
+of_components xs = record { components = xs }
+
+abbrev area : Component
+area = made (codes "area") role.Identifier k.Text
+
+abbrev year : Component
+year = made (codes "year") role.Identifier k.Int
+
+abbrev people : Component
+people = made (codes "people") role.Measure k.Int
+
+abbrev size : Component
+size = made (codes "size") role.Measure k.Int
+
+abbrev counted : Structure
+counted = of_components (area ∷ people ∷ [])
+
+abbrev by_year : Structure
+by_year = of_components (area ∷ year ∷ people ∷ [])
+
+-- components in another order than the columns
+abbrev both : Structure
+both = of_components (people ∷ area ∷ size ∷ [])
+
+abbrev answers : Structure
+answers = of_components (area ∷ made (codes "bool_var") role.Measure k.Bool ∷ [])
+
+-- ---- expressions
+
+abbrev table : List ℕ
+table = codes "A"
+
+abbrev other : List ℕ
+other = codes "B"
+
+abbrev number : CompExp
+number = column_named (area ∷ people ∷ []) (codes "people")
+
+abbrev doubled : CompExp
+doubled = call op.Add k.Int (comp_exp number (comp_exp number no_comp_exps))
+
+abbrev is_there : CompExp
+is_there = call op.IsNull k.Bool (comp_exp number no_comp_exps)
+
+-- ---- one operand
+
+abbrev of_one_operand : List (QueryTree × List ℕ)
+of_one_operand =
+    (q.copy_query scale_six both table, codes " SELECT \"a\" . \"area\" AS \"area\" , \"a\" . \"people\" AS \"people\" , \"a\" . \"size\" AS \"size\" FROM \"A\" AS \"a\"")
+    ∷ (q.filter_query scale_six is_there counted table, codes " SELECT \"a\" . \"area\" AS \"area\" , \"a\" . \"people\" AS \"people\" FROM \"A\" AS \"a\" WHERE \"a\" . \"people\" IS NULL")
+    ∷ (q.calc_query scale_six (record { role = None; target = codes "size"; value = nodes.scalar doubled } ∷ []) counted both table, codes " SELECT \"a\" . \"area\" AS \"area\" , \"a\" . \"people\" AS \"people\" , \"a\" . \"people\" + \"a\" . \"people\" AS \"size\" FROM \"A\" AS \"a\"")
+    ∷ (q.measures_query scale_six (record { op = op.Negate; before = []; after = [] }) both both table, codes " SELECT \"a\" . \"area\" AS \"area\" , - \"a\" . \"people\" AS \"people\" , - \"a\" . \"size\" AS \"size\" FROM \"A\" AS \"a\"")
+    ∷ (q.left_query scale_six both (of_components (area ∷ size ∷ [])) table, codes " SELECT \"a\" . \"area\" AS \"area\" , \"a\" . \"size\" AS \"size\" FROM \"A\" AS \"a\"")
+    ∷ (q.rename_query scale_six counted (of_components (area ∷ size ∷ [])) table, codes " SELECT \"a\" . \"area\" AS \"area\" , \"a\" . \"people\" AS \"size\" FROM \"A\" AS \"a\"")
+    ∷ (q.sub_query scale_six (record { id = codes "area"; value = c.Text (codes "north") } ∷ []) by_year (of_components (year ∷ people ∷ [])) table, codes " SELECT \"a\" . \"year\" AS \"year\" , \"a\" . \"people\" AS \"people\" FROM \"A\" AS \"a\" WHERE \"a\" . \"area\" = 'north'")
+    ∷ (turned.unpivot_query scale_six both (of_components (area ∷ made (codes "what") role.Identifier k.Text ∷ made (codes "amount") role.Measure k.Int ∷ [])) table, codes " SELECT \"a\" . \"area\" AS \"area\" , 'people' AS \"what\" , \"a\" . \"people\" AS \"amount\" FROM \"A\" AS \"a\" WHERE \"a\" . \"people\" IS NOT NULL UNION ALL SELECT \"a\" . \"area\" AS \"area\" , 'size' AS \"what\" , \"a\" . \"size\" AS \"amount\" FROM \"A\" AS \"a\" WHERE \"a\" . \"size\" IS NOT NULL")
+    ∷ []
+
+of_one_operand_are : map (λ e. shown e.0) of_one_operand ≡ map (λ e. e.1) of_one_operand
+of_one_operand_are = refl
+
+-- ---- `pivot`: a column for each code
+
+abbrev what : Component
+what = record { name = codes "what"; role = role.Identifier; kind = k.Text; codes = Some (codes "in" ∷ codes "out" ∷ []) }
+
+abbrev of_two_measures : List Component
+of_two_measures = made (codes "in") role.Measure k.Int ∷ made (codes "out") role.Measure k.Int ∷ []
+
+abbrev pivoted : List (QueryTree × List ℕ)
+pivoted =
+    (turned.pivot_query scale_six (codes "what") (codes "people") (of_components (area ∷ what ∷ people ∷ [])) (of_components (area ∷ of_two_measures)) table, codes " SELECT \"a\" . \"area\" AS \"area\" , MAX ( CASE WHEN \"a\" . \"what\" = 'in' THEN \"a\" . \"people\" ELSE NULL END ) AS \"in\" , MAX ( CASE WHEN \"a\" . \"what\" = 'out' THEN \"a\" . \"people\" ELSE NULL END ) AS \"out\" FROM \"A\" AS \"a\" GROUP BY \"a\" . \"area\"")
+    ∷ (turned.pivot_query scale_six (codes "what") (codes "people") (of_components (what ∷ people ∷ [])) (of_components of_two_measures) table, codes " SELECT MAX ( CASE WHEN \"a\" . \"what\" = 'in' THEN \"a\" . \"people\" ELSE NULL END ) AS \"in\" , MAX ( CASE WHEN \"a\" . \"what\" = 'out' THEN \"a\" . \"people\" ELSE NULL END ) AS \"out\" FROM \"A\" AS \"a\" HAVING MIN ( TRUE )")
+    ∷ []
+
+pivoted_are : map (λ e. shown e.0) pivoted ≡ map (λ e. e.1) pivoted
+pivoted_are = refl
+
+-- ---- two and three operands; of a pair the operand with all identifiers stands first
+
+abbrev of_operands : List (QueryTree × List ℕ)
+of_operands =
+    (q.pair_query scale_six op.Subtract by_year counted by_year table other, codes " SELECT \"a\" . \"area\" AS \"area\" , \"a\" . \"year\" AS \"year\" , \"a\" . \"people\" - \"b\" . \"people\" AS \"people\" FROM \"A\" AS \"a\" INNER JOIN \"B\" AS \"b\" ON \"b\" . \"area\" = \"a\" . \"area\"")
+    ∷ (q.pair_query scale_six op.Subtract counted by_year by_year table other, codes " SELECT \"a\" . \"area\" AS \"area\" , \"a\" . \"year\" AS \"year\" , \"b\" . \"people\" - \"a\" . \"people\" AS \"people\" FROM \"B\" AS \"a\" INNER JOIN \"A\" AS \"b\" ON \"b\" . \"area\" = \"a\" . \"area\"")
+    ∷ (q.choose_query scale_six answers counted counted counted (codes "T") table other, codes " SELECT \"a\" . \"area\" AS \"area\" , \"b\" . \"people\" AS \"people\" FROM \"T\" AS \"a\" INNER JOIN \"A\" AS \"b\" ON \"b\" . \"area\" = \"a\" . \"area\" WHERE \"a\" . \"bool_var\" UNION ALL SELECT \"a\" . \"area\" AS \"area\" , \"b\" . \"people\" AS \"people\" FROM \"T\" AS \"a\" INNER JOIN \"B\" AS \"b\" ON \"b\" . \"area\" = \"a\" . \"area\" WHERE CASE WHEN \"a\" . \"bool_var\" THEN FALSE ELSE TRUE END")
+    ∷ (q.union_query scale_six counted counted counted table other, codes " SELECT \"a\" . \"area\" AS \"area\" , \"a\" . \"people\" AS \"people\" FROM \"A\" AS \"a\" UNION ALL SELECT \"a\" . \"area\" AS \"area\" , \"a\" . \"people\" AS \"people\" FROM \"B\" AS \"a\" WHERE NOT EXISTS ( SELECT 1 FROM \"A\" AS \"b\" WHERE \"b\" . \"area\" = \"a\" . \"area\" )")
+    ∷ (q.intersection_query scale_six counted counted counted table other, codes " SELECT \"a\" . \"area\" AS \"area\" , \"a\" . \"people\" AS \"people\" FROM \"A\" AS \"a\" WHERE EXISTS ( SELECT 1 FROM \"B\" AS \"b\" WHERE \"b\" . \"area\" = \"a\" . \"area\" )")
+    ∷ (q.difference_query scale_six counted counted counted table other, codes " SELECT \"a\" . \"area\" AS \"area\" , \"a\" . \"people\" AS \"people\" FROM \"A\" AS \"a\" WHERE NOT EXISTS ( SELECT 1 FROM \"B\" AS \"b\" WHERE \"b\" . \"area\" = \"a\" . \"area\" )")
+    ∷ (q.existence_query scale_six retain.All by_year counted (of_components (area ∷ year ∷ made (codes "bool_var") role.Measure k.Bool ∷ [])) table other, codes " SELECT \"a\" . \"area\" AS \"area\" , \"a\" . \"year\" AS \"year\" , EXISTS ( SELECT 1 FROM \"B\" AS \"b\" WHERE \"b\" . \"area\" = \"a\" . \"area\" ) AS \"bool_var\" FROM \"A\" AS \"a\"")
+    ∷ []
+
+of_operands_are : map (λ e. shown e.0) of_operands ≡ map (λ e. e.1) of_operands
+of_operands_are = refl
+
+-- ---- joins: the reference stands first, and the aliases are numbered
+
+abbrev sized : Structure
+sized = of_components (area ∷ size ∷ [])
+
+abbrev joined_with : Structure
+joined_with = of_components (area ∷ year ∷ size ∷ people ∷ [])
+
+abbrev crossed : Structure
+crossed = of_components (made (codes "x'area") role.Identifier k.Text ∷ made (codes "y'area") role.Identifier k.Text ∷ people ∷ size ∷ [])
+
+digit : (n : ℕ) → n < 10 → decimal n ≡ (48 + n) ∷ []
+digit n h = sym (append-nil (decimal n)) ∙ decimal_last n [] h
+
+left : shown (reference_query scale_six joining.Left 1 (sized ∷ by_year ∷ []) joined_with (table ∷ other ∷ [])) ≡ codes " SELECT \"a$0\" . \"area\" AS \"area\" , \"a$0\" . \"year\" AS \"year\" , \"a$1\" . \"size\" AS \"size\" , \"a$0\" . \"people\" AS \"people\" FROM \"B\" AS \"a$0\" LEFT JOIN \"A\" AS \"a$1\" ON \"a$1\" . \"area\" = \"a$0\" . \"area\""
+left = rw (digit 0 (omega arith), digit 1 (omega arith)) refl
+
+cross : shown (cross_query scale_six (counted ∷ sized ∷ []) crossed (table ∷ other ∷ [])) ≡ codes " SELECT \"a$0\" . \"area\" AS \"x'area\" , \"a$1\" . \"area\" AS \"y'area\" , \"a$0\" . \"people\" AS \"people\" , \"a$1\" . \"size\" AS \"size\" FROM \"A\" AS \"a$0\" CROSS JOIN \"B\" AS \"a$1\""
+cross = rw (digit 0 (omega arith), digit 1 (omega arith)) refl
+
+inner : shown (reference_query scale_six joining.Inner 0 (by_year ∷ counted ∷ sized ∷ []) (of_components (area ∷ year ∷ made (codes "x'people") role.Measure k.Int ∷ made (codes "y'people") role.Measure k.Int ∷ size ∷ [])) (table ∷ other ∷ codes "C" ∷ []))
+    ≡ codes " SELECT \"a$0\" . \"area\" AS \"area\" , \"a$0\" . \"year\" AS \"year\" , \"a$0\" . \"people\" AS \"x'people\" , \"a$1\" . \"people\" AS \"y'people\" , \"a$2\" . \"size\" AS \"size\" FROM \"A\" AS \"a$0\" INNER JOIN \"B\" AS \"a$1\" ON \"a$1\" . \"area\" = \"a$0\" . \"area\" INNER JOIN \"C\" AS \"a$2\" ON \"a$2\" . \"area\" = \"a$0\" . \"area\""
+inner = rw (digit 0 (omega arith), digit 1 (omega arith), digit 2 (omega arith)) refl
+
+-- of a full join: the identifiers of all operands, each tuple of them once, and each operand joined with these
+abbrev keys : List (QueryTree × List ℕ)
+keys =
+    (keys_query scale_six counted (counted ∷ sized ∷ []) (table ∷ other ∷ []), codes " SELECT \"a\" . \"area\" AS \"area\" FROM \"A\" AS \"a\" UNION ALL SELECT \"a\" . \"area\" AS \"area\" FROM \"B\" AS \"a\"")
+    ∷ (once_query scale_six (key_structure counted) table, codes " SELECT \"a\" . \"area\" AS \"area\" FROM \"A\" AS \"a\" GROUP BY \"a\" . \"area\"")
+    ∷ []
+
+keys_are : map (λ e. shown e.0) keys ≡ map (λ e. e.1) keys
+keys_are = refl
+
+full : shown (full_query scale_six counted (counted ∷ sized ∷ []) both (table ∷ other ∷ []) (codes "K")) ≡ codes " SELECT \"a$0\" . \"area\" AS \"area\" , \"a$1\" . \"people\" AS \"people\" , \"a$2\" . \"size\" AS \"size\" FROM \"K\" AS \"a$0\" LEFT JOIN \"A\" AS \"a$1\" ON \"a$1\" . \"area\" = \"a$0\" . \"area\" LEFT JOIN \"B\" AS \"a$2\" ON \"a$2\" . \"area\" = \"a$0\" . \"area\""
+full = rw (digit 0 (omega arith), digit 1 (omega arith), digit 2 (omega arith)) refl
+
+-- ---- data sets without identifiers, which have one point at most
+
+abbrev alone : Structure
+alone = of_components (people ∷ [])
+
+abbrev without_identifiers : List (QueryTree × List ℕ)
+without_identifiers =
+    (q.pair_query scale_six op.Add alone alone alone table other, codes " SELECT \"a\" . \"people\" + \"b\" . \"people\" AS \"people\" FROM \"A\" AS \"a\" INNER JOIN \"B\" AS \"b\" ON TRUE")
+    ∷ (q.difference_query scale_six alone alone alone table other, codes " SELECT \"a\" . \"people\" AS \"people\" FROM \"A\" AS \"a\" WHERE NOT EXISTS ( SELECT 1 FROM \"B\" AS \"b\" )")
+    ∷ (keys_query scale_six alone (alone ∷ []) (table ∷ []), codes " SELECT TRUE AS \"there\" FROM \"A\" AS \"a\"")
+    ∷ (once_query scale_six (key_structure alone) (codes "R$1"), codes " SELECT \"a\" . \"there\" AS \"there\" FROM \"R$1\" AS \"a\" GROUP BY \"a\" . \"there\"")
+    ∷ []
+
+without_identifiers_are : map (λ e. shown e.0) without_identifiers ≡ map (λ e. e.1) without_identifiers
+without_identifiers_are = refl
+
+-- ---- a script: a result that is not written, and then a union of three, of which the first two are a table of their own
+
+abbrev node_named : List ℕ → NodeTree
+node_named x = nodes.node counted (nodes.named x)
+
+abbrev missing : Statement
+missing = record { result = codes "M"; persistent = false; node = nodes.node counted (nodes.filter (node_named (codes "A")) is_there) }
+
+abbrev all : Statement
+all = record {
+  result = codes "R";
+  persistent = true;
+  node = nodes.node counted (nodes.union (nodes.and_node (node_named (codes "M")) (nodes.and_node (node_named (codes "B")) (nodes.and_node (node_named (codes "C")) nodes.no_nodes))));
+}
+
+abbrev statements : List StatementTree
+statements = statements_for scale_six (map (λ x. (x, counted)) (codes "A" ∷ codes "B" ∷ codes "C" ∷ [])) (missing ∷ all ∷ [])
+
+abbrev wanted : List (List ℕ)
+wanted =
+    codes " INPUT \"A\" ( \"area\" TEXT , \"people\" INTEGER ) KEY ( \"area\" ) ;"
+    ∷ codes " INPUT \"B\" ( \"area\" TEXT , \"people\" INTEGER ) KEY ( \"area\" ) ;"
+    ∷ codes " INPUT \"C\" ( \"area\" TEXT , \"people\" INTEGER ) KEY ( \"area\" ) ;"
+    ∷ codes " CREATE TABLE \"M\" AS SELECT \"a\" . \"area\" AS \"area\" , \"a\" . \"people\" AS \"people\" FROM \"A\" AS \"a\" WHERE \"a\" . \"people\" IS NULL ;"
+    ∷ codes " CREATE TABLE \"R$1\" AS SELECT \"a\" . \"area\" AS \"area\" , \"a\" . \"people\" AS \"people\" FROM \"M\" AS \"a\" UNION ALL SELECT \"a\" . \"area\" AS \"area\" , \"a\" . \"people\" AS \"people\" FROM \"B\" AS \"a\" WHERE NOT EXISTS ( SELECT 1 FROM \"M\" AS \"b\" WHERE \"b\" . \"area\" = \"a\" . \"area\" ) ;"
+    ∷ codes " CREATE TABLE \"R\" AS SELECT \"a\" . \"area\" AS \"area\" , \"a\" . \"people\" AS \"people\" FROM \"R$1\" AS \"a\" UNION ALL SELECT \"a\" . \"area\" AS \"area\" , \"a\" . \"people\" AS \"people\" FROM \"C\" AS \"a\" WHERE NOT EXISTS ( SELECT 1 FROM \"R$1\" AS \"b\" WHERE \"b\" . \"area\" = \"a\" . \"area\" ) ;"
+    ∷ codes " EXPORT \"R\" ORDER BY \"area\" ;"
+    ∷ []
+
+script : map (λ s. run (λ t. 32 ∷ spelled t) (written_statement s)) statements ≡ wanted
+script = rw (digit 1 (omega arith)) refl
