@@ -1,5 +1,5 @@
 -- An accepted script whose forms are translated so far can be translated.
-use Rattle.std.proofs.Common.{inl, inr, ◌≡◌, ◌≤◌, ℕ, Bool, true, false, cond, ◌&&◌, ◌||◌, List, [], ◌∷◌, ◌++◌, Some, sym, ap, subst, true≢false}
+use Rattle.std.proofs.Common.{inl, inr, ◌≡◌, ◌≤◌, ℕ, Bool, true, false, cond, ◌&&◌, ◌||◌, List, [], ◌∷◌, ◌++◌, Some, sym, ap, subst, true≢false, ◌∙◌}
 use Rattle.std.proofs.lemmas.Bool.{and_parts, false≢true}
 use Rattle.std.specs.List.{AllByRecursion}
 use Rattle.std.specs.Map.{lookup}
@@ -27,14 +27,15 @@ use Rattle.check_laws.proofs.DepthScripts.{written-depth}
 use Rattle.check_laws.proofs.Lists as lists
 use Rattle.check_laws.proofs.Over.{made_over}
 use Rattle.check_laws.proofs.Scripts.{script-made}
-use Rattle.vtl_to_sql.specs.Accepted.{AreFew, AreHeld, HoldsConstants, are_translated, is_translated}
+use Rattle.vtl_to_sql.specs.Accepted.{AreFew, AreHeld, HoldsParts, are_translated, is_translated}
 use Rattle.vtl_to_sql.specs.Conditions.{AreTranslated, IsScript}
 use Rattle.vtl_to_sql.proofs.AcceptedComponents.{AreKnownNamed, declared_named}
 use Rattle.vtl_to_sql.proofs.AcceptedNames.{components_named}
-use Rattle.vtl_to_sql.proofs.AcceptedNodes.{evaluated, node_translated}
+use Rattle.vtl_to_sql.proofs.AcceptedForms.{evaluated}
+use Rattle.vtl_to_sql.proofs.AcceptedNodes.{node_translated}
 use Rattle.vtl_to_sql.proofs.AcceptedReads.{IsWord, reads_alike, reads_fewer, reads_readable}
-use Rattle.vtl_to_sql.proofs.AcceptedScripts.{results-named, script-worded}
-use Rattle.vtl_to_sql.proofs.AcceptedWords.{FormHasWords, HasWords, HaveWords, IsWorded, OperandsHaveWords, name-word}
+use Rattle.vtl_to_sql.proofs.AcceptedScripts.{results_named, script_worded}
+use Rattle.vtl_to_sql.proofs.AcceptedWords.{FormHasWords, HasWords, HaveWords, IsWorded, OperandsHaveWords, name_word}
 
 -- ---- the names that an expression reads are words
 module _ (p : Settings) where
@@ -46,7 +47,7 @@ module _ (p : Settings) where
     names_words b (nodes.node s form) t w = form_words b s form t w
 
     form_words : (b : Bool) (s : Structure) (form : FormTree) → is_built_form form ≡ true → FormHasWords p b form → AllByRecursion IsWord (names_in (nodes.node s form))
-    form_words b s (nodes.named name) t w = (name-word name w, tt)
+    form_words b s (nodes.named name) t w = (name_word name w, tt)
     form_words b s (nodes.measures m a) t w = names_words false a t w
     form_words b s (nodes.pair o a c) t w = let both = and_parts (is_built a) (is_built c) t in two_words (nodes_in a) (nodes_in c) (names_words false a both.0 w.0) (names_words false c both.1 w.1)
     form_words b s (nodes.choose q a c) t w =
@@ -85,7 +86,7 @@ module _ (p : Settings) where
 record IsReady (p : Settings) (n : NodeTree) : Type 0 where
   words : IsWorded p n
   shallow : node_depth n ≤ depth_limit
-  held : HoldsConstants n
+  held : HoldsParts n
   translated : is_translated n ≡ true
 
 abbrev AreReady : Settings → List NodeTree → Type 0
@@ -93,7 +94,7 @@ AreReady p ns = AllByRecursion (IsReady p) ns
 
 words_of : (p : Settings) (ns : List NodeTree) → AreReady p ns → AllByRecursion IsWord (names_of ns)
 words_of p [] h = tt
-words_of p (n ∷ ns) h = lists.appended IsWord (names_in n) (names_of ns) (let built = evaluated n h.0.translated in names_words p false n built (h.0.words built)) (words_of p ns h.1)
+words_of p (n ∷ ns) h = lists.appended IsWord (names_in n) (names_of ns) (let built = sym (evaluated n) ∙ h.0.translated in names_words p false n built (h.0.words built)) (words_of p ns h.1)
 
 abbrev AreFewer : Named → Named → Type 0
 AreFewer known other = (name : List ℕ) → has_name name known ≡ false → has_name name other ≡ false
@@ -110,11 +111,11 @@ statements_translated p known other [] ns alike fewer named words ready made few
 statements_translated p known other (t ∷ ts) [] alike fewer named words ready made few = tt
 statements_translated p known other (t ∷ ts) (n ∷ ns) alike fewer named words ready made few =
     let here = ready.0 in
-    let built = evaluated n here.translated in
+    let built = sym (evaluated n) ∙ here.translated in
     let own = here.words built in
     let rest = lists.back (λ name. lookup (same_name name) known ≡ lookup (same_name name) other) (names_in n) (names_of ns) alike in (
       record {
-        word = name-word t.name words.0;
+        word = name_word t.name words.0;
         new = fewer t.name made.0;
         made = made_over p known other n (lists.front (λ name. lookup (same_name name) known ≡ lookup (same_name name) other) (names_in n) (names_of ns) alike) made.1;
         translated = node_translated p known named false n made.1 here.translated own here.held (node-below depth_limit n here.shallow);
@@ -135,10 +136,10 @@ all_ready p (n ∷ ns) words shallow held translated = (record { words = words.0
 pub script_accepted : (t : TypedScript) → t.settings.scale ≤ 9 → AreStructures t.declared → IsTyped t → AreWritten (tree_of t) → are_translated (nodes_of t) ≡ true → AreHeld (nodes_of t) → AreFew t.settings (statements_of t) → IsScript t.settings (reads t.declared (nodes_of t)) (statements_of t)
 script_accepted t low are typed written translated held few =
     let ns = nodes_of t in
-    let ready = all_ready t.settings ns (script-worded t typed written) (written-depth t typed written) held (lists.all_pass is_translated ns translated) in
+    let ready = all_ready t.settings ns (script_worded t typed written) (written-depth t typed written) held (lists.all_pass is_translated ns translated) in
     let words = words_of t.settings ns ready in
     record {
       low = low;
       readable = reads_readable t.declared ns words are;
-      translated = statements_translated t.settings t.declared (reads t.declared ns) (transformations (tree_of t)) ns (reads_alike t.declared ns words) (reads_fewer t.declared ns words) (declared_named t.declared are) (results-named t written) ready (script-made t are typed) few;
+      translated = statements_translated t.settings t.declared (reads t.declared ns) (transformations (tree_of t)) ns (reads_alike t.declared ns words) (reads_fewer t.declared ns words) (declared_named t.declared are) (results_named t written) ready (script-made t are typed) few;
     }

@@ -63,21 +63,21 @@ use Rattle.check_laws.proofs.Clauses.{among-any}
 use Rattle.check_laws.proofs.Lists as lists
 use Rattle.check_laws.proofs.Literals.{IsCell, literal-cell, valued-gives}
 use Rattle.check_laws.proofs.Steps.{after, tested, then}
-use Rattle.vtl_to_sql.proofs.AcceptedWords.{AreValues, FormHasWords, IsAt, IsColumnName, IsFilled, IsWorded, component-named, form_renamings, from-outside}
+use Rattle.vtl_to_sql.proofs.AcceptedWords.{AreValues, FormHasWords, IsAt, IsColumnName, IsFilled, IsWorded, component_named, form_renamings, from_outside}
 
 module _ (p : Settings) (b : Bool) (rs : List Renaming) where
   -- a form over an operand
-  pub clause-at : (form : FormTree) (r : Result Structure Rule) → (is_built_form form ≡ true → FormHasWords p b form × (b ≡ true → form_renamings form ≡ rs)) → Gives (IsAt p b rs) (r >>= clauses.made_of form)
-  clause-at form (Ok s) h = h
-  clause-at form (Err broken) h = tt
+  pub clause_at : (form : FormTree) (r : Result Structure Rule) → (is_built_form form ≡ true → FormHasWords p b form × (b ≡ true → form_renamings form ≡ rs)) → Gives (IsAt p b rs) (r >>= clauses.made_of form)
+  clause_at form (Ok s) h = h
+  clause_at form (Err broken) h = tt
 
-  pub filter-at : (n : NodeTree) (x : TypedTree) → IsAt p b rs n → Gives (IsAt p b rs) (filter_form n x)
+  pub filter_at : (n : NodeTree) (x : TypedTree) → IsAt p b rs n → Gives (IsAt p b rs) (filter_form n x)
   unfolding filter_form
-  filter-at n x h = after (IsAt p b rs) (condition_in x) (λ e. clauses.made_of (nodes.filter n e) (structure_of n)) (λ e t. h t)
+  filter_at n x h = after (IsAt p b rs) (condition_in x) (λ e. clauses.made_of (nodes.filter n e) (structure_of n)) (λ e t. h t)
 
-  pub keeping-at : (j : Option Joined) (n : NodeTree) (x : Keeping) → IsAt p b rs n → Gives (IsAt p b rs) (keeping_form j n x)
+  pub keeping_at : (j : Option Joined) (n : NodeTree) (x : Keeping) → IsAt p b rs n → Gives (IsAt p b rs) (keeping_form j n x)
   unfolding keeping_form
-  keeping-at j n x h = after (IsAt p b rs) (names_typed j wanted.Value (components_in n) [] (references_in x)) (kept_of x n) (λ names. clause-at (keeping_tree x n names) _ (made x names))
+  keeping_at j n x h = after (IsAt p b rs) (names_typed j wanted.Value (components_in n) [] (references_in x)) (kept_of x n) (λ names. clause_at (keeping_tree x n names) _ (made x names))
     where
       made : (x : Keeping) (names : List (List ℕ)) → is_built_form (keeping_tree x n names) ≡ true → FormHasWords p b (keeping_tree x n names) × (b ≡ true → form_renamings (keeping_tree x n names) ≡ rs)
       made (keeping.Keep rs) names = h
@@ -86,63 +86,63 @@ module _ (p : Settings) (b : Bool) (rs : List Renaming) where
   abbrev IsNewName : Renaming → Type 0
   IsNewName r = IsColumnName r.to
 
-  renaming-named : (j : Option Joined) (xs : List Component) (before : List (List ℕ)) (r : RenamePart) → written.IsRenaming r → Gives IsNewName (renaming_known j xs before r)
+  renaming_named : (j : Option Joined) (xs : List Component) (before : List (List ℕ)) (r : RenamePart) → written.IsRenaming r → Gives IsNewName (renaming_known j xs before r)
   unfolding renaming_known
-  renaming-named j xs before r h = after IsNewName (name_known j wanted.Any xs before r.from) (λ name. Ok (renaming_to r name)) (λ name. component-named r.to h.1)
+  renaming_named j xs before r h = after IsNewName (name_known j wanted.Any xs before r.from) (λ name. Ok (renaming_to r name)) (λ name. component_named r.to h.1)
 
-  renamings-named : (j : Option Joined) (xs : List Component) (done : List Renaming) (rs : List RenamePart) → AllByRecursion IsNewName done → AllByRecursion written.IsRenaming rs → Gives (AllByRecursion IsNewName) (renamings_typed j xs done rs)
-  renamings-named j xs done [] hd h = hd
-  renamings-named j xs done (r ∷ rs) hd h =
-      then IsNewName (AllByRecursion IsNewName) (renaming_known j xs (old_names done) r) (λ renaming. renamings_typed j xs (done ++ renaming ∷ []) rs) (renaming-named j xs (old_names done) r h.0)
-      (λ renaming is. renamings-named j xs (done ++ renaming ∷ []) rs (lists.appended IsNewName done (renaming ∷ []) hd (is, tt)) h.1)
+  renamings_named : (j : Option Joined) (xs : List Component) (done : List Renaming) (rs : List RenamePart) → AllByRecursion IsNewName done → AllByRecursion written.IsRenaming rs → Gives (AllByRecursion IsNewName) (renamings_typed j xs done rs)
+  renamings_named j xs done [] hd h = hd
+  renamings_named j xs done (r ∷ rs) hd h =
+      then IsNewName (AllByRecursion IsNewName) (renaming_known j xs (old_names done) r) (λ renaming. renamings_typed j xs (done ++ renaming ∷ []) rs) (renaming_named j xs (old_names done) r h.0)
+      (λ renaming is. renamings_named j xs (done ++ renaming ∷ []) rs (lists.appended IsNewName done (renaming ∷ []) hd (is, tt)) h.1)
 
-  pub renaming-at : (j : Option Joined) (n : NodeTree) (parts : List RenamePart) → AllByRecursion written.IsRenaming parts → IsAt p b rs n → Gives (IsAt p b rs) (renaming_form j n parts)
+  pub renaming_at : (j : Option Joined) (n : NodeTree) (parts : List RenamePart) → AllByRecursion written.IsRenaming parts → IsAt p b rs n → Gives (IsAt p b rs) (renaming_form j n parts)
   unfolding renaming_form
-  renaming-at j n parts written h =
-      then (AllByRecursion IsNewName) (IsAt p b rs) (renamings_typed j (components_in n) [] parts) (renamed_of n) (renamings-named j (components_in n) [] parts tt written)
-      (λ done named. clause-at (nodes.rename n done) _ (λ t. (inl ((h t).0, named), (h t).1)))
+  renaming_at j n parts written h =
+      then (AllByRecursion IsNewName) (IsAt p b rs) (renamings_typed j (components_in n) [] parts) (renamed_of n) (renamings_named j (components_in n) [] parts tt written)
+      (λ done named. clause_at (nodes.rename n done) _ (λ t. (inl ((h t).0, named), (h t).1)))
 
   -- ---- `calc`
   abbrev pub IsTarget : ItemTree → Type 0
   IsTarget i = IsColumnName i.target
 
-  pub calc-at : (n : NodeTree) (items : List ItemTree) → IsAt p b rs n → AllByRecursion IsTarget items → Gives (IsAt p b rs) (calc_clause n items)
+  pub calc_at : (n : NodeTree) (items : List ItemTree) → IsAt p b rs n → AllByRecursion IsTarget items → Gives (IsAt p b rs) (calc_clause n items)
   unfolding calc_clause
-  calc-at n items h named = go (list_any is_analytic items)
+  calc_at n items h named = go (list_any is_analytic items)
     where
       r : Result Structure Rule
       r = calc_form (map (target_of (components_in n)) items) (components_in n)
 
       go : (q : Bool) → Gives (IsAt p b rs) (r >>= clauses.made_of (cond q (nodes.analytic_of n (nodes.of_items items)) (nodes.calc n items)))
-      go true = clause-at (nodes.analytic_of n (nodes.of_items items)) r (λ t. absurd (false≢true t))
-      go false = clause-at (nodes.calc n items) r (λ t. (((h t).0, named), (h t).1))
+      go true = clause_at (nodes.analytic_of n (nodes.of_items items)) r (λ t. absurd (false≢true t))
+      go false = clause_at (nodes.calc n items) r (λ t. (((h t).0, named), (h t).1))
 
   -- each target has a name; of its value nothing is asked
-  targets-named : (env : Env) (at : Place) (n : NodeTree) (done : List ItemTree) (cs : Calcs) → AllByRecursion IsTarget done → AreMoreCalcs cs → Gives (AllByRecursion IsTarget) (calcs_typed env at n done cs)
-  targets-named env at n done tree.no_calcs hd w = hd
-  targets-named env at n done (tree.calc_part r c e cs) hd w =
+  targets_named : (env : Env) (at : Place) (n : NodeTree) (done : List ItemTree) (cs : Calcs) → AllByRecursion IsTarget done → AreMoreCalcs cs → Gives (AllByRecursion IsTarget) (calcs_typed env at n done cs)
+  targets_named env at n done tree.no_calcs hd w = hd
+  targets_named env at n done (tree.calc_part r c e cs) hd w =
       after (AllByRecursion IsTarget) (calc_name n done c) (λ u. calc_value env.settings at e (typed env at e) (over_operand env at e) >>= with_item r c done >>= λ items. calcs_typed env at n items cs)
       (λ u. then (AllByRecursion IsTarget) (AllByRecursion IsTarget) (calc_value env.settings at e (typed env at e) (over_operand env at e) >>= with_item r c done) (λ items. calcs_typed env at n items cs)
-      (after (AllByRecursion IsTarget) (calc_value env.settings at e (typed env at e) (over_operand env at e)) (with_item r c done) (λ v. lists.appended IsTarget done (item_of r c v ∷ []) hd (component-named c w.0, tt)))
-      (λ items h. targets-named env at n items cs h w.2))
+      (after (AllByRecursion IsTarget) (calc_value env.settings at e (typed env at e) (over_operand env at e)) (with_item r c done) (λ v. lists.appended IsTarget done (item_of r c v ∷ []) hd (component_named c w.0, tt)))
+      (λ items h. targets_named env at n items cs h w.2))
 
-  more-calcs : (cs : Calcs) → AreWrittenCalcs cs → AreMoreCalcs cs
-  more-calcs tree.no_calcs w = tt
-  more-calcs (tree.calc_part r c e cs) w = w
+  more_calcs : (cs : Calcs) → AreWrittenCalcs cs → AreMoreCalcs cs
+  more_calcs tree.no_calcs w = tt
+  more_calcs (tree.calc_part r c e cs) w = w
 
   -- ---- `aggr`, which is not evaluated yet
-  aggr-clause-at : (g : Option GroupPart) (n : NodeTree) (made : List Made) (having : Option CompExp) → Gives (IsAt p b rs) (aggr_clause g n made having)
+  aggr_clause_at : (g : Option GroupPart) (n : NodeTree) (made : List Made) (having : Option CompExp) → Gives (IsAt p b rs) (aggr_clause g n made having)
   unfolding aggr_clause
-  aggr-clause-at g n made having = clause-at (nodes.aggregate n (aggr_tree g n made having)) _ (λ t. absurd (false≢true t))
+  aggr_clause_at g n made having = clause_at (nodes.aggregate n (aggr_tree g n made having)) _ (λ t. absurd (false≢true t))
 
-  pub targets-at : (env : Env) (j : Option Joined) (n : NodeTree) (m : TargetsTree) → AreWrittenTargets m → IsAt p b rs n → Gives (IsAt p b rs) (targets_typed env j n m)
-  targets-at env j n (tree.calc cs) w h =
-      then (AllByRecursion IsTarget) (IsAt p b rs) (calcs_typed env (place.Inside (at_points j n)) n [] cs) (calc_clause n) (targets-named env (place.Inside (at_points j n)) n [] cs tt (more-calcs cs w))
-      (λ items named. calc-at n items h named)
-  targets-at env j n (tree.aggr cs g e) w h =
+  pub targets_at : (env : Env) (j : Option Joined) (n : NodeTree) (m : TargetsTree) → AreWrittenTargets m → IsAt p b rs n → Gives (IsAt p b rs) (targets_typed env j n m)
+  targets_at env j n (tree.calc cs) w h =
+      then (AllByRecursion IsTarget) (IsAt p b rs) (calcs_typed env (place.Inside (at_points j n)) n [] cs) (calc_clause n) (targets_named env (place.Inside (at_points j n)) n [] cs tt (more_calcs cs w))
+      (λ items named. calc_at n items h named)
+  targets_at env j n (tree.aggr cs g e) w h =
       after (IsAt p b rs) (aggrs_typed env (place.Inside (at_groups j n (grouping_of g (components_in n)))) [] cs) (λ made. grouping_typed (components_in n) g >>= λ names. having_typed env (place.Inside (at_groups j n names)) e >>= aggr_clause g n made)
       (λ made. after (IsAt p b rs) (grouping_typed (components_in n) g) (λ names. having_typed env (place.Inside (at_groups j n names)) e >>= aggr_clause g n made)
-      (λ names. after (IsAt p b rs) (having_typed env (place.Inside (at_groups j n names)) e) (aggr_clause g n made) (aggr-clause-at g n made)))
+      (λ names. after (IsAt p b rs) (having_typed env (place.Inside (at_groups j n names)) e) (aggr_clause g n made) (aggr_clause_at g n made)))
 
 module _ (p : Settings) where
   -- ---- `sub`
@@ -154,8 +154,8 @@ module _ (p : Settings) where
       go (Err fault) = tt
   converted kind v h = h
 
-  value-filled : (kind : Kind) (l : Literal) → Gives (IsFilled p) (sub_value p kind l)
-  value-filled kind l =
+  value_filled : (kind : Kind) (l : Literal) → Gives (IsFilled p) (sub_value p kind l)
+  value_filled kind l =
       after (IsFilled p) (kind_met kind (literal_kind l)) (λ u. valued (cell_as p kind (literal_cell p l)))
       (λ u. valued-gives (IsFilled p) (cell_as p kind (literal_cell p l)) (go (literal_cell p l) (literal-cell p l)))
     where
@@ -166,33 +166,33 @@ module _ (p : Settings) where
   abbrev IsNewItem : List (List ℕ) → SubItem → Type 0
   IsNewItem before i = IsFilled p i.value × (is_among i.id before ≡ false)
 
-  name-new : (xs : List Component) (before : List (List ℕ)) (name : List ℕ) → Gives (λ x. is_among name before ≡ false) (known wanted.Identifier xs before name)
-  name-new xs before name = go (component_of name xs)
+  name_new : (xs : List Component) (before : List (List ℕ)) (name : List ℕ) → Gives (λ x. is_among name before ≡ false) (known wanted.Identifier xs before name)
+  name_new xs before name = go (component_of name xs)
     where
       go : (o : Option Component) → Gives (λ x. is_among name before ≡ false) (known_as wanted.Identifier before name o)
       go None = tt
       go (Some x) = tested (λ x. is_among name before ≡ false) (name_tests wanted.Identifier before name x.role) x (λ passed. passed.0)
 
-  item-new : (xs : List Component) (before : List (List ℕ)) (s : SubPart) → Gives (IsNewItem before) (sub_known p xs before s)
+  item_new : (xs : List Component) (before : List (List ℕ)) (s : SubPart) → Gives (IsNewItem before) (sub_known p xs before s)
   unfolding sub_known
-  item-new xs before s =
-      then (λ x. is_among (name_of s.component) before ≡ false) (IsNewItem before) (known wanted.Identifier xs before (name_of s.component)) (λ x. sub_value p x.kind s.value >>= λ cell. Ok (sub_item (name_of s.component) cell)) (name-new xs before (name_of s.component))
-      (λ x new. then (IsFilled p) (IsNewItem before) (sub_value p x.kind s.value) (λ cell. Ok (sub_item (name_of s.component) cell)) (value-filled x.kind s.value) (λ cell is. (is, new)))
+  item_new xs before s =
+      then (λ x. is_among (name_of s.component) before ≡ false) (IsNewItem before) (known wanted.Identifier xs before (name_of s.component)) (λ x. sub_value p x.kind s.value >>= λ cell. Ok (sub_item (name_of s.component) cell)) (name_new xs before (name_of s.component))
+      (λ x new. then (IsFilled p) (IsNewItem before) (sub_value p x.kind s.value) (λ cell. Ok (sub_item (name_of s.component) cell)) (value_filled x.kind s.value) (λ cell is. (is, new)))
 
-  one-more : (done : List SubItem) (i : SubItem) → AreValues p done → IsNewItem (sub_names done) i → AreValues p (done ++ i ∷ [])
-  one-more done i are is = record {
+  one_more : (done : List SubItem) (i : SubItem) → AreValues p done → IsNewItem (sub_names done) i → AreValues p (done ++ i ∷ [])
+  one_more done i are is = record {
     filled = lists.appended (λ i. IsFilled p i.value) done (i ∷ []) are.filled (is.0, tt);
     apart = ap (all_apart same_name) (map-append (λ (i : SubItem). i.id) done (i ∷ [])) ∙ apart_push (sub_names done) i.id are.apart (sym (among-any i.id (sub_names done)) ∙ is.1);
   }
 
-  items-valued : (xs : List Component) (done : List SubItem) (ss : List SubPart) → AreValues p done → Gives (AreValues p) (subs_typed p xs done ss)
-  items-valued xs done [] are = are
-  items-valued xs done (s ∷ ss) are =
-      then (IsNewItem (sub_names done)) (AreValues p) (sub_known p xs (sub_names done) s) (λ item. subs_typed p xs (done ++ item ∷ []) ss) (item-new xs (sub_names done) s)
-      (λ item is. items-valued xs (done ++ item ∷ []) ss (one-more done item are is))
+  items_valued : (xs : List Component) (done : List SubItem) (ss : List SubPart) → AreValues p done → Gives (AreValues p) (subs_typed p xs done ss)
+  items_valued xs done [] are = are
+  items_valued xs done (s ∷ ss) are =
+      then (IsNewItem (sub_names done)) (AreValues p) (sub_known p xs (sub_names done) s) (λ item. subs_typed p xs (done ++ item ∷ []) ss) (item_new xs (sub_names done) s)
+      (λ item is. items_valued xs (done ++ item ∷ []) ss (one_more done item are is))
 
-  pub sub-worded : (n : NodeTree) (ss : List SubPart) → IsWorded p n → Gives (IsWorded p) (sub_form p n ss)
+  pub sub_worded : (n : NodeTree) (ss : List SubPart) → IsWorded p n → Gives (IsWorded p) (sub_form p n ss)
   unfolding sub_form
-  sub-worded n ss h =
-      then (AreValues p) (IsWorded p) (subs_typed p (components_in n) [] ss) (sub_of n) (items-valued (components_in n) [] ss (record { filled = tt; apart = refl }))
-      (λ items are. from-outside p _ (clause-at p false [] (nodes.sub n items) _ (λ t. ((h t, are), λ e. absurd (false≢true e)))))
+  sub_worded n ss h =
+      then (AreValues p) (IsWorded p) (subs_typed p (components_in n) [] ss) (sub_of n) (items_valued (components_in n) [] ss (record { filled = tt; apart = refl }))
+      (λ items are. from_outside p _ (clause_at p false [] (nodes.sub n items) _ (λ t. ((h t, are), λ e. absurd (false≢true e)))))

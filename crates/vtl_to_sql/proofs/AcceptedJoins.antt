@@ -35,9 +35,9 @@ use Rattle.vtl_check.specs.places.Place.TheVariants as place
 use Rattle.check_laws.specs.Gives.{Gives}
 use Rattle.check_laws.proofs.Lists as lists
 use Rattle.check_laws.proofs.Steps.{after, tested, then}
-use Rattle.vtl_to_sql.proofs.AcceptedClauses.{clause-at, filter-at, keeping-at, renaming-at, targets-at}
-use Rattle.vtl_to_sql.proofs.AcceptedOperators.{dataset-in-worded, tree-step}
-use Rattle.vtl_to_sql.proofs.AcceptedWords.{IsAt, IsTreeWorded, IsWorded, OperandsHaveWords, from-outside}
+use Rattle.vtl_to_sql.proofs.AcceptedClauses.{clause_at, filter_at, keeping_at, renaming_at, targets_at}
+use Rattle.vtl_to_sql.proofs.AcceptedOperators.{dataset_in_worded, tree_step}
+use Rattle.vtl_to_sql.proofs.AcceptedWords.{IsAt, IsTreeWorded, IsWorded, OperandsHaveWords, from_outside}
 
 -- ---- operands
 abbrev pub IsPart : Settings → PartTyped → Type 0
@@ -46,8 +46,8 @@ IsPart p x = IsTreeWorded p x.operand × (is_name x.alias ≡ true)
 abbrev IsOperand : Settings → OperandTree → Type 0
 IsOperand p o = IsWorded p o.node × (is_name o.alias ≡ true)
 
-alias-named : (done : List PartTyped) (e : Exp) (a : Option (List ℕ)) → written.IsWrittenExp e → IfSome a written.IsName → Gives written.IsName (new_alias done e a)
-alias-named done e a we wa = then written.IsName written.IsName (alias_of e a) (λ alias. ruled ((rule.RepeatedName, is_among alias (aliases_in done)) ∷ []) alias) (go a wa) (λ alias h. tested written.IsName ((rule.RepeatedName, is_among alias (aliases_in done)) ∷ []) alias (λ passed. h))
+alias_named : (done : List PartTyped) (e : Exp) (a : Option (List ℕ)) → written.IsWrittenExp e → IfSome a written.IsName → Gives written.IsName (new_alias done e a)
+alias_named done e a we wa = then written.IsName written.IsName (alias_of e a) (λ alias. ruled ((rule.RepeatedName, is_among alias (aliases_in done)) ∷ []) alias) (go a wa) (λ alias h. tested written.IsName ((rule.RepeatedName, is_among alias (aliases_in done)) ∷ []) alias (λ passed. h))
   where
     own : (e : Exp) → written.IsWrittenExp e → Gives written.IsName (own_alias e)
     own (tree.component (comp.Name name)) w = w
@@ -57,71 +57,71 @@ alias-named done e a we wa = then written.IsName written.IsName (alias_of e a) (
     go (Some alias) h = h
     go None h = own e we
 
-pub part-worded : (p : Settings) (done : List PartTyped) (e : Exp) (a : Option (List ℕ)) (x : TypedTree) → AllByRecursion (IsPart p) done → written.IsWrittenExp e → IfSome a written.IsName → IsTreeWorded p x → Gives (AllByRecursion (IsPart p)) (with_part done e a x)
+pub part_worded : (p : Settings) (done : List PartTyped) (e : Exp) (a : Option (List ℕ)) (x : TypedTree) → AllByRecursion (IsPart p) done → written.IsWrittenExp e → IfSome a written.IsName → IsTreeWorded p x → Gives (AllByRecursion (IsPart p)) (with_part done e a x)
 unfolding with_part
-part-worded p done e a x hd we wa h =
-    then written.IsName (AllByRecursion (IsPart p)) (new_alias done e a) (λ alias. Ok (done ++ record { operand = x; alias = alias } ∷ [])) (alias-named done e a we wa)
+part_worded p done e a x hd we wa h =
+    then written.IsName (AllByRecursion (IsPart p)) (new_alias done e a) (λ alias. Ok (done ++ record { operand = x; alias = alias } ∷ [])) (alias_named done e a we wa)
     (λ alias named. lists.appended (IsPart p) done (record { operand = x; alias = alias } ∷ []) hd ((h, named), tt))
 
-operand-worded : (p : Settings) (x : PartTyped) → IsPart p x → Gives (IsOperand p) (operand_in x)
-operand-worded p x h = then (IsWorded p) (IsOperand p) (dataset_in x.operand) (λ n. Ok (record { node = n; alias = x.alias })) (dataset-in-worded p x.operand h.0) (λ n k. (k, h.1))
+operand_worded : (p : Settings) (x : PartTyped) → IsPart p x → Gives (IsOperand p) (operand_in x)
+operand_worded p x h = then (IsWorded p) (IsOperand p) (dataset_in x.operand) (λ n. Ok (record { node = n; alias = x.alias })) (dataset_in_worded p x.operand h.0) (λ n k. (k, h.1))
 
-operands-worded : (p : Settings) (xs : List PartTyped) → AllByRecursion (IsPart p) xs → Gives (AllByRecursion (IsOperand p)) (operands_in xs)
-operands-worded p [] h = tt
-operands-worded p (x ∷ xs) h =
-    then (IsOperand p) (AllByRecursion (IsOperand p)) (operand_in x) (λ o. operands_in xs >>= λ os. Ok (o ∷ os)) (operand-worded p x h.0)
-    (λ o k. then (AllByRecursion (IsOperand p)) (AllByRecursion (IsOperand p)) (operands_in xs) (λ os. Ok (o ∷ os)) (operands-worded p xs h.1) (λ os all. (k, all)))
+operands_worded : (p : Settings) (xs : List PartTyped) → AllByRecursion (IsPart p) xs → Gives (AllByRecursion (IsOperand p)) (operands_in xs)
+operands_worded p [] h = tt
+operands_worded p (x ∷ xs) h =
+    then (IsOperand p) (AllByRecursion (IsOperand p)) (operand_in x) (λ o. operands_in xs >>= λ os. Ok (o ∷ os)) (operand_worded p x h.0)
+    (λ o k. then (AllByRecursion (IsOperand p)) (AllByRecursion (IsOperand p)) (operands_in xs) (λ os. Ok (o ∷ os)) (operands_worded p xs h.1) (λ os all. (k, all)))
 
-all-words : (p : Settings) (os : List OperandTree) → AllByRecursion (IsOperand p) os → are_operands_built (operands_of os) ≡ true → OperandsHaveWords p (operands_of os)
-all-words p [] h t = tt
-all-words p (o ∷ os) h t = let both = and_parts (is_built o.node) (are_operands_built (operands_of os)) t in (h.0.0 both.0, h.0.1, all-words p os h.1 both.1)
+all_words : (p : Settings) (os : List OperandTree) → AllByRecursion (IsOperand p) os → are_operands_built (operands_of os) ≡ true → OperandsHaveWords p (operands_of os)
+all_words p [] h t = tt
+all_words p (o ∷ os) h t = let both = and_parts (is_built o.node) (are_operands_built (operands_of os)) t in (h.0.0 both.0, h.0.1, all_words p os h.1 both.1)
 
-same-operands : (os : List OperandTree) → made.operands_in (operands_of os) ≡ map shape_of os
-same-operands [] = refl
-same-operands (o ∷ os) = ap (λ l. shape_of o ∷ l) (same-operands os)
+same_operands : (os : List OperandTree) → made.operands_in (operands_of os) ≡ map shape_of os
+same_operands [] = refl
+same_operands (o ∷ os) = ap (λ l. shape_of o ∷ l) (same_operands os)
 
 -- ---- bodies
 -- the names that the join gives back
-abbrev given-back : Joined → List Renaming
-given-back j = last_renamings j.kind j.held j.operands
+abbrev given_back : Joined → List Renaming
+given_back j = last_renamings j.kind j.held j.operands
 
-joined-worded : (p : Settings) (kind : JoinKind) (u : Option (List Comp)) (os : List OperandTree) → AllByRecursion (IsOperand p) os → Gives (IsAt p true (given-back (joined_of kind os))) (joined_node kind u os)
+joined_worded : (p : Settings) (kind : JoinKind) (u : Option (List Comp)) (os : List OperandTree) → AllByRecursion (IsOperand p) os → Gives (IsAt p true (given_back (joined_of kind os))) (joined_node kind u os)
 unfolding joined_node
-joined-worded p kind u os h =
-    clause-at p true (given-back (joined_of kind os)) (nodes.join (operands_of os) (record { kind = kind; using = using_names u })) _
-    (λ t. (all-words p os h t, λ e. ap (λ ds. last_renamings kind (held_names kind ds) ds) (same-operands os)))
+joined_worded p kind u os h =
+    clause_at p true (given_back (joined_of kind os)) (nodes.join (operands_of os) (record { kind = kind; using = using_names u })) _
+    (λ t. (all_words p os h t, λ e. ap (λ ds. last_renamings kind (held_names kind ds) ds) (same_operands os)))
 
-last-worded : (p : Settings) (j : Joined) (n : NodeTree) → IsAt p true (given-back j) n → Gives (IsWorded p) (last_naming j n)
+last_worded : (p : Settings) (j : Joined) (n : NodeTree) → IsAt p true (given_back j) n → Gives (IsWorded p) (last_naming j n)
 unfolding last_naming
-last-worded p j n h = from-outside p _ (clause-at p false [] (nodes.rename n (left_names j (components_in n))) _ (λ t. (inr ((h t).0, ap (filter (is_left (components_in n))) (sym ((h t).1 refl))), λ e. absurd (false≢true e))))
+last_worded p j n h = from_outside p _ (clause_at p false [] (nodes.rename n (left_names j (components_in n))) _ (λ t. (inr ((h t).0, ap (filter (is_left (components_in n))) (sym ((h t).1 refl))), λ e. absurd (false≢true e))))
 
-end-worded : (p : Settings) (j : Joined) (k : Option Keeping) (rs : Option (List RenamePart)) (n : NodeTree) → IfSome rs (written.SomeAll written.IsRenaming) → IsAt p true (given-back j) n → Gives (IsTreeWorded p) (body_end (Some j) k rs n)
-end-worded p j k rs n w h =
-    then (IsAt p true (given-back j)) (IsTreeWorded p) (keeping_step (Some j) k n >>= renaming_step (Some j) rs) (λ z. as_dataset (last_step (Some j) z)) (then (IsAt p true (given-back j)) (IsAt p true (given-back j)) (keeping_step (Some j) k n) (renaming_step (Some j) rs) (kept k) (renamed rs w))
-    (λ z hz. tree-step p (last_naming j z) (last-worded p j z hz))
+end_worded : (p : Settings) (j : Joined) (k : Option Keeping) (rs : Option (List RenamePart)) (n : NodeTree) → IfSome rs (written.SomeAll written.IsRenaming) → IsAt p true (given_back j) n → Gives (IsTreeWorded p) (body_end (Some j) k rs n)
+end_worded p j k rs n w h =
+    then (IsAt p true (given_back j)) (IsTreeWorded p) (keeping_step (Some j) k n >>= renaming_step (Some j) rs) (λ z. as_dataset (last_step (Some j) z)) (then (IsAt p true (given_back j)) (IsAt p true (given_back j)) (keeping_step (Some j) k n) (renaming_step (Some j) rs) (kept k) (renamed rs w))
+    (λ z hz. tree_step p (last_naming j z) (last_worded p j z hz))
   where
-    kept : (k : Option Keeping) → Gives (IsAt p true (given-back j)) (keeping_step (Some j) k n)
+    kept : (k : Option Keeping) → Gives (IsAt p true (given_back j)) (keeping_step (Some j) k n)
     kept None = h
-    kept (Some x) = keeping-at p true (given-back j) (Some j) n x h
+    kept (Some x) = keeping_at p true (given_back j) (Some j) n x h
 
-    renamed : (rs : Option (List RenamePart)) → IfSome rs (written.SomeAll written.IsRenaming) → (z : NodeTree) → IsAt p true (given-back j) z → Gives (IsAt p true (given-back j)) (renaming_step (Some j) rs z)
+    renamed : (rs : Option (List RenamePart)) → IfSome rs (written.SomeAll written.IsRenaming) → (z : NodeTree) → IsAt p true (given_back j) z → Gives (IsAt p true (given_back j)) (renaming_step (Some j) rs z)
     renamed None w z hz = hz
-    renamed (Some rs) w z hz = renaming-at p true (given-back j) (Some j) z rs w.1 hz
+    renamed (Some rs) w z hz = renaming_at p true (given_back j) (Some j) z rs w.1 hz
 
-pub joins-worded : (env : Env) (kind : JoinKind) (parts : Result (List PartTyped) Rule) (u : Option (List Comp)) (f : MaybeExp) (m : MaybeTargets) (k : Option Keeping) (rs : Option (List RenamePart)) → Gives (AllByRecursion (IsPart env.settings)) parts → written.IsWrittenStep m → IfSome rs (written.SomeAll written.IsRenaming) → Gives (IsTreeWorded env.settings) (parts >>= operands_in >>= λ os. filtered_join env (Some (joined_of kind os)) f kind u os >>= join_end env (Some (joined_of kind os)) m k rs)
-joins-worded env kind parts u f m k rs hp wm wr =
-    then (AllByRecursion (IsOperand env.settings)) (IsTreeWorded env.settings) (parts >>= operands_in) (λ os. filtered_join env (Some (joined_of kind os)) f kind u os >>= join_end env (Some (joined_of kind os)) m k rs) (then (AllByRecursion (IsPart env.settings)) (AllByRecursion (IsOperand env.settings)) parts operands_in hp (operands-worded env.settings))
+pub joins_worded : (env : Env) (kind : JoinKind) (parts : Result (List PartTyped) Rule) (u : Option (List Comp)) (f : MaybeExp) (m : MaybeTargets) (k : Option Keeping) (rs : Option (List RenamePart)) → Gives (AllByRecursion (IsPart env.settings)) parts → written.IsWrittenStep m → IfSome rs (written.SomeAll written.IsRenaming) → Gives (IsTreeWorded env.settings) (parts >>= operands_in >>= λ os. filtered_join env (Some (joined_of kind os)) f kind u os >>= join_end env (Some (joined_of kind os)) m k rs)
+joins_worded env kind parts u f m k rs hp wm wr =
+    then (AllByRecursion (IsOperand env.settings)) (IsTreeWorded env.settings) (parts >>= operands_in) (λ os. filtered_join env (Some (joined_of kind os)) f kind u os >>= join_end env (Some (joined_of kind os)) m k rs) (then (AllByRecursion (IsPart env.settings)) (AllByRecursion (IsOperand env.settings)) parts operands_in hp (operands_worded env.settings))
     (λ os hos. then (Body os) (IsTreeWorded env.settings) (filtered_join env (Some (joined_of kind os)) f kind u os) (join_end env (Some (joined_of kind os)) m k rs)
-    (then (Body os) (Body os) (joined_node kind u os) (λ n. filter_step env (Some (joined_of kind os)) n f) (joined-worded env.settings kind u os hos) (filtered os f))
-    (λ a h. then (Body os) (IsTreeWorded env.settings) (targets_step env (Some (joined_of kind os)) a m) (body_end (Some (joined_of kind os)) k rs) (stepped os m wm a h) (λ z hz. end-worded env.settings (joined_of kind os) k rs z wr hz)))
+    (then (Body os) (Body os) (joined_node kind u os) (λ n. filter_step env (Some (joined_of kind os)) n f) (joined_worded env.settings kind u os hos) (filtered os f))
+    (λ a h. then (Body os) (IsTreeWorded env.settings) (targets_step env (Some (joined_of kind os)) a m) (body_end (Some (joined_of kind os)) k rs) (stepped os m wm a h) (λ z hz. end_worded env.settings (joined_of kind os) k rs z wr hz)))
   where
     Body : List OperandTree → NodeTree → Type 0
-    Body os n = IsAt env.settings true (given-back (joined_of kind os)) n
+    Body os n = IsAt env.settings true (given_back (joined_of kind os)) n
 
-    filtered : (os : List OperandTree) (f : MaybeExp) (n : NodeTree) → IsAt env.settings true (given-back (joined_of kind os)) n → Gives (Body os) (filter_step env (Some (joined_of kind os)) n f)
+    filtered : (os : List OperandTree) (f : MaybeExp) (n : NodeTree) → IsAt env.settings true (given_back (joined_of kind os)) n → Gives (Body os) (filter_step env (Some (joined_of kind os)) n f)
     filtered os tree.no_exp n h = h
-    filtered os (tree.some_exp e) n h = after (Body os) (typed env (place.Inside (at_points (Some (joined_of kind os)) n)) e) (filter_form n) (λ x. filter-at env.settings true (given-back (joined_of kind os)) n x h)
+    filtered os (tree.some_exp e) n h = after (Body os) (typed env (place.Inside (at_points (Some (joined_of kind os)) n)) e) (filter_form n) (λ x. filter_at env.settings true (given_back (joined_of kind os)) n x h)
 
-    stepped : (os : List OperandTree) (m : MaybeTargets) → written.IsWrittenStep m → (a : NodeTree) → IsAt env.settings true (given-back (joined_of kind os)) a → Gives (Body os) (targets_step env (Some (joined_of kind os)) a m)
+    stepped : (os : List OperandTree) (m : MaybeTargets) → written.IsWrittenStep m → (a : NodeTree) → IsAt env.settings true (given_back (joined_of kind os)) a → Gives (Body os) (targets_step env (Some (joined_of kind os)) a m)
     stepped os tree.no_targets w a h = h
-    stepped os (tree.some_targets x) w a h = targets-at env.settings true (given-back (joined_of kind os)) env (Some (joined_of kind os)) a x w h
+    stepped os (tree.some_targets x) w a h = targets_at env.settings true (given_back (joined_of kind os)) env (Some (joined_of kind os)) a x w h

@@ -28,7 +28,7 @@ use Rattle.sql_lexer.specs.Spelling.{is_name as is_sql_name}
 use Rattle.sql_lexer.proofs.NameParts.{size-append}
 use Rattle.sql_tree.specs.Formed.{IsName}
 use Rattle.vtl_to_sql.proofs.AcceptedComponents.{ArePlain, IsFrom, IsPlain, agreed_named, all_weaker, column_name, plain}
-use Rattle.vtl_to_sql.proofs.AcceptedWords.{AreRenamings, IsColumnName, name-word, word-column}
+use Rattle.vtl_to_sql.proofs.AcceptedWords.{AreRenamings, IsColumnName, name_word, word_column}
 use Rattle.vtl_to_sql.proofs.Names.{all_pass}
 
 -- ---- names behind aliases
@@ -120,7 +120,7 @@ module _ (kind : JoinKind) (held : List (List ℕ)) where
       go : (b : Bool) → is_shared held x.name ≡ b → IsPlain rs (record x { name = joined_name held alias x.name })
       go true e =
           let same : joined_name held alias x.name ≡ marked alias x.name = ap (λ b. cond b (marked alias x.name) x.name) e in
-          (subst IsName (sym same) (marked_is_name alias x.name (word-column alias (name-word alias named)) (column_name x h)), inr (back (and_from (is_held kind x) (is_shared held x.name) there e)), h.2)
+          (subst IsName (sym same) (marked_is_name alias x.name (word_column alias (name_word alias named)) (column_name x h)), inr (back (and_from (is_held kind x) (is_shared held x.name) there e)), h.2)
       go false e =
           let same : joined_name held alias x.name ≡ x.name = ap (λ b. cond b (marked alias x.name) x.name) e in
           (subst IsName (sym same) h.0, inl (subst IsColumnName (sym same) (column_name x h)), h.2)

@@ -1,7 +1,7 @@
 -- An expression on data sets that is made over data sets with names is translated, where its words are names, its constants are held
 -- and it is not too deep.
 use Rattle.std.proofs.Common.{inl, inr, ◌≡◌, ◌≤◌, ℕ, zero, suc, Bool, true, false, cond, ◌&&◌, ◌||◌, not, List, [], ◌∷◌, ◌++◌, map, length, refl, sym, ap, ◌∙◌, arith}
-use Rattle.std.proofs.lemmas.Bool.{and_from, and_parts, false≢true}
+use Rattle.std.proofs.lemmas.Bool.{and_parts, false≢true}
 use Rattle.std.proofs.lemmas.List.{length-map}
 use Rattle.std.proofs.lemmas.List.Filters.{length-filter_both}
 use Rattle.std.specs.List.{AllByRecursion, filter, list_any}
@@ -19,24 +19,24 @@ use Rattle.vtl_tree.specs.declared.structure.Role.TheVariants as role
 use Rattle.vtl_tree.specs.declared.structure.Structure.{Structure}
 use Rattle.vtl_meaning.proofs.Places.{same_name-is, same_name-refl}
 use Rattle.vtl_meaning.specs.Columns.{identifiers_of, kind_named, place_of}
-use Rattle.vtl_meaning.specs.Made.{AreMade, IsColumnAt, IsMade, IsMadeForm, IsSub}
-use Rattle.vtl_meaning.specs.Nodes.{all_nodes, form_nodes, nodes_in}
+use Rattle.vtl_meaning.specs.Made.{AreMade, AreMadeOperands, IsColumnAt, IsMade, IsMadeForm, IsSub}
+use Rattle.vtl_meaning.specs.Nodes.{all_nodes, form_nodes, nodes_in, operand_nodes}
 use Rattle.vtl_meaning.specs.Operators.{calculated_exps, measured_exps, pair_exps}
 use Rattle.vtl_meaning.specs.Shapes.{IsShaped}
-use Rattle.vtl_meaning.specs.Meaning.{are_nodes_built, is_built, is_built_form}
 use Rattle.vtl_meaning.specs.Trees as nodes
-use Rattle.vtl_meaning.specs.Trees.{FormTree, NodeTree, NodeTrees, structure_of}
+use Rattle.vtl_meaning.specs.Trees.{FormTree, NodeTree, NodeTrees, OperandTrees, structure_of}
 use Rattle.vtl_meaning.specs.clauses.SubItem.{SubItem}
 use Rattle.check_laws.specs.Depths.{exps_in, held_exps, made_exps}
 use Rattle.check_laws.proofs.DepthBounds.{AreNodesUpTo, AreUpTo, IsUpTo}
 use Rattle.check_laws.proofs.Inner.{made-shaped}
 use Rattle.check_laws.proofs.Lists as lists
 use Rattle.rules_to_sql.specs.Held.{HoldsValues}
-use Rattle.vtl_to_sql.specs.Accepted.{AllHoldValues, FormHoldsConstants, HoldsConstants, NodesHoldConstants, are_nodes_translated, is_form_translated, is_translated}
-use Rattle.vtl_to_sql.specs.Conditions.{AllCanBeWritten, AreNodesTranslated, CanBeWritten, HasValue, IsFormTranslated, IsTranslated}
+use Rattle.vtl_to_sql.specs.Accepted.{AllHoldValues, FormHoldsParts, HoldsParts, NodesHoldParts, OperandsHoldParts, are_nodes_translated, are_operands_translated, is_form_translated, is_translated}
+use Rattle.vtl_to_sql.specs.Conditions.{AllCanBeWritten, AreNodesTranslated, AreOperandsTranslated, CanBeWritten, HasValue, IsFormTranslated, IsTranslated}
 use Rattle.vtl_to_sql.proofs.AcceptedComponents.{AreKnownNamed, codes_are_texts, columns_named}
+use Rattle.vtl_to_sql.proofs.AcceptedForms.{evaluated, form_evaluated}
 use Rattle.vtl_to_sql.proofs.AcceptedNames.{components_named, form_named, marks}
-use Rattle.vtl_to_sql.proofs.AcceptedWords.{AreValues, FormHasWords, HasWords, HaveWords, IsFilled}
+use Rattle.vtl_to_sql.proofs.AcceptedWords.{AreValues, FormHasWords, HasWords, HaveWords, IsFilled, OperandsHaveWords}
 
 -- ---- expressions
 written : (e : CompExp) → HoldsValues e → IsUpTo depth_limit e → CanBeWritten e
@@ -101,39 +101,6 @@ few_items p items a s shaped is are =
 all_values : (p : Settings) (items : List SubItem) → AllByRecursion (λ i. IsHeld i.value) items → AreValues p items → AllByRecursion (HasValue p) items
 all_values p items h are = lists.joined (λ i. IsHeld i.value) (λ i. IsFilled p i.value) (HasValue p) items (λ i held filled. record { held = held; ranged = filled.0; filled = filled.1 }) h are.filled
 
--- ---- what is translated is evaluated
-mutual
-  pub evaluated : (n : NodeTree) → is_translated n ≡ true → is_built n ≡ true
-  evaluated (nodes.node s form) t = form_evaluated s form t
-
-  form_evaluated : (s : Structure) (form : FormTree) → is_form_translated form ≡ true → is_built_form form ≡ true
-  form_evaluated s (nodes.named x) t = refl
-  form_evaluated s (nodes.measures o a) t = evaluated a t
-  form_evaluated s (nodes.pair o a c) t = let both = and_parts (is_translated a) (is_translated c) t in and_from (is_built a) (is_built c) (evaluated a both.0) (evaluated c both.1)
-  form_evaluated s (nodes.choose q a c) t =
-      let first = and_parts (is_translated q) (is_translated a && is_translated c) t in
-      let both = and_parts (is_translated a) (is_translated c) first.1 in
-      and_from (is_built q) (is_built a && is_built c) (evaluated q first.0) (and_from (is_built a) (is_built c) (evaluated a both.0) (evaluated c both.1))
-  form_evaluated s (nodes.member a x) t = evaluated a t
-  form_evaluated s (nodes.filter a e) t = evaluated a t
-  form_evaluated s (nodes.calc a items) t = evaluated a t
-  form_evaluated s (nodes.keep a names) t = evaluated a t
-  form_evaluated s (nodes.drop_named a names) t = evaluated a t
-  form_evaluated s (nodes.rename a pairs) t = evaluated a t
-  form_evaluated s (nodes.sub a items) t = evaluated a t
-  form_evaluated s (nodes.pivot a id x) t = evaluated a t
-  form_evaluated s (nodes.unpivot a id x) t = evaluated a t
-  form_evaluated s (nodes.union ns) t = all_evaluated ns t
-  form_evaluated s (nodes.intersect ns) t = all_evaluated ns t
-  form_evaluated s (nodes.set_diff a c) t = let both = and_parts (is_translated a) (is_translated c) t in and_from (is_built a) (is_built c) (evaluated a both.0) (evaluated c both.1)
-  form_evaluated s (nodes.sym_diff a c) t = let both = and_parts (is_translated a) (is_translated c) t in and_from (is_built a) (is_built c) (evaluated a both.0) (evaluated c both.1)
-  form_evaluated s (nodes.exists_in a c r) t = let both = and_parts (is_translated a) (is_translated c) t in and_from (is_built a) (is_built c) (evaluated a both.0) (evaluated c both.1)
-  form_evaluated s other t = absurd (false≢true t)
-
-  all_evaluated : (ns : NodeTrees) → are_nodes_translated ns ≡ true → are_nodes_built ns ≡ true
-  all_evaluated nodes.no_nodes t = refl
-  all_evaluated (nodes.and_node n ns) t = let both = and_parts (is_translated n) (are_nodes_translated ns) t in and_from (is_built n) (are_nodes_built ns) (evaluated n both.0) (all_evaluated ns both.1)
-
 -- ---- expressions on data sets
 module _ (p : Settings) (known : Named) (all : AreKnownNamed known) where
   -- the depths of operands beside each other
@@ -147,10 +114,10 @@ module _ (p : Settings) (known : Named) (all : AreKnownNamed known) where
   made_shallow s form d = lists.back (IsUpTo depth_limit) (held_exps form) (made_exps s form) d
 
   mutual
-    pub node_translated : (b : Bool) (n : NodeTree) → IsMade p known n → is_translated n ≡ true → HasWords p b n → HoldsConstants n → AreNodesUpTo depth_limit (nodes_in n) → IsTranslated p n
-    node_translated b (nodes.node s form) m t w h d = (columns_named (marks b form) s (form_named p known all b s form m.1 (form_evaluated s form t) w).0, form_translated b s form m.1 t w h d.0 d.1)
+    pub node_translated : (b : Bool) (n : NodeTree) → IsMade p known n → is_translated n ≡ true → HasWords p b n → HoldsParts n → AreNodesUpTo depth_limit (nodes_in n) → IsTranslated p n
+    node_translated b (nodes.node s form) m t w h d = (columns_named (marks b form) s (form_named p known all b s form m.1 (sym (form_evaluated form) ∙ t) w).0, form_translated b s form m.1 t w h d.0 d.1)
 
-    form_translated : (b : Bool) (s : Structure) (form : FormTree) → IsMadeForm p known s form → is_form_translated form ≡ true → FormHasWords p b form → FormHoldsConstants s form → AreUpTo depth_limit (exps_in (nodes.node s form)) → AreNodesUpTo depth_limit (form_nodes form) → IsFormTranslated p s form
+    form_translated : (b : Bool) (s : Structure) (form : FormTree) → IsMadeForm p known s form → is_form_translated form ≡ true → FormHasWords p b form → FormHoldsParts s form → AreUpTo depth_limit (exps_in (nodes.node s form)) → AreNodesUpTo depth_limit (form_nodes form) → IsFormTranslated p s form
     form_translated b s (nodes.named x) m t w h own d = tt
     form_translated b s (nodes.measures o a) m t w h own d = (node_translated false a m.0 t w h.0 d, all_written (measured_exps o (structure_of a) s) h.1 (made_shallow s (nodes.measures o a) own))
     form_translated b s (nodes.pair o a c) m t w h own d =
@@ -169,7 +136,7 @@ module _ (p : Settings) (known : Named) (all : AreKnownNamed known) where
     form_translated b s (nodes.rename a pairs) m t (inl w) h own d = node_translated b a m.0 t w.0 h d
     form_translated b s (nodes.rename a pairs) m t (inr w) h own d = node_translated true a m.0 t w.0 h d
     form_translated b s (nodes.sub a items) m t w h own d = (node_translated false a m.0 t w.0 h.0 d, all_values p items h.1 w.1, few_items p items (structure_of a) s (made-shaped p known a m.0) m.1 w.1)
-    form_translated b s (nodes.pivot a id x) m t w h own d = (node_translated false a m.0 t w.0 h d, codes_are_texts id (structure_of a) (components_named p known all false a m.0 (evaluated a t) w.0).0 w.1)
+    form_translated b s (nodes.pivot a id x) m t w h own d = (node_translated false a m.0 t w.0 h d, codes_are_texts id (structure_of a) (components_named p known all false a m.0 (sym (evaluated a) ∙ t) w.0).0 w.1)
     form_translated b s (nodes.unpivot a id x) m t w h own d = node_translated false a m.0 t w.0 h d
     form_translated b s (nodes.union ns) m t w h own d = nodes_translated ns m.0 t w h d
     form_translated b s (nodes.intersect ns) m t w h own d = nodes_translated ns m.0 t w h d
@@ -182,10 +149,18 @@ module _ (p : Settings) (known : Named) (all : AreKnownNamed known) where
     form_translated b s (nodes.exists_in a c r) m t w h own d =
         let both = and_parts (is_translated a) (is_translated c) t in
         (node_translated false a m.0 both.0 w.0 h.0 (left (nodes_in a) (nodes_in c) d), node_translated false c m.1 both.1 w.1 h.1 (right (nodes_in a) (nodes_in c) d))
+    form_translated true s (nodes.join os spec) m t w h own d = (operands_translated os m.0 t w h.0 d, h.1)
+    form_translated false s (nodes.join os spec) m t w h own d = absurd w
     form_translated b s other m t w h own d = absurd (false≢true t)
 
-    nodes_translated : (ns : NodeTrees) → AreMade p known ns → are_nodes_translated ns ≡ true → HaveWords p ns → NodesHoldConstants ns → AreNodesUpTo depth_limit (all_nodes ns) → AreNodesTranslated p ns
+    nodes_translated : (ns : NodeTrees) → AreMade p known ns → are_nodes_translated ns ≡ true → HaveWords p ns → NodesHoldParts ns → AreNodesUpTo depth_limit (all_nodes ns) → AreNodesTranslated p ns
     nodes_translated nodes.no_nodes m t w h d = tt
     nodes_translated (nodes.and_node n ns) m t w h d =
         let both = and_parts (is_translated n) (are_nodes_translated ns) t in
         (node_translated false n m.0 both.0 w.0 h.0 (left (nodes_in n) (all_nodes ns) d), nodes_translated ns m.1 both.1 w.1 h.1 (right (nodes_in n) (all_nodes ns) d))
+
+    operands_translated : (os : OperandTrees) → AreMadeOperands p known os → are_operands_translated os ≡ true → OperandsHaveWords p os → OperandsHoldParts os → AreNodesUpTo depth_limit (operand_nodes os) → AreOperandsTranslated p os
+    operands_translated nodes.no_operands m t w h d = tt
+    operands_translated (nodes.operand n alias os) m t w h d =
+        let both = and_parts (is_translated n) (are_operands_translated os) t in
+        (node_translated false n m.0 both.0 w.0 h.0 (left (nodes_in n) (operand_nodes os) d), operands_translated os m.1 both.1 w.2 h.1 (right (nodes_in n) (operand_nodes os) d))

@@ -49,71 +49,71 @@ use Rattle.vtl_to_sql.proofs.AcceptedWords.{FormIsWorded, IsTreeWorded, IsWorded
 
 module _ (p : Settings) where
   -- a data set of any structure
-  pub dataset-worded : (form : FormTree) (r : Result Structure Rule) → FormIsWorded p form → Gives (IsTreeWorded p) (r >>= typed.made_of form)
-  dataset-worded form (Ok s) h = h
-  dataset-worded form (Err broken) h = tt
+  pub dataset_worded : (form : FormTree) (r : Result Structure Rule) → FormIsWorded p form → Gives (IsTreeWorded p) (r >>= typed.made_of form)
+  dataset_worded form (Ok s) h = h
+  dataset_worded form (Err broken) h = tt
 
   -- a value
-  pub value-worded : (r : Result CompExp Rule) → Gives (IsTreeWorded p) (r >>= of_value)
-  value-worded (Ok e) = tt
-  value-worded (Err broken) = tt
+  pub value_worded : (r : Result CompExp Rule) → Gives (IsTreeWorded p) (r >>= of_value)
+  value_worded (Ok e) = tt
+  value_worded (Err broken) = tt
 
-  pub dataset-in-worded : (x : TypedTree) → IsTreeWorded p x → Gives (IsWorded p) (dataset_in x)
-  dataset-in-worded (value e) h = tt
-  dataset-in-worded (dataset n) h = h
+  pub dataset_in_worded : (x : TypedTree) → IsTreeWorded p x → Gives (IsWorded p) (dataset_in x)
+  dataset_in_worded (value e) h = tt
+  dataset_in_worded (dataset n) h = h
 
-  pub dataset-step : (r : Result TypedTree Rule) → Gives (IsTreeWorded p) r → Gives (IsWorded p) (r >>= dataset_in)
-  dataset-step r h = then (IsTreeWorded p) (IsWorded p) r dataset_in h dataset-in-worded
+  pub dataset_step : (r : Result TypedTree Rule) → Gives (IsTreeWorded p) r → Gives (IsWorded p) (r >>= dataset_in)
+  dataset_step r h = then (IsTreeWorded p) (IsWorded p) r dataset_in h dataset_in_worded
 
-  pub tree-step : (r : Result NodeTree Rule) → Gives (IsWorded p) r → Gives (IsTreeWorded p) (as_dataset r)
-  tree-step r h = then (IsWorded p) (IsTreeWorded p) r (λ n. Ok (dataset n)) h (λ n k. k)
+  pub tree_step : (r : Result NodeTree Rule) → Gives (IsWorded p) r → Gives (IsTreeWorded p) (as_dataset r)
+  tree_step r h = then (IsWorded p) (IsTreeWorded p) r (λ n. Ok (dataset n)) h (λ n k. k)
 
   -- ---- names
-  component-worded : (i : Inside) (name : List ℕ) → Gives (IsTreeWorded p) (component_typed i name)
-  component-worded i name = after (IsTreeWorded p) (column_typed name i.components) (alone i.grouping name) (go i.grouping)
+  component_worded : (i : Inside) (name : List ℕ) → Gives (IsTreeWorded p) (component_typed i name)
+  component_worded i name = after (IsTreeWorded p) (column_typed name i.components) (alone i.grouping name) (go i.grouping)
     where
       go : (g : Option (List (List ℕ))) (e : CompExp) → Gives (IsTreeWorded p) (alone g name e)
       go None e = tt
       go (Some names) e = after (IsTreeWorded p) (ruled ((rule.AggregateMisuse, not (is_among name names)) ∷ []) (tt {0})) (λ u. of_value e) (λ u. tt)
 
-  pub names-worded : (env : Env) (at : Place) (x : Comp) → written.IsComponent x → Gives (IsTreeWorded p) (name_typed env at x)
-  names-worded env place.Outside (comp.Name name) h = go (lookup (same_name name) env.known)
+  pub names_worded : (env : Env) (at : Place) (x : Comp) → written.IsComponent x → Gives (IsTreeWorded p) (name_typed env at x)
+  names_worded env place.Outside (comp.Name name) h = go (lookup (same_name name) env.known)
     where
       go : (o : Option Structure) → Gives (IsTreeWorded p) (known_by name o)
       go None = tt
       go (Some s) = λ t. h
-  names-worded env place.Outside (comp.Quoted name) h = tt
-  names-worded env (place.Inside i) x h = component-worded i (name_of x)
+  names_worded env place.Outside (comp.Quoted name) h = tt
+  names_worded env (place.Inside i) x h = component_worded i (name_of x)
 
-  written-worded : (i : Inside) (w : Written) → Gives (IsTreeWorded p) (written_typed i w)
+  written_worded : (i : Inside) (w : Written) → Gives (IsTreeWorded p) (written_typed i w)
   unfolding written_typed
-  written-worded i w = after (IsTreeWorded p) _ _ (λ name. component-worded i name)
+  written_worded i w = after (IsTreeWorded p) _ _ (λ name. component_worded i name)
 
-  pub or-component-worded : (at : Place) (e : Exp) (x : Comp) (rest : Result TypedTree Rule) → Gives (IsTreeWorded p) rest → Gives (IsTreeWorded p) (or_component (member_inside at e x) rest)
-  or-component-worded place.Outside e x rest h = h
-  or-component-worded (place.Inside i) e x rest h = go (member_written e x)
+  pub or_component_worded : (at : Place) (e : Exp) (x : Comp) (rest : Result TypedTree Rule) → Gives (IsTreeWorded p) rest → Gives (IsTreeWorded p) (or_component (member_inside at e x) rest)
+  or_component_worded place.Outside e x rest h = h
+  or_component_worded (place.Inside i) e x rest h = go (member_written e x)
     where
       go : (o : Option Written) → Gives (IsTreeWorded p) (or_component (option_map (λ w. (i, w)) o) rest)
       go None = h
-      go (Some w) = written-worded i w
+      go (Some w) = written_worded i w
 
-  pub member-worded : (x : Comp) (a : NodeTree) → IsWorded p a → Gives (IsTreeWorded p) (member_of x a)
+  pub member_worded : (x : Comp) (a : NodeTree) → IsWorded p a → Gives (IsTreeWorded p) (member_of x a)
   unfolding member_of
-  member-worded x a h = dataset-worded (nodes.member a (name_of x)) _ h
+  member_worded x a h = dataset_worded (nodes.member a (name_of x)) _ h
 
   -- ---- operators
-  measures-worded : (o : ScalarOp) (literals : Bool) (before after' : List CompExp) (a : NodeTree) → IsWorded p a → Gives (IsTreeWorded p) (on_measures o literals before a after')
+  measures_worded : (o : ScalarOp) (literals : Bool) (before after' : List CompExp) (a : NodeTree) → IsWorded p a → Gives (IsTreeWorded p) (on_measures o literals before a after')
   unfolding on_measures
-  measures-worded o literals before after' a h = dataset-worded (nodes.measures (record { op = o; before = before; after = after' }) a) _ h
+  measures_worded o literals before after' a h = dataset_worded (nodes.measures (record { op = o; before = before; after = after' }) a) _ h
 
-  pair-worded : (o : ScalarOp) (a b : NodeTree) → IsWorded p a → IsWorded p b → Gives (IsTreeWorded p) (on_pair o a b)
+  pair_worded : (o : ScalarOp) (a b : NodeTree) → IsWorded p a → IsWorded p b → Gives (IsTreeWorded p) (on_pair o a b)
   unfolding on_pair
-  pair-worded o a b ha hb = dataset-worded (nodes.pair o a b) _ (λ t. let both = and_parts (is_built a) (is_built b) t in (ha both.0, hb both.1))
+  pair_worded o a b ha hb = dataset_worded (nodes.pair o a b) _ (λ t. let both = and_parts (is_built a) (is_built b) t in (ha both.0, hb both.1))
 
-  choice-worded : (t a b : NodeTree) → IsWorded p t → IsWorded p a → IsWorded p b → Gives (IsTreeWorded p) (on_choice t a b)
+  choice_worded : (t a b : NodeTree) → IsWorded p t → IsWorded p a → IsWorded p b → Gives (IsTreeWorded p) (on_choice t a b)
   unfolding on_choice
-  choice-worded t a b ht ha hb =
-      dataset-worded (nodes.choose t a b) _
+  choice_worded t a b ht ha hb =
+      dataset_worded (nodes.choose t a b) _
       (λ all. let first = and_parts (is_built t) (is_built a && is_built b) all in
       let both = and_parts (is_built a) (is_built b) first.1 in
       (ht first.0, ha both.0, hb both.1))
@@ -122,99 +122,99 @@ module _ (p : Settings) where
   placed true literals form h = h
   placed false literals form h = tt
 
-  datasets-worded : (o : ScalarOp) (literals : Bool) (before : List CompExp) (ns : List NodeTree) (after' : List CompExp) → AllByRecursion (IsWorded p) ns → Gives (IsTreeWorded p) (on_datasets o literals before ns after')
-  datasets-worded o literals before [] after' h = tt
-  datasets-worded o literals before (a ∷ []) after' h = placed _ _ _ (measures-worded o literals before after' a h.0)
-  datasets-worded o literals [] (a ∷ b ∷ []) [] h = placed _ _ _ (pair-worded o a b h.0 h.1.0)
-  datasets-worded o literals [] (a ∷ b ∷ []) (y ∷ ys) h = tt
-  datasets-worded o literals (x ∷ xs) (a ∷ b ∷ []) after' h = tt
-  datasets-worded o literals [] (t ∷ a ∷ b ∷ []) [] h = placed _ _ _ (choice-worded t a b h.0 h.1.0 h.1.1.0)
-  datasets-worded o literals [] (t ∷ a ∷ b ∷ []) (y ∷ ys) h = tt
-  datasets-worded o literals (x ∷ xs) (t ∷ a ∷ b ∷ []) after' h = tt
-  datasets-worded o literals [] (t ∷ a ∷ b ∷ n ∷ ns) [] h = tt
-  datasets-worded o literals [] (t ∷ a ∷ b ∷ n ∷ ns) (y ∷ ys) h = tt
-  datasets-worded o literals (x ∷ xs) (t ∷ a ∷ b ∷ n ∷ ns) after' h = tt
+  datasets_worded : (o : ScalarOp) (literals : Bool) (before : List CompExp) (ns : List NodeTree) (after' : List CompExp) → AllByRecursion (IsWorded p) ns → Gives (IsTreeWorded p) (on_datasets o literals before ns after')
+  datasets_worded o literals before [] after' h = tt
+  datasets_worded o literals before (a ∷ []) after' h = placed _ _ _ (measures_worded o literals before after' a h.0)
+  datasets_worded o literals [] (a ∷ b ∷ []) [] h = placed _ _ _ (pair_worded o a b h.0 h.1.0)
+  datasets_worded o literals [] (a ∷ b ∷ []) (y ∷ ys) h = tt
+  datasets_worded o literals (x ∷ xs) (a ∷ b ∷ []) after' h = tt
+  datasets_worded o literals [] (t ∷ a ∷ b ∷ []) [] h = placed _ _ _ (choice_worded t a b h.0 h.1.0 h.1.1.0)
+  datasets_worded o literals [] (t ∷ a ∷ b ∷ []) (y ∷ ys) h = tt
+  datasets_worded o literals (x ∷ xs) (t ∷ a ∷ b ∷ []) after' h = tt
+  datasets_worded o literals [] (t ∷ a ∷ b ∷ n ∷ ns) [] h = tt
+  datasets_worded o literals [] (t ∷ a ∷ b ∷ n ∷ ns) (y ∷ ys) h = tt
+  datasets_worded o literals (x ∷ xs) (t ∷ a ∷ b ∷ n ∷ ns) after' h = tt
 
-  operands-worded : (at : Place) (o : ScalarOp) (number literals : Bool) (before : List CompExp) (ns : List NodeTree) (after' : List CompExp) → AllByRecursion (IsWorded p) ns → Gives (IsTreeWorded p) (on_operands at o number literals before ns after')
-  operands-worded place.Outside o number literals before [] after' h = value-worded _
-  operands-worded (place.Inside i) o number literals before [] after' h = value-worded _
-  operands-worded (place.Inside i) o number literals before (n ∷ ns) after' h = tt
-  operands-worded place.Outside o number literals before (n ∷ ns) after' h = after (IsTreeWorded p) _ _ (λ u. datasets-worded o literals before (n ∷ ns) after' h)
+  operands_worded : (at : Place) (o : ScalarOp) (number literals : Bool) (before : List CompExp) (ns : List NodeTree) (after' : List CompExp) → AllByRecursion (IsWorded p) ns → Gives (IsTreeWorded p) (on_operands at o number literals before ns after')
+  operands_worded place.Outside o number literals before [] after' h = value_worded _
+  operands_worded (place.Inside i) o number literals before [] after' h = value_worded _
+  operands_worded (place.Inside i) o number literals before (n ∷ ns) after' h = tt
+  operands_worded place.Outside o number literals before (n ∷ ns) after' h = after (IsTreeWorded p) _ _ (λ u. datasets_worded o literals before (n ∷ ns) after' h)
 
-  with-value-worded : (e : CompExp) (before : List CompExp) (ns : List NodeTree) (after' : List CompExp) → AllByRecursion (IsWorded p) ns → AllByRecursion (IsWorded p) (with_value e before ns after').datasets
-  with-value-worded e before [] after' h = h
-  with-value-worded e before (n ∷ ns) after' h = h
+  with_value_worded : (e : CompExp) (before : List CompExp) (ns : List NodeTree) (after' : List CompExp) → AllByRecursion (IsWorded p) ns → AllByRecursion (IsWorded p) (with_value e before ns after').datasets
+  with_value_worded e before [] after' h = h
+  with_value_worded e before (n ∷ ns) after' h = h
 
-  parted-worded : (o : Operands) (xs : List TypedTree) → AllByRecursion (IsWorded p) o.datasets → AllByRecursion (IsTreeWorded p) xs → AllByRecursion (IsWorded p) (parted o xs).datasets
-  parted-worded o [] h all = h
-  parted-worded o (value e ∷ xs) h all = parted-worded (with_operand o (value e)) xs (with-value-worded e o.before o.datasets o.after h) all.1
-  parted-worded o (dataset n ∷ xs) h all = parted-worded (with_operand o (dataset n)) xs (lists.appended (IsWorded p) o.datasets (n ∷ []) h (all.0, tt)) all.1
+  parted_worded : (o : Operands) (xs : List TypedTree) → AllByRecursion (IsWorded p) o.datasets → AllByRecursion (IsTreeWorded p) xs → AllByRecursion (IsWorded p) (parted o xs).datasets
+  parted_worded o [] h all = h
+  parted_worded o (value e ∷ xs) h all = parted_worded (with_operand o (value e)) xs (with_value_worded e o.before o.datasets o.after h) all.1
+  parted_worded o (dataset n ∷ xs) h all = parted_worded (with_operand o (dataset n)) xs (lists.appended (IsWorded p) o.datasets (n ∷ []) h (all.0, tt)) all.1
 
-  operator-worded : (at : Place) (o : ScalarOp) (number literals : Bool) (xs : List TypedTree) → AllByRecursion (IsTreeWorded p) xs → Gives (IsTreeWorded p) (operator_form at o number literals xs)
+  operator_worded : (at : Place) (o : ScalarOp) (number literals : Bool) (xs : List TypedTree) → AllByRecursion (IsTreeWorded p) xs → Gives (IsTreeWorded p) (operator_form at o number literals xs)
   unfolding operator_form
-  operator-worded at o number literals xs h =
-      operands-worded at o _ literals (parted no_operands xs).before (parted no_operands xs).datasets (parted no_operands xs).after (parted-worded no_operands xs tt h)
+  operator_worded at o number literals xs h =
+      operands_worded at o _ literals (parted no_operands xs).before (parted no_operands xs).datasets (parted no_operands xs).after (parted_worded no_operands xs tt h)
 
-  pub operator-step : (at : Place) (o : ScalarOp) (number literals : Bool) (r : Result (List TypedTree) Rule) → Gives (AllByRecursion (IsTreeWorded p)) r → Gives (IsTreeWorded p) (r >>= operator_form at o number literals)
-  operator-step at o number literals r h = then (AllByRecursion (IsTreeWorded p)) (IsTreeWorded p) r (operator_form at o number literals) h (λ xs k. operator-worded at o number literals xs k)
+  pub operator_step : (at : Place) (o : ScalarOp) (number literals : Bool) (r : Result (List TypedTree) Rule) → Gives (AllByRecursion (IsTreeWorded p)) r → Gives (IsTreeWorded p) (r >>= operator_form at o number literals)
+  operator_step at o number literals r h = then (AllByRecursion (IsTreeWorded p)) (IsTreeWorded p) r (operator_form at o number literals) h (λ xs k. operator_worded at o number literals xs k)
 
   -- one more operand
-  pub behind-worded : (done : List TypedTree) (r : Result TypedTree Rule) → AllByRecursion (IsTreeWorded p) done → Gives (IsTreeWorded p) r → Gives (AllByRecursion (IsTreeWorded p)) (r >>= behind done)
-  behind-worded done r hd h = then (IsTreeWorded p) (AllByRecursion (IsTreeWorded p)) r (behind done) h (λ x k. lists.appended (IsTreeWorded p) done (x ∷ []) hd (k, tt))
+  pub behind_worded : (done : List TypedTree) (r : Result TypedTree Rule) → AllByRecursion (IsTreeWorded p) done → Gives (IsTreeWorded p) r → Gives (AllByRecursion (IsTreeWorded p)) (r >>= behind done)
+  behind_worded done r hd h = then (IsTreeWorded p) (AllByRecursion (IsTreeWorded p)) r (behind done) h (λ x k. lists.appended (IsTreeWorded p) done (x ∷ []) hd (k, tt))
 
   -- two operands, behind those that are done
-  pub two-step : (at : Place) (o : ScalarOp) (done : List TypedTree) (r s : Result TypedTree Rule) → AllByRecursion (IsTreeWorded p) done → Gives (IsTreeWorded p) r → Gives (IsTreeWorded p) s → Gives (IsTreeWorded p) (r >>= behind done >>= λ xs. s >>= behind xs >>= operator_form at o true true)
-  two-step at o done r s hd hr hs =
-      then (AllByRecursion (IsTreeWorded p)) (IsTreeWorded p) (r >>= behind done) (λ xs. s >>= behind xs >>= operator_form at o true true) (behind-worded done r hd hr)
-      (λ xs hx. operator-step at o true true (s >>= behind xs) (behind-worded xs s hx hs))
+  pub two_step : (at : Place) (o : ScalarOp) (done : List TypedTree) (r s : Result TypedTree Rule) → AllByRecursion (IsTreeWorded p) done → Gives (IsTreeWorded p) r → Gives (IsTreeWorded p) s → Gives (IsTreeWorded p) (r >>= behind done >>= λ xs. s >>= behind xs >>= operator_form at o true true)
+  two_step at o done r s hd hr hs =
+      then (AllByRecursion (IsTreeWorded p)) (IsTreeWorded p) (r >>= behind done) (λ xs. s >>= behind xs >>= operator_form at o true true) (behind_worded done r hd hr)
+      (λ xs hx. operator_step at o true true (s >>= behind xs) (behind_worded xs s hx hs))
 
-  pub set-step : (q : Settings) (at : Place) (negated : Bool) (ls : List Literal) (r : Result TypedTree Rule) → Gives (IsTreeWorded p) r → Gives (IsTreeWorded p) (r >>= set_form q at negated ls)
+  pub set_step : (q : Settings) (at : Place) (negated : Bool) (ls : List Literal) (r : Result TypedTree Rule) → Gives (IsTreeWorded p) r → Gives (IsTreeWorded p) (r >>= set_form q at negated ls)
   unfolding set_form
-  set-step q at negated ls r h = then (IsTreeWorded p) (IsTreeWorded p) r (set_form q at negated ls) h
+  set_step q at negated ls r h = then (IsTreeWorded p) (IsTreeWorded p) r (set_form q at negated ls) h
       (λ x k. after (IsTreeWorded p) _ (λ cells. operator_form at (membership negated) true true (x ∷ map (λ v. value (const v)) cells))
-      (λ cells. operator-worded at (membership negated) true true (x ∷ map (λ v. value (const v)) cells) (k, lists.mapped (IsTreeWorded p) (λ v. value (const v)) cells (lists.every (λ v. Unit {0}) cells (λ v. tt)))))
+      (λ cells. operator_worded at (membership negated) true true (x ∷ map (λ v. value (const v)) cells) (k, lists.mapped (IsTreeWorded p) (λ v. value (const v)) cells (lists.every (λ v. Unit {0}) cells (λ v. tt)))))
 
   -- ---- aggregates and analytic calls: on data sets they are not translated yet
-  group-call-worded : (f : AggregateName) (component : Option (List ℕ)) (grouped : Bool) (kind : Option Kind) → Gives (IsTreeWorded p) (group_call_by f component grouped kind)
-  group-call-worded f component grouped None = tt
-  group-call-worded f component grouped (Some kind) = after (IsTreeWorded p) (ruled ((rule.AggregateMisuse, grouped) ∷ []) (tt {0})) (λ u. group_call f component kind) (λ u. tt)
+  group_call_worded : (f : AggregateName) (component : Option (List ℕ)) (grouped : Bool) (kind : Option Kind) → Gives (IsTreeWorded p) (group_call_by f component grouped kind)
+  group_call_worded f component grouped None = tt
+  group_call_worded f component grouped (Some kind) = after (IsTreeWorded p) (ruled ((rule.AggregateMisuse, grouped) ∷ []) (tt {0})) (λ u. group_call f component kind) (λ u. tt)
 
-  value-call-worded : (at : Place) (f : AggregateName) (grouped : Bool) (e : MaybeExp) (v : CompExp) → Gives (IsTreeWorded p) (aggregate_value at f grouped e v)
-  value-call-worded place.Outside f grouped e v = tt
-  value-call-worded (place.Inside i) f grouped e v = group-call-worded f (operand_name e v) (is_misused i grouped (operand_name e v)) (aggregate_kind f (exp_kind v))
+  value_call_worded : (at : Place) (f : AggregateName) (grouped : Bool) (e : MaybeExp) (v : CompExp) → Gives (IsTreeWorded p) (aggregate_value at f grouped e v)
+  value_call_worded place.Outside f grouped e v = tt
+  value_call_worded (place.Inside i) f grouped e v = group_call_worded f (operand_name e v) (is_misused i grouped (operand_name e v)) (aggregate_kind f (exp_kind v))
 
-  count-worded : (at : Place) (f : AggregateName) (grouped : Bool) → Gives (IsTreeWorded p) (count_call at f grouped)
-  count-worded place.Outside f grouped = tt
-  count-worded (place.Inside i) f grouped = go (is_some i.grouping)
+  count_worded : (at : Place) (f : AggregateName) (grouped : Bool) → Gives (IsTreeWorded p) (count_call at f grouped)
+  count_worded place.Outside f grouped = tt
+  count_worded (place.Inside i) f grouped = go (is_some i.grouping)
     where
       go : (b : Bool) → Gives (IsTreeWorded p) (cond b (group_call_by f None grouped (count_kind f)) (Err rule.WrongKind))
-      go true = group-call-worded f None grouped (count_kind f)
+      go true = group_call_worded f None grouped (count_kind f)
       go false = tt
 
-  aggregate-worded : (f : AggregateName) (g : Option GroupPart) (a : NodeTree) (having : Option CompExp) → Gives (IsTreeWorded p) (aggregate_node f g a having)
+  aggregate_worded : (f : AggregateName) (g : Option GroupPart) (a : NodeTree) (having : Option CompExp) → Gives (IsTreeWorded p) (aggregate_node f g a having)
   unfolding aggregate_node
-  aggregate-worded f g a having = dataset-worded (nodes.aggregate a (aggregate_tree f g a having)) _ (λ t. absurd (false≢true t))
+  aggregate_worded f g a having = dataset_worded (nodes.aggregate a (aggregate_tree f g a having)) _ (λ t. absurd (false≢true t))
 
-  pub grouped-worded : (at : Place) (f : AggregateName) (e : MaybeExp) (g : Option GroupPart) (grouped : Bool) (having : Having) (x : Option TypedTree) → Gives (IsTreeWorded p) (grouped_of at f e g grouped having x)
-  grouped-worded at f e g grouped having (Some (dataset n)) =
+  pub grouped_worded : (at : Place) (f : AggregateName) (e : MaybeExp) (g : Option GroupPart) (grouped : Bool) (having : Having) (x : Option TypedTree) → Gives (IsTreeWorded p) (grouped_of at f e g grouped having x)
+  grouped_worded at f e g grouped having (Some (dataset n)) =
       after (IsTreeWorded p) (grouping_typed (components_in n) g) (λ names. having (place.Inside (at_groups None n names)) >>= aggregate_node f g n)
-      (λ names. after (IsTreeWorded p) (having (place.Inside (at_groups None n names))) (aggregate_node f g n) (λ o. aggregate-worded f g n o))
-  grouped-worded at f e g grouped having (Some (value v)) = after (IsTreeWorded p) (own_groups at g having) (λ u. aggregate_value at f grouped e v) (λ u. value-call-worded at f grouped e v)
-  grouped-worded at f e g grouped having None = after (IsTreeWorded p) (own_groups at g having) (λ u. count_call at f grouped) (λ u. count-worded at f grouped)
+      (λ names. after (IsTreeWorded p) (having (place.Inside (at_groups None n names))) (aggregate_node f g n) (λ o. aggregate_worded f g n o))
+  grouped_worded at f e g grouped having (Some (value v)) = after (IsTreeWorded p) (own_groups at g having) (λ u. aggregate_value at f grouped e v) (λ u. value_call_worded at f grouped e v)
+  grouped_worded at f e g grouped having None = after (IsTreeWorded p) (own_groups at g having) (λ u. count_call at f grouped) (λ u. count_worded at f grouped)
 
-  over-node-worded : (e : Exp) (call : Call) (w : Window) (a : NodeTree) → Gives (IsTreeWorded p) (over_node e call w a)
+  over_node_worded : (e : Exp) (call : Call) (w : Window) (a : NodeTree) → Gives (IsTreeWorded p) (over_node e call w a)
   unfolding over_node
-  over-node-worded e call w a = dataset-worded (nodes.analytic_of a (nodes.of_measures (or_count call.op) w)) _ (λ t. absurd (false≢true t))
+  over_node_worded e call w a = dataset_worded (nodes.analytic_of a (nodes.of_measures (or_count call.op) w)) _ (λ t. absurd (false≢true t))
 
-  over-dataset-worded : (at : Place) (e : Exp) (n : NodeTree) (call : Call) (w : Window) → Gives (IsTreeWorded p) (over_dataset at e n call w)
-  over-dataset-worded place.Outside e n call w = over-node-worded e call w n
-  over-dataset-worded (place.Inside i) e n call w = after (IsTreeWorded p) (given_structure e (components_in n)) (λ s. Err rule.DatasetOrValue) (λ s. tt)
+  over_dataset_worded : (at : Place) (e : Exp) (n : NodeTree) (call : Call) (w : Window) → Gives (IsTreeWorded p) (over_dataset at e n call w)
+  over_dataset_worded place.Outside e n call w = over_node_worded e call w n
+  over_dataset_worded (place.Inside i) e n call w = after (IsTreeWorded p) (given_structure e (components_in n)) (λ s. Err rule.DatasetOrValue) (λ s. tt)
 
-  pub over-worded : (q : Settings) (at : Place) (e : Exp) (x : Option TypedTree) → Gives (IsTreeWorded p) (over_typed q at e x)
+  pub over_worded : (q : Settings) (at : Place) (e : Exp) (x : Option TypedTree) → Gives (IsTreeWorded p) (over_typed q at e x)
   unfolding over_typed
-  over-worded q at e x = after (IsTreeWorded p) _ _ (λ parts. go x parts.0 parts.1)
+  over_worded q at e x = after (IsTreeWorded p) _ _ (λ parts. go x parts.0 parts.1)
     where
       go : (x : Option TypedTree) (call : Call) (w : Window) → Gives (IsTreeWorded p) (over_form at e x call w)
-      go (Some (dataset n)) call w = over-dataset-worded at e n call w
+      go (Some (dataset n)) call w = over_dataset_worded at e n call w
       go (Some (value v)) call w = tt
       go None call w = tt

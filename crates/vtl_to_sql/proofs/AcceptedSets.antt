@@ -46,58 +46,58 @@ use Rattle.check_laws.proofs.Left.{IsNamed, known-gives}
 use Rattle.check_laws.proofs.Lists as lists
 use Rattle.check_laws.proofs.Steps.{after, tested-then, then}
 use Rattle.check_laws.proofs.Tests.{not-false}
-use Rattle.vtl_to_sql.proofs.AcceptedWords.{FormIsWorded, HasCodes, HaveWords, IsTreeWorded, IsWorded, component-named}
-use Rattle.vtl_to_sql.proofs.AcceptedOperators.{dataset-in-worded, dataset-worded}
+use Rattle.vtl_to_sql.proofs.AcceptedWords.{FormIsWorded, HasCodes, HaveWords, IsTreeWorded, IsWorded, component_named}
+use Rattle.vtl_to_sql.proofs.AcceptedOperators.{dataset_in_worded, dataset_worded}
 
 module _ (p : Settings) where
   -- ---- set operators
-  all-datasets : (done : List NodeTree) (xs : List TypedTree) → AllByRecursion (IsWorded p) done → AllByRecursion (IsTreeWorded p) xs → Gives (AllByRecursion (IsWorded p)) (datasets_behind done xs)
-  all-datasets done [] hd h = hd
-  all-datasets done (x ∷ xs) hd h =
-      then (IsWorded p) (AllByRecursion (IsWorded p)) (dataset_in x) (λ n. datasets_behind (done ++ n ∷ []) xs) (dataset-in-worded p x h.0)
-      (λ n k. all-datasets (done ++ n ∷ []) xs (lists.appended (IsWorded p) done (n ∷ []) hd (k, tt)) h.1)
+  all_datasets : (done : List NodeTree) (xs : List TypedTree) → AllByRecursion (IsWorded p) done → AllByRecursion (IsTreeWorded p) xs → Gives (AllByRecursion (IsWorded p)) (datasets_behind done xs)
+  all_datasets done [] hd h = hd
+  all_datasets done (x ∷ xs) hd h =
+      then (IsWorded p) (AllByRecursion (IsWorded p)) (dataset_in x) (λ n. datasets_behind (done ++ n ∷ []) xs) (dataset_in_worded p x h.0)
+      (λ n k. all_datasets (done ++ n ∷ []) xs (lists.appended (IsWorded p) done (n ∷ []) hd (k, tt)) h.1)
 
-  all-words : (ns : List NodeTree) → AllByRecursion (IsWorded p) ns → are_nodes_built (nodes_of ns) ≡ true → HaveWords p (nodes_of ns)
-  all-words [] h t = tt
-  all-words (n ∷ ns) h t = let both = and_parts (is_built n) (are_nodes_built (nodes_of ns)) t in (h.0 both.0, all-words ns h.1 both.1)
+  all_words : (ns : List NodeTree) → AllByRecursion (IsWorded p) ns → are_nodes_built (nodes_of ns) ≡ true → HaveWords p (nodes_of ns)
+  all_words [] h t = tt
+  all_words (n ∷ ns) h t = let both = and_parts (is_built n) (are_nodes_built (nodes_of ns)) t in (h.0 both.0, all_words ns h.1 both.1)
 
-  pub sets-worded : (f : SetOpName) (xs : List TypedTree) → AllByRecursion (IsTreeWorded p) xs → Gives (IsTreeWorded p) (sets_form f xs)
+  pub sets_worded : (f : SetOpName) (xs : List TypedTree) → AllByRecursion (IsTreeWorded p) xs → Gives (IsTreeWorded p) (sets_form f xs)
   unfolding sets_form
-  sets-worded f xs h = then (AllByRecursion (IsWorded p)) (IsTreeWorded p) (datasets_in xs) (set_of f) (all-datasets [] xs tt h) (λ ns all. dataset-worded p (set_tree f (nodes_of ns)) _ (made f ns all))
+  sets_worded f xs h = then (AllByRecursion (IsWorded p)) (IsTreeWorded p) (datasets_in xs) (set_of f) (all_datasets [] xs tt h) (λ ns all. dataset_worded p (set_tree f (nodes_of ns)) _ (made f ns all))
     where
       made : (f : SetOpName) (ns : List NodeTree) → AllByRecursion (IsWorded p) ns → FormIsWorded p (set_tree f (nodes_of ns))
-      made set.Union ns all = all-words ns all
-      made set.Intersect ns all = all-words ns all
+      made set.Union ns all = all_words ns all
+      made set.Intersect ns all = all_words ns all
 
   two : (a b : NodeTree) → IsWorded p a → IsWorded p b → FormIsWorded p (nodes.set_diff a b)
   two a b ha hb t = let both = and_parts (is_built a) (is_built b) t in (ha both.0, hb both.1)
 
-  pub difference-worded : (f : DifferenceName) (x y : TypedTree) → IsTreeWorded p x → IsTreeWorded p y → Gives (IsTreeWorded p) (difference_form f x y)
+  pub difference_worded : (f : DifferenceName) (x y : TypedTree) → IsTreeWorded p x → IsTreeWorded p y → Gives (IsTreeWorded p) (difference_form f x y)
   unfolding difference_form
-  difference-worded f x y hx hy =
-      then (IsWorded p) (IsTreeWorded p) (dataset_in x) (λ a. dataset_in y >>= λ b. pairs.set_form (structure_of a) (structure_of b ∷ []) >>= typed.made_of (difference_tree f a b)) (dataset-in-worded p x hx)
-      (λ a ha. then (IsWorded p) (IsTreeWorded p) (dataset_in y) (λ b. pairs.set_form (structure_of a) (structure_of b ∷ []) >>= typed.made_of (difference_tree f a b)) (dataset-in-worded p y hy)
-      (λ b hb. dataset-worded p (difference_tree f a b) _ (made f a b ha hb)))
+  difference_worded f x y hx hy =
+      then (IsWorded p) (IsTreeWorded p) (dataset_in x) (λ a. dataset_in y >>= λ b. pairs.set_form (structure_of a) (structure_of b ∷ []) >>= typed.made_of (difference_tree f a b)) (dataset_in_worded p x hx)
+      (λ a ha. then (IsWorded p) (IsTreeWorded p) (dataset_in y) (λ b. pairs.set_form (structure_of a) (structure_of b ∷ []) >>= typed.made_of (difference_tree f a b)) (dataset_in_worded p y hy)
+      (λ b hb. dataset_worded p (difference_tree f a b) _ (made f a b ha hb)))
     where
       made : (f : DifferenceName) (a b : NodeTree) → IsWorded p a → IsWorded p b → FormIsWorded p (difference_tree f a b)
       made difference.Setdiff a b ha hb = two a b ha hb
       made difference.Symdiff a b ha hb = two a b ha hb
 
-  pub exists-worded : (r : Option Retain) (x y : TypedTree) → IsTreeWorded p x → IsTreeWorded p y → Gives (IsTreeWorded p) (exists_form r x y)
+  pub exists_worded : (r : Option Retain) (x y : TypedTree) → IsTreeWorded p x → IsTreeWorded p y → Gives (IsTreeWorded p) (exists_form r x y)
   unfolding exists_form
-  exists-worded r x y hx hy =
-      then (IsWorded p) (IsTreeWorded p) (dataset_in x) (λ a. dataset_in y >>= λ b. pairs.exists_form (structure_of a) (structure_of b) >>= typed.made_of (nodes.exists_in a b (unwrap_or r retain.All))) (dataset-in-worded p x hx)
-      (λ a ha. then (IsWorded p) (IsTreeWorded p) (dataset_in y) (λ b. pairs.exists_form (structure_of a) (structure_of b) >>= typed.made_of (nodes.exists_in a b (unwrap_or r retain.All))) (dataset-in-worded p y hy)
-      (λ b hb. dataset-worded p (nodes.exists_in a b (unwrap_or r retain.All)) _ (two a b ha hb)))
+  exists_worded r x y hx hy =
+      then (IsWorded p) (IsTreeWorded p) (dataset_in x) (λ a. dataset_in y >>= λ b. pairs.exists_form (structure_of a) (structure_of b) >>= typed.made_of (nodes.exists_in a b (unwrap_or r retain.All))) (dataset_in_worded p x hx)
+      (λ a ha. then (IsWorded p) (IsTreeWorded p) (dataset_in y) (λ b. pairs.exists_form (structure_of a) (structure_of b) >>= typed.made_of (nodes.exists_in a b (unwrap_or r retain.All))) (dataset_in_worded p y hy)
+      (λ b hb. dataset_worded p (nodes.exists_in a b (unwrap_or r retain.All)) _ (two a b ha hb)))
 
   -- ---- `pivot` and `unpivot`
-  codes-named : (id m : List ℕ) (a : Structure) → Gives (λ s. HasCodes id a) (pivot_form id m a.components)
-  codes-named id m a =
+  codes_named : (id m : List ℕ) (a : Structure) → Gives (λ s. HasCodes id a) (pivot_form id m a.components)
+  codes_named id m a =
       then (λ texts. (x : Component) × IsNamed wanted.Identifier a.components id x × (x.codes ≡ Some texts)) Q (known wanted.Identifier a.components [] id >>= λ x. pivot_codes x.codes) (λ texts. known wanted.Measure a.components [] m >>= λ y. ruled ((rule.RepeatedComponent, has_no_name texts) ∷ []) (tt {0}) >>= λ u. shaped (pivot_components id y.kind texts a.components))
       (then (IsNamed wanted.Identifier a.components id) (λ texts. (x : Component) × IsNamed wanted.Identifier a.components id x × (x.codes ≡ Some texts)) (known wanted.Identifier a.components [] id) (λ x. pivot_codes x.codes) (known-gives wanted.Identifier a.components [] id) (λ x named. go x named x.codes refl))
       (λ texts coded. after Q (known wanted.Measure a.components [] m) (λ y. ruled ((rule.RepeatedComponent, has_no_name texts) ∷ []) (tt {0}) >>= λ u. shaped (pivot_components id y.kind texts a.components))
       (λ y. tested-then Q ((rule.RepeatedComponent, has_no_name texts) ∷ []) (λ u. shaped (pivot_components id y.kind texts a.components))
-      (λ passed. all-give (shaped (pivot_components id y.kind texts a.components)) (record { component = coded.0; named = coded.1; codes = texts; there = coded.2; names = lists.all_pass is_component_name texts (not-false (list_all is_component_name texts) passed.0) }))))
+      (λ passed. all_give (shaped (pivot_components id y.kind texts a.components)) (record { component = coded.0; named = coded.1; codes = texts; there = coded.2; names = lists.all_pass is_component_name texts (not-false (list_all is_component_name texts) passed.0) }))))
     where
       Q : Structure → Type 0
       Q s = HasCodes id a
@@ -106,29 +106,29 @@ module _ (p : Settings) where
       go x named None e = tt
       go x named (Some texts) e = (x, named, e)
 
-      all-give : (r : Result Structure Rule) → HasCodes id a → Gives Q r
-      all-give (Ok s) h = h
-      all-give (Err broken) h = tt
+      all_give : (r : Result Structure Rule) → HasCodes id a → Gives Q r
+      all_give (Ok s) h = h
+      all_give (Err broken) h = tt
 
-  pub pivot-worded : (id m : Comp) (n : NodeTree) → IsWorded p n → Gives (IsWorded p) (pivot_of id m n)
+  pub pivot_worded : (id m : Comp) (n : NodeTree) → IsWorded p n → Gives (IsWorded p) (pivot_of id m n)
   unfolding pivot_of
-  pivot-worded id m n h =
+  pivot_worded id m n h =
       after (IsWorded p) (pivot_names (name_of id) (name_of m) (components_in n)) (λ u. pivot_form (name_of id) (name_of m) (components_in n) >>= clauses.made_of (nodes.pivot n (name_of id) (name_of m)))
-      (λ u. then (λ s. HasCodes (name_of id) (structure_of n)) (IsWorded p) (pivot_form (name_of id) (name_of m) (components_in n)) (clauses.made_of (nodes.pivot n (name_of id) (name_of m))) (codes-named (name_of id) (name_of m) (structure_of n)) (λ s coded t. (h t, coded)))
+      (λ u. then (λ s. HasCodes (name_of id) (structure_of n)) (IsWorded p) (pivot_form (name_of id) (name_of m) (components_in n)) (clauses.made_of (nodes.pivot n (name_of id) (name_of m))) (codes_named (name_of id) (name_of m) (structure_of n)) (λ s coded t. (h t, coded)))
 
-  pub unpivot-worded : (id m : Comp) (n : NodeTree) → written.IsComponent id → written.IsComponent m → IsWorded p n → Gives (IsWorded p) (unpivot_of id m n)
+  pub unpivot_worded : (id m : Comp) (n : NodeTree) → written.IsComponent id → written.IsComponent m → IsWorded p n → Gives (IsWorded p) (unpivot_of id m n)
   unfolding unpivot_of
-  unpivot-worded id m n wi wm h = after (IsWorded p) (unpivot_form (name_of id) (name_of m) (components_in n)) (clauses.made_of (nodes.unpivot n (name_of id) (name_of m))) (λ s t. (h t, component-named id wi, component-named m wm))
+  unpivot_worded id m n wi wm h = after (IsWorded p) (unpivot_form (name_of id) (name_of m) (components_in n)) (clauses.made_of (nodes.unpivot n (name_of id) (name_of m))) (λ s t. (h t, component_named id wi, component_named m wm))
 
 -- ---- `check`, which is not evaluated yet
-check-form-worded : (p : Settings) (spec : CheckSpec) (x : TypedTree) (i : Option TypedTree) → Gives (IsTreeWorded p) (check_form spec x i)
+check_form_worded : (p : Settings) (spec : CheckSpec) (x : TypedTree) (i : Option TypedTree) → Gives (IsTreeWorded p) (check_form spec x i)
 unfolding check_form
-check-form-worded p spec x i =
+check_form_worded p spec x i =
     after (IsTreeWorded p) (dataset_in x) (λ a. imbalance_in i >>= λ b. pairs.check_form (structure_of a) (structures_in (option_to_list b)) >>= typed.made_of (nodes.check a (maybe_node b) spec))
-    (λ a. after (IsTreeWorded p) (imbalance_in i) (λ b. pairs.check_form (structure_of a) (structures_in (option_to_list b)) >>= typed.made_of (nodes.check a (maybe_node b) spec)) (λ b. dataset-worded p (nodes.check a (maybe_node b) spec) _ (λ t. absurd (false≢true t))))
+    (λ a. after (IsTreeWorded p) (imbalance_in i) (λ b. pairs.check_form (structure_of a) (structures_in (option_to_list b)) >>= typed.made_of (nodes.check a (maybe_node b) spec)) (λ b. dataset_worded p (nodes.check a (maybe_node b) spec) _ (λ t. absurd (false≢true t))))
 
-pub check-worded : (env : Env) (e : Exp) (err : ErrorPart) (i : MaybeExp) (o : Option BasicOut) → Gives (IsTreeWorded env.settings) (typing.typed env place.Outside e >>= λ x. check_spec env.settings err o >>= λ s. maybe_typed env place.Outside i >>= check_form s x)
-check-worded env e err i o =
+pub check_worded : (env : Env) (e : Exp) (err : ErrorPart) (i : MaybeExp) (o : Option BasicOut) → Gives (IsTreeWorded env.settings) (typing.typed env place.Outside e >>= λ x. check_spec env.settings err o >>= λ s. maybe_typed env place.Outside i >>= check_form s x)
+check_worded env e err i o =
     after (IsTreeWorded env.settings) (typing.typed env place.Outside e) (λ x. check_spec env.settings err o >>= λ s. maybe_typed env place.Outside i >>= check_form s x)
     (λ x. after (IsTreeWorded env.settings) (check_spec env.settings err o) (λ s. maybe_typed env place.Outside i >>= check_form s x)
-    (λ s. after (IsTreeWorded env.settings) (maybe_typed env place.Outside i) (check_form s x) (λ y. check-form-worded env.settings s x y)))
+    (λ s. after (IsTreeWorded env.settings) (maybe_typed env place.Outside i) (check_form s x) (λ y. check_form_worded env.settings s x y)))

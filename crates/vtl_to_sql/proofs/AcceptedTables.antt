@@ -1,12 +1,17 @@
 -- The next number of a table counts the tables that are made.
-use Rattle.std.proofs.Common.{◌≡◌, ℕ, ◌+◌, [], ◌∷◌, ◌++◌, length, arith, length-append}
+use Rattle.std.proofs.Common.{◌≡◌, ℕ, ◌+◌, List, [], ◌∷◌, ◌++◌, length, arith, length-append}
 use Rattle.vtl_cell.specs.Settings.{Settings}
 use Rattle.vtl_tree.specs.declared.structure.Structure.{Structure}
+use Rattle.vtl_syntax.specs.declared.word_groups.JoinKind.{JoinKind}
+use Rattle.vtl_syntax.specs.declared.word_groups.JoinKind.TheVariants as join
+use Rattle.vtl_meaning.specs.Made.{operands_in}
 use Rattle.vtl_meaning.specs.Trees as nodes
-use Rattle.vtl_meaning.specs.Trees.{FormTree, NodeTree, NodeTrees, structure_of}
+use Rattle.vtl_meaning.specs.Trees.{FormTree, NodeTree, NodeTrees, OperandTrees, structure_of}
+use Rattle.check_joins.specs.Joins.{structures_of}
 use Rattle.sql_tree.specs.Trees.{QueryTree, Text}
 use Rattle.vtl_to_sql.specs.Queries.{intersection_query, union_query}
-use Rattle.vtl_to_sql.specs.Tables.{Made, Sources, combined_of, made_of, made_of_form, numbered, over, and_then, source_of, sources_of, stored, table_of, with_two}
+use Rattle.vtl_to_sql.specs.FullJoins.{key_structure, keys_query, once_query}
+use Rattle.vtl_to_sql.specs.Tables.{Made, Sources, and_then, by_names, combined_of, full_made, join_made, keys_of, made_of, made_of_form, numbered, operands_of, over, source_of, sources_of, stored, table_of, with_one, with_two}
 
 -- the next number behind so many tables
 abbrev AreCounted : ℕ → Sources → Type 0
@@ -22,6 +27,23 @@ source_counted r form k m h = stored_counted r m k h
 -- operands, and others behind them
 behind_counted : (a b : Sources) (k : ℕ) → AreCounted k a → AreCounted a.next b → b.next ≡ k + length (a.tables ++ b.tables)
 behind_counted a b k h i = omega (arith, h, i, length-append a.tables b.tables)
+
+-- a full join has two tables of its own
+keys_counted : (p : Settings) (r : Text) (a : Structure) (ss : List Structure) (names : List Text) (k : ℕ) → AreCounted k (keys_of p r a ss names k)
+keys_counted p r a ss names k =
+    let all = over (by_names names k) (keys_query p a ss) in
+    let once = over (stored r all) (with_one (once_query p (key_structure a))) in
+    stored_counted r once k (stored_counted r all k (omega arith))
+
+full_counted : (p : Settings) (r : Text) (ss : List Structure) (s : Structure) (os : Sources) (k : ℕ) → AreCounted k os → (full_made p r ss s os).next ≡ k + length (full_made p r ss s os).tables
+full_counted p r [] s os k h = h
+full_counted p r (a ∷ ss) s os k h = behind_counted os (keys_of p r a (a ∷ ss) os.names os.next) k h (keys_counted p r a (a ∷ ss) os.names os.next)
+
+join_counted : (p : Settings) (r : Text) (kind : JoinKind) (ss : List Structure) (s : Structure) (os : Sources) (k : ℕ) → AreCounted k os → (join_made p r kind ss s os).next ≡ k + length (join_made p r kind ss s os).tables
+join_counted p r join.Inner ss s os k h = h
+join_counted p r join.Left ss s os k h = h
+join_counted p r join.Cross ss s os k h = h
+join_counted p r join.Full ss s os k h = full_counted p r ss s os k h
 
 module _ (p : Settings) (r : Text) where
   mutual
@@ -54,7 +76,12 @@ module _ (p : Settings) (r : Text) where
     form_counted s (nodes.set_diff a b) k = let x = sources_of p r a k in behind_counted x (sources_of p r b x.next) k (operand_counted a k) (operand_counted b x.next)
     form_counted s (nodes.sym_diff a b) k = let x = sources_of p r a k in behind_counted x (sources_of p r b x.next) k (operand_counted a k) (operand_counted b x.next)
     form_counted s (nodes.exists_in a b kept) k = let x = sources_of p r a k in behind_counted x (sources_of p r b x.next) k (operand_counted a k) (operand_counted b x.next)
+    form_counted s (nodes.join os spec) k = join_counted p r spec.kind (structures_of (operands_in os)) s (operands_of p r os k) k (operands_counted os k)
     form_counted s other k = omega arith
+
+    operands_counted : (os : OperandTrees) (k : ℕ) → (operands_of p r os k).next ≡ k + length (operands_of p r os k).tables
+    operands_counted nodes.no_operands k = omega arith
+    operands_counted (nodes.operand a alias os) k = let x = sources_of p r a k in behind_counted x (operands_of p r os x.next) k (operand_counted a k) (operands_counted os x.next)
 
     combined_counted : (q : Structure → Structure → Text → Text → QueryTree) (s : Structure) (ns : NodeTrees) (a : Structure) (os : Sources) (k : ℕ) → os.next ≡ k + length os.tables → (combined_of p r q s ns a os).next ≡ k + length (combined_of p r q s ns a os).tables
     combined_counted q s nodes.no_nodes a os k h = h

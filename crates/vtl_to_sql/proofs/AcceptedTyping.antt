@@ -23,75 +23,75 @@ use Rattle.vtl_check.specs.places.Place.{Place}
 use Rattle.vtl_check.specs.places.Place.TheVariants as place
 use Rattle.check_laws.specs.Gives.{Gives}
 use Rattle.check_laws.proofs.Steps.{after, then}
-use Rattle.vtl_to_sql.proofs.AcceptedClauses.{filter-at, keeping-at, renaming-at, sub-worded, targets-at}
-use Rattle.vtl_to_sql.proofs.AcceptedJoins.{IsPart, joins-worded, part-worded}
-use Rattle.vtl_to_sql.proofs.AcceptedOperators.{behind-worded, dataset-step, grouped-worded, member-worded, names-worded, operator-step, or-component-worded, over-worded, set-step, tree-step, two-step, value-worded}
-use Rattle.vtl_to_sql.proofs.AcceptedSets.{check-worded, difference-worded, exists-worded, pivot-worded, sets-worded, unpivot-worded}
-use Rattle.vtl_to_sql.proofs.AcceptedWords.{IsTreeWorded, IsWorded, at-outside, from-outside}
+use Rattle.vtl_to_sql.proofs.AcceptedClauses.{filter_at, keeping_at, renaming_at, sub_worded, targets_at}
+use Rattle.vtl_to_sql.proofs.AcceptedJoins.{IsPart, joins_worded, part_worded}
+use Rattle.vtl_to_sql.proofs.AcceptedOperators.{behind_worded, dataset_step, grouped_worded, member_worded, names_worded, operator_step, or_component_worded, over_worded, set_step, tree_step, two_step, value_worded}
+use Rattle.vtl_to_sql.proofs.AcceptedSets.{check_worded, difference_worded, exists_worded, pivot_worded, sets_worded, unpivot_worded}
+use Rattle.vtl_to_sql.proofs.AcceptedWords.{IsTreeWorded, IsWorded, at_outside, from_outside}
 
 -- ---- clauses
-clause-worded : (env : Env) (n : NodeTree) (c : ClauseTree) → IsWrittenClause c → IsWorded env.settings n → Gives (IsWorded env.settings) (clause_typed env n c)
-clause-worded env n (tree.filter e) w h = after (IsWorded env.settings) (typed env (place.Inside (at_points None n)) e) (filter_form n) (λ x. from-outside env.settings (filter_form n x) (filter-at env.settings false [] n x (at-outside env.settings n h)))
-clause-worded env n (tree.targets m) w h = from-outside env.settings (targets_typed env None n m) (targets-at env.settings false [] env None n m w (at-outside env.settings n h))
-clause-worded env n (tree.keeping k) w h = from-outside env.settings (keeping_form None n k) (keeping-at env.settings false [] None n k (at-outside env.settings n h))
-clause-worded env n (tree.rename rs) w h = from-outside env.settings (renaming_form None n rs) (renaming-at env.settings false [] None n rs w.1 (at-outside env.settings n h))
-clause-worded env n (tree.sub ss) w h = sub-worded env.settings n ss h
-clause-worded env n (tree.pivot id m) w h = pivot-worded env.settings id m n h
-clause-worded env n (tree.unpivot id m) w h = unpivot-worded env.settings id m n w.0 w.1 h
+clause_worded : (env : Env) (n : NodeTree) (c : ClauseTree) → IsWrittenClause c → IsWorded env.settings n → Gives (IsWorded env.settings) (clause_typed env n c)
+clause_worded env n (tree.filter e) w h = after (IsWorded env.settings) (typed env (place.Inside (at_points None n)) e) (filter_form n) (λ x. from_outside env.settings (filter_form n x) (filter_at env.settings false [] n x (at_outside env.settings n h)))
+clause_worded env n (tree.targets m) w h = from_outside env.settings (targets_typed env None n m) (targets_at env.settings false [] env None n m w (at_outside env.settings n h))
+clause_worded env n (tree.keeping k) w h = from_outside env.settings (keeping_form None n k) (keeping_at env.settings false [] None n k (at_outside env.settings n h))
+clause_worded env n (tree.rename rs) w h = from_outside env.settings (renaming_form None n rs) (renaming_at env.settings false [] None n rs w.1 (at_outside env.settings n h))
+clause_worded env n (tree.sub ss) w h = sub_worded env.settings n ss h
+clause_worded env n (tree.pivot id m) w h = pivot_worded env.settings id m n h
+clause_worded env n (tree.unpivot id m) w h = unpivot_worded env.settings id m n w.0 w.1 h
 
 -- ---- expressions
-more-exps : (es : Exps) → AreWrittenExps es → AreMoreExps es
-more-exps tree.no_exps w = tt
-more-exps (tree.exp e es) w = w
+more_exps : (es : Exps) → AreWrittenExps es → AreMoreExps es
+more_exps tree.no_exps w = tt
+more_exps (tree.exp e es) w = w
 
-more-parts : (ps : Parts) → AreWrittenParts ps → AreMoreParts ps
-more-parts tree.no_parts w = tt
-more-parts (tree.join_part e alias ps) w = w
+more_parts : (ps : Parts) → AreWrittenParts ps → AreMoreParts ps
+more_parts tree.no_parts w = tt
+more_parts (tree.join_part e alias ps) w = w
 
 mutual
   pub worded : (env : Env) (at : Place) (e : Exp) → IsWrittenExp e → Gives (IsTreeWorded env.settings) (typed env at e)
   worded env at (tree.if_then c a b) w =
-      then (AllByRecursion (IsTreeWorded env.settings)) (IsTreeWorded env.settings) (typed env at c >>= behind []) (λ xs. typed env at a >>= behind xs >>= λ ys. typed env at b >>= behind ys >>= operator_form at op.If true true) (behind-worded env.settings [] (typed env at c) tt (worded env at c w.0))
-      (λ xs hx. two-step env.settings at op.If xs (typed env at a) (typed env at b) hx (worded env at a w.1) (worded env at b w.2))
-  worded env at (tree.binary l o r) w = two-step env.settings at (of_binary o) [] (typed env at l) (typed env at r) tt (worded env at l w.0) (worded env at r w.1)
-  worded env at (tree.in_set e negated ls) w = set-step env.settings env.settings at negated ls (typed env at e) (worded env at e w.0)
-  worded env at (tree.unary o e) w = operator-step env.settings at (of_unary o) true true (typed env at e >>= behind []) (behind-worded env.settings [] (typed env at e) tt (worded env at e w))
+      then (AllByRecursion (IsTreeWorded env.settings)) (IsTreeWorded env.settings) (typed env at c >>= behind []) (λ xs. typed env at a >>= behind xs >>= λ ys. typed env at b >>= behind ys >>= operator_form at op.If true true) (behind_worded env.settings [] (typed env at c) tt (worded env at c w.0))
+      (λ xs hx. two_step env.settings at op.If xs (typed env at a) (typed env at b) hx (worded env at a w.1) (worded env at b w.2))
+  worded env at (tree.binary l o r) w = two_step env.settings at (of_binary o) [] (typed env at l) (typed env at r) tt (worded env at l w.0) (worded env at r w.1)
+  worded env at (tree.in_set e negated ls) w = set_step env.settings env.settings at negated ls (typed env at e) (worded env at e w.0)
+  worded env at (tree.unary o e) w = operator_step env.settings at (of_unary o) true true (typed env at e >>= behind []) (behind_worded env.settings [] (typed env at e) tt (worded env at e w))
   worded env at (tree.with_clause e c) w =
-      then (IsWorded env.settings) (IsTreeWorded env.settings) (typed env place.Outside e >>= dataset_in) (λ n. as_dataset (clause_typed env n c)) (dataset-step env.settings (typed env place.Outside e) (worded env place.Outside e w.0))
-      (λ n h. tree-step env.settings (clause_typed env n c) (clause-worded env n c w.1 h))
+      then (IsWorded env.settings) (IsTreeWorded env.settings) (typed env place.Outside e >>= dataset_in) (λ n. as_dataset (clause_typed env n c)) (dataset_step env.settings (typed env place.Outside e) (worded env place.Outside e w.0))
+      (λ n h. tree_step env.settings (clause_typed env n c) (clause_worded env n c w.1 h))
   worded env at (tree.member e c) w =
-      or-component-worded env.settings at e c (typed env place.Outside e >>= dataset_in >>= member_of c) (then (IsWorded env.settings) (IsTreeWorded env.settings) (typed env place.Outside e >>= dataset_in) (member_of c) (dataset-step env.settings (typed env place.Outside e) (worded env place.Outside e w.0)) (member-worded env.settings c))
-  worded env at (tree.component c) w = names-worded env.settings env at c w
-  worded env at (tree.constant c) w = value-worded env.settings (constant_typed env.settings c)
+      or_component_worded env.settings at e c (typed env place.Outside e >>= dataset_in >>= member_of c) (then (IsWorded env.settings) (IsTreeWorded env.settings) (typed env place.Outside e >>= dataset_in) (member_of c) (dataset_step env.settings (typed env place.Outside e) (worded env place.Outside e w.0)) (member_worded env.settings c))
+  worded env at (tree.component c) w = names_worded env.settings env at c w
+  worded env at (tree.constant c) w = value_worded env.settings (constant_typed env.settings c)
   worded env at (tree.brackets e) w = worded env at e w
-  worded env at (tree.function f es) w = operator-step env.settings at (of_function f) (takes f (exps_length es)) (literals_fit env.settings f es) (operands_typed env at [] es) (operands-worded env at [] es tt (more-exps es w))
-  worded env at (tree.aggregate f e g h) w = after (IsTreeWorded env.settings) (maybe_typed env (in_aggregate at) e) (grouped_of at f e g (is_some g || has_exp h) (λ groups. having_typed env groups h)) (λ x. grouped-worded env.settings at f e g (is_some g || has_exp h) (λ groups. having_typed env groups h) x)
-  worded env at (tree.aggregate_over f e o) w = after (IsTreeWorded env.settings) (maybe_typed env at e) (over_typed env.settings at (tree.aggregate_over f e o)) (over-worded env.settings env.settings at (tree.aggregate_over f e o))
-  worded env at (tree.value_window f e o) w = after (IsTreeWorded env.settings) (typed env at e) (λ x. over_typed env.settings at (tree.value_window f e o) (Some x)) (λ x. over-worded env.settings env.settings at (tree.value_window f e o) (Some x))
-  worded env at (tree.shift f e n l o) w = after (IsTreeWorded env.settings) (typed env at e) (λ x. over_typed env.settings at (tree.shift f e n l o) (Some x)) (λ x. over-worded env.settings env.settings at (tree.shift f e n l o) (Some x))
-  worded env at (tree.rank o) w = over-worded env.settings env.settings at (tree.rank o) None
-  worded env at (tree.set_op f es) w = then (AllByRecursion (IsTreeWorded env.settings)) (IsTreeWorded env.settings) (operands_typed env place.Outside [] es) (sets_form f) (operands-worded env place.Outside [] es tt (more-exps es w)) (sets-worded env.settings f)
+  worded env at (tree.function f es) w = operator_step env.settings at (of_function f) (takes f (exps_length es)) (literals_fit env.settings f es) (operands_typed env at [] es) (operands_worded env at [] es tt (more_exps es w))
+  worded env at (tree.aggregate f e g h) w = after (IsTreeWorded env.settings) (maybe_typed env (in_aggregate at) e) (grouped_of at f e g (is_some g || has_exp h) (λ groups. having_typed env groups h)) (λ x. grouped_worded env.settings at f e g (is_some g || has_exp h) (λ groups. having_typed env groups h) x)
+  worded env at (tree.aggregate_over f e o) w = after (IsTreeWorded env.settings) (maybe_typed env at e) (over_typed env.settings at (tree.aggregate_over f e o)) (over_worded env.settings env.settings at (tree.aggregate_over f e o))
+  worded env at (tree.value_window f e o) w = after (IsTreeWorded env.settings) (typed env at e) (λ x. over_typed env.settings at (tree.value_window f e o) (Some x)) (λ x. over_worded env.settings env.settings at (tree.value_window f e o) (Some x))
+  worded env at (tree.shift f e n l o) w = after (IsTreeWorded env.settings) (typed env at e) (λ x. over_typed env.settings at (tree.shift f e n l o) (Some x)) (λ x. over_worded env.settings env.settings at (tree.shift f e n l o) (Some x))
+  worded env at (tree.rank o) w = over_worded env.settings env.settings at (tree.rank o) None
+  worded env at (tree.set_op f es) w = then (AllByRecursion (IsTreeWorded env.settings)) (IsTreeWorded env.settings) (operands_typed env place.Outside [] es) (sets_form f) (operands_worded env place.Outside [] es tt (more_exps es w)) (sets_worded env.settings f)
   worded env at (tree.difference f a b) w =
       then (IsTreeWorded env.settings) (IsTreeWorded env.settings) (typed env place.Outside a) (λ x. typed env place.Outside b >>= difference_form f x) (worded env place.Outside a w.0)
-      (λ x hx. then (IsTreeWorded env.settings) (IsTreeWorded env.settings) (typed env place.Outside b) (difference_form f x) (worded env place.Outside b w.1) (λ y hy. difference-worded env.settings f x y hx hy))
+      (λ x hx. then (IsTreeWorded env.settings) (IsTreeWorded env.settings) (typed env place.Outside b) (difference_form f x) (worded env place.Outside b w.1) (λ y hy. difference_worded env.settings f x y hx hy))
   worded env at (tree.exists_in a b r) w =
       then (IsTreeWorded env.settings) (IsTreeWorded env.settings) (typed env place.Outside a) (λ x. typed env place.Outside b >>= exists_form r x) (worded env place.Outside a w.0)
-      (λ x hx. then (IsTreeWorded env.settings) (IsTreeWorded env.settings) (typed env place.Outside b) (exists_form r x) (worded env place.Outside b w.1) (λ y hy. exists-worded env.settings r x y hx hy))
-  worded env at (tree.check e err i o) w = check-worded env e err i o
+      (λ x hx. then (IsTreeWorded env.settings) (IsTreeWorded env.settings) (typed env place.Outside b) (exists_form r x) (worded env place.Outside b w.1) (λ y hy. exists_worded env.settings r x y hx hy))
+  worded env at (tree.check e err i o) w = check_worded env e err i o
   worded env at (tree.check_datapoint e n o) w = after (IsTreeWorded env.settings) (typed env place.Outside e) (λ x. Err rule.UnknownRuleset) (λ x. tt)
   worded env at (tree.check_hierarchy e n r m f o) w = after (IsTreeWorded env.settings) (typed env place.Outside e) (λ x. Err rule.UnknownRuleset) (λ x. tt)
   worded env at (tree.hierarchy e n r m i o) w = after (IsTreeWorded env.settings) (typed env place.Outside e) (λ x. Err rule.UnknownRuleset) (λ x. tt)
-  worded env at (tree.join kind ps u f m k rs) w = joins-worded env kind (parts_typed env [] ps) u f m k rs (parts-worded env [] ps tt (more-parts ps w.0)) w.3 w.5
+  worded env at (tree.join kind ps u f m k rs) w = joins_worded env kind (parts_typed env [] ps) u f m k rs (parts_worded env [] ps tt (more_parts ps w.0)) w.3 w.5
 
-  operands-worded : (env : Env) (at : Place) (done : List TypedTree) (es : Exps) → AllByRecursion (IsTreeWorded env.settings) done → AreMoreExps es → Gives (AllByRecursion (IsTreeWorded env.settings)) (operands_typed env at done es)
-  operands-worded env at done tree.no_exps hd w = hd
-  operands-worded env at done (tree.exp e es) hd w =
-      then (AllByRecursion (IsTreeWorded env.settings)) (AllByRecursion (IsTreeWorded env.settings)) (typed env at e >>= behind done) (λ xs. operands_typed env at xs es) (behind-worded env.settings done (typed env at e) hd (worded env at e w.0))
-      (λ xs h. operands-worded env at xs es h w.1)
+  operands_worded : (env : Env) (at : Place) (done : List TypedTree) (es : Exps) → AllByRecursion (IsTreeWorded env.settings) done → AreMoreExps es → Gives (AllByRecursion (IsTreeWorded env.settings)) (operands_typed env at done es)
+  operands_worded env at done tree.no_exps hd w = hd
+  operands_worded env at done (tree.exp e es) hd w =
+      then (AllByRecursion (IsTreeWorded env.settings)) (AllByRecursion (IsTreeWorded env.settings)) (typed env at e >>= behind done) (λ xs. operands_typed env at xs es) (behind_worded env.settings done (typed env at e) hd (worded env at e w.0))
+      (λ xs h. operands_worded env at xs es h w.1)
 
-  parts-worded : (env : Env) (done : List PartTyped) (ps : Parts) → AllByRecursion (IsPart env.settings) done → AreMoreParts ps → Gives (AllByRecursion (IsPart env.settings)) (parts_typed env done ps)
-  parts-worded env done tree.no_parts hd w = hd
-  parts-worded env done (tree.join_part e alias ps) hd w =
+  parts_worded : (env : Env) (done : List PartTyped) (ps : Parts) → AllByRecursion (IsPart env.settings) done → AreMoreParts ps → Gives (AllByRecursion (IsPart env.settings)) (parts_typed env done ps)
+  parts_worded env done tree.no_parts hd w = hd
+  parts_worded env done (tree.join_part e alias ps) hd w =
       then (AllByRecursion (IsPart env.settings)) (AllByRecursion (IsPart env.settings)) (typed env place.Outside e >>= with_part done e alias) (λ xs. parts_typed env xs ps)
-      (then (IsTreeWorded env.settings) (AllByRecursion (IsPart env.settings)) (typed env place.Outside e) (with_part done e alias) (worded env place.Outside e w.0) (λ x h. part-worded env.settings done e alias x hd w.0 w.1 h))
-      (λ xs h. parts-worded env xs ps h w.2)
+      (then (IsTreeWorded env.settings) (AllByRecursion (IsPart env.settings)) (typed env place.Outside e) (with_part done e alias) (worded env place.Outside e w.0) (λ x h. part_worded env.settings done e alias x hd w.0 w.1 h))
+      (λ xs h. parts_worded env xs ps h w.2)

@@ -38,9 +38,9 @@ use Rattle.vtl_to_sql.proofs.Names.{all_pass, word_characters}
 abbrev pub IsColumnName : List ℕ → Type 0
 IsColumnName x = is_component_name x ≡ true
 
-pub name-word : (x : List ℕ) → is_name x ≡ true → is_word x ≡ true
+pub name_word : (x : List ℕ) → is_name x ≡ true → is_word x ≡ true
 unfolding is_name
-name-word x h = (and_parts (is_word x) (not (is_reserved x)) h).0
+name_word x h = (and_parts (is_word x) (not (is_reserved x)) h).0
 
 word_character : (c : ℕ) → is_word_character c ≡ true → is_component_character c ≡ true
 word_character c h = grind (arith, nat_tests, h)
@@ -50,16 +50,16 @@ filled [] h = absurd (false≢true h)
 filled (c ∷ x) h = grind (arith, nat_tests)
 
 -- a word is a name of a component
-pub word-column : (x : List ℕ) → is_word x ≡ true → IsColumnName x
+pub word_column : (x : List ℕ) → is_word x ≡ true → IsColumnName x
 unfolding is_component_name
-word-column x h =
+word_column x h =
     let parts = word_characters x h in
     and_from (fits_name x) (not (length x == 0) && list_all is_component_character x) parts.0
     (and_from (not (length x == 0)) (list_all is_component_character x) (filled x parts.1) (all_pass is_word_character is_component_character word_character x parts.2))
 
-pub component-named : (x : Comp) → written.IsComponent x → IsColumnName (name_of x)
-component-named (comp.Name name) h = word-column name (name-word name h)
-component-named (comp.Quoted name) h = h
+pub component_named : (x : Comp) → written.IsComponent x → IsColumnName (name_of x)
+component_named (comp.Name name) h = word_column name (name_word name h)
+component_named (comp.Quoted name) h = h
 
 -- ---- the names that a join gives back at the end of its body
 abbrev mutual
@@ -151,9 +151,9 @@ IsTreeWorded p (dataset n) = IsWorded p n
 abbrev pub IsAt : Settings → (inside : Bool) → List Renaming → NodeTree → Type 0
 IsAt p b rs n = is_built n ≡ true → HasWords p b n × (b ≡ true → renamings_below n ≡ rs)
 
-pub at-outside : (p : Settings) (n : NodeTree) → IsWorded p n → IsAt p false [] n
-at-outside p n h t = (h t, λ e. absurd (false≢true e))
+pub at_outside : (p : Settings) (n : NodeTree) → IsWorded p n → IsAt p false [] n
+at_outside p n h t = (h t, λ e. absurd (false≢true e))
 
-pub from-outside : (p : Settings) (r : Result NodeTree Rule) → Gives (IsAt p false []) r → Gives (IsWorded p) r
-from-outside p (Ok n) h = λ t. (h t).0
-from-outside p (Err broken) h = tt
+pub from_outside : (p : Settings) (r : Result NodeTree Rule) → Gives (IsAt p false []) r → Gives (IsWorded p) r
+from_outside p (Ok n) h = λ t. (h t).0
+from_outside p (Err broken) h = tt

@@ -68,6 +68,7 @@ pub mod AcceptedComponents
 pub mod AcceptedMarks
 pub mod AcceptedNames
 pub mod AcceptedTables
+pub mod AcceptedForms
 pub mod AcceptedNodes
 pub mod AcceptedReads
 pub mod Accepted

@@ -1,15 +1,16 @@
 -- What is asked of an accepted script so that it is translated: the forms of its nodes are translated so far, their constants are
 -- values that a program holds, and their tables can be numbered.
-use Rattle.std.specs.Prelude.{Bool, true, false, ◌&&◌, List}
+use Rattle.std.specs.Prelude.{◌+◌, ◌<◌, ◌^◌, Bool, true, false, ◌&&◌, List, length}
 use Rattle.std.specs.List.{AllByRecursion, list_all}
 use Rattle.vtl_cell.specs.Held.{IsHeld}
 use Rattle.vtl_cell.specs.Settings.{Settings}
 use Rattle.vtl_tree.specs.CompExp.{CompExp}
 use Rattle.vtl_tree.specs.declared.structure.Structure.{Structure}
+use Rattle.vtl_meaning.specs.Made.{operands_in}
 use Rattle.vtl_meaning.specs.Meaning.{Statement}
 use Rattle.vtl_meaning.specs.Operators.{calculated_exps, measured_exps, pair_exps}
 use Rattle.vtl_meaning.specs.Trees as nodes
-use Rattle.vtl_meaning.specs.Trees.{FormTree, NodeTree, NodeTrees, structure_of}
+use Rattle.vtl_meaning.specs.Trees.{FormTree, NodeTree, NodeTrees, OperandTrees, structure_of}
 use Rattle.rules_to_sql.specs.Held.{HoldsValues}
 use Rattle.vtl_to_sql.specs.Conditions.{HasFewTables}
 
@@ -32,7 +33,7 @@ abbrev mutual
   is_form_translated (nodes.sub a items) = is_translated a
   is_form_translated (nodes.pivot a id m) = is_translated a
   is_form_translated (nodes.unpivot a id m) = is_translated a
-  is_form_translated (nodes.join os spec) = false
+  is_form_translated (nodes.join os spec) = are_operands_translated os
   is_form_translated (nodes.union ns) = are_nodes_translated ns
   is_form_translated (nodes.intersect ns) = are_nodes_translated ns
   is_form_translated (nodes.set_diff a b) = is_translated a && is_translated b
@@ -49,45 +50,54 @@ abbrev mutual
   are_nodes_translated nodes.no_nodes = true
   are_nodes_translated (nodes.and_node n ns) = is_translated n && are_nodes_translated ns
 
+  pub are_operands_translated : OperandTrees → Bool
+  are_operands_translated nodes.no_operands = true
+  are_operands_translated (nodes.operand n alias os) = is_translated n && are_operands_translated os
+
 abbrev pub are_translated : List NodeTree → Bool
 are_translated ns = list_all is_translated ns
 
--- ---- the constants of the expressions that queries take, and the values of `sub`
+-- ---- what a program holds: constants in the expressions that queries take, values of `sub`, and joins whose operands can be numbered
 abbrev pub AllHoldValues : List CompExp → Type 0
 AllHoldValues es = AllByRecursion HoldsValues es
 
 abbrev mutual
-  pub HoldsConstants : NodeTree → Type 0
-  HoldsConstants (nodes.node s form) = FormHoldsConstants s form
+  pub HoldsParts : NodeTree → Type 0
+  HoldsParts (nodes.node s form) = FormHoldsParts s form
 
-  pub FormHoldsConstants : Structure → FormTree → Type 0
-  FormHoldsConstants s (nodes.named name) = Unit {0}
-  FormHoldsConstants s (nodes.measures m a) = HoldsConstants a × AllHoldValues (measured_exps m (structure_of a) s)
-  FormHoldsConstants s (nodes.pair o a b) = HoldsConstants a × HoldsConstants b × AllHoldValues (pair_exps o (structure_of a) (structure_of b) s)
-  FormHoldsConstants s (nodes.choose t a b) = HoldsConstants t × HoldsConstants a × HoldsConstants b
-  FormHoldsConstants s (nodes.member a m) = HoldsConstants a
-  FormHoldsConstants s (nodes.filter a e) = HoldsConstants a × HoldsValues e
-  FormHoldsConstants s (nodes.calc a items) = HoldsConstants a × AllHoldValues (calculated_exps items (structure_of a) s)
-  FormHoldsConstants s (nodes.keep a names) = HoldsConstants a
-  FormHoldsConstants s (nodes.drop_named a names) = HoldsConstants a
-  FormHoldsConstants s (nodes.rename a pairs) = HoldsConstants a
-  FormHoldsConstants s (nodes.sub a items) = HoldsConstants a × AllByRecursion (λ i. IsHeld i.value) items
-  FormHoldsConstants s (nodes.pivot a id m) = HoldsConstants a
-  FormHoldsConstants s (nodes.unpivot a id m) = HoldsConstants a
-  FormHoldsConstants s (nodes.union ns) = NodesHoldConstants ns
-  FormHoldsConstants s (nodes.intersect ns) = NodesHoldConstants ns
-  FormHoldsConstants s (nodes.set_diff a b) = HoldsConstants a × HoldsConstants b
-  FormHoldsConstants s (nodes.sym_diff a b) = HoldsConstants a × HoldsConstants b
-  FormHoldsConstants s (nodes.exists_in a b r) = HoldsConstants a × HoldsConstants b
+  pub FormHoldsParts : Structure → FormTree → Type 0
+  FormHoldsParts s (nodes.named name) = Unit {0}
+  FormHoldsParts s (nodes.measures m a) = HoldsParts a × AllHoldValues (measured_exps m (structure_of a) s)
+  FormHoldsParts s (nodes.pair o a b) = HoldsParts a × HoldsParts b × AllHoldValues (pair_exps o (structure_of a) (structure_of b) s)
+  FormHoldsParts s (nodes.choose t a b) = HoldsParts t × HoldsParts a × HoldsParts b
+  FormHoldsParts s (nodes.member a m) = HoldsParts a
+  FormHoldsParts s (nodes.filter a e) = HoldsParts a × HoldsValues e
+  FormHoldsParts s (nodes.calc a items) = HoldsParts a × AllHoldValues (calculated_exps items (structure_of a) s)
+  FormHoldsParts s (nodes.keep a names) = HoldsParts a
+  FormHoldsParts s (nodes.drop_named a names) = HoldsParts a
+  FormHoldsParts s (nodes.rename a pairs) = HoldsParts a
+  FormHoldsParts s (nodes.sub a items) = HoldsParts a × AllByRecursion (λ i. IsHeld i.value) items
+  FormHoldsParts s (nodes.pivot a id m) = HoldsParts a
+  FormHoldsParts s (nodes.unpivot a id m) = HoldsParts a
+  FormHoldsParts s (nodes.join os spec) = OperandsHoldParts os × (1 + length (operands_in os) < 2 ^ 64)
+  FormHoldsParts s (nodes.union ns) = NodesHoldParts ns
+  FormHoldsParts s (nodes.intersect ns) = NodesHoldParts ns
+  FormHoldsParts s (nodes.set_diff a b) = HoldsParts a × HoldsParts b
+  FormHoldsParts s (nodes.sym_diff a b) = HoldsParts a × HoldsParts b
+  FormHoldsParts s (nodes.exists_in a b r) = HoldsParts a × HoldsParts b
   -- the other forms are not translated yet
-  FormHoldsConstants s other = Unit {0}
+  FormHoldsParts s other = Unit {0}
 
-  pub NodesHoldConstants : NodeTrees → Type 0
-  NodesHoldConstants nodes.no_nodes = Unit {0}
-  NodesHoldConstants (nodes.and_node n ns) = HoldsConstants n × NodesHoldConstants ns
+  pub NodesHoldParts : NodeTrees → Type 0
+  NodesHoldParts nodes.no_nodes = Unit {0}
+  NodesHoldParts (nodes.and_node n ns) = HoldsParts n × NodesHoldParts ns
+
+  pub OperandsHoldParts : OperandTrees → Type 0
+  OperandsHoldParts nodes.no_operands = Unit {0}
+  OperandsHoldParts (nodes.operand n alias os) = HoldsParts n × OperandsHoldParts os
 
 abbrev pub AreHeld : List NodeTree → Type 0
-AreHeld ns = AllByRecursion HoldsConstants ns
+AreHeld ns = AllByRecursion HoldsParts ns
 
 -- ---- few tables are made for each statement
 abbrev pub AreFew : Settings → List Statement → Type 0

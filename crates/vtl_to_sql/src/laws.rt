@@ -7,7 +7,7 @@ ghost use Rattle.vtl_tree.specs.Structure.{IsStructure, columns_of};
 ghost use Rattle.vtl_syntax.specs.Written.{AreWritten};
 ghost use Rattle.vtl_tree.specs.Structures.{AreStructures, Named, is_declarable};
 ghost use Rattle.vtl_tree.specs.declared.structure.Structure.{Structure};
-ghost use Rattle.vtl_meaning.specs.Meaning.{AreDataSets, Statement, known_in, meaning};
+ghost use Rattle.vtl_meaning.specs.Meaning.{AreDataSets, Statement, is_built, known_in, meaning};
 ghost use Rattle.vtl_meaning.specs.Trees.{NodeTree};
 ghost use Rattle.vtl_check.specs.Checked.{IsTyped, TypedScript, nodes_of, tree_of};
 ghost use Rattle.vtl_check.specs.Uses.{reads};
@@ -16,7 +16,7 @@ ghost use Rattle.sql_tree.specs.Formed.{PrintableScript};
 ghost use Rattle.sql_check_parts.specs.Statements.{IsTypedScript, input_columns};
 ghost use Rattle.sql_meaning.specs.Inputs.{IsInputData};
 ghost use Rattle.sql_meaning.specs.Scripts.{Inputs, script_value};
-ghost use Rattle.vtl_to_sql.specs.Accepted.{AreFew, AreHeld, are_translated};
+ghost use Rattle.vtl_to_sql.specs.Accepted.{AreFew, AreHeld, are_translated, is_translated};
 ghost use Rattle.vtl_to_sql.specs.Conditions.{HasFewTables, IsScript};
 ghost use Rattle.vtl_to_sql.specs.Exports.{AreRead, exported_as};
 ghost use Rattle.vtl_to_sql.specs.Inputs.{AreAsked};
@@ -60,4 +60,10 @@ pub fn tables_are_counted()
 pub fn inputs_ask_for_data_sets()
     ensures given { (e : List ℕ × Structure) (rows : List Row) → is_declarable e.1 ≡ true → IsInputData (input_of e) rows → AreAsked e.1 rows }
     ensures taken { (e : List ℕ × Structure) (rows : List Row) → is_declarable e.1 ≡ true → AreAsked e.1 rows → IsInputData (input_of e) rows }
+{}
+
+/// What is evaluated so far is translated, and nothing else.
+#[tactic(auto, using(crate::proofs::AcceptedForms::evaluated))]
+pub fn what_is_evaluated_is_translated()
+    ensures { (n : NodeTree) → is_translated n ≡ is_built n }
 {}

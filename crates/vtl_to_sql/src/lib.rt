@@ -36,6 +36,7 @@ pub use constants::constants_are_held;
 pub use laws::{
     accepted_scripts_are_translated, inputs_ask_for_data_sets, inputs_have_their_columns,
     scripts_are_translated, tables_are_counted, translated_scripts_are_lawful,
+    what_is_evaluated_is_translated,
 };
 pub use script::translate;
 pub use translated::is_translated;
