@@ -11,6 +11,11 @@ pub mod Sources
 pub mod ManySources
 pub mod Exact
 pub mod OneOperand
+pub mod Written
+pub mod Forms
+pub mod PairForms
+pub mod Walked
+pub mod ReadNames
 pub mod Identifiers
 pub mod Conjunctions
 pub mod Subs
@@ -53,7 +58,6 @@ pub mod Exists
 pub mod SetQueries
 pub mod SetSteps
 pub mod Existences
-pub mod Examples
 pub mod AcceptedWords
 pub mod AcceptedOperators
 pub mod AcceptedClauses
@@ -69,3 +73,12 @@ pub mod AcceptedForms
 pub mod AcceptedNodes
 pub mod AcceptedReads
 pub mod Accepted
+pub mod JoinWritten
+pub mod References
+pub mod JoinForms
+pub mod NamedItems
+pub mod TurnedForms
+pub mod ExistenceForms
+pub mod HeldConstants
+pub mod WrittenForms
+pub mod Examples

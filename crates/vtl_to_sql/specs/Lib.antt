@@ -7,6 +7,15 @@ pub mod Scripts
 pub mod Runs
 pub mod Conditions
 pub mod Means
+pub mod Items
+pub mod PairItems
+pub mod Reads
+pub mod Translated
 pub mod Exports
-pub mod Inputs
 pub mod Accepted
+pub mod JoinItems
+pub mod NamedItems
+pub mod TurnedItems
+pub mod Combined
+pub mod Existences
+pub mod Inputs

@@ -9,10 +9,35 @@
 //! Begin with specs/Queries.antt, Tables.antt and Scripts.antt, then Means.antt and src/laws.rt.
 #![tactic(auto)]
 
+mod components;
+mod conditions;
+mod constants;
+mod draft;
+mod existence_queries;
+mod inputs;
+mod items;
+mod join_items;
+mod join_operands;
+mod join_queries;
 mod laws;
+mod named_items;
+mod pair_items;
+mod pair_queries;
+mod pivot_queries;
+mod queries;
+mod script;
+mod set_operators;
+mod set_queries;
+mod translated;
+mod unpivot_queries;
+mod walk;
+mod writer;
 
+pub use constants::constants_are_held;
 pub use laws::{
     accepted_scripts_are_translated, inputs_ask_for_data_sets, inputs_have_their_columns,
     scripts_are_translated, scripts_are_translated_over_inputs, tables_are_counted,
     translated_scripts_are_lawful, what_is_evaluated_is_translated,
 };
+pub use script::translate;
+pub use translated::is_translated;

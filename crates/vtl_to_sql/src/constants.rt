@@ -1,0 +1,156 @@
+// The constants of a checked script are values that a program holds. A tree does not show it, so the program's own values
+// are asked, one by one.
+ghost use Rattle.std.specs.List.{AllByRecursion};
+ghost use Rattle.std.specs.Prelude.{◌≡◌, map};
+ghost use Rattle.vtl_cell.specs.Held.{IsHeld};
+ghost use Rattle.vtl_tree.specs.View.{comp_exp_of};
+ghost use Rattle.vtl_nodes.specs.View.{node_tree, value_tree};
+ghost use Rattle.vtl_meaning.specs.Operators.{value_exp};
+ghost use Rattle.vtl_backend.specs.Checked.{nodes_of};
+ghost use Rattle.rules_to_sql.specs.Held.{HoldsValues};
+ghost use Rattle.vtl_to_sql.specs.Accepted.{AreHeld, HoldsParts};
+
+use std::alloc::Global;
+use vtl_backend::Checked;
+use vtl_cell::{Cell, Profile, write_cell};
+use vtl_nodes::{CalcItem, CalcValue, JoinOperand, Node, NodeForm, SubItem};
+use vtl_tree::CompExpr;
+
+// A value is one that a program holds, whether or not there is memory to write it.
+fn cell_is_held(alloc: Global, cell: &Cell, p: &Profile)
+    ensures { IsHeld cell.now }
+{
+    let mut text = Vec::new(alloc);
+    let _written = write_cell(cell, p, &mut text);
+}
+
+#[cycle(expressions)]
+fn expression_is_held(alloc: Global, e: &CompExpr, p: &Profile)
+    ensures { HoldsValues (comp_exp_of e.now) }
+{
+    match e {
+        CompExpr::Const(cell) => cell_is_held(alloc, cell, p),
+        CompExpr::Apply { args, .. } => expressions_are_held(alloc, args, p),
+        CompExpr::Column { .. } => {}
+        CompExpr::Aggregate { .. } => {}
+    }
+}
+
+#[cycle(expressions)]
+fn expressions_are_held(alloc: Global, exps: &[CompExpr], p: &Profile)
+    ensures { AllByRecursion (λ e. HoldsValues (comp_exp_of e)) exps.now }
+{
+    for e in exps {
+        expression_is_held(alloc, e, p);
+    }
+}
+
+fn value_is_held(alloc: Global, value: &CalcValue, p: &Profile)
+    ensures { HoldsValues (value_exp (value_tree value.now)) }
+{
+    match value {
+        CalcValue::Scalar(e) => expression_is_held(alloc, e, p),
+        CalcValue::Analytic(_) => {}
+    }
+}
+
+fn targets_are_held(alloc: Global, targets: &[CalcItem], p: &Profile)
+    ensures { AllByRecursion (λ i. HoldsValues (value_exp (value_tree i.value))) targets.now }
+{
+    for target in targets {
+        value_is_held(alloc, &target.value, p);
+    }
+}
+
+fn values_are_held(alloc: Global, values: &[SubItem], p: &Profile)
+    ensures { AllByRecursion (λ i. IsHeld i.value) values.now }
+{
+    for item in values {
+        cell_is_held(alloc, &item.value, p);
+    }
+}
+
+#[cycle(constants)]
+fn node_is_held(alloc: Global, node: &Node, p: &Profile)
+    ensures { HoldsParts (node_tree node.now) }
+{
+    match &node.form {
+        NodeForm::Named(_) => {}
+        NodeForm::Measures { op, a } => {
+            expressions_are_held(alloc, op.before.as_slice(), p);
+            expressions_are_held(alloc, op.after.as_slice(), p);
+            node_is_held(alloc, a, p)
+        }
+        NodeForm::Filter { a, c } => {
+            expression_is_held(alloc, c, p);
+            node_is_held(alloc, a, p)
+        }
+        NodeForm::Calc { a, items } => {
+            targets_are_held(alloc, items.as_slice(), p);
+            node_is_held(alloc, a, p)
+        }
+        NodeForm::Sub { a, values } => {
+            values_are_held(alloc, values.as_slice(), p);
+            node_is_held(alloc, a, p)
+        }
+        NodeForm::Member { a, .. } => node_is_held(alloc, a, p),
+        NodeForm::Keep { a, .. } => node_is_held(alloc, a, p),
+        NodeForm::DropNamed { a, .. } => node_is_held(alloc, a, p),
+        NodeForm::Rename { a, .. } => node_is_held(alloc, a, p),
+        NodeForm::Pivot { a, .. } => node_is_held(alloc, a, p),
+        NodeForm::Unpivot { a, .. } => node_is_held(alloc, a, p),
+        NodeForm::Choose { c, a, b } => {
+            node_is_held(alloc, c, p);
+            node_is_held(alloc, a, p);
+            node_is_held(alloc, b, p)
+        }
+        NodeForm::Pair { a, b, .. } => {
+            node_is_held(alloc, a, p);
+            node_is_held(alloc, b, p)
+        }
+        NodeForm::SetDiff { a, b } => {
+            node_is_held(alloc, a, p);
+            node_is_held(alloc, b, p)
+        }
+        NodeForm::SymDiff { a, b } => {
+            node_is_held(alloc, a, p);
+            node_is_held(alloc, b, p)
+        }
+        NodeForm::ExistsIn { a, b, .. } => {
+            node_is_held(alloc, a, p);
+            node_is_held(alloc, b, p)
+        }
+        NodeForm::Union(nodes) => nodes_are_held(alloc, nodes, p),
+        NodeForm::Intersect(nodes) => nodes_are_held(alloc, nodes, p),
+        NodeForm::Join { operands, .. } => {
+            let _numbered = operands.len() + 1;
+            operands_are_held(alloc, operands, p)
+        }
+        _ => {}
+    }
+}
+
+#[cycle(constants)]
+fn operands_are_held(alloc: Global, operands: &[JoinOperand], p: &Profile)
+    ensures { AllByRecursion (λ o. HoldsParts (node_tree o.node)) operands.now }
+{
+    for operand in operands {
+        node_is_held(alloc, &operand.node, p);
+    }
+}
+
+#[cycle(constants)]
+fn nodes_are_held(alloc: Global, nodes: &[Node], p: &Profile)
+    ensures { AllByRecursion (λ n. HoldsParts (node_tree n)) nodes.now }
+{
+    for node in nodes {
+        node_is_held(alloc, node, p);
+    }
+}
+
+/// The constants of a checked script are values that a program holds.
+pub fn constants_are_held(alloc: Global, script: &Checked)
+    ensures { AreHeld (nodes_of script.now) }
+{
+    nodes_are_held(alloc, script.nodes(), script.profile())
+}

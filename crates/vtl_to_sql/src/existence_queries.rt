@@ -1,0 +1,108 @@
+// The query of `exists_in`, over the tables of its operands.
+ghost use Rattle.std.specs.Prelude.{◌≡◌, ◌++◌, ◌∷◌, [], map, IfOk};
+ghost use Rattle.std.specs.Option.{option_map};
+ghost use Rattle.vtl_tree.specs.Shown.{shown};
+ghost use Rattle.vtl_tree.specs.Structure.{columns_of, names_of};
+ghost use Rattle.check_shapes.specs.Names.{is_among};
+ghost use Rattle.vtl_meaning.specs.Agreement.{common_identifiers};
+ghost use Rattle.vtl_meaning.specs.Columns.{identifiers_of};
+ghost use Rattle.sql_tree.specs.View.{expr_tree, item_tree, query_tree};
+ghost use Rattle.vtl_to_sql.specs.Existences.{retained_matches};
+ghost use Rattle.vtl_to_sql.specs.NamedItems.{own_columns};
+ghost use Rattle.vtl_to_sql.specs.Queries.{existence_query, items_as};
+
+use crate::named_items::{push_next, push_own};
+use crate::pair_queries::Operand;
+use crate::queries::{from_one, one_select};
+use crate::set_queries::is_matched;
+use crate::writer::Writer;
+use sql_tree::{Item, Query, SqlExpr};
+use std::alloc::{AllocError, Global};
+use vtl_cell::Txt;
+use vtl_syntax::Retain;
+use vtl_tree::{Component, Structure};
+
+// Whether a column has this name.
+fn is_named(name: &Txt, columns: &[&Component]) -> bool
+    ensures { result ≡ is_among name.now (names_of (shown columns.now)) }
+{
+    for column in columns {
+        if column.name == *name {
+            return true;
+        }
+    }
+    false
+}
+
+// The identifiers of the second structure that the first one has too.
+fn common_identifiers<'b>(
+    alloc: Global,
+    a: &Structure,
+    b: &'b Structure,
+) -> Result<Vec<&'b Component>, AllocError>
+    ensures { IfOk result (λ v. shown v.items ≡ common_identifiers a.now b.now) }
+{
+    let own = a.identifiers(alloc)?;
+    let theirs = b.identifiers(alloc)?;
+    let mut common = Vec::new(alloc);
+    for identifier in theirs.as_slice() {
+        if is_named(&identifier.name, &own) {
+            common.push(*identifier)?;
+        }
+    }
+    Ok(common)
+}
+
+// The identifiers of a result and an answer, as its columns.
+fn answered_items(
+    alloc: Global,
+    writer: &Writer,
+    s: &Structure,
+    answer: SqlExpr,
+) -> Result<Vec<Item>, AllocError>
+    ensures { IfOk result (λ v. map item_tree v.items ≡ items_as (own_columns (identifiers_of s.now) ++ expr_tree answer ∷ []) (columns_of s.now)) }
+{
+    let identifiers = s.identifiers(alloc)?;
+    let columns = s.columns(alloc)?;
+    let mut items = Vec::with_capacity(alloc, columns.len())?;
+    push_own(writer, &mut items, &identifiers, &columns)?;
+    push_next(&mut items, answer, &columns)?;
+    Ok(items)
+}
+
+// The condition of the points whose answer is retained.
+fn retained(
+    alloc: Global,
+    writer: &Writer,
+    kept: Retain,
+    identifiers: &[&Component],
+    other: &Txt,
+) -> Result<Option<SqlExpr>, AllocError>
+    ensures { IfOk result (λ o. option_map expr_tree o ≡ retained_matches kept (shown identifiers.now) other.now) }
+{
+    let wanted = match kept {
+        Retain::All => return Ok(None),
+        Retain::True => true,
+        Retain::False => false,
+    };
+    Ok(Some(is_matched(alloc, writer, wanted, identifiers, other)?))
+}
+
+/// `exists_in`: for each point whether the second operand has one that agrees on the identifiers that both have. It
+/// fails only if memory runs out.
+pub(crate) fn existence_query(
+    alloc: Global,
+    writer: &Writer,
+    kept: Retain,
+    a: &Operand<'_>,
+    b: &Operand<'_>,
+    s: &Structure,
+) -> Result<Query, AllocError>
+    ensures { IfOk result (λ q. query_tree q ≡ existence_query writer.now kept a.now.structure.now b.now.structure.now s.now a.now.table.now b.now.table.now) }
+{
+    let common = common_identifiers(alloc, a.structure, b.structure)?;
+    let answer = is_matched(alloc, writer, true, &common, b.table)?;
+    let items = answered_items(alloc, writer, s, answer)?;
+    let condition = retained(alloc, writer, kept, &common, b.table)?;
+    one_select(alloc, from_one(alloc, writer, items, condition, a.table)?)
+}

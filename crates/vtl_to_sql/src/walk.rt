@@ -1,0 +1,210 @@
+// The tables of an expression on data sets.
+ghost use Rattle.std.specs.Prelude.{◌≡◌, ◌++◌, ◌∷◌, [], length, map, true, IfOk, OnOk};
+ghost use Rattle.vtl_nodes.specs.View.{form_tree, node_tree, operand_tree};
+ghost use Rattle.sql_tree.specs.View.{query_tree, statement_tree};
+ghost use Rattle.vtl_to_sql.specs.Scripts.{create_for};
+ghost use Rattle.vtl_nodes.specs.Trees.{operands_of, structure_of};
+ghost use Rattle.vtl_tree.specs.Shown.{shown};
+ghost use Rattle.check_joins.specs.Joins.{structures_of};
+ghost use Rattle.vtl_meaning.specs.Made.{operands_in};
+ghost use Rattle.vtl_to_sql.specs.Queries.{left_query};
+ghost use Rattle.vtl_to_sql.specs.Tables.{made_of_form, operands_of as joined_sources, over, sources_of, with_one};
+ghost use Rattle.vtl_to_sql.specs.Translated.{has_form_query, has_query, have_operand_queries};
+
+use crate::draft::Draft;
+use crate::existence_queries::existence_query;
+use crate::join_queries::join_query;
+use crate::pair_queries::{Operand, choose_query, pair_query};
+use crate::pivot_queries::pivot_query;
+use crate::queries::{
+    calc_query, filter_query, left_query, measures_query, rename_query, sub_query,
+};
+use crate::set_operators::SetOperator;
+use crate::set_queries::set_query;
+use crate::unpivot_queries::unpivot_query;
+use crate::writer::Writer;
+use sql_tree::Query;
+use std::alloc::{AllocError, Global};
+use vtl_cell::Txt;
+use vtl_nodes::{JoinOperand, Node, NodeForm};
+use vtl_tree::Structure;
+
+/// The name of a table that stands for an operand, for which tables are made first where it is more than a name.
+#[cycle(made)]
+pub(crate) fn source(
+    alloc: Global,
+    writer: &Writer,
+    node: &Node,
+    target: &Txt,
+    draft: &mut Draft,
+) -> Result<Txt, AllocError>
+    requires { has_query (node_tree node.now) ≡ true }
+    ensures name { IfOk result (λ t. t ∷ [] ≡ (sources_of writer.now target.now (node_tree node.now) draft.old.next).names) }
+    ensures tables { OnOk result (map statement_tree draft.new.statements.items ≡ map statement_tree draft.old.statements.items ++ map create_for (sources_of writer.now target.now (node_tree node.now) draft.old.next).tables) }
+    ensures next { OnOk result (draft.new.next ≡ (sources_of writer.now target.now (node_tree node.now) draft.old.next).next) }
+{
+    match &node.form {
+        NodeForm::Named(name) => name.share(),
+        form => {
+            let query = query(alloc, writer, form, &node.structure, target, draft)?;
+            draft.store(alloc, target, query)
+        }
+    }
+}
+
+// An operand with the table that stands for it.
+fn operand<'a>(node: &'a Node, table: &'a Txt) -> Operand<'a>
+    ensures structure { result.structure.now ≡ structure_of (node_tree node.now) }
+    ensures table { result.table.now ≡ table.now }
+{
+    Operand {
+        structure: &node.structure,
+        table,
+    }
+}
+
+// The columns of an operand that are left.
+#[cycle(made)]
+fn left(
+    alloc: Global,
+    writer: &Writer,
+    a: &Node,
+    s: &Structure,
+    target: &Txt,
+    draft: &mut Draft,
+) -> Result<Query, AllocError>
+    requires { has_query (node_tree a.now) ≡ true }
+    ensures query { IfOk result (λ q. query_tree q ≡ (over (sources_of writer.now target.now (node_tree a.now) draft.old.next) (with_one (left_query writer.now (structure_of (node_tree a.now)) s.now))).query) }
+    ensures tables { OnOk result (map statement_tree draft.new.statements.items ≡ map statement_tree draft.old.statements.items ++ map create_for (sources_of writer.now target.now (node_tree a.now) draft.old.next).tables) }
+    ensures next { OnOk result (draft.new.next ≡ (sources_of writer.now target.now (node_tree a.now) draft.old.next).next) }
+{
+    let table = source(alloc, writer, a, target, draft)?;
+    left_query(alloc, writer, s, &table)
+}
+
+// The structures of the operands of a join.
+fn joined_structures(alloc: Global, operands: &[JoinOperand]) -> Result<Vec<&Structure>, AllocError>
+    ensures structures { IfOk result (λ v. shown v.items ≡ structures_of (operands_in (operands_of (map operand_tree operands.now)))) }
+    ensures many { IfOk result (λ v. length v.items ≡ length operands.now) }
+{
+    let mut structures = Vec::with_capacity(alloc, operands.len())?;
+    for operand in operands {
+        structures.push(&operand.node.structure)?;
+    }
+    Ok(structures)
+}
+
+// The names of the tables that stand for the operands of a join, for which tables are made first.
+#[cycle(made)]
+fn joined_sources(
+    alloc: Global,
+    writer: &Writer,
+    operands: &[JoinOperand],
+    target: &Txt,
+    draft: &mut Draft,
+) -> Result<Vec<Txt>, AllocError>
+    requires { have_operand_queries (operands_of (map operand_tree operands.now)) ≡ true }
+    ensures names { IfOk result (λ v. v.items ≡ (joined_sources writer.now target.now (operands_of (map operand_tree operands.now)) draft.old.next).names) }
+    ensures many { IfOk result (λ v. length v.items ≡ length operands.now) }
+    ensures tables { OnOk result (map statement_tree draft.new.statements.items ≡ map statement_tree draft.old.statements.items ++ map create_for (joined_sources writer.now target.now (operands_of (map operand_tree operands.now)) draft.old.next).tables) }
+    ensures next { OnOk result (draft.new.next ≡ (joined_sources writer.now target.now (operands_of (map operand_tree operands.now)) draft.old.next).next) }
+{
+    let mut tables = Vec::with_capacity(alloc, operands.len())?;
+    for operand in operands {
+        tables.push(source(alloc, writer, &operand.node, target, draft)?)?;
+    }
+    Ok(tables)
+}
+
+/// The query of an expression of a structure. The tables that stand for its operands are made first.
+#[cycle(made)]
+pub(crate) fn query(
+    alloc: Global,
+    writer: &Writer,
+    form: &NodeForm,
+    s: &Structure,
+    target: &Txt,
+    draft: &mut Draft,
+) -> Result<Query, AllocError>
+    requires { has_form_query (form_tree form.now) ≡ true }
+    ensures query { IfOk result (λ q. query_tree q ≡ (made_of_form writer.now target.now s.now (form_tree form.now) draft.old.next).query) }
+    ensures tables { OnOk result (map statement_tree draft.new.statements.items ≡ map statement_tree draft.old.statements.items ++ map create_for (made_of_form writer.now target.now s.now (form_tree form.now) draft.old.next).tables) }
+    ensures next { OnOk result (draft.new.next ≡ (made_of_form writer.now target.now s.now (form_tree form.now) draft.old.next).next) }
+{
+    match form {
+        NodeForm::Named(name) => left_query(alloc, writer, s, name),
+        NodeForm::Measures { op, a } => {
+            let table = source(alloc, writer, a, target, draft)?;
+            measures_query(alloc, writer, op, &a.structure, s, &table)
+        }
+        NodeForm::Filter { a, c } => {
+            let table = source(alloc, writer, a, target, draft)?;
+            filter_query(alloc, writer, c, s, &table)
+        }
+        NodeForm::Calc { a, items } => {
+            let table = source(alloc, writer, a, target, draft)?;
+            calc_query(alloc, writer, items.as_slice(), s, &table)
+        }
+        NodeForm::Rename { a, .. } => {
+            let table = source(alloc, writer, a, target, draft)?;
+            rename_query(alloc, writer, &a.structure, s, &table)
+        }
+        NodeForm::Sub { a, values } => {
+            let table = source(alloc, writer, a, target, draft)?;
+            sub_query(alloc, writer, values.as_slice(), s, &table)
+        }
+        NodeForm::Pivot { a, id, m } => {
+            let table = source(alloc, writer, a, target, draft)?;
+            pivot_query(alloc, writer, id, m, &a.structure, s, &table)
+        }
+        NodeForm::Unpivot { a, .. } => {
+            let table = source(alloc, writer, a, target, draft)?;
+            unpivot_query(alloc, writer, &a.structure, s, &table)
+        }
+        NodeForm::Member { a, .. } => left(alloc, writer, a, s, target, draft),
+        NodeForm::Keep { a, .. } => left(alloc, writer, a, s, target, draft),
+        NodeForm::DropNamed { a, .. } => left(alloc, writer, a, s, target, draft),
+        NodeForm::Pair { op, a, b } => {
+            let first = source(alloc, writer, a, target, draft)?;
+            let second = source(alloc, writer, b, target, draft)?;
+            let (first, second) = (operand(a, &first), operand(b, &second));
+            pair_query(alloc, writer, *op, &first, &second, s)
+        }
+        NodeForm::Choose { c, a, b } => {
+            let tested = source(alloc, writer, c, target, draft)?;
+            let first = source(alloc, writer, a, target, draft)?;
+            let second = source(alloc, writer, b, target, draft)?;
+            let (first, second) = (operand(a, &first), operand(b, &second));
+            choose_query(alloc, writer, &operand(c, &tested), &first, &second, s)
+        }
+        NodeForm::SetDiff { a, b } => {
+            let first = source(alloc, writer, a, target, draft)?;
+            let second = source(alloc, writer, b, target, draft)?;
+            set_query(alloc, writer, SetOperator::Difference, s, &first, &second)
+        }
+        NodeForm::SymDiff { a, b } => {
+            let first = source(alloc, writer, a, target, draft)?;
+            let second = source(alloc, writer, b, target, draft)?;
+            set_query(
+                alloc,
+                writer,
+                SetOperator::SymmetricDifference,
+                s,
+                &first,
+                &second,
+            )
+        }
+        NodeForm::ExistsIn { a, b, retain } => {
+            let first = source(alloc, writer, a, target, draft)?;
+            let second = source(alloc, writer, b, target, draft)?;
+            let (first, second) = (operand(a, &first), operand(b, &second));
+            existence_query(alloc, writer, *retain, &first, &second, s)
+        }
+        NodeForm::Join { operands, spec } => {
+            let structures = joined_structures(alloc, operands)?;
+            let tables = joined_sources(alloc, writer, operands, target, draft)?;
+            join_query(alloc, writer, spec.kind, &structures, &tables, s)
+        }
+        _ => unreachable!(),
+    }
+}
