@@ -33,11 +33,7 @@ fn main(rt: HostRuntime) -> io::Result<ExitCode> {
 }
 
 // The text that the words ask for.
-fn translated<F: Files>(
-    alloc: Global,
-    words: &[String],
-    files: &mut F,
-) -> Result<String, Trouble> {
+fn translated<F: Files>(alloc: Global, words: &[String], files: &mut F) -> Result<String, Trouble> {
     let Some(asked) = asked(words) else {
         return Err(Trouble::Usage);
     };

@@ -2,12 +2,11 @@
 use crate::trouble::Trouble;
 use sql_print::print;
 use std::alloc::Global;
-use vtl_check::{check, defines_rulesets};
 use vtl_csv::read_structures;
 use vtl_decimal::Profile;
 use vtl_files::{Files, read_all};
 use vtl_parser::parse;
-use vtl_to_sql::{is_translated, translate};
+use vtl_to_sql::{check, defines_rulesets, is_translated, translate};
 
 // The most bytes of a file.
 const LIMIT: usize = 16_777_216;

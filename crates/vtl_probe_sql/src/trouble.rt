@@ -13,7 +13,8 @@ pub(crate) enum Trouble {
 impl Trouble {
     pub(crate) fn why(self) -> &'static str {
         match self {
-            Trouble::Usage => "the words are SCRIPT STRUCTURES [--scale D | --round half_up|half_even|down]",
+            Trouble::Usage =>
+                "the words are SCRIPT STRUCTURES [--scale D | --round half_up|half_even|down]",
             Trouble::NoText => "a file could not be read, or is no text",
             Trouble::Refused => "the script or its structures are refused",
             Trouble::Untranslated => "a form of the script is not translated",

@@ -30,10 +30,10 @@ use Rattle.vtl_syntax.specs.declared.parts.Keeping.TheVariants as keeping
 use Rattle.vtl_syntax.specs.declared.parts.Literal.{Literal}
 use Rattle.vtl_syntax.specs.declared.parts.RenamePart.{RenamePart}
 use Rattle.vtl_syntax.specs.declared.parts.SubPart.{SubPart}
-use Rattle.vtl_meaning.specs.Meaning.{is_built_form}
-use Rattle.vtl_meaning.specs.Trees as nodes
-use Rattle.vtl_meaning.specs.Trees.{FormTree, ItemTree, NodeTree, structure_of}
-use Rattle.vtl_meaning.specs.clauses.SubItem.{SubItem}
+use Rattle.rules_to_sql.specs.Meaning.{is_built_form}
+use Rattle.rules_to_sql.specs.Trees as nodes
+use Rattle.rules_to_sql.specs.Trees.{FormTree, ItemTree, NodeTree, structure_of}
+use Rattle.rules_to_sql.specs.clauses.SubItem.{SubItem}
 use Rattle.vtl_syntax.specs.Trees as tree
 use Rattle.vtl_syntax.specs.Trees.{Calcs, TargetsTree}
 use Rattle.vtl_syntax.specs.Written.{AreMoreCalcs, AreWrittenCalcs, AreWrittenTargets}
@@ -58,11 +58,11 @@ use Rattle.vtl_check.specs.Typed.{TypedTree, components_in, condition_in}
 use Rattle.vtl_check.specs.places.Joined.{Joined}
 use Rattle.vtl_check.specs.places.Place.{Place}
 use Rattle.vtl_check.specs.places.Place.TheVariants as place
-use Rattle.check_laws.specs.Gives.{Gives}
-use Rattle.check_laws.proofs.Clauses.{among-any}
-use Rattle.check_laws.proofs.Lists as lists
-use Rattle.check_laws.proofs.Literals.{IsCell, literal-cell, valued-gives}
-use Rattle.check_laws.proofs.Steps.{after, tested, then}
+use Rattle.rules_to_sql.specs.Gives.{Gives}
+use Rattle.rules_to_sql.proofs.Clauses.{among-any}
+use Rattle.rules_to_sql.proofs.Lists as lists
+use Rattle.rules_to_sql.proofs.Literals.{IsCell, literal-cell, valued-gives}
+use Rattle.rules_to_sql.proofs.Steps.{after, tested, then}
 use Rattle.vtl_to_sql.proofs.AcceptedWords.{AreValues, FormHasWords, IsAt, IsColumnName, IsFilled, IsWorded, component_named, form_renamings, from_outside}
 
 module _ (p : Settings) (b : Bool) (rs : List Renaming) where

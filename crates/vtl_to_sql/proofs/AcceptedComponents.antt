@@ -16,9 +16,9 @@ use Rattle.vtl_tree.specs.declared.structure.Component.{Component}
 use Rattle.vtl_tree.specs.declared.structure.Role.{Role}
 use Rattle.vtl_tree.specs.declared.structure.Role.TheVariants as role
 use Rattle.vtl_tree.specs.declared.structure.Structure.{Structure}
-use Rattle.vtl_meaning.specs.Columns.{identifiers_of, kind_named}
-use Rattle.vtl_meaning.specs.Shapes.{calculated_components}
-use Rattle.vtl_meaning.specs.Turned.{codes_of}
+use Rattle.rules_to_sql.specs.Columns.{identifiers_of, kind_named}
+use Rattle.rules_to_sql.specs.Shapes.{calculated_components}
+use Rattle.rules_to_sql.specs.Turned.{codes_of}
 use Rattle.check_shapes.specs.Choices.{chosen, is_chosen, is_identifier}
 use Rattle.check_shapes.specs.Clauses.{calculated, code_measure, first_kind, is_new, names_column, new_name, pivot_components, renamed, retargeted, target_component}
 use Rattle.check_shapes.specs.Clauses as clauses
@@ -31,8 +31,8 @@ use Rattle.check_shapes.specs.declared.measures.Outcome.{Outcome}
 use Rattle.check_shapes.specs.declared.measures.Outcome.TheVariants as outcome
 use Rattle.check_shapes.specs.declared.renaming.Renaming.{Renaming}
 use Rattle.check_shapes.specs.declared.targets.Target.{Target}
-use Rattle.check_laws.proofs.Columns.{at-found, found-filter, kind-found, of-columns}
-use Rattle.check_laws.proofs.Lists as lists
+use Rattle.rules_to_sql.proofs.Columns.{at-found, found-filter, kind-found, of-columns}
+use Rattle.rules_to_sql.proofs.Lists as lists
 use Rattle.sql_tree.specs.Formed.{IsName}
 use Rattle.vtl_to_sql.specs.Conditions.{HaveNames}
 use Rattle.vtl_to_sql.proofs.AcceptedWords.{AreRenamings, HasCodes, IsColumnName}

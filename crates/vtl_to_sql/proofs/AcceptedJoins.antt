@@ -15,10 +15,10 @@ use Rattle.vtl_syntax.specs.declared.parts.Comp.TheVariants as comp
 use Rattle.vtl_syntax.specs.declared.parts.Keeping.{Keeping}
 use Rattle.vtl_syntax.specs.declared.parts.RenamePart.{RenamePart}
 use Rattle.vtl_syntax.specs.declared.word_groups.JoinKind.{JoinKind}
-use Rattle.vtl_meaning.specs.Made as made
-use Rattle.vtl_meaning.specs.Meaning.{are_operands_built, is_built}
-use Rattle.vtl_meaning.specs.Trees as nodes
-use Rattle.vtl_meaning.specs.Trees.{NodeTree, OperandTree, operands_of}
+use Rattle.rules_to_sql.specs.Made as made
+use Rattle.rules_to_sql.specs.Meaning.{are_operands_built, is_built}
+use Rattle.rules_to_sql.specs.Trees as nodes
+use Rattle.rules_to_sql.specs.Trees.{NodeTree, OperandTree, operands_of}
 use Rattle.check_joins.specs.Joins.{held_names, last_renamings}
 use Rattle.check_faults.specs.Rules.{ruled}
 use Rattle.check_faults.specs.declared.rules.Rule.{Rule}
@@ -32,9 +32,9 @@ use Rattle.vtl_check.specs.Typed.{TypedTree, components_in, dataset_in}
 use Rattle.vtl_check.specs.Typing.{as_dataset, body_end, filter_step, filtered_join, join_end, keeping_step, last_step, renaming_step, targets_step, typed}
 use Rattle.vtl_check.specs.places.Joined.{Joined}
 use Rattle.vtl_check.specs.places.Place.TheVariants as place
-use Rattle.check_laws.specs.Gives.{Gives}
-use Rattle.check_laws.proofs.Lists as lists
-use Rattle.check_laws.proofs.Steps.{after, tested, then}
+use Rattle.rules_to_sql.specs.Gives.{Gives}
+use Rattle.rules_to_sql.proofs.Lists as lists
+use Rattle.rules_to_sql.proofs.Steps.{after, tested, then}
 use Rattle.vtl_to_sql.proofs.AcceptedClauses.{clause_at, filter_at, keeping_at, renaming_at, targets_at}
 use Rattle.vtl_to_sql.proofs.AcceptedOperators.{dataset_in_worded, tree_step}
 use Rattle.vtl_to_sql.proofs.AcceptedWords.{IsAt, IsTreeWorded, IsWorded, OperandsHaveWords, from_outside}

@@ -17,19 +17,19 @@ use Rattle.vtl_tree.specs.Structures.{Named}
 use Rattle.vtl_tree.specs.declared.structure.Component.{Component}
 use Rattle.vtl_tree.specs.declared.structure.Role.TheVariants as role
 use Rattle.vtl_tree.specs.declared.structure.Structure.{Structure}
-use Rattle.vtl_meaning.proofs.Places.{same_name-is, same_name-refl}
-use Rattle.vtl_meaning.specs.Columns.{identifiers_of, kind_named, place_of}
-use Rattle.vtl_meaning.specs.Made.{AreMade, AreMadeOperands, IsColumnAt, IsMade, IsMadeForm, IsSub}
-use Rattle.vtl_meaning.specs.Nodes.{all_nodes, form_nodes, nodes_in, operand_nodes}
-use Rattle.vtl_meaning.specs.Operators.{calculated_exps, measured_exps, pair_exps}
-use Rattle.vtl_meaning.specs.Shapes.{IsShaped}
-use Rattle.vtl_meaning.specs.Trees as nodes
-use Rattle.vtl_meaning.specs.Trees.{FormTree, NodeTree, NodeTrees, OperandTrees, structure_of}
-use Rattle.vtl_meaning.specs.clauses.SubItem.{SubItem}
-use Rattle.check_laws.specs.Depths.{exps_in, held_exps, made_exps}
-use Rattle.check_laws.proofs.DepthBounds.{AreNodesUpTo, AreUpTo, IsUpTo}
-use Rattle.check_laws.proofs.Inner.{made-shaped}
-use Rattle.check_laws.proofs.Lists as lists
+use Rattle.rules_to_sql.proofs.Places.{same_name-is, same_name-refl}
+use Rattle.rules_to_sql.specs.Columns.{identifiers_of, kind_named, place_of}
+use Rattle.rules_to_sql.specs.Made.{AreMade, AreMadeOperands, IsColumnAt, IsMade, IsMadeForm, IsSub}
+use Rattle.rules_to_sql.specs.Nodes.{all_nodes, form_nodes, nodes_in, operand_nodes}
+use Rattle.rules_to_sql.specs.Operators.{calculated_exps, measured_exps, pair_exps}
+use Rattle.rules_to_sql.specs.Shapes.{IsShaped}
+use Rattle.rules_to_sql.specs.Trees as nodes
+use Rattle.rules_to_sql.specs.Trees.{FormTree, NodeTree, NodeTrees, OperandTrees, structure_of}
+use Rattle.rules_to_sql.specs.clauses.SubItem.{SubItem}
+use Rattle.rules_to_sql.specs.Depths.{exps_in, held_exps, made_exps}
+use Rattle.rules_to_sql.proofs.DepthBounds.{AreNodesUpTo, AreUpTo, IsUpTo}
+use Rattle.rules_to_sql.proofs.Inner.{made-shaped}
+use Rattle.rules_to_sql.proofs.Lists as lists
 use Rattle.rules_to_sql.specs.Held.{HoldsValues}
 use Rattle.vtl_to_sql.specs.Accepted.{AllHoldValues, FormHoldsParts, HoldsParts, NodesHoldParts, OperandsHoldParts, are_nodes_translated, are_operands_translated, is_form_translated, is_translated}
 use Rattle.vtl_to_sql.specs.Conditions.{AllCanBeWritten, AreNodesTranslated, AreOperandsTranslated, CanBeWritten, HasValue, IsFormTranslated, IsTranslated}

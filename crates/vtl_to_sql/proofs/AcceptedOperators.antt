@@ -19,10 +19,10 @@ use Rattle.vtl_syntax.specs.declared.parts.Comp.TheVariants as comp
 use Rattle.vtl_syntax.specs.declared.parts.GroupPart.{GroupPart}
 use Rattle.vtl_syntax.specs.declared.parts.Literal.{Literal}
 use Rattle.vtl_syntax.specs.declared.word_groups.AggregateName.{AggregateName}
-use Rattle.vtl_meaning.specs.Meaning.{is_built}
-use Rattle.vtl_meaning.specs.Trees as nodes
-use Rattle.vtl_meaning.specs.Trees.{FormTree, NodeTree}
-use Rattle.vtl_meaning.specs.calls.Window.{Window}
+use Rattle.rules_to_sql.specs.Meaning.{is_built}
+use Rattle.rules_to_sql.specs.Trees as nodes
+use Rattle.rules_to_sql.specs.Trees.{FormTree, NodeTree}
+use Rattle.rules_to_sql.specs.calls.Window.{Window}
 use Rattle.check_faults.specs.Rules.{ruled}
 use Rattle.check_faults.specs.declared.rules.Rule.{Rule}
 use Rattle.check_faults.specs.declared.rules.Rule.TheVariants as rule
@@ -42,9 +42,9 @@ use Rattle.vtl_check.specs.calls.Call.{Call}
 use Rattle.vtl_check.specs.places.Inside.{Inside}
 use Rattle.vtl_check.specs.places.Place.{Place}
 use Rattle.vtl_check.specs.places.Place.TheVariants as place
-use Rattle.check_laws.specs.Gives.{Gives}
-use Rattle.check_laws.proofs.Lists as lists
-use Rattle.check_laws.proofs.Steps.{after, then}
+use Rattle.rules_to_sql.specs.Gives.{Gives}
+use Rattle.rules_to_sql.proofs.Lists as lists
+use Rattle.rules_to_sql.proofs.Steps.{after, then}
 use Rattle.vtl_to_sql.proofs.AcceptedWords.{FormIsWorded, IsTreeWorded, IsWorded}
 
 module _ (p : Settings) where

@@ -11,13 +11,13 @@ use Rattle.vtl_text.proofs.Apart.{apart_push}
 use Rattle.vtl_tree.specs.Structure.{same_name}
 use Rattle.vtl_tree.specs.Structures.{AreStructures, Named, has_name, is_declarable, is_declarable_entry}
 use Rattle.vtl_tree.specs.declared.structure.Structure.{Structure}
-use Rattle.vtl_meaning.proofs.Places.{same_name-is, same_name-refl}
-use Rattle.vtl_meaning.specs.Trees.{NodeTree}
+use Rattle.rules_to_sql.proofs.Places.{same_name-is, same_name-refl}
+use Rattle.rules_to_sql.specs.Trees.{NodeTree}
 use Rattle.vtl_check.specs.Names.{names_of}
 use Rattle.vtl_check.specs.Uses.{read_behind, reads, with_declared, with_new}
 use Rattle.vtl_check.proofs.KnownLemmas.{has_name-lookup}
-use Rattle.check_laws.specs.Scripts.{AreKnownAlike}
-use Rattle.check_laws.proofs.Lists as lists
+use Rattle.rules_to_sql.specs.LawsScripts.{AreKnownAlike}
+use Rattle.rules_to_sql.proofs.Lists as lists
 use Rattle.vtl_to_sql.specs.Conditions.{AreReadable}
 
 abbrev pub IsWord : List ℕ → Type 0

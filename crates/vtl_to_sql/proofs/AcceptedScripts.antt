@@ -7,7 +7,7 @@ use Rattle.vtl_syntax.specs.Trees as tree
 use Rattle.vtl_syntax.specs.Trees.{Exp, ScriptTree}
 use Rattle.vtl_syntax.specs.Written.{AreWritten, IsWrittenExp}
 use Rattle.vtl_tree.specs.Structures.{has_name}
-use Rattle.vtl_meaning.specs.Trees.{NodeTree}
+use Rattle.rules_to_sql.specs.Trees.{NodeTree}
 use Rattle.check_faults.specs.Rules.{ruled}
 use Rattle.check_faults.specs.declared.rules.Rule.TheVariants as rule
 use Rattle.vtl_check.specs.Places.{Env}
@@ -17,10 +17,10 @@ use Rattle.vtl_check.specs.Count.{count}
 use Rattle.vtl_check.specs.Script.{assigned, is_too_much, transformations_typed, value_typed, with_result}
 use Rattle.vtl_check.specs.Transformations.{transformations, transformations_from}
 use Rattle.vtl_check.specs.Typing.{typed}
-use Rattle.check_laws.specs.Gives.{Gives}
-use Rattle.check_laws.proofs.Lists as lists
-use Rattle.check_laws.proofs.Scripts.{at-then}
-use Rattle.check_laws.proofs.Steps.{after, tested, then}
+use Rattle.rules_to_sql.specs.Gives.{Gives}
+use Rattle.rules_to_sql.proofs.Lists as lists
+use Rattle.rules_to_sql.proofs.Scripts.{at-then}
+use Rattle.rules_to_sql.proofs.Steps.{after, tested, then}
 use Rattle.vtl_to_sql.proofs.AcceptedTyping.{worded}
 use Rattle.vtl_to_sql.proofs.AcceptedOperators.{dataset_step}
 use Rattle.vtl_to_sql.proofs.AcceptedWords.{IsWorded}

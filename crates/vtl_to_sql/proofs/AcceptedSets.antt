@@ -19,10 +19,10 @@ use Rattle.vtl_syntax.specs.declared.word_groups.SetOpName.{SetOpName}
 use Rattle.vtl_syntax.specs.declared.word_groups.SetOpName.TheVariants as set
 use Rattle.vtl_tree.specs.declared.structure.Component.{Component}
 use Rattle.vtl_tree.specs.declared.structure.Structure.{Structure}
-use Rattle.vtl_meaning.specs.Meaning.{are_nodes_built, is_built}
-use Rattle.vtl_meaning.specs.Trees as nodes
-use Rattle.vtl_meaning.specs.Trees.{NodeTree, maybe_node, nodes_of, structure_of}
-use Rattle.vtl_meaning.specs.specifications.CheckSpec.{CheckSpec}
+use Rattle.rules_to_sql.specs.Meaning.{are_nodes_built, is_built}
+use Rattle.rules_to_sql.specs.Trees as nodes
+use Rattle.rules_to_sql.specs.Trees.{NodeTree, maybe_node, nodes_of, structure_of}
+use Rattle.rules_to_sql.specs.specifications.CheckSpec.{CheckSpec}
 use Rattle.check_faults.specs.Rules.{ruled}
 use Rattle.check_faults.specs.declared.rules.Rule.{Rule}
 use Rattle.check_faults.specs.declared.rules.Rule.TheVariants as rule
@@ -41,11 +41,11 @@ use Rattle.vtl_check.specs.Typing as typing
 use Rattle.vtl_check.specs.Typing.{maybe_typed}
 use Rattle.vtl_check.specs.Typed as typed
 use Rattle.vtl_check.specs.Typed.{TypedTree, components_in, dataset_in}
-use Rattle.check_laws.specs.Gives.{Gives}
-use Rattle.check_laws.proofs.Left.{IsNamed, known-gives}
-use Rattle.check_laws.proofs.Lists as lists
-use Rattle.check_laws.proofs.Steps.{after, tested-then, then}
-use Rattle.check_laws.proofs.Tests.{not-false}
+use Rattle.rules_to_sql.specs.Gives.{Gives}
+use Rattle.rules_to_sql.proofs.Left.{IsNamed, known-gives}
+use Rattle.rules_to_sql.proofs.Lists as lists
+use Rattle.rules_to_sql.proofs.Steps.{after, tested-then, then}
+use Rattle.rules_to_sql.proofs.Tests.{not-false}
 use Rattle.vtl_to_sql.proofs.AcceptedWords.{FormIsWorded, HasCodes, HaveWords, IsTreeWorded, IsWorded, component_named}
 use Rattle.vtl_to_sql.proofs.AcceptedOperators.{dataset_in_worded, dataset_worded}
 

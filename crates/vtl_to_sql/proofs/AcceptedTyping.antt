@@ -7,7 +7,7 @@ use Rattle.vtl_cell.specs.declared.operator.ScalarOp.TheVariants as op
 use Rattle.vtl_syntax.specs.Trees as tree
 use Rattle.vtl_syntax.specs.Trees.{ClauseTree, Exp, Exps, Parts}
 use Rattle.vtl_syntax.specs.Written.{AreMoreExps, AreMoreParts, AreWrittenExps, AreWrittenParts, IsWrittenClause, IsWrittenExp}
-use Rattle.vtl_meaning.specs.Trees.{NodeTree}
+use Rattle.rules_to_sql.specs.Trees.{NodeTree}
 use Rattle.check_faults.specs.declared.rules.Rule.TheVariants as rule
 use Rattle.check_values.specs.Literals.{constant_typed, literals_fit}
 use Rattle.check_values.specs.Operators.{exps_length, of_binary, of_function, of_unary, takes}
@@ -21,8 +21,8 @@ use Rattle.vtl_check.specs.Typing.{as_dataset, behind, clause_typed, grouped_of,
 use Rattle.vtl_check.specs.Windowed.{over_typed}
 use Rattle.vtl_check.specs.places.Place.{Place}
 use Rattle.vtl_check.specs.places.Place.TheVariants as place
-use Rattle.check_laws.specs.Gives.{Gives}
-use Rattle.check_laws.proofs.Steps.{after, then}
+use Rattle.rules_to_sql.specs.Gives.{Gives}
+use Rattle.rules_to_sql.proofs.Steps.{after, then}
 use Rattle.vtl_to_sql.proofs.AcceptedClauses.{filter_at, keeping_at, renaming_at, sub_worded, targets_at}
 use Rattle.vtl_to_sql.proofs.AcceptedJoins.{IsPart, joins_worded, part_worded}
 use Rattle.vtl_to_sql.proofs.AcceptedOperators.{behind_worded, dataset_step, grouped_worded, member_worded, names_worded, operator_step, or_component_worded, over_worded, set_step, tree_step, two_step, value_worded}

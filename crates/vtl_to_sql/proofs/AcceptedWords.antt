@@ -16,11 +16,11 @@ use Rattle.vtl_tree.specs.declared.structure.Structure.{Structure}
 use Rattle.vtl_syntax.specs.Written as written
 use Rattle.vtl_syntax.specs.declared.parts.Comp.{Comp}
 use Rattle.vtl_syntax.specs.declared.parts.Comp.TheVariants as comp
-use Rattle.vtl_meaning.specs.Made.{operands_in}
-use Rattle.vtl_meaning.specs.Meaning.{is_built, is_built_form}
-use Rattle.vtl_meaning.specs.Trees as nodes
-use Rattle.vtl_meaning.specs.Trees.{FormTree, NodeTree, NodeTrees, OperandTrees, structure_of}
-use Rattle.vtl_meaning.specs.clauses.SubItem.{SubItem}
+use Rattle.rules_to_sql.specs.Made.{operands_in}
+use Rattle.rules_to_sql.specs.Meaning.{is_built, is_built_form}
+use Rattle.rules_to_sql.specs.Trees as nodes
+use Rattle.rules_to_sql.specs.Trees.{FormTree, NodeTree, NodeTrees, OperandTrees, structure_of}
+use Rattle.rules_to_sql.specs.clauses.SubItem.{SubItem}
 use Rattle.check_faults.specs.declared.rules.Rule.{Rule}
 use Rattle.check_joins.specs.Joins.{held_names, last_renamings}
 use Rattle.check_shapes.specs.declared.names.Wanted.TheVariants as wanted
@@ -29,8 +29,8 @@ use Rattle.check_values.specs.Columns.{name_of}
 use Rattle.vtl_check.specs.Clauses.{sub_names}
 use Rattle.vtl_check.specs.JoinOperands.{is_left}
 use Rattle.vtl_check.specs.Typed.{TypedTree, value, dataset, components_in}
-use Rattle.check_laws.specs.Gives.{Gives}
-use Rattle.check_laws.proofs.Left.{IsNamed}
+use Rattle.rules_to_sql.specs.Gives.{Gives}
+use Rattle.rules_to_sql.proofs.Left.{IsNamed}
 use Rattle.vtl_to_sql.proofs.Names.{all_pass, word_characters}
 
 -- ---- names

@@ -33,16 +33,16 @@ use Rattle.check_shapes.specs.declared.measures.Outcome.{Outcome}
 use Rattle.check_shapes.specs.declared.measures.Outcome.TheVariants as outcome
 use Rattle.check_shapes.specs.declared.renaming.Renaming.{Renaming}
 use Rattle.check_shapes.specs.declared.targets.Target.{Target}
-use Rattle.check_laws.proofs.Columns.{at-found, found-filter}
-use Rattle.check_laws.proofs.Lists as lists
-use Rattle.vtl_meaning.specs.Columns.{identifiers_of, kind_named, measures_of}
-use Rattle.vtl_meaning.specs.Made.{AreCombined, AreMade, AreMadeOperands, IsMade, IsMadeForm, node_structures, operands_in}
-use Rattle.vtl_meaning.specs.Meaning.{are_nodes_built, are_operands_built, is_built, is_built_form}
-use Rattle.vtl_meaning.specs.Shapes.{calculated_components, given_between, given_of_two, outcome_of, target_of}
-use Rattle.vtl_meaning.specs.Trees as nodes
-use Rattle.vtl_meaning.specs.Trees.{FormTree, NodeTree, NodeTrees, OperandTrees, structure_of}
-use Rattle.vtl_meaning.specs.Turned.{codes_of}
-use Rattle.vtl_meaning.proofs.JoinParts.{found_is}
+use Rattle.rules_to_sql.proofs.Columns.{at-found, found-filter}
+use Rattle.rules_to_sql.proofs.Lists as lists
+use Rattle.rules_to_sql.specs.Columns.{identifiers_of, kind_named, measures_of}
+use Rattle.rules_to_sql.specs.Made.{AreCombined, AreMade, AreMadeOperands, IsMade, IsMadeForm, node_structures, operands_in}
+use Rattle.rules_to_sql.specs.Meaning.{are_nodes_built, are_operands_built, is_built, is_built_form}
+use Rattle.rules_to_sql.specs.Shapes.{calculated_components, given_between, given_of_two, outcome_of, target_of}
+use Rattle.rules_to_sql.specs.Trees as nodes
+use Rattle.rules_to_sql.specs.Trees.{FormTree, NodeTree, NodeTrees, OperandTrees, structure_of}
+use Rattle.rules_to_sql.specs.Turned.{codes_of}
+use Rattle.rules_to_sql.proofs.JoinParts.{found_is}
 
 abbrev pub IsOfTexts : Component → Type 0
 IsOfTexts x = option_map_or (λ texts. is_text_kind x.kind) x.codes true ≡ true

@@ -15,8 +15,8 @@ use Rattle.vtl_tree.specs.CompExp.{CompExp}
 use Rattle.vtl_tree.specs.Value.{called, value}
 use Rattle.vtl_tree.specs.declared.structure.Component.{Component}
 use Rattle.check_values.specs.Kinds.{exp_kind}
-use Rattle.vtl_meaning.specs.Made.{IsTyped}
-use Rattle.check_laws.specs.Depths.{comp_depth}
+use Rattle.rules_to_sql.specs.Made.{IsTyped}
+use Rattle.rules_to_sql.specs.Depths.{comp_depth}
 use Rattle.rules_to_sql.specs.Held.{HoldsValues}
 use Rattle.vtl_to_sql.specs.Conditions.{CanBeWritten, most_depth}
 use Rattle.vtl_to_sql.specs.Queries.{conjunction}

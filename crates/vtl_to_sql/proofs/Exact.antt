@@ -12,8 +12,8 @@ use Rattle.vtl_tree.specs.DataSet.{IsDataSet, is_point}
 use Rattle.vtl_tree.specs.Structure.{columns_of, key_width}
 use Rattle.vtl_tree.specs.declared.structure.Structure.{Structure}
 use Rattle.sql_tree.specs.Trees.{QueryTree}
-use Rattle.sql_meaning.specs.Scripts.{Data, base_of, tables_in}
-use Rattle.sql_meaning.specs.Selects.{query_value}
+use Rattle.rules_to_sql.specs.Scripts.{Data, base_of, tables_in}
+use Rattle.rules_to_sql.specs.Selects.{query_value}
 use Rattle.vtl_to_sql.specs.Means.{IsQueryFor, Means}
 
 -- over these tables the query has exactly these rows, in this order, or this fault

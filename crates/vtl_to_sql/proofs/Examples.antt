@@ -15,10 +15,10 @@ use Rattle.vtl_tree.specs.declared.structure.Role.TheVariants as role
 use Rattle.vtl_tree.specs.declared.structure.Structure.{Structure}
 use Rattle.check_shapes.specs.Measures.{made}
 use Rattle.vtl_syntax.specs.declared.word_groups.Retain.TheVariants as retain
-use Rattle.vtl_meaning.specs.Columns.{column_named}
-use Rattle.vtl_meaning.specs.Meaning.{Statement}
-use Rattle.vtl_meaning.specs.Trees as nodes
-use Rattle.vtl_meaning.specs.Trees.{NodeTree}
+use Rattle.rules_to_sql.specs.Columns.{column_named}
+use Rattle.rules_to_sql.specs.Meaning.{Statement}
+use Rattle.rules_to_sql.specs.Trees as nodes
+use Rattle.rules_to_sql.specs.Trees.{NodeTree}
 use Rattle.sql_lexer.specs.Spelling.{spelled}
 use Rattle.sql_tree.specs.Printing.{written_query, written_statement}
 use Rattle.sql_tree.specs.Trees.{QueryTree, StatementTree}

@@ -16,26 +16,26 @@ use Rattle.vtl_tree.specs.DataSet.{IsDataSet, is_point}
 use Rattle.vtl_tree.specs.Structure.{columns_of, names_of}
 use Rattle.vtl_tree.specs.declared.structure.Component.{Component}
 use Rattle.vtl_tree.specs.declared.structure.Structure.{Structure}
-use Rattle.vtl_meaning.specs.Agreement.{agree_in, common_identifiers, has_agreeing, has_identifier, key_of}
-use Rattle.vtl_meaning.specs.Columns.{columns_named, identifiers_of, others_of, place_of, places_in}
-use Rattle.vtl_meaning.specs.LookUps.{values_named}
-use Rattle.vtl_meaning.specs.Made.{AreAmong, IsColumnAt, IsExistence}
-use Rattle.vtl_meaning.specs.Points.{with_points}
-use Rattle.vtl_meaning.specs.Sets.{existence_of, is_retained, with_answer}
-use Rattle.vtl_meaning.proofs.LookUps.{named_cells}
-use Rattle.vtl_meaning.proofs.OwnColumns.{columns_apart}
+use Rattle.rules_to_sql.specs.Agreement.{agree_in, common_identifiers, has_agreeing, has_identifier, key_of}
+use Rattle.rules_to_sql.specs.Columns.{columns_named, identifiers_of, others_of, place_of, places_in}
+use Rattle.rules_to_sql.specs.LookUps.{values_named}
+use Rattle.rules_to_sql.specs.Made.{AreAmong, IsColumnAt, IsExistence}
+use Rattle.rules_to_sql.specs.Points.{with_points}
+use Rattle.rules_to_sql.specs.Sets.{existence_of, is_retained, with_answer}
+use Rattle.rules_to_sql.proofs.LookUps.{named_cells}
+use Rattle.rules_to_sql.proofs.OwnColumns.{columns_apart}
 use Rattle.vtl_tuples.proofs.Lists.{filter_each}
-use Rattle.vtl_meaning.proofs.SetsKept.{filter_true}
-use Rattle.vtl_meaning.proofs.Places.{all_front, columns_split, key_cells, key_within}
+use Rattle.rules_to_sql.proofs.SetsKept.{filter_true}
+use Rattle.rules_to_sql.proofs.Places.{all_front, columns_split, key_cells, key_within}
 use Rattle.sql_tree.specs.Formed.{IsMaybeExp, IsName}
 use Rattle.sql_tree.specs.Trees.{Exp, Text}
-use Rattle.sql_check_laws.specs.Fits.{IsMaybeCondition}
-use Rattle.sql_check_parts.specs.Expressions.{site}
-use Rattle.sql_check_parts.specs.Scopes.{Scope, add_source, columns_of as table_columns}
-use Rattle.sql_meaning.specs.From.{condition_fault, kept, source_rows}
-use Rattle.sql_meaning.specs.Scripts.{Data, base_of, tables_in}
-use Rattle.sql_meaning.specs.Tables.{Base}
-use Rattle.sql_meaning.specs.Values.{at_rows}
+use Rattle.rules_to_sql.specs.Fits.{IsMaybeCondition}
+use Rattle.rules_to_sql.specs.Expressions.{site}
+use Rattle.rules_to_sql.specs.Scopes.{Scope, add_source, columns_of as table_columns}
+use Rattle.rules_to_sql.specs.From.{condition_fault, kept, source_rows}
+use Rattle.rules_to_sql.specs.Scripts.{Data, base_of, tables_in}
+use Rattle.rules_to_sql.specs.Tables.{Base}
+use Rattle.rules_to_sql.specs.Values.{at_rows}
 use Rattle.vtl_to_sql.specs.Conditions.{HaveNames}
 use Rattle.vtl_to_sql.specs.Queries.{all_to_sql, existence_query, first_alias, is_matched, items_as, of_one, retained, select_as, source_as}
 use Rattle.vtl_to_sql.specs.Runs.{IsTable, entries, printable_depth}

@@ -18,19 +18,19 @@ use Rattle.vtl_tree.specs.declared.structure.Component.{Component}
 use Rattle.vtl_tree.specs.declared.structure.Structure.{Structure}
 use Rattle.vtl_tuples.specs.Keys.{item_at}
 use Rattle.vtl_tuples.proofs.Lists.{filter_each, flat_map_same, map-flat_map, map-map, map_each, map_same}
-use Rattle.vtl_meaning.specs.Agreement.{values_in}
-use Rattle.vtl_meaning.specs.Columns.{identifiers_of, measures_of, places_in}
-use Rattle.vtl_meaning.specs.Joined.{Tuple, part_of, structures_of, tuple_at, tuple_point}
-use Rattle.vtl_meaning.specs.Made.{AreAmong, AreFor, HasIdentifiers, attributes_of, component_kinds, kinds_of_all}
-use Rattle.vtl_meaning.specs.Points.{each_point, point_of, with_points}
-use Rattle.vtl_meaning.proofs.JoinAgreements.{covers, key_only}
-use Rattle.vtl_meaning.proofs.JoinParts.{AreSets, found_is}
-use Rattle.vtl_meaning.proofs.LookUps.{named_cells}
-use Rattle.vtl_meaning.proofs.OwnColumns.{own_identifiers}
-use Rattle.vtl_meaning.proofs.Places.{all_map, all_more, all_of_map, are_identifiers, identifiers_apart, point_length}
+use Rattle.rules_to_sql.specs.Agreement.{values_in}
+use Rattle.rules_to_sql.specs.Columns.{identifiers_of, measures_of, places_in}
+use Rattle.rules_to_sql.specs.Joined.{Tuple, part_of, structures_of, tuple_at, tuple_point}
+use Rattle.rules_to_sql.specs.Made.{AreAmong, AreFor, HasIdentifiers, attributes_of, component_kinds, kinds_of_all}
+use Rattle.rules_to_sql.specs.Points.{each_point, point_of, with_points}
+use Rattle.rules_to_sql.proofs.JoinAgreements.{covers, key_only}
+use Rattle.rules_to_sql.proofs.JoinParts.{AreSets, found_is}
+use Rattle.rules_to_sql.proofs.LookUps.{named_cells}
+use Rattle.rules_to_sql.proofs.OwnColumns.{own_identifiers}
+use Rattle.rules_to_sql.proofs.Places.{all_map, all_more, all_of_map, are_identifiers, identifiers_apart, point_length}
 use Rattle.sql_tree.specs.Trees.{Text}
 use Rattle.sql_tree.specs.declared.word_groups.JoinKind.TheVariants as joining
-use Rattle.sql_meaning.specs.Scripts.{Data}
+use Rattle.rules_to_sql.specs.Scripts.{Data}
 use Rattle.vtl_to_sql.specs.Conditions.{HaveNames}
 use Rattle.vtl_to_sql.specs.FullJoins.{full_query, key_structure}
 use Rattle.vtl_to_sql.specs.Joins.{Placed, joined_exps, placed_at, placed_from, width_of}

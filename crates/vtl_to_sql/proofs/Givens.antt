@@ -12,11 +12,11 @@ use Rattle.vtl_tree.specs.declared.structure.Component.{Component}
 use Rattle.vtl_tree.specs.declared.structure.Role.{Role}
 use Rattle.vtl_tree.specs.declared.structure.Role.TheVariants as role
 use Rattle.vtl_tree.specs.declared.structure.Structure.{Structure}
-use Rattle.vtl_meaning.specs.Shapes.{IsShaped}
-use Rattle.vtl_meaning.proofs.OwnColumns.{columns_apart}
-use Rattle.vtl_meaning.proofs.Places.{all_append}
-use Rattle.sql_check_laws.specs.Selects.{IsColumnKind}
-use Rattle.sql_check_parts.specs.Queries.{most_columns}
+use Rattle.rules_to_sql.specs.Shapes.{IsShaped}
+use Rattle.rules_to_sql.proofs.OwnColumns.{columns_apart}
+use Rattle.rules_to_sql.proofs.Places.{all_append}
+use Rattle.rules_to_sql.specs.TypedSelects.{IsColumnKind}
+use Rattle.rules_to_sql.specs.Queries.{most_columns}
 use Rattle.vtl_to_sql.specs.Conditions.{HaveNames}
 
 abbrev pub kinds_in : List Component → List Kind

@@ -12,10 +12,10 @@ use Rattle.vtl_tree.specs.declared.structure.Component.{Component}
 use Rattle.vtl_tree.specs.declared.structure.Role.TheVariants as role
 use Rattle.vtl_tree.specs.declared.structure.Structure.{Structure}
 use Rattle.check_shapes.specs.Names.{is_among}
-use Rattle.vtl_meaning.specs.Agreement.{common_identifiers, has_identifier}
-use Rattle.vtl_meaning.specs.Columns.{column_behind, identifiers_of, measures_of, place_of}
-use Rattle.vtl_meaning.specs.Made.{attributes_of}
-use Rattle.vtl_meaning.proofs.Places.{same_name-refl}
+use Rattle.rules_to_sql.specs.Agreement.{common_identifiers, has_identifier}
+use Rattle.rules_to_sql.specs.Columns.{column_behind, identifiers_of, measures_of, place_of}
+use Rattle.rules_to_sql.specs.Made.{attributes_of}
+use Rattle.rules_to_sql.proofs.Places.{same_name-refl}
 use Rattle.sql_tree.specs.Trees as tree
 use Rattle.sql_tree.specs.Trees.{Exp, JoinTree, QueryTree, Text}
 use Rattle.sql_tree.specs.declared.word_groups.JoinKind.{JoinKind}

@@ -14,14 +14,14 @@ use Rattle.vtl_tree.specs.Value.{value}
 use Rattle.vtl_tree.specs.declared.structure.Component.{Component}
 use Rattle.vtl_tree.specs.declared.structure.Structure.{Structure}
 use Rattle.check_values.specs.Kinds.{exp_kind}
-use Rattle.vtl_meaning.specs.Columns.{column_behind, identifiers_of, kind_named, measures_of, place_of}
-use Rattle.vtl_meaning.specs.Joined.{Part, values_or_nulls}
-use Rattle.vtl_meaning.specs.Made.{AreAmong, AreFor, IsColumnAt, IsTyped, attributes_of, component_kinds, kinds_of_all}
-use Rattle.vtl_meaning.specs.Points.{each_point, point_fault, point_of}
-use Rattle.vtl_meaning.proofs.Kept.{column_front, column_within}
-use Rattle.vtl_meaning.proofs.OwnColumns.{among_front, columns_apart, own_columns, own_identifiers, own_measures}
-use Rattle.vtl_meaning.proofs.Places.{all_append, all_back, columns_split}
-use Rattle.sql_meaning.specs.From.{nulls}
+use Rattle.rules_to_sql.specs.Columns.{column_behind, identifiers_of, kind_named, measures_of, place_of}
+use Rattle.rules_to_sql.specs.Joined.{Part, values_or_nulls}
+use Rattle.rules_to_sql.specs.Made.{AreAmong, AreFor, IsColumnAt, IsTyped, attributes_of, component_kinds, kinds_of_all}
+use Rattle.rules_to_sql.specs.Points.{each_point, point_fault, point_of}
+use Rattle.rules_to_sql.proofs.Kept.{column_front, column_within}
+use Rattle.rules_to_sql.proofs.OwnColumns.{among_front, columns_apart, own_columns, own_identifiers, own_measures}
+use Rattle.rules_to_sql.proofs.Places.{all_append, all_back, columns_split}
+use Rattle.rules_to_sql.specs.From.{nulls}
 use Rattle.vtl_to_sql.specs.Conditions.{AllCanBeWritten, CanBeWritten}
 use Rattle.vtl_to_sql.specs.Joins.{Placed, columns_at, columns_in, joined_exps, placed_at, placed_around, placed_from, width_of, without}
 use Rattle.vtl_to_sql.proofs.Chains.{cells_or_nulls}

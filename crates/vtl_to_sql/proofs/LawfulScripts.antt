@@ -21,20 +21,20 @@ use Rattle.vtl_tree.specs.Structures as structures
 use Rattle.vtl_tree.specs.Structures.{Named}
 use Rattle.vtl_tree.specs.declared.structure.Component.{Component}
 use Rattle.vtl_tree.specs.declared.structure.Structure.{Structure}
-use Rattle.vtl_meaning.specs.Columns.{identifiers_of, others_of}
-use Rattle.vtl_meaning.specs.Made.{IsMade}
-use Rattle.vtl_meaning.specs.Meaning.{Outputs, Statement, meaning}
-use Rattle.vtl_meaning.specs.Shapes.{IsShaped}
-use Rattle.vtl_meaning.specs.Trees as nodes
-use Rattle.vtl_meaning.specs.Trees.{NodeTree, structure_of}
-use Rattle.vtl_meaning.proofs.Places.{all_front, each, all_more, columns_split, same_name-sym}
+use Rattle.rules_to_sql.specs.Columns.{identifiers_of, others_of}
+use Rattle.rules_to_sql.specs.Made.{IsMade}
+use Rattle.rules_to_sql.specs.Meaning.{Outputs, Statement, meaning}
+use Rattle.rules_to_sql.specs.Shapes.{IsShaped}
+use Rattle.rules_to_sql.specs.Trees as nodes
+use Rattle.rules_to_sql.specs.Trees.{NodeTree, structure_of}
+use Rattle.rules_to_sql.proofs.Places.{all_front, each, all_more, columns_split, same_name-sym}
 use Rattle.sql_tree.specs.Formed.{IsInputColumn, IsName, IsStatement, PrintableScript, is_column_kind}
-use Rattle.sql_check_laws.specs.Statements.{AreTyped}
-use Rattle.sql_check_laws.proofs.TypedStatements.{script_typed, typed_behind}
-use Rattle.sql_check_parts.specs.Queries.{query_columns}
-use Rattle.sql_check_parts.specs.Scopes.{Tables, columns_of as table_columns, is_among}
-use Rattle.sql_check_parts.specs.Statements.{IsTypedScript, is_taken, nothing}
-use Rattle.sql_meaning.specs.Scripts.{Data, tables_in}
+use Rattle.rules_to_sql.specs.Statements.{AreTyped}
+use Rattle.rules_to_sql.proofs.TypedStatements.{script_typed, typed_behind}
+use Rattle.rules_to_sql.specs.Queries.{query_columns}
+use Rattle.rules_to_sql.specs.Scopes.{Tables, columns_of as table_columns, is_among}
+use Rattle.rules_to_sql.specs.TypingStatements.{IsTypedScript, is_taken, nothing}
+use Rattle.rules_to_sql.specs.Scripts.{Data, tables_in}
 use Rattle.vtl_to_sql.specs.Conditions.{AreTranslated, HaveNames, IsScript}
 use Rattle.vtl_to_sql.specs.Exports.{tables_read}
 use Rattle.vtl_to_sql.specs.Means.{AreStored, ScriptGives, Stores}

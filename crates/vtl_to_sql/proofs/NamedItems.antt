@@ -5,7 +5,7 @@ use Rattle.std.specs.Borrow.{Bor}
 use Rattle.vtl_cell.specs.Settings.{Settings}
 use Rattle.vtl_tree.specs.Shown.{shown}
 use Rattle.vtl_tree.specs.declared.structure.Component.{Component}
-use Rattle.vtl_meaning.specs.Columns.{columns_named}
+use Rattle.rules_to_sql.specs.Columns.{columns_named}
 use Rattle.sql_tree.specs.Trees.{Exp, ItemTree}
 use Rattle.sql_tree.specs.View.{item_tree}
 use Rattle.sql_tree.specs.declared.statements.Item.{Item}

@@ -13,22 +13,22 @@ use Rattle.vtl_tree.specs.Structure.{IsStructure, columns_of, names_of}
 use Rattle.vtl_tree.specs.declared.structure.Component.{Component}
 use Rattle.vtl_tree.specs.declared.structure.Structure.{Structure}
 use Rattle.vtl_tuples.specs.Keys.{each_once}
-use Rattle.vtl_meaning.specs.Columns.{columns_named, place_of, places_in}
-use Rattle.vtl_meaning.specs.Made.{IsColumnAt}
-use Rattle.vtl_meaning.proofs.JoinKept.{once_hold}
-use Rattle.vtl_meaning.proofs.OwnColumns.{column_any, columns_apart, own_columns}
-use Rattle.vtl_meaning.proofs.ValueKinds.{cell_is_of}
+use Rattle.rules_to_sql.specs.Columns.{columns_named, place_of, places_in}
+use Rattle.rules_to_sql.specs.Made.{IsColumnAt}
+use Rattle.rules_to_sql.proofs.JoinKept.{once_hold}
+use Rattle.rules_to_sql.proofs.OwnColumns.{column_any, columns_apart, own_columns}
+use Rattle.rules_to_sql.proofs.ValueKinds.{cell_is_of}
 use Rattle.vtl_cell.specs.Texts.{same_text}
 use Rattle.sql_tree.specs.Formed.{IsColumn, IsName}
 use Rattle.sql_tree.specs.Trees.{Text}
 use Rattle.sql_tree.specs.declared.parts.Column.{Column}
-use Rattle.sql_check_laws.specs.Fits.{IsSeen}
-use Rattle.sql_check_parts.specs.Queries.{is_grouped}
-use Rattle.sql_check_parts.specs.Scopes.{Scope, or_null}
-use Rattle.sql_meaning.specs.Groups.{keys_by, rows_with}
-use Rattle.sql_meaning.specs.Scripts.{Data, base_of}
-use Rattle.sql_meaning.specs.Tables.{Base}
-use Rattle.sql_meaning.specs.Values.{place_in}
+use Rattle.rules_to_sql.specs.Fits.{IsSeen}
+use Rattle.rules_to_sql.specs.Queries.{is_grouped}
+use Rattle.rules_to_sql.specs.Scopes.{Scope, or_null}
+use Rattle.rules_to_sql.specs.MeantGroups.{keys_by, rows_with}
+use Rattle.rules_to_sql.specs.Scripts.{Data, base_of}
+use Rattle.rules_to_sql.specs.Tables.{Base}
+use Rattle.rules_to_sql.specs.Values.{place_in}
 use Rattle.rules_to_sql.specs.ToSql.{group_columns}
 use Rattle.rules_to_sql.proofs.OverGroups.{group_fits, group_value_is}
 use Rattle.vtl_to_sql.specs.FullJoins.{once_query}

@@ -32,32 +32,32 @@ use Rattle.vtl_tree.specs.CompExp.{column}
 use Rattle.vtl_tuples.specs.Keys.{each_once}
 use Rattle.vtl_tuples.proofs.Lists.{map_each, map_same}
 use Rattle.check_shapes.specs.Clauses.{code_measure}
-use Rattle.vtl_meaning.specs.Agreement.{values_in}
-use Rattle.vtl_meaning.specs.Columns.{columns_named, identifiers_of, kind_named, others_of, place_of, places_in}
-use Rattle.vtl_meaning.specs.LookUps.{value_named}
-use Rattle.vtl_meaning.specs.Made.{IsColumnAt, IsPivoted}
-use Rattle.vtl_meaning.specs.Points.{with_points}
-use Rattle.vtl_meaning.specs.Turned.{coded_value, codes_of, is_coded, other_identifiers, pivot_of, pivoted_point}
-use Rattle.vtl_meaning.proofs.JoinKept.{once_hold}
-use Rattle.vtl_meaning.proofs.JoinParts.{found_is}
-use Rattle.vtl_meaning.proofs.OwnColumns.{column_any, own_among}
-use Rattle.vtl_meaning.proofs.Places.{all_map, all_more, columns_split, each, identifiers_apart, same_name-sym}
-use Rattle.vtl_meaning.proofs.TurnedKept.{keys_typed, others_among}
-use Rattle.vtl_meaning.proofs.ValueKinds.{cell_is_of, null_is_of}
+use Rattle.rules_to_sql.specs.Agreement.{values_in}
+use Rattle.rules_to_sql.specs.Columns.{columns_named, identifiers_of, kind_named, others_of, place_of, places_in}
+use Rattle.rules_to_sql.specs.LookUps.{value_named}
+use Rattle.rules_to_sql.specs.Made.{IsColumnAt, IsPivoted}
+use Rattle.rules_to_sql.specs.Points.{with_points}
+use Rattle.rules_to_sql.specs.Turned.{coded_value, codes_of, is_coded, other_identifiers, pivot_of, pivoted_point}
+use Rattle.rules_to_sql.proofs.JoinKept.{once_hold}
+use Rattle.rules_to_sql.proofs.JoinParts.{found_is}
+use Rattle.rules_to_sql.proofs.OwnColumns.{column_any, own_among}
+use Rattle.rules_to_sql.proofs.Places.{all_map, all_more, columns_split, each, identifiers_apart, same_name-sym}
+use Rattle.rules_to_sql.proofs.TurnedKept.{keys_typed, others_among}
+use Rattle.rules_to_sql.proofs.ValueKinds.{cell_is_of, null_is_of}
 use Rattle.sql_tree.specs.Formed.{IsColumn, IsMaybeExp, IsName}
 use Rattle.sql_tree.specs.Trees.{Text, binary}
 use Rattle.sql_tree.specs.declared.parts.Column.{Column}
-use Rattle.sql_check_laws.specs.Fits.{Fits, IsMaybeCondition, IsSeen}
-use Rattle.sql_check_parts.specs.Expressions.{site}
-use Rattle.sql_check_parts.specs.Kinds.{kind_in, operator_kind}
-use Rattle.sql_check_parts.specs.Queries.{is_grouped}
-use Rattle.sql_check_parts.specs.Scopes.{Grouping, Scope, found, grouping_of, or_null}
-use Rattle.sql_meaning.specs.Groups.{keys_by, rows_with}
-use Rattle.sql_meaning.specs.Outcomes.{operated}
-use Rattle.sql_meaning.specs.Scripts.{Data, base_of, tables_in}
-use Rattle.sql_meaning.specs.Selects.{having_fault, kept_keys}
-use Rattle.sql_meaning.specs.Tables.{Base}
-use Rattle.sql_meaning.specs.Values.{at_groups, at_rows, place_in, value as sql_value}
+use Rattle.rules_to_sql.specs.Fits.{Fits, IsMaybeCondition, IsSeen}
+use Rattle.rules_to_sql.specs.Expressions.{site}
+use Rattle.rules_to_sql.specs.Kinds.{kind_in, operator_kind}
+use Rattle.rules_to_sql.specs.Queries.{is_grouped}
+use Rattle.rules_to_sql.specs.Scopes.{Grouping, Scope, found, grouping_of, or_null}
+use Rattle.rules_to_sql.specs.MeantGroups.{keys_by, rows_with}
+use Rattle.rules_to_sql.specs.Outcomes.{operated}
+use Rattle.rules_to_sql.specs.Scripts.{Data, base_of, tables_in}
+use Rattle.rules_to_sql.specs.Selects.{having_fault, kept_keys}
+use Rattle.rules_to_sql.specs.Tables.{Base}
+use Rattle.rules_to_sql.specs.Values.{at_groups, at_rows, place_in, value as sql_value}
 use Rattle.rules_to_sql.specs.ToSql.{column_of as sql_column, group_columns}
 use Rattle.rules_to_sql.proofs.OverGroups.{group_fits, group_value_is}
 use Rattle.vtl_to_sql.specs.Conditions.{HaveNames}

@@ -14,15 +14,15 @@ use Rattle.vtl_tree.proofs.LookUps.{look_respects}
 use Rattle.vtl_tuples.specs.Keys.{each_once}
 use Rattle.vtl_tuples.proofs.Lists.{filter_each}
 use Rattle.vtl_tuples.proofs.Onces.{once_already, once_more}
-use Rattle.vtl_meaning.specs.Columns.{identifiers_of}
-use Rattle.vtl_meaning.specs.Operators.{left_of}
-use Rattle.vtl_meaning.specs.Points.{with_points}
-use Rattle.vtl_meaning.specs.Sets.{all_left_of, either_only, has_point, intersected, intersection_of, reduced, union_of, united}
-use Rattle.vtl_meaning.proofs.SetsFolds.{intersected_fold, united_fold}
-use Rattle.vtl_meaning.proofs.SetsKept.{either_only_kept, has_any, reduced_kept, shown_kept, some_kept, united_kept}
+use Rattle.rules_to_sql.specs.Columns.{identifiers_of}
+use Rattle.rules_to_sql.specs.Operators.{left_of}
+use Rattle.rules_to_sql.specs.Points.{with_points}
+use Rattle.rules_to_sql.specs.Sets.{all_left_of, either_only, has_point, intersected, intersection_of, reduced, union_of, united}
+use Rattle.rules_to_sql.proofs.SetsFolds.{intersected_fold, united_fold}
+use Rattle.rules_to_sql.proofs.SetsKept.{either_only_kept, has_any, reduced_kept, shown_kept, some_kept, united_kept}
 use Rattle.sql_tree.specs.Trees.{QueryTree, Text}
 use Rattle.sql_tree.specs.Formed.{IsName}
-use Rattle.sql_meaning.specs.Scripts.{Data}
+use Rattle.rules_to_sql.specs.Scripts.{Data}
 use Rattle.vtl_to_sql.specs.Conditions.{HaveNames}
 use Rattle.vtl_to_sql.specs.Queries.{difference_query, intersection_query, matched_select, shown_select, symmetric_difference_query, union_query}
 use Rattle.vtl_to_sql.specs.Runs.{IsTable}

@@ -19,18 +19,18 @@ use Rattle.vtl_tree.specs.Structures.{AreStructures, Named, is_declarable, is_de
 use Rattle.vtl_tree.specs.declared.structure.Component.{Component}
 use Rattle.vtl_tree.specs.declared.structure.Role.TheVariants as role
 use Rattle.vtl_tree.specs.declared.structure.Structure.{Structure}
-use Rattle.vtl_meaning.specs.Columns.{identifiers_of, others_of}
-use Rattle.vtl_meaning.specs.Shapes.{IsShaped}
-use Rattle.vtl_meaning.proofs.OwnColumns.{columns_apart}
-use Rattle.vtl_meaning.proofs.Places.{IsOther, all_back, all_front, all_more, are_others, columns_split, identifiers_apart, same_name-refl, same_name-sym}
-use Rattle.check_laws.proofs.Scripts.{structures-shaped}
+use Rattle.rules_to_sql.specs.Columns.{identifiers_of, others_of}
+use Rattle.rules_to_sql.specs.Shapes.{IsShaped}
+use Rattle.rules_to_sql.proofs.OwnColumns.{columns_apart}
+use Rattle.rules_to_sql.proofs.Places.{IsOther, all_back, all_front, all_more, are_others, columns_split, identifiers_apart, same_name-refl, same_name-sym}
+use Rattle.rules_to_sql.proofs.Scripts.{structures-shaped}
 use Rattle.sql_tree.specs.Formed.{IsName}
 use Rattle.sql_tree.specs.Trees.{Text}
-use Rattle.sql_check_laws.specs.Statements.{AreNames, AreTyped, HasCodes, IsExportTyped, IsInputTyped, IsOrder}
-use Rattle.sql_check_parts.specs.Scopes.{Columns, Tables, columns_of as table_columns, is_among, is_empty, repeats, value_among}
-use Rattle.sql_check_parts.specs.Statements.{Given, after, codes_fit, input_columns, is_of_key, is_taken, is_text}
-use Rattle.sql_check_parts.specs.Queries.{query_columns}
-use Rattle.sql_meaning.specs.Scripts.{Inputs, tables_in}
+use Rattle.rules_to_sql.specs.Statements.{AreNames, AreTyped, HasCodes, IsExportTyped, IsInputTyped, IsOrder}
+use Rattle.rules_to_sql.specs.Scopes.{Columns, Tables, columns_of as table_columns, is_among, is_empty, repeats, value_among}
+use Rattle.rules_to_sql.specs.TypingStatements.{Given, after, codes_fit, input_columns, is_of_key, is_taken, is_text}
+use Rattle.rules_to_sql.specs.Queries.{query_columns}
+use Rattle.rules_to_sql.specs.Scripts.{Inputs, tables_in}
 use Rattle.vtl_to_sql.specs.Conditions.{AreReadable, HaveNames}
 use Rattle.vtl_to_sql.specs.Exports.{tables_read}
 use Rattle.vtl_to_sql.specs.Runs.{AreLawful, entries, given_behind}

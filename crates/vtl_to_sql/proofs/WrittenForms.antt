@@ -2,8 +2,8 @@
 use Rattle.std.proofs.Common.{◌≡◌, ◌&&◌, Bool, true, false, List, [], ◌∷◌, refl, ap, ◌∙◌}
 use Rattle.std.specs.List.{list_all}
 use Rattle.std.proofs.lemmas.Bool.{and_parts}
-use Rattle.vtl_meaning.specs.Trees as nodes
-use Rattle.vtl_meaning.specs.Trees.{FormTree, NodeTree, OperandTrees}
+use Rattle.rules_to_sql.specs.Trees as nodes
+use Rattle.rules_to_sql.specs.Trees.{FormTree, NodeTree, OperandTrees}
 use Rattle.vtl_to_sql.specs.Accepted.{are_operands_translated, are_translated, is_form_translated, is_translated}
 use Rattle.vtl_to_sql.specs.JoinItems.{is_one_query}
 use Rattle.vtl_to_sql.specs.Translated.{has_form_query, has_query, have_operand_queries}

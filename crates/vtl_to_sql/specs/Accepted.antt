@@ -6,11 +6,11 @@ use Rattle.vtl_cell.specs.Held.{IsHeld}
 use Rattle.vtl_cell.specs.Settings.{Settings}
 use Rattle.vtl_tree.specs.CompExp.{CompExp}
 use Rattle.vtl_tree.specs.declared.structure.Structure.{Structure}
-use Rattle.vtl_meaning.specs.Made.{operands_in}
-use Rattle.vtl_meaning.specs.Meaning.{Statement}
-use Rattle.vtl_meaning.specs.Operators.{calculated_exps, measured_exps, pair_exps}
-use Rattle.vtl_meaning.specs.Trees as nodes
-use Rattle.vtl_meaning.specs.Trees.{FormTree, NodeTree, NodeTrees, OperandTrees, structure_of}
+use Rattle.rules_to_sql.specs.Made.{operands_in}
+use Rattle.rules_to_sql.specs.Meaning.{Statement}
+use Rattle.rules_to_sql.specs.Operators.{calculated_exps, measured_exps, pair_exps}
+use Rattle.rules_to_sql.specs.Trees as nodes
+use Rattle.rules_to_sql.specs.Trees.{FormTree, NodeTree, NodeTrees, OperandTrees, structure_of}
 use Rattle.rules_to_sql.specs.Held.{HoldsValues}
 use Rattle.vtl_to_sql.specs.Conditions.{HasFewTables}
 

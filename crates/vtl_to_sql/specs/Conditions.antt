@@ -13,15 +13,15 @@ use Rattle.vtl_tree.specs.Structure.{columns_of, most_components}
 use Rattle.vtl_tree.specs.Structures.{AreStructures, Named, has_name}
 use Rattle.vtl_tree.specs.declared.structure.Component.{Component}
 use Rattle.vtl_tree.specs.declared.structure.Structure.{Structure}
-use Rattle.vtl_meaning.specs.Columns.{identifiers_of, kind_named}
-use Rattle.vtl_meaning.specs.Made.{IsMade, operands_in}
-use Rattle.vtl_meaning.specs.Meaning.{Statement}
-use Rattle.vtl_meaning.specs.Operators.{calculated_exps, measured_exps, pair_exps}
-use Rattle.vtl_meaning.specs.Trees as nodes
-use Rattle.vtl_meaning.specs.Trees.{FormTree, NodeTree, NodeTrees, OperandTrees, structure_of}
-use Rattle.vtl_meaning.specs.clauses.SubItem.{SubItem}
+use Rattle.rules_to_sql.specs.Columns.{identifiers_of, kind_named}
+use Rattle.rules_to_sql.specs.Made.{IsMade, operands_in}
+use Rattle.rules_to_sql.specs.Meaning.{Statement}
+use Rattle.rules_to_sql.specs.Operators.{calculated_exps, measured_exps, pair_exps}
+use Rattle.rules_to_sql.specs.Trees as nodes
+use Rattle.rules_to_sql.specs.Trees.{FormTree, NodeTree, NodeTrees, OperandTrees, structure_of}
+use Rattle.rules_to_sql.specs.clauses.SubItem.{SubItem}
 use Rattle.sql_tree.specs.Formed.{IsName}
-use Rattle.check_laws.specs.Depths.{comp_depth}
+use Rattle.rules_to_sql.specs.Depths.{comp_depth}
 use Rattle.rules_to_sql.specs.Held.{HoldsValues}
 use Rattle.vtl_to_sql.specs.Tables.{first_number, made_of}
 

@@ -7,12 +7,12 @@ use Rattle.vtl_tree.specs.CompExp.{CompExp}
 use Rattle.vtl_tree.specs.Structure.{columns_of}
 use Rattle.vtl_tree.specs.declared.structure.Component.{Component}
 use Rattle.vtl_tree.specs.declared.structure.Structure.{Structure}
-use Rattle.vtl_meaning.specs.Agreement.{common_identifiers}
-use Rattle.vtl_meaning.specs.Columns.{column_behind, column_named, identifiers_of, measures_of}
-use Rattle.vtl_meaning.specs.Made.{attributes_of}
+use Rattle.rules_to_sql.specs.Agreement.{common_identifiers}
+use Rattle.rules_to_sql.specs.Columns.{column_behind, column_named, identifiers_of, measures_of}
+use Rattle.rules_to_sql.specs.Made.{attributes_of}
 use Rattle.sql_tree.specs.Trees.{JoinTree, QueryTree, SelectTree, Text, cross, on}
 use Rattle.sql_tree.specs.declared.word_groups.JoinKind.{JoinKind}
-use Rattle.sql_meaning.specs.Scripts.{dollar}
+use Rattle.rules_to_sql.specs.Scripts.{dollar}
 use Rattle.rules_to_sql.specs.ToSql.{Naming, column_of, to_sql}
 use Rattle.vtl_to_sql.specs.Queries.{conjunction, equal, first_alias, select_of, source_as}
 

@@ -12,14 +12,14 @@ use Rattle.vtl_cell.specs.Words.{is_word}
 use Rattle.vtl_tree.specs.Environment.{DataSet, Environment}
 use Rattle.vtl_tree.specs.Structure.{columns_of, same_name}
 use Rattle.vtl_tree.specs.declared.structure.Structure.{Structure}
-use Rattle.vtl_meaning.specs.Meaning.{Outputs, Statement, known_in, points_named}
+use Rattle.rules_to_sql.specs.Meaning.{Outputs, Statement, known_in, points_named}
 use Rattle.sql_tree.specs.Formed.{IsName, IsQuery}
 use Rattle.sql_tree.specs.Trees.{QueryTree, Text}
-use Rattle.sql_check_parts.specs.Queries.{query_columns}
-use Rattle.sql_check_parts.specs.Scopes.{Tables}
-use Rattle.sql_check_laws.specs.Selects.{IsQueryWhole}
-use Rattle.sql_meaning.specs.Scripts.{Data, NamedFault, base_of, fault_name, tables_in}
-use Rattle.sql_meaning.specs.Selects.{query_value}
+use Rattle.rules_to_sql.specs.Queries.{query_columns}
+use Rattle.rules_to_sql.specs.Scopes.{Tables}
+use Rattle.rules_to_sql.specs.TypedSelects.{IsQueryWhole}
+use Rattle.rules_to_sql.specs.Scripts.{Data, NamedFault, base_of, fault_name, tables_in}
+use Rattle.rules_to_sql.specs.Selects.{query_value}
 use Rattle.vtl_to_sql.specs.Runs.{AreLawful, IsTable, entries, printable_depth, run}
 use Rattle.vtl_to_sql.specs.Tables.{Made, Sources, Table, first_number, made_of, numbered, table_of}
 

@@ -12,11 +12,11 @@ use Rattle.vtl_tree.specs.declared.structure.Structure.{Structure}
 use Rattle.check_shapes.specs.Pairs.{contains}
 use Rattle.vtl_syntax.specs.declared.word_groups.Retain.{Retain}
 use Rattle.vtl_syntax.specs.declared.word_groups.Retain.TheVariants as retain
-use Rattle.vtl_meaning.specs.Agreement.{common_identifiers}
-use Rattle.vtl_meaning.specs.Columns.{column_behind, column_named, columns_named, identifiers_of, measures_of}
-use Rattle.vtl_meaning.specs.Operators.{calculated_exps, measured_exps, pair_exps}
-use Rattle.vtl_meaning.specs.Trees.{ItemTree as Target, MeasureTree}
-use Rattle.vtl_meaning.specs.clauses.SubItem.{SubItem}
+use Rattle.rules_to_sql.specs.Agreement.{common_identifiers}
+use Rattle.rules_to_sql.specs.Columns.{column_behind, column_named, columns_named, identifiers_of, measures_of}
+use Rattle.rules_to_sql.specs.Operators.{calculated_exps, measured_exps, pair_exps}
+use Rattle.rules_to_sql.specs.Trees.{ItemTree as Target, MeasureTree}
+use Rattle.rules_to_sql.specs.clauses.SubItem.{SubItem}
 use Rattle.sql_tree.specs.Trees.{Text, Exp, ItemTree, JoinTree, QueryTree, SelectTree, exists, expression, on, unary}
 use Rattle.sql_tree.specs.declared.parts.Equality.{Equality}
 use Rattle.sql_tree.specs.declared.parts.Source.{Source}

@@ -10,11 +10,11 @@ use Rattle.vtl_tree.specs.declared.structure.Component.{Component}
 use Rattle.vtl_tree.specs.declared.structure.Structure.{Structure}
 use Rattle.sql_tree.specs.Formed.{IsStatement}
 use Rattle.sql_tree.specs.Trees.{Text}
-use Rattle.sql_check_parts.specs.Queries.{query_columns}
-use Rattle.sql_check_parts.specs.Scopes.{Columns, Tables}
-use Rattle.sql_check_laws.specs.Statements.{IsCreateTyped}
-use Rattle.sql_meaning.specs.Scripts.{Data, NamedFault, Table as Held, base_of, created, or_named}
-use Rattle.sql_meaning.specs.Selects.{query_value}
+use Rattle.rules_to_sql.specs.Queries.{query_columns}
+use Rattle.rules_to_sql.specs.Scopes.{Columns, Tables}
+use Rattle.rules_to_sql.specs.Statements.{IsCreateTyped}
+use Rattle.rules_to_sql.specs.Scripts.{Data, NamedFault, Table as Held, base_of, created, or_named}
+use Rattle.rules_to_sql.specs.Selects.{query_value}
 use Rattle.vtl_to_sql.specs.Scripts.{create_for}
 use Rattle.vtl_to_sql.specs.Tables.{Table}
 

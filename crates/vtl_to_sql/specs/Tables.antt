@@ -8,14 +8,14 @@ use Rattle.vtl_tree.specs.declared.structure.Structure.{Structure}
 use Rattle.vtl_syntax.specs.declared.word_groups.JoinKind.{JoinKind}
 use Rattle.vtl_syntax.specs.declared.word_groups.JoinKind.TheVariants as join
 use Rattle.check_joins.specs.Joins as joins
-use Rattle.vtl_meaning.specs.Joined.{reference_place}
-use Rattle.vtl_meaning.specs.Made.{operands_in}
-use Rattle.vtl_meaning.specs.Meaning.{Statement}
-use Rattle.vtl_meaning.specs.Trees as nodes
-use Rattle.vtl_meaning.specs.Trees.{FormTree, NodeTree, NodeTrees, OperandTrees, structure_of}
+use Rattle.rules_to_sql.specs.Joined.{reference_place}
+use Rattle.rules_to_sql.specs.Made.{operands_in}
+use Rattle.rules_to_sql.specs.Meaning.{Statement}
+use Rattle.rules_to_sql.specs.Trees as nodes
+use Rattle.rules_to_sql.specs.Trees.{FormTree, NodeTree, NodeTrees, OperandTrees, structure_of}
 use Rattle.sql_tree.specs.Trees.{Text, QueryTree}
 use Rattle.sql_tree.specs.declared.word_groups.JoinKind.TheVariants as joining
-use Rattle.sql_meaning.specs.Scripts.{dollar}
+use Rattle.rules_to_sql.specs.Scripts.{dollar}
 use Rattle.vtl_to_sql.specs.FullJoins.{full_query, key_structure, keys_query, once_query}
 use Rattle.vtl_to_sql.specs.Joins.{cross_query, reference_query}
 use Rattle.vtl_to_sql.specs.Queries.{calc_query, choose_query, copy_query, difference_query, filter_query, intersection_query, left_query, measures_query, pair_query, rename_query, shown_query, sub_query, symmetric_difference_query, union_query, existence_query}

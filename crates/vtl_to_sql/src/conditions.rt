@@ -4,7 +4,7 @@ ghost use Rattle.sql_tree.specs.Trees.{binary};
 ghost use Rattle.sql_tree.specs.View.{expr_tree};
 ghost use Rattle.vtl_tree.specs.Shown.{shown};
 ghost use Rattle.vtl_tree.specs.Structure.{columns_of, key_width};
-ghost use Rattle.vtl_meaning.specs.Columns.{measures_of};
+ghost use Rattle.rules_to_sql.specs.Columns.{measures_of};
 ghost use Rattle.vtl_to_sql.specs.Items.{all_of, value_equality};
 ghost use Rattle.vtl_to_sql.specs.PairItems.{agreement_on, chosen, not_chosen};
 ghost use Rattle.vtl_to_sql.specs.Queries.{name_of_first};

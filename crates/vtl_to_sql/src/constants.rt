@@ -5,7 +5,7 @@ ghost use Rattle.std.specs.Prelude.{◌≡◌, map};
 ghost use Rattle.vtl_cell.specs.Held.{IsHeld};
 ghost use Rattle.vtl_tree.specs.View.{comp_exp_of};
 ghost use Rattle.vtl_nodes.specs.View.{node_tree, value_tree};
-ghost use Rattle.vtl_meaning.specs.Operators.{value_exp};
+ghost use Rattle.rules_to_sql.specs.Operators.{value_exp};
 ghost use Rattle.vtl_backend.specs.Checked.{nodes_of};
 ghost use Rattle.rules_to_sql.specs.Held.{HoldsValues};
 ghost use Rattle.vtl_to_sql.specs.Accepted.{AreHeld, HoldsParts};

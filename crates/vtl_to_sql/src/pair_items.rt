@@ -4,7 +4,7 @@ ghost use Rattle.vtl_tree.specs.Shown.{shown};
 ghost use Rattle.vtl_tree.specs.CompExp.{column};
 ghost use Rattle.vtl_tree.specs.View.{comp_exp_of};
 ghost use Rattle.vtl_cell.specs.declared.kind.Kind.TheVariants as k;
-ghost use Rattle.vtl_meaning.specs.Columns.{identifiers_of, measures_of};
+ghost use Rattle.rules_to_sql.specs.Columns.{identifiers_of, measures_of};
 ghost use Rattle.sql_tree.specs.View.{expr_tree, item_tree};
 ghost use Rattle.vtl_to_sql.specs.Items.{for_each_two};
 ghost use Rattle.vtl_to_sql.specs.PairItems.{between_places, lead_item, namesake, namesake_item, second_item};

@@ -2,7 +2,7 @@
 ghost use Rattle.std.specs.Prelude.{◌≡◌, ◌∷◌, [], map, IfOk};
 ghost use Rattle.std.specs.Option.{option_map};
 ghost use Rattle.vtl_tree.specs.Shown.{shown};
-ghost use Rattle.vtl_meaning.specs.Columns.{identifiers_of};
+ghost use Rattle.rules_to_sql.specs.Columns.{identifiers_of};
 ghost use Rattle.sql_tree.specs.View.{expr_tree, item_tree, join_tree, query_tree, select_tree};
 ghost use Rattle.sql_tree.specs.Trees.{on};
 ghost use Rattle.sql_tree.specs.declared.word_groups.JoinKind.TheVariants as joining;

@@ -2,7 +2,7 @@
 ghost use Rattle.std.specs.Prelude.{◌≡◌, map, IfOk, OnOk};
 ghost use Rattle.std.specs.Option.{option_map};
 ghost use Rattle.vtl_tree.specs.Shown.{shown};
-ghost use Rattle.vtl_meaning.specs.Turned.{codes_of, other_identifiers};
+ghost use Rattle.rules_to_sql.specs.Turned.{codes_of, other_identifiers};
 ghost use Rattle.sql_tree.specs.Trees.{aggregate};
 ghost use Rattle.sql_tree.specs.View.{expr_tree, item_tree, query_tree, select_tree};
 ghost use Rattle.vtl_to_sql.specs.NamedItems.{AreNext};

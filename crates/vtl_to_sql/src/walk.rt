@@ -6,7 +6,7 @@ ghost use Rattle.vtl_to_sql.specs.Scripts.{create_for};
 ghost use Rattle.vtl_nodes.specs.Trees.{operands_of, structure_of};
 ghost use Rattle.vtl_tree.specs.Shown.{shown};
 ghost use Rattle.check_joins.specs.Joins.{structures_of};
-ghost use Rattle.vtl_meaning.specs.Made.{operands_in};
+ghost use Rattle.rules_to_sql.specs.Made.{operands_in};
 ghost use Rattle.vtl_to_sql.specs.Queries.{left_query};
 ghost use Rattle.vtl_to_sql.specs.Tables.{made_of_form, operands_of as joined_sources, over, sources_of, with_one};
 ghost use Rattle.vtl_to_sql.specs.Translated.{has_form_query, has_query, have_operand_queries};
