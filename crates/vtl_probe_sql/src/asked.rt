@@ -13,7 +13,7 @@ pub(crate) struct Asked<'a> {
 const SCALE: u8 = 6;
 
 // What the words ask for: `SCRIPT STRUCTURES [--scale D | --round half_up|half_even|down]`
-pub(crate) fn asked(words: &[String]) -> Option<Asked> {
+pub(crate) fn asked_of(words: &[String]) -> Option<Asked> {
     Some(Asked {
         script: words.first()?.as_str(),
         structures: words.get(1)?.as_str(),

@@ -9,7 +9,7 @@ mod asked;
 mod text;
 mod trouble;
 
-use asked::asked;
+use asked::asked_of;
 use std::alloc::Global;
 use std::process::ExitCode;
 use std::{env, io};
@@ -34,7 +34,7 @@ fn main(rt: HostRuntime) -> io::Result<ExitCode> {
 
 // The text that the words ask for.
 fn translated<F: Files>(alloc: Global, words: &[String], files: &mut F) -> Result<String, Trouble> {
-    let Some(asked) = asked(words) else {
+    let Some(asked) = asked_of(words) else {
         return Err(Trouble::Usage);
     };
     let script = file_text(alloc, files, asked.script)?;
