@@ -1,5 +1,5 @@
 -- Constants of expressions that a program holds.
-use Rattle.std.proofs.Common.{◌≡◌, ℕ, Bool, rules, true, false, cond, List, [], ◌∷◌, ◌++◌, map, length, Some, find, sym, ap, subst, ◌∙◌}
+use Rattle.std.proofs.Common.{◌≡◌, ℕ, suc, ◌+◌, ◌<◌, ◌^◌, arith, refl, ℕ, Bool, rules, true, false, cond, List, [], ◌∷◌, ◌++◌, map, length, Some, find, sym, ap, subst, ◌∙◌}
 use Rattle.std.specs.List.{AllByRecursion}
 use Rattle.std.specs.Prelude.{Box, Vec}
 use Rattle.std.specs.declared.alloc.Global.{Global}
@@ -13,8 +13,12 @@ use Rattle.vtl_tree.specs.declared.expression.CompExpr as exprs
 use Rattle.vtl_tree.specs.declared.expression.CompExpr.{CompExpr}
 use Rattle.vtl_tree.specs.declared.expression.CompExpr.TheVariants as expr
 use Rattle.vtl_nodes.specs.Trees as nodes
-use Rattle.vtl_nodes.specs.View.{form_tree, item_tree, measure_tree, node_tree, value_tree}
+use Rattle.vtl_nodes.specs.View.{form_tree, item_tree, measure_tree, node_tree, operand_tree, value_tree}
 use Rattle.vtl_nodes.specs.declared.clauses.CalcItem.{CalcItem}
+use Rattle.vtl_meaning.specs.Made.{operands_in}
+use Rattle.vtl_nodes.specs.declared.specifications.JoinSpec.{JoinSpec}
+use Rattle.vtl_nodes.specs.declared.nodes.JoinOperand as operand
+use Rattle.vtl_nodes.specs.declared.nodes.JoinOperand.{JoinOperand}
 use Rattle.vtl_nodes.specs.declared.nodes.MeasureOp.{MeasureOp}
 use Rattle.vtl_nodes.specs.declared.nodes.Node as node
 use Rattle.vtl_nodes.specs.declared.nodes.Node.{Node}
@@ -26,9 +30,9 @@ use Rattle.vtl_tree.specs.declared.structure.Structure.{Structure}
 use Rattle.check_shapes.specs.Pairs.{contains}
 use Rattle.vtl_meaning.specs.Columns.{column_behind, column_named, columns_named, identifiers_of, measures_of}
 use Rattle.vtl_meaning.specs.Operators.{calculated_exp, calculated_exps, for_measures, measured_exps, pair_exps, value_exp, with_measure, with_namesake}
-use Rattle.vtl_meaning.specs.Trees.{FormTree, ItemTree, MeasureTree, NodeTree, nodes_of, structure_of}
+use Rattle.vtl_meaning.specs.Trees.{FormTree, ItemTree, MeasureTree, NodeTree, OperandTree, nodes_of, operands_of, structure_of}
 use Rattle.rules_to_sql.specs.Held.{AllHold, HoldsValues, IsMemberHeld, OperandsHold, asks_a_set}
-use Rattle.vtl_to_sql.specs.Accepted.{AllHoldValues, FormHoldsConstants, HoldsConstants, NodesHoldConstants}
+use Rattle.vtl_to_sql.specs.Accepted.{AllHoldValues, FormHoldsParts, HoldsParts, NodesHoldParts, OperandsHoldParts}
 
 -- ---- lists
 
@@ -40,7 +44,7 @@ both_hold : {X : Type 0} (P : X → Type 0) (xs ys : List X) → AllByRecursion 
 both_hold P [] ys h k = k
 both_hold P (x ∷ xs) ys h k = (h.0, both_hold P xs ys h.1 k)
 
-pub nodes_hold : (ns : List NodeTree) → AllByRecursion HoldsConstants ns → NodesHoldConstants (nodes_of ns)
+pub nodes_hold : (ns : List NodeTree) → AllByRecursion HoldsParts ns → NodesHoldParts (nodes_of ns)
 nodes_hold [] h = h
 nodes_hold (n ∷ ns) h = (h.0, nodes_hold ns h.1)
 
@@ -121,32 +125,48 @@ apply_held e o kind args is h =
 node_is : (n : Node) → node_tree n ≡ nodes.node n.structure (form_tree n.form)
 node_is n = search (rules, node.the_lemmas)
 
-form_held : (n : Node) (f : NodeForm) (t : FormTree) → n.form ≡ f → form_tree f ≡ t → FormHoldsConstants n.structure t → HoldsConstants (node_tree n)
-form_held n f t e d h = subst HoldsConstants (sym (node_is n ∙ ap (λ (g : NodeForm). nodes.node n.structure (form_tree g)) e ∙ ap (nodes.node n.structure) d)) h
+form_held : (n : Node) (f : NodeForm) (t : FormTree) → n.form ≡ f → form_tree f ≡ t → FormHoldsParts n.structure t → HoldsParts (node_tree n)
+form_held n f t e d h = subst HoldsParts (sym (node_is n ∙ ap (λ (g : NodeForm). nodes.node n.structure (form_tree g)) e ∙ ap (nodes.node n.structure) d)) h
 
-pub measures_node_held : (n : Node) (m : MeasureOp) (a : Box Node Global) → n.form ≡ form.Measures m a → HoldsConstants (node_tree a.value) → AllByRecursion (λ x. HoldsValues (comp_exp_of x)) m.before → AllByRecursion (λ x. HoldsValues (comp_exp_of x)) m.after → HoldsConstants (node_tree n)
+pub measures_node_held : (n : Node) (m : MeasureOp) (a : Box Node Global) → n.form ≡ form.Measures m a → HoldsParts (node_tree a.value) → AllByRecursion (λ x. HoldsValues (comp_exp_of x)) m.before → AllByRecursion (λ x. HoldsValues (comp_exp_of x)) m.after → HoldsParts (node_tree n)
 measures_node_held n m a e h before after =
     let tree : form_tree (form.Measures m a) ≡ nodes.measures (measure_tree m) (node_tree a.value) = search (rules, forms.the_lemmas) in
     form_held n (form.Measures m a) (nodes.measures (measure_tree m) (node_tree a.value)) e tree
     (h, measured_held (measure_tree m) (structure_of (node_tree a.value)) n.structure (of_mapped HoldsValues comp_exp_of m.before before) (of_mapped HoldsValues comp_exp_of m.after after))
 
-pub calc_node_held : (n : Node) (a : Box Node Global) (items : List CalcItem) → n.form ≡ form.Calc a items → HoldsConstants (node_tree a.value) → AllByRecursion (λ i. HoldsValues (value_exp (value_tree i.value))) items → HoldsConstants (node_tree n)
+pub calc_node_held : (n : Node) (a : Box Node Global) (items : List CalcItem) → n.form ≡ form.Calc a items → HoldsParts (node_tree a.value) → AllByRecursion (λ i. HoldsValues (value_exp (value_tree i.value))) items → HoldsParts (node_tree n)
 calc_node_held n a items e h held =
     let tree : form_tree (form.Calc a items) ≡ nodes.calc (node_tree a.value) (map item_tree items) = search (rules, forms.the_lemmas) in
     form_held n (form.Calc a items) (nodes.calc (node_tree a.value) (map item_tree items)) e tree
     (h, calculated_held (map item_tree items) (structure_of (node_tree a.value)) n.structure (of_mapped (λ (i : ItemTree). HoldsValues (value_exp i.value)) item_tree items held))
 
-pub pair_node_held : (n : Node) (o : ScalarOp) (a b : Box Node Global) → n.form ≡ form.Pair o a b → HoldsConstants (node_tree a.value) → HoldsConstants (node_tree b.value) → HoldsConstants (node_tree n)
+pub pair_node_held : (n : Node) (o : ScalarOp) (a b : Box Node Global) → n.form ≡ form.Pair o a b → HoldsParts (node_tree a.value) → HoldsParts (node_tree b.value) → HoldsParts (node_tree n)
 pair_node_held n o a b e h k =
     let tree : form_tree (form.Pair o a b) ≡ nodes.pair o (node_tree a.value) (node_tree b.value) = search (rules, forms.the_lemmas) in
     form_held n (form.Pair o a b) (nodes.pair o (node_tree a.value) (node_tree b.value)) e tree (h, k, pair_held o (structure_of (node_tree a.value)) (structure_of (node_tree b.value)) n.structure)
 
-pub union_node_held : (n : Node) (ns : Vec Node Global) → n.form ≡ form.Union ns → AllByRecursion (λ m. HoldsConstants (node_tree m)) ns.items → HoldsConstants (node_tree n)
+pub union_node_held : (n : Node) (ns : Vec Node Global) → n.form ≡ form.Union ns → AllByRecursion (λ m. HoldsParts (node_tree m)) ns.items → HoldsParts (node_tree n)
 union_node_held n ns e h =
     let tree : form_tree (form.Union ns) ≡ nodes.union (nodes_of (map node_tree ns.items)) = search (rules, forms.the_lemmas) in
-    form_held n (form.Union ns) (nodes.union (nodes_of (map node_tree ns.items))) e tree (nodes_hold (map node_tree ns.items) (of_mapped HoldsConstants node_tree ns.items h))
+    form_held n (form.Union ns) (nodes.union (nodes_of (map node_tree ns.items))) e tree (nodes_hold (map node_tree ns.items) (of_mapped HoldsParts node_tree ns.items h))
 
-pub intersect_node_held : (n : Node) (ns : Vec Node Global) → n.form ≡ form.Intersect ns → AllByRecursion (λ m. HoldsConstants (node_tree m)) ns.items → HoldsConstants (node_tree n)
+pub intersect_node_held : (n : Node) (ns : Vec Node Global) → n.form ≡ form.Intersect ns → AllByRecursion (λ m. HoldsParts (node_tree m)) ns.items → HoldsParts (node_tree n)
 intersect_node_held n ns e h =
     let tree : form_tree (form.Intersect ns) ≡ nodes.intersect (nodes_of (map node_tree ns.items)) = search (rules, forms.the_lemmas) in
-    form_held n (form.Intersect ns) (nodes.intersect (nodes_of (map node_tree ns.items))) e tree (nodes_hold (map node_tree ns.items) (of_mapped HoldsConstants node_tree ns.items h))
+    form_held n (form.Intersect ns) (nodes.intersect (nodes_of (map node_tree ns.items))) e tree (nodes_hold (map node_tree ns.items) (of_mapped HoldsParts node_tree ns.items h))
+
+operand_node : (o : JoinOperand) → (operand_tree o).node ≡ node_tree o.node
+operand_node o = let e : operand_tree o ≡ record { node = node_tree o.node; alias = o.alias } = search (rules, operand.the_lemmas) in ap (λ (t : OperandTree). t.node) e
+
+operands_hold_parts : (os : List JoinOperand) → AllByRecursion (λ o. HoldsParts (node_tree o.node)) os → OperandsHoldParts (operands_of (map operand_tree os))
+operands_hold_parts [] h = tt
+operands_hold_parts (o ∷ os) h = (subst HoldsParts (sym (operand_node o)) h.0, operands_hold_parts os h.1)
+
+as_many_operands : (os : List JoinOperand) → length (operands_in (operands_of (map operand_tree os))) ≡ length os
+as_many_operands [] = refl
+as_many_operands (o ∷ os) = ap suc (as_many_operands os)
+
+pub join_node_held : (n : Node) (os : Vec JoinOperand Global) (spec : JoinSpec) → n.form ≡ form.Join os spec → AllByRecursion (λ o. HoldsParts (node_tree o.node)) os.items → length os.items + 1 < 2 ^ 64 → HoldsParts (node_tree n)
+join_node_held n os spec e h few =
+    let tree : form_tree (form.Join os spec) ≡ nodes.join (operands_of (map operand_tree os.items)) spec = search (rules, forms.the_lemmas) in
+    form_held n (form.Join os spec) (nodes.join (operands_of (map operand_tree os.items)) spec) e tree (operands_hold_parts os.items h, omega (arith, few, as_many_operands os.items))

@@ -178,18 +178,16 @@ module _ (p : Settings) (at : Naming) where
   around r j n i (a ∷ ss) [] e g f h = absurd (omega (arith, e))
   around r zero n i (a ∷ ss) (x ∷ xs) e g f h =
       let same : r ≡ a = cc in
-      let number = number_at (i + 0) i (omega arith) in
-      (
+      let number = number_at (i + 0) i (omega arith) in (
         subst (λ m. Sits (placed_at 0 a) (aliased m a x)) (sym number) (first_sits a x (subst IsFirst same f)),
         subst (AllSit (placed_from n ss)) (sym (behind (i + 0) (suc i) ss xs (omega arith))) (all_sit n (suc i) ss xs (omega (arith, e)) h),
       )
   around r (suc j) n i (a ∷ ss) (x ∷ xs) e g f h =
       let next : suc i + j ≡ i + suc j = omega arith in
-      let number = number_before (i + suc j) i (omega arith) in
-      (
+      let number = number_before (i + suc j) i (omega arith) in (
         subst (λ m. Sits (placed_at n a) (aliased m a x)) (sym number) (sits n (suc i) a x (without j ss) h),
         subst (λ m. AllSit (placed_around j (n + width_of a) ss) (aliased_around m (suc i) ss xs)) next
-        (around r j (n + width_of a) (suc i) ss xs (omega (arith, e)) g f (from_next n (suc i) a (without j ss) h)),
+            (around r j (n + width_of a) (suc i) ss xs (omega (arith, e)) g f (from_next n (suc i) a (without j ss) h)),
       )
 
   -- ---- items

@@ -3,9 +3,10 @@ use Rattle.std.proofs.Common.{◌≡◌, ◌&&◌, Bool, true, false, List, [], 
 use Rattle.std.specs.List.{list_all}
 use Rattle.std.proofs.lemmas.Bool.{and_parts}
 use Rattle.vtl_meaning.specs.Trees as nodes
-use Rattle.vtl_meaning.specs.Trees.{FormTree, NodeTree}
-use Rattle.vtl_to_sql.specs.Accepted.{are_translated, is_form_translated, is_translated}
-use Rattle.vtl_to_sql.specs.Translated.{has_form_query, has_query}
+use Rattle.vtl_meaning.specs.Trees.{FormTree, NodeTree, OperandTrees}
+use Rattle.vtl_to_sql.specs.Accepted.{are_operands_translated, are_translated, is_form_translated, is_translated}
+use Rattle.vtl_to_sql.specs.JoinItems.{is_one_query}
+use Rattle.vtl_to_sql.specs.Translated.{has_form_query, has_query, have_operand_queries}
 
 both : (a b c d : Bool) → (a ≡ true → c ≡ true) → (b ≡ true → d ≡ true) → a && b ≡ true → c && d ≡ true
 both a b c d f g h = let parts = and_parts a b h in ap (λ x. x && d) (f parts.0) ∙ g parts.1
@@ -30,7 +31,7 @@ mutual
   form_translated (nodes.sub a items) h = node_translated a h
   form_translated (nodes.pivot a id m) h = node_translated a h
   form_translated (nodes.unpivot a id m) h = node_translated a h
-  form_translated (nodes.join os spec) h = cc
+  form_translated (nodes.join os spec) h = operands_translated os (and_parts (have_operand_queries os) (is_one_query spec.kind) h).0
   form_translated (nodes.union ns) h = cc
   form_translated (nodes.intersect ns) h = cc
   form_translated (nodes.set_diff a b) h = both (has_query a) (has_query b) (is_translated a) (is_translated b) (node_translated a) (node_translated b) h
@@ -42,6 +43,10 @@ mutual
   form_translated (nodes.check_datapoint a rules out) h = cc
   form_translated (nodes.check_hierarchy a rules m out) h = cc
   form_translated (nodes.hierarchy a rules m i out) h = cc
+
+  operands_translated : (os : OperandTrees) → have_operand_queries os ≡ true → are_operands_translated os ≡ true
+  operands_translated nodes.no_operands h = refl
+  operands_translated (nodes.operand n alias os) h = both (has_query n) (have_operand_queries os) (is_translated n) (are_operands_translated os) (node_translated n) (operands_translated os) h
 
 pub nodes_translated : (ns : List NodeTree) → list_all has_query ns ≡ true → are_translated ns ≡ true
 nodes_translated [] h = refl

@@ -8,12 +8,12 @@ ghost use Rattle.vtl_nodes.specs.View.{node_tree, value_tree};
 ghost use Rattle.vtl_meaning.specs.Operators.{value_exp};
 ghost use Rattle.vtl_backend.specs.Checked.{nodes_of};
 ghost use Rattle.rules_to_sql.specs.Held.{HoldsValues};
-ghost use Rattle.vtl_to_sql.specs.Accepted.{AreHeld, HoldsConstants};
+ghost use Rattle.vtl_to_sql.specs.Accepted.{AreHeld, HoldsParts};
 
 use std::alloc::Global;
 use vtl_backend::Checked;
 use vtl_cell::{Cell, Profile, write_cell};
-use vtl_nodes::{CalcItem, CalcValue, Node, NodeForm, SubItem};
+use vtl_nodes::{CalcItem, CalcValue, JoinOperand, Node, NodeForm, SubItem};
 use vtl_tree::CompExpr;
 
 // A value is one that a program holds, whether or not there is memory to write it.
@@ -72,7 +72,7 @@ fn values_are_held(alloc: Global, values: &[SubItem], p: &Profile)
 
 #[cycle(constants)]
 fn node_is_held(alloc: Global, node: &Node, p: &Profile)
-    ensures { HoldsConstants (node_tree node.now) }
+    ensures { HoldsParts (node_tree node.now) }
 {
     match &node.form {
         NodeForm::Named(_) => {}
@@ -122,13 +122,26 @@ fn node_is_held(alloc: Global, node: &Node, p: &Profile)
         }
         NodeForm::Union(nodes) => nodes_are_held(alloc, nodes, p),
         NodeForm::Intersect(nodes) => nodes_are_held(alloc, nodes, p),
+        NodeForm::Join { operands, .. } => {
+            let _numbered = operands.len() + 1;
+            operands_are_held(alloc, operands, p)
+        }
         _ => {}
     }
 }
 
 #[cycle(constants)]
+fn operands_are_held(alloc: Global, operands: &[JoinOperand], p: &Profile)
+    ensures { AllByRecursion (λ o. HoldsParts (node_tree o.node)) operands.now }
+{
+    for operand in operands {
+        node_is_held(alloc, &operand.node, p);
+    }
+}
+
+#[cycle(constants)]
 fn nodes_are_held(alloc: Global, nodes: &[Node], p: &Profile)
-    ensures { AllByRecursion (λ n. HoldsConstants (node_tree n)) nodes.now }
+    ensures { AllByRecursion (λ n. HoldsParts (node_tree n)) nodes.now }
 {
     for node in nodes {
         node_is_held(alloc, node, p);

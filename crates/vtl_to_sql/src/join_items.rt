@@ -118,7 +118,12 @@ fn tied_with(
     ensures { IfOk result (λ e. expr_tree e ≡ tied_with first.now alias.now component.now) }
 {
     let name = &component.name;
-    between(alloc, column(alias, name)?, ScalarOp::Equal, column(first, name)?)
+    between(
+        alloc,
+        column(alias, name)?,
+        ScalarOp::Equal,
+        column(first, name)?,
+    )
 }
 
 /// Columns have the values that the columns of their names have in the first source. It fails only if memory runs out.

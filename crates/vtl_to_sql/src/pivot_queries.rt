@@ -72,7 +72,12 @@ fn where_coded(
 ) -> Result<SqlExpr, AllocError>
     ensures { IfOk result (λ e. expr_tree e ≡ where_coded id.now measure.now code.now) }
 {
-    let condition = between(alloc, writer.column(id)?, ScalarOp::Equal, text_constant(code)?)?;
+    let condition = between(
+        alloc,
+        writer.column(id)?,
+        ScalarOp::Equal,
+        text_constant(code)?,
+    )?;
     let value = writer.column(measure)?;
     let mut branches = Vec::with_capacity(alloc, 1)?;
     branches.push(Branch { condition, value })?;

@@ -84,10 +84,7 @@ fn left(
 }
 
 // The structures of the operands of a join.
-fn joined_structures(
-    alloc: Global,
-    operands: &[JoinOperand],
-) -> Result<Vec<&Structure>, AllocError>
+fn joined_structures(alloc: Global, operands: &[JoinOperand]) -> Result<Vec<&Structure>, AllocError>
     ensures structures { IfOk result (λ v. shown v.items ≡ structures_of (operands_in (operands_of (map operand_tree operands.now)))) }
     ensures many { IfOk result (λ v. length v.items ≡ length operands.now) }
 {

@@ -187,11 +187,11 @@ query-returns-in_ok-second-in-ExistsIn-clause-tables t c =
     let b = c.deref-in-ExistsIn-2.result.now in
     let one = c.in_ok-first-in-ExistsIn.ensures in
     let fact =
-        behind_others (of a n) (of b) old (map statement_tree c.source-in-ExistsIn.new.draft.statements.items) (map statement_tree c.source-in-ExistsIn-2.new.draft.statements.items) c.source-in-ExistsIn.new.draft.next
-        one.tables one.next c.in_ok-second-in-ExistsIn.ensures.tables
-        ∙ ap (λ (x : Node). old ++ map create_for (and_then (of x n) (of b)).tables) c.deref-in-ExistsIn.ensures
-        ∙ ap (λ (x : Node). old ++ map create_for (and_then (of c.in-ExistsIn.a.value n) (of x)).tables) c.deref-in-ExistsIn-2.ensures
-        ∙ sym (ap (λ (f : FormTree). old ++ map create_for (made_of_form p r c.args.s.now f n).tables) (tree_of_existence c.args.form.now c.in-ExistsIn.a c.in-ExistsIn.b c.in-ExistsIn.retain c.in-ExistsIn.is))
+    behind_others (of a n) (of b) old (map statement_tree c.source-in-ExistsIn.new.draft.statements.items) (map statement_tree c.source-in-ExistsIn-2.new.draft.statements.items) c.source-in-ExistsIn.new.draft.next
+    one.tables one.next c.in_ok-second-in-ExistsIn.ensures.tables
+    ∙ ap (λ (x : Node). old ++ map create_for (and_then (of x n) (of b)).tables) c.deref-in-ExistsIn.ensures
+    ∙ ap (λ (x : Node). old ++ map create_for (and_then (of c.in-ExistsIn.a.value n) (of x)).tables) c.deref-in-ExistsIn-2.ensures
+    ∙ sym (ap (λ (f : FormTree). old ++ map create_for (made_of_form p r c.args.s.now f n).tables) (tree_of_existence c.args.form.now c.in-ExistsIn.a c.in-ExistsIn.b c.in-ExistsIn.retain c.in-ExistsIn.is))
     in
     IfOk-weaker c.existence_query.result _ _ (λ q e. fact) c.existence_query.ensures
 
