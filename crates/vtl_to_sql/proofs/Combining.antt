@@ -22,8 +22,8 @@ use Rattle.vtl_to_sql.specs.Scripts.{create_for}
 use Rattle.vtl_to_sql.specs.Tables.{Made, Sources, Table, and_then, by_name, made_of_form, numbered, over, sources_of, stored, table_of, with_one, with_two}
 use Rattle.vtl_to_sql.specs.Translated.{has_query, have_queries}
 use Rattle.vtl_to_sql.specs.declared.set_operators.SetOperator.{SetOperator}
-use Rattle.vtl_to_sql.proofs.Forms.{shown_written}
 use Rattle.vtl_to_sql.specs.declared.set_operators.SetOperator.TheVariants as operator
+use Rattle.vtl_to_sql.proofs.Forms.{shown_written}
 
 -- ---- tables before others stay before them
 
@@ -72,7 +72,7 @@ made_some whole old done new T m less rest gives is same made = record {
 }
 
 -- the first operand is made
-pub first_made : (o : SetOperator) (p : Settings) (r : Text) (s : Structure) (a : NodeTree) (ns : List NodeTree) (x : Text) (n m : ℕ) (old new : List StatementTree)
+first_made : (o : SetOperator) (p : Settings) (r : Text) (s : Structure) (a : NodeTree) (ns : List NodeTree) (x : Text) (n m : ℕ) (old new : List StatementTree)
     → x ∷ [] ≡ (sources_of p r a n).names → new ≡ old ++ map create_for (sources_of p r a n).tables → m ≡ (sources_of p r a n).next
     → GivesAll (combined_made o p r s (a ∷ ns) n) old new (rest_made o p r s ns (structure_of a) (by_name x m))
 first_made o p r s a ns x n m old new names made next =
@@ -84,7 +84,7 @@ first_made o p r s a ns x n m old new names made next =
     (ap (λ (l : List Text). rest_made o p r s ns u (given l [] m)) names ∙ ap (λ (k : ℕ). rest_made o p r s ns u (given S.names [] k)) next) made
 
 -- one more operand is made, and stored with what there is
-pub next_made : (o : SetOperator) (p : Settings) (r : Text) (s : Structure) (whole : Made) (old done between new : List StatementTree) (b c : NodeTree) (ns : List NodeTree) (a : Structure) (x y z : Text) (n m k : ℕ) (q : QueryTree)
+next_made : (o : SetOperator) (p : Settings) (r : Text) (s : Structure) (whole : Made) (old done between new : List StatementTree) (b c : NodeTree) (ns : List NodeTree) (a : Structure) (x y z : Text) (n m k : ℕ) (q : QueryTree)
     → GivesAll whole old done (rest_made o p r s (b ∷ c ∷ ns) a (by_name x n))
     → y ∷ [] ≡ (sources_of p r b n).names → between ≡ done ++ map create_for (sources_of p r b n).tables → m ≡ (sources_of p r b n).next
     → q ≡ combined_query o p a (structure_of b) s x y
@@ -137,7 +137,7 @@ same_rest o p r s (b ∷ c ∷ ns) a u os =
     let both = and_then os (sources_of p r b) in
     ap (λ (z : QueryTree). rest_made o p r s (c ∷ ns) s (stored r (over both (λ l. z)))) (same_two o p a u (structure_of b) s both.names)
 
-pub of_result : (o : SetOperator) (p : Settings) (r : Text) (s : Structure) (ns : List NodeTree) (a : Structure) (os : Sources) (whole : Made) (old done : List StatementTree)
+of_result : (o : SetOperator) (p : Settings) (r : Text) (s : Structure) (ns : List NodeTree) (a : Structure) (os : Sources) (whole : Made) (old done : List StatementTree)
     → GivesAll whole old done (rest_made o p r s ns a os) → GivesAll whole old done (rest_made o p r s ns s os)
 of_result o p r s ns a os whole old done gives = subst (λ (m : Made). GivesAll whole old done m) (same_rest o p r s ns a s os) gives
 
@@ -149,11 +149,11 @@ all_queries (n ∷ ns) = ap (λ x. has_query n && x) (all_queries ns)
 
 -- ---- `union` and `intersect`
 
-pub union_made : (p : Settings) (r : Text) (s : Structure) (ns : List NodeTree) (n : ℕ) → made_of_form p r s (nodes.union (nodes_of ns)) n ≡ combined_made operator.Union p r s ns n
+union_made : (p : Settings) (r : Text) (s : Structure) (ns : List NodeTree) (n : ℕ) → made_of_form p r s (nodes.union (nodes_of ns)) n ≡ combined_made operator.Union p r s ns n
 union_made p r s [] n = refl
 union_made p r s (a ∷ ns) n = refl
 
-pub intersection_made : (p : Settings) (r : Text) (s : Structure) (ns : List NodeTree) (n : ℕ) → made_of_form p r s (nodes.intersect (nodes_of ns)) n ≡ combined_made operator.Intersection p r s ns n
+intersection_made : (p : Settings) (r : Text) (s : Structure) (ns : List NodeTree) (n : ℕ) → made_of_form p r s (nodes.intersect (nodes_of ns)) n ≡ combined_made operator.Intersection p r s ns n
 intersection_made p r s [] n = refl
 intersection_made p r s (a ∷ ns) n = refl
 
