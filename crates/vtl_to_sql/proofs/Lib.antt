@@ -82,3 +82,4 @@ pub mod ExistenceForms
 pub mod HeldConstants
 pub mod WrittenForms
 pub mod Examples
+pub mod Combining

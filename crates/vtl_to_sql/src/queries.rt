@@ -158,3 +158,12 @@ pub(crate) fn measures_query(
     let items = measured_items(alloc, writer, op, a, s)?;
     from_table(alloc, writer, items, None, table)
 }
+
+/// No query: what no operands give.
+pub(crate) fn no_query(alloc: Global) -> Query
+    ensures { query_tree result ≡ [] }
+{
+    Query {
+        selects: List::of(Vec::new(alloc)),
+    }
+}

@@ -1,9 +1,8 @@
 // Whether all forms of a script are translated so far.
-ghost use Rattle.std.specs.List.{list_all};
 ghost use Rattle.std.specs.Prelude.{◌≡◌, map};
-ghost use Rattle.vtl_nodes.specs.Trees.{operands_of};
+ghost use Rattle.vtl_nodes.specs.Trees.{nodes_of, operands_of};
 ghost use Rattle.vtl_nodes.specs.View.{node_tree, operand_tree};
-ghost use Rattle.vtl_to_sql.specs.Translated.{has_query as has_tree_query, has_script_queries, have_operand_queries};
+ghost use Rattle.vtl_to_sql.specs.Translated.{has_query as has_tree_query, has_script_queries, have_operand_queries, have_queries as have_tree_queries};
 
 use crate::join_queries::is_one_query;
 use vtl_backend::Checked;
@@ -40,6 +39,7 @@ fn has_query(node: &Node) -> bool
         NodeForm::Join { operands, spec } => {
             have_operand_queries(operands) && is_one_query(spec.kind)
         }
+        NodeForm::Union(nodes) | NodeForm::Intersect(nodes) => have_queries(nodes),
         _ => false,
     }
 }
@@ -56,8 +56,9 @@ fn have_operand_queries(operands: &[JoinOperand]) -> bool
     true
 }
 
+#[cycle(translated)]
 fn have_queries(nodes: &[Node]) -> bool
-    ensures { result ≡ list_all has_tree_query (map node_tree nodes.now) }
+    ensures { result ≡ have_tree_queries (nodes_of (map node_tree nodes.now)) }
 {
     for node in nodes {
         if !has_query(node) {

@@ -3,13 +3,14 @@ ghost use Rattle.std.specs.Prelude.{◌≡◌, ◌++◌, ◌∷◌, [], length, 
 ghost use Rattle.vtl_nodes.specs.View.{form_tree, node_tree, operand_tree};
 ghost use Rattle.sql_tree.specs.View.{query_tree, statement_tree};
 ghost use Rattle.vtl_to_sql.specs.Scripts.{create_for};
-ghost use Rattle.vtl_nodes.specs.Trees.{operands_of, structure_of};
+ghost use Rattle.vtl_nodes.specs.Trees.{nodes_of, operands_of, structure_of};
 ghost use Rattle.vtl_tree.specs.Shown.{shown};
 ghost use Rattle.check_joins.specs.Joins.{structures_of};
-ghost use Rattle.rules_to_sql.specs.Made.{operands_in};
+ghost use Rattle.vtl_meaning.specs.Made.{operands_in};
+ghost use Rattle.vtl_to_sql.specs.Combined.{combined_made};
 ghost use Rattle.vtl_to_sql.specs.Queries.{left_query};
 ghost use Rattle.vtl_to_sql.specs.Tables.{made_of_form, operands_of as joined_sources, over, sources_of, with_one};
-ghost use Rattle.vtl_to_sql.specs.Translated.{has_form_query, has_query, have_operand_queries};
+ghost use Rattle.vtl_to_sql.specs.Translated.{has_form_query, has_query, have_operand_queries, have_queries};
 
 use crate::draft::Draft;
 use crate::existence_queries::existence_query;
@@ -17,7 +18,7 @@ use crate::join_queries::join_query;
 use crate::pair_queries::{Operand, choose_query, pair_query};
 use crate::pivot_queries::pivot_query;
 use crate::queries::{
-    calc_query, filter_query, left_query, measures_query, rename_query, sub_query,
+    calc_query, filter_query, left_query, measures_query, no_query, rename_query, sub_query,
 };
 use crate::set_operators::SetOperator;
 use crate::set_queries::set_query;
@@ -116,6 +117,38 @@ fn joined_sources(
     Ok(tables)
 }
 
+// Operands one after the other: what there is and the next operand are in a table of their own, until the last one comes.
+#[cycle(made)]
+fn combined(
+    alloc: Global,
+    writer: &Writer,
+    operator: SetOperator,
+    nodes: &[Node],
+    s: &Structure,
+    target: &Txt,
+    draft: &mut Draft,
+) -> Result<Query, AllocError>
+    requires { have_queries (nodes_of (map node_tree nodes.now)) ≡ true }
+    ensures query { IfOk result (λ q. query_tree q ≡ (combined_made operator writer.now target.now s.now (map node_tree nodes.now) draft.old.next).query) }
+    ensures tables { OnOk result (map statement_tree draft.new.statements.items ≡ map statement_tree draft.old.statements.items ++ map create_for (combined_made operator writer.now target.now s.now (map node_tree nodes.now) draft.old.next).tables) }
+    ensures next { OnOk result (draft.new.next ≡ (combined_made operator writer.now target.now s.now (map node_tree nodes.now) draft.old.next).next) }
+{
+    let [first, others @ ..] = nodes else {
+        return Ok(no_query(alloc));
+    };
+    let mut so_far = source(alloc, writer, first, target, draft)?;
+    let [between @ .., last] = others else {
+        return left_query(alloc, writer, s, &so_far);
+    };
+    for node in between {
+        let other = source(alloc, writer, node, target, draft)?;
+        let query = set_query(alloc, writer, operator, s, &so_far, &other)?;
+        so_far = draft.store(alloc, target, query)?;
+    }
+    let other = source(alloc, writer, last, target, draft)?;
+    set_query(alloc, writer, operator, s, &so_far, &other)
+}
+
 /// The query of an expression of a structure. The tables that stand for its operands are made first.
 #[cycle(made)]
 pub(crate) fn query(
@@ -204,6 +237,12 @@ pub(crate) fn query(
             let structures = joined_structures(alloc, operands)?;
             let tables = joined_sources(alloc, writer, operands, target, draft)?;
             join_query(alloc, writer, spec.kind, &structures, &tables, s)
+        }
+        NodeForm::Union(nodes) => {
+            combined(alloc, writer, SetOperator::Union, nodes, s, target, draft)
+        }
+        NodeForm::Intersect(nodes) => {
+            combined(alloc, writer, SetOperator::Intersection, nodes, s, target, draft)
         }
         _ => unreachable!(),
     }

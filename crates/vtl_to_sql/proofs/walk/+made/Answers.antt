@@ -1,12 +1,14 @@
-use Rattle.std.proofs.Common.{◌++◌, ℕ, ap, map, sym, ◌∙◌}
+use Rattle.std.proofs.Common.{◌∷◌, [], ◌++◌, ℕ, ◌+◌, ◌-◌, length, take, drop, ap, map, refl, sym, ◌∙◌}
 use Rattle.std.proofs.lemmas.Result.{IfOk-weaker}
 use Rattle.vtl_nodes.specs.Trees.{FormTree, structure_of}
 use Rattle.vtl_nodes.specs.View.{item_tree, node_tree}
 use Rattle.vtl_nodes.specs.declared.nodes.Node.{Node}
-use Rattle.sql_tree.specs.View.{statement_tree}
+use Rattle.sql_tree.specs.View.{query_tree, statement_tree}
+use Rattle.vtl_to_sql.specs.Combined.{combined_made}
 use Rattle.vtl_to_sql.specs.Queries.{calc_query, difference_query, left_query, sub_query, symmetric_difference_query}
 use Rattle.vtl_to_sql.specs.Scripts.{create_for}
-use Rattle.vtl_to_sql.specs.Tables.{and_then, made_of_form, sources_of, with_one, with_two}
+use Rattle.vtl_to_sql.specs.Tables.{Made, and_then, made_of_form, sources_of, with_one, with_two}
+use Rattle.vtl_to_sql.proofs.Combining.{alone, begun, ended, ends, intersection_of_form, left_ready, one_more, turn_made, union_of_form}
 use Rattle.vtl_to_sql.proofs.Walked.{behind_names, behind_others, tree_of_calc, tree_of_choose, tree_of_difference, tree_of_existence, tree_of_named, tree_of_pair, tree_of_sub, tree_of_symmetric_difference}
 use Rattle.vtl_to_sql.proofs.walk.+made.Goals as goal
 
@@ -192,3 +194,101 @@ query-returns-in_ok-second-in-ExistsIn-clause-tables t c =
     ∙ sym (ap (λ (f : FormTree). old ++ map create_for (made_of_form p r c.args.s.now f n).tables) (tree_of_existence c.args.form.now c.in-ExistsIn.a c.in-ExistsIn.b c.in-ExistsIn.retain c.in-ExistsIn.is))
     in
     IfOk-weaker c.existence_query.result _ _ (λ q e. fact) c.existence_query.ensures
+
+pub combined-returns-in_default-others-clause-query : goal.combined-returns-in_default-others-clause-query
+combined-returns-in_default-others-clause-query t c =
+    let a = c.first-item.result in
+    IfOk-weaker c.left_query.result _ _
+    (λ q e. e (structure_of (node_tree a))
+    ∙ alone c.args.operator c.args.writer.now c.args.target.now c.args.s.now c.args.nodes.now a c.in_ok-so_far.so_far c.args.draft.now.next c.in-len1-up.len_at_least c.first-item.is c.in_default-others.len_below c.in_ok-so_far.ensures.name)
+    c.left_query.ensures
+
+pub combined-loop-node-init : goal.combined-loop-node-init
+combined-loop-node-init t c =
+    let l = c.args.nodes.now in
+    let others = take (length l - 1) (drop 1 l) in
+    let first = node_tree c.first-item.result in
+    let left = map node_tree (take (length others - 1) others) ++ node_tree c.last-item.result ∷ [] in
+    let parts = ends l others c.first-item.result c.last-item.result c.in-len1-up.len_at_least c.first-item.is refl c.in-len1-up-others.len_at_least c.last-item.is in
+    let old = map statement_tree c.args.draft.now.statements.items in
+    let new = map statement_tree c.source.new.draft.statements.items in
+    let made = c.in_ok-so_far.ensures in
+    record {
+      gives = begun c.args.operator c.args.writer.now c.args.target.now c.args.s.now (map node_tree l) left first c.in_ok-so_far.so_far c.args.draft.now.next c.source.new.draft.next old new parts made.name made.tables made.next;
+      ready = left_ready (map node_tree l) left first parts c.requires;
+    }
+
+pub combined-loop-node-preserved : goal.combined-loop-node-preserved
+combined-loop-node-preserved t c =
+    let o = c.args.operator in
+    let p = c.args.writer.now in
+    let r = c.args.target.now in
+    let s = c.args.s.now in
+    let l = c.args.nodes.now in
+    let others = take (length l - 1) (drop 1 l) in
+    let between = take (length others - 1) others in
+    let i = c.loop-node.node-index in
+    let b = node_tree c.node-item.result in
+    let last = node_tree c.last-item.result in
+    let ms = map node_tree (drop (i + 1) between) in
+    let left = map node_tree (drop i between) ++ last ∷ [] in
+    let parts = one_more between i c.node-item.result last c.loop-node-test.true c.node-item.is in
+    let whole = combined_made o p r s (map node_tree l) c.args.draft.now.next in
+    let old = map statement_tree c.args.draft.now.statements.items in
+    let done = map statement_tree c.loop-node.draft.statements.items in
+    let kept = map statement_tree c.source-in-loop-node.new.draft.statements.items in
+    let new = map statement_tree c.store.new.self.statements.items in
+    let made = c.in_ok-other.ensures in
+    let stored = c.in_ok-so_far-2.ensures in
+    record {
+      gives =
+        turn_made o p r s whole old done kept new left b ms last c.loop-node.so_far c.in_ok-other.other c.in_ok-so_far-2.so_far c.loop-node.draft.next c.source-in-loop-node.new.draft.next c.store.new.self.next (query_tree c.in_ok-query.query) parts
+        c.loop-node.invariant.gives made.name made.tables made.next (c.in_ok-query.ensures s (structure_of b)) stored.name stored.statements stored.next;
+      ready = left_ready left (ms ++ last ∷ []) b parts c.loop-node.invariant.ready;
+    }
+
+pub combined-returns-clause-query : goal.combined-returns-clause-query
+combined-returns-clause-query t c =
+    let o = c.args.operator in
+    let p = c.args.writer.now in
+    let r = c.args.target.now in
+    let s = c.args.s.now in
+    let l = c.args.nodes.now in
+    let others = take (length l - 1) (drop 1 l) in
+    let between = take (length others - 1) others in
+    let last = node_tree c.last-item.result in
+    let whole = combined_made o p r s (map node_tree l) c.args.draft.now.next in
+    let old = map statement_tree c.args.draft.now.statements.items in
+    let done = map statement_tree c.loop-node.draft.statements.items in
+    let fact = ended o p r s whole old done between c.loop-node.node-index last c.loop-node.so_far c.in_ok-other-2.other c.loop-node.draft.next c.loop-node-test.false c.loop-node.invariant.gives c.in_ok-other-2.ensures.name in
+    IfOk-weaker c.set_query-2.result _ _ (λ q e. e s (structure_of last) ∙ fact) c.set_query-2.ensures
+
+pub query-returns-in-Union-clause-query : goal.query-returns-in-Union-clause-query
+query-returns-in-Union-clause-query t c =
+    let is = union_of_form c.args.writer.now c.args.target.now c.args.s.now c.args.form.now c.in-Union.nodes c.deref-in-Union.result.now c.args.draft.now.next c.in-Union.is c.deref-in-Union.ensures.value in
+    IfOk-weaker c.combined.result _ _ (λ q e. e ∙ ap (λ (m : Made). m.query) is) c.combined.ensures.query
+
+pub query-returns-in-Union-clause-tables : goal.query-returns-in-Union-clause-tables
+query-returns-in-Union-clause-tables t c =
+    let is = union_of_form c.args.writer.now c.args.target.now c.args.s.now c.args.form.now c.in-Union.nodes c.deref-in-Union.result.now c.args.draft.now.next c.in-Union.is c.deref-in-Union.ensures.value in
+    IfOk-weaker c.combined.result _ _ (λ q e. e ∙ ap (λ (m : Made). map statement_tree c.args.draft.now.statements.items ++ map create_for m.tables) is) c.combined.ensures.tables
+
+pub query-returns-in-Union-clause-next : goal.query-returns-in-Union-clause-next
+query-returns-in-Union-clause-next t c =
+    let is = union_of_form c.args.writer.now c.args.target.now c.args.s.now c.args.form.now c.in-Union.nodes c.deref-in-Union.result.now c.args.draft.now.next c.in-Union.is c.deref-in-Union.ensures.value in
+    IfOk-weaker c.combined.result _ _ (λ q e. e ∙ ap (λ (m : Made). m.next) is) c.combined.ensures.next
+
+pub query-returns-in-Intersect-clause-query : goal.query-returns-in-Intersect-clause-query
+query-returns-in-Intersect-clause-query t c =
+    let is = intersection_of_form c.args.writer.now c.args.target.now c.args.s.now c.args.form.now c.in-Intersect.nodes c.deref-in-Intersect.result.now c.args.draft.now.next c.in-Intersect.is c.deref-in-Intersect.ensures.value in
+    IfOk-weaker c.combined-in-Intersect.result _ _ (λ q e. e ∙ ap (λ (m : Made). m.query) is) c.combined-in-Intersect.ensures.query
+
+pub query-returns-in-Intersect-clause-tables : goal.query-returns-in-Intersect-clause-tables
+query-returns-in-Intersect-clause-tables t c =
+    let is = intersection_of_form c.args.writer.now c.args.target.now c.args.s.now c.args.form.now c.in-Intersect.nodes c.deref-in-Intersect.result.now c.args.draft.now.next c.in-Intersect.is c.deref-in-Intersect.ensures.value in
+    IfOk-weaker c.combined-in-Intersect.result _ _ (λ q e. e ∙ ap (λ (m : Made). map statement_tree c.args.draft.now.statements.items ++ map create_for m.tables) is) c.combined-in-Intersect.ensures.tables
+
+pub query-returns-in-Intersect-clause-next : goal.query-returns-in-Intersect-clause-next
+query-returns-in-Intersect-clause-next t c =
+    let is = intersection_of_form c.args.writer.now c.args.target.now c.args.s.now c.args.form.now c.in-Intersect.nodes c.deref-in-Intersect.result.now c.args.draft.now.next c.in-Intersect.is c.deref-in-Intersect.ensures.value in
+    IfOk-weaker c.combined-in-Intersect.result _ _ (λ q e. e ∙ ap (λ (m : Made). m.next) is) c.combined-in-Intersect.ensures.next

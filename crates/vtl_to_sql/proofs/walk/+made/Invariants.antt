@@ -1,10 +1,12 @@
-use Rattle.std.proofs.Common.{◌≡◌, ◌++◌, true, drop, length, map}
+use Rattle.std.proofs.Common.{◌≡◌, ◌∷◌, ◌++◌, [], true, drop, length, map}
 use Rattle.vtl_nodes.specs.Trees as nodes
-use Rattle.vtl_nodes.specs.View.{operand_tree}
+use Rattle.vtl_nodes.specs.View.{node_tree, operand_tree}
 use Rattle.sql_tree.specs.View.{statement_tree}
+use Rattle.vtl_to_sql.specs.Combined.{combined_made, rest_made}
 use Rattle.vtl_to_sql.specs.Scripts.{create_for}
-use Rattle.vtl_to_sql.specs.Tables.{operands_of}
-use Rattle.vtl_to_sql.specs.Translated.{have_operand_queries}
+use Rattle.vtl_to_sql.specs.Tables.{by_name, operands_of}
+use Rattle.vtl_to_sql.specs.Translated.{have_operand_queries, have_queries}
+use Rattle.vtl_to_sql.proofs.Combining.{GivesAll}
 use Rattle.vtl_to_sql.proofs.walk.+made.Given as goal
 
 abbrev pub invariant-joined_sources-loop-operand : goal.invariant-joined_sources-loop-operand
@@ -18,4 +20,13 @@ invariant-joined_sources-loop-operand l =
       tables : map statement_tree l.draft.statements.items ++ map create_for rest.tables ≡ map statement_tree l.fn.draft.statements.items ++ map create_for all.tables;
       next : rest.next ≡ all.next;
       ready : have_operand_queries left ≡ true;
+    }
+
+abbrev pub invariant-combined-loop-node : goal.invariant-combined-loop-node
+invariant-combined-loop-node l =
+    let all = combined_made l.operator l.writer l.target l.s (map node_tree l.nodes) l.fn.draft.next in
+    let left = map node_tree (drop l.node-index l.between) ++ node_tree l.last ∷ [] in
+    record {
+      gives : GivesAll all (map statement_tree l.fn.draft.statements.items) (map statement_tree l.draft.statements.items) (rest_made l.operator l.writer l.target l.s left l.s (by_name l.so_far l.draft.next));
+      ready : have_queries (nodes.nodes_of left) ≡ true;
     }
