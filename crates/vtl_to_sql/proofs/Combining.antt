@@ -7,7 +7,7 @@ use Rattle.std.proofs.lemmas.Bool.{and_parts}
 use Rattle.std.proofs.lemmas.List.{drop_all, drop_more, length-drop, map-append, take_all, take_more}
 use Rattle.vtl_cell.specs.Settings.{Settings}
 use Rattle.vtl_tree.specs.declared.structure.Structure.{Structure}
-use Rattle.vtl_meaning.specs.Columns.{identifiers_of}
+use Rattle.rules_to_sql.specs.Columns.{identifiers_of}
 use Rattle.vtl_nodes.specs.Trees as nodes
 use Rattle.vtl_nodes.specs.Trees.{FormTree, NodeTree, nodes_of, structure_of}
 use Rattle.vtl_nodes.specs.View.{form_tree, node_tree}
@@ -64,11 +64,11 @@ made_some whole old done new T m less rest gives is same made = record {
   query = ap (λ (x : Made). x.query) same ∙ sym is.query ∙ gives.query;
   next = ap (λ (x : Made). x.next) same ∙ sym is.next ∙ gives.next;
   tables =
-    ap (λ (x : Made). new ++ map create_for x.tables) same
-    ∙ ap (λ l. l ++ map create_for less.tables) made
-    ∙ append_assoc done (map create_for T) (map create_for less.tables)
-    ∙ ap (λ l. done ++ l) (sym (map-append create_for T less.tables) ∙ sym (ap (map create_for) is.tables))
-    ∙ gives.tables;
+      ap (λ (x : Made). new ++ map create_for x.tables) same
+      ∙ ap (λ l. l ++ map create_for less.tables) made
+      ∙ append_assoc done (map create_for T) (map create_for less.tables)
+      ∙ ap (λ l. done ++ l) (sym (map-append create_for T less.tables) ∙ sym (ap (map create_for) is.tables))
+      ∙ gives.tables;
 }
 
 -- the first operand is made
@@ -97,8 +97,8 @@ next_made o p r s whole old done between new b c ns a x y z n m k q gives names 
     let T = B.tables ++ t in
     let kept = create_for (table_of (numbered r m) q) ∷ [] in
     let table : kept ≡ map create_for t =
-        ap (λ (j : ℕ). create_for (table_of (numbered r j) q) ∷ []) next
-        ∙ ap (λ (w : QueryTree). create_for (table_of (numbered r B.next) w) ∷ []) (is ∙ ap (λ (l : List Text). two (x ∷ l)) names)
+    ap (λ (j : ℕ). create_for (table_of (numbered r j) q) ∷ []) next
+    ∙ ap (λ (w : QueryTree). create_for (table_of (numbered r B.next) w) ∷ []) (is ∙ ap (λ (l : List Text). two (x ∷ l)) names)
     in
     made_some whole old done new T (rest_made o p r s (b ∷ c ∷ ns) a (by_name x n)) (rest_made o p r s (c ∷ ns) s (given (numbered r B.next ∷ []) [] (B.next + 1))) (rest_made o p r s (c ∷ ns) s (by_name z k)) gives
     (behind o p r s (c ∷ ns) s (numbered r B.next ∷ []) T (B.next + 1))

@@ -1,8 +1,8 @@
 -- Which forms of expressions are translated so far.
 use Rattle.std.specs.Prelude.{Bool, true, false, ◌&&◌}
 use Rattle.std.specs.List.{list_all}
-use Rattle.vtl_meaning.specs.Trees as nodes
-use Rattle.vtl_meaning.specs.Trees.{FormTree, NodeTree, NodeTrees, OperandTrees}
+use Rattle.rules_to_sql.specs.Trees as nodes
+use Rattle.rules_to_sql.specs.Trees.{FormTree, NodeTree, NodeTrees, OperandTrees}
 use Rattle.vtl_backend.specs.Checked.{TypedScript, nodes_of}
 use Rattle.vtl_to_sql.specs.JoinItems.{is_one_query}
 

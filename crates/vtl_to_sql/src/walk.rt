@@ -6,7 +6,7 @@ ghost use Rattle.vtl_to_sql.specs.Scripts.{create_for};
 ghost use Rattle.vtl_nodes.specs.Trees.{nodes_of, operands_of, structure_of};
 ghost use Rattle.vtl_tree.specs.Shown.{shown};
 ghost use Rattle.check_joins.specs.Joins.{structures_of};
-ghost use Rattle.vtl_meaning.specs.Made.{operands_in};
+ghost use Rattle.rules_to_sql.specs.Made.{operands_in};
 ghost use Rattle.vtl_to_sql.specs.Combined.{combined_made};
 ghost use Rattle.vtl_to_sql.specs.Queries.{left_query};
 ghost use Rattle.vtl_to_sql.specs.Tables.{made_of_form, operands_of as joined_sources, over, sources_of, with_one};
@@ -242,7 +242,15 @@ pub(crate) fn query(
             combined(alloc, writer, SetOperator::Union, nodes, s, target, draft)
         }
         NodeForm::Intersect(nodes) => {
-            combined(alloc, writer, SetOperator::Intersection, nodes, s, target, draft)
+            combined(
+                alloc,
+                writer,
+                SetOperator::Intersection,
+                nodes,
+                s,
+                target,
+                draft,
+            )
         }
         _ => unreachable!(),
     }

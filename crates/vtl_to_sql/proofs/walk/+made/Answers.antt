@@ -242,8 +242,8 @@ combined-loop-node-preserved t c =
     let stored = c.in_ok-so_far-2.ensures in
     record {
       gives =
-        turn_made o p r s whole old done kept new left b ms last c.loop-node.so_far c.in_ok-other.other c.in_ok-so_far-2.so_far c.loop-node.draft.next c.source-in-loop-node.new.draft.next c.store.new.self.next (query_tree c.in_ok-query.query) parts
-        c.loop-node.invariant.gives made.name made.tables made.next (c.in_ok-query.ensures s (structure_of b)) stored.name stored.statements stored.next;
+          turn_made o p r s whole old done kept new left b ms last c.loop-node.so_far c.in_ok-other.other c.in_ok-so_far-2.so_far c.loop-node.draft.next c.source-in-loop-node.new.draft.next c.store.new.self.next (query_tree c.in_ok-query.query) parts
+          c.loop-node.invariant.gives made.name made.tables made.next (c.in_ok-query.ensures s (structure_of b)) stored.name stored.statements stored.next;
       ready = left_ready left (ms ++ last ∷ []) b parts c.loop-node.invariant.ready;
     }
 
