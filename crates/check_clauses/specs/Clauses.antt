@@ -28,8 +28,8 @@ use Rattle.check_shapes.specs.declared.choices.Choice.TheVariants as choice
 use Rattle.check_shapes.specs.declared.names.Wanted.{Wanted}
 use Rattle.check_shapes.specs.declared.names.Wanted.TheVariants as wanted
 use Rattle.check_shapes.specs.declared.renaming.Renaming.{Renaming}
-use Rattle.check_values.specs.Columns.{name_of}
-use Rattle.check_values.specs.Literals.{kind_met, literal_cell, literal_kind, valued}
+use Rattle.check_operators.specs.Columns.{name_of}
+use Rattle.check_operators.specs.Literals.{kind_met, literal_cell, literal_kind, valued}
 use Rattle.check_operators.specs.Places.{name_written, written_by}
 use Rattle.check_operators.specs.Typed.{TypedTree, components_in, condition_in}
 use Rattle.check_operators.specs.declared.places.Joined.{Joined}

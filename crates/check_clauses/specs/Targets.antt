@@ -28,9 +28,9 @@ use Rattle.check_faults.specs.declared.rules.Rule.TheVariants as rule
 use Rattle.check_shapes.specs.Clauses.{aggr_form, calc_form, target_tests}
 use Rattle.check_shapes.specs.Names.{component_of, is_among}
 use Rattle.check_shapes.specs.declared.targets.Target.{Target}
-use Rattle.check_values.specs.Columns.{name_of}
-use Rattle.check_values.specs.Groupings.{grouping_choice, grouping_names, grouping_of}
-use Rattle.check_values.specs.Kinds.{exp_kind, given_kind}
+use Rattle.check_operators.specs.Columns.{name_of}
+use Rattle.check_operators.specs.Groupings.{grouping_choice, grouping_names, grouping_of}
+use Rattle.check_operators.specs.Kinds.{exp_kind, given_kind}
 use Rattle.check_operators.specs.Typed.{TypedTree, components_in, value_in}
 use Rattle.check_clauses.specs.Clauses.{made_of}
 use Rattle.check_clauses.specs.declared.targets.Made.{Made}

@@ -8,7 +8,7 @@ use crate::clauses::name_known;
 use check_faults::TypeErr;
 use check_operators::{Joined, made_node};
 use check_shapes::{Renaming, Wanted, rename};
-use check_values::name;
+use check_operators::name_of as name;
 use std::alloc::Global;
 use vtl_cell::{List, Txt};
 use vtl_nodes::{Node, NodeForm};

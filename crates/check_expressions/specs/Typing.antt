@@ -18,11 +18,11 @@ use Rattle.vtl_syntax.specs.declared.word_groups.JoinKind.{JoinKind}
 use Rattle.vtl_tree.specs.CompExp.{CompExp}
 use Rattle.vtl_nodes.specs.Trees.{ItemTree, NodeTree, OperandTree, ValueTree, scalar}
 use Rattle.vtl_cell.specs.Results.{◌>>=◌}
-use Rattle.check_values.specs.Groupings.{grouping_of, grouping_typed}
+use Rattle.check_clauses.specs.Groupings.{grouping_of, grouping_typed}
 use Rattle.check_faults.specs.declared.rules.Rule.{Rule}
 use Rattle.check_faults.specs.declared.rules.Rule.TheVariants as rule
-use Rattle.check_values.specs.Literals.{literals_fit}
-use Rattle.check_values.specs.Operators.{exps_length, of_binary, of_function, of_unary, takes}
+use Rattle.check_clauses.specs.Literals.{literals_fit}
+use Rattle.check_clauses.specs.ValuesOperators.{exps_length, of_binary, of_function, of_unary, takes}
 use Rattle.check_clauses.specs.Operators.{operator_form, set_form}
 use Rattle.check_clauses.specs.Places.{Env, Written, at_groups, at_points, constant_form, in_aggregate, member_inside, name_typed, regrouped, written_typed}
 use Rattle.check_clauses.specs.Sets.{check_form, check_spec, difference_form, exists_form, member_of, sets_form}

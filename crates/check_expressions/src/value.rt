@@ -7,13 +7,12 @@ ghost use Rattle.vtl_syntax.specs.Trees.{exps_of};
 ghost use Rattle.vtl_syntax.specs.View.{expr_tree};
 ghost use Rattle.check_clauses.specs.Operators.{operator_form};
 ghost use Rattle.check_clauses.specs.Typed.{typed_tree, typed_trees};
-ghost use Rattle.check_values.specs.Literals.{literals_fit};
-ghost use Rattle.check_values.specs.Operators.{exps_length, of_function, takes};
+ghost use Rattle.check_clauses.specs.Literals.{literals_fit};
+ghost use Rattle.check_clauses.specs.ValuesOperators.{exps_length, of_function, takes};
 ghost use Rattle.check_expressions.specs.Typing.{scalar_value};
 
-use check_clauses::{Place, Typed, operator};
+use check_clauses::{Place, Typed, function_operator, literals_fit, operator, takes};
 use check_faults::TypeErr;
-use check_values::{function_operator, literals_fit, takes};
 use std::alloc::{AllocError, Global};
 use vtl_cell::Profile;
 use vtl_nodes::CalcValue;
@@ -36,7 +35,7 @@ pub fn scalar_value(value: Typed) -> Result<CalcValue, TypeErr>
 }
 
 /// A function on its operands.
-#[tactic(auto, using(check_values::proofs::LiteralLemmas::as_many))]
+#[tactic(auto, using(check_clauses::proofs::LiteralLemmas::as_many))]
 pub fn function(
     alloc: Global,
     profile: &Profile,

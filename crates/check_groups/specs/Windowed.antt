@@ -31,9 +31,9 @@ use Rattle.check_faults.specs.declared.rules.Rule.TheVariants as rule
 use Rattle.check_shapes.specs.Measures.{Gives, measured_form}
 use Rattle.check_shapes.specs.declared.choices.Choice.TheVariants as choice
 use Rattle.check_shapes.specs.declared.measures.Outcome.TheVariants as outcome
-use Rattle.check_values.specs.Kinds.{exp_kind}
-use Rattle.check_values.specs.Literals.{literal_cell, literal_kind, met_beside, valued}
-use Rattle.check_values.specs.Windows.{frame_alone, points_typed, window_typed}
+use Rattle.check_operators.specs.Kinds.{exp_kind}
+use Rattle.check_operators.specs.Literals.{literal_cell, literal_kind, met_beside, valued}
+use Rattle.check_operators.specs.Windows.{frame_alone, points_typed, window_typed}
 use Rattle.check_operators.specs.Places.{columns_at, columns_in}
 use Rattle.check_operators.specs.Typed.{TypedTree, value, dataset, beside_kinds, components_in, made_of}
 use Rattle.check_operators.specs.declared.places.Place.{Place}

@@ -3,15 +3,14 @@ ghost use Rattle.std.specs.Option.{option_copied, option_map};
 ghost use Rattle.std.specs.Prelude.{◌≡◌, IfOk, unwrap_or};
 ghost use Rattle.check_faults.specs.Answers.{Answers};
 ghost use Rattle.vtl_syntax.specs.View.{expr_tree};
-ghost use Rattle.check_values.specs.Windows.{frame_alone, window_typed};
+ghost use Rattle.check_operators.specs.Windows.{frame_alone, window_typed};
 ghost use Rattle.check_operators.specs.Typed.{typed_tree};
 ghost use Rattle.check_groups.specs.Windowed.{kinds_beside, no_window, over_of, over_parts, over_window};
 
 use crate::Call;
 use crate::calls::call_typed;
 use check_faults::TypeErr;
-use check_operators::{Place, Typed, columns_at, points};
-use check_values::{frame_alone, window};
+use check_operators::{Place, Typed, columns_at, frame_alone, points, window};
 use std::alloc::{AllocError, Global};
 use vtl_cell::{Kind, Profile};
 use vtl_nodes::Window;

@@ -5,7 +5,7 @@ ghost use Rattle.vtl_syntax.specs.View.{expr_tree};
 ghost use Rattle.check_groups.specs.Windowed.{call_typed, default_typed, is_ordered, is_unframed, of_aggregate, of_shift, of_window, shift_call, suits, window_needed};
 
 use check_faults::TypeErr;
-use check_values::{literal, literal_kind, met_beside, points};
+use check_operators::{literal, literal_kind, met_beside, point_count as points};
 use std::alloc::Global;
 use vtl_cell::{Cell, Kind, Profile, Txt};
 use vtl_nodes::{AnalyticOp, Window};

@@ -1,1 +1,2 @@
+pub use Rattle.check_values.proofs.LiteralLemmas
 pub mod OperatorLemmas
