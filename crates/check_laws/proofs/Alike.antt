@@ -17,9 +17,9 @@ use Rattle.vtl_tree.specs.Structure.{same_name}
 use Rattle.vtl_tree.specs.Structures.{Named, has_name}
 use Rattle.vtl_tree.specs.declared.structure.Structure.{Structure}
 use Rattle.vtl_meaning.specs.Trees.{ItemTree, NodeTree, structure_of}
-use Rattle.check_values.specs.Groupings.{grouping_of, grouping_typed}
-use Rattle.check_values.specs.Literals.{literals_fit}
-use Rattle.check_values.specs.Operators.{exps_length, of_binary, of_function, of_unary, takes}
+use Rattle.vtl_meaning.specs.Groupings.{grouping_of, grouping_typed}
+use Rattle.vtl_meaning.specs.ValuesLiterals.{literals_fit}
+use Rattle.vtl_meaning.specs.ValuesOperators.{exps_length, of_binary, of_function, of_unary, takes}
 use Rattle.vtl_check.specs.Operators.{operator_form, set_form}
 use Rattle.vtl_check.specs.Places.{Env, Written, at_groups, at_points, in_aggregate, known_by, member_inside, member_written, name_typed, regrouped}
 use Rattle.vtl_check.specs.Sets.{check_form, check_spec, difference_form, exists_form, member_of, sets_form}

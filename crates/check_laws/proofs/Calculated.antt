@@ -22,7 +22,7 @@ use Rattle.check_shapes.specs.Clauses as clauses
 use Rattle.check_shapes.specs.Measures.{made}
 use Rattle.check_shapes.specs.Names.{component_of}
 use Rattle.check_shapes.specs.declared.targets.Target.{Target}
-use Rattle.check_values.specs.Kinds.{exp_kind}
+use Rattle.vtl_meaning.specs.Kinds.{exp_kind}
 use Rattle.vtl_meaning.specs.Columns.{column_named}
 use Rattle.vtl_meaning.specs.Made.{IsCalculated, IsTyped}
 use Rattle.vtl_meaning.specs.Operators.{calculated_exp, target_named, value_exp}

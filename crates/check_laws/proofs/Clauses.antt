@@ -39,10 +39,10 @@ use Rattle.check_shapes.specs.declared.choices.Choice.TheVariants as choice
 use Rattle.check_shapes.specs.declared.names.Wanted.{Wanted}
 use Rattle.check_shapes.specs.declared.names.Wanted.TheVariants as wanted
 use Rattle.check_shapes.specs.declared.renaming.Renaming.{Renaming}
-use Rattle.check_values.specs.Columns.{name_of}
-use Rattle.check_values.specs.Groupings.{grouping_choice, grouping_names}
-use Rattle.check_values.specs.Kinds.{exp_kind}
-use Rattle.check_values.specs.Literals.{kind_met, literal_cell, literal_kind, valued}
+use Rattle.vtl_meaning.specs.ValuesColumns.{name_of}
+use Rattle.vtl_meaning.specs.Groupings.{grouping_choice, grouping_names}
+use Rattle.vtl_meaning.specs.Kinds.{exp_kind}
+use Rattle.vtl_meaning.specs.ValuesLiterals.{kind_met, literal_cell, literal_kind, valued}
 use Rattle.vtl_check.specs.Places.{Env, at_points, columns_in, name_written, written_by}
 use Rattle.vtl_check.specs.Typed.{TypedTree, value, dataset, components_in, condition_in}
 use Rattle.vtl_check.specs.places.Joined.{Joined}

@@ -25,8 +25,8 @@ use Rattle.vtl_meaning.specs.Trees.{NodeTree, OperandTree, ValueTree, operands_o
 use Rattle.check_shapes.specs.Clauses.{calc_form, pivot_form}
 use Rattle.check_shapes.specs.declared.names.Wanted.TheVariants as wanted
 use Rattle.check_shapes.specs.declared.renaming.Renaming.{Renaming}
-use Rattle.check_values.specs.Columns.{name_of}
-use Rattle.check_values.specs.Kinds.{exp_kind}
+use Rattle.vtl_meaning.specs.ValuesColumns.{name_of}
+use Rattle.vtl_meaning.specs.Kinds.{exp_kind}
 use Rattle.vtl_check.specs.Typed.{TypedTree, value, dataset, components_in, condition_in, dataset_in}
 use Rattle.vtl_check.specs.places.Joined.{Joined}
 use Rattle.vtl_check.specs.places.Place.{Place}

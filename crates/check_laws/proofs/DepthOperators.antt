@@ -22,10 +22,10 @@ use Rattle.vtl_tree.specs.declared.structure.Structure.{Structure}
 use Rattle.vtl_meaning.specs.Nodes.{nodes_in}
 use Rattle.vtl_meaning.specs.Trees.{NodeTree, choose, measures, named, pair, structure_of}
 use Rattle.check_shapes.specs.Names.{is_among}
-use Rattle.check_values.specs.Calls.{call_form, call_kind, or_null}
-use Rattle.check_values.specs.Columns.{column_from, column_typed, name_of}
-use Rattle.check_values.specs.Kinds.{exp_kind}
-use Rattle.check_values.specs.Literals.{constant_cell, constant_typed, valued}
+use Rattle.vtl_meaning.specs.Calls.{call_form, call_kind, or_null}
+use Rattle.vtl_meaning.specs.ValuesColumns.{column_from, column_typed, name_of}
+use Rattle.vtl_meaning.specs.Kinds.{exp_kind}
+use Rattle.vtl_meaning.specs.ValuesLiterals.{constant_cell, constant_typed, valued}
 use Rattle.vtl_check.specs.Operators.{Operands, if_placed, membership, no_operands, on_choice, on_datasets, on_measures, on_operands, on_pair, operator_form, parted, set_form, with_operand, with_value}
 use Rattle.vtl_check.specs.Places.{Env, Written, alone, component_typed, constant_form, known_by, member_inside, member_written, name_typed, written_typed}
 use Rattle.vtl_check.specs.Typed.{TypedTree, value, dataset, of_value}

@@ -27,9 +27,9 @@ use Rattle.vtl_meaning.specs.Trees.{NodeTree, maybe_node, nodes_of, structure_of
 use Rattle.vtl_meaning.specs.calls.Window.{Window}
 use Rattle.vtl_meaning.specs.specifications.CheckSpec.{CheckSpec}
 use Rattle.check_shapes.specs.Pairs as pairs
-use Rattle.check_values.specs.Columns.{name_of}
-use Rattle.check_values.specs.Groupings.{grouping_typed}
-use Rattle.check_values.specs.Kinds.{exp_kind}
+use Rattle.vtl_meaning.specs.ValuesColumns.{name_of}
+use Rattle.vtl_meaning.specs.Groupings.{grouping_typed}
+use Rattle.vtl_meaning.specs.Kinds.{exp_kind}
 use Rattle.vtl_check.specs.Places.{at_groups}
 use Rattle.vtl_check.specs.Sets.{check_form, datasets_behind, datasets_in, difference_form, difference_tree, exists_form, imbalance_in, member_of, set_of, set_tree, sets_form, structures_in}
 use Rattle.vtl_check.specs.Typed.{TypedTree, value, dataset, components_in, dataset_in, made_of}

@@ -9,9 +9,9 @@ use Rattle.vtl_syntax.specs.Depth.{calcs_depth, clause_depth, exp_depth, exps_de
 use Rattle.vtl_syntax.specs.Trees as tree
 use Rattle.vtl_syntax.specs.Trees.{Calcs, ClauseTree, Exp, Exps, MaybeExp, MaybeTargets, Parts, TargetsTree}
 use Rattle.vtl_meaning.specs.Trees.{ItemTree, NodeTree}
-use Rattle.check_values.specs.Groupings.{grouping_of, grouping_typed}
-use Rattle.check_values.specs.Operators.{exps_length, of_binary, of_function, of_unary, takes}
-use Rattle.check_values.specs.Literals.{literals_fit}
+use Rattle.vtl_meaning.specs.Groupings.{grouping_of, grouping_typed}
+use Rattle.vtl_meaning.specs.ValuesOperators.{exps_length, of_binary, of_function, of_unary, takes}
+use Rattle.vtl_meaning.specs.ValuesLiterals.{literals_fit}
 use Rattle.vtl_check.specs.Operators.{operator_form}
 use Rattle.vtl_check.specs.Places.{Env, at_groups, at_points, in_aggregate}
 use Rattle.vtl_check.specs.Sets.{check_form, check_spec, difference_form, exists_form, member_of, sets_form}

@@ -9,7 +9,7 @@ use Rattle.vtl_tree.specs.CompExp.{CompExp, CompExps, column, const, call, aggre
 use Rattle.vtl_tree.specs.View.{comp_exps_of}
 use Rattle.vtl_tree.specs.declared.structure.Component.{Component}
 use Rattle.check_shapes.specs.Names.{component_of}
-use Rattle.check_values.specs.Kinds.{exp_kind}
+use Rattle.vtl_meaning.specs.Kinds.{exp_kind}
 use Rattle.vtl_meaning.specs.Columns.{column_behind, column_named, kind_named, place_of}
 use Rattle.vtl_meaning.specs.Literals.{HasLiterals}
 use Rattle.vtl_meaning.specs.Made.{AreFor, AreTyped, IsColumnAt, IsTyped, kinds_in}

@@ -20,8 +20,8 @@ use Rattle.vtl_meaning.specs.calls.Window.{Window}
 use Rattle.check_shapes.specs.Measures.{measured_form}
 use Rattle.check_shapes.specs.declared.choices.Choice.TheVariants as choice
 use Rattle.check_shapes.specs.declared.measures.Outcome.TheVariants as outcome
-use Rattle.check_values.specs.Groupings.{grouping_choice, grouping_names}
-use Rattle.check_values.specs.Kinds.{exp_kind}
+use Rattle.vtl_meaning.specs.Groupings.{grouping_choice, grouping_names}
+use Rattle.vtl_meaning.specs.Kinds.{exp_kind}
 use Rattle.vtl_check.specs.Places.{Env}
 use Rattle.vtl_check.specs.Typed.{TypedTree, value, dataset, components_in}
 use Rattle.vtl_check.specs.places.Inside.{Inside}

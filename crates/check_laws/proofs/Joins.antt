@@ -12,8 +12,8 @@ use Rattle.vtl_tree.specs.Structure.{same_name}
 use Rattle.vtl_tree.specs.declared.structure.Structure.{Structure}
 use Rattle.check_faults.specs.Rules.{ruled}
 use Rattle.check_faults.specs.declared.rules.Rule.TheVariants as rule
-use Rattle.check_joins.specs.Joins as joins
-use Rattle.check_joins.specs.declared.joins.Operand.{Operand}
+use Rattle.vtl_meaning.specs.Joins as joins
+use Rattle.vtl_meaning.specs.joins.Operand.{Operand}
 use Rattle.check_shapes.specs.Names.{is_among}
 use Rattle.vtl_meaning.specs.Trees as nodes
 use Rattle.vtl_meaning.specs.Trees.{NodeTree, OperandTree, operands_of}

@@ -1,5 +1,25 @@
+pub use Rattle.vtl_check.proofs.KnownLemmas
 pub use Rattle.vtl_check.proofs.LeftLemmas
 pub use Rattle.vtl_check.proofs.NameLemmas
+pub use Rattle.vtl_meaning.proofs.Agreements
+pub use Rattle.vtl_meaning.proofs.Drawn
+pub use Rattle.vtl_meaning.proofs.JoinAgreements
+pub use Rattle.vtl_meaning.proofs.JoinKept
+pub use Rattle.vtl_meaning.proofs.JoinOrders
+pub use Rattle.vtl_meaning.proofs.JoinParts
+pub use Rattle.vtl_meaning.proofs.Kept
+pub use Rattle.vtl_meaning.proofs.LookUps
+pub use Rattle.vtl_meaning.proofs.Looks
+pub use Rattle.vtl_meaning.proofs.Orders
+pub use Rattle.vtl_meaning.proofs.OwnColumns
+pub use Rattle.vtl_meaning.proofs.Places
+pub use Rattle.vtl_meaning.proofs.ScriptsKept
+pub use Rattle.vtl_meaning.proofs.SetsFolds
+pub use Rattle.vtl_meaning.proofs.SetsKept
+pub use Rattle.vtl_meaning.proofs.SetsOrders
+pub use Rattle.vtl_meaning.proofs.TurnedKept
+pub use Rattle.vtl_meaning.proofs.TurnedOrders
+pub use Rattle.vtl_meaning.proofs.ValueKinds as MeaningValueKinds
 pub mod Alike
 pub mod Among
 pub mod Calculated

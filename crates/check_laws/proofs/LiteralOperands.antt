@@ -18,9 +18,9 @@ use Rattle.vtl_syntax.specs.declared.word_groups.UnaryOp.TheVariants as sign
 use Rattle.vtl_kinds.specs.Literals.{integer_written, largest_place, lies_between}
 use Rattle.vtl_tree.specs.CompExp.{CompExp, CompExps, call, column, const, aggregate}
 use Rattle.vtl_tree.specs.View.{comp_exps_of}
-use Rattle.check_values.specs.Literals as written
-use Rattle.check_values.specs.Literals.{lies_in, literals_fit, second_passes, third_passes, valued}
-use Rattle.check_values.specs.Operators.{of_function}
+use Rattle.vtl_meaning.specs.ValuesLiterals as written
+use Rattle.vtl_meaning.specs.ValuesLiterals.{lies_in, literals_fit, second_passes, third_passes, valued}
+use Rattle.vtl_meaning.specs.ValuesOperators.{of_function}
 use Rattle.vtl_check.specs.Operators.{operator_form}
 use Rattle.vtl_check.specs.Places.{Env}
 use Rattle.vtl_check.specs.Typed.{TypedTree, value, dataset, of_value}

@@ -23,7 +23,7 @@ use Rattle.check_shapes.specs.Shape.{shaped}
 use Rattle.check_shapes.specs.declared.choices.Choice.TheVariants as choice
 use Rattle.check_shapes.specs.declared.measures.Outcome.{Outcome}
 use Rattle.check_shapes.specs.declared.measures.Outcome.TheVariants as outcome
-use Rattle.check_values.specs.Kinds.{exp_kind}
+use Rattle.vtl_meaning.specs.Kinds.{exp_kind}
 use Rattle.vtl_meaning.specs.Columns.{column_named, columns_named, identifiers_of, measures_of}
 use Rattle.vtl_meaning.specs.Literals.{HasLiterals}
 use Rattle.vtl_meaning.specs.Made.{AreFor, HasIdentifiers, IsMeasured, IsTyped}

@@ -26,8 +26,8 @@ use Rattle.vtl_meaning.specs.Trees.{FormTree, NodeTree, choose, measures, pair, 
 use Rattle.check_shapes.specs.Measures.{any_unmet, measured_form}
 use Rattle.check_shapes.specs.Pairs as pairs
 use Rattle.check_shapes.specs.declared.choices.Choice.TheVariants as choice
-use Rattle.check_values.specs.Calls.{call_form}
-use Rattle.check_values.specs.Literals.{set_typed}
+use Rattle.vtl_meaning.specs.Calls.{call_form}
+use Rattle.vtl_meaning.specs.ValuesLiterals.{set_typed}
 use Rattle.vtl_check.specs.Operators.{Operands, between_values, by_operands, first_fits, given_structure, if_placed, is_binary, is_choice, membership, no_operands, of_two, on_choice, on_datasets, on_measures, on_operands, on_pair, operator_form, outcome_of, parted, set_form, takes_dataset, with_operand, with_value}
 use Rattle.vtl_check.specs.Typed.{TypedTree, value, dataset, beside_kinds, components_in, made_of}
 use Rattle.vtl_check.specs.Places.{Env}

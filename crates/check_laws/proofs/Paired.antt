@@ -20,7 +20,7 @@ use Rattle.check_shapes.specs.Pairs.{contains, pair_form, pair_identifiers, pair
 use Rattle.check_shapes.specs.Shape.{shaped}
 use Rattle.check_shapes.specs.declared.measures.Outcome.{Outcome}
 use Rattle.check_shapes.specs.declared.operands.Compared.TheVariants as compared
-use Rattle.check_values.specs.Kinds.{exp_kind}
+use Rattle.vtl_meaning.specs.Kinds.{exp_kind}
 use Rattle.vtl_meaning.specs.Columns.{column_behind, column_named, columns_named, identifiers_of, measures_of}
 use Rattle.vtl_meaning.specs.Literals.{are_literals}
 use Rattle.vtl_meaning.specs.Made.{AreFor, HasIdentifiers, IsPaired}

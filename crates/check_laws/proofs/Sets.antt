@@ -22,7 +22,7 @@ use Rattle.check_shapes.specs.Choices.{choice_form}
 use Rattle.check_shapes.specs.Pairs as pairs
 use Rattle.check_shapes.specs.declared.choices.Choice.TheVariants as choice
 use Rattle.check_shapes.specs.declared.names.Wanted.TheVariants as wanted
-use Rattle.check_values.specs.Columns.{name_of}
+use Rattle.vtl_meaning.specs.ValuesColumns.{name_of}
 use Rattle.vtl_check.specs.Places.{Env}
 use Rattle.vtl_check.specs.Sets.{check_form, datasets_behind, datasets_in, difference_form, difference_tree, exists_form, imbalance_in, member_of, set_of, set_structure, set_tree, sets_form, structures_in}
 use Rattle.vtl_check.specs.Typed.{TypedTree, value, dataset, components_in, dataset_in, made_of}

@@ -21,11 +21,11 @@ use Rattle.vtl_syntax.specs.declared.word_groups.UnaryOp.TheVariants as one_sign
 use Rattle.vtl_tree.specs.CompExp.{CompExps}
 use Rattle.vtl_meaning.specs.Trees as nodes
 use Rattle.vtl_meaning.specs.Trees.{ItemTree, NodeTree, OperandTree, ValueTree}
-use Rattle.check_values.specs.Groupings.{grouping_of, grouping_typed}
-use Rattle.check_values.specs.Operators.{exps_length, of_binary, of_function, of_unary, takes}
-use Rattle.check_values.specs.Literals.{literals_fit}
+use Rattle.vtl_meaning.specs.Groupings.{grouping_of, grouping_typed}
+use Rattle.vtl_meaning.specs.ValuesOperators.{exps_length, of_binary, of_function, of_unary, takes}
+use Rattle.vtl_meaning.specs.ValuesLiterals.{literals_fit}
 use Rattle.check_shapes.specs.Clauses.{target_tests}
-use Rattle.check_values.specs.Columns.{name_of}
+use Rattle.vtl_meaning.specs.ValuesColumns.{name_of}
 use Rattle.vtl_check.specs.Operators.{operator_form, set_form}
 use Rattle.vtl_check.specs.Places.{Env, Written, at_groups, at_points, columns_in, in_aggregate, member_inside, member_written}
 use Rattle.vtl_check.specs.Sets.{check_form, check_spec, difference_form, exists_form, member_of, sets_form}

@@ -19,11 +19,11 @@ use Rattle.vtl_tree.specs.View.{comp_exps_of}
 use Rattle.vtl_tree.specs.declared.structure.Component.{Component}
 use Rattle.vtl_tree.specs.declared.structure.Structure.{Structure}
 use Rattle.check_shapes.specs.Names.{is_among}
-use Rattle.check_values.specs.Calls.{call_form, call_kind, or_null}
-use Rattle.check_values.specs.Columns.{column_from, column_typed, name_of}
-use Rattle.check_values.specs.Kinds.{exp_kind}
+use Rattle.vtl_meaning.specs.Calls.{call_form, call_kind, or_null}
+use Rattle.vtl_meaning.specs.ValuesColumns.{column_from, column_typed, name_of}
+use Rattle.vtl_meaning.specs.Kinds.{exp_kind}
 use Rattle.vtl_kinds.specs.Operators.{kind_by_operands}
-use Rattle.check_values.specs.Literals.{constant_typed}
+use Rattle.vtl_meaning.specs.ValuesLiterals.{constant_typed}
 use Rattle.vtl_check.specs.Places.{Env, Written, alone, component_typed, constant_form, known_by, name_typed, name_written, written_typed}
 use Rattle.vtl_check.specs.Typed.{TypedTree, value, dataset, of_value}
 use Rattle.vtl_check.specs.places.Inside.{Inside}

@@ -13,7 +13,7 @@ ghost use Rattle.vtl_tree.specs.DataSet.{is_point};
 ghost use Rattle.vtl_tree.specs.Structures.{AreStructures, Named, has_name};
 ghost use Rattle.vtl_tree.specs.Value.{value as value_of};
 ghost use Rattle.vtl_meaning.specs.Trees.{NodeTree, structure_of};
-ghost use Rattle.check_values.specs.Kinds.{exp_kind};
+ghost use Rattle.vtl_meaning.specs.Kinds.{exp_kind};
 ghost use Rattle.vtl_check.specs.Places.{Env};
 ghost use Rattle.vtl_check.specs.Typed.{TypedTree, dataset, value};
 ghost use Rattle.vtl_check.specs.places.Inside.{Inside};

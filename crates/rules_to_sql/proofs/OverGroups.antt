@@ -18,11 +18,11 @@ use Rattle.vtl_kinds.specs.Aggregates.{aggregate_kind}
 use Rattle.vtl_tree.specs.CompExp.{CompExp}
 use Rattle.vtl_tree.specs.declared.expression.AggCall.{AggCall}
 use Rattle.vtl_tree.specs.declared.structure.Component.{Component}
-use Rattle.check_values.specs.Kinds.{exp_kind}
-use Rattle.vtl_meaning.specs.Columns.{kind_named, place_of}
+use Rattle.check_laws.specs.Kinds.{exp_kind}
+use Rattle.check_laws.specs.Columns.{kind_named, place_of}
 use Rattle.sql_tree.specs.Formed.{Formed}
 use Rattle.sql_tree.specs.Trees.{Text}
-use Rattle.sql_check_laws.specs.Fits.{Fits}
+use Rattle.sql_meaning.specs.Fits.{Fits}
 use Rattle.sql_check_parts.specs.Expressions.{site}
 use Rattle.sql_check_parts.specs.Kinds.{kind_in}
 use Rattle.sql_check_parts.specs.Scopes.{ColumnName, Grouping, Scope, Tables, column_name, column_order, found, grouping_of, is_among, is_grouped_by, or_null}

@@ -11,11 +11,11 @@ use Rattle.vtl_tree.specs.CompExp.{CompExp, CompExps, column, const, call, aggre
 use Rattle.vtl_tree.specs.Value as points
 use Rattle.vtl_tree.specs.declared.expression.AggCall.{AggCall}
 use Rattle.vtl_tree.specs.declared.structure.Component.{Component}
-use Rattle.check_values.specs.Kinds.{exp_kind}
-use Rattle.vtl_meaning.specs.Made.{AreTyped, IsColumnAt, IsTyped}
+use Rattle.check_laws.specs.Kinds.{exp_kind}
+use Rattle.check_laws.specs.Made.{AreTyped, IsColumnAt, IsTyped}
 use Rattle.sql_tree.specs.Formed.{Formed}
 use Rattle.sql_tree.specs.Trees.{Text}
-use Rattle.sql_check_laws.specs.Fits.{Fits}
+use Rattle.sql_meaning.specs.Fits.{Fits}
 use Rattle.sql_check_parts.specs.Expressions.{site}
 use Rattle.sql_check_parts.specs.Kinds.{kind_in}
 use Rattle.sql_check_parts.specs.Scopes.{Scope, Tables}

@@ -20,3 +20,4 @@ pub use laws::{
     depths_grow_by_one, kinds_stay, translations_are_formed, translations_fit, values_stay,
 };
 pub use translation::comp_to_sql;
+pub use check_laws::{check, defines_rulesets};

@@ -4,8 +4,10 @@ pub use Rattle.sql_check_parts.specs.Scopes
 pub use Rattle.sql_meaning.specs.Fits
 pub use Rattle.sql_meaning.specs.From
 pub use Rattle.sql_meaning.specs.Groups
+pub use Rattle.sql_meaning.specs.Orders
 pub use Rattle.sql_meaning.specs.Outcomes
 pub use Rattle.sql_meaning.specs.Profiles
+pub use Rattle.sql_meaning.specs.Scripts
 pub use Rattle.sql_meaning.specs.Selects
 pub use Rattle.sql_meaning.specs.Statements
 pub use Rattle.sql_meaning.specs.Tables

@@ -12,11 +12,11 @@ use Rattle.sql_tree.specs.Trees.{ItemTree}
 use Rattle.sql_groups.specs.Scopes.{row_of}
 use Rattle.sql_groups.specs.Outcomes.{row_at, row_fault}
 use Rattle.sql_groups.specs.Selects.{Wanted, plain_rows}
-use Rattle.sql_eval.specs.Resolves.{sight}
-use Rattle.sql_eval.specs.declared.names.Level.TheVariants as levels
-use Rattle.sql_from.specs.Held.{rows_held, tables_held}
-use Rattle.sql_from.specs.Sources.{Sourced, scope_held}
-use Rattle.sql_from.specs.Standing.{sight_of}
+use Rattle.sql_groups.specs.Resolves.{sight}
+use Rattle.sql_groups.specs.names.Level.TheVariants as levels
+use Rattle.sql_groups.specs.Held.{rows_held, tables_held}
+use Rattle.sql_groups.specs.Sources.{Sourced, scope_held}
+use Rattle.sql_groups.specs.Standing.{sight_of}
 use Rattle.sql_exec.specs.Items.{HaveValuesOf, item_at_row, made_at_row}
 use Rattle.sql_exec.specs.Parts.{MakesKinds}
 use Rattle.sql_exec.specs.Plain.{is_window_item}

@@ -10,9 +10,9 @@ use Rattle.sql_tree.specs.declared.statements.Item.{Item}
 use Rattle.sql_groups.specs.Scopes.{with_source}
 use Rattle.sql_groups.specs.TypedSelects.{IsSourceTyped}
 use Rattle.sql_groups.specs.Tables.{column_entry}
-use Rattle.sql_from.specs.Held.{tables_held}
-use Rattle.sql_from.specs.Sources.{Sourced, scope_held, table_named}
-use Rattle.sql_from.proofs.Standing.{scope_more}
+use Rattle.sql_groups.specs.Held.{tables_held}
+use Rattle.sql_groups.specs.Sources.{Sourced, scope_held, table_named}
+use Rattle.sql_groups.proofs.Standing.{scope_more}
 use Rattle.sql_exec.proofs.Steps.{zipped_more}
 
 -- ---- sources

@@ -23,7 +23,7 @@ use Rattle.sql_groups.proofs.TypingQueryKinds.{as_many}
 use Rattle.sql_groups.specs.Selects.{rows_in}
 use Rattle.sql_groups.specs.Tables.{column_entry, kinds_of}
 use Rattle.sql_groups.proofs.SharedKinds.{named_kinds}
-use Rattle.sql_from.specs.Seen.{answer_of}
+use Rattle.sql_groups.specs.Seen.{answer_of}
 use Rattle.sql_exec.specs.Answers.{Gives}
 use Rattle.sql_exec.specs.Outputs.{Adds, fault_seen}
 use Rattle.sql_exec.specs.declared.output.Output.{Output}

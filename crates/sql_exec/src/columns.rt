@@ -5,14 +5,13 @@ ghost use Rattle.sql_tree.specs.View.{item_tree, select_tree};
 ghost use Rattle.sql_groups.specs.Queries.{beside, item_kind, kinds_of, shared_kinds};
 ghost use Rattle.sql_groups.specs.Scopes.{or_null};
 ghost use Rattle.sql_groups.specs.Tables.{column_entry};
-ghost use Rattle.sql_from.specs.Held.{tables_held};
+ghost use Rattle.sql_groups.specs.Held.{tables_held};
 ghost use Rattle.sql_exec.specs.Parts.{IsPlain};
 ghost use Rattle.sql_exec.specs.Plain.{is_window_item};
 
 use crate::items::resolved;
 use sql_check_queries::{all_some, join_source, share_kinds};
-use sql_eval::{Names, or_null};
-use sql_from::Sources;
+use sql_groups::{Names, Sources, or_null};
 use sql_tree::{Item, Select};
 use std::alloc::{AllocError, Global};
 use vtl_cell::{Kind, Profile};

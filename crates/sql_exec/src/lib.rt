@@ -14,4 +14,4 @@ mod queries;
 mod selects;
 
 pub use queries::{exec, source_rows};
-pub use sql_from::ExecErr;
+pub use sql_groups::ExecErr;

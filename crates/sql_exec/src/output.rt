@@ -3,13 +3,12 @@ ghost use Rattle.std.specs.Prelude.{◌≡◌, ◌<◌, ◌∷◌, [], true, len
 ghost use Rattle.vtl_cell.specs.Outcome.{unless};
 ghost use Rattle.vtl_rows.specs.Tables.{fits};
 ghost use Rattle.sql_groups.specs.Outcomes.{row_at, row_fault};
-ghost use Rattle.sql_from.specs.Seen.{answer_of};
+ghost use Rattle.sql_groups.specs.Seen.{answer_of};
 ghost use Rattle.sql_exec.specs.Items.{made_at_row};
 ghost use Rattle.sql_exec.specs.Outputs.{Adds, Sees, fault_seen};
 
 use crate::items::{RowItem, push_items};
-use sql_eval::Cells;
-use sql_from::Seen;
+use sql_groups::{Cells, Seen};
 use std::alloc::{AllocError, Global};
 use vtl_cell::{Cell, Profile};
 use vtl_rows::{Column, Table};

@@ -11,16 +11,15 @@ ghost use Rattle.sql_groups.specs.From.{source_rows};
 ghost use Rattle.sql_groups.specs.Profiles.{IsLawful};
 ghost use Rattle.sql_groups.specs.Selects.{query_value};
 ghost use Rattle.sql_groups.specs.Tables.{column_entry};
-ghost use Rattle.sql_from.specs.Columns.{source_columns};
-ghost use Rattle.sql_from.specs.Held.{base_held, tables_held};
+ghost use Rattle.sql_groups.specs.Columns.{source_columns};
+ghost use Rattle.sql_groups.specs.Held.{base_held, tables_held};
 ghost use Rattle.sql_exec.specs.Answers.{Gives};
 ghost use Rattle.sql_exec.specs.Plain.{query_has_window};
 
 use crate::columns::{named_columns, query_kinds};
 use crate::output::Output;
 use crate::selects::add_selects;
-use sql_from::ExecErr;
-use sql_meaning::Plan;
+use sql_groups::{ExecErr, Plan};
 use std::alloc::Global;
 use std::sync::ledger::Ledger;
 use vtl_cell::Profile;
@@ -73,5 +72,5 @@ pub fn source_rows<L: Ledger>(
     ensures rows { (s : SelectTree) → query_tree plan.now.query ≡ s ∷ [] → AnswersBy (λ t. t.rows) result (source_rows (base_held p.now tables.now) s) }
 {
     let selects = plan.query().selects.as_slice();
-    sql_from::source_rows(alloc, &selects[0], tables, p)
+    sql_groups::source_rows(alloc, &selects[0], tables, p)
 }

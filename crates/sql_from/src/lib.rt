@@ -28,3 +28,4 @@ pub use sources::Sources;
 pub use tuple_row::TupleRow;
 pub use tuple_rows::TupleRows;
 pub use tuples::Tuples;
+pub use sql_eval::{Cells, Existence, Kinded, Level, Names, Plan, Resolved, or_null, resolve, value_at};

@@ -20,3 +20,4 @@ mod totals;
 
 pub use laws::items_are_lifted_to_columns;
 pub use select::push_grouped;
+pub use sql_from::{Cells, ExecErr, Kinded, Level, Names, Plan, Resolved, Seen, Sources, TupleRows, or_null, resolve, source_rows, source_tuples, value_at};

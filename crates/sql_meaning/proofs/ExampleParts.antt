@@ -15,7 +15,7 @@ use Rattle.sql_tree.specs.declared.parts.Constant.TheVariants as constant
 use Rattle.sql_tree.specs.declared.parts.Numeral.TheVariants as numeral
 use Rattle.sql_tree.specs.declared.parts.Source.{Source}
 use Rattle.sql_tree.specs.declared.windows.Window.{Window}
-use Rattle.sql_check_parts.specs.Scopes.{Columns}
+use Rattle.sql_check_laws.specs.Scopes.{Columns}
 use Rattle.sql_meaning.specs.Tables.{Base}
 
 abbrev pub source : Text → Text → Source

@@ -18,9 +18,9 @@ use Rattle.vtl_scalar.specs.KindLaws.{HasKind, IsOfKind}
 use Rattle.sql_tree.specs.Trees as tree
 use Rattle.sql_tree.specs.Trees.{Branches, Exp, Exps}
 use Rattle.sql_tree.specs.declared.parts.Column.{Column}
-use Rattle.sql_check_parts.specs.Expressions.{Site, site}
-use Rattle.sql_check_parts.specs.Kinds.{kind_in, kinds_in, operator_kind, value_kinds}
-use Rattle.sql_check_parts.specs.Scopes.{Grouping, Scope, column_kind}
+use Rattle.sql_check_laws.specs.Expressions.{Site, site}
+use Rattle.sql_check_laws.specs.Kinds.{kind_in, kinds_in, operator_kind, value_kinds}
+use Rattle.sql_check_laws.specs.Scopes.{Grouping, Scope, column_kind}
 use Rattle.sql_check_laws.specs.Fits.{AllFit, BranchesFit, Fits, IsSeen}
 use Rattle.sql_meaning.specs.Outcomes.{all_values, cell_or_null, operated}
 use Rattle.sql_meaning.specs.Tables.{Base}

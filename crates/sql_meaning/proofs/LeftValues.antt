@@ -21,9 +21,9 @@ use Rattle.sql_tree.specs.Trees as tree
 use Rattle.sql_tree.specs.Trees.{Branches, Exp, Exps, Text}
 use Rattle.sql_tree.specs.declared.parts.Column.{Column}
 use Rattle.sql_tree.specs.declared.parts.Equality.{Equality}
-use Rattle.sql_check_parts.specs.Exists.{Inner, inner_of, is_inner}
-use Rattle.sql_check_parts.specs.Kinds.{given_kind, kind_in, kinds_in, value_kinds}
-use Rattle.sql_check_parts.specs.Scopes.{Named, Scope, Sources, found, is_among, numbered, or_null, placed, placed_from, row_of, value_among}
+use Rattle.sql_check_laws.specs.Exists.{Inner, inner_of, is_inner}
+use Rattle.sql_check_laws.specs.Kinds.{given_kind, kind_in, kinds_in, value_kinds}
+use Rattle.sql_check_laws.specs.Scopes.{Named, Scope, Sources, found, is_among, numbered, or_null, placed, placed_from, row_of, value_among}
 use Rattle.sql_meaning.specs.Early.{NamesOnly, columns_in, columns_of, columns_within, outer_columns, outer_of}
 use Rattle.sql_meaning.specs.Outcomes.{operated}
 use Rattle.sql_meaning.specs.Tables.{Base}

@@ -1,4 +1,5 @@
 pub use Rattle.sql_check_laws.proofs.GivenColumns
+pub use Rattle.sql_check_laws.proofs.OperatorKinds as LawsOperatorKinds
 pub use Rattle.sql_check_laws.proofs.TypedStatements
 pub mod Lists
 pub mod ExampleParts

@@ -37,9 +37,9 @@ use Rattle.vtl_scalar.proofs.ValueKindLemmas.{scalar_is, value_is_of_kind}
 use Rattle.sql_tree.specs.declared.parts.Constant.{Constant}
 use Rattle.sql_tree.specs.declared.parts.Constant.TheVariants as constant
 use Rattle.sql_tree.specs.declared.parts.Numeral.TheVariants as numeral
-use Rattle.sql_check_parts.specs.Kinds.{operator_kind}
-use Rattle.sql_check_parts.specs.Literals.{constant_kind}
-use Rattle.sql_check_parts.specs.Scopes.{or_null}
+use Rattle.sql_check_laws.specs.Kinds.{operator_kind}
+use Rattle.sql_check_laws.specs.Literals.{constant_kind}
+use Rattle.sql_check_laws.specs.Scopes.{or_null}
 use Rattle.sql_meaning.specs.Outcomes.{cell_or_null, operated}
 use Rattle.sql_meaning.specs.Values.{constant_cell}
 use Rattle.sql_meaning.proofs.Lists.{all_at}

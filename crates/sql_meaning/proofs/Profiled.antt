@@ -55,9 +55,9 @@ use Rattle.sql_tree.specs.declared.windows.Window.{Window}
 use Rattle.sql_tree.specs.declared.windows.WindowCall.{WindowCall}
 use Rattle.sql_tree.specs.declared.windows.WindowCall.TheVariants as call
 use Rattle.sql_tree.specs.declared.word_groups.ValueFunction.TheVariants as value
-use Rattle.sql_check_parts.specs.Kinds.{kind_in}
-use Rattle.sql_check_parts.specs.Queries.{is_grouped, query_columns, scope_of}
-use Rattle.sql_check_parts.specs.Scopes.{Scope, row_of, with_source}
+use Rattle.sql_check_laws.specs.Kinds.{kind_in}
+use Rattle.sql_check_laws.specs.Queries.{is_grouped, query_columns, scope_of}
+use Rattle.sql_check_laws.specs.Scopes.{Scope, row_of, with_source}
 use Rattle.sql_meaning.specs.From.{Joined, beside, condition_fault, first_of, holds, joined, kept, nulls, source_rows, with_join}
 use Rattle.sql_meaning.specs.Groups.{keys_by, rows_with}
 use Rattle.sql_meaning.specs.Outcomes.{all_values, cell_or_null, operated, row_at, row_fault}

@@ -17,9 +17,9 @@ use Rattle.vtl_rows.specs.Tables.{fits_kinds}
 use Rattle.sql_tree.specs.Trees as tree
 use Rattle.sql_tree.specs.Trees.{QueryTree, StatementTree, Text}
 use Rattle.sql_tree.specs.declared.statements.SqlExport.{SqlExport}
-use Rattle.sql_check_parts.specs.Queries.{query_columns}
-use Rattle.sql_check_parts.specs.Scopes.{Columns, Tables, columns_of}
-use Rattle.sql_check_parts.specs.Statements.{Given, IsTypedScript, after, input_columns, nothing, settings_of}
+use Rattle.sql_check_laws.specs.Queries.{query_columns}
+use Rattle.sql_check_laws.specs.Scopes.{Columns, Tables, columns_of}
+use Rattle.sql_check_laws.specs.PartsStatements.{Given, IsTypedScript, after, input_columns, nothing, settings_of}
 use Rattle.sql_check_laws.specs.Selects.{IsQueryTyped}
 use Rattle.sql_check_laws.specs.Statements.{AreTyped, IsStatementTyped}
 use Rattle.sql_meaning.specs.Fitting.{HasInput, HeldFit, InputsFit, IsExportFit, IsFit}

@@ -17,9 +17,9 @@ use Rattle.vtl_cell.specs.declared.cell.Cell.TheVariants as c
 use Rattle.vtl_cell.specs.declared.kind.Kind.{Kind}
 use Rattle.vtl_cell.specs.declared.kind.Kind.TheVariants as k
 use Rattle.sql_tree.specs.Trees.{ItemTree, QueryTree, SelectTree, ValueTree}
-use Rattle.sql_check_parts.specs.Queries as typing
-use Rattle.sql_check_parts.specs.Queries.{is_grouped, item_kind, item_name, query_columns, scope_of, shared_kinds}
-use Rattle.sql_check_parts.specs.Scopes.{or_null}
+use Rattle.sql_check_laws.specs.Queries as typing
+use Rattle.sql_check_laws.specs.Queries.{is_grouped, item_kind, item_name, query_columns, scope_of, shared_kinds}
+use Rattle.sql_check_laws.specs.Scopes.{or_null}
 use Rattle.sql_check_laws.specs.Selects.{IsQueryTyped}
 use Rattle.sql_meaning.specs.From.{source_rows}
 use Rattle.sql_meaning.specs.Groups.{keys_by, rows_with}

@@ -50,10 +50,10 @@ use Rattle.sql_tree.specs.declared.windows.WindowCall.TheVariants as call
 use Rattle.sql_tree.specs.declared.word_groups.ShiftFunction.{ShiftFunction}
 use Rattle.sql_tree.specs.declared.word_groups.ShiftFunction.TheVariants as shift
 use Rattle.sql_tree.specs.declared.word_groups.ValueFunction.TheVariants as value
-use Rattle.sql_check_parts.specs.Literals.{literal_kind}
-use Rattle.sql_check_parts.specs.Scopes.{Scope, column_kind, column_name, column_order, found, grouping_of, is_grouped_by, row_of}
-use Rattle.sql_check_parts.specs.Windows.{argument, call_kind, shift_kind, window_kind}
-use Rattle.sql_check_parts.proofs.Grouped.{is_in_group}
+use Rattle.sql_check_laws.specs.Literals.{literal_kind}
+use Rattle.sql_check_laws.specs.Scopes.{Scope, column_kind, column_name, column_order, found, grouping_of, is_grouped_by, row_of}
+use Rattle.sql_check_laws.specs.Windows.{argument, call_kind, shift_kind, window_kind}
+use Rattle.sql_check_laws.proofs.Grouped.{is_in_group}
 use Rattle.sql_check_laws.specs.Fits.{IsSeen, IsWindowTyped}
 use Rattle.sql_meaning.specs.Tables.{Base, RowsFit}
 use Rattle.sql_meaning.specs.Values.{View, at_rows, cell_at, literal_cell, place_in, same_column}

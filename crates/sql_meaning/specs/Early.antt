@@ -9,8 +9,8 @@ use Rattle.sql_tree.specs.declared.parts.Column.{Column}
 use Rattle.sql_tree.specs.declared.parts.Equality.{Equality}
 use Rattle.sql_tree.specs.declared.word_groups.JoinKind.{JoinKind}
 use Rattle.sql_tree.specs.declared.word_groups.JoinKind.TheVariants as joining
-use Rattle.sql_check_parts.specs.Queries.{join_source}
-use Rattle.sql_check_parts.specs.Scopes.{is_among}
+use Rattle.sql_check_laws.specs.Queries.{join_source}
+use Rattle.sql_check_laws.specs.Scopes.{is_among}
 use Rattle.sql_meaning.specs.Plans.{IsAt, conjuncts_of}
 use Rattle.sql_meaning.specs.declared.plan.Early.{Early}
 

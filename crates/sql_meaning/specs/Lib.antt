@@ -1,4 +1,5 @@
 pub use Rattle.sql_check_laws.specs.Fits
+pub use Rattle.sql_check_laws.specs.Operators
 pub use Rattle.sql_check_laws.specs.Selects as TypedSelects
 pub use Rattle.sql_check_laws.specs.Statements
 pub mod Outcomes

@@ -12,9 +12,9 @@ use Rattle.sql_tree.specs.Trees as tree
 use Rattle.sql_tree.specs.Trees.{QueryTree, ScriptTree, StatementTree, Text}
 use Rattle.sql_tree.specs.declared.statements.SqlExport.{SqlExport}
 use Rattle.sql_tree.specs.declared.statements.SqlInput.{SqlInput}
-use Rattle.sql_check_parts.specs.Queries.{query_columns}
-use Rattle.sql_check_parts.specs.Scopes.{Columns, Named, Tables}
-use Rattle.sql_check_parts.specs.Statements.{input_columns, script_settings}
+use Rattle.sql_check_laws.specs.Queries.{query_columns}
+use Rattle.sql_check_laws.specs.Scopes.{Columns, Named, Tables}
+use Rattle.sql_check_laws.specs.PartsStatements.{input_columns, script_settings}
 use Rattle.sql_meaning.specs.Selects.{query_value}
 use Rattle.sql_meaning.specs.Tables.{Base}
 

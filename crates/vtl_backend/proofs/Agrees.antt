@@ -4,7 +4,7 @@ use Rattle.vtl_cell.specs.Outcome.{Fault, DivZero, Range}
 use Rattle.vtl_cell.specs.Perm.{chain}
 use Rattle.vtl_cell.proofs.Perms.{Perm-sym}
 use Rattle.vtl_rows.specs.Named.{NamedTables}
-use Rattle.vtl_meaning.specs.Meaning.{Outputs}
+use Rattle.check_laws.specs.Meaning.{Outputs}
 use Rattle.vtl_backend.specs.Agree.{Agree, SameTables}
 use Rattle.vtl_backend.specs.Runs.{ShowAll, ShowMeaning, Tells}
 use Rattle.vtl_backend.specs.declared.error.RunErr.{RunErr}

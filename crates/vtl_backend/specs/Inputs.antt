@@ -9,7 +9,7 @@ use Rattle.vtl_tree.specs.Environment.{DataSet, Environment}
 use Rattle.vtl_tree.specs.Structures.{Named}
 use Rattle.vtl_tree.specs.declared.structure.Structure.{Structure}
 use Rattle.vtl_sets.specs.TableOf.{IsTableOf}
-use Rattle.vtl_meaning.specs.Profiles.{AllAreOfProfile}
+use Rattle.check_laws.specs.Profiles.{AllAreOfProfile}
 use Rattle.check_laws.specs.Checked.{TypedScript, nodes_of}
 use Rattle.check_laws.specs.Uses.{reads}
 

@@ -1,3 +1,12 @@
+pub use Rattle.check_joins.specs.Joins
+pub use Rattle.check_joins.specs.declared.joins
+pub use Rattle.check_values.specs.Calls
+pub use Rattle.check_values.specs.Columns as ValuesColumns
+pub use Rattle.check_values.specs.Groupings
+pub use Rattle.check_values.specs.Kinds
+pub use Rattle.check_values.specs.Literals as ValuesLiterals
+pub use Rattle.check_values.specs.Operators as ValuesOperators
+pub use Rattle.check_values.specs.Windows
 pub use Rattle.vtl_nodes.specs.Nodes
 pub use Rattle.vtl_nodes.specs.Trees
 pub use Rattle.vtl_nodes.specs.View

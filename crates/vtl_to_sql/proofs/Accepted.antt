@@ -14,11 +14,11 @@ use Rattle.rules_to_sql.specs.Meaning.{are_nodes_built, are_operands_built, is_b
 use Rattle.rules_to_sql.specs.Nodes.{all_nodes, nodes_in, operand_nodes}
 use Rattle.rules_to_sql.specs.Trees as nodes
 use Rattle.rules_to_sql.specs.Trees.{FormTree, NodeTree, NodeTrees, OperandTrees, structure_of}
-use Rattle.vtl_check.specs.Checked.{IsTyped, TypedScript, nodes_of, tree_of}
-use Rattle.vtl_check.specs.Names.{names_at, names_in, names_of}
-use Rattle.vtl_check.specs.Transformations.{Transformation, transformations}
-use Rattle.vtl_check.specs.Uses.{reads}
-use Rattle.vtl_check.proofs.NameLemmas.{names_append}
+use Rattle.rules_to_sql.specs.Checked.{IsTyped, TypedScript, nodes_of, tree_of}
+use Rattle.rules_to_sql.specs.LawsNames.{names_at, names_in, names_of}
+use Rattle.rules_to_sql.specs.Transformations.{Transformation, transformations}
+use Rattle.rules_to_sql.specs.Uses.{reads}
+use Rattle.rules_to_sql.proofs.NameLemmas.{names_append}
 use Rattle.vtl_backend.specs.Statements.{statements_of, with_nodes}
 use Rattle.rules_to_sql.specs.Depths.{node_depth}
 use Rattle.rules_to_sql.specs.LawsScripts.{AreKnownAlike, AreMadeFrom}

@@ -37,27 +37,27 @@ use Rattle.rules_to_sql.specs.clauses.SubItem.{SubItem}
 use Rattle.vtl_syntax.specs.Trees as tree
 use Rattle.vtl_syntax.specs.Trees.{Calcs, TargetsTree}
 use Rattle.vtl_syntax.specs.Written.{AreMoreCalcs, AreWrittenCalcs, AreWrittenTargets}
-use Rattle.check_values.specs.Groupings.{grouping_of}
-use Rattle.vtl_check.specs.Places.{at_points}
-use Rattle.vtl_check.specs.Targets.{aggr_clause, aggr_tree, calc_name, item_of, with_item}
-use Rattle.vtl_check.specs.Typing.{aggrs_typed, calc_value, calcs_typed, having_typed, over_operand, targets_typed, typed}
-use Rattle.vtl_check.specs.targets.Made.{Made}
+use Rattle.rules_to_sql.specs.Groupings.{grouping_of}
+use Rattle.rules_to_sql.specs.Places.{at_points}
+use Rattle.rules_to_sql.specs.Targets.{aggr_clause, aggr_tree, calc_name, item_of, with_item}
+use Rattle.rules_to_sql.specs.Typing.{aggrs_typed, calc_value, calcs_typed, having_typed, over_operand, targets_typed, typed}
+use Rattle.rules_to_sql.specs.targets.Made.{Made}
 use Rattle.check_faults.specs.declared.rules.Rule.{Rule}
 use Rattle.check_shapes.specs.Clauses.{calc_form}
 use Rattle.check_shapes.specs.Names.{component_of, is_among, known, known_as, name_tests}
 use Rattle.check_shapes.specs.declared.names.Wanted.TheVariants as wanted
 use Rattle.check_shapes.specs.declared.renaming.Renaming.{Renaming}
-use Rattle.check_values.specs.Columns.{name_of}
-use Rattle.check_values.specs.Groupings.{grouping_typed}
-use Rattle.check_values.specs.Literals.{kind_met, literal_cell, literal_kind, valued}
-use Rattle.vtl_check.specs.Clauses as clauses
-use Rattle.vtl_check.specs.Clauses.{cell_as, filter_form, kept_of, keeping_form, keeping_tree, name_known, names_typed, old_names, references_in, renamed_of, renaming_form, renaming_known, renaming_to, renamings_typed, sub_form, sub_item, sub_known, sub_names, sub_of, sub_value, subs_typed}
-use Rattle.vtl_check.specs.Places.{Env, at_groups}
-use Rattle.vtl_check.specs.Targets.{calc_clause, is_analytic, target_of}
-use Rattle.vtl_check.specs.Typed.{TypedTree, components_in, condition_in}
-use Rattle.vtl_check.specs.places.Joined.{Joined}
-use Rattle.vtl_check.specs.places.Place.{Place}
-use Rattle.vtl_check.specs.places.Place.TheVariants as place
+use Rattle.rules_to_sql.specs.ValuesColumns.{name_of}
+use Rattle.rules_to_sql.specs.Groupings.{grouping_typed}
+use Rattle.rules_to_sql.specs.ValuesLiterals.{kind_met, literal_cell, literal_kind, valued}
+use Rattle.rules_to_sql.specs.Clauses as clauses
+use Rattle.rules_to_sql.specs.Clauses.{cell_as, filter_form, kept_of, keeping_form, keeping_tree, name_known, names_typed, old_names, references_in, renamed_of, renaming_form, renaming_known, renaming_to, renamings_typed, sub_form, sub_item, sub_known, sub_names, sub_of, sub_value, subs_typed}
+use Rattle.rules_to_sql.specs.Places.{Env, at_groups}
+use Rattle.rules_to_sql.specs.Targets.{calc_clause, is_analytic, target_of}
+use Rattle.rules_to_sql.specs.Typed.{TypedTree, components_in, condition_in}
+use Rattle.rules_to_sql.specs.places.Joined.{Joined}
+use Rattle.rules_to_sql.specs.places.Place.{Place}
+use Rattle.rules_to_sql.specs.places.Place.TheVariants as place
 use Rattle.rules_to_sql.specs.Gives.{Gives}
 use Rattle.rules_to_sql.proofs.Clauses.{among-any}
 use Rattle.rules_to_sql.proofs.Lists as lists

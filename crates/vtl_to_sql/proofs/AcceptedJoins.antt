@@ -19,19 +19,19 @@ use Rattle.rules_to_sql.specs.Made as made
 use Rattle.rules_to_sql.specs.Meaning.{are_operands_built, is_built}
 use Rattle.rules_to_sql.specs.Trees as nodes
 use Rattle.rules_to_sql.specs.Trees.{NodeTree, OperandTree, operands_of}
-use Rattle.check_joins.specs.Joins.{held_names, last_renamings}
+use Rattle.rules_to_sql.specs.Joins.{held_names, last_renamings}
 use Rattle.check_faults.specs.Rules.{ruled}
 use Rattle.check_faults.specs.declared.rules.Rule.{Rule}
 use Rattle.check_faults.specs.declared.rules.Rule.TheVariants as rule
 use Rattle.check_shapes.specs.Names.{is_among}
 use Rattle.check_shapes.specs.declared.renaming.Renaming.{Renaming}
-use Rattle.vtl_check.specs.Clauses.{filter_form}
-use Rattle.vtl_check.specs.JoinOperands.{PartTyped, alias_of, aliases_in, is_left, joined_node, joined_of, last_naming, left_names, new_alias, operand_in, operands_in, own_alias, shape_of, using_names, with_part}
-use Rattle.vtl_check.specs.Places.{Env, at_points}
-use Rattle.vtl_check.specs.Typed.{TypedTree, components_in, dataset_in}
-use Rattle.vtl_check.specs.Typing.{as_dataset, body_end, filter_step, filtered_join, join_end, keeping_step, last_step, renaming_step, targets_step, typed}
-use Rattle.vtl_check.specs.places.Joined.{Joined}
-use Rattle.vtl_check.specs.places.Place.TheVariants as place
+use Rattle.rules_to_sql.specs.Clauses.{filter_form}
+use Rattle.rules_to_sql.specs.JoinOperands.{PartTyped, alias_of, aliases_in, is_left, joined_node, joined_of, last_naming, left_names, new_alias, operand_in, operands_in, own_alias, shape_of, using_names, with_part}
+use Rattle.rules_to_sql.specs.Places.{Env, at_points}
+use Rattle.rules_to_sql.specs.Typed.{TypedTree, components_in, dataset_in}
+use Rattle.rules_to_sql.specs.Typing.{as_dataset, body_end, filter_step, filtered_join, join_end, keeping_step, last_step, renaming_step, targets_step, typed}
+use Rattle.rules_to_sql.specs.places.Joined.{Joined}
+use Rattle.rules_to_sql.specs.places.Place.TheVariants as place
 use Rattle.rules_to_sql.specs.Gives.{Gives}
 use Rattle.rules_to_sql.proofs.Lists as lists
 use Rattle.rules_to_sql.proofs.Steps.{after, tested, then}

@@ -14,7 +14,7 @@ use Rattle.rules_to_sql.specs.Shapes.{given_between, given_of_two, outcome_of, t
 use Rattle.rules_to_sql.specs.Trees as nodes
 use Rattle.rules_to_sql.specs.Trees.{FormTree, NodeTree, NodeTrees, OperandTrees, structure_of}
 use Rattle.rules_to_sql.specs.Meaning.{are_nodes_built, are_operands_built, is_built, is_built_form}
-use Rattle.check_joins.specs.Joins.{held_names}
+use Rattle.rules_to_sql.specs.Joins.{held_names}
 use Rattle.check_shapes.specs.Choices.{chosen}
 use Rattle.check_shapes.specs.Clauses.{first_kind, names_column, renamed}
 use Rattle.check_shapes.specs.Measures.{bool_var, given_measures, made}

@@ -27,21 +27,21 @@ use Rattle.check_faults.specs.Rules.{ruled}
 use Rattle.check_faults.specs.declared.rules.Rule.{Rule}
 use Rattle.check_faults.specs.declared.rules.Rule.TheVariants as rule
 use Rattle.check_shapes.specs.Names.{is_among}
-use Rattle.check_values.specs.Columns.{column_typed, name_of}
-use Rattle.check_values.specs.Groupings.{grouping_typed}
-use Rattle.check_values.specs.Kinds.{exp_kind}
-use Rattle.vtl_check.specs.Aggregates.{aggregate_kind, aggregate_node, aggregate_tree, aggregate_value, count_call, count_kind, group_call, group_call_by, is_misused, operand_name}
-use Rattle.vtl_check.specs.Operators.{Operands, if_placed, on_choice, on_datasets, on_measures, on_operands, on_pair, operator_form, no_operands, parted, set_form, membership, with_operand, with_value}
-use Rattle.vtl_check.specs.Places.{Env, Written, alone, at_groups, component_typed, known_by, member_inside, member_written, name_typed, written_typed}
-use Rattle.vtl_check.specs.Sets.{member_of}
-use Rattle.vtl_check.specs.Typed as typed
-use Rattle.vtl_check.specs.Typed.{TypedTree, value, dataset, components_in, dataset_in, of_value}
-use Rattle.vtl_check.specs.Typing.{Having, as_dataset, behind, grouped_of, or_component, own_groups}
-use Rattle.vtl_check.specs.Windowed.{given_structure, or_count, over_dataset, over_form, over_node, over_typed}
-use Rattle.vtl_check.specs.calls.Call.{Call}
-use Rattle.vtl_check.specs.places.Inside.{Inside}
-use Rattle.vtl_check.specs.places.Place.{Place}
-use Rattle.vtl_check.specs.places.Place.TheVariants as place
+use Rattle.rules_to_sql.specs.ValuesColumns.{column_typed, name_of}
+use Rattle.rules_to_sql.specs.Groupings.{grouping_typed}
+use Rattle.rules_to_sql.specs.LawsKinds.{exp_kind}
+use Rattle.rules_to_sql.specs.Aggregates.{aggregate_kind, aggregate_node, aggregate_tree, aggregate_value, count_call, count_kind, group_call, group_call_by, is_misused, operand_name}
+use Rattle.rules_to_sql.specs.CheckOperators.{Operands, if_placed, on_choice, on_datasets, on_measures, on_operands, on_pair, operator_form, no_operands, parted, set_form, membership, with_operand, with_value}
+use Rattle.rules_to_sql.specs.Places.{Env, Written, alone, at_groups, component_typed, known_by, member_inside, member_written, name_typed, written_typed}
+use Rattle.rules_to_sql.specs.CheckSets.{member_of}
+use Rattle.rules_to_sql.specs.Typed as typed
+use Rattle.rules_to_sql.specs.Typed.{TypedTree, value, dataset, components_in, dataset_in, of_value}
+use Rattle.rules_to_sql.specs.Typing.{Having, as_dataset, behind, grouped_of, or_component, own_groups}
+use Rattle.rules_to_sql.specs.Windowed.{given_structure, or_count, over_dataset, over_form, over_node, over_typed}
+use Rattle.rules_to_sql.specs.check_calls.Call.{Call}
+use Rattle.rules_to_sql.specs.places.Inside.{Inside}
+use Rattle.rules_to_sql.specs.places.Place.{Place}
+use Rattle.rules_to_sql.specs.places.Place.TheVariants as place
 use Rattle.rules_to_sql.specs.Gives.{Gives}
 use Rattle.rules_to_sql.proofs.Lists as lists
 use Rattle.rules_to_sql.proofs.Steps.{after, then}

@@ -13,9 +13,9 @@ use Rattle.vtl_tree.specs.Structures.{AreStructures, Named, has_name, is_declara
 use Rattle.vtl_tree.specs.declared.structure.Structure.{Structure}
 use Rattle.rules_to_sql.proofs.Places.{same_name-is, same_name-refl}
 use Rattle.rules_to_sql.specs.Trees.{NodeTree}
-use Rattle.vtl_check.specs.Names.{names_of}
-use Rattle.vtl_check.specs.Uses.{read_behind, reads, with_declared, with_new}
-use Rattle.vtl_check.proofs.KnownLemmas.{has_name-lookup}
+use Rattle.rules_to_sql.specs.LawsNames.{names_of}
+use Rattle.rules_to_sql.specs.Uses.{read_behind, reads, with_declared, with_new}
+use Rattle.rules_to_sql.proofs.KnownLemmas.{has_name-lookup}
 use Rattle.rules_to_sql.specs.LawsScripts.{AreKnownAlike}
 use Rattle.rules_to_sql.proofs.Lists as lists
 use Rattle.vtl_to_sql.specs.Conditions.{AreReadable}

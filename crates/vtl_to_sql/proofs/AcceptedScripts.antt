@@ -10,13 +10,13 @@ use Rattle.vtl_tree.specs.Structures.{has_name}
 use Rattle.rules_to_sql.specs.Trees.{NodeTree}
 use Rattle.check_faults.specs.Rules.{ruled}
 use Rattle.check_faults.specs.declared.rules.Rule.TheVariants as rule
-use Rattle.vtl_check.specs.Places.{Env}
-use Rattle.vtl_check.specs.places.Place.TheVariants as place
-use Rattle.vtl_check.specs.Checked.{IsTyped, TypedScript, env_over, nodes_of, tree_of}
-use Rattle.vtl_check.specs.Count.{count}
-use Rattle.vtl_check.specs.Script.{assigned, is_too_much, transformations_typed, value_typed, with_result}
-use Rattle.vtl_check.specs.Transformations.{transformations, transformations_from}
-use Rattle.vtl_check.specs.Typing.{typed}
+use Rattle.rules_to_sql.specs.Places.{Env}
+use Rattle.rules_to_sql.specs.places.Place.TheVariants as place
+use Rattle.rules_to_sql.specs.Checked.{IsTyped, TypedScript, env_over, nodes_of, tree_of}
+use Rattle.rules_to_sql.specs.Count.{count}
+use Rattle.rules_to_sql.specs.Script.{assigned, is_too_much, transformations_typed, value_typed, with_result}
+use Rattle.rules_to_sql.specs.Transformations.{transformations, transformations_from}
+use Rattle.rules_to_sql.specs.Typing.{typed}
 use Rattle.rules_to_sql.specs.Gives.{Gives}
 use Rattle.rules_to_sql.proofs.Lists as lists
 use Rattle.rules_to_sql.proofs.Scripts.{at-then}

@@ -31,16 +31,16 @@ use Rattle.check_shapes.specs.Names.{known}
 use Rattle.check_shapes.specs.Pairs as pairs
 use Rattle.check_shapes.specs.Shape.{shaped}
 use Rattle.check_shapes.specs.declared.names.Wanted.TheVariants as wanted
-use Rattle.check_values.specs.Columns.{name_of}
-use Rattle.vtl_check.specs.Clauses as clauses
-use Rattle.vtl_check.specs.Clauses.{pivot_names, pivot_of, unpivot_of}
-use Rattle.vtl_check.specs.Sets.{check_form, check_spec, datasets_behind, datasets_in, difference_form, difference_tree, exists_form, imbalance_in, set_of, set_tree, sets_form, structures_in}
-use Rattle.vtl_check.specs.Places.{Env}
-use Rattle.vtl_check.specs.places.Place.TheVariants as place
-use Rattle.vtl_check.specs.Typing as typing
-use Rattle.vtl_check.specs.Typing.{maybe_typed}
-use Rattle.vtl_check.specs.Typed as typed
-use Rattle.vtl_check.specs.Typed.{TypedTree, components_in, dataset_in}
+use Rattle.rules_to_sql.specs.ValuesColumns.{name_of}
+use Rattle.rules_to_sql.specs.Clauses as clauses
+use Rattle.rules_to_sql.specs.Clauses.{pivot_names, pivot_of, unpivot_of}
+use Rattle.rules_to_sql.specs.CheckSets.{check_form, check_spec, datasets_behind, datasets_in, difference_form, difference_tree, exists_form, imbalance_in, set_of, set_tree, sets_form, structures_in}
+use Rattle.rules_to_sql.specs.Places.{Env}
+use Rattle.rules_to_sql.specs.places.Place.TheVariants as place
+use Rattle.rules_to_sql.specs.Typing as typing
+use Rattle.rules_to_sql.specs.Typing.{maybe_typed}
+use Rattle.rules_to_sql.specs.Typed as typed
+use Rattle.rules_to_sql.specs.Typed.{TypedTree, components_in, dataset_in}
 use Rattle.rules_to_sql.specs.Gives.{Gives}
 use Rattle.rules_to_sql.proofs.Left.{IsNamed, known-gives}
 use Rattle.rules_to_sql.proofs.Lists as lists

@@ -7,7 +7,7 @@ use Rattle.vtl_syntax.specs.declared.word_groups.JoinKind.TheVariants as join
 use Rattle.rules_to_sql.specs.Made.{operands_in}
 use Rattle.rules_to_sql.specs.Trees as nodes
 use Rattle.rules_to_sql.specs.Trees.{FormTree, NodeTree, NodeTrees, OperandTrees, structure_of}
-use Rattle.check_joins.specs.Joins.{structures_of}
+use Rattle.rules_to_sql.specs.Joins.{structures_of}
 use Rattle.sql_tree.specs.Trees.{QueryTree, Text}
 use Rattle.vtl_to_sql.specs.Queries.{intersection_query, union_query}
 use Rattle.vtl_to_sql.specs.FullJoins.{key_structure, keys_query, once_query}

@@ -9,18 +9,18 @@ use Rattle.vtl_syntax.specs.Trees.{ClauseTree, Exp, Exps, Parts}
 use Rattle.vtl_syntax.specs.Written.{AreMoreExps, AreMoreParts, AreWrittenExps, AreWrittenParts, IsWrittenClause, IsWrittenExp}
 use Rattle.rules_to_sql.specs.Trees.{NodeTree}
 use Rattle.check_faults.specs.declared.rules.Rule.TheVariants as rule
-use Rattle.check_values.specs.Literals.{constant_typed, literals_fit}
-use Rattle.check_values.specs.Operators.{exps_length, of_binary, of_function, of_unary, takes}
-use Rattle.vtl_check.specs.Clauses.{filter_form, keeping_form, renaming_form}
-use Rattle.vtl_check.specs.JoinOperands.{PartTyped, with_part}
-use Rattle.vtl_check.specs.Operators.{operator_form}
-use Rattle.vtl_check.specs.Places.{Env, at_points, in_aggregate}
-use Rattle.vtl_check.specs.Sets.{difference_form, exists_form, member_of, sets_form}
-use Rattle.vtl_check.specs.Typed.{TypedTree, dataset_in}
-use Rattle.vtl_check.specs.Typing.{as_dataset, behind, clause_typed, grouped_of, has_exp, having_typed, maybe_typed, operands_typed, parts_typed, targets_typed, typed}
-use Rattle.vtl_check.specs.Windowed.{over_typed}
-use Rattle.vtl_check.specs.places.Place.{Place}
-use Rattle.vtl_check.specs.places.Place.TheVariants as place
+use Rattle.rules_to_sql.specs.ValuesLiterals.{constant_typed, literals_fit}
+use Rattle.rules_to_sql.specs.ValuesOperators.{exps_length, of_binary, of_function, of_unary, takes}
+use Rattle.rules_to_sql.specs.Clauses.{filter_form, keeping_form, renaming_form}
+use Rattle.rules_to_sql.specs.JoinOperands.{PartTyped, with_part}
+use Rattle.rules_to_sql.specs.CheckOperators.{operator_form}
+use Rattle.rules_to_sql.specs.Places.{Env, at_points, in_aggregate}
+use Rattle.rules_to_sql.specs.CheckSets.{difference_form, exists_form, member_of, sets_form}
+use Rattle.rules_to_sql.specs.Typed.{TypedTree, dataset_in}
+use Rattle.rules_to_sql.specs.Typing.{as_dataset, behind, clause_typed, grouped_of, has_exp, having_typed, maybe_typed, operands_typed, parts_typed, targets_typed, typed}
+use Rattle.rules_to_sql.specs.Windowed.{over_typed}
+use Rattle.rules_to_sql.specs.places.Place.{Place}
+use Rattle.rules_to_sql.specs.places.Place.TheVariants as place
 use Rattle.rules_to_sql.specs.Gives.{Gives}
 use Rattle.rules_to_sql.proofs.Steps.{after, then}
 use Rattle.vtl_to_sql.proofs.AcceptedClauses.{filter_at, keeping_at, renaming_at, sub_worded, targets_at}

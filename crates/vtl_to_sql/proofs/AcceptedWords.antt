@@ -22,13 +22,13 @@ use Rattle.rules_to_sql.specs.Trees as nodes
 use Rattle.rules_to_sql.specs.Trees.{FormTree, NodeTree, NodeTrees, OperandTrees, structure_of}
 use Rattle.rules_to_sql.specs.clauses.SubItem.{SubItem}
 use Rattle.check_faults.specs.declared.rules.Rule.{Rule}
-use Rattle.check_joins.specs.Joins.{held_names, last_renamings}
+use Rattle.rules_to_sql.specs.Joins.{held_names, last_renamings}
 use Rattle.check_shapes.specs.declared.names.Wanted.TheVariants as wanted
 use Rattle.check_shapes.specs.declared.renaming.Renaming.{Renaming}
-use Rattle.check_values.specs.Columns.{name_of}
-use Rattle.vtl_check.specs.Clauses.{sub_names}
-use Rattle.vtl_check.specs.JoinOperands.{is_left}
-use Rattle.vtl_check.specs.Typed.{TypedTree, value, dataset, components_in}
+use Rattle.rules_to_sql.specs.ValuesColumns.{name_of}
+use Rattle.rules_to_sql.specs.Clauses.{sub_names}
+use Rattle.rules_to_sql.specs.JoinOperands.{is_left}
+use Rattle.rules_to_sql.specs.Typed.{TypedTree, value, dataset, components_in}
 use Rattle.rules_to_sql.specs.Gives.{Gives}
 use Rattle.rules_to_sql.proofs.Left.{IsNamed}
 use Rattle.vtl_to_sql.proofs.Names.{all_pass, word_characters}

@@ -18,8 +18,8 @@ use Rattle.vtl_tree.specs.declared.structure.Component.{Component}
 use Rattle.vtl_tree.specs.declared.structure.Role.{Role}
 use Rattle.vtl_tree.specs.declared.structure.Role.TheVariants as role
 use Rattle.vtl_tree.specs.declared.structure.Structure.{Structure}
-use Rattle.check_joins.specs.Joins.{all_own, contains_all, held_names, is_cross, is_part, joined, joined_components, joined_identifiers, own, reference, structures_of}
-use Rattle.check_joins.specs.declared.joins.Operand.{Operand}
+use Rattle.rules_to_sql.specs.Joins.{all_own, contains_all, held_names, is_cross, is_part, joined, joined_components, joined_identifiers, own, reference, structures_of}
+use Rattle.rules_to_sql.specs.joins.Operand.{Operand}
 use Rattle.check_shapes.specs.Choices.{chosen, is_chosen, is_identifier}
 use Rattle.check_shapes.specs.Clauses.{calculated, code_measure, first_kind, is_new, names_column, pivot_components, renamed, retargeted, target_component}
 use Rattle.check_shapes.specs.Clauses as clauses

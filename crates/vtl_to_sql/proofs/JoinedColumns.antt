@@ -13,7 +13,7 @@ use Rattle.vtl_tree.specs.Structure.{IsStructure, columns_of}
 use Rattle.vtl_tree.specs.Value.{value}
 use Rattle.vtl_tree.specs.declared.structure.Component.{Component}
 use Rattle.vtl_tree.specs.declared.structure.Structure.{Structure}
-use Rattle.check_values.specs.Kinds.{exp_kind}
+use Rattle.rules_to_sql.specs.LawsKinds.{exp_kind}
 use Rattle.rules_to_sql.specs.Columns.{column_behind, identifiers_of, kind_named, measures_of, place_of}
 use Rattle.rules_to_sql.specs.Joined.{Part, values_or_nulls}
 use Rattle.rules_to_sql.specs.Made.{AreAmong, AreFor, IsColumnAt, IsTyped, attributes_of, component_kinds, kinds_of_all}

@@ -18,7 +18,7 @@ use Rattle.vtl_tree.specs.Environment.{DataSet, Environment}
 use Rattle.vtl_tree.specs.Structure.{columns_of, IsStructure, key_width}
 use Rattle.vtl_tree.specs.declared.structure.Structure.{Structure}
 use Rattle.rules_to_sql.specs.Columns.{identifiers_of, measures_of, others_of, places_in}
-use Rattle.check_joins.specs.Joins as joins
+use Rattle.rules_to_sql.specs.Joins as joins
 use Rattle.rules_to_sql.specs.Made.{AreMade, AreMadeOperands, IsAlternative, IsLeft, IsMade, IsMadeForm, node_structures, operands_in}
 use Rattle.rules_to_sql.specs.Meaning.{AreDataSets, are_nodes_built, are_operands_built, operands_value, form_value, is_built, is_built_form, known_in, node_value, nodes_value, points_named, with_first}
 use Rattle.rules_to_sql.specs.Operators.{calculated_exps, calculated_of, choice_of, left_of, measured_exps, measured_of, pair_of, sub_of}

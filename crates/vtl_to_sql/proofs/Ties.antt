@@ -17,7 +17,7 @@ use Rattle.vtl_tree.specs.Structure.{columns_of, most_components}
 use Rattle.vtl_tree.specs.Value.{called, value}
 use Rattle.vtl_tree.specs.declared.structure.Component.{Component}
 use Rattle.vtl_tree.specs.declared.structure.Structure.{Structure}
-use Rattle.check_values.specs.Kinds.{exp_kind}
+use Rattle.rules_to_sql.specs.LawsKinds.{exp_kind}
 use Rattle.rules_to_sql.specs.Columns.{kind_named, place_of, places_in}
 use Rattle.rules_to_sql.specs.Made.{IsColumnAt, IsTyped}
 use Rattle.rules_to_sql.proofs.Kept.{column_front, column_within}

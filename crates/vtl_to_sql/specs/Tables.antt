@@ -7,7 +7,7 @@ use Rattle.vtl_cell.specs.Settings.{Settings}
 use Rattle.vtl_tree.specs.declared.structure.Structure.{Structure}
 use Rattle.vtl_syntax.specs.declared.word_groups.JoinKind.{JoinKind}
 use Rattle.vtl_syntax.specs.declared.word_groups.JoinKind.TheVariants as join
-use Rattle.check_joins.specs.Joins as joins
+use Rattle.rules_to_sql.specs.Joins as joins
 use Rattle.rules_to_sql.specs.Joined.{reference_place}
 use Rattle.rules_to_sql.specs.Made.{operands_in}
 use Rattle.rules_to_sql.specs.Meaning.{Statement}

@@ -9,8 +9,8 @@ ghost use Rattle.vtl_tree.specs.Structures.{AreStructures, Named, is_declarable}
 ghost use Rattle.vtl_tree.specs.declared.structure.Structure.{Structure};
 ghost use Rattle.rules_to_sql.specs.Meaning.{AreDataSets, Statement, is_built, known_in, meaning};
 ghost use Rattle.rules_to_sql.specs.Trees.{NodeTree};
-ghost use Rattle.vtl_check.specs.Checked.{IsTyped, TypedScript, nodes_of, tree_of};
-ghost use Rattle.vtl_check.specs.Uses.{reads};
+ghost use Rattle.rules_to_sql.specs.Checked.{IsTyped, TypedScript, nodes_of, tree_of};
+ghost use Rattle.rules_to_sql.specs.Uses.{reads};
 ghost use Rattle.vtl_backend.specs.Statements.{statements_of};
 ghost use Rattle.sql_tree.specs.Formed.{PrintableScript};
 ghost use Rattle.rules_to_sql.specs.TypingStatements.{IsTypedScript, input_columns};

@@ -41,4 +41,4 @@ pub use laws::{
 };
 pub use script::translate;
 pub use translated::is_translated;
-pub use vtl_check::{check, defines_rulesets};
+pub use rules_to_sql::{check, defines_rulesets};

@@ -5,7 +5,7 @@ ghost use Rattle.sql_tree.specs.View.{query_tree, statement_tree};
 ghost use Rattle.vtl_to_sql.specs.Scripts.{create_for};
 ghost use Rattle.vtl_nodes.specs.Trees.{nodes_of, operands_of, structure_of};
 ghost use Rattle.vtl_tree.specs.Shown.{shown};
-ghost use Rattle.check_joins.specs.Joins.{structures_of};
+ghost use Rattle.rules_to_sql.specs.Joins.{structures_of};
 ghost use Rattle.rules_to_sql.specs.Made.{operands_in};
 ghost use Rattle.vtl_to_sql.specs.Combined.{combined_made};
 ghost use Rattle.vtl_to_sql.specs.Queries.{left_query};

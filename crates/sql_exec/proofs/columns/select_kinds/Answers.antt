@@ -4,9 +4,9 @@ use Rattle.sql_tree.specs.declared.statements.Join.{Join}
 use Rattle.sql_groups.specs.Queries.{first_scope, join_source, joined_scope}
 use Rattle.sql_groups.specs.Scopes.{Scope, with_source}
 use Rattle.sql_groups.specs.TypedSelects.{AreJoinsTyped, IsSourceTyped}
-use Rattle.sql_from.specs.Held.{tables_held}
+use Rattle.sql_groups.specs.Held.{tables_held}
 use Rattle.sql_tree.specs.declared.parts.Source.{Source}
-use Rattle.sql_from.specs.Sources.{scope_held, table_named}
+use Rattle.sql_groups.specs.Sources.{scope_held, table_named}
 use Rattle.sql_exec.proofs.QueryColumns.{drop_read, scope_with}
 use Rattle.sql_exec.proofs.columns.select_kinds.Goals as goal
 

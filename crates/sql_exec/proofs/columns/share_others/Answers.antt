@@ -2,7 +2,7 @@ use Rattle.std.proofs.Common.{◌∙◌, ◌+◌, ap, sym, map, drop}
 use Rattle.std.specs.Prelude.{fold}
 use Rattle.sql_tree.specs.View.{select_tree}
 use Rattle.sql_groups.specs.Queries.{beside, kinds_of}
-use Rattle.sql_from.specs.Held.{tables_held}
+use Rattle.sql_groups.specs.Held.{tables_held}
 use Rattle.sql_exec.specs.Parts.{IsPlain}
 use Rattle.sql_exec.proofs.QueryColumns.{drop_read}
 use Rattle.sql_exec.proofs.Steps.{holds_mapped}

@@ -1,6 +1,6 @@
 use Rattle.vtl_cell.specs.Outcome.{fault_in}
 use Rattle.sql_groups.specs.Outcomes.{cell_or_null}
-use Rattle.sql_from.specs.Seen.{seen_of}
+use Rattle.sql_groups.specs.Seen.{seen_of}
 use Rattle.sql_exec.specs.Items.{made_at_row}
 use Rattle.sql_exec.proofs.Steps.{mapped_more, seen_more}
 use Rattle.sql_exec.proofs.items.push_items.Goals as goal

@@ -12,7 +12,7 @@ use Rattle.sql_groups.specs.Queries.{query_columns, shared_kinds}
 use Rattle.sql_groups.specs.Scopes.{or_null}
 use Rattle.sql_groups.specs.Selects.{appended, query_value, select_value}
 use Rattle.sql_groups.specs.Tables.{column_entry, kinds_of}
-use Rattle.sql_from.specs.Held.{base_held, tables_held}
+use Rattle.sql_groups.specs.Held.{base_held, tables_held}
 use Rattle.sql_exec.specs.Outputs.{Adds, fault_seen}
 use Rattle.sql_exec.specs.Parts.{IsPart, IsPlain}
 use Rattle.sql_exec.proofs.QueryParts.{all_plain, query_parts}

@@ -7,9 +7,9 @@ use Rattle.sql_tree.specs.View.{item_tree, select_tree}
 use Rattle.sql_tree.specs.declared.statements.Item.{Item}
 use Rattle.sql_groups.specs.Queries.{is_grouped}
 use Rattle.sql_groups.specs.Selects.{grouped_rows, plain_rows}
-use Rattle.sql_from.specs.Held.{base_held}
-use Rattle.sql_from.specs.Sources.{scope_held}
-use Rattle.sql_from.specs.Standing.{rows_for, sight_of}
+use Rattle.sql_groups.specs.Held.{base_held}
+use Rattle.sql_groups.specs.Sources.{scope_held}
+use Rattle.sql_groups.specs.Standing.{rows_for, sight_of}
 use Rattle.sql_exec.specs.Outputs.{Adds}
 use Rattle.sql_exec.specs.Parts.{MakesKinds}
 use Rattle.sql_exec.specs.declared.output.Output.{Output}

@@ -7,8 +7,8 @@ use Rattle.vtl_rows.specs.Tables.{column_kinds, fits_kinds}
 use Rattle.sql_tree.specs.View.{item_tree}
 use Rattle.sql_groups.specs.Scopes.{row_of}
 use Rattle.sql_groups.specs.Outcomes.{row_at, row_fault}
-use Rattle.sql_from.specs.Sources.{scope_held}
-use Rattle.sql_from.specs.Standing.{rows_for, sight_of}
+use Rattle.sql_groups.specs.Sources.{scope_held}
+use Rattle.sql_groups.specs.Standing.{rows_for, sight_of}
 use Rattle.sql_exec.specs.Items.{item_at_row}
 use Rattle.sql_exec.specs.Outputs.{Adds}
 use Rattle.sql_exec.proofs.Added.{added_all, added_more, added_none}

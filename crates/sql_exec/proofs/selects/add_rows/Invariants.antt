@@ -3,7 +3,7 @@ use Rattle.std.specs.Prelude.{zip}
 use Rattle.sql_tree.specs.View.{item_tree}
 use Rattle.sql_groups.specs.Outcomes.{row_at, row_fault}
 use Rattle.sql_groups.specs.Selects.{appended}
-use Rattle.sql_from.specs.Standing.{rows_for, sight_of}
+use Rattle.sql_groups.specs.Standing.{rows_for, sight_of}
 use Rattle.sql_exec.specs.Items.{item_at_row}
 use Rattle.sql_exec.specs.Outputs.{Adds}
 use Rattle.sql_exec.proofs.PlainRows.{one_row}

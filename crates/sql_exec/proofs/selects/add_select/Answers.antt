@@ -9,8 +9,8 @@ use Rattle.sql_groups.specs.Selects.{second_phase, select_value}
 use Rattle.sql_groups.specs.Tables.{RowsFit}
 use Rattle.sql_groups.specs.Values.{at_rows}
 use Rattle.sql_groups.proofs.SourceKinds.{source_rows_fit}
-use Rattle.sql_from.specs.Held.{base_held}
-use Rattle.sql_from.specs.Standing.{rows_for, sight_of}
+use Rattle.sql_groups.specs.Held.{base_held}
+use Rattle.sql_groups.specs.Standing.{rows_for, sight_of}
 use Rattle.sql_exec.specs.Outputs.{Adds}
 use Rattle.sql_exec.proofs.selects.add_select.Goals as goal
 
