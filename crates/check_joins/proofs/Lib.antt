@@ -1,1 +1,2 @@
+pub use Rattle.check_shapes.proofs.Twins
 mod Containing

@@ -1,1 +1,2 @@
+pub use Rattle.check_shapes.specs.Shape
 pub mod Joins

@@ -16,12 +16,12 @@ use Rattle.vtl_tree.specs.declared.structure.Role.{Role}
 use Rattle.vtl_tree.specs.declared.structure.Role.TheVariants as role
 use Rattle.vtl_tree.specs.declared.structure.Structure.{Structure}
 use Rattle.vtl_meaning.specs.Trees.{ItemTree}
-use Rattle.check_shapes.specs.Choices.{is_identifier, is_identifier_name}
-use Rattle.check_shapes.specs.Clauses.{calc_form, calculated, is_new, retargeted, target_component}
-use Rattle.check_shapes.specs.Clauses as clauses
-use Rattle.check_shapes.specs.Measures.{made}
-use Rattle.check_shapes.specs.Names.{component_of}
-use Rattle.check_shapes.specs.declared.targets.Target.{Target}
+use Rattle.vtl_meaning.specs.Choices.{is_identifier, is_identifier_name}
+use Rattle.vtl_meaning.specs.Clauses.{calc_form, calculated, is_new, retargeted, target_component}
+use Rattle.vtl_meaning.specs.Clauses as clauses
+use Rattle.vtl_meaning.specs.Measures.{made}
+use Rattle.vtl_meaning.specs.Names.{component_of}
+use Rattle.vtl_meaning.specs.targets.Target.{Target}
 use Rattle.vtl_meaning.specs.Kinds.{exp_kind}
 use Rattle.vtl_meaning.specs.Columns.{column_named}
 use Rattle.vtl_meaning.specs.Made.{IsCalculated, IsTyped}

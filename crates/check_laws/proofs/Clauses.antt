@@ -31,14 +31,14 @@ use Rattle.vtl_tree.specs.declared.structure.Structure.{Structure}
 use Rattle.vtl_meaning.specs.Trees as nodes
 use Rattle.vtl_meaning.specs.Trees.{FormTree, ItemTree, NodeTree, ValueTree, structure_of}
 use Rattle.vtl_meaning.specs.clauses.SubItem.{SubItem}
-use Rattle.check_shapes.specs.Choices.{chosen, is_identifier_name}
-use Rattle.check_shapes.specs.Clauses.{aggr_form, calc_form, pivot_form, rename_form, target_tests, unpivot_form}
-use Rattle.check_shapes.specs.Names.{is_among, known}
-use Rattle.check_shapes.specs.Shape.{shaped}
-use Rattle.check_shapes.specs.declared.choices.Choice.TheVariants as choice
-use Rattle.check_shapes.specs.declared.names.Wanted.{Wanted}
-use Rattle.check_shapes.specs.declared.names.Wanted.TheVariants as wanted
-use Rattle.check_shapes.specs.declared.renaming.Renaming.{Renaming}
+use Rattle.vtl_meaning.specs.Choices.{chosen, is_identifier_name}
+use Rattle.vtl_meaning.specs.Clauses.{aggr_form, calc_form, pivot_form, rename_form, target_tests, unpivot_form}
+use Rattle.vtl_meaning.specs.Names.{is_among, known}
+use Rattle.vtl_meaning.specs.Shape.{shaped}
+use Rattle.vtl_meaning.specs.choices.Choice.TheVariants as choice
+use Rattle.vtl_meaning.specs.names.Wanted.{Wanted}
+use Rattle.vtl_meaning.specs.names.Wanted.TheVariants as wanted
+use Rattle.vtl_meaning.specs.renaming.Renaming.{Renaming}
 use Rattle.vtl_meaning.specs.ValuesColumns.{name_of}
 use Rattle.vtl_meaning.specs.Groupings.{grouping_choice, grouping_names}
 use Rattle.vtl_meaning.specs.Kinds.{exp_kind}

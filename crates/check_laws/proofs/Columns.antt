@@ -12,7 +12,7 @@ use Rattle.vtl_tree.specs.declared.structure.Component.{Component}
 use Rattle.vtl_tree.specs.declared.structure.Role.{Role}
 use Rattle.vtl_tree.specs.declared.structure.Role.TheVariants as role
 use Rattle.vtl_tree.specs.declared.structure.Structure.{Structure}
-use Rattle.check_shapes.specs.Names.{component_of}
+use Rattle.vtl_meaning.specs.Names.{component_of}
 use Rattle.vtl_meaning.specs.Columns.{kind_named, place_of}
 use Rattle.vtl_meaning.specs.Made.{IsColumnAt}
 use Rattle.check_laws.proofs.Lists as lists

@@ -16,7 +16,7 @@ use Rattle.vtl_tree.specs.declared.structure.Structure.{Structure}
 use Rattle.vtl_meaning.specs.Nodes.{all_nodes, form_nodes, nodes_in}
 use Rattle.vtl_meaning.specs.Trees as nodes
 use Rattle.vtl_meaning.specs.Trees.{FormTree, ItemTree, MeasureTree, NodeTree, ValueTree}
-use Rattle.check_shapes.specs.Pairs.{contains}
+use Rattle.vtl_meaning.specs.Pairs.{contains}
 use Rattle.vtl_check.specs.Typed as typed
 use Rattle.vtl_check.specs.Typed.{TypedTree, value, dataset}
 use Rattle.vtl_check.specs.Clauses as clauses

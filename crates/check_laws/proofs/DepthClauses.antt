@@ -22,9 +22,9 @@ use Rattle.vtl_tree.specs.declared.structure.Structure.{Structure}
 use Rattle.vtl_meaning.specs.Nodes.{nodes_in, operand_nodes}
 use Rattle.vtl_meaning.specs.Trees as nodes
 use Rattle.vtl_meaning.specs.Trees.{NodeTree, OperandTree, ValueTree, operands_of, structure_of}
-use Rattle.check_shapes.specs.Clauses.{calc_form, pivot_form}
-use Rattle.check_shapes.specs.declared.names.Wanted.TheVariants as wanted
-use Rattle.check_shapes.specs.declared.renaming.Renaming.{Renaming}
+use Rattle.vtl_meaning.specs.Clauses.{calc_form, pivot_form}
+use Rattle.vtl_meaning.specs.names.Wanted.TheVariants as wanted
+use Rattle.vtl_meaning.specs.renaming.Renaming.{Renaming}
 use Rattle.vtl_meaning.specs.ValuesColumns.{name_of}
 use Rattle.vtl_meaning.specs.Kinds.{exp_kind}
 use Rattle.vtl_check.specs.Typed.{TypedTree, value, dataset, components_in, condition_in, dataset_in}

@@ -5,7 +5,7 @@ use Rattle.std.specs.Map.{lookup}
 use Rattle.vtl_cell.specs.Settings.{Settings}
 use Rattle.vtl_cell.specs.declared.operator.ScalarOp.{ScalarOp}
 use Rattle.vtl_cell.specs.Results.{◌>>=◌}
-use Rattle.vtl_kinds.specs.Operators.{kind_by_operands}
+use Rattle.vtl_meaning.specs.KindsOperators.{kind_by_operands}
 use Rattle.check_faults.specs.Rules.{ruled}
 use Rattle.check_faults.specs.declared.rules.Rule.{Rule}
 use Rattle.check_faults.specs.declared.rules.Rule.TheVariants as rule
@@ -21,7 +21,7 @@ use Rattle.vtl_tree.specs.declared.structure.Component.{Component}
 use Rattle.vtl_tree.specs.declared.structure.Structure.{Structure}
 use Rattle.vtl_meaning.specs.Nodes.{nodes_in}
 use Rattle.vtl_meaning.specs.Trees.{NodeTree, choose, measures, named, pair, structure_of}
-use Rattle.check_shapes.specs.Names.{is_among}
+use Rattle.vtl_meaning.specs.Names.{is_among}
 use Rattle.vtl_meaning.specs.Calls.{call_form, call_kind, or_null}
 use Rattle.vtl_meaning.specs.ValuesColumns.{column_from, column_typed, name_of}
 use Rattle.vtl_meaning.specs.Kinds.{exp_kind}

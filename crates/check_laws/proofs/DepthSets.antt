@@ -26,7 +26,7 @@ use Rattle.vtl_meaning.specs.Trees as nodes
 use Rattle.vtl_meaning.specs.Trees.{NodeTree, maybe_node, nodes_of, structure_of}
 use Rattle.vtl_meaning.specs.calls.Window.{Window}
 use Rattle.vtl_meaning.specs.specifications.CheckSpec.{CheckSpec}
-use Rattle.check_shapes.specs.Pairs as pairs
+use Rattle.vtl_meaning.specs.Pairs as pairs
 use Rattle.vtl_meaning.specs.ValuesColumns.{name_of}
 use Rattle.vtl_meaning.specs.Groupings.{grouping_typed}
 use Rattle.vtl_meaning.specs.Kinds.{exp_kind}

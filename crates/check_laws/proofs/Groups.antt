@@ -17,9 +17,9 @@ use Rattle.vtl_meaning.specs.Trees.{NodeTree, ValueTree}
 use Rattle.vtl_meaning.specs.calls.AnalyticOp.{AnalyticOp}
 use Rattle.vtl_meaning.specs.calls.AnalyticOp.TheVariants as analytic
 use Rattle.vtl_meaning.specs.calls.Window.{Window}
-use Rattle.check_shapes.specs.Measures.{measured_form}
-use Rattle.check_shapes.specs.declared.choices.Choice.TheVariants as choice
-use Rattle.check_shapes.specs.declared.measures.Outcome.TheVariants as outcome
+use Rattle.vtl_meaning.specs.Measures.{measured_form}
+use Rattle.vtl_meaning.specs.choices.Choice.TheVariants as choice
+use Rattle.vtl_meaning.specs.measures.Outcome.TheVariants as outcome
 use Rattle.vtl_meaning.specs.Groupings.{grouping_choice, grouping_names}
 use Rattle.vtl_meaning.specs.Kinds.{exp_kind}
 use Rattle.vtl_check.specs.Places.{Env}

@@ -22,10 +22,10 @@ use Rattle.check_faults.specs.declared.rules.Rule.TheVariants as rule
 use Rattle.vtl_meaning.specs.Joins as joins
 use Rattle.vtl_meaning.specs.Joins.{agrees, all_go_with, all_own, clashes, containing, go_together, go_with, goes_with, held_names, is_cross, is_exactly, is_misused, is_part, join_form, join_tests, joined, joined_components, joined_identifiers, own, reference, structures_of, taken, using_form}
 use Rattle.vtl_meaning.specs.joins.Operand.{Operand}
-use Rattle.check_shapes.specs.Choices.{is_identifier}
-use Rattle.check_shapes.specs.Operands.{agreed_identifiers}
-use Rattle.check_shapes.specs.Pairs.{contains}
-use Rattle.check_shapes.specs.Shape.{shaped}
+use Rattle.vtl_meaning.specs.Choices.{is_identifier}
+use Rattle.vtl_meaning.specs.Operands.{agreed_identifiers}
+use Rattle.vtl_meaning.specs.Pairs.{contains}
+use Rattle.vtl_meaning.specs.Shape.{shaped}
 use Rattle.vtl_meaning.specs.Columns.{identifiers_of}
 use Rattle.vtl_meaning.specs.Joined.{contains_all, reference_place}
 use Rattle.vtl_meaning.specs.Made.{AreAmong, GoTogether, HasIdentifiers, IsJoined, component_kinds, kinds_of_all}

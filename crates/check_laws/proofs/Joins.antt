@@ -14,7 +14,7 @@ use Rattle.check_faults.specs.Rules.{ruled}
 use Rattle.check_faults.specs.declared.rules.Rule.TheVariants as rule
 use Rattle.vtl_meaning.specs.Joins as joins
 use Rattle.vtl_meaning.specs.joins.Operand.{Operand}
-use Rattle.check_shapes.specs.Names.{is_among}
+use Rattle.vtl_meaning.specs.Names.{is_among}
 use Rattle.vtl_meaning.specs.Trees as nodes
 use Rattle.vtl_meaning.specs.Trees.{NodeTree, OperandTree, operands_of}
 use Rattle.vtl_check.specs.Places.{Env}

@@ -15,7 +15,7 @@ use Rattle.vtl_syntax.specs.declared.parts.Numeral.TheVariants as numeral
 use Rattle.vtl_syntax.specs.declared.word_groups.FunctionName.{FunctionName}
 use Rattle.vtl_syntax.specs.declared.word_groups.FunctionName.TheVariants as function
 use Rattle.vtl_syntax.specs.declared.word_groups.UnaryOp.TheVariants as sign
-use Rattle.vtl_kinds.specs.Literals.{integer_written, largest_place, lies_between}
+use Rattle.vtl_meaning.specs.KindsLiterals.{integer_written, largest_place, lies_between}
 use Rattle.vtl_tree.specs.CompExp.{CompExp, CompExps, call, column, const, aggregate}
 use Rattle.vtl_tree.specs.View.{comp_exps_of}
 use Rattle.vtl_meaning.specs.ValuesLiterals as written

@@ -33,7 +33,7 @@ use Rattle.vtl_syntax.specs.declared.word_groups.CastKind.{CastKind}
 use Rattle.vtl_syntax.specs.declared.word_groups.CastKind.TheVariants as cast
 use Rattle.vtl_tree.specs.CompExp.{const}
 use Rattle.vtl_meaning.specs.ValuesLiterals.{cast_kind, constant_cell, constant_typed, kind_met, literal_cell, literal_kind, members_typed, numeral_cell, numeral_kind, set_typed, shared_beside, shared_or, valued}
-use Rattle.vtl_kinds.specs.Literals.{integer_written, is_null_kind, written}
+use Rattle.vtl_meaning.specs.KindsLiterals.{integer_written, is_null_kind, written}
 use Rattle.vtl_tree.specs.declared.structure.Component.{Component}
 use Rattle.vtl_time.specs.Days.{read_day_of}
 use Rattle.vtl_time.specs.Periods.{read_period_of}

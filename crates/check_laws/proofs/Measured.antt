@@ -17,12 +17,12 @@ use Rattle.vtl_tree.specs.declared.structure.Component.{Component}
 use Rattle.vtl_tree.specs.declared.structure.Role.TheVariants as role
 use Rattle.vtl_tree.specs.declared.structure.Structure.{Structure}
 use Rattle.vtl_meaning.specs.Trees.{MeasureTree}
-use Rattle.check_shapes.specs.Choices.{chosen, is_identifier}
-use Rattle.check_shapes.specs.Measures.{Gives as GivesKind, any_unmet, bool_var, given_measure, given_measures, is_measure, is_miscounted, is_unmet, measured_form, measured_tests, measures, namesake, paired}
-use Rattle.check_shapes.specs.Shape.{shaped}
-use Rattle.check_shapes.specs.declared.choices.Choice.TheVariants as choice
-use Rattle.check_shapes.specs.declared.measures.Outcome.{Outcome}
-use Rattle.check_shapes.specs.declared.measures.Outcome.TheVariants as outcome
+use Rattle.vtl_meaning.specs.Choices.{chosen, is_identifier}
+use Rattle.vtl_meaning.specs.Measures.{Gives as GivesKind, any_unmet, bool_var, given_measure, given_measures, is_measure, is_miscounted, is_unmet, measured_form, measured_tests, measures, namesake, paired}
+use Rattle.vtl_meaning.specs.Shape.{shaped}
+use Rattle.vtl_meaning.specs.choices.Choice.TheVariants as choice
+use Rattle.vtl_meaning.specs.measures.Outcome.{Outcome}
+use Rattle.vtl_meaning.specs.measures.Outcome.TheVariants as outcome
 use Rattle.vtl_meaning.specs.Kinds.{exp_kind}
 use Rattle.vtl_meaning.specs.Columns.{column_named, columns_named, identifiers_of, measures_of}
 use Rattle.vtl_meaning.specs.Literals.{HasLiterals}

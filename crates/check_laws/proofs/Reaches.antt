@@ -23,7 +23,7 @@ use Rattle.vtl_syntax.specs.declared.word_groups.Side.{Side}
 use Rattle.vtl_syntax.specs.declared.word_groups.Side.TheVariants as side
 use Rattle.vtl_syntax.specs.declared.word_groups.ValueWindowName.{ValueWindowName}
 use Rattle.vtl_syntax.specs.declared.word_groups.ValueWindowName.TheVariants as window
-use Rattle.vtl_kinds.specs.Literals.{integer_written, longest_reach}
+use Rattle.vtl_meaning.specs.KindsLiterals.{integer_written, longest_reach}
 use Rattle.vtl_tree.specs.declared.structure.Component.{Component}
 use Rattle.vtl_meaning.specs.calls.Frame.{Frame}
 use Rattle.vtl_meaning.specs.calls.Window.{Window}

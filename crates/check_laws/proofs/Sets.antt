@@ -18,10 +18,10 @@ use Rattle.vtl_tree.specs.declared.structure.Structure.{Structure}
 use Rattle.vtl_meaning.specs.Trees as nodes
 use Rattle.vtl_meaning.specs.Trees.{NodeTree, NodeTrees, maybe_node, nodes_of, structure_of}
 use Rattle.vtl_meaning.specs.specifications.CheckSpec.{CheckSpec}
-use Rattle.check_shapes.specs.Choices.{choice_form}
-use Rattle.check_shapes.specs.Pairs as pairs
-use Rattle.check_shapes.specs.declared.choices.Choice.TheVariants as choice
-use Rattle.check_shapes.specs.declared.names.Wanted.TheVariants as wanted
+use Rattle.vtl_meaning.specs.Choices.{choice_form}
+use Rattle.vtl_meaning.specs.Pairs as pairs
+use Rattle.vtl_meaning.specs.choices.Choice.TheVariants as choice
+use Rattle.vtl_meaning.specs.names.Wanted.TheVariants as wanted
 use Rattle.vtl_meaning.specs.ValuesColumns.{name_of}
 use Rattle.vtl_check.specs.Places.{Env}
 use Rattle.vtl_check.specs.Sets.{check_form, datasets_behind, datasets_in, difference_form, difference_tree, exists_form, imbalance_in, member_of, set_of, set_structure, set_tree, sets_form, structures_in}

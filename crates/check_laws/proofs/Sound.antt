@@ -24,7 +24,7 @@ use Rattle.vtl_meaning.specs.Trees.{ItemTree, NodeTree, OperandTree, ValueTree}
 use Rattle.vtl_meaning.specs.Groupings.{grouping_of, grouping_typed}
 use Rattle.vtl_meaning.specs.ValuesOperators.{exps_length, of_binary, of_function, of_unary, takes}
 use Rattle.vtl_meaning.specs.ValuesLiterals.{literals_fit}
-use Rattle.check_shapes.specs.Clauses.{target_tests}
+use Rattle.vtl_meaning.specs.Clauses.{target_tests}
 use Rattle.vtl_meaning.specs.ValuesColumns.{name_of}
 use Rattle.vtl_check.specs.Operators.{operator_form, set_form}
 use Rattle.vtl_check.specs.Places.{Env, Written, at_groups, at_points, columns_in, in_aggregate, member_inside, member_written}

@@ -18,11 +18,11 @@ use Rattle.vtl_tree.specs.Structures.{Named}
 use Rattle.vtl_tree.specs.View.{comp_exps_of}
 use Rattle.vtl_tree.specs.declared.structure.Component.{Component}
 use Rattle.vtl_tree.specs.declared.structure.Structure.{Structure}
-use Rattle.check_shapes.specs.Names.{is_among}
+use Rattle.vtl_meaning.specs.Names.{is_among}
 use Rattle.vtl_meaning.specs.Calls.{call_form, call_kind, or_null}
 use Rattle.vtl_meaning.specs.ValuesColumns.{column_from, column_typed, name_of}
 use Rattle.vtl_meaning.specs.Kinds.{exp_kind}
-use Rattle.vtl_kinds.specs.Operators.{kind_by_operands}
+use Rattle.vtl_meaning.specs.KindsOperators.{kind_by_operands}
 use Rattle.vtl_meaning.specs.ValuesLiterals.{constant_typed}
 use Rattle.vtl_check.specs.Places.{Env, Written, alone, component_typed, constant_form, known_by, name_typed, name_written, written_typed}
 use Rattle.vtl_check.specs.Typed.{TypedTree, value, dataset, of_value}

@@ -12,10 +12,10 @@ use Rattle.vtl_tree.specs.declared.structure.Component.{Component}
 use Rattle.vtl_tree.specs.declared.structure.Role.{Role}
 use Rattle.vtl_tree.specs.declared.structure.Role.TheVariants as role
 use Rattle.vtl_tree.specs.declared.structure.Structure.{Structure}
-use Rattle.check_shapes.specs.Names.{component_of, is_among}
-use Rattle.check_shapes.specs.Operands.{is_alike, is_there}
-use Rattle.check_shapes.specs.Pairs.{contains}
-use Rattle.check_shapes.specs.declared.operands.Compared.TheVariants as compared
+use Rattle.check_values.specs.Names.{component_of, is_among}
+use Rattle.check_values.specs.Operands.{is_alike, is_there}
+use Rattle.check_values.specs.Pairs.{contains}
+use Rattle.check_values.specs.operands.Compared.TheVariants as compared
 use Rattle.vtl_meaning.specs.Agreement.{common_identifiers, first_agreeing, has_identifier, values_in}
 use Rattle.vtl_meaning.specs.Columns.{identifiers_of}
 use Rattle.vtl_meaning.specs.Points.{partner}

@@ -1,3 +1,4 @@
+pub use Rattle.check_joins.proofs.Twins
 pub mod Agreements
 mod Determined
 pub mod Drawn

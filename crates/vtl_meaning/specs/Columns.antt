@@ -9,7 +9,7 @@ use Rattle.vtl_tree.specs.Structure.{of_role, same_name}
 use Rattle.vtl_tree.specs.declared.structure.Component.{Component}
 use Rattle.vtl_tree.specs.declared.structure.Role.TheVariants as role
 use Rattle.vtl_tree.specs.declared.structure.Structure.{Structure}
-use Rattle.check_shapes.specs.Names.{component_of}
+use Rattle.check_values.specs.Names.{component_of}
 
 abbrev pub identifiers_of : Structure → List Component
 identifiers_of s = of_role role.Identifier s

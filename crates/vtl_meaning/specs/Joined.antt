@@ -11,7 +11,7 @@ use Rattle.vtl_tree.specs.Structure.{of_role}
 use Rattle.vtl_tree.specs.declared.structure.Component.{Component}
 use Rattle.vtl_tree.specs.declared.structure.Role.TheVariants as role
 use Rattle.vtl_tree.specs.declared.structure.Structure.{Structure}
-use Rattle.check_shapes.specs.Pairs.{contains}
+use Rattle.check_values.specs.Pairs.{contains}
 use Rattle.vtl_tuples.specs.Keys.{each_once, item_at}
 use Rattle.vtl_tuples.specs.Tuples.{combinations, matching}
 use Rattle.vtl_meaning.specs.Agreement.{OperandPoint, first_agreeing, key_of, operand_points, points_agree, values_in}

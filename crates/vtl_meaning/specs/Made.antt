@@ -23,14 +23,14 @@ use Rattle.vtl_nodes.specs.Trees.{FormTree, ItemTree, MaybeNode, MeasureTree, No
 use Rattle.vtl_nodes.specs.declared.clauses.SubItem.{SubItem}
 use Rattle.check_joins.specs.Joins as joins
 use Rattle.check_joins.specs.declared.joins.Operand.{Operand}
-use Rattle.check_shapes.specs.Choices.{chosen}
-use Rattle.check_shapes.specs.Clauses.{first_kind, names_column, pivot_components}
-use Rattle.check_shapes.specs.Measures.{bool_var, given_measures, is_miscounted, made}
-use Rattle.check_shapes.specs.Operands.{agree, agreed_identifiers}
-use Rattle.check_shapes.specs.Pairs.{contains, pair_identifiers}
-use Rattle.check_shapes.specs.declared.choices.Choice.TheVariants as choice
-use Rattle.check_shapes.specs.declared.names.Wanted.TheVariants as wanted
-use Rattle.check_shapes.specs.declared.operands.Compared.TheVariants as compared
+use Rattle.check_values.specs.Choices.{chosen}
+use Rattle.check_values.specs.Clauses.{first_kind, names_column, pivot_components}
+use Rattle.check_values.specs.Measures.{bool_var, given_measures, is_miscounted, made}
+use Rattle.check_values.specs.Operands.{agree, agreed_identifiers}
+use Rattle.check_values.specs.Pairs.{contains, pair_identifiers}
+use Rattle.check_values.specs.choices.Choice.TheVariants as choice
+use Rattle.check_values.specs.names.Wanted.TheVariants as wanted
+use Rattle.check_values.specs.operands.Compared.TheVariants as compared
 use Rattle.check_values.specs.Kinds.{exp_kind}
 use Rattle.vtl_meaning.specs.Agreement.{common_identifiers}
 use Rattle.vtl_meaning.specs.Columns.{identifiers_of, kind_named, measures_of, others_of, place_of}

@@ -12,9 +12,9 @@ use Rattle.vtl_tree.specs.Structure.{columns_of}
 use Rattle.vtl_tree.specs.declared.structure.Component.{Component}
 use Rattle.vtl_tree.specs.declared.structure.Structure.{Structure}
 use Rattle.vtl_tuples.specs.Keys.{each_once}
-use Rattle.check_shapes.specs.Choices.{chosen}
-use Rattle.check_shapes.specs.Names.{component_of}
-use Rattle.check_shapes.specs.declared.choices.Choice.TheVariants as choice
+use Rattle.check_values.specs.Choices.{chosen}
+use Rattle.check_values.specs.Names.{component_of}
+use Rattle.check_values.specs.choices.Choice.TheVariants as choice
 use Rattle.vtl_meaning.specs.Agreement.{key_of, values_in}
 use Rattle.vtl_meaning.specs.Columns.{measures_of}
 use Rattle.vtl_meaning.specs.LookUps.{value_named}

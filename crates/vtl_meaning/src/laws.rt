@@ -19,7 +19,7 @@ ghost use Rattle.vtl_tree.specs.declared.structure.Component.{Component};
 ghost use Rattle.vtl_tree.specs.declared.structure.Structure.{Structure};
 ghost use Rattle.vtl_nodes.specs.Trees.{ItemTree, MeasureTree, NodeTree, structure_of};
 ghost use Rattle.vtl_nodes.specs.declared.clauses.SubItem.{SubItem};
-ghost use Rattle.check_shapes.specs.Pairs.{contains};
+ghost use Rattle.check_values.specs.Pairs.{contains};
 ghost use Rattle.check_values.specs.Kinds.{exp_kind};
 ghost use Rattle.vtl_meaning.specs.Columns.{measures_of, others_of};
 ghost use Rattle.vtl_meaning.specs.Faults.{unless_any};

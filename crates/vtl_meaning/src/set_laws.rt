@@ -12,7 +12,7 @@ ghost use Rattle.vtl_tree.specs.Environment.{DataSet};
 ghost use Rattle.vtl_tree.specs.Kept.{kept_row};
 ghost use Rattle.vtl_tree.specs.Structure.{IsStructure, columns_of, key_width, names_of};
 ghost use Rattle.vtl_tree.specs.declared.structure.Structure.{Structure};
-ghost use Rattle.check_shapes.specs.Names.{is_among};
+ghost use Rattle.check_values.specs.Names.{is_among};
 ghost use Rattle.vtl_meaning.specs.Agreement.{has_agreeing, key_of, values_in};
 ghost use Rattle.vtl_meaning.specs.Columns.{identifiers_of, measures_of, others_of};
 ghost use Rattle.vtl_meaning.specs.Joined.{structures_of};
