@@ -17,7 +17,9 @@ ghost use Rattle.check_clauses.specs.TargetsView.{AnswersLeft};
 use crate::Made;
 use crate::targets::role_of;
 use check_faults::{Rule, TypeErr, broken};
-use check_operators::{Typed, grouping_choice, grouping_names, grouping_of, made_node, name_of as name};
+use check_operators::{
+    Typed, grouping_choice, grouping_names, grouping_of, made_node, name_of as name,
+};
 use check_shapes::Target;
 use std::alloc::{AllocError, Global};
 use vtl_cell::{Kind, List, Txt};

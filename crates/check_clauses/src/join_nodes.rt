@@ -14,9 +14,10 @@ ghost use Rattle.check_clauses.specs.JoinView.{operands_view};
 
 use crate::renames::renamed;
 use check_faults::TypeErr;
-use check_operators::{Joined, Operand, held_names, join, last_renamings, made_node};
+use check_operators::{
+    Joined, Operand, held_names, join, last_renamings, made_node, name_of as name,
+};
 use check_shapes::{Renaming, component_of};
-use check_operators::name_of as name;
 use std::alloc::{AllocError, Global};
 use vtl_cell::{List, Shared, Txt};
 use vtl_nodes::{JoinOperand, JoinSpec, Node, NodeForm};

@@ -4,9 +4,8 @@ ghost use Rattle.check_operators.specs.Typed.{boxed_tree};
 ghost use Rattle.check_clauses.specs.Clauses.{pivot_names, pivot_of, unpivot_of};
 
 use check_faults::TypeErr;
-use check_operators::made_node;
+use check_operators::{made_node, name_of as name};
 use check_shapes::{Wanted, known};
-use check_operators::name_of as name;
 use std::alloc::Global;
 use vtl_cell::Txt;
 use vtl_nodes::{Node, NodeForm};

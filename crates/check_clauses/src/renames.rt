@@ -6,9 +6,8 @@ ghost use Rattle.check_clauses.specs.Clauses.{old_names, renamed_of, renaming_fo
 
 use crate::clauses::name_known;
 use check_faults::TypeErr;
-use check_operators::{Joined, made_node};
+use check_operators::{Joined, made_node, name_of as name};
 use check_shapes::{Renaming, Wanted, rename};
-use check_operators::name_of as name;
 use std::alloc::Global;
 use vtl_cell::{List, Txt};
 use vtl_nodes::{Node, NodeForm};

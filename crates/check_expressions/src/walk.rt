@@ -16,7 +16,13 @@ ghost use Rattle.check_expressions.specs.WalkView.{maybe_tree};
 
 use crate::join::{body_end, seen_by_body};
 use crate::value::{function, opened, scalar_value, with_operand};
-use check_clauses::{Joined, Made, Part, Place, Scope, Typed, aggr, aggr_name, binary_operator, calc, calc_name, check, check_spec, condition, constant, difference, exists, filter, grouping, grouping_of, groups, in_aggregate, joined_node, keeping, member, member_inside, name, operands as joined_operands, operator, pivot, points, push_item, push_made, push_part, regrouped, renaming, set, sets, sub, unary_operator, unpivot, written};
+use check_clauses::{
+    Joined, Made, Part, Place, Scope, Typed, aggr, aggr_name, binary_operator, calc, calc_name,
+    check, check_spec, condition, constant, difference, exists, filter, grouping, grouping_of,
+    groups, in_aggregate, joined_node, keeping, member, member_inside, name,
+    operands as joined_operands, operator, pivot, points, push_item, push_made, push_part,
+    regrouped, renaming, set, sets, sub, unary_operator, unpivot, written,
+};
 use check_faults::{Rule, TypeErr};
 use check_groups::{aggregate, aggregate_value, count_call, over, target};
 use std::alloc::{AllocError, Global};

@@ -15,7 +15,9 @@ ghost use Rattle.check_groups.specs.Aggregates.{agg_kind, aggregate_node, count_
 use crate::arguments::{operand_name, share_name};
 use crate::kinds::{agg_kind, aggregate_kind, count_kind};
 use check_faults::{Rule, TypeErr, broken};
-use check_operators::{Inside, Place, Typed, grouping_choice, grouping_names, grouping_of, kind, made_of};
+use check_operators::{
+    Inside, Place, Typed, grouping_choice, grouping_names, grouping_of, kind, made_of,
+};
 use check_shapes::{Operator, Outcome, measured};
 use std::alloc::Global;
 use vtl_cell::{Kind, List, Txt};

@@ -14,7 +14,10 @@ use crate::placing::{
 use crate::typed::made_of;
 use crate::{Place, Typed};
 use check_faults::{Rule, TypeErr, broken};
-use check_values::{Choice, Operator, Outcome, any_unmet, call, choose_by, counted_kinds, kind, kinds_in, measured, pair, set as set_members};
+use check_values::{
+    Choice, Operator, Outcome, any_unmet, call, choose_by, counted_kinds, kind, kinds_in, measured,
+    pair, set as set_members,
+};
 use std::alloc::{AllocError, Global};
 use vtl_cell::{Cell, Kind, List, Profile, ScalarOp};
 use vtl_nodes::{MeasureOp, Node, NodeForm};

@@ -1,2 +1,3 @@
+pub mod ColumnPlaces
 pub mod CountLemmas
 pub mod Twins

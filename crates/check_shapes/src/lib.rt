@@ -7,7 +7,9 @@
 #![tactic(auto)]
 
 mod choices;
+mod columns;
 mod counting;
+mod expressions;
 mod kinds;
 mod measures;
 mod names;
@@ -19,6 +21,8 @@ mod shape;
 mod targets;
 
 pub use choices::{Choice, choose, choose_known, is_chosen, is_identifier, is_identifier_name};
+pub use columns::{kind_named, place_of};
+pub use expressions::{column_behind, copied, push_column};
 pub use measures::{Operator, Outcome, any_unmet, measured};
 pub use names::{Wanted, check_names, check_new_name, component_of, is_among, known};
 pub use operands::{Compared, agree, push_identifiers};

@@ -1,5 +1,6 @@
 pub use Rattle.check_shapes.specs.Choices
 pub use Rattle.check_shapes.specs.Clauses
+pub use Rattle.check_shapes.specs.Columns as ShapesColumns
 pub use Rattle.check_shapes.specs.Measures
 pub use Rattle.check_shapes.specs.Names
 pub use Rattle.check_shapes.specs.Operands

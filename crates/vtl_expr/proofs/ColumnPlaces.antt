@@ -24,28 +24,6 @@ use Rattle.vtl_meaning.specs.Columns.{kind_named, place_of, places_in}
 use Rattle.vtl_meaning.specs.Made.{AreAmong, IsColumnAt}
 use Rattle.vtl_meaning.proofs.Places.{point_length}
 
--- ---- the kind of a column by its name
-there : (xs : List (Bor Component)) (i : ℕ) (x : Bor Component) → i < length xs → x ≡ get_or xs i x → slice_get (shown xs) i ≡ Some x.now
-there [] i x h e = absurd (omega arith)
-there (y ∷ ys) zero x h e = ap (λ (z : Bor Component). Some z.now) (sym e)
-there (y ∷ ys) (suc i) x h e = there ys i x (omega arith) e
-
-gone : (xs : List (Bor Component)) (i : ℕ) → length xs ≤ i → slice_get (shown xs) i ≡ None
-gone [] i h = refl
-gone (y ∷ ys) zero h = absurd (omega arith)
-gone (y ∷ ys) (suc i) h = gone ys i (omega arith)
-
-kind_looked : (name : List ℕ) (xs : List Component) → kind_named name xs ≡ option_map_or (λ x. x.kind) (slice_get xs (place_of name xs)) k.Null
-kind_looked name xs = ap (λ (o : Option Component). option_map_or (λ x. x.kind) o k.Null) (find_at (λ x. same_name x.name name) xs)
-
-pub kind_there : (name : List ℕ) (xs : List (Bor Component)) (i : ℕ) (x : Bor Component) → i ≡ place_of name (shown xs) → i < length xs → x ≡ get_or xs i x → x.now.kind ≡ kind_named name (shown xs)
-kind_there name xs i x at h e =
-    sym (kind_looked name (shown xs) ∙ ap (λ j. option_map_or (λ x. x.kind) (slice_get (shown xs) j) k.Null) (sym at) ∙ ap (λ (o : Option Component). option_map_or (λ x. x.kind) o k.Null) (there xs i x h e))
-
-pub kind_gone : (name : List ℕ) (xs : List (Bor Component)) (i : ℕ) → i ≡ place_of name (shown xs) → length xs ≤ i → k.Null ≡ kind_named name (shown xs)
-kind_gone name xs i at h =
-    sym (kind_looked name (shown xs) ∙ ap (λ j. option_map_or (λ x. x.kind) (slice_get (shown xs) j) k.Null) (sym at) ∙ ap (λ (o : Option Component). option_map_or (λ x. x.kind) o k.Null) (gone xs i h))
-
 -- ---- columns that are chosen by their names
 abbrev column_with : List ℕ → Kind → Column
 column_with name kind = record { name = name; kind = kind }

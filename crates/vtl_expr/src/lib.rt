@@ -23,10 +23,9 @@ mod points;
 mod prepared;
 mod seen;
 
+pub use check_shapes::{copied, place_of, push_column};
 pub use choice::choose;
-pub use columns::place_of;
 pub use evaluation::{eval, value_at};
-pub use expressions::{copied, push_column};
 pub use kept_columns::keep_columns;
 pub use measures::map_measures;
 pub use pairs::pair_measures;

@@ -11,8 +11,9 @@ ghost use Rattle.vtl_meaning.specs.Operators.{for_measures, measured_exps, measu
 ghost use Rattle.vtl_sets.specs.TableOf.{IsTableOf};
 
 use crate::columns::measures;
-use crate::expressions::{columns_named, push_column, push_copies};
+use crate::expressions::{columns_named, push_copies};
 use crate::points::each_point;
+use check_shapes::push_column;
 use std::alloc::{AllocError, Global};
 use vtl_cell::Profile;
 use vtl_meaning::MeasureOp;

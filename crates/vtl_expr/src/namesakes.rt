@@ -8,7 +8,8 @@ ghost use Rattle.vtl_meaning.specs.Operators.{for_measures, with_namesake};
 ghost use Rattle.vtl_expr.specs.Sides.{side_column};
 
 use crate::columns::measures;
-use crate::expressions::{column_behind, columns_named};
+use crate::expressions::columns_named;
+use check_shapes::column_behind;
 use std::alloc::{AllocError, Global};
 use vtl_cell::{ScalarOp, Txt};
 use vtl_tree::{CompExpr, Component, Structure};

@@ -6,7 +6,7 @@ ghost use Rattle.vtl_tree.specs.Shown.{shown};
 ghost use Rattle.vtl_tree.specs.Structure.{columns_of};
 ghost use Rattle.vtl_meaning.specs.Columns.{places_in};
 
-use crate::columns::place_of;
+use check_shapes::place_of;
 use std::alloc::{AllocError, Global};
 use vtl_cell::{Cell, clone_cell};
 use vtl_tree::{Component, Structure};

@@ -17,7 +17,7 @@ use Rattle.check_values.specs.Operands.{is_alike, is_there}
 use Rattle.check_values.specs.Pairs.{contains}
 use Rattle.check_values.specs.operands.Compared.TheVariants as compared
 use Rattle.vtl_meaning.specs.Agreement.{common_identifiers, first_agreeing, has_identifier, values_in}
-use Rattle.vtl_meaning.specs.Columns.{identifiers_of}
+use Rattle.check_values.specs.ShapesColumns.{identifiers_of}
 use Rattle.vtl_meaning.specs.Points.{partner}
 use Rattle.vtl_meaning.proofs.LookUps.{named_cells}
 use Rattle.vtl_meaning.proofs.Places.{all_filtered, all_more, key_cells, key_within}

@@ -28,7 +28,7 @@ use Rattle.check_values.specs.Measures.{made}
 use Rattle.check_values.specs.Names.{component_of, is_among}
 use Rattle.check_values.specs.choices.Choice.TheVariants as choice
 use Rattle.vtl_meaning.specs.Agreement.{values_in}
-use Rattle.vtl_meaning.specs.Columns.{identifiers_of, measures_of, place_of, places_in}
+use Rattle.check_values.specs.ShapesColumns.{identifiers_of, measures_of, place_of, places_in}
 use Rattle.vtl_meaning.specs.LookUps.{value_named, values_named}
 use Rattle.vtl_meaning.specs.Made.{IsColumnAt, IsUnpivoted}
 use Rattle.vtl_meaning.specs.Points.{with_points}

@@ -24,7 +24,7 @@ use Rattle.check_values.specs.Clauses.{first_kind, names_column}
 use Rattle.check_values.specs.Names.{is_among}
 use Rattle.check_values.specs.choices.Choice.TheVariants as choice
 use Rattle.vtl_meaning.specs.Agreement.{key_of, values_in}
-use Rattle.vtl_meaning.specs.Columns.{identifiers_of, kind_named, measures_of, others_of, place_of}
+use Rattle.check_values.specs.ShapesColumns.{identifiers_of, kind_named, measures_of, others_of, place_of}
 use Rattle.vtl_meaning.specs.LookUps.{value_named}
 use Rattle.vtl_meaning.specs.Made.{AreAmong, IsColumnAt, IsPivoted, IsUnpivoted}
 use Rattle.vtl_meaning.specs.Turned.{coded_value, codes_of, is_coded, named_point, other_identifiers, pivot_of, pivoted_point, unpivot_of, unpivoted_points}

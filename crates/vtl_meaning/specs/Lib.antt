@@ -15,6 +15,7 @@ pub use Rattle.check_values.specs.Names
 pub use Rattle.check_values.specs.Operands
 pub use Rattle.check_values.specs.Operators as ValuesOperators
 pub use Rattle.check_values.specs.Pairs
+pub use Rattle.check_values.specs.ShapesColumns as Columns
 pub use Rattle.check_values.specs.Windows
 pub use Rattle.check_values.specs.choices
 pub use Rattle.check_values.specs.measures
@@ -30,7 +31,6 @@ pub use Rattle.vtl_nodes.specs.declared.clauses
 pub use Rattle.vtl_nodes.specs.declared.nodes
 pub use Rattle.vtl_nodes.specs.declared.specifications
 pub mod Agreement
-pub mod Columns
 pub mod Faults
 pub mod JoinWords
 pub mod Joined

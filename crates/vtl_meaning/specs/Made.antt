@@ -33,7 +33,7 @@ use Rattle.check_values.specs.names.Wanted.TheVariants as wanted
 use Rattle.check_values.specs.operands.Compared.TheVariants as compared
 use Rattle.check_values.specs.Kinds.{exp_kind}
 use Rattle.vtl_meaning.specs.Agreement.{common_identifiers}
-use Rattle.vtl_meaning.specs.Columns.{identifiers_of, kind_named, measures_of, others_of, place_of}
+use Rattle.check_values.specs.ShapesColumns.{identifiers_of, kind_named, measures_of, others_of, place_of}
 use Rattle.vtl_meaning.specs.Joined.{reference_place}
 use Rattle.vtl_meaning.specs.Literals.{HasLiterals}
 use Rattle.vtl_meaning.specs.Meaning.{Statement}

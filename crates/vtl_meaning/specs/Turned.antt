@@ -16,7 +16,7 @@ use Rattle.check_values.specs.Choices.{chosen}
 use Rattle.check_values.specs.Names.{component_of}
 use Rattle.check_values.specs.choices.Choice.TheVariants as choice
 use Rattle.vtl_meaning.specs.Agreement.{key_of, values_in}
-use Rattle.vtl_meaning.specs.Columns.{measures_of}
+use Rattle.check_values.specs.ShapesColumns.{measures_of}
 use Rattle.vtl_meaning.specs.LookUps.{value_named}
 
 -- ---- `pivot`: a point for each tuple of the other identifiers, with the measure's value at each code of the identifier

@@ -21,7 +21,7 @@ ghost use Rattle.vtl_nodes.specs.Trees.{ItemTree, MeasureTree, NodeTree, structu
 ghost use Rattle.vtl_nodes.specs.declared.clauses.SubItem.{SubItem};
 ghost use Rattle.check_values.specs.Pairs.{contains};
 ghost use Rattle.check_values.specs.Kinds.{exp_kind};
-ghost use Rattle.vtl_meaning.specs.Columns.{measures_of, others_of};
+ghost use Rattle.check_values.specs.ShapesColumns.{measures_of, others_of};
 ghost use Rattle.vtl_meaning.specs.Faults.{unless_any};
 ghost use Rattle.vtl_meaning.specs.LookUps.{calculated_at, chosen_at, has_key_values, measured_at, of_both, paired_at, part_for, values_named};
 ghost use Rattle.vtl_meaning.specs.Made.{AreMadeStatements, IsCalculated, IsChoice, IsFiltered, IsLeft, IsMade, IsMeasured, IsPaired, IsRenamed, IsSub, IsTyped};

@@ -14,7 +14,7 @@ ghost use Rattle.vtl_tree.specs.Structure.{IsStructure, columns_of, key_width, n
 ghost use Rattle.vtl_tree.specs.declared.structure.Structure.{Structure};
 ghost use Rattle.check_values.specs.Names.{is_among};
 ghost use Rattle.vtl_meaning.specs.Agreement.{has_agreeing, key_of, values_in};
-ghost use Rattle.vtl_meaning.specs.Columns.{identifiers_of, measures_of, others_of};
+ghost use Rattle.check_values.specs.ShapesColumns.{identifiers_of, measures_of, others_of};
 ghost use Rattle.vtl_meaning.specs.Joined.{structures_of};
 ghost use Rattle.vtl_meaning.specs.LookUps.{part_for, value_named, values_named};
 ghost use Rattle.vtl_meaning.specs.Made.{AreCombined, IsAlternative, IsCombined, IsExistence, IsPivoted, IsUnpivoted};

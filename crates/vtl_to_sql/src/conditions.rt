@@ -11,10 +11,10 @@ ghost use Rattle.vtl_to_sql.specs.Queries.{name_of_first};
 
 use crate::components::measures;
 use crate::writer::Writer;
+use check_shapes::place_of;
 use sql_tree::{Branch, Constant, SqlExpr};
 use std::alloc::{AllocError, Global};
 use vtl_cell::{ScalarOp, Txt};
-use vtl_expr::place_of;
 use vtl_nodes::SubItem;
 use vtl_tree::{Component, Structure};
 

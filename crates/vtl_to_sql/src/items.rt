@@ -14,10 +14,10 @@ ghost use Rattle.vtl_to_sql.specs.Queries.{item_as, of_one};
 
 use crate::components::measures;
 use crate::writer::Writer;
+use check_shapes::{copied, push_column};
 use sql_tree::{Constant, Item, ItemValue, SqlExpr};
 use std::alloc::{AllocError, Global};
 use vtl_cell::Txt;
-use vtl_expr::{copied, push_column};
 use vtl_nodes::{CalcItem, CalcValue, MeasureOp};
 use vtl_tree::{CompExpr, Component, Structure};
 

@@ -12,10 +12,10 @@ ghost use Rattle.vtl_to_sql.specs.PairItems.{between_places, lead_item, namesake
 use crate::components::measures;
 use crate::items::push_item;
 use crate::writer::Writer;
+use check_shapes::place_of;
 use sql_tree::{Item, SqlExpr};
 use std::alloc::{AllocError, Global};
 use vtl_cell::{Kind, ScalarOp, Txt};
-use vtl_expr::place_of;
 use vtl_tree::{CompExpr, Component, Structure};
 
 // A column at a place. What kind its values have does not show in SQL.

@@ -2,14 +2,14 @@
 use Rattle.std.specs.Prelude.{ℕ, ◌+◌, ◌++◌, List, map}
 use Rattle.std.specs.List.{position_or_len}
 use Rattle.std.specs.Option.{option_map_or}
-use Rattle.vtl_cell.specs.declared.kind.Kind.{Kind}
-use Rattle.vtl_cell.specs.declared.kind.Kind.TheVariants as k
+use Rattle.vtl_tree.specs.kind.Kind.{Kind}
+use Rattle.vtl_tree.specs.kind.Kind.TheVariants as k
 use Rattle.vtl_tree.specs.CompExp.{CompExp, column}
 use Rattle.vtl_tree.specs.Structure.{of_role, same_name}
 use Rattle.vtl_tree.specs.declared.structure.Component.{Component}
 use Rattle.vtl_tree.specs.declared.structure.Role.TheVariants as role
 use Rattle.vtl_tree.specs.declared.structure.Structure.{Structure}
-use Rattle.check_values.specs.Names.{component_of}
+use Rattle.check_shapes.specs.Names.{component_of}
 
 abbrev pub identifiers_of : Structure → List Component
 identifiers_of s = of_role role.Identifier s
