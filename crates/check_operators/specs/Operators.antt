@@ -17,14 +17,14 @@ use Rattle.vtl_cell.specs.Results.{◌>>=◌}
 use Rattle.check_faults.specs.Rules.{ruled}
 use Rattle.check_faults.specs.declared.rules.Rule.{Rule}
 use Rattle.check_faults.specs.declared.rules.Rule.TheVariants as rule
-use Rattle.check_values.specs.Measures.{Gives, any_unmet, measured_form}
-use Rattle.check_values.specs.Pairs as pairs
-use Rattle.check_values.specs.choices.Choice.TheVariants as choice
-use Rattle.check_values.specs.measures.Outcome.{Outcome}
-use Rattle.check_values.specs.measures.Outcome.TheVariants as outcome
+use Rattle.check_shapes.specs.Measures.{Gives, any_unmet, measured_form}
+use Rattle.check_shapes.specs.Pairs as pairs
+use Rattle.check_shapes.specs.declared.choices.Choice.TheVariants as choice
+use Rattle.check_shapes.specs.declared.measures.Outcome.{Outcome}
+use Rattle.check_shapes.specs.declared.measures.Outcome.TheVariants as outcome
 use Rattle.check_values.specs.Calls.{call_form}
 use Rattle.check_values.specs.Kinds.{exp_kind}
-use Rattle.check_values.specs.KindsOperators.{counted_kinds, takes_literals}
+use Rattle.vtl_kinds.specs.Operators.{counted_kinds, takes_literals}
 use Rattle.check_values.specs.Literals.{set_typed}
 use Rattle.check_operators.specs.Typed.{TypedTree, value, dataset, beside_kinds, boxed_tree, components_in, made_of, of_value}
 use Rattle.check_operators.specs.declared.operands.Parted.{Parted}

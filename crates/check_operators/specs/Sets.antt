@@ -18,12 +18,12 @@ use Rattle.vtl_nodes.specs.declared.specifications.CheckSpec.{CheckSpec}
 use Rattle.vtl_cell.specs.Results.{◌>>=◌}
 use Rattle.check_faults.specs.declared.rules.Rule.{Rule}
 use Rattle.check_faults.specs.declared.rules.Rule.TheVariants as rule
-use Rattle.check_values.specs.Choices.{choice_form}
-use Rattle.check_values.specs.Pairs as pairs
-use Rattle.check_values.specs.choices.Choice.TheVariants as choice
-use Rattle.check_values.specs.names.Wanted.TheVariants as wanted
+use Rattle.check_shapes.specs.Choices.{choice_form}
+use Rattle.check_shapes.specs.Pairs as pairs
+use Rattle.check_shapes.specs.declared.choices.Choice.TheVariants as choice
+use Rattle.check_shapes.specs.declared.names.Wanted.TheVariants as wanted
 use Rattle.check_values.specs.Columns.{name_of}
-use Rattle.check_values.specs.KindsLiterals.{integer_written}
+use Rattle.vtl_kinds.specs.Literals.{integer_written}
 use Rattle.check_operators.specs.Typed.{TypedTree, components_in, dataset_in, made_of}
 
 -- operands that all have to be data sets, behind those that are done

@@ -15,7 +15,7 @@ use Rattle.vtl_cell.specs.Results.{◌>>=◌}
 use Rattle.check_faults.specs.Rules.{ruled}
 use Rattle.check_faults.specs.declared.rules.Rule.{Rule}
 use Rattle.check_faults.specs.declared.rules.Rule.TheVariants as rule
-use Rattle.check_values.specs.Measures.{measures}
+use Rattle.check_shapes.specs.Measures.{measures}
 use Rattle.check_values.specs.Kinds.{exp_kind}
 use Rattle.check_operators.specs.declared.typed.Typed.{Typed}
 use Rattle.check_operators.specs.declared.typed.Typed.TheVariants as typed

@@ -3,9 +3,10 @@ ghost use Rattle.std.specs.Prelude.{◌≡◌, ◌++◌, ◌∷◌, IfOk};
 ghost use Rattle.vtl_cell.specs.ScalarKinds.{kinds_of};
 ghost use Rattle.check_operators.specs.Operators.{between_kinds, given_by};
 
-use check_values::{Operator, operator_kind};
+use check_shapes::Operator;
 use std::alloc::{AllocError, Global};
 use vtl_cell::{Kind, ScalarOp};
+use vtl_kinds::operator_kind;
 
 /// The kinds that an operator between values gives for a measure, for each kind that the measure may have.
 #[derive(Clone, Copy)]

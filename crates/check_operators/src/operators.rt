@@ -14,12 +14,11 @@ use crate::placing::{
 use crate::typed::made_of;
 use crate::{Place, Typed};
 use check_faults::{Rule, TypeErr, broken};
-use check_values::{
-    Choice, Operator, Outcome, any_unmet, call, choose_by, counted_kinds, kind, kinds_in, measured,
-    pair, set as set_members,
-};
+use check_shapes::{Choice, Operator, Outcome, any_unmet, choose_by, measured, pair};
+use check_values::{call, kind, kinds_in, set as set_members};
 use std::alloc::{AllocError, Global};
 use vtl_cell::{Cell, Kind, List, Profile, ScalarOp};
+use vtl_kinds::counted_kinds;
 use vtl_nodes::{MeasureOp, Node, NodeForm};
 use vtl_syntax::Literal;
 use vtl_tree::{CompExpr, Structure};

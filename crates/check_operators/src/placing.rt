@@ -1,10 +1,10 @@
 // Which operators take data sets, and where.
 ghost use Rattle.std.specs.Prelude.{◌≡◌};
 ghost use Rattle.check_operators.specs.Operators.{is_binary, is_choice, misplaced_rule, outcome_of, takes_dataset, takes_first};
-ghost use Rattle.check_values.specs.KindsOperators.{takes_literals};
+ghost use Rattle.vtl_kinds.specs.Operators.{takes_literals};
 
 use check_faults::Rule;
-use check_values::Outcome;
+use check_shapes::Outcome;
 use vtl_cell::ScalarOp;
 
 /// Whether an operator stands between two operands, either of which may be a data set.

@@ -4,8 +4,8 @@ ghost use Rattle.std.specs.Prelude.{◌≡◌, ◌∷◌, [], IfOk, map};
 ghost use Rattle.vtl_nodes.specs.Trees.{nodes_of, structure_of};
 ghost use Rattle.vtl_nodes.specs.View.{form_tree, node_tree};
 ghost use Rattle.check_faults.specs.Answers.{Answers};
-ghost use Rattle.check_values.specs.Choices.{choice_form};
-ghost use Rattle.check_values.specs.Pairs.{check_form as check_structure};
+ghost use Rattle.check_shapes.specs.Choices.{choice_form};
+ghost use Rattle.check_shapes.specs.Pairs.{check_form as check_structure};
 ghost use Rattle.vtl_tree.specs.Shown.{shown};
 ghost use Rattle.check_values.specs.Columns.{name_of};
 ghost use Rattle.check_operators.specs.Sets.{check_form, check_spec, datasets_in, difference_form, difference_tree, exists_form, imbalance_in, level_typed, member_of, set_of, set_structure, set_tree, sets_form, structures_in};
@@ -14,9 +14,11 @@ ghost use Rattle.check_operators.specs.Typed.{boxed_tree, typed_tree, typed_tree
 use crate::Typed;
 use crate::typed::made_of;
 use check_faults::{Rule, TypeErr};
-use check_values::{Choice, Wanted, choose_known, exists_in, integer_written, name, set_operator};
+use check_shapes::{Choice, Wanted, choose_known, exists_in, set_operator};
+use check_values::name;
 use std::alloc::{AllocError, Global};
 use vtl_cell::{Profile, Txt};
+use vtl_kinds::integer_written;
 use vtl_nodes::{CheckSpec, Node, NodeForm};
 use vtl_syntax::{BasicOut, Comp, DifferenceName, ErrorPart, Retain, SetOpName};
 use vtl_tree::Structure;
@@ -194,8 +196,8 @@ fn check_structure(
     ensures { Answers (λ s. s) result (check_structure operand.now (structures_in (option_to_list (option_map boxed_tree imbalance.now)))) }
 {
     match imbalance {
-        Some(node) => check_values::check(alloc, operand, Some(&node.structure)),
-        None => check_values::check(alloc, operand, None),
+        Some(node) => check_shapes::check(alloc, operand, Some(&node.structure)),
+        None => check_shapes::check(alloc, operand, None),
     }
 }
 

@@ -15,14 +15,9 @@ mod operators;
 mod windows;
 
 pub use calls::{call, kinds_in};
-pub use check_shapes::{
-    Choice, Operator, Outcome, Wanted, any_unmet, check, choose_by, choose_known, exists_in,
-    is_among, measured, pair, set_operator,
-};
 pub use columns::{column, name};
 pub use groupings::{grouping, grouping_choice, grouping_names, grouping_of};
 pub use kinds::{given_kind, kind};
 pub use literals::{constant, kind_met, literal, literal_kind, literals_fit, met_beside, set};
 pub use operators::{binary_operator, function_operator, takes, unary_operator};
-pub use vtl_kinds::{counted_kinds, integer_written, meets, operator_kind};
 pub use windows::{frame_alone, points, window};

@@ -1,5 +1,5 @@
-pub use Rattle.sql_groups.proofs.GivenColumns
-pub use Rattle.sql_groups.proofs.TypedStatements
+pub use Rattle.sql_eval.proofs.GivenColumns
+pub use Rattle.sql_eval.proofs.TypedStatements
 pub use Rattle.sql_groups.proofs.HeldTables
 pub use Rattle.sql_groups.proofs.Lists
 pub use Rattle.sql_groups.proofs.Orders

@@ -12,8 +12,8 @@ use Rattle.sql_tree.specs.Trees.{ItemTree}
 use Rattle.sql_groups.specs.Scopes.{row_of}
 use Rattle.sql_groups.specs.Outcomes.{row_at, row_fault}
 use Rattle.sql_groups.specs.Selects.{Wanted, plain_rows}
-use Rattle.sql_groups.specs.Resolves.{sight}
-use Rattle.sql_groups.specs.names.Level.TheVariants as levels
+use Rattle.sql_eval.specs.Resolves.{sight}
+use Rattle.sql_eval.specs.declared.names.Level.TheVariants as levels
 use Rattle.sql_groups.specs.Held.{rows_held, tables_held}
 use Rattle.sql_groups.specs.Sources.{Sourced, scope_held}
 use Rattle.sql_groups.specs.Standing.{sight_of}

@@ -8,8 +8,8 @@ use Rattle.vtl_cell.specs.Outcome.{after}
 use Rattle.vtl_cell.specs.declared.kind.Kind.{Kind}
 use Rattle.sql_tree.specs.View.{item_tree, value_tree}
 use Rattle.sql_tree.specs.declared.statements.Item.{Item}
-use Rattle.sql_groups.specs.Resolves.{Sight, view_over}
-use Rattle.sql_groups.specs.kinded.Kinded.{Kinded}
+use Rattle.sql_eval.specs.Resolves.{Sight, view_over}
+use Rattle.sql_eval.specs.declared.kinded.Kinded.{Kinded}
 use Rattle.sql_exec.specs.Items.{HaveValuesOf, ResolvesValue, item_at_row, made_at_row}
 use Rattle.sql_exec.specs.declared.items.RowItem.{RowItem}
 use Rattle.sql_exec.specs.Plain.{is_window, is_window_item}

@@ -12,10 +12,10 @@ use Rattle.sql_groups.specs.Queries.{value_kind}
 use Rattle.sql_groups.specs.Outcomes.{row_at, row_fault}
 use Rattle.sql_groups.specs.Selects.{Wanted, as_wanted}
 use Rattle.sql_groups.specs.Values.{View, value}
-use Rattle.sql_groups.specs.Placed.{placed_value}
-use Rattle.sql_groups.specs.Resolves.{Sight, view_over}
-use Rattle.sql_groups.specs.View.{placed_of}
-use Rattle.sql_groups.specs.kinded.Kinded.{Kinded}
+use Rattle.sql_eval.specs.Placed.{placed_value}
+use Rattle.sql_eval.specs.Resolves.{Sight, view_over}
+use Rattle.sql_eval.specs.View.{placed_of}
+use Rattle.sql_eval.specs.declared.kinded.Kinded.{Kinded}
 use Rattle.sql_exec.specs.declared.items.RowItem.{RowItem}
 
 -- ---- with names

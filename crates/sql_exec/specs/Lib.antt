@@ -4,8 +4,8 @@ pub use Rattle.sql_check_parts.specs.Queries
 pub use Rattle.sql_check_parts.specs.Rules
 pub use Rattle.sql_check_parts.specs.Scopes
 pub use Rattle.sql_check_parts.specs.Statements as TypingStatements
-pub use Rattle.sql_groups.specs.Statements
-pub use Rattle.sql_groups.specs.TypedSelects
+pub use Rattle.sql_eval.specs.Statements
+pub use Rattle.sql_eval.specs.TypedSelects
 pub use Rattle.sql_groups.specs.Held
 pub use Rattle.sql_groups.specs.From
 pub use Rattle.sql_groups.specs.Groups

@@ -11,7 +11,8 @@ ghost use Rattle.sql_exec.specs.Plain.{is_window_item};
 
 use crate::items::resolved;
 use sql_check_queries::{all_some, join_source, share_kinds};
-use sql_groups::{Names, Sources, or_null};
+use sql_eval::{Names, or_null};
+use sql_groups::Sources;
 use sql_tree::{Item, Select};
 use std::alloc::{AllocError, Global};
 use vtl_cell::{Kind, Profile};

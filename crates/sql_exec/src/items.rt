@@ -4,13 +4,14 @@ ghost use Rattle.std.specs.List.{list_any};
 ghost use Rattle.vtl_cell.specs.Outcome.{fault_in, faults_by, join};
 ghost use Rattle.sql_tree.specs.View.{item_tree, value_tree};
 ghost use Rattle.sql_groups.specs.Outcomes.{cell_or_null, row_at, row_fault};
-ghost use Rattle.sql_groups.specs.Resolves.{sight};
-ghost use Rattle.sql_groups.specs.names.Level.TheVariants as levels;
+ghost use Rattle.sql_eval.specs.Resolves.{sight};
+ghost use Rattle.sql_eval.specs.declared.names.Level.TheVariants as levels;
 ghost use Rattle.sql_groups.specs.Seen.{seen_of};
 ghost use Rattle.sql_exec.specs.Items.{HaveValuesOf, ResolvesValue, made_at_row};
 ghost use Rattle.sql_exec.specs.Plain.{is_window, is_window_item};
 
-use sql_groups::{Cells, Kinded, Level, Names, Resolved, Seen, resolve, value_at};
+use sql_eval::{Cells, Kinded, Level, Names, Resolved, resolve, value_at};
+use sql_groups::Seen;
 use sql_tree::{Item, ItemValue};
 use std::alloc::{AllocError, Global};
 use vtl_cell::{Cell, Kind, Profile};

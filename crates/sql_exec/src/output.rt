@@ -8,7 +8,8 @@ ghost use Rattle.sql_exec.specs.Items.{made_at_row};
 ghost use Rattle.sql_exec.specs.Outputs.{Adds, Sees, fault_seen};
 
 use crate::items::{RowItem, push_items};
-use sql_groups::{Cells, Seen};
+use sql_eval::Cells;
+use sql_groups::Seen;
 use std::alloc::{AllocError, Global};
 use vtl_cell::{Cell, Profile};
 use vtl_rows::{Column, Table};

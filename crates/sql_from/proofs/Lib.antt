@@ -1,17 +1,9 @@
 pub use Rattle.sql_eval.proofs.ExpressionKinds
-pub use Rattle.sql_eval.proofs.GivenColumns
-pub use Rattle.sql_eval.proofs.HeldTables
 pub use Rattle.sql_eval.proofs.Lists
 pub use Rattle.sql_eval.proofs.OperatorKinds
-pub use Rattle.sql_eval.proofs.Orders
-pub use Rattle.sql_eval.proofs.Profiled
-pub use Rattle.sql_eval.proofs.QueryKinds
 pub use Rattle.sql_eval.proofs.SharedKinds
 pub use Rattle.sql_eval.proofs.SourceKinds
-pub use Rattle.sql_eval.proofs.TypedStatements
-pub use Rattle.sql_eval.proofs.TypingQueryKinds
 pub use Rattle.sql_eval.proofs.UpToOrder
-pub use Rattle.sql_eval.proofs.Views
 pub use Rattle.sql_eval.proofs.WindowKinds
 pub mod Flats
 pub mod Joins

@@ -25,9 +25,6 @@ pub use outer_row::OuterRow;
 pub use seen::Seen;
 pub use selects::{ExecErr, source_rows, source_tuples};
 pub use sources::Sources;
-pub use sql_eval::{
-    Cells, Existence, Kinded, Level, Names, Plan, Resolved, or_null, resolve, value_at,
-};
 pub use tuple_row::TupleRow;
 pub use tuple_rows::TupleRows;
 pub use tuples::Tuples;

@@ -18,9 +18,9 @@ use Rattle.sql_from.specs.Outcomes.{cell_or_null, row_at, row_fault}
 use Rattle.sql_from.specs.Selects.{Wanted, group_item, group_rows, having_fault, kept_keys, key_value}
 use Rattle.sql_from.specs.Values.{View}
 use Rattle.sql_from.proofs.UpToOrder.{join_assoc, join_none, join_swap}
-use Rattle.sql_from.specs.Placed.{placed_value}
-use Rattle.sql_from.specs.View.{placed_of}
-use Rattle.sql_from.specs.resolved.Resolved.{Resolved}
+use Rattle.sql_eval.specs.Placed.{placed_value}
+use Rattle.sql_eval.specs.View.{placed_of}
+use Rattle.sql_eval.specs.declared.resolved.Resolved.{Resolved}
 use Rattle.sql_groups.specs.Items.{Around, groups_made, item_at, passes, tested}
 use Rattle.sql_groups.specs.Resolved.{AllStand, GroupSight, HavingStands, IsResolved, StandsFor, group_value, view_of}
 use Rattle.sql_groups.specs.declared.items.GroupItem.{GroupItem}

@@ -11,9 +11,9 @@ use Rattle.sql_tree.specs.declared.parts.Column.{Column}
 use Rattle.sql_from.specs.Groups.{keys_by, rows_with}
 use Rattle.sql_from.specs.Outcomes.{cell_or_null}
 use Rattle.sql_from.specs.Values.{place_in}
-use Rattle.sql_from.specs.Placed.{placed_value}
-use Rattle.sql_from.specs.View.{placed_of}
-use Rattle.sql_from.specs.resolved.Resolved.{Resolved}
+use Rattle.sql_eval.specs.Placed.{placed_value}
+use Rattle.sql_eval.specs.View.{placed_of}
+use Rattle.sql_eval.specs.declared.resolved.Resolved.{Resolved}
 use Rattle.sql_from.specs.declared.tuple_rows.TupleRows.{TupleRows}
 use Rattle.sql_groups.specs.Kept.{rows_of, scope_of, tables_of}
 use Rattle.sql_groups.specs.declared.items.GroupItem.{GroupItem}

@@ -13,9 +13,9 @@ use Rattle.sql_tree.specs.declared.parts.Column.{Column}
 use Rattle.sql_from.specs.Scopes.{Scope, Tables}
 use Rattle.sql_from.specs.Selects.{Wanted}
 use Rattle.sql_from.specs.Values.{View, at_groups, value}
-use Rattle.sql_from.specs.Placed.{placed_value}
-use Rattle.sql_from.specs.View.{placed_of}
-use Rattle.sql_from.specs.resolved.Resolved.{Resolved}
+use Rattle.sql_eval.specs.Placed.{placed_value}
+use Rattle.sql_eval.specs.View.{placed_of}
+use Rattle.sql_eval.specs.declared.resolved.Resolved.{Resolved}
 use Rattle.sql_groups.specs.declared.items.GroupItem.{GroupItem}
 use Rattle.sql_groups.specs.declared.items.GroupSelect.{GroupSelect}
 

@@ -5,7 +5,8 @@ ghost use Rattle.sql_groups.specs.Grouped.{AreWithin, rows_at};
 ghost use Rattle.sql_groups.specs.Kept.{rows_of};
 
 use crate::totals::aggregate;
-use sql_from::{Cells, Existence, OuterRow, Resolved, TupleRows, has_partner};
+use sql_eval::{Cells, Existence, Resolved};
+use sql_from::{OuterRow, TupleRows, has_partner};
 use std::alloc::{AllocError, Global};
 use std::marker::Model;
 use vtl_cell::{AggKind, Cell, Profile};

@@ -7,7 +7,8 @@ ghost use Rattle.sql_from.specs.Outcomes.{cell_or_null};
 ghost use Rattle.sql_from.specs.Seen.{seen_of};
 ghost use Rattle.sql_groups.specs.Items.{fault_for, item_at, passes, row_for, tested};
 
-use sql_from::{Cells, Resolved, Seen, value_at};
+use sql_eval::{Cells, Resolved, value_at};
+use sql_from::Seen;
 use std::alloc::Global;
 use vtl_cell::{Cell, Kind, Profile};
 use vtl_rows::Table;

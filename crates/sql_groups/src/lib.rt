@@ -20,7 +20,5 @@ mod totals;
 
 pub use laws::items_are_lifted_to_columns;
 pub use select::push_grouped;
-pub use sql_from::{
-    Cells, ExecErr, Kinded, Level, Names, Plan, Resolved, Seen, Sources, TupleRows, or_null,
-    resolve, source_rows, source_tuples, value_at,
-};
+pub use sql_eval::Plan;
+pub use sql_from::{ExecErr, Seen, Sources, TupleRows, source_rows, source_tuples};

@@ -5,7 +5,7 @@ ghost use Rattle.sql_tree.specs.View.{expr_tree, item_tree, value_tree};
 ghost use Rattle.sql_groups.specs.Resolved.{AllStand, HasValueOf, HavingStands, IsResolved, StandsFor, group_sight};
 
 use crate::items::{GroupItem, GroupSelect};
-use sql_from::{Kinded, Level, Names, Resolved, resolve};
+use sql_eval::{Kinded, Level, Names, Resolved, resolve};
 use sql_tree::{Column, Item, ItemValue, Select, SqlExpr};
 use std::alloc::{AllocError, Global};
 use vtl_cell::{Cell, Kind, Profile};
@@ -26,7 +26,7 @@ fn resolved<N: Names>(
 }
 
 // The value of an item. A window stands in no grouped select.
-#[tactic(auto, using(sql_from::proofs::Views::views))]
+#[tactic(auto, using(sql_eval::proofs::Views::views))]
 fn resolved_value<N: Names>(
     alloc: Global,
     p: &Profile,

@@ -6,13 +6,14 @@ ghost use Rattle.vtl_cell.specs.declared.cell.Cell as cells;
 ghost use Rattle.vtl_agg.specs.Added.{HasRoom, IsAdded};
 ghost use Rattle.vtl_scalar.specs.Answers.{Answers};
 ghost use Rattle.sql_from.specs.Outcomes.{cell_or_null};
-ghost use Rattle.sql_from.specs.Placed.{aggregate_value, placed_value};
-ghost use Rattle.sql_from.specs.View.{placed_of};
+ghost use Rattle.sql_eval.specs.Placed.{aggregate_value, placed_value};
+ghost use Rattle.sql_eval.specs.View.{placed_of};
 ghost use Rattle.sql_from.specs.Seen.{seen_of};
 ghost use Rattle.sql_groups.specs.Grouped.{AreWithin, rows_at};
 ghost use Rattle.sql_groups.specs.Kept.{rows_of, tables_of};
 
-use sql_from::{Cells, Resolved, Seen, TupleRows, value_at};
+use sql_eval::{Cells, Resolved, value_at};
+use sql_from::{Seen, TupleRows};
 use std::alloc::Global;
 use vtl_agg::Acc;
 use vtl_cell::{AggKind, Cell, Profile};

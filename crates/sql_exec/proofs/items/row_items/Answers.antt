@@ -1,8 +1,8 @@
 use Rattle.std.proofs.Common.{◌<◌, length, get_or, ap, subst, arith}
 use Rattle.std.proofs.lemmas.List.{get_or_default}
 use Rattle.sql_tree.specs.View.{item_tree}
-use Rattle.sql_groups.specs.Resolves.{sight}
-use Rattle.sql_groups.specs.names.Level.TheVariants as levels
+use Rattle.sql_eval.specs.Resolves.{sight}
+use Rattle.sql_eval.specs.declared.names.Level.TheVariants as levels
 use Rattle.sql_exec.specs.Items.{HaveValuesOf}
 use Rattle.sql_exec.proofs.RowItems.{items_more, plain_at}
 use Rattle.sql_exec.proofs.Steps.{zipped_all}

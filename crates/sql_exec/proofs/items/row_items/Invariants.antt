@@ -1,8 +1,8 @@
 use Rattle.std.proofs.Common.{map, take}
 use Rattle.std.specs.Prelude.{zip}
 use Rattle.sql_tree.specs.View.{item_tree}
-use Rattle.sql_groups.specs.Resolves.{sight}
-use Rattle.sql_groups.specs.names.Level.TheVariants as levels
+use Rattle.sql_eval.specs.Resolves.{sight}
+use Rattle.sql_eval.specs.declared.names.Level.TheVariants as levels
 use Rattle.sql_exec.specs.Items.{HaveValuesOf}
 use Rattle.sql_exec.proofs.items.row_items.Given as goal
 

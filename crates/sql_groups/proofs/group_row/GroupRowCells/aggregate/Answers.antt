@@ -1,7 +1,7 @@
 use Rattle.std.proofs.Common.{subst}
 use Rattle.vtl_scalar.specs.Answers.{Answers}
-use Rattle.sql_from.specs.Placed.{aggregate_value}
-use Rattle.sql_from.specs.View.{placed_of}
+use Rattle.sql_eval.specs.Placed.{aggregate_value}
+use Rattle.sql_eval.specs.View.{placed_of}
 use Rattle.sql_from.specs.Held.{rows_held}
 use Rattle.sql_groups.specs.Grouped.{Group}
 use Rattle.sql_groups.proofs.group_row.GroupRowCells.aggregate.Goals as goal
