@@ -1,3 +1,4 @@
+pub use Rattle.sql_meaning.proofs.TypedStatements
 pub use Rattle.vtl_backend.proofs.Agreements
 pub use Rattle.vtl_backend.proofs.Clauses
 pub use Rattle.vtl_backend.proofs.Columns
@@ -12,6 +13,7 @@ pub use Rattle.vtl_backend.proofs.JoinParts
 pub use Rattle.vtl_backend.proofs.Kept
 pub use Rattle.vtl_backend.proofs.KnownLemmas
 pub use Rattle.vtl_backend.proofs.Left
+pub use Rattle.vtl_backend.proofs.LeftLemmas
 pub use Rattle.vtl_backend.proofs.Lists
 pub use Rattle.vtl_backend.proofs.Literals
 pub use Rattle.vtl_backend.proofs.LookUps
@@ -31,7 +33,6 @@ pub use Rattle.vtl_backend.proofs.Steps
 pub use Rattle.vtl_backend.proofs.Tests
 pub use Rattle.vtl_backend.proofs.TurnedKept
 pub use Rattle.vtl_backend.proofs.TurnedOrders
-pub use Rattle.sql_meaning.proofs.TypedStatements
 pub mod WrittenNumbers
 pub mod WrittenConstants
 pub mod FormedConstants
