@@ -6,7 +6,7 @@ use vtl_csv::read_structures;
 use vtl_decimal::Profile;
 use vtl_files::{Files, read_all};
 use vtl_parser::parse;
-use vtl_to_sql::{check, defines_rulesets, is_translated, translate};
+use vtl_to_sql::{check, defines_rulesets, is_built, translate};
 
 // The most bytes of a file.
 const LIMIT: usize = 16_777_216;
@@ -42,7 +42,7 @@ pub(crate) fn in_sql(
     let Ok(checked) = check(alloc, &script, &structures, profile) else {
         return Err(Trouble::Refused);
     };
-    if !is_translated(&checked) {
+    if !is_built(&checked) {
         return Err(Trouble::Untranslated);
     }
     let translated = translate(alloc, &checked)?;

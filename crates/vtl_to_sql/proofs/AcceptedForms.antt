@@ -1,9 +1,10 @@
 -- What is evaluated so far is translated, and nothing else.
-use Rattle.std.proofs.Common.{◌≡◌, Bool, ◌&&◌, refl, ap, ◌∙◌}
+use Rattle.std.proofs.Common.{◌≡◌, Bool, ◌&&◌, List, [], ◌∷◌, refl, ap, ◌∙◌}
+use Rattle.std.specs.List.{list_all}
 use Rattle.rules_to_sql.specs.Meaning.{are_nodes_built, are_operands_built, is_built, is_built_form}
 use Rattle.rules_to_sql.specs.Trees as nodes
 use Rattle.rules_to_sql.specs.Trees.{FormTree, NodeTree, NodeTrees, OperandTrees}
-use Rattle.vtl_to_sql.specs.Accepted.{are_nodes_translated, are_operands_translated, is_form_translated, is_translated}
+use Rattle.vtl_to_sql.specs.Accepted.{are_nodes_translated, are_operands_translated, are_translated, is_form_translated, is_translated}
 
 both : (a b c d : Bool) → a ≡ c → b ≡ d → (a && b) ≡ (c && d)
 both a b c d e f = ap (λ x. x && b) e ∙ ap (λ x. c && x) f
@@ -40,3 +41,7 @@ mutual
   operands_evaluated : (os : OperandTrees) → are_operands_translated os ≡ are_operands_built os
   operands_evaluated nodes.no_operands = refl
   operands_evaluated (nodes.operand n alias os) = both (is_translated n) (are_operands_translated os) (is_built n) (are_operands_built os) (evaluated n) (operands_evaluated os)
+
+pub script_evaluated : (ns : List NodeTree) → are_translated ns ≡ list_all is_built ns
+script_evaluated [] = refl
+script_evaluated (n ∷ ns) = both (is_translated n) (are_translated ns) (is_built n) (list_all is_built ns) (evaluated n) (script_evaluated ns)

@@ -1,7 +1,6 @@
 -- Operands one after the other: what is left of them gives, behind the tables so far, what all of them give.
 use Rattle.std.proofs.Common.{◌≡◌, ℕ, ◌+◌, ◌-◌, ◌<◌, ◌≤◌, length, take, drop, get_or, arith, ◌&&◌, true, false, Option, None, Some, subst, List, [], ◌∷◌, ◌++◌, map, append_assoc, append-nil, refl, rules, sym, ap, ◌∙◌}
 use Rattle.std.specs.Prelude.{Vec}
-use Rattle.std.specs.List.{list_all}
 use Rattle.std.specs.declared.alloc.Global.{Global}
 use Rattle.std.proofs.lemmas.Bool.{and_parts}
 use Rattle.std.proofs.lemmas.List.{drop_all, drop_more, length-drop, map-append, take_all, take_more}
@@ -20,19 +19,19 @@ use Rattle.vtl_to_sql.specs.Combined.{combined_made, combined_query, rest_made}
 use Rattle.vtl_to_sql.specs.Queries.{is_matched, left_query, matched_select, shown_query, shown_select}
 use Rattle.vtl_to_sql.specs.Scripts.{create_for}
 use Rattle.vtl_to_sql.specs.Tables.{Made, Sources, Table, and_then, by_name, made_of_form, numbered, over, sources_of, stored, table_of, with_one, with_two}
-use Rattle.vtl_to_sql.specs.Translated.{has_query, have_queries}
+use Rattle.vtl_to_sql.specs.Accepted.{are_nodes_translated, is_translated}
 use Rattle.vtl_to_sql.specs.declared.set_operators.SetOperator.{SetOperator}
 use Rattle.vtl_to_sql.specs.declared.set_operators.SetOperator.TheVariants as operator
 use Rattle.vtl_to_sql.proofs.Forms.{shown_written}
 
 -- ---- tables before others stay before them
 
-record IsBehind (T : List Table) (m less : Made) : Type 0 where
-  query : m.query ≡ less.query
-  next : m.next ≡ less.next
-  tables : m.tables ≡ T ++ less.tables
+pub record IsBehind (T : List Table) (m less : Made) : Type 0 where
+  pub query : m.query ≡ less.query
+  pub next : m.next ≡ less.next
+  pub tables : m.tables ≡ T ++ less.tables
 
-abbrev given : List Text → List Table → ℕ → Sources
+abbrev pub given : List Text → List Table → ℕ → Sources
 given names T n = record { names = names; tables = T; next = n }
 
 behind : (o : SetOperator) (p : Settings) (r : Text) (s : Structure) (ns : List NodeTree) (a : Structure) (names : List Text) (T : List Table) (n : ℕ)
@@ -141,12 +140,6 @@ of_result : (o : SetOperator) (p : Settings) (r : Text) (s : Structure) (ns : Li
     → GivesAll whole old done (rest_made o p r s ns a os) → GivesAll whole old done (rest_made o p r s ns s os)
 of_result o p r s ns a os whole old done gives = subst (λ (m : Made). GivesAll whole old done m) (same_rest o p r s ns a s os) gives
 
--- ---- nodes
-
-pub all_queries : (ns : List NodeTree) → have_queries (nodes_of ns) ≡ list_all has_query ns
-all_queries [] = refl
-all_queries (n ∷ ns) = ap (λ x. has_query n && x) (all_queries ns)
-
 -- ---- `union` and `intersect`
 
 union_made : (p : Settings) (r : Text) (s : Structure) (ns : List NodeTree) (n : ℕ) → made_of_form p r s (nodes.union (nodes_of ns)) n ≡ combined_made operator.Union p r s ns n
@@ -215,8 +208,8 @@ begun o p r s all left a x n m old new parts names made next =
     subst (λ (k : List NodeTree). GivesAll (combined_made o p r s k n) old new (rest_made o p r s left s (by_name x m))) (sym parts)
     (of_result o p r s left (structure_of a) (by_name x m) whole old new (first_made o p r s a left x n m old new names made next))
 
-pub left_ready : (all left : List NodeTree) (a : NodeTree) → all ≡ a ∷ left → have_queries (nodes_of all) ≡ true → have_queries (nodes_of left) ≡ true
-left_ready all left a parts h = (and_parts (has_query a) (have_queries (nodes_of left)) (subst (λ (k : List NodeTree). have_queries (nodes_of k) ≡ true) parts h)).1
+pub left_ready : (all left : List NodeTree) (a : NodeTree) → all ≡ a ∷ left → are_nodes_translated (nodes_of all) ≡ true → are_nodes_translated (nodes_of left) ≡ true
+left_ready all left a parts h = (and_parts (is_translated a) (are_nodes_translated (nodes_of left)) (subst (λ (k : List NodeTree). are_nodes_translated (nodes_of k) ≡ true) parts h)).1
 
 pub one_more : (l : List Node) (i : ℕ) (b : Node) (z : NodeTree) → i < length l → b ≡ get_or l i b → map node_tree (drop i l) ++ z ∷ [] ≡ node_tree b ∷ (map node_tree (drop (i + 1) l) ++ z ∷ [])
 one_more l i b z h is = ap (λ (k : List Node). map node_tree k ++ z ∷ []) (drop_more l i b h ∙ ap (λ (y : Node). y ∷ drop (i + 1) l) (sym is))

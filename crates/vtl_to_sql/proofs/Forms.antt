@@ -17,7 +17,7 @@ use Rattle.vtl_to_sql.specs.Items.{all_of, calculated_item, first_column, for_ea
 use Rattle.vtl_to_sql.specs.Queries.{calc_query, conjunction, filter_query, has_value, item_as, left_query, measures_query, of_one, rename_query, shown_select, sub_query}
 
 -- columns go by their names
-columns_renamed : (p : Settings) (xs ys zs : List Component) → items_for p of_one (columns_named xs ys) zs ≡ for_each_two renamed_item ys zs
+pub columns_renamed : (p : Settings) (xs ys zs : List Component) → items_for p of_one (columns_named xs ys) zs ≡ for_each_two renamed_item ys zs
 columns_renamed p xs [] zs = refl
 columns_renamed p xs (y ∷ ys) [] = refl
 columns_renamed p xs (y ∷ ys) (z ∷ zs) = ap (λ l. renamed_item y z ∷ l) (columns_renamed p xs ys zs)

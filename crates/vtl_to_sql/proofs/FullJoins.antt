@@ -1,6 +1,6 @@
 -- A full join: a left join of each operand with the table of identifiers.
-use Rattle.std.proofs.Common.{◌≡◌, Bool, ◌<◌, ◌+◌, ◌^◌, ℕ, true, List, [], ◌∷◌, ◌++◌, length, map, Option, Some, Ok, refl, ap, sym, ◌∙◌, subst, arith, append-nil}
-use Rattle.std.specs.List.{AllByRecursion, find, flat_map}
+use Rattle.std.proofs.Common.{◌≡◌, Bool, ◌<◌, ◌+◌, ◌^◌, ℕ, suc, true, List, [], ◌∷◌, ◌++◌, length, map, Option, None, Some, Ok, refl, ap, sym, ◌∙◌, subst, arith, append-nil}
+use Rattle.std.specs.List.{AllByRecursion, filter, find, flat_map}
 use Rattle.std.specs.Option.{option_to_list}
 use Rattle.std.proofs.lemmas.List.{length-map}
 use Rattle.std.proofs.lemmas.List.Concat.{flat_map_single}
@@ -18,22 +18,25 @@ use Rattle.vtl_tree.specs.declared.structure.Component.{Component}
 use Rattle.vtl_tree.specs.declared.structure.Structure.{Structure}
 use Rattle.vtl_tuples.specs.Keys.{item_at}
 use Rattle.vtl_tuples.proofs.Lists.{filter_each, flat_map_same, map-flat_map, map-map, map_each, map_same}
-use Rattle.rules_to_sql.specs.Agreement.{values_in}
+use Rattle.rules_to_sql.specs.Agreement.{common_identifiers, has_identifier, values_in}
 use Rattle.rules_to_sql.specs.Columns.{identifiers_of, measures_of, places_in}
 use Rattle.rules_to_sql.specs.Joined.{Tuple, part_of, structures_of, tuple_at, tuple_point}
 use Rattle.rules_to_sql.specs.Made.{AreAmong, AreFor, HasIdentifiers, attributes_of, component_kinds, kinds_of_all}
 use Rattle.rules_to_sql.specs.Points.{each_point, point_of, with_points}
-use Rattle.rules_to_sql.proofs.JoinAgreements.{covers, key_only}
+use Rattle.rules_to_sql.proofs.JoinAgreements.{covers, key_only, own_names}
 use Rattle.rules_to_sql.proofs.JoinParts.{AreSets, found_is}
 use Rattle.rules_to_sql.proofs.LookUps.{named_cells}
 use Rattle.rules_to_sql.proofs.OwnColumns.{own_identifiers}
 use Rattle.rules_to_sql.proofs.Places.{all_map, all_more, all_of_map, are_identifiers, identifiers_apart, point_length}
-use Rattle.sql_tree.specs.Trees.{Text}
+use Rattle.sql_tree.specs.Trees.{JoinTree, QueryTree, Text, on}
+use Rattle.sql_tree.specs.declared.word_groups.JoinKind.{JoinKind}
 use Rattle.sql_tree.specs.declared.word_groups.JoinKind.TheVariants as joining
 use Rattle.rules_to_sql.specs.Scripts.{Data}
+use Rattle.rules_to_sql.specs.ToSql.{Naming, to_sql}
 use Rattle.vtl_to_sql.specs.Conditions.{HaveNames}
 use Rattle.vtl_to_sql.specs.FullJoins.{full_query, key_structure}
-use Rattle.vtl_to_sql.specs.Joins.{Placed, joined_exps, placed_at, placed_from, width_of}
+use Rattle.vtl_to_sql.specs.Joins.{Placed, alias_of, all_tied as ties_of, chain_select, joined_exps, joins_on, many_at, placed_at, placed_from, tied_to, width_of}
+use Rattle.vtl_to_sql.specs.Queries.{conjunction, select_of, source_as}
 use Rattle.vtl_to_sql.proofs.Chains.{AllTied, IsTied, agrees, extended_by, found}
 use Rattle.vtl_to_sql.proofs.ChainSelects.{chain_exactly, chain_rows}
 use Rattle.vtl_to_sql.proofs.Exact.{IsExactly, exactly_same}
@@ -43,13 +46,44 @@ use Rattle.vtl_to_sql.proofs.HeldOperands.{AreHeld, IsHeld}
 use Rattle.vtl_to_sql.proofs.Identifiers.{few_identifiers, identifiers_there}
 use Rattle.vtl_to_sql.proofs.JoinedColumns.{AllShown, ArePlaced, AreWell, each_plain, first_placed, joined_plain, placed_all, plain_written}
 use Rattle.vtl_to_sql.proofs.JoinedRows.{IsFound, first_shown, founds, from_structures, joined_for, joined_values, left_extended, parts_found, shown_from, with_parts}
-use Rattle.vtl_to_sql.proofs.KeyColumns.{key_columns, key_identifiers, key_is_structure, keyed, keyed_cells}
+use Rattle.vtl_to_sql.proofs.KeyColumns.{keep_all, key_columns, key_identifiers, key_is_structure, keyed, keyed_cells}
 use Rattle.vtl_to_sql.proofs.Loose.{all_loose}
 use Rattle.vtl_to_sql.proofs.OneOperand.{same_functions}
 
 -- the operands have the same identifiers
 abbrev pub HaveSame : List Component → List Structure → Type 0
 HaveSame ids ss = AllByRecursion (λ b. AreAmong (identifiers_of b) ids × AreAmong ids (identifiers_of b)) ss
+
+-- ---- so each is tied by all of them
+
+abbrev tied_query : Settings → Structure → List Structure → Structure → List Text → Text → QueryTree
+tied_query p r ss s xs x =
+    let t = key_structure r in
+    chain_select p joining.Left (columns_of t) (λ a. identifiers_of r) ss (joined_exps (placed_at 0 t ∷ []) (placed_from (width_of t) ss)) s x xs ∷ []
+
+has_all : (r a : Structure) → AreAmong (identifiers_of r) (identifiers_of a) → common_identifiers a (key_structure r) ≡ identifiers_of r
+has_all r a back =
+    let ids = identifiers_of r in
+    ap (filter (λ i. has_identifier a i.name)) (key_identifiers ids (are_identifiers r))
+    ∙ keep_all (λ i. has_identifier a i.name) ids (all_more (λ i. has_identifier r i.name ≡ true) (λ i. has_identifier a i.name ≡ true) (λ i h. covers a r back i.name h) ids (own_names r))
+
+same_joins : (p : Settings) (kind : JoinKind) (at : Naming) (first : List Component) (f g : Structure → List Component) (i n : ℕ) (ss : List Structure) (xs : List Text) → AllByRecursion (λ a. f a ≡ g a) ss
+    → joins_on p kind at first f i (placed_from n ss) xs ≡ joins_on p kind at first g i (placed_from n ss) xs
+same_joins p kind at first f g i n [] xs all = refl
+same_joins p kind at first f g i n (a ∷ ss) [] all = refl
+same_joins p kind at first f g i n (a ∷ ss) (x ∷ xs) all =
+    ap (λ ys. on kind (source_as (alias_of i) x) (to_sql p at (conjunction (map (tied_to first (placed_at n a)) ys))) ∷ joins_on p kind at first f (suc i) (placed_from (n + width_of a) ss) xs) all.0
+    ∙ ap (λ l. on kind (source_as (alias_of i) x) (to_sql p at (ties_of first g (placed_at n a))) ∷ l) (same_joins p kind at first f g (suc i) (n + width_of a) ss xs all.1)
+
+all_tied_by : (p : Settings) (r : Structure) (ss : List Structure) (s : Structure) (xs : List Text) (x : Text) → HaveSame (identifiers_of r) ss → full_query p r ss s xs x ≡ tied_query p r ss s xs x
+all_tied_by p r ss s xs x among =
+    let t = key_structure r in
+    let at = many_at (columns_of t) ss in
+    let es = joined_exps (placed_at 0 t ∷ []) (placed_from (width_of t) ss) in
+    let ids = identifiers_of r in
+    ap (λ (joins : List JoinTree). select_of p at es s (source_as (alias_of 0) x) joins None ∷ [])
+    (same_joins p joining.Left at (columns_of t) (λ a. common_identifiers a t) (λ a. ids) 1 (width_of t) ss xs
+    (all_more (λ a. AreAmong (identifiers_of a) ids × AreAmong ids (identifiers_of a)) (λ a. common_identifiers a t ≡ ids) (λ a h. has_all r a h.1) ss among))
 
 module _ (p : Settings) (law : Translates p) (before : Data) (r : Structure) (w : IsStructure r) (keys : List Row) (x : Text) (here : IsHeld before x (with_points (key_structure r) keys)) (key_given : AreGiven (columns_of (key_structure r))) (typed : AllByRecursion (λ q. is_point (columns_of (key_structure r)) q ≡ true) keys) (ds : List DataSet) (xs : List Text) (s : Structure) (held : AreHeld before xs ds) (sets : AreSets ds) (named : AllByRecursion (λ d. HaveNames (columns_of d.structure)) ds) (few : 1 + length ds < 2 ^ 64) (given : AreGiven (columns_of s)) (i : HasIdentifiers s (identifiers_of r)) (among : HaveSame (identifiers_of r) (structures_of ds)) (measures : component_kinds (measures_of s) ≡ kinds_of_all measures_of (structures_of ds)) (attributes : component_kinds (attributes_of s) ≡ kinds_of_all attributes_of (structures_of ds)) where
   abbrev t : Structure
@@ -147,9 +181,9 @@ module _ (p : Settings) (law : Translates p) (before : Data) (r : Structure) (w 
   abbrev rows : List Row
   rows = chain_rows p law before (with_points t keys) well key_given.named typed x here f joining.Left tt ds xs few_sources held
 
-  given_rows : IsExactly p before (full_query p r ss s xs x) s (Ok (map (point_of p es) rows))
+  given_rows : IsExactly p before (tied_query p r ss s xs x) s (Ok (map (point_of p es) rows))
   given_rows =
-      exactly_same p before (full_query p r ss s xs x) s (each_point p es rows) (Ok (map (point_of p es) rows)) (each_plain p es rows (joined_plain p lead all))
+      exactly_same p before (tied_query p r ss s xs x) s (each_point p es rows) (Ok (map (point_of p es) rows)) (each_plain p es rows (joined_plain p lead all))
       (chain_exactly p law before (with_points t keys) well key_given.named typed x here f joining.Left tt ds xs few_sources held (all_tied ds sets named among) es s made (plain_written p es (joined_plain p lead all)) given)
 
   -- ---- its rows
@@ -180,12 +214,13 @@ module _ (p : Settings) (law : Translates p) (before : Data) (r : Structure) (w 
 
   pub full_exactly : IsExactly p before (full_query p r ss s xs x) s (Ok (map (λ q. tuple_point (tuple q)) keys))
   full_exactly =
-      exactly_same p before (full_query p r ss s xs x) s (Ok (map (point_of p es) rows)) (Ok (map (λ q. tuple_point (tuple q)) keys))
+      subst (λ q. IsExactly p before q s (Ok (map (λ q. tuple_point (tuple q)) keys))) (sym (all_tied_by p r ss s xs x among))
+      (exactly_same p before (tied_query p r ss s xs x) s (Ok (map (point_of p es) rows)) (Ok (map (λ q. tuple_point (tuple q)) keys))
       (ap Ok
       (map-flat_map (point_of p es) (λ q. extended_by joining.Left (founds (found_at q) ds) q) keys
       ∙ flat_map_same given_by (λ q. tuple_point (tuple q) ∷ []) keys (all_more (λ q. is_point first q ≡ true) (λ q. given_by q ≡ tuple_point (tuple q) ∷ []) one_row keys typed)
       ∙ flat_map_single (λ q. tuple_point (tuple q)) keys))
-      given_rows
+      given_rows)
 
   -- the rows of the table are these tuples in any order
   pub full_turned : (ks : List Row) → AllByRecursion (λ k. is_point ids k ≡ true) ks → Perm keys (map (keyed ids) ks) → Perm (map (λ q. tuple_point (tuple q)) keys) (map (λ k. tuple_point (tuple_at ids ds k)) ks)

@@ -56,7 +56,7 @@ keys_respect ids (d ∷ ds) (e ∷ es) same =
 
 -- ---- the last name
 
-last_is : (q : List Text → Text → QueryTree) (xs : List Text) (y : Text) → with_last q (xs ++ y ∷ []) ≡ q xs y
+pub last_is : (q : List Text → Text → QueryTree) (xs : List Text) (y : Text) → with_last q (xs ++ y ∷ []) ≡ q xs y
 last_is q [] y = refl
 last_is q (x ∷ []) y = refl
 last_is q (x ∷ z ∷ xs) y = last_is (λ zs u. q (x ∷ zs) u) (z ∷ xs) y

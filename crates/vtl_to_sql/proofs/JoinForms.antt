@@ -1,5 +1,5 @@
 -- The queries of joins, as they are written.
-use Rattle.std.proofs.Common.{◌≡◌, ℕ, zero, suc, ◌+◌, ◌<◌, Bool, true, false, cond, not, nat_lt, ◌||◌, List, [], ◌∷◌, ◌++◌, length, map, Option, None, Some, if◌then◌else◌, refl, sym, ap, ◌∙◌, subst, arith, append_assoc, append-nil}
+use Rattle.std.proofs.Common.{◌≡◌, ℕ, zero, suc, ◌+◌, ◌<◌, ◌≤◌, Bool, true, false, cond, not, nat_lt, ◌||◌, List, [], ◌∷◌, ◌++◌, length, map, Option, None, Some, if◌then◌else◌, refl, sym, ap, ◌∙◌, subst, arith, append_assoc, append-nil}
 use Rattle.std.specs.Prelude.{slice_get}
 use Rattle.std.specs.List.{AllByRecursion, filter, flat_map}
 use Rattle.std.proofs.lemmas.Bool.{le-ltb, lt-ltb}
@@ -19,9 +19,11 @@ use Rattle.rules_to_sql.proofs.Places.{same_name-refl}
 use Rattle.sql_tree.specs.Trees as tree
 use Rattle.sql_tree.specs.Trees.{Exp, JoinTree, QueryTree, Text}
 use Rattle.sql_tree.specs.declared.word_groups.JoinKind.{JoinKind}
+use Rattle.sql_tree.specs.declared.word_groups.JoinKind.TheVariants as joining
 use Rattle.rules_to_sql.specs.ToSql.{Naming, column_of, to_sql}
+use Rattle.vtl_to_sql.specs.FullJoins.{full_query, key_structure}
 use Rattle.vtl_to_sql.specs.Items.{all_of}
-use Rattle.vtl_to_sql.specs.JoinItems.{Aliased, aliased, aliased_around, column_from, columns_from, columns_from_all, crossed_query, crossed_with, joined_query, joined_values, joined_with, number_around, referred_query, tied_with}
+use Rattle.vtl_to_sql.specs.JoinItems.{Aliased, aliased, aliased_around, column_from, columns_from, columns_from_all, crossed_query, crossed_with, joined_on, joined_query, joined_values, joined_with, keyed_query, number_around, referred_query, tied_with}
 use Rattle.vtl_to_sql.specs.Joins.{Placed, alias_of, all_tied, columns_at, columns_in, cross_query, crosses, from_reference, joined_exps, joins_on, of_many, placed_around, placed_at, placed_from, reference_query, tied_to, width_of, without}
 use Rattle.vtl_to_sql.specs.Queries.{conjunction, items_as, select_as, source_as}
 use Rattle.vtl_to_sql.proofs.ManySources.{of_first, of_later}
@@ -232,14 +234,14 @@ module _ (p : Settings) (at : Naming) where
       ap (λ e. tree.binary e op.And (to_sql p at (conjunction (map (tied_to (columns_of r) o) (w ∷ zs))))) (one_tied r o q f s z own.0 first.0)
       ∙ ap (λ e. tree.binary (tied_with (alias_of 0) q.alias z) op.And e) (tied_all r o q f s (w ∷ zs) own.1 first.1)
 
-  joins_written : (kind : JoinKind) (r : Structure) (x : Text) → IsFirst r → (n i : ℕ) (ss : List Structure) (xs : List Text) → AreFrom n i ss
-      → joins_on p kind at (columns_of r) (common_identifiers r) i (placed_from n ss) xs ≡ map (joined_with kind (aliased 0 r x)) (in_line i ss xs)
-  joins_written kind r x f n i [] xs h = refl
-  joins_written kind r x f n i (a ∷ ss) [] h = refl
-  joins_written kind r x f n i (a ∷ ss) (y ∷ ys) h =
-      let rest = joins_on p kind at (columns_of r) (common_identifiers r) (suc i) (placed_from (n + width_of a) ss) ys in
-      ap (λ e. tree.on kind (source_as (alias_of i) y) e ∷ rest) (tied_all r (placed_at n a) (aliased i a y) f (sits n i a y ss h) (common_identifiers r a) (own_common r a) (theirs r (identifiers_of a)))
-      ∙ ap (λ l. joined_with kind (aliased 0 r x) (aliased i a y) ∷ l) (joins_written kind r x f (n + width_of a) (suc i) ss ys (from_next n i a ss h))
+  joins_written : (kind : JoinKind) (r : Structure) → IsFirst r → (f : Structure → List Component) → IsOwn f → ((a : Structure) → AllByRecursion (IsWithin (columns_of r)) (f a)) → (n i : ℕ) (ss : List Structure) (xs : List Text) → AreFrom n i ss
+      → joins_on p kind at (columns_of r) f i (placed_from n ss) xs ≡ map (λ (o : Aliased). joined_on kind (alias_of 0) (f o.structure) o) (in_line i ss xs)
+  joins_written kind r first f own there n i [] xs h = refl
+  joins_written kind r first f own there n i (a ∷ ss) [] h = refl
+  joins_written kind r first f own there n i (a ∷ ss) (y ∷ ys) h =
+      let rest = joins_on p kind at (columns_of r) f (suc i) (placed_from (n + width_of a) ss) ys in
+      ap (λ e. tree.on kind (source_as (alias_of i) y) e ∷ rest) (tied_all r (placed_at n a) (aliased i a y) first (sits n i a y ss h) (f a) (own a) (there a))
+      ∙ ap (λ l. joined_on kind (alias_of 0) (f a) (aliased i a y) ∷ l) (joins_written kind r first f own there (n + width_of a) (suc i) ss ys (from_next n i a ss h))
 
 -- ---- queries
 
@@ -257,7 +259,7 @@ from_written p kind i ss s xs e r x g =
     let left : without i os ≡ in_line 1 (without i ss) (without i xs) = subst (λ m. without i (aliased_around m 0 ss xs) ≡ in_line 1 (without i ss) (without i xs)) same (others i 0 ss xs e) in
     let values = values_written p at (placed_at 0 r ∷ []) (placed_around i (width_of r) ss) (aliased 0 r x ∷ []) os lead all ∙ ap (λ l. joined_values l os) (append-nil (columns_from identifiers_of (aliased 0 r x))) in
     ap (λ l. joined_query l s (aliased 0 r x) joins) values
-    ∙ ap (joined_query (joined_values (columns_from identifiers_of (aliased 0 r x)) os) s (aliased 0 r x)) (joins_written p at kind r x first (width_of r) 1 (without i ss) (without i xs) rest ∙ ap (map (joined_with kind (aliased 0 r x))) (sym left))
+    ∙ ap (joined_query (joined_values (columns_from identifiers_of (aliased 0 r x)) os) s (aliased 0 r x)) (joins_written p at kind r first (common_identifiers r) (own_common r) (λ a. theirs r (identifiers_of a)) (width_of r) 1 (without i ss) (without i xs) rest ∙ ap (map (joined_with kind (aliased 0 r x))) (sym left))
 
 pub reference_written : (p : Settings) (kind : JoinKind) (i : ℕ) (ss : List Structure) (s : Structure) (xs : List Text) → length xs ≡ length ss
     → reference_query p kind i ss s xs ≡ referred_query kind i (aliased_around i 0 ss xs) s (slice_get (aliased_around i 0 ss xs) i)
@@ -288,3 +290,32 @@ cross_written p (a ∷ ss) s (x ∷ xs) e =
     ap (λ l. joined_query l s (aliased 0 a x) (crosses 1 xs)) (values_written p at (placed_from 0 (a ∷ ss)) (placed_from 0 (a ∷ ss)) os os all all)
     ∙ ap (joined_query (joined_values (columns_from_all identifiers_of os) os) s (aliased 0 a x)) (crosses_written 1 ss xs (omega (arith, e)))
     ∙ ap (λ l. crossed_query (aliased 0 a x ∷ l) s) (sym (behind 0 1 ss xs (omega arith)))
+
+-- ---- a table of identifiers
+
+-- where none stands before all others
+all_behind : (place i : ℕ) (ss : List Structure) (xs : List Text) → i + length ss ≤ place → aliased_around place i ss xs ≡ in_line (suc i) ss xs
+all_behind place i [] xs h = refl
+all_behind place i (a ∷ ss) [] h = refl
+all_behind place i (a ∷ ss) (x ∷ xs) h =
+    ap (λ n. aliased n a x ∷ aliased_around place (suc i) ss xs) (number_before place i (omega (arith, h))) ∙ ap (λ l. aliased (suc i) a x ∷ l) (all_behind place (suc i) ss xs (omega (arith, h)))
+
+own_keys : (t a : Structure) → AllByRecursion (IsWithin (columns_of t)) (common_identifiers a t)
+own_keys t a = all_left (IsWithin (columns_of t)) (λ i. has_identifier a i.name) (identifiers_of t) (own_identifiers t)
+
+pub full_written : (p : Settings) (r : Structure) (ss : List Structure) (s : Structure) (xs : List Text) (x : Text) → length xs ≡ length ss
+    → full_query p r ss s xs x ≡ keyed_query (aliased 0 (key_structure r) x) (aliased_around (length ss) 0 ss xs) s
+full_written p r ss s xs x e =
+    let t = key_structure r in
+    let k = aliased 0 t x in
+    let at = of_many 0 (width_of t ∷ map width_of ss) in
+    let os = in_line 1 ss xs in
+    let first : IsFirst p at t = λ k name h. of_first 0 (width_of t) k (map width_of ss) name h in
+    let rest : AreFrom p at (width_of t) 1 ss = λ k name. of_later 0 (width_of t) k (map width_of ss) name in
+    let lead : AllSit p at (placed_at 0 t ∷ []) (k ∷ []) = (first_sits p at t x first, tt) in
+    let all : AllSit p at (placed_from (width_of t) ss) os = all_sit p at (width_of t) 1 ss xs e rest in
+    let joins = joins_on p joining.Left at (columns_of t) (λ a. common_identifiers a t) 1 (placed_from (width_of t) ss) xs in
+    let values = values_written p at (placed_at 0 t ∷ []) (placed_from (width_of t) ss) (k ∷ []) os lead all ∙ ap (λ l. joined_values l os) (append-nil (columns_from identifiers_of k)) in
+    ap (λ l. joined_query l s k joins) values
+    ∙ ap (joined_query (joined_values (columns_from identifiers_of k) os) s k) (joins_written p at joining.Left t first (λ a. common_identifiers a t) (λ a. theirs a (identifiers_of t)) (own_keys t) (width_of t) 1 ss xs rest)
+    ∙ ap (λ l. keyed_query k l s) (sym (all_behind (length ss) 0 ss xs (omega arith)))

@@ -27,7 +27,7 @@ use lib.Utf8.{encode}
 
 -- ---- identifiers alone
 
-keep_all : (t : Component → Bool) (xs : List Component) → AllByRecursion (λ x. t x ≡ true) xs → filter t xs ≡ xs
+pub keep_all : (t : Component → Bool) (xs : List Component) → AllByRecursion (λ x. t x ≡ true) xs → filter t xs ≡ xs
 keep_all t [] all = refl
 keep_all t (x ∷ xs) all = ap (λ b. cond b (x ∷ filter t xs) (filter t xs)) all.0 ∙ ap (λ l. x ∷ l) (keep_all t xs all.1)
 

@@ -42,7 +42,6 @@ pub mod Unpivots
 pub mod GroupItems
 pub mod Coded
 pub mod Pivots
-pub mod CodedTexts
 pub mod Nodes
 pub mod Statements
 pub mod WholeScript
@@ -78,8 +77,9 @@ pub mod References
 pub mod JoinForms
 pub mod NamedItems
 pub mod TurnedForms
+pub mod KeyForms
 pub mod ExistenceForms
 pub mod HeldConstants
-pub mod WrittenForms
 pub mod Examples
 pub mod Combining
+pub mod JoinTables

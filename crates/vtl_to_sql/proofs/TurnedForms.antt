@@ -30,7 +30,7 @@ unpivot_written p a s table = each_measure p a s table (measures_of a)
 
 -- ---- `pivot`
 
-group_written : (xs : List Component) → group_columns first_alias (names_of xs) ≡ group_of xs
+pub group_written : (xs : List Component) → group_columns first_alias (names_of xs) ≡ group_of xs
 group_written [] = refl
 group_written (x ∷ xs) = ap (λ l. column_of first_alias x.name ∷ l) (group_written xs)
 

@@ -8,6 +8,7 @@ use Rattle.vtl_tree.specs.Structure.{columns_of, names_of}
 use Rattle.vtl_tree.specs.declared.structure.Component.{Component}
 use Rattle.vtl_tree.specs.declared.structure.Role.TheVariants as role
 use Rattle.vtl_tree.specs.declared.structure.Structure.{Structure}
+use Rattle.rules_to_sql.specs.Agreement.{common_identifiers}
 use Rattle.rules_to_sql.specs.Columns.{columns_named, identifiers_of}
 use Rattle.sql_tree.specs.Trees.{QueryTree, SelectTree, Text}
 use Rattle.sql_tree.specs.declared.word_groups.JoinKind.TheVariants as joining
@@ -49,7 +50,8 @@ once_query p t x = grouped_as (items_as (all_to_sql p of_one (own_columns t)) (c
 
 -- ---- the operands beside the identifiers
 
+-- each operand where it has the table's values of those identifiers that it has: in a full join it has them all
 abbrev pub full_query : Settings → (r : Structure) → List Structure → Structure → (tables : List Text) → (keys : Text) → QueryTree
 full_query p r ss s xs x =
     let t = key_structure r in
-    chain_select p joining.Left (columns_of t) (λ a. identifiers_of r) ss (joined_exps (placed_at 0 t ∷ []) (placed_from (width_of t) ss)) s x xs ∷ []
+    chain_select p joining.Left (columns_of t) (λ a. common_identifiers a t) ss (joined_exps (placed_at 0 t ∷ []) (placed_from (width_of t) ss)) s x xs ∷ []

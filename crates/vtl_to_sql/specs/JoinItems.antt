@@ -1,16 +1,12 @@
 -- Joins as they are written: operands under aliases, and what a select has of them.
-use Rattle.std.specs.Prelude.{ℕ, Bool, true, false, suc, nat_lt, List, [], ◌∷◌, ◌++◌, map, slice_get, Option, Some, None, if◌then◌else◌}
+use Rattle.std.specs.Prelude.{ℕ, suc, nat_lt, List, [], ◌∷◌, ◌++◌, map, slice_get, Option, Some, None, if◌then◌else◌}
 use Rattle.std.specs.List.{flat_map}
-use Rattle.vtl_cell.specs.Settings.{Settings}
 use Rattle.vtl_cell.specs.declared.operator.ScalarOp.TheVariants as op
-use Rattle.vtl_syntax.specs.declared.word_groups.JoinKind.{JoinKind as JoinOf}
-use Rattle.vtl_syntax.specs.declared.word_groups.JoinKind.TheVariants as join
 use Rattle.vtl_tree.specs.Structure.{columns_of}
 use Rattle.vtl_tree.specs.declared.structure.Component.{Component}
 use Rattle.vtl_tree.specs.declared.structure.Structure.{Structure}
 use Rattle.rules_to_sql.specs.Agreement.{common_identifiers}
 use Rattle.rules_to_sql.specs.Columns.{identifiers_of, measures_of}
-use Rattle.rules_to_sql.specs.Joined.{reference_place}
 use Rattle.rules_to_sql.specs.Made.{attributes_of}
 use Rattle.sql_tree.specs.Trees as tree
 use Rattle.sql_tree.specs.Trees.{Exp, JoinTree, QueryTree, Text}
@@ -20,7 +16,7 @@ use Rattle.rules_to_sql.specs.ToSql.{column_of}
 use Rattle.vtl_to_sql.specs.declared.join_items.Picked.{Picked}
 use Rattle.vtl_to_sql.specs.declared.join_operands.Aliased as declared
 use Rattle.vtl_to_sql.specs.Items.{all_of}
-use Rattle.vtl_to_sql.specs.Joins.{alias_of, cross_query, reference_query, without}
+use Rattle.vtl_to_sql.specs.Joins.{alias_of, without}
 use Rattle.vtl_to_sql.specs.Queries.{items_as, select_as, source_as}
 
 -- ---- operands
@@ -71,9 +67,17 @@ picked_column c = tree.column (column_of c.alias.now c.name.now)
 abbrev pub tied_with : (first alias : Text) → Component → Exp
 tied_with first alias y = tree.binary (column_from alias y) op.Equal (column_from first y)
 
+-- an operand where these columns have the values that they have in the first source
+abbrev pub joined_on : JoinKind → (first : Text) → List Component → Aliased → JoinTree
+joined_on kind first ys o = tree.on kind (source_as o.alias o.table) (all_of (map (tied_with first o.alias) ys))
+
 -- an operand where its identifiers have the values that they have in the reference
 abbrev pub joined_with : JoinKind → (reference : Aliased) → Aliased → JoinTree
-joined_with kind r o = tree.on kind (source_as o.alias o.table) (all_of (map (tied_with r.alias o.alias) (common_identifiers r.structure o.structure)))
+joined_with kind r o = joined_on kind r.alias (common_identifiers r.structure o.structure) o
+
+-- an operand where the identifiers of a table have the values that they have there
+abbrev pub keyed_with : (keys : Aliased) → Aliased → JoinTree
+keyed_with k o = joined_on joining.Left k.alias (common_identifiers o.structure k.structure) o
 
 abbrev pub crossed_with : Aliased → JoinTree
 crossed_with o = tree.cross (source_as o.alias o.table)
@@ -92,15 +96,6 @@ abbrev pub crossed_query : List Aliased → Structure → QueryTree
 crossed_query [] s = []
 crossed_query (o ∷ os) s = joined_query (joined_values (columns_from_all identifiers_of (o ∷ os)) (o ∷ os)) s o (map crossed_with os)
 
--- ---- kinds of joins
-
--- a join of this kind is one query over its operands
-abbrev pub is_one_query : JoinOf → Bool
-is_one_query join.Full = false
-is_one_query kind = true
-
-abbrev pub one_query : Settings → JoinOf → List Structure → Structure → List Text → QueryTree
-one_query p join.Inner ss s xs = reference_query p joining.Inner (reference_place join.Inner ss) ss s xs
-one_query p join.Left ss s xs = reference_query p joining.Left (reference_place join.Left ss) ss s xs
-one_query p join.Cross ss s xs = cross_query p ss s xs
-one_query p join.Full ss s xs = []
+-- from a table of identifiers
+abbrev pub keyed_query : (keys : Aliased) → List Aliased → Structure → QueryTree
+keyed_query k os s = joined_query (joined_values (columns_from identifiers_of k) os) s k (map (keyed_with k) os)

@@ -10,10 +10,10 @@ pub mod Means
 pub mod Items
 pub mod PairItems
 pub mod Reads
-pub mod Translated
 pub mod Exports
 pub mod Accepted
 pub mod JoinItems
+pub mod KeyItems
 pub mod NamedItems
 pub mod TurnedItems
 pub mod Combined

@@ -10,6 +10,7 @@ ghost use Rattle.rules_to_sql.specs.View.{item_tree as target_tree, measure_tree
 ghost use Rattle.sql_tree.specs.View.{expr_tree, item_tree};
 ghost use Rattle.rules_to_sql.specs.ToSql.{to_sql};
 ghost use Rattle.vtl_to_sql.specs.Items.{calculated_item, for_each_two, measured_item, renamed_item};
+ghost use Rattle.vtl_to_sql.specs.KeyItems.{own_items};
 ghost use Rattle.vtl_to_sql.specs.Queries.{item_as, of_one};
 
 use crate::components::measures;
@@ -206,14 +207,25 @@ fn push_all_measured(
     Ok(())
 }
 
+/// Columns under their own names. It fails only if memory runs out.
+pub(crate) fn own_items(
+    alloc: Global,
+    writer: &Writer,
+    columns: &[&Component],
+) -> Result<Vec<Item>, AllocError>
+    ensures { IfOk result (λ v. map item_tree v.items ≡ own_items (shown columns.now)) }
+{
+    let mut items = Vec::with_capacity(alloc, columns.len())?;
+    push_renamed(writer, &mut items, columns, columns)?;
+    Ok(items)
+}
+
 // The identifiers of a structure.
 fn identifier_items(alloc: Global, writer: &Writer, s: &Structure) -> Result<Vec<Item>, AllocError>
     ensures { IfOk result (λ v. map item_tree v.items ≡ for_each_two renamed_item (identifiers_of s.now) (identifiers_of s.now)) }
 {
     let identifiers = s.identifiers(alloc)?;
-    let mut items = Vec::new(alloc);
-    push_renamed(writer, &mut items, &identifiers, &identifiers)?;
-    Ok(items)
+    own_items(alloc, writer, &identifiers)
 }
 
 /// The identifiers of a result, and an operator at each measure of an operand, which becomes one of the result. It fails

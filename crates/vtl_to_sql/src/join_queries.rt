@@ -1,28 +1,19 @@
-// The queries of joins, over the tables of the operands.
-ghost use Rattle.std.specs.Prelude.{◌≡◌, ◌<◌, ◌++◌, [], length, map, slice_get, true, IfOk, OnOk};
+// The queries of joins, over the tables of the operands. Those of a full join are in full_joins.rt.
+ghost use Rattle.std.specs.Prelude.{◌≡◌, ◌<◌, ◌++◌, [], length, map, slice_get, IfOk, OnOk};
 ghost use Rattle.vtl_tree.specs.Shown.{shown};
 ghost use Rattle.sql_tree.specs.View.{join_tree, query_tree};
-ghost use Rattle.vtl_to_sql.specs.JoinItems.{aliased_of, crossed_query, crossed_with, joined_query, joined_values, is_one_query, joined_with, one_query, picked_column, referred_query};
+ghost use Rattle.vtl_to_sql.specs.JoinItems.{aliased_of, crossed_query, crossed_with, joined_on, joined_query, joined_values, joined_with, picked_column, referred_query};
 ghost use Rattle.vtl_to_sql.specs.Joins.{cross_query, reference_query, without};
 ghost use Rattle.vtl_to_sql.specs.Queries.{source_as};
 
 use crate::join_items::{Picked, all_tied, named_items, push_columns, push_roles};
-use crate::join_operands::{Aliased, common_identifiers, reference_place, with_aliases};
+use crate::join_operands::{Aliased, common_identifiers, with_aliases};
+use crate::queries::no_query;
 use crate::writer::Writer;
 use sql_tree::{Join, JoinKind, Query, Select, Source};
 use std::alloc::{AllocError, Global};
 use vtl_cell::{List, Txt};
-use vtl_syntax::JoinKind as JoinOf;
-use vtl_tree::{Role, Structure};
-
-// No query, where a join has no operand to begin with.
-fn no_query(alloc: Global) -> Query
-    ensures { query_tree result ≡ [] }
-{
-    Query {
-        selects: List::of(Vec::new(alloc)),
-    }
-}
+use vtl_tree::{Component, Role, Structure};
 
 fn source(operand: &Aliased<'_>) -> Result<Source, AllocError>
     ensures { IfOk result (λ x. x ≡ source_as (aliased_of operand.now).alias (aliased_of operand.now).table) }
@@ -33,9 +24,9 @@ fn source(operand: &Aliased<'_>) -> Result<Source, AllocError>
     })
 }
 
-// A query of one select from operands that are joined with the first, of these columns under the names of those of the
-// result.
-fn joined_query(
+/// A query of one select from operands that are joined with the first, of these columns under the names of those of the
+/// result. It fails only if memory runs out.
+pub(crate) fn joined_query(
     alloc: Global,
     picked: &[Picked<'_, '_>],
     s: &Structure,
@@ -58,8 +49,8 @@ fn joined_query(
     })
 }
 
-// Adds the measures of all operands, and then the attributes.
-fn push_others<'a, 'b>(
+/// Adds the measures of all operands, and then the attributes. It fails only if memory runs out.
+pub(crate) fn push_others<'a, 'b>(
     alloc: Global,
     picked: &mut Vec<Picked<'a, 'b>>,
     operands: &'a [Aliased<'b>],
@@ -68,6 +59,23 @@ fn push_others<'a, 'b>(
 {
     push_roles(alloc, picked, operands, Role::Measure)?;
     push_roles(alloc, picked, operands, Role::Attribute)
+}
+
+/// An operand where these columns have the values that they have in the first source. It fails only if memory runs out.
+pub(crate) fn joined_on(
+    alloc: Global,
+    kind: JoinKind,
+    first: &Txt,
+    columns: &[&Component],
+    operand: &Aliased<'_>,
+) -> Result<Join, AllocError>
+    ensures { IfOk result (λ j. join_tree j ≡ joined_on kind first.now (shown columns.now) (aliased_of operand.now)) }
+{
+    Ok(Join::On {
+        kind,
+        source: source(operand)?,
+        condition: all_tied(alloc, first, &operand.alias, columns)?,
+    })
 }
 
 // An operand where its identifiers have the values that they have in the reference.
@@ -80,11 +88,7 @@ fn joined_with(
     ensures { IfOk result (λ j. join_tree j ≡ joined_with kind (aliased_of reference.now) (aliased_of operand.now)) }
 {
     let common = common_identifiers(alloc, reference.structure, operand.structure)?;
-    Ok(Join::On {
-        kind,
-        source: source(operand)?,
-        condition: all_tied(alloc, &reference.alias, &operand.alias, &common)?,
-    })
+    joined_on(alloc, kind, &reference.alias, &common, operand)
 }
 
 // Adds operands that are joined with the reference.
@@ -141,15 +145,8 @@ fn referred_query(
     joined_query(alloc, &picked, s, reference, joins)
 }
 
-/// Whether a join of this kind is one query over its operands.
-pub(crate) fn is_one_query(kind: JoinOf) -> bool
-    ensures { result ≡ is_one_query kind }
-{
-    !matches!(kind, JoinOf::Full)
-}
-
-// `inner_join` and `left_join`: each other operand joined with the one at a place.
-fn reference_query(
+/// `inner_join` and `left_join`: each other operand joined with the one at a place. It fails only if memory runs out.
+pub(crate) fn reference_query(
     alloc: Global,
     writer: &Writer,
     kind: JoinKind,
@@ -194,8 +191,8 @@ fn crossed_query(
     joined_query(alloc, &picked, s, first, joins)
 }
 
-// `cross_join`: each point with each.
-fn cross_query(
+/// `cross_join`: each point with each. It fails only if memory runs out.
+pub(crate) fn cross_query(
     alloc: Global,
     writer: &Writer,
     structures: &[&Structure],
@@ -207,30 +204,4 @@ fn cross_query(
 {
     let operands = with_aliases(alloc, writer, 0, structures, tables)?;
     crossed_query(alloc, &operands, s)
-}
-
-/// A join that is one query over its operands. It fails only if memory runs out.
-pub(crate) fn join_query(
-    alloc: Global,
-    writer: &Writer,
-    kind: JoinOf,
-    structures: &[&Structure],
-    tables: &[Txt],
-    s: &Structure,
-) -> Result<Query, AllocError>
-    requires kind { is_one_query kind ≡ true }
-    requires many { length tables.now ≡ length structures.now }
-    ensures { IfOk result (λ q. query_tree q ≡ one_query writer.now kind (shown structures.now) s.now tables.now) }
-{
-    let place = reference_place(kind, structures);
-    match kind {
-        JoinOf::Inner => {
-            reference_query(alloc, writer, JoinKind::Inner, place, structures, tables, s)
-        }
-        JoinOf::Left => {
-            reference_query(alloc, writer, JoinKind::Left, place, structures, tables, s)
-        }
-        JoinOf::Cross => cross_query(alloc, writer, structures, tables, s),
-        JoinOf::Full => unreachable!(),
-    }
 }

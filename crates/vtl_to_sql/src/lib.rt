@@ -4,8 +4,8 @@
 //! An expression on data sets is the tables of its operands and then one query. This crate decides which query that is,
 //! how tables are named, and in what order statements stand; how a component expression is written it leaves to
 //! `rules_to_sql`, and how a table is found to an engine.
-//! It knows definitions of both languages alone: no text, no file, and no program that runs either of them. Only what
-//! it tells of accepted scripts knows the checker.
+//! Its code takes a script that the checker accepted and asks the checker's functions about structures; it knows no
+//! text, no file, and no program that runs either language.
 //! Begin with specs/Queries.antt, Tables.antt and Scripts.antt, then Means.antt and src/laws.rt.
 #![tactic(auto)]
 
@@ -14,11 +14,13 @@ mod conditions;
 mod constants;
 mod draft;
 mod existence_queries;
+mod full_joins;
 mod inputs;
 mod items;
 mod join_items;
 mod join_operands;
 mod join_queries;
+mod joins;
 mod laws;
 mod named_items;
 mod pair_items;
@@ -28,7 +30,6 @@ mod queries;
 mod script;
 mod set_operators;
 mod set_queries;
-mod translated;
 mod unpivot_queries;
 mod walk;
 mod writer;
@@ -41,4 +42,4 @@ pub use laws::{
 };
 pub use rules_to_sql::{check, defines_rulesets};
 pub use script::translate;
-pub use translated::is_translated;
+pub use vtl_backend::is_built;

@@ -6,8 +6,8 @@ ghost use Rattle.rules_to_sql.specs.Turned.{codes_of, other_identifiers};
 ghost use Rattle.sql_tree.specs.Trees.{aggregate};
 ghost use Rattle.sql_tree.specs.View.{expr_tree, item_tree, query_tree, select_tree};
 ghost use Rattle.vtl_to_sql.specs.NamedItems.{AreNext};
-ghost use Rattle.vtl_to_sql.specs.Queries.{items_as};
-ghost use Rattle.vtl_to_sql.specs.Turned.{coded_item, kept_groups, pivot_query, where_coded};
+ghost use Rattle.vtl_to_sql.specs.Queries.{first_alias, items_as, source_as};
+ghost use Rattle.vtl_to_sql.specs.Turned.{coded_item, grouped_as, kept_groups, pivot_query, where_coded};
 ghost use Rattle.vtl_to_sql.specs.TurnedItems.{coded_values, group_of, grouped_by};
 
 use crate::conditions::between;
@@ -150,6 +150,28 @@ fn kept_groups(alloc: Global, identifiers: &[&Component]) -> Result<Option<SqlEx
     }
 }
 
+/// A group for each tuple of columns of a table. It fails only if memory runs out.
+pub(crate) fn grouped(
+    alloc: Global,
+    writer: &Writer,
+    columns: &[&Component],
+    items: Vec<Item>,
+    having: Option<SqlExpr>,
+    table: &Txt,
+) -> Result<Select, AllocError>
+    ensures { IfOk result (λ x. select_tree x ≡ grouped_as (map item_tree items.items) (source_as first_alias table.now) (group_of (shown columns.now)) (option_map expr_tree having)) }
+{
+    let group = group_of(alloc, writer, columns)?;
+    Ok(Select {
+        items: List::of(items),
+        from: writer.source(table)?,
+        joins: List::of(Vec::new(alloc)),
+        condition: None,
+        group: List::of(group),
+        having,
+    })
+}
+
 // A group for each tuple of identifiers.
 fn grouped_by(
     alloc: Global,
@@ -160,16 +182,8 @@ fn grouped_by(
 ) -> Result<Select, AllocError>
     ensures { IfOk result (λ x. select_tree x ≡ grouped_by (shown identifiers.now) (map item_tree items.items) table.now) }
 {
-    let group = group_of(alloc, writer, identifiers)?;
     let having = kept_groups(alloc, identifiers)?;
-    Ok(Select {
-        items: List::of(items),
-        from: writer.source(table)?,
-        joins: List::of(Vec::new(alloc)),
-        condition: None,
-        group: List::of(group),
-        having,
-    })
+    grouped(alloc, writer, identifiers, items, having, table)
 }
 
 /// `pivot`: a row for each tuple of the other identifiers, with a column for each code of an identifier, which has the

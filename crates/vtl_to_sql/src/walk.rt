@@ -10,11 +10,11 @@ ghost use Rattle.rules_to_sql.specs.Made.{operands_in};
 ghost use Rattle.vtl_to_sql.specs.Combined.{combined_made};
 ghost use Rattle.vtl_to_sql.specs.Queries.{left_query};
 ghost use Rattle.vtl_to_sql.specs.Tables.{made_of_form, operands_of as joined_sources, over, sources_of, with_one};
-ghost use Rattle.vtl_to_sql.specs.Translated.{has_form_query, has_query, have_operand_queries, have_queries};
+ghost use Rattle.vtl_to_sql.specs.Accepted.{are_nodes_translated, are_operands_translated, is_form_translated, is_translated};
 
 use crate::draft::Draft;
 use crate::existence_queries::existence_query;
-use crate::join_queries::join_query;
+use crate::joins::join_query;
 use crate::pair_queries::{Operand, choose_query, pair_query};
 use crate::pivot_queries::pivot_query;
 use crate::queries::{
@@ -39,7 +39,7 @@ pub(crate) fn source(
     target: &Txt,
     draft: &mut Draft,
 ) -> Result<Txt, AllocError>
-    requires { has_query (node_tree node.now) ≡ true }
+    requires { is_translated (node_tree node.now) ≡ true }
     ensures name { IfOk result (λ t. t ∷ [] ≡ (sources_of writer.now target.now (node_tree node.now) draft.old.next).names) }
     ensures tables { OnOk result (map statement_tree draft.new.statements.items ≡ map statement_tree draft.old.statements.items ++ map create_for (sources_of writer.now target.now (node_tree node.now) draft.old.next).tables) }
     ensures next { OnOk result (draft.new.next ≡ (sources_of writer.now target.now (node_tree node.now) draft.old.next).next) }
@@ -74,7 +74,7 @@ fn left(
     target: &Txt,
     draft: &mut Draft,
 ) -> Result<Query, AllocError>
-    requires { has_query (node_tree a.now) ≡ true }
+    requires { is_translated (node_tree a.now) ≡ true }
     ensures query { IfOk result (λ q. query_tree q ≡ (over (sources_of writer.now target.now (node_tree a.now) draft.old.next) (with_one (left_query writer.now (structure_of (node_tree a.now)) s.now))).query) }
     ensures tables { OnOk result (map statement_tree draft.new.statements.items ≡ map statement_tree draft.old.statements.items ++ map create_for (sources_of writer.now target.now (node_tree a.now) draft.old.next).tables) }
     ensures next { OnOk result (draft.new.next ≡ (sources_of writer.now target.now (node_tree a.now) draft.old.next).next) }
@@ -104,7 +104,7 @@ fn joined_sources(
     target: &Txt,
     draft: &mut Draft,
 ) -> Result<Vec<Txt>, AllocError>
-    requires { have_operand_queries (operands_of (map operand_tree operands.now)) ≡ true }
+    requires { are_operands_translated (operands_of (map operand_tree operands.now)) ≡ true }
     ensures names { IfOk result (λ v. v.items ≡ (joined_sources writer.now target.now (operands_of (map operand_tree operands.now)) draft.old.next).names) }
     ensures many { IfOk result (λ v. length v.items ≡ length operands.now) }
     ensures tables { OnOk result (map statement_tree draft.new.statements.items ≡ map statement_tree draft.old.statements.items ++ map create_for (joined_sources writer.now target.now (operands_of (map operand_tree operands.now)) draft.old.next).tables) }
@@ -128,7 +128,7 @@ fn combined(
     target: &Txt,
     draft: &mut Draft,
 ) -> Result<Query, AllocError>
-    requires { have_queries (nodes_of (map node_tree nodes.now)) ≡ true }
+    requires { are_nodes_translated (nodes_of (map node_tree nodes.now)) ≡ true }
     ensures query { IfOk result (λ q. query_tree q ≡ (combined_made operator writer.now target.now s.now (map node_tree nodes.now) draft.old.next).query) }
     ensures tables { OnOk result (map statement_tree draft.new.statements.items ≡ map statement_tree draft.old.statements.items ++ map create_for (combined_made operator writer.now target.now s.now (map node_tree nodes.now) draft.old.next).tables) }
     ensures next { OnOk result (draft.new.next ≡ (combined_made operator writer.now target.now s.now (map node_tree nodes.now) draft.old.next).next) }
@@ -159,7 +159,7 @@ pub(crate) fn query(
     target: &Txt,
     draft: &mut Draft,
 ) -> Result<Query, AllocError>
-    requires { has_form_query (form_tree form.now) ≡ true }
+    requires { is_form_translated (form_tree form.now) ≡ true }
     ensures query { IfOk result (λ q. query_tree q ≡ (made_of_form writer.now target.now s.now (form_tree form.now) draft.old.next).query) }
     ensures tables { OnOk result (map statement_tree draft.new.statements.items ≡ map statement_tree draft.old.statements.items ++ map create_for (made_of_form writer.now target.now s.now (form_tree form.now) draft.old.next).tables) }
     ensures next { OnOk result (draft.new.next ≡ (made_of_form writer.now target.now s.now (form_tree form.now) draft.old.next).next) }
@@ -236,7 +236,16 @@ pub(crate) fn query(
         NodeForm::Join { operands, spec } => {
             let structures = joined_structures(alloc, operands)?;
             let tables = joined_sources(alloc, writer, operands, target, draft)?;
-            join_query(alloc, writer, spec.kind, &structures, &tables, s)
+            join_query(
+                alloc,
+                writer,
+                spec.kind,
+                &structures,
+                &tables,
+                s,
+                target,
+                draft,
+            )
         }
         NodeForm::Union(nodes) => {
             combined(alloc, writer, SetOperator::Union, nodes, s, target, draft)

@@ -1,19 +1,17 @@
 use Rattle.std.proofs.Common.{◌≡◌, ◌+◌, ◌++◌, drop, length, map, true}
-use Rattle.std.specs.List.{list_all}
 use Rattle.vtl_nodes.specs.View.{node_tree}
 use Rattle.vtl_backend.specs.Statements.{with_nodes}
 use Rattle.vtl_backend.proofs.LeftLemmas.{left}
 use Rattle.sql_tree.specs.View.{statement_tree}
-use Rattle.vtl_to_sql.specs.Accepted.{AreFew}
+use Rattle.vtl_to_sql.specs.Accepted.{AreFew, are_translated}
 use Rattle.vtl_to_sql.specs.Scripts.{create_for}
 use Rattle.vtl_to_sql.specs.Tables.{script_tables}
-use Rattle.vtl_to_sql.specs.Translated.{has_query}
 use Rattle.vtl_to_sql.proofs.script.push_results.Given as goal
 
 abbrev pub invariant-loop-statement : goal.invariant-loop-statement
 invariant-loop-statement l = record {
   many : l.place + length (left l.statements l.statement-index) ≡ length l.nodes;
-  queries : list_all has_query (map node_tree (drop l.place l.nodes)) ≡ true;
+  forms : are_translated (map node_tree (drop l.place l.nodes)) ≡ true;
   few : AreFew l.writer (with_nodes (left l.statements l.statement-index) (map node_tree (drop l.place l.nodes))) → AreFew l.writer (with_nodes (left l.statements 0) (map node_tree l.nodes));
   made : map statement_tree l.draft.statements.items ++ map create_for (script_tables l.writer (with_nodes (left l.statements l.statement-index) (map node_tree (drop l.place l.nodes))))
       ≡ map statement_tree l.fn.draft.statements.items ++ map create_for (script_tables l.writer (with_nodes (left l.statements 0) (map node_tree l.nodes)));
