@@ -68,18 +68,20 @@ pub join_of_form : (p : Settings) (r : Text) (s : Structure) (f : NodeForm) (os 
 join_of_form p r s f os all spec n is same =
     ap (λ (l : List JoinOperand). made_of_form p r s (nodes.join (nodes.operands_of (map operand_tree l)) spec) n) same ∙ sym (ap (λ (g : FormTree). made_of_form p r s g n) (tree_of_join f os spec is))
 
--- the join of structures and names as the program has them
-pub join_gives : (p : Settings) (r : Text) (s : Structure) (f : NodeForm) (os_of : Vec JoinOperand Global) (all : List JoinOperand) (spec : JoinSpec) (n m : ℕ) (bs : List Structure) (xs : List Text) (old done : List StatementTree)
-    → f ≡ form.Join os_of spec → all ≡ os_of.items → bs ≡ structures_of (operands_in (nodes.operands_of (map operand_tree all)))
-    → xs ≡ (operands_of p r (nodes.operands_of (map operand_tree all)) n).names → m ≡ (operands_of p r (nodes.operands_of (map operand_tree all)) n).next
-    → done ≡ old ++ map create_for (operands_of p r (nodes.operands_of (map operand_tree all)) n).tables
+abbrev trees_of : List JoinOperand → OperandTrees
+trees_of os = nodes.operands_of (map operand_tree os)
+
+-- the join of structures and tables as the program has them
+pub join_gives : (p : Settings) (r : Text) (s : Structure) (f : NodeForm) (os : Vec JoinOperand Global) (one two : List JoinOperand) (spec : JoinSpec) (n m : ℕ) (bs : List Structure) (xs : List Text) (old done : List StatementTree)
+    → f ≡ form.Join os spec → one ≡ os.items → two ≡ os.items → bs ≡ structures_of (operands_in (trees_of one))
+    → xs ≡ (operands_of p r (trees_of two) n).names → done ≡ old ++ map create_for (operands_of p r (trees_of two) n).tables → m ≡ (operands_of p r (trees_of two) n).next
     → GivesRest (made_of_form p r s (form_tree f) n) old done (join_made p r spec.kind bs s (by_names xs m))
-join_gives p r s f os_of all spec n m bs xs old done is same structures names next made =
-    let trees = nodes.operands_of (map operand_tree all) in
-    let os = operands_of p r trees n in
-    let ss = structures_of (operands_in trees) in
-    subst (λ (w : Made). GivesRest w old done (join_made p r spec.kind bs s (by_names xs m))) (join_of_form p r s f os_of all spec n is same)
-    (subst (λ (l : List Structure). GivesRest (join_made p r spec.kind ss s os) old done (join_made p r spec.kind l s (by_names xs m))) (sym structures) (rest_given p r spec.kind ss s os xs m old done names next made))
+join_gives p r s f os one two spec n m bs xs old done is first second structures names made next =
+    let given = operands_of p r (trees_of two) n in
+    let ss = structures_of (operands_in (trees_of two)) in
+    let same : bs ≡ ss = structures ∙ ap (λ (l : List JoinOperand). structures_of (operands_in (trees_of l))) (first ∙ sym second) in
+    subst (λ (w : Made). GivesRest w old done (join_made p r spec.kind bs s (by_names xs m))) (join_of_form p r s f os two spec n is second)
+    (subst (λ (l : List Structure). GivesRest (join_made p r spec.kind ss s given) old done (join_made p r spec.kind l s (by_names xs m))) (sym same) (rest_given p r spec.kind ss s given xs m old done names next made))
 
 -- ---- a full join
 

@@ -1,5 +1,6 @@
 use Rattle.std.proofs.Common.{◌∷◌, [], ◌++◌, ℕ, ◌+◌, ◌-◌, length, take, drop, ap, map, refl, sym, ◌∙◌}
 use Rattle.std.proofs.lemmas.Result.{IfOk-weaker}
+use Rattle.vtl_tree.specs.Shown.{shown}
 use Rattle.vtl_nodes.specs.Trees.{FormTree, structure_of}
 use Rattle.vtl_nodes.specs.View.{item_tree, node_tree}
 use Rattle.vtl_nodes.specs.declared.nodes.Node.{Node}
@@ -8,6 +9,7 @@ use Rattle.vtl_to_sql.specs.Combined.{combined_made}
 use Rattle.vtl_to_sql.specs.Queries.{calc_query, difference_query, left_query, sub_query, symmetric_difference_query}
 use Rattle.vtl_to_sql.specs.Scripts.{create_for}
 use Rattle.vtl_to_sql.specs.Tables.{Made, and_then, made_of_form, sources_of, with_one, with_two}
+use Rattle.vtl_to_sql.proofs.JoinTables.{join_gives}
 use Rattle.vtl_to_sql.proofs.Combining.{alone, begun, ended, ends, intersection_of_form, left_ready, one_more, turn_made, union_of_form}
 use Rattle.vtl_to_sql.proofs.Walked.{behind_names, behind_others, tree_of_calc, tree_of_choose, tree_of_difference, tree_of_existence, tree_of_named, tree_of_pair, tree_of_sub, tree_of_symmetric_difference}
 use Rattle.vtl_to_sql.proofs.walk.+made.Goals as goal
@@ -292,3 +294,51 @@ pub query-returns-in-Intersect-clause-next : goal.query-returns-in-Intersect-cla
 query-returns-in-Intersect-clause-next t c =
     let is = intersection_of_form c.args.writer.now c.args.target.now c.args.s.now c.args.form.now c.in-Intersect.nodes c.deref-in-Intersect.result.now c.args.draft.now.next c.in-Intersect.is c.deref-in-Intersect.ensures.value in
     IfOk-weaker c.combined-in-Intersect.result _ _ (λ q e. e ∙ ap (λ (m : Made). m.next) is) c.combined-in-Intersect.ensures.next
+
+pub query-returns-in_ok-tables-in-Join-clause-query : goal.query-returns-in_ok-tables-in-Join-clause-query
+query-returns-in_ok-tables-in-Join-clause-query t c =
+    let n = c.args.draft.now.next in
+    let old = map statement_tree c.args.draft.now.statements.items in
+    let done = map statement_tree c.joined_sources.new.draft.statements.items in
+    let made = c.in_ok-tables-in-Join.ensures in
+    let bs = shown c.deref-in-Join-3.result.now in
+    let xs = c.deref-in-Join-4.result.now in
+    let structures = ap shown c.deref-in-Join-3.ensures.value ∙ c.in_ok-structures-in-Join.ensures.structures in
+    let names = c.deref-in-Join-4.ensures.value ∙ made.names in
+    let rest =
+    join_gives c.args.writer.now c.args.target.now c.args.s.now c.args.form.now c.in-Join.operands c.deref-in-Join.result.now c.deref-in-Join-2.result.now c.in-Join.spec n c.joined_sources.new.draft.next bs xs old done
+    c.in-Join.is c.deref-in-Join.ensures.value c.deref-in-Join-2.ensures.value structures names made.tables made.next
+    in
+    IfOk-weaker c.join_query.result _ _ (λ q e. e ∙ rest.query) c.join_query.ensures.query
+
+pub query-returns-in_ok-tables-in-Join-clause-tables : goal.query-returns-in_ok-tables-in-Join-clause-tables
+query-returns-in_ok-tables-in-Join-clause-tables t c =
+    let n = c.args.draft.now.next in
+    let old = map statement_tree c.args.draft.now.statements.items in
+    let done = map statement_tree c.joined_sources.new.draft.statements.items in
+    let made = c.in_ok-tables-in-Join.ensures in
+    let bs = shown c.deref-in-Join-3.result.now in
+    let xs = c.deref-in-Join-4.result.now in
+    let structures = ap shown c.deref-in-Join-3.ensures.value ∙ c.in_ok-structures-in-Join.ensures.structures in
+    let names = c.deref-in-Join-4.ensures.value ∙ made.names in
+    let rest =
+    join_gives c.args.writer.now c.args.target.now c.args.s.now c.args.form.now c.in-Join.operands c.deref-in-Join.result.now c.deref-in-Join-2.result.now c.in-Join.spec n c.joined_sources.new.draft.next bs xs old done
+    c.in-Join.is c.deref-in-Join.ensures.value c.deref-in-Join-2.ensures.value structures names made.tables made.next
+    in
+    IfOk-weaker c.join_query.result _ _ (λ q e. e ∙ rest.tables) c.join_query.ensures.tables
+
+pub query-returns-in_ok-tables-in-Join-clause-next : goal.query-returns-in_ok-tables-in-Join-clause-next
+query-returns-in_ok-tables-in-Join-clause-next t c =
+    let n = c.args.draft.now.next in
+    let old = map statement_tree c.args.draft.now.statements.items in
+    let done = map statement_tree c.joined_sources.new.draft.statements.items in
+    let made = c.in_ok-tables-in-Join.ensures in
+    let bs = shown c.deref-in-Join-3.result.now in
+    let xs = c.deref-in-Join-4.result.now in
+    let structures = ap shown c.deref-in-Join-3.ensures.value ∙ c.in_ok-structures-in-Join.ensures.structures in
+    let names = c.deref-in-Join-4.ensures.value ∙ made.names in
+    let rest =
+    join_gives c.args.writer.now c.args.target.now c.args.s.now c.args.form.now c.in-Join.operands c.deref-in-Join.result.now c.deref-in-Join-2.result.now c.in-Join.spec n c.joined_sources.new.draft.next bs xs old done
+    c.in-Join.is c.deref-in-Join.ensures.value c.deref-in-Join-2.ensures.value structures names made.tables made.next
+    in
+    IfOk-weaker c.join_query.result _ _ (λ q e. e ∙ rest.next) c.join_query.ensures.next
