@@ -72,8 +72,8 @@ same_joins : (p : Settings) (kind : JoinKind) (at : Naming) (first : List Compon
 same_joins p kind at first f g i n [] xs all = refl
 same_joins p kind at first f g i n (a ∷ ss) [] all = refl
 same_joins p kind at first f g i n (a ∷ ss) (x ∷ xs) all =
-    ap (λ ys. on kind (source_as (alias_of i) x) (to_sql p at (conjunction (map (tied_to first (placed_at n a)) ys))) ∷ joins_on p kind at first f (suc i) (placed_from (n + width_of a) ss) xs) all.0
-    ∙ ap (λ l. on kind (source_as (alias_of i) x) (to_sql p at (ties_of first g (placed_at n a))) ∷ l) (same_joins p kind at first f g (suc i) (n + width_of a) ss xs all.1)
+    ap (λ (ys : List Component). on kind (source_as (alias_of i) x) (to_sql p at (conjunction (map (tied_to first (placed_at n a)) ys))) ∷ joins_on p kind at first f (suc i) (placed_from (n + width_of a) ss) xs) all.0
+    ∙ ap (λ (l : List JoinTree). on kind (source_as (alias_of i) x) (to_sql p at (ties_of first g (placed_at n a))) ∷ l) (same_joins p kind at first f g (suc i) (n + width_of a) ss xs all.1)
 
 all_tied_by : (p : Settings) (r : Structure) (ss : List Structure) (s : Structure) (xs : List Text) (x : Text) → HaveSame (identifiers_of r) ss → full_query p r ss s xs x ≡ tied_query p r ss s xs x
 all_tied_by p r ss s xs x among =
