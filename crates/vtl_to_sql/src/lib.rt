@@ -9,6 +9,7 @@
 //! Begin with specs/Queries.antt, Tables.antt and Scripts.antt, then Means.antt and src/laws.rt.
 #![tactic(auto)]
 
+mod all_joins;
 mod components;
 mod conditions;
 mod constants;
@@ -20,7 +21,6 @@ mod items;
 mod join_items;
 mod join_operands;
 mod join_queries;
-mod joins;
 mod laws;
 mod named_items;
 mod pair_items;

@@ -14,7 +14,7 @@ ghost use Rattle.vtl_to_sql.specs.Accepted.{are_nodes_translated, are_operands_t
 
 use crate::draft::Draft;
 use crate::existence_queries::existence_query;
-use crate::joins::join_query;
+use crate::all_joins::join_query;
 use crate::pair_queries::{Operand, choose_query, pair_query};
 use crate::pivot_queries::pivot_query;
 use crate::queries::{

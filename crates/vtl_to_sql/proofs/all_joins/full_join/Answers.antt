@@ -6,7 +6,7 @@ use Rattle.sql_tree.specs.View.{query_tree, statement_tree}
 use Rattle.vtl_to_sql.specs.Scripts.{create_for}
 use Rattle.vtl_to_sql.specs.Tables.{Made}
 use Rattle.vtl_to_sql.proofs.JoinTables.{full_is_next, full_is_query, full_is_tables, none_is}
-use Rattle.vtl_to_sql.proofs.joins.full_join.Goals as goal
+use Rattle.vtl_to_sql.proofs.all_joins.full_join.Goals as goal
 
 pub returns-clause-query : goal.returns-clause-query
 returns-clause-query c =
