@@ -9,17 +9,21 @@ use Rattle.rules_to_sql.specs.ToSql.{group_columns}
 use Rattle.rules_to_sql.proofs.Places.{are_identifiers}
 use Rattle.sql_tree.specs.Trees.{Text}
 use Rattle.vtl_to_sql.specs.FullJoins.{key_exps, key_select, keys_query, once_query, or_spare}
-use Rattle.vtl_to_sql.specs.Items.{from_one}
-use Rattle.vtl_to_sql.specs.KeyItems.{identifiers_select, key_items, once_select, own_items}
+use Rattle.vtl_to_sql.specs.Items.{for_each_two, from_one, renamed_item}
+use Rattle.vtl_to_sql.specs.KeyItems.{identifiers_select, key_items, once_select, own_item, own_items}
 use Rattle.vtl_to_sql.specs.Queries.{all_to_sql, first_alias, items_as, of_one, source_as}
 use Rattle.vtl_to_sql.specs.Turned.{grouped_as}
 use Rattle.vtl_to_sql.proofs.Forms.{columns_renamed}
 use Rattle.vtl_to_sql.proofs.KeyColumns.{key_columns}
 use Rattle.vtl_to_sql.proofs.TurnedForms.{group_written}
 
+each_own : (ys : List Component) → for_each_two renamed_item ys ys ≡ own_items ys
+each_own [] = refl
+each_own (y ∷ ys) = ap (λ l. own_item y ∷ l) (each_own ys)
+
 items_written : (p : Settings) (a : Structure) (ids : List Component) → items_as (all_to_sql p of_one (key_exps ids a)) (or_spare ids) ≡ key_items ids
 items_written p a [] = refl
-items_written p a (x ∷ xs) = columns_renamed p (columns_of a) (x ∷ xs) (x ∷ xs)
+items_written p a (x ∷ xs) = columns_renamed p (columns_of a) (x ∷ xs) (x ∷ xs) ∙ each_own (x ∷ xs)
 
 select_written : (p : Settings) (r a : Structure) (x : Text) → key_select p r a x ≡ identifiers_select (identifiers_of r) x
 select_written p r a x =
@@ -35,5 +39,5 @@ keys_written p r (a ∷ ss) (x ∷ xs) e = ap (λ q. q ∷ keys_query p r ss xs)
 pub once_written : (p : Settings) (t : Structure) (x : Text) → once_query p t x ≡ once_select (columns_of t) x ∷ []
 once_written p t x =
     let ys = columns_of t in
-    ap (λ l. grouped_as l (source_as first_alias x) (group_columns first_alias (names_of ys)) None ∷ []) (columns_renamed p ys ys ys)
+    ap (λ l. grouped_as l (source_as first_alias x) (group_columns first_alias (names_of ys)) None ∷ []) (columns_renamed p ys ys ys ∙ each_own ys)
     ∙ ap (λ g. grouped_as (own_items ys) (source_as first_alias x) g None ∷ []) (group_written ys)

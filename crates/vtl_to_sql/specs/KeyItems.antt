@@ -1,18 +1,21 @@
 -- The selects of a full join's tables of identifiers, as they are written.
-use Rattle.std.specs.Prelude.{List, [], ◌∷◌, None}
+use Rattle.std.specs.Prelude.{List, [], ◌∷◌, map, None}
 use Rattle.vtl_tree.specs.declared.structure.Component.{Component}
 use Rattle.sql_tree.specs.Trees as tree
 use Rattle.sql_tree.specs.Trees.{ItemTree, SelectTree, Text}
 use Rattle.sql_tree.specs.declared.parts.Constant.TheVariants as constant
 use Rattle.vtl_to_sql.specs.FullJoins.{spare}
-use Rattle.vtl_to_sql.specs.Items.{for_each_two, from_one, renamed_item}
+use Rattle.vtl_to_sql.specs.Items.{from_one, renamed_item}
 use Rattle.vtl_to_sql.specs.Queries.{first_alias, item_as, source_as}
 use Rattle.vtl_to_sql.specs.Turned.{grouped_as}
 use Rattle.vtl_to_sql.specs.TurnedItems.{group_of}
 
 -- columns under their own names
+abbrev pub own_item : Component → ItemTree
+own_item y = renamed_item y y
+
 abbrev pub own_items : List Component → List ItemTree
-own_items ys = for_each_two renamed_item ys ys
+own_items ys = map own_item ys
 
 -- identifiers, or a column that is always true where there are none
 abbrev pub key_items : List Component → List ItemTree

@@ -1,5 +1,5 @@
 // The queries of a full join: the identifiers of all operands, each tuple of them once, and the operands beside these.
-ghost use Rattle.std.specs.Prelude.{◌≡◌, List as ListOf, length, map, IfOk};
+ghost use Rattle.std.specs.Prelude.{◌≡◌, [], List as ListOf, length, map, IfOk};
 ghost use Rattle.vtl_tree.specs.Shown.{shown};
 ghost use Rattle.vtl_tree.specs.declared.structure.Structure.{Structure as StructureOf};
 ghost use Rattle.sql_tree.specs.View.{item_tree, join_tree, query_tree, select_tree};

@@ -10,7 +10,7 @@ ghost use Rattle.rules_to_sql.specs.View.{item_tree as target_tree, measure_tree
 ghost use Rattle.sql_tree.specs.View.{expr_tree, item_tree};
 ghost use Rattle.rules_to_sql.specs.ToSql.{to_sql};
 ghost use Rattle.vtl_to_sql.specs.Items.{calculated_item, for_each_two, measured_item, renamed_item};
-ghost use Rattle.vtl_to_sql.specs.KeyItems.{own_items};
+ghost use Rattle.vtl_to_sql.specs.KeyItems.{own_item, own_items};
 ghost use Rattle.vtl_to_sql.specs.Queries.{item_as, of_one};
 
 use crate::components::measures;
@@ -207,6 +207,14 @@ fn push_all_measured(
     Ok(())
 }
 
+// Adds a column under its own name.
+fn push_own(writer: &Writer, items: &mut Vec<Item>, column: &Component) -> Result<(), AllocError>
+    ensures { OnOk result (map item_tree items.new.items ≡ map item_tree items.old.items ++ own_item column.now ∷ []) }
+{
+    let name = &column.name;
+    push_item(items, writer.column(name)?, name)
+}
+
 /// Columns under their own names. It fails only if memory runs out.
 pub(crate) fn own_items(
     alloc: Global,
@@ -216,7 +224,9 @@ pub(crate) fn own_items(
     ensures { IfOk result (λ v. map item_tree v.items ≡ own_items (shown columns.now)) }
 {
     let mut items = Vec::with_capacity(alloc, columns.len())?;
-    push_renamed(writer, &mut items, columns, columns)?;
+    for column in columns {
+        push_own(writer, &mut items, column)?;
+    }
     Ok(items)
 }
 
@@ -225,7 +235,9 @@ fn identifier_items(alloc: Global, writer: &Writer, s: &Structure) -> Result<Vec
     ensures { IfOk result (λ v. map item_tree v.items ≡ for_each_two renamed_item (identifiers_of s.now) (identifiers_of s.now)) }
 {
     let identifiers = s.identifiers(alloc)?;
-    own_items(alloc, writer, &identifiers)
+    let mut items = Vec::new(alloc);
+    push_renamed(writer, &mut items, &identifiers, &identifiers)?;
+    Ok(items)
 }
 
 /// The identifiers of a result, and an operator at each measure of an operand, which becomes one of the result. It fails

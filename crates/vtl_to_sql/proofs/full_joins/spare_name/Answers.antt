@@ -9,7 +9,8 @@ use Rattle.vtl_to_sql.proofs.full_joins.spare_name.Goals as goal
 spare_chars : chars spare.name ≡ spare.name
 spare_chars =
     chars-IsAscii spare.name
-    (IsAscii-cons 116 _ (omega arith) (IsAscii-cons 104 _ (omega arith) (IsAscii-cons 101 _ (omega arith) (IsAscii-cons 114 _ (omega arith) (IsAscii-cons 101 [] (omega arith) IsAscii-nil)))))
+    (IsAscii-cons 116 (104 ∷ 101 ∷ 114 ∷ 101 ∷ []) (omega arith)
+    (IsAscii-cons 104 (101 ∷ 114 ∷ 101 ∷ []) (omega arith) (IsAscii-cons 101 (114 ∷ 101 ∷ []) (omega arith) (IsAscii-cons 114 (101 ∷ []) (omega arith) (IsAscii-cons 101 [] (omega arith) IsAscii-nil)))))
 
 pub returns : goal.returns
 returns c = IfOk-weaker c.new.result _ _ (λ t e. e ∙ spare_chars) c.new.ensures
