@@ -15,6 +15,7 @@ use Rattle.sql_tree.specs.Trees.{Exp, Text}
 use Rattle.rules_to_sql.specs.ToSql.{to_sql}
 use Rattle.vtl_to_sql.specs.Items.{all_of, calculated_item, first_column, for_each_two, from_one, from_table, items_for, measured_item, renamed_item, value_equality}
 use Rattle.vtl_to_sql.specs.Queries.{calc_query, conjunction, filter_query, has_value, item_as, left_query, measures_query, of_one, rename_query, shown_select, sub_query}
+use Rattle.vtl_to_sql.proofs.Conjunctions.{conjunction_to_sql}
 
 -- columns go by their names
 pub columns_renamed : (p : Settings) (xs ys zs : List Component) → items_for p of_one (columns_named xs ys) zs ≡ for_each_two renamed_item ys zs
@@ -37,9 +38,11 @@ rename_written p a s table = ap (λ l. from_table l None table) (columns_renamed
 -- ---- `sub`
 
 equalities : (p : Settings) (xs : List Component) (items : List SubItem) → to_sql p of_one (conjunction (map (has_value xs) items)) ≡ all_of (map (value_equality p) items)
-equalities p xs [] = refl
-equalities p xs (i ∷ []) = refl
-equalities p xs (i ∷ j ∷ items) = ap (λ e. all_of (value_equality p i ∷ e ∷ [])) (equalities p xs (j ∷ items))
+equalities p xs items = conjunction_to_sql p of_one (map (has_value xs) items) ∙ ap all_of (each_written items)
+  where
+    each_written : (items : List SubItem) → map (to_sql p of_one) (map (has_value xs) items) ≡ map (value_equality p) items
+    each_written [] = refl
+    each_written (i ∷ items) = ap (λ l. value_equality p i ∷ l) (each_written items)
 
 pub sub_written : (p : Settings) (items : List SubItem) (a s : Structure) (table : Text) → sub_query p items a s table ≡ from_table (for_each_two renamed_item (columns_of s) (columns_of s)) (Some (all_of (map (value_equality p) items))) table
 sub_written p items a s table =

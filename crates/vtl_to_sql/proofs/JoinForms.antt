@@ -26,6 +26,7 @@ use Rattle.vtl_to_sql.specs.Items.{all_of}
 use Rattle.vtl_to_sql.specs.JoinItems.{Aliased, aliased, aliased_around, column_from, columns_from, columns_from_all, crossed_query, crossed_with, joined_on, joined_query, joined_values, joined_with, keyed_query, number_around, referred_query, tied_with}
 use Rattle.vtl_to_sql.specs.Joins.{Placed, alias_of, all_tied, columns_at, columns_in, cross_query, crosses, from_reference, joined_exps, joins_on, of_many, placed_around, placed_at, placed_from, reference_query, tied_to, width_of, without}
 use Rattle.vtl_to_sql.specs.Queries.{conjunction, items_as, select_as, source_as}
+use Rattle.vtl_to_sql.proofs.Conjunctions.{conjunction_to_sql}
 use Rattle.vtl_to_sql.proofs.ManySources.{of_first, of_later}
 
 -- ---- the components of a structure are among its columns
@@ -226,13 +227,16 @@ module _ (p : Settings) (at : Naming) where
       ap (λ c. tree.binary (tree.column c) op.Equal (tree.column (at (place_of z.name (columns_of r)) z.name))) (s.named (place_of z.name (columns_of o.structure)) z.name own)
       ∙ ap (λ c. tree.binary (column_from q.alias z) op.Equal (tree.column c)) (f (place_of z.name (columns_of r)) z.name first)
 
+  each_tied : (r : Structure) (o : Placed) (q : Aliased) → IsFirst r → Sits o q → (zs : List Component) → AllByRecursion (IsWithin (columns_of o.structure)) zs → AllByRecursion (IsWithin (columns_of r)) zs
+      → map (to_sql p at) (map (tied_to (columns_of r) o) zs) ≡ map (tied_with (alias_of 0) q.alias) zs
+  each_tied r o q f s [] own first = refl
+  each_tied r o q f s (z ∷ zs) own first =
+      ap (λ e. e ∷ map (to_sql p at) (map (tied_to (columns_of r) o) zs)) (one_tied r o q f s z own.0 first.0)
+      ∙ ap (λ l. tied_with (alias_of 0) q.alias z ∷ l) (each_tied r o q f s zs own.1 first.1)
+
   tied_all : (r : Structure) (o : Placed) (q : Aliased) → IsFirst r → Sits o q → (zs : List Component) → AllByRecursion (IsWithin (columns_of o.structure)) zs → AllByRecursion (IsWithin (columns_of r)) zs
       → to_sql p at (conjunction (map (tied_to (columns_of r) o) zs)) ≡ all_of (map (tied_with (alias_of 0) q.alias) zs)
-  tied_all r o q f s [] own first = refl
-  tied_all r o q f s (z ∷ []) own first = one_tied r o q f s z own.0 first.0
-  tied_all r o q f s (z ∷ w ∷ zs) own first =
-      ap (λ e. tree.binary e op.And (to_sql p at (conjunction (map (tied_to (columns_of r) o) (w ∷ zs))))) (one_tied r o q f s z own.0 first.0)
-      ∙ ap (λ e. tree.binary (tied_with (alias_of 0) q.alias z) op.And e) (tied_all r o q f s (w ∷ zs) own.1 first.1)
+  tied_all r o q f s zs own first = conjunction_to_sql p at (map (tied_to (columns_of r) o) zs) ∙ ap all_of (each_tied r o q f s zs own first)
 
   joins_written : (kind : JoinKind) (r : Structure) → IsFirst r → (f : Structure → List Component) → IsOwn f → ((a : Structure) → AllByRecursion (IsWithin (columns_of r)) (f a)) → (n i : ℕ) (ss : List Structure) (xs : List Text) → AreFrom n i ss
       → joins_on p kind at (columns_of r) f i (placed_from n ss) xs ≡ map (λ (o : Aliased). joined_on kind (alias_of 0) (f o.structure) o) (in_line i ss xs)

@@ -21,6 +21,7 @@ use Rattle.rules_to_sql.specs.ToSql.{column_of, operator_to_sql, to_sql}
 use Rattle.vtl_to_sql.specs.Items.{all_of, for_each_two, items_for}
 use Rattle.vtl_to_sql.specs.PairItems.{agreement_on, chosen, chosen_from, from_two, joined_by, lead_column, lead_item, namesake_item, not_chosen, paired_from, paired_of, second_item}
 use Rattle.vtl_to_sql.specs.Queries.{agree, agrees_on, choose_query, chosen_exps, condition_for, conjunction, first_alias, is_chosen, is_not_chosen, item_as, of_two, pair_query, pairs_select, second_alias, source_as}
+use Rattle.vtl_to_sql.proofs.Conjunctions.{conjunction_to_sql}
 
 -- ---- columns
 
@@ -78,11 +79,13 @@ one_agreement : (p : Settings) (xs ys : List Component) (y : Component) → to_s
 one_agreement p xs ys y = ap (λ c. tree.binary (tree.column c) op.Equal (lead_column xs y.name)) (second_of (length xs) (place_of y.name ys) y.name)
 
 agreements : (p : Settings) (xs ys zs : List Component) → to_sql p (of_two (length xs)) (conjunction (map (agrees_on xs ys) zs)) ≡ all_of (map (agreement_on xs) zs)
-agreements p xs ys [] = refl
-agreements p xs ys (z ∷ []) = one_agreement p xs ys z
-agreements p xs ys (z ∷ w ∷ zs) =
-    ap (λ e. tree.binary e op.And (to_sql p (of_two (length xs)) (conjunction (map (agrees_on xs ys) (w ∷ zs))))) (one_agreement p xs ys z)
-    ∙ ap (λ e. tree.binary (agreement_on xs z) op.And e) (agreements p xs ys (w ∷ zs))
+agreements p xs ys zs = conjunction_to_sql p (of_two (length xs)) (map (agrees_on xs ys) zs) ∙ ap all_of (each_agreement zs)
+  where
+    each_agreement : (zs : List Component) → map (to_sql p (of_two (length xs))) (map (agrees_on xs ys) zs) ≡ map (agreement_on xs) zs
+    each_agreement [] = refl
+    each_agreement (z ∷ zs) =
+        ap (λ e. e ∷ map (to_sql p (of_two (length xs))) (map (agrees_on xs ys) zs)) (one_agreement p xs ys z)
+        ∙ ap (λ l. agreement_on xs z ∷ l) (each_agreement zs)
 
 -- ---- selects
 

@@ -1,15 +1,10 @@
--- Items and conditions are written one by one.
-use Rattle.std.proofs.Common.{◌≡◌, ℕ, zero, suc, ◌+◌, ◌<◌, ◌≤◌, min, List, [], ◌∷◌, ◌++◌, map, length, take, get_or, refl, sym, ap, ◌∙◌, arith, append_assoc}
-use Rattle.std.proofs.lemmas.List.{map-append}
+-- Items are written one by one.
+use Rattle.std.proofs.Common.{◌≡◌, ℕ, zero, suc, ◌+◌, ◌<◌, ◌≤◌, min, List, [], ◌∷◌, ◌++◌, length, take, get_or, refl, sym, ap, ◌∙◌, arith, append_assoc}
 use Rattle.std.specs.Borrow.{Bor}
 use Rattle.vtl_tree.specs.Shown.{shown}
 use Rattle.vtl_tree.specs.declared.structure.Component.{Component}
-use Rattle.vtl_cell.specs.declared.operator.ScalarOp.TheVariants as op
-use Rattle.sql_tree.specs.Trees as tree
-use Rattle.sql_tree.specs.View.{expr_tree}
-use Rattle.sql_tree.specs.declared.expressions.SqlExpr.{SqlExpr}
-use Rattle.sql_tree.specs.Trees.{Exp, ItemTree}
-use Rattle.vtl_to_sql.specs.Items.{all_of, for_each_two}
+use Rattle.sql_tree.specs.Trees.{ItemTree}
+use Rattle.vtl_to_sql.specs.Items.{for_each_two}
 
 abbrev first : (Component → Component → ItemTree) → ℕ → List (Bor Component) → List (Bor Component) → List ItemTree
 first f i xs ys = for_each_two f (shown (take i xs)) (shown (take i ys))
@@ -41,20 +36,3 @@ one_more f old new done xs ys i x y n o h at bt =
     n ∙ ap (λ l. l ++ f x.now y.now ∷ []) o
     ∙ append_assoc done (first f i xs ys) (f x.now y.now ∷ [])
     ∙ ap (λ l. done ++ l) (sym (two_more f xs ys i x y h at bt))
-
--- ---- conditions
-
--- two behind others are one
-pub two_as_one : (es : List Exp) (e f : Exp) → all_of (es ++ e ∷ f ∷ []) ≡ all_of (es ++ tree.binary e op.And f ∷ [])
-two_as_one [] e f = refl
-two_as_one (x ∷ []) e f = refl
-two_as_one (x ∷ y ∷ es) e f = ap (λ z. tree.binary x op.And z) (two_as_one (y ∷ es) e f)
-
--- the last of some conditions is joined to the one behind them
-pub joined : (old new : List SqlExpr) (x all made : SqlExpr) (whole : Exp) → old ≡ new ++ x ∷ [] → expr_tree made ≡ tree.binary (expr_tree x) op.And (expr_tree all) → all_of (map expr_tree old ++ expr_tree all ∷ []) ≡ whole
-    → all_of (map expr_tree new ++ expr_tree made ∷ []) ≡ whole
-joined old new x all made whole o m is =
-    ap (λ e. all_of (map expr_tree new ++ e ∷ [])) m
-    ∙ sym (two_as_one (map expr_tree new) (expr_tree x) (expr_tree all))
-    ∙ ap all_of (sym (ap (λ l. map expr_tree l ++ expr_tree all ∷ []) o ∙ ap (λ l. l ++ expr_tree all ∷ []) (map-append expr_tree new (x ∷ [])) ∙ append_assoc (map expr_tree new) (expr_tree x ∷ []) (expr_tree all ∷ [])))
-    ∙ is

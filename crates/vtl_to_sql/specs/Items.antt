@@ -1,5 +1,5 @@
 -- Items of selects and conditions, as they are written.
-use Rattle.std.specs.Prelude.{List, [], ◌∷◌, Option}
+use Rattle.std.specs.Prelude.{List, [], ◌∷◌, fold, Option}
 use Rattle.std.specs.Option.{option_map_or}
 use Rattle.vtl_cell.specs.Settings.{Settings}
 use Rattle.vtl_cell.specs.declared.operator.ScalarOp.TheVariants as op
@@ -43,11 +43,13 @@ measured_item p m xs x y = item_as y.name (to_sql p of_one (with_measure m xs x 
 
 -- ---- conditions
 
--- all of them
+abbrev pub both_of : Exp → Exp → Exp
+both_of e f = tree.binary e op.And f
+
+-- all of them, joined from the left
 abbrev pub all_of : List Exp → Exp
 all_of [] = tree.constant constant.True
-all_of (e ∷ []) = e
-all_of (e ∷ f ∷ fs) = tree.binary e op.And (all_of (f ∷ fs))
+all_of (e ∷ es) = fold both_of e es
 
 -- an identifier has a value
 abbrev pub value_equality : Settings → SubItem → Exp

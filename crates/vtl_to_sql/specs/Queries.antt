@@ -1,5 +1,5 @@
 -- The query of each form of expression on data sets, over the tables of its operands.
-use Rattle.std.specs.Prelude.{ℕ, Bool, nat_lt, map, true, false, List, [], ◌∷◌, ◌++◌, length, codes, Option, Some, None, if◌then◌else◌}
+use Rattle.std.specs.Prelude.{ℕ, Bool, nat_lt, map, true, false, List, [], ◌∷◌, ◌++◌, length, codes, fold, Option, Some, None, if◌then◌else◌}
 use Rattle.vtl_cell.specs.Settings.{Settings}
 use Rattle.vtl_cell.specs.declared.cell.Cell.TheVariants as c
 use Rattle.vtl_cell.specs.declared.kind.Kind.TheVariants as k
@@ -109,11 +109,10 @@ equal e f = call op.Equal k.Bool (comp_exp e (comp_exp f no_comp_exps))
 abbrev pub holds_always : CompExp
 holds_always = const (c.Bool true)
 
--- all of them
+-- all of them, joined from the left
 abbrev pub conjunction : List CompExp → CompExp
 conjunction [] = holds_always
-conjunction (e ∷ []) = e
-conjunction (e ∷ f ∷ fs) = both e (conjunction (f ∷ fs))
+conjunction (e ∷ es) = fold both e es
 
 -- ---- `sub`: the identifiers have these values
 

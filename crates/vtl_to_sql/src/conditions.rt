@@ -34,15 +34,16 @@ pub(crate) fn between(
     })
 }
 
-/// All conditions: with none it is always true. It fails only if memory runs out.
-pub(crate) fn all_of(alloc: Global, mut conditions: Vec<SqlExpr>) -> Result<SqlExpr, AllocError>
+/// All conditions, joined from the left: with none it is always true. It fails only if memory runs out.
+pub(crate) fn all_of(alloc: Global, conditions: Vec<SqlExpr>) -> Result<SqlExpr, AllocError>
     ensures { IfOk result (λ e. expr_tree e ≡ all_of (map expr_tree conditions.items)) }
 {
-    let Some(mut all) = conditions.pop() else {
+    let mut rest = conditions.into_iter();
+    let Some(mut all) = rest.next() else {
         return Ok(SqlExpr::Constant(Constant::True));
     };
-    while let Some(condition) = conditions.pop() {
-        all = between(alloc, condition, ScalarOp::And, all)?;
+    for condition in rest {
+        all = between(alloc, all, ScalarOp::And, condition)?;
     }
     Ok(all)
 }
