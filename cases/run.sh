@@ -92,7 +92,7 @@ with_words() {
     set --
     if [ -e "$case/words" ]; then
         while IFS= read -r word || [ "$word" ]; do set -- "$@" "$word"; done <"$case/words"
-    elif [ -e "$case/script.sql" ]; then
+    elif [ -e "$folder/script.sql" ]; then
         set -- engine script.sql in out
     else
         set -- run script.vtl structures.csv in out
@@ -113,7 +113,7 @@ judged() {
         fail "$1: printed $(head -n 1 "$made/said")"
     elif ! holds "$case/told" "$made/told"; then
         fail "$1: other words on standard error"
-        diff "$case/told" "$made/told"
+        head -n 10 "$made/told"
     elif ! written "$case/expected" "$folder/out"; then
         fail "$1: other files were written"
     else
