@@ -1,6 +1,7 @@
 #!/bin/sh
-# Runs all of cases/ and examples/ by the built programs, in a few seconds: cases/run.sh [NAME ..], where a NAME is a folder
-# of cases/, `examples`, `launcher`, `sentences`, `check` or `ways`. Prints what differs, and at the end 'N passed, M failed'.
+# Runs all of cases/ and examples/ by the built programs, in less than a minute: cases/run.sh [NAME ..], where a NAME is a
+# folder of cases/, `examples`, `launcher`, `sentences`, `check` or `ways`. Prints what differs, and at the end 'N passed,
+# M failed'.
 top=$(CDPATH='' cd -- "$(dirname -- "$0")/.." && pwd) || exit 1
 vtl=$top/crates/vtl/out/vtl
 probe=$top/crates/vtl_probe/out/vtl_probe
@@ -163,17 +164,22 @@ run_by_its_text() {
     judged "$case, by the text of sql"
 }
 
-# A script and its text in SQL: it is what `sql` prints, and all three ways come to the same.
-translated() {
-    case=$1
-    laid_out || return
+# The text that `sql` prints of a script, beside the one that is wanted.
+printed_in_sql() {
     called sql script.vtl structures.csv
-    if [ "$code" = 0 ] && cmp -s "$case/script.sql" "$made/said"; then
+    if [ "$code" = 0 ] && cmp -s "$1" "$made/said"; then
         pass
     else
         fail "$case: translated otherwise, exit code $code"
-        diff "$case/script.sql" "$made/said"
+        diff "$1" "$made/said"
     fi
+}
+
+# A script and its text in SQL, which come to the same on all ways.
+translated() {
+    case=$1
+    laid_out || return
+    printed_in_sql "$case/script.sql"
     for command in run sqlrun; do
         way=", by $command"
         laid_out_again && ended "$command" script.vtl structures.csv in out
@@ -242,15 +248,18 @@ compared() {
     fi
 }
 
-# The line of a case and what is told of it, as they stand on a page.
-transcribed() {
-    cat "$2/line" "$2/told" >"$made/wanted"
-    if awk 'FNR == NR { wanted = wanted $0 "\n"; next }
+# Whether a page shows some files, one behind the other, as one listing.
+shown() {
+    page=$1
+    language=$2
+    shift 2
+    cat "$@" >"$made/wanted"
+    if awk -v fence="\`\`\`$language" 'FNR == NR { wanted = wanted $0 "\n"; next }
         { page = page $0 "\n" }
-        END { exit !index(page, "```\n" wanted "```\n") }' "$made/wanted" "$1"; then
+        END { exit !index(page, fence "\n" wanted "```\n") }' "$made/wanted" "$page"; then
         pass
     else
-        fail "$1: not what $2 tells"
+        fail "$page: does not show $*"
     fi
 }
 
@@ -341,7 +350,10 @@ for folder in cases/*/; do
     esac
 done
 if wanted examples; then
-    for case in examples/*/; do run_three_ways "$top/${case%/}"; done
+    for case in examples/*/; do
+        run_three_ways "$top/${case%/}"
+        [ ! -e "$case/text.sql" ] || printed_in_sql "$case/text.sql"
+    done
 fi
 # The launcher hands its words on, and the exit code back.
 if wanted launcher && [ -x "$vtl" ]; then
@@ -367,8 +379,11 @@ if wanted sentences; then
     compared docs/FILES.md input '| kind | where |' '2 3 4' '3 4 5'
     compared docs/FILES.md type '| type | what a field may say |' 2 3
     for case in cases/explain/mistake_*/ cases/explain/sql_syntax_other/ cases/explain/sql_type_3_of_a_query/; do
-        transcribed docs/USING.md "${case%/}"
+        shown docs/USING.md '' "$case/line" "$case/told"
     done
+    shown docs/USING.md sql examples/density/text.sql
+    shown README.md sql examples/population/text.sql
+    shown docs/SQL.md sql cases/translated/filter_and_sum/script.sql
 fi
 if wanted check && [ -x "$probe" ]; then
     for case in cases/run/*/; do
