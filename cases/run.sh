@@ -101,8 +101,8 @@ with_words() {
     "$function" "$@"
 }
 
-# Whether a file holds what another one says, which may be missing where it is to be empty.
-holds() { if [ -s "$1" ]; then cmp -s "$1" "$2"; else [ ! -s "$2" ]; fi; }
+# Whether a file has the bytes that are wanted: those of another one, or none where this is missing.
+same_bytes() { if [ -s "$1" ]; then cmp -s "$1" "$2"; else [ ! -s "$2" ]; fi; }
 
 # Compares what a call has come to with what is wanted of the case, by the name of the case and of the way.
 judged() {
@@ -110,9 +110,9 @@ judged() {
     [ ! -e "$case/code" ] || read -r wanted_code <"$case/code"
     if [ "$code" != "$wanted_code" ]; then
         fail "$1: exit code $code, wanted $wanted_code: $(head -n 1 "$made/said")"
-    elif ! holds "$case/line" "$made/said"; then
+    elif ! same_bytes "$case/line" "$made/said"; then
         fail "$1: printed $(head -n 1 "$made/said")"
-    elif ! holds "$case/told" "$made/told"; then
+    elif ! same_bytes "$case/told" "$made/told"; then
         fail "$1: other words on standard error"
         head -n 10 "$made/told"
     elif ! written "$case/expected" "$folder/out"; then
@@ -151,10 +151,10 @@ run_in_sql() {
 
 # Where there is no text, what `sql` says is compared: what refuses a script or its structures refuses it on each way.
 run_by_its_text() {
-    inputs=$3
-    outputs=$4
     script=$1
     structures=$2
+    inputs=$3
+    outputs=$4
     shift 4
     called sql "$script" "$structures" "$@"
     if [ "$code" = 0 ]; then
