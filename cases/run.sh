@@ -299,8 +299,36 @@ within() {
     if [ "$1" -le "$2" ]; then pass; else fail "$3: $1, and at most $2 are wanted"; fi
 }
 
-wanted() { [ -z "$names" ] || case " $names " in *" $1 "*) ;; *) return 1 ;; esac; }
+wanted() { case " $names " in *" $1 "*) ;; *) return 1 ;; esac; }
 
+# All of it, in three parts side by side.
+run_all() {
+    names='examples launcher sentences check ways'
+    for folder in "$top"/cases/*/; do
+        case $(basename "$folder") in
+            run | engine | translated) ;;
+            *) names="$names $(basename "$folder")" ;;
+        esac
+    done
+    "$top/cases/run.sh" run >"$made/part.1" &
+    "$top/cases/run.sh" engine translated >"$made/part.2" &
+    # shellcheck disable=SC2086 # the names are parted by blanks
+    "$top/cases/run.sh" $names >"$made/part.3" &
+    wait
+    awk '
+        /^[0-9]+ passed, [0-9]+ failed$/ { passed += $1; failed += $3; parts++; next }
+        { print }
+        END {
+            if (parts != 3) print "a part has no verdict"
+            print passed + 0 " passed, " failed + 0 " failed"
+            exit failed > 0 || parts != 3
+        }' "$made"/part.*
+}
+
+if [ $# = 0 ]; then
+    run_all
+    exit
+fi
 names=$*
 for program in "$vtl" "$probe"; do
     [ -x "$program" ] || fail "there is no program at $program; scripts/build.sh $(basename "$program") builds it"
