@@ -1,10 +1,10 @@
 #!/bin/sh
-# Runs all of cases/ and examples/ by the built programs, in a few seconds: cases/run.sh [NAME ..], where a NAME is a folder
-# of cases/, `examples`, `launcher`, `sentences`, `check` or `ways`. Prints what differs, and at the end 'N passed, M failed'.
+# Runs all of cases/ and examples/ by the built programs, in less than a minute: cases/run.sh [NAME ..], where a NAME is a
+# folder of cases/, `examples`, `launcher`, `sentences`, `check` or `ways`. Prints what differs, and at the end 'N passed,
+# M failed'.
 top=$(CDPATH='' cd -- "$(dirname -- "$0")/.." && pwd) || exit 1
 vtl=$top/crates/vtl/out/vtl
 probe=$top/crates/vtl_probe/out/vtl_probe
-translator=$top/crates/vtl_probe_sql/out/vtl_probe_sql
 made=$(mktemp -d) || exit 1
 trap 'chmod -R u+rwx "$made"; rm -rf "$made"' EXIT
 newline='
@@ -52,11 +52,16 @@ printed() {
     fi
 }
 
-# The words of a run, one a line, and then the run in the folder; its standard output and exit code are left in files.
+# A call of the program in the folder. What it prints is left in files, but where the case names a device for its standard
+# output.
 called() {
-    set --
-    while IFS= read -r word || [ "$word" ]; do set -- "$@" "$word"; done <"$words"
-    (cd "$folder" && "$program" "$@" >"$made/said" 2>"$made/told" </dev/null)
+    output=$made/said
+    if [ -e "$case/stdout" ]; then
+        : >"$made/said"
+        read -r output <"$case/stdout"
+    fi
+    (cd "$folder" && "$program" "$@" >"$output" 2>"$made/told" </dev/null)
+    code=$?
 }
 
 # The files of a case in a folder of their own, with an empty folder for what is written.
@@ -65,30 +70,51 @@ laid_out() {
     rm -rf "$folder"
     cp -R "$case" "$folder"
     [ -e "$folder/structures.csv" ] || [ ! -e "$case/../structures.csv" ] || cp "$case/../structures.csv" "$folder"
-    rm -rf "$folder/expected" "$folder/line" "$folder/code" "$folder/told" "$folder/words" "$folder/setup" "$folder/out"
-    mkdir "$folder/out"
+    (cd "$folder" && rm -rf expected line code told words setup stdout out && mkdir out) || return
     if [ -e "$case/setup" ] && ! (cd "$folder" && sh "$case/setup"); then
         fail "$case: setup failed"
         return 1
     fi
 }
 
-# Carries out the words in the folder: it must come to what is wanted of the case, which is reported by this name.
-ended() {
-    called
-    code=$?
-    wanted_code=$(cat "$case/code" 2>/dev/null || echo 0)
-    wanted_line=$case/line
-    [ -e "$wanted_line" ] || wanted_line=/dev/null
-    wanted_told=$case/told
-    [ -e "$wanted_told" ] || wanted_told=/dev/null
+# The same folder, before another way of the same run.
+laid_out_again() {
+    if [ -e "$case/setup" ]; then
+        laid_out
+    else
+        rm -rf "$folder/out"
+        mkdir "$folder/out"
+    fi
+}
+
+# Calls a function with the words of the case.
+with_words() {
+    function=$1
+    set --
+    if [ -e "$case/words" ]; then
+        while IFS= read -r word || [ "$word" ]; do set -- "$@" "$word"; done <"$case/words"
+    elif [ -e "$folder/script.sql" ]; then
+        set -- engine script.sql in out
+    else
+        set -- run script.vtl structures.csv in out
+    fi
+    "$function" "$@"
+}
+
+# Whether a file has the bytes that are wanted: those of another one, or none where this is missing.
+same_bytes() { if [ -s "$1" ]; then cmp -s "$1" "$2"; else [ ! -s "$2" ]; fi; }
+
+# Compares what a call has come to with what is wanted of the case, by the name of the case and of the way.
+judged() {
+    wanted_code=0
+    [ ! -e "$case/code" ] || read -r wanted_code <"$case/code"
     if [ "$code" != "$wanted_code" ]; then
         fail "$1: exit code $code, wanted $wanted_code: $(head -n 1 "$made/said")"
-    elif ! cmp -s "$wanted_line" "$made/said"; then
+    elif ! same_bytes "$case/line" "$made/said"; then
         fail "$1: printed $(head -n 1 "$made/said")"
-    elif ! cmp -s "$wanted_told" "$made/told"; then
+    elif ! same_bytes "$case/told" "$made/told"; then
         fail "$1: other words on standard error"
-        diff "$wanted_told" "$made/told"
+        head -n 10 "$made/told"
     elif ! written "$case/expected" "$folder/out"; then
         fail "$1: other files were written"
     else
@@ -96,54 +122,70 @@ ended() {
     fi
 }
 
+# Carries out the words in the folder: it must come to what is wanted of the case.
+ended() {
+    called "$@"
+    judged "$case$way"
+}
+
 # A whole run: a folder with its files, and what is wanted.
 run() {
     case=$1
-    laid_out || return
-    words=$case/words
-    if [ ! -e "$words" ]; then
-        words=$made/words
-        set -- run script.vtl structures.csv in out
-        [ ! -e "$folder/script.sql" ] || set -- engine script.sql in out
-        printf '%s\n' "$@" >"$words"
-    fi
-    ended "$case"
+    way=
+    laid_out && with_words ended
 }
 
-# The script of a run in SQL, where all its forms are translated so far: over the same data it comes to the same.
+# The same by the script's text in SQL: by `sqlrun`, and by `engine` on the text that `sql` prints.
+run_three_ways() {
+    run "$1"
+    with_words run_in_sql
+}
+
 run_in_sql() {
-    case=$1
-    [ -e "$case/script.vtl" ] || return
-    set -- run script.vtl structures.csv in out
-    if [ -e "$case/words" ]; then
-        set --
-        while IFS= read -r word || [ "$word" ]; do set -- "$@" "$word"; done <"$case/words"
-    fi
-    [ "$1 $2 $3 $4 $5" = 'run script.vtl structures.csv in out' ] || return
-    shift 5
-    laid_out || return
-    (cd "$folder" && "$translator" script.vtl structures.csv "$@" >script.sql 2>"$made/told") || return
-    words=$made/words
-    printf '%s\n' engine script.sql in out >"$words"
-    ended "$case, in SQL"
+    [ "$1" = run ] && [ ! -e "$case/stdout" ] || return
+    shift
+    way=', by sqlrun'
+    laid_out_again && ended sqlrun "$@"
+    [ $# -ge 4 ] && laid_out_again && run_by_its_text "$@"
 }
 
-# A script and its text in SQL, which comes to the same by the engine.
-translated() {
-    "$translator" "$1/script.vtl" "$1/structures.csv" >"$made/said" 2>"$made/told"
-    code=$?
-    if [ "$code" = 0 ] && cmp -s "$1/script.sql" "$made/said"; then
+# Where there is no text, what `sql` says is compared: what refuses a script or its structures refuses it on each way.
+run_by_its_text() {
+    script=$1
+    structures=$2
+    inputs=$3
+    outputs=$4
+    shift 4
+    called sql "$script" "$structures" "$@"
+    if [ "$code" = 0 ]; then
+        mv "$made/said" "$folder/text.sql"
+        called engine text.sql "$inputs" "$outputs"
+    fi
+    judged "$case, by the text of sql"
+}
+
+# The text that `sql` prints of a script, beside the one that is wanted.
+printed_in_sql() {
+    called sql script.vtl structures.csv
+    if [ "$code" = 0 ] && cmp -s "$1" "$made/said"; then
         pass
     else
-        fail "$1: translated otherwise, exit code $code"
-        diff "$1/script.sql" "$made/said"
+        fail "$case: translated otherwise, exit code $code"
+        diff "$1" "$made/said"
     fi
-    run "$1"
+}
+
+# A script and its text in SQL, which come to the same on all ways.
+translated() {
     case=$1
     laid_out || return
-    words=$made/words
-    printf '%s\n' run script.vtl structures.csv in out >"$words"
-    ended "$case, interpreted"
+    printed_in_sql "$case/script.sql"
+    for command in run sqlrun; do
+        way=", by $command"
+        laid_out_again && ended "$command" script.vtl structures.csv in out
+    done
+    way=', by engine'
+    laid_out_again && ended engine script.sql in out
 }
 
 # A run by the launcher, which explains its line; without a structures file of its own it has the one beside the cases.
@@ -206,15 +248,18 @@ compared() {
     fi
 }
 
-# The line of a case and what is told of it, as they stand on a page.
-transcribed() {
-    cat "$2/line" "$2/told" >"$made/wanted"
-    if awk 'FNR == NR { wanted = wanted $0 "\n"; next }
+# Whether a page shows some files, one behind the other, as one listing.
+shown() {
+    page=$1
+    language=$2
+    shift 2
+    cat "$@" >"$made/wanted"
+    if awk -v fence="\`\`\`$language" 'FNR == NR { wanted = wanted $0 "\n"; next }
         { page = page $0 "\n" }
-        END { exit !index(page, "```\n" wanted "```\n") }' "$made/wanted" "$1"; then
+        END { exit !index(page, fence "\n" wanted "```\n") }' "$made/wanted" "$page"; then
         pass
     else
-        fail "$1: not what $2 tells"
+        fail "$page: does not show $*"
     fi
 }
 
@@ -254,10 +299,38 @@ within() {
     if [ "$1" -le "$2" ]; then pass; else fail "$3: $1, and at most $2 are wanted"; fi
 }
 
-wanted() { [ -z "$names" ] || case " $names " in *" $1 "*) ;; *) return 1 ;; esac; }
+wanted() { case " $names " in *" $1 "*) ;; *) return 1 ;; esac; }
 
+# All of it, in three parts side by side.
+run_all() {
+    names='examples launcher sentences check ways'
+    for folder in "$top"/cases/*/; do
+        case $(basename "$folder") in
+            run | engine | translated) ;;
+            *) names="$names $(basename "$folder")" ;;
+        esac
+    done
+    "$top/cases/run.sh" run >"$made/part.1" &
+    "$top/cases/run.sh" engine translated >"$made/part.2" &
+    # shellcheck disable=SC2086 # the names are parted by blanks
+    "$top/cases/run.sh" $names >"$made/part.3" &
+    wait
+    awk '
+        /^[0-9]+ passed, [0-9]+ failed$/ { passed += $1; failed += $3; parts++; next }
+        { print }
+        END {
+            if (parts != 3) print "a part has no verdict"
+            print passed + 0 " passed, " failed + 0 " failed"
+            exit failed > 0 || parts != 3
+        }' "$made"/part.*
+}
+
+if [ $# = 0 ]; then
+    run_all
+    exit
+fi
 names=$*
-for program in "$vtl" "$probe" "$translator"; do
+for program in "$vtl" "$probe"; do
     [ -x "$program" ] || fail "there is no program at $program; scripts/build.sh $(basename "$program") builds it"
 done
 cd "$top" || exit 1
@@ -266,11 +339,9 @@ for folder in cases/*/; do
     word=$(basename "$folder")
     wanted "$word" || continue
     case $word in
-        run | engine) for case in "cases/$word"/*/; do run "$top/${case%/}"; done ;;
-        translated)
-            for case in cases/translated/*/; do translated "$top/${case%/}"; done
-            for case in cases/run/*/ examples/*/; do run_in_sql "$top/${case%/}"; done
-            ;;
+        run) for case in cases/run/*/; do run_three_ways "$top/${case%/}"; done ;;
+        engine) for case in cases/engine/*/; do run "$top/${case%/}"; done ;;
+        translated) for case in cases/translated/*/; do translated "$top/${case%/}"; done ;;
         explain)
             program=$top/vtl
             VTL_EXPLAIN=1
@@ -307,12 +378,17 @@ for folder in cases/*/; do
     esac
 done
 if wanted examples; then
-    for case in examples/*/; do run "$top/${case%/}"; done
+    for case in examples/*/; do
+        run_three_ways "$top/${case%/}"
+        [ ! -e "$case/text.sql" ] || printed_in_sql "$case/text.sql"
+    done
 fi
 # The launcher hands its words on, and the exit code back.
 if wanted launcher && [ -x "$vtl" ]; then
     program=$top/vtl
-    for case in words_none no_script filter_keeps_points_above_five; do run "$top/cases/run/$case"; done
+    for case in words_none no_script filter_keeps_points_above_five sql_of_a_filter sqlrun_of_a_filter; do
+        run "$top/cases/run/$case"
+    done
     VTL_EXPLAIN=0
     export VTL_EXPLAIN
     run "$top/cases/run/no_script"
@@ -331,8 +407,11 @@ if wanted sentences; then
     compared docs/FILES.md input '| kind | where |' '2 3 4' '3 4 5'
     compared docs/FILES.md type '| type | what a field may say |' 2 3
     for case in cases/explain/mistake_*/ cases/explain/sql_syntax_other/ cases/explain/sql_type_3_of_a_query/; do
-        transcribed docs/USING.md "${case%/}"
+        shown docs/USING.md '' "$case/line" "$case/told"
     done
+    shown docs/USING.md sql examples/density/text.sql
+    shown README.md sql examples/population/text.sql
+    shown docs/SQL.md sql cases/translated/filter_and_sum/script.sql
 fi
 if wanted check && [ -x "$probe" ]; then
     for case in cases/run/*/; do
@@ -348,7 +427,7 @@ if wanted ways; then
     while read -r word first second; do
         case $word in
             ways) within "$second" 5000 "ways down from $first" ;;
-            chain) within "$first" 15 "libraries in the longest chain, $second" ;;
+            chain) within "$first" 16 "libraries in the longest chain, $second" ;;
         esac
     done <"$made/said"
 fi

@@ -53,13 +53,15 @@ files_at_hand() {
     [ ! -f "$inputs/${dataset%% *}.csv" ] || printf 'input '
 }
 
+newline='
+'
 fact=
 names=
 case $said in
+    "error: write fault: -$newline") fact="this is standard output" ;;
     'error: no file: '* | 'error: read fault: '* | 'error: write fault: '*)
         path=${said#*: *: }
-        path=${path%"
-"}
+        path=${path%"$newline"}
         seen_at "$path"
         [ -e "$path" ] || [ ! -d "$folder" ] || names=$(names_in "$folder")
         ;;

@@ -363,7 +363,7 @@ function not_text_line(path,    line, number) {
 
 # `error: usage`
 function usage_line(    paths) {
-    paths = ARGV[1] == "check" ? 2 : 4
+    paths = ARGV[1] ~ /^(check|sql)$/ ? 2 : 4
     tell("here", of_engine ? engine_words_fact() : words_fact(paths))
     tell_status("Usage")
 }
@@ -371,9 +371,12 @@ function usage_line(    paths) {
 # The first word that has no place.
 function words_fact(paths,    i, seen) {
     if (ARGC < 2) return "no words"
-    if (ARGV[1] !~ /^(run|check)$/) return quoted(ARGV[1]) " is no command"
+    if (ARGV[1] !~ /^(run|sqlrun|sql|check)$/) return quoted(ARGV[1]) " is no command"
     for (i = 1; i < ARGC; i++) if (!is_text(ARGV[i])) return "a word is not UTF-8"
-    for (i = 2; i < ARGC && i < paths + 2; i++) if (ARGV[i] ~ /^--(scale|round)$/) return quoted(ARGV[i]) " stands for a path"
+    for (i = 2; i < ARGC && i < paths + 2; i++) {
+        if (ARGV[i] ~ /^--(scale|round)$/) return quoted(ARGV[i]) " stands for a path"
+        if (ARGV[i] == "") return "a path is empty"
+    }
     if (ARGC < paths + 2) return (ARGC - 2) " of " paths " paths"
     for (i = paths + 2; i < ARGC; i += 2) {
         if (ARGV[i] !~ /^--(scale|round)$/) return quoted(ARGV[i]) " is no option"
