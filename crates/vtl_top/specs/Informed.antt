@@ -2,7 +2,7 @@
 use Rattle.std.specs.Prelude.{◌≡◌, ⊤, Option, None, Some, Ok, IfSome}
 use Rattle.vtl_files.specs.declared.files.Files.{Ghosts}
 use Rattle.vtl_interp.specs.Checked.{TypedScript, nodes_of, tree_of}
-use Rattle.vtl_top.specs.Expected.{Typed, typed_by, typed_step}
+use Rattle.vtl_top.specs.Expected.{Typed, built_step, typed_by}
 use Rattle.vtl_top.specs.Steps.{Held}
 use Rattle.vtl_top.specs.Words.{Command, Source, engine, run, sql, sqlrun}
 use Rattle.vtl_status.specs.declared.status.Status.{Status}
@@ -22,7 +22,7 @@ typed_view t = typed_by (tree_of t) t.declared t.settings (nodes_of t)
 -- The back end was told of the script that these held files give.
 pub record IsTold (held : Held) (s : Source) (told : TypedScript → Type 0) : Type 0 where
   pub script : TypedScript
-  pub given : (typed_step s).gives held (Ok (typed_view script))
+  pub given : (built_step s).gives held (Ok (typed_view script))
   pub told_of : told script
 
 -- A run that evaluated its script told the back end of it, where the held files are told.

@@ -104,13 +104,13 @@ source_of (script ∷ structures ∷ options) =
     if list_all is_path (script ∷ structures ∷ []) then option_map (source_with script structures) (settings_in options) else None
 source_of _ = None
 
-abbrev pub run_with : (script structures input output : Path) → Settings → Run
-run_with script structures input output settings = record { source = source_with script structures settings; input = input; output = output }
+abbrev pub run_with : (input output : Path) → Source → Run
+run_with input output source = record { source = source; input = input; output = output }
 
 -- the words behind `run` and `sqlrun`: SCRIPT STRUCTURES IN OUT, each a path, and then options
 abbrev pub run_of : List Text → Option Run
 run_of (script ∷ structures ∷ input ∷ output ∷ options) =
-    if list_all is_path (script ∷ structures ∷ input ∷ output ∷ []) then option_map (run_with script structures input output) (settings_in options) else None
+    if list_all is_path (input ∷ output ∷ []) then option_map (run_with input output) (source_of (script ∷ structures ∷ options)) else None
 run_of _ = None
 
 abbrev pub engine_with : (sql input output : Path) → Engine
