@@ -13,21 +13,23 @@ use Rattle.vtl_interp.specs.Script.{has_definitions}
 use Rattle.vtl_interp.specs.Uses.{reads}
 use Rattle.vtl_interp.specs.Meaning.{is_built}
 use Rattle.vtl_top.specs.Asked.{asked_step}
-use Rattle.vtl_top.specs.Expected.{content, csv_limit, dataset_step, file_in, inputs_step, meant, one_more_step, outputs_of, points_or_fault, read, run_step, script_limit, script_of, script_step, structures_limit, structures_step, typed_by, typed_step, typing_of, unbuilt, with_points}
+use Rattle.vtl_top.specs.Expected.{IsTextOf, Typed, built_step, content, csv_limit, dataset_step, file_in, inputs_step, meant, one_more_step, outputs_of, points_or_fault, read, run_step, script_limit, script_of, script_step, structures_limit, structures_step, text_step, typed_by, typed_step, typing_of, unbuilt, with_points}
 use Rattle.vtl_top.specs.ScriptFile.{faulty, no_text, whole}
-use Rattle.vtl_top.specs.Steps.{Held, Made, Path, Step, ◌>>=◌, only_files, refused_if, settled}
+use Rattle.vtl_top.specs.Steps.{Held, Made, Path, Step, ◌>>=◌, only_files, only_text, refused_if, settled}
 use Rattle.vtl_top.specs.Structures.{structures_in}
-use Rattle.vtl_top.specs.Words.{Command, Engine, Run, Source, engine, run}
+use Rattle.vtl_top.specs.Words.{Command, Engine, Run, Source, engine, run, sql, sqlrun}
 use Rattle.vtl_status.specs.declared.status.Status.{Status}
 use Rattle.vtl_status.specs.declared.status.Status.TheVariants as st
-use Rattle.vtl_top.proofs.MeantLemmas.{after_built, after_plain, after_script, after_structures, after_typing}
+use Rattle.vtl_top.specs.Meant.{IsAccepted}
+use Rattle.vtl_top.proofs.MeantLemmas.{accepted_only, after_built, after_plain, after_script, after_structures, after_typing}
+use Rattle.vtl_top.proofs.Once.{IsNoText}
 use Rattle.vtl_top.proofs.TextsRead.{Read, either_way, read_somehow, then_too, there_is}
 use Rattle.vtl_files.specs.Outside.{bytes_at}
 use Rattle.sql_engine.specs.TypingStatements.{script_fault, script_settings}
 use Rattle.vtl_top.specs.SqlInputs.{input_structures, rows_by_name}
 use Rattle.sql_engine.specs.Windows.{script_has_window}
 use Rattle.sql_engine.specs.Scripts.{script_value}
-use Rattle.sql_tree.specs.Texts as sql
+use Rattle.sql_tree.specs.Texts as texts
 use Rattle.sql_tree.specs.Trees.{ScriptTree as SqlTree}
 use Rattle.vtl_top.specs.SqlRun.{engine_step, exports_of, present, read_whole, sql_checked_step, sql_of, sql_step, sql_typing, sql_unbuilt}
 use Rattle.vtl_top.proofs.SqlSteps.{after_checked, after_sql, after_windows}
@@ -84,17 +86,22 @@ typed_total s held =
     onward_total (settled (typing_of s tree structures)) (λ nodes. settled (Ok (typed_by tree structures s.settings nodes))) held (settled_total (typing_of s tree structures) held) (λ nodes.
     settled_total (Ok (typed_by tree structures s.settings nodes)) held))))
 
+built_total : (s : Source) (held : Held) → Total (built_step s) held
+built_total s held =
+    onward_total (typed_step s) (after_typing s) held (typed_total s held) (λ t.
+    onward_total (refused_if (not (list_all is_built t.nodes)) (unbuilt s)) (λ built. settled (Ok t)) held (refused_total (not (list_all is_built t.nodes)) (unbuilt s) held) (λ built.
+    settled_total (Ok t) held))
+
 run_total : (r : Run) (held : Held) → Total (run_step r) held
 run_total r held =
-    onward_total (typed_step r.source) (after_typing r) held (typed_total r.source held) (λ t.
-    onward_total (refused_if (not (list_all is_built t.nodes)) (unbuilt r.source)) (λ built. after_built r t) held (refused_total (not (list_all is_built t.nodes)) (unbuilt r.source) held) (λ built.
+    onward_total (built_step r.source) (after_built r) held (built_total r.source held) (λ t.
     onward_total (inputs_step r.input t.settings [] (reads t.structures t.nodes)) (λ env. settled (outputs_of r.output t.settings (meant t env))) held (inputs_total r.input t.settings [] (reads t.structures t.nodes) held) (λ env.
-    settled_total (outputs_of r.output t.settings (meant t env)) held)))
+    settled_total (outputs_of r.output t.settings (meant t env)) held))
 
 sql_total : (path bytes : List ℕ) (held : Held) → Total (sql_of path bytes) held
 sql_total path bytes held = either_way {X = IsUtf8 bytes} (λ utf8. then_too (sql_read_somehow bytes) (by_text utf8)) (λ none. there_is (Err (st.NotText (chars path)), (no_text, none, refl)))
   where
-    by_text : IsUtf8 bytes → ((script : SqlTree) × sql.IsScript bytes script) ⊎ ((done : ℕ) × (byte : ℕ) × sql.IsFaulty bytes done byte) → Total (sql_of path bytes) held
+    by_text : IsUtf8 bytes → ((script : SqlTree) × texts.IsScript bytes script) ⊎ ((done : ℕ) × (byte : ℕ) × texts.IsFaulty bytes done byte) → Total (sql_of path bytes) held
     by_text utf8 (inl (script, is)) = there_is (Ok script, (whole script, (utf8, is), refl))
     by_text utf8 (inr (done, byte, is)) = there_is (Err (st.SqlSyntax done byte), (faulty done byte, (utf8, is), refl))
 
@@ -115,10 +122,24 @@ engine_total e held =
     (inputs_total e.input (script_settings tree) [] (input_structures tree) held) (λ env.
     settled_total (exports_of e.output (script_settings tree) (script_value tree (rows_by_name env))) held))
 
-total : (command : Option Command) (held : Held) → Total (asked_step command) held
-total None held = settled_total (Err st.Usage) held
-total (Some (run r)) held = onward_total (run_step r) (λ files. settled (Ok (only_files files))) held (run_total r held) (λ files. settled_total (Ok (only_files files)) held)
-total (Some (engine e)) held = onward_total (engine_step e) (λ files. settled (Ok (only_files files))) held (engine_total e held) (λ files. settled_total (Ok (only_files files)) held)
+total : (command : Option Command) (held : Held) → IsNoText command → Total (asked_step command) held
+total None held other_command = settled_total (Err st.Usage) held
+total (Some (run r)) held other_command = onward_total (run_step r) (λ files. settled (Ok (only_files files))) held (run_total r held) (λ files. settled_total (Ok (only_files files)) held)
+total (Some (sqlrun r)) held other_command = onward_total (run_step r) (λ files. settled (Ok (only_files files))) held (run_total r held) (λ files. settled_total (Ok (only_files files)) held)
+total (Some (sql s)) held other_command = absurd (other_command s refl)
+total (Some (engine e)) held other_command = onward_total (engine_step e) (λ files. settled (Ok (only_files files))) held (engine_total e held) (λ files. settled_total (Ok (only_files files)) held)
 
-pub not_without : (command : Option Command) (held : Held) → ¬ ((given : Result Made Status) → ¬ (asked_step command).gives held given)
-not_without command held none = total command held (λ p. none p.0 p.1)
+pub not_without : (command : Option Command) (held : Held) → IsNoText command → ¬ ((given : Result Made Status) → ¬ (asked_step command).gives held given)
+not_without command held other_command none = total command held other_command (λ p. none p.0 p.1)
+
+-- ---- a text, where the script has one
+module _ (s : Source) (held : Held) (has : (t : Typed) → IsAccepted s held t → (text : List ℕ) × IsTextOf t text) where
+  text_total : Total (text_step s) held
+  text_total = then_too (built_total s held) (λ p. by_first p.0 p.1)
+    where
+      by_first : (m : Result Typed Status) → (built_step s).gives held m → Total (text_step s) held
+      by_first (Ok t) is = let text = has t (accepted_only s held t is) in there_is (Ok text.0, (Ok t, is, (text.0, refl, text.1)))
+      by_first (Err status) is = there_is (Err status, (Err status, is, refl))
+
+  pub texts_not_without : ¬ ((given : Result Made Status) → ¬ (asked_step (Some (sql s))).gives held given)
+  texts_not_without none = onward_total (text_step s) (λ text. settled (Ok (only_text text))) held text_total (λ text. settled_total (Ok (only_text text)) held) (λ p. none p.0 p.1)

@@ -18,7 +18,7 @@ use Rattle.vtl_interp.specs.Meaning.{Outputs, is_built}
 use Rattle.vtl_interp.specs.Checked.{env_over}
 use Rattle.vtl_interp.specs.Script.{has_definitions, script_typed}
 use Rattle.vtl_interp.specs.Uses.{reads}
-use Rattle.vtl_top.specs.Expected.{Typed, csv_limit, dataset_step, fault_status, file_in, inputs_step, meant, one_more_step, outputs_of, points_or_fault, read, run_step, script_in, script_limit, script_of, script_step, sized, structures_limit, structures_step, typed_by, typed_or_fault, typed_step, typing_of, unbuilt, with_points}
+use Rattle.vtl_top.specs.Expected.{Typed, built_step, csv_limit, dataset_step, fault_status, file_in, inputs_step, meant, one_more_step, outputs_of, points_or_fault, read, run_step, script_in, script_limit, script_of, script_step, sized, structures_limit, structures_step, text_for, text_step, typed_by, typed_or_fault, typed_step, typing_of, unbuilt, with_points}
 use Rattle.vtl_top.specs.Meant.{IsFaulted, IsMistyped, IsRead, IsReady}
 use Rattle.std.specs.Option.{IfSome}
 use Rattle.vtl_files.specs.declared.files.Files.{Ghosts}
@@ -178,7 +178,25 @@ module _ (status : Status) (own : is_other (cause status) ≡ false) (held : Hel
       at_script (inl e) = absurd (never_onward (read s.script script_limit) (script_of s.script) (never_read s.script script_limit) (never_script s.script) e)
       at_script (inr (tree, is, rest)) = at_plain tree is (refused_at (refused_if (has_definitions tree) (unbuilt s)) (λ plain. after_plain s tree) held status rest)
 
-  -- ---- a run by its typing, or by what it means
+  by_types_built : (s : Source) → (built_step s).gives held (Err status) → ByTypes s
+  by_types_built s gives = at_types (refused_at (typed_step s) (after_typing s) held status gives)
+    where
+      at_built : (t : Typed) → (refused_if (not (list_all is_built t.nodes)) (unbuilt s)).gives held (Err status) ⊎ ((u : Unit {0}) × (refused_if (not (list_all is_built t.nodes)) (unbuilt s)).gives held (Ok u) × (settled (Ok t)).gives held (Err status)) → ByTypes s
+      at_built t (inl e) = absurd (never_refused (not (list_all is_built t.nodes)) (unbuilt s) refl e)
+      at_built t (inr (u, built, e)) = absurd (never_ok t e)
+
+      at_types : (typed_step s).gives held (Err status) ⊎ ((t : Typed) × (typed_step s).gives held (Ok t) × (after_typing s t).gives held (Err status)) → ByTypes s
+      at_types (inl e) = by_types_alone s e
+      at_types (inr (t, is, rest)) = at_built t (refused_at (refused_if (not (list_all is_built t.nodes)) (unbuilt s)) (λ built. settled (Ok t)) held status rest)
+
+  -- ---- a text by the typing of its script, and a run by that, or by what it means
+  by_text : (s : Source) → (text_step s).gives held (Err status) → ByTypes s
+  by_text s gives = at_built (refused_at (built_step s) text_for held status gives)
+    where
+      at_built : (built_step s).gives held (Err status) ⊎ ((t : Typed) × (built_step s).gives held (Ok t) × (text_for t).gives held (Err status)) → ByTypes s
+      at_built (inl e) = by_types_built s e
+      at_built (inr (t, is, rest)) = absurd (never_ok rest.0 rest.1)
+
   record ByValues (r : Run) : Type 0 where
     typed : Typed
     inputs : Environment
@@ -186,23 +204,17 @@ module _ (status : Status) (own : is_other (cause status) ≡ false) (held : Hel
     values : Err status ≡ outputs_of r.output typed.settings (meant typed inputs)
 
   by_run : (r : Run) → (run_step r).gives held (Err status) → ByTypes r.source ⊎ ByValues r
-  by_run r gives = at_types (refused_at (typed_step r.source) (after_typing r) held status gives)
+  by_run r gives = at_built (refused_at (built_step r.source) (after_built r) held status gives)
     where
-      at_values : (t : Typed) (u : Unit {0}) → (typed_step r.source).gives held (Ok t) → (refused_if (not (list_all is_built t.nodes)) (unbuilt r.source)).gives held (Ok u)
+      at_values : (t : Typed) → (built_step r.source).gives held (Ok t)
           → (inputs_step r.input t.settings [] (reads t.structures t.nodes)).gives held (Err status)
           ⊎ ((env : Environment) × (inputs_step r.input t.settings [] (reads t.structures t.nodes)).gives held (Ok env) × (settled (outputs_of r.output t.settings (meant t env))).gives held (Err status)) → ByTypes r.source ⊎ ByValues r
-      at_values t u typed built (inl e) = absurd (never_inputs r.input t.settings [] (reads t.structures t.nodes) e)
-      at_values t u typed built (inr (env, is, rest)) = inr (record { typed = t; inputs = env; ready = ready_from r held t env u typed built is; values = rest })
+      at_values t built (inl e) = absurd (never_inputs r.input t.settings [] (reads t.structures t.nodes) e)
+      at_values t built (inr (env, is, rest)) = inr (record { typed = t; inputs = env; ready = ready_from r held t env built is; values = rest })
 
-      at_built : (t : Typed) → (typed_step r.source).gives held (Ok t)
-          → (refused_if (not (list_all is_built t.nodes)) (unbuilt r.source)).gives held (Err status)
-          ⊎ ((u : Unit {0}) × (refused_if (not (list_all is_built t.nodes)) (unbuilt r.source)).gives held (Ok u) × (after_built r t).gives held (Err status)) → ByTypes r.source ⊎ ByValues r
-      at_built t typed (inl e) = absurd (never_refused (not (list_all is_built t.nodes)) (unbuilt r.source) refl e)
-      at_built t typed (inr (u, built, rest)) = at_values t u typed built (refused_at (inputs_step r.input t.settings [] (reads t.structures t.nodes)) (λ env. settled (outputs_of r.output t.settings (meant t env))) held status rest)
-
-      at_types : (typed_step r.source).gives held (Err status) ⊎ ((t : Typed) × (typed_step r.source).gives held (Ok t) × (after_typing r t).gives held (Err status)) → ByTypes r.source ⊎ ByValues r
-      at_types (inl e) = inl (by_types_alone r.source e)
-      at_types (inr (t, is, rest)) = at_built t is (refused_at (refused_if (not (list_all is_built t.nodes)) (unbuilt r.source)) (λ built. after_built r t) held status rest)
+      at_built : (built_step r.source).gives held (Err status) ⊎ ((t : Typed) × (built_step r.source).gives held (Ok t) × (after_built r t).gives held (Err status)) → ByTypes r.source ⊎ ByValues r
+      at_built (inl e) = inl (by_types_built r.source e)
+      at_built (inr (t, is, rest)) = at_values t is (refused_at (inputs_step r.input t.settings [] (reads t.structures t.nodes)) (λ env. settled (outputs_of r.output t.settings (meant t env))) held status rest)
 
 -- ---- by types
 typing_fault : (i rule : ℕ) (typing : Result (List NodeTree) (ℕ × ℕ)) → Err (st.Mistyped i rule) ≡ typed_or_fault typing → typing ≡ Err (i, rule)
@@ -220,20 +232,31 @@ values_give_no_type i rule folder p (Err fault) e = go fault.0 e
     go DivZero e = cc
     go Range e = cc
 
+mistyped_by : (s : Source) (held : Held) (i rule : ℕ) → ByTypes (st.Mistyped i rule) refl held s → IsMistyped s held i rule
+mistyped_by s held i rule b = record { tree = b.tree; structures = b.structures; source = b.is_read; fault = typing_fault i rule (script_typed (env_over s.settings b.structures) b.tree) b.typing }
+
 pub mistyped_only : (r : Run) (held : Held) (i rule : ℕ) → (run_step r).gives held (Err (st.Mistyped i rule)) → IsMistyped r.source held i rule
 mistyped_only r held i rule gives = go (by_run (st.Mistyped i rule) refl held r gives)
   where
     go : ByTypes (st.Mistyped i rule) refl held r.source ⊎ ByValues (st.Mistyped i rule) refl held r → IsMistyped r.source held i rule
-    go (inl b) = record { tree = b.tree; structures = b.structures; source = b.is_read; fault = typing_fault i rule (script_typed (env_over r.source.settings b.structures) b.tree) b.typing }
+    go (inl b) = mistyped_by r.source held i rule b
     go (inr b) = absurd (values_give_no_type i rule r.output b.typed.settings (meant b.typed b.inputs) b.values)
 
-pub mistyped_always : (r : Run) (held : Held) (i rule : ℕ) → IsMistyped r.source held i rule → (run_step r).gives held (Err (st.Mistyped i rule))
-mistyped_always r held i rule is =
-    let s = r.source in
+pub mistyped_text_only : (s : Source) (held : Held) (i rule : ℕ) → (text_step s).gives held (Err (st.Mistyped i rule)) → IsMistyped s held i rule
+mistyped_text_only s held i rule gives = mistyped_by s held i rule (by_text (st.Mistyped i rule) refl held s gives)
+
+mistyped_built : (s : Source) (held : Held) (i rule : ℕ) → IsMistyped s held i rule → (built_step s).gives held (Err (st.Mistyped i rule))
+mistyped_built s held i rule is =
     let typing : (settled (typing_of s is.tree is.structures)).gives held (Err (st.Mistyped i rule)) = sym (ap typed_or_fault is.fault) in
     let typed : (typed_step s).gives held (Err (st.Mistyped i rule)) =
     (Ok is.tree, script_there s held is.tree is.structures is.source, (Ok tt, passes (has_definitions is.tree) (unbuilt s) is.source.plain, (Ok is.structures, is.source.declared, (Err (st.Mistyped i rule), typing, refl)))) in
     (Err (st.Mistyped i rule), typed, refl)
+
+pub mistyped_always : (r : Run) (held : Held) (i rule : ℕ) → IsMistyped r.source held i rule → (run_step r).gives held (Err (st.Mistyped i rule))
+mistyped_always r held i rule is = (Err (st.Mistyped i rule), mistyped_built r.source held i rule is, refl)
+
+pub mistyped_text_always : (s : Source) (held : Held) (i rule : ℕ) → IsMistyped s held i rule → (text_step s).gives held (Err (st.Mistyped i rule))
+mistyped_text_always s held i rule is = (Err (st.Mistyped i rule), mistyped_built s held i rule is, refl)
 
 -- ---- by values
 pub own_values : (f : EvaluationFault) (name : List ℕ) → is_other (cause (fault_status f name)) ≡ false
@@ -273,12 +296,12 @@ module _ {F A X : Type 0} (g : Ghosts F) (a b : F) (step : Step A) (never : (f :
   no_run (st.Range name) t h = if_some_map (g.held a) (λ held. step.gives held (Err (st.Range name))) Q (λ held p. absurd (never Range name held p)) t.came
   no_run status t h = absurd h
 
-pub typing_tells : {F X : Type 0} (g : Ghosts F) (a b : F) (s : Source) (view : X → Typed) (told : TypedScript → Type 0) (status : Status) → Takes g a b (typed_step s) view (Err status) → TellsRun g a s told status
-typing_tells g a b s view told status = no_run g a b (typed_step s) never view (λ held. IsTold held s told) status
+pub building_tells : {F X : Type 0} (g : Ghosts F) (a b : F) (s : Source) (view : X → Typed) (told : TypedScript → Type 0) (status : Status) → Takes g a b (built_step s) view (Err status) → TellsRun g a s told status
+building_tells g a b s view told status = no_run g a b (built_step s) never view (λ held. IsTold held s told) status
   where
-    never : (f : EvaluationFault) (name : List ℕ) (held : Held) → (typed_step s).gives held (Err (fault_status f name)) → ⊥
+    never : (f : EvaluationFault) (name : List ℕ) (held : Held) → (built_step s).gives held (Err (fault_status f name)) → ⊥
     never f name held gives =
-        let b = by_types_alone (fault_status f name) (own_values f name) held s gives in
+        let b = by_types_built (fault_status f name) (own_values f name) held s gives in
         types_give_no_value f name (script_typed (env_over s.settings b.structures) b.tree) b.typing
 
 pub inputs_tell : {F X : Type 0} (g : Ghosts F) (a b c : F) (s : Source) (folder : Path) (p : Settings) (inputs : Named) (view : X → Environment) (told : TypedScript → Type 0) (status : Status) → g.held b ≡ g.held a → Takes g b c (inputs_step folder p [] inputs) view (Err status) → TellsRun g a s told status

@@ -26,7 +26,7 @@ use Rattle.vtl_interp.specs.Checked.{TypedScript, nodes_of, tree_of}
 use Rattle.vtl_interp.specs.Script.{has_definitions}
 use Rattle.vtl_interp.specs.Inputs.{environment_of, inputs_of}
 use Rattle.vtl_interp.specs.Runs.{script_meaning}
-use Rattle.vtl_top.specs.Expected.{Typed, fault_status, inputs_step, meant, outputs_of, points_or_fault, run_step, script_step, structures_step, typed_by, typed_step, typing_of, unbuilt}
+use Rattle.vtl_top.specs.Expected.{IsTextOf, Typed, built_step, fault_status, inputs_step, meant, outputs_of, points_or_fault, run_step, script_step, structures_step, text_for, text_step, typed_by, typed_step, typing_of, unbuilt}
 use Rattle.vtl_top.specs.InputsRead.{rows_in}
 use Rattle.vtl_top.specs.Kinds.{refused, told_by}
 use Rattle.vtl_top.specs.Refusal.{IsOrMemory, IsTableRead, SettlesBy, faulted, input_refusal}
@@ -140,37 +140,61 @@ module _ {F : Type 0} (g : Ghosts F) (s : Source) (a : F) (tree : ScriptTree) (s
       takes_stopped g (settled (typing_of s tree structures)) (λ nodes. settled (Ok (typed_by tree structures s.settings nodes))) a a nodes_of typed_view status
       (typing_given g a s tree structures nodes_of (Err status) is)
 
--- ---- the steps of a run
-module _ {F X : Type 0} (g : Ghosts F) (r : Run) (view : X → List File) (a b : F) where
-  pub typing_refused : (status : Status) → Takes g a b (typed_step r.source) typed_view (Err status) → Takes g a b (run_step r) view (Err status)
-  typing_refused status t = takes_stopped g (typed_step r.source) (after_typing r) a b typed_view view status t
+-- ---- the steps that lead to a script whose forms are evaluated
+module _ {F : Type 0} (g : Ghosts F) (s : Source) (a b : F) where
+  pub typing_refused : (status : Status) → Takes g a b (typed_step s) typed_view (Err status) → Takes g a b (built_step s) typed_view (Err status)
+  typing_refused status t = takes_stopped g (typed_step s) (after_typing s) a b typed_view typed_view status t
 
-  module _ (t : TypedScript) (typed : Takes g a b (typed_step r.source) typed_view (Ok t)) where
+  module _ (t : TypedScript) (typed : Takes g a b (typed_step s) typed_view (Ok t)) where
     abbrev test : Bool
     test = not (list_all is_built (nodes_of t))
 
-    pub not_built : (status : Status) → list_all is_built (nodes_of t) ≡ false → IsOrMemory (unbuilt r.source) status → Takes g a b (run_step r) view (Err status)
+    pub not_built : (status : Status) → list_all is_built (nodes_of t) ≡ false → IsOrMemory (unbuilt s) status → Takes g a b (built_step s) typed_view (Err status)
     not_built status e is =
-        takes_onward g (typed_step r.source) (after_typing r) a b b typed_view view t (Err status) typed
-        (takes_stopped g (refused_if test (unbuilt r.source)) (λ built. after_built r (typed_view t)) b b (λ (u : Unit {0}). u) view status
-        (test_refuses g b (λ (u : Unit {0}). u) r.source.script test status (ap not e) is))
+        takes_onward g (typed_step s) (after_typing s) a b b typed_view typed_view t (Err status) typed
+        (takes_stopped g (refused_if test (unbuilt s)) (λ built. settled (Ok (typed_view t))) b b (λ (u : Unit {0}). u) typed_view status
+        (test_refuses g b (λ (u : Unit {0}). u) s.script test status (ap not e) is))
 
-    built_on : (c : F) (result : Result X Status) → list_all is_built (nodes_of t) ≡ true → Takes g b c (after_built r (typed_view t)) view result → Takes g a c (run_step r) view result
-    built_on c result e rest =
-        takes_onward g (typed_step r.source) (after_typing r) a b c typed_view view t result typed
-        (takes_onward g (refused_if test (unbuilt r.source)) (λ built. after_built r (typed_view t)) b b c (λ (u : Unit {0}). u) view tt result (test_passes g b test (unbuilt r.source) (ap not e)) rest)
+    pub all_built : list_all is_built (nodes_of t) ≡ true → Takes g a b (built_step s) typed_view (Ok t)
+    all_built e =
+        takes_onward g (typed_step s) (after_typing s) a b b typed_view typed_view t (Ok t) typed
+        (takes_onward g (refused_if test (unbuilt s)) (λ built. settled (Ok (typed_view t))) b b b (λ (u : Unit {0}). u) typed_view tt (Ok t) (test_passes g b test (unbuilt s) (ap not e))
+        (settled_ok g b typed_view t (Ok (typed_view t)) refl))
 
-    pub inputs_refused : (c : F) (status : Status) → list_all is_built (nodes_of t) ≡ true → Takes g b c (inputs_step r.input t.settings [] (inputs_of t)) (environment_of t) (Err status) → Takes g a c (run_step r) view (Err status)
-    inputs_refused c status e u =
-        built_on c (Err status) e (takes_stopped g (inputs_step r.input t.settings [] (inputs_of t)) (λ env. settled (outputs_of r.output t.settings (meant (typed_view t) env))) b c (environment_of t) view status u)
+-- ---- the steps of a run
+module _ {F X : Type 0} (g : Ghosts F) (r : Run) (view : X → List File) (a b : F) where
+  pub building_refused : (status : Status) → Takes g a b (built_step r.source) typed_view (Err status) → Takes g a b (run_step r) view (Err status)
+  building_refused status t = takes_stopped g (built_step r.source) (after_built r) a b typed_view view status t
 
-    pub then_results : (c : F) (inputs : NamedTables) (result : Result X Status) → list_all is_built (nodes_of t) ≡ true → Takes g b c (inputs_step r.input t.settings [] (inputs_of t)) (environment_of t) (Ok inputs)
+  module _ (t : TypedScript) (built : Takes g a b (built_step r.source) typed_view (Ok t)) where
+    built_on : (c : F) (result : Result X Status) → Takes g b c (after_built r (typed_view t)) view result → Takes g a c (run_step r) view result
+    built_on c result rest = takes_onward g (built_step r.source) (after_built r) a b c typed_view view t result built rest
+
+    pub inputs_refused : (c : F) (status : Status) → Takes g b c (inputs_step r.input t.settings [] (inputs_of t)) (environment_of t) (Err status) → Takes g a c (run_step r) view (Err status)
+    inputs_refused c status u =
+        built_on c (Err status) (takes_stopped g (inputs_step r.input t.settings [] (inputs_of t)) (λ env. settled (outputs_of r.output t.settings (meant (typed_view t) env))) b c (environment_of t) view status u)
+
+    pub then_results : (c : F) (inputs : NamedTables) (result : Result X Status) → Takes g b c (inputs_step r.input t.settings [] (inputs_of t)) (environment_of t) (Ok inputs)
         → SettlesBy view (outputs_of r.output t.settings (script_meaning t inputs)) result → Takes g a c (run_step r) view result
-    then_results c inputs result e u is =
+    then_results c inputs result u is =
         let m = script_meaning t inputs in
-        built_on c result e
+        built_on c result
         (takes_onward g (inputs_step r.input t.settings [] (inputs_of t)) (λ env. settled (outputs_of r.output t.settings (meant (typed_view t) env))) b c c (environment_of t) view inputs result u
         (settled_given g c view (outputs_of r.output t.settings m) (results_refuse r.output t.settings m) result is))
+
+-- ---- the steps that lead to a text in SQL
+module _ {F X : Type 0} (g : Ghosts F) (s : Source) (view : X → List ℕ) (a b : F) where
+  pub text_refused : (status : Status) → Takes g a b (built_step s) typed_view (Err status) → Takes g a b (text_step s) view (Err status)
+  text_refused status t = takes_stopped g (built_step s) text_for a b typed_view view status t
+
+  module _ (t : TypedScript) (built : Takes g a b (built_step s) typed_view (Ok t)) where
+    pub text_unmade : (status : Status) → status ≡ st.Memory → Takes g a b (text_step s) view (Err status)
+    text_unmade status e = takes_onward g (built_step s) text_for a b b typed_view view t (Err status) built (memory_takes g b view (text_for (typed_view t)) status e)
+
+    pub text_made : (x : X) → IsTextOf (typed_view t) (view x) → Takes g a b (text_step s) view (Ok x)
+    text_made x is =
+        takes_onward g (built_step s) text_for a b b typed_view view t (Ok x) built
+        (record { reads = nothing_read g b; came = if_some_all (g.held b) (λ held. (text_for (typed_view t)).gives held (Ok (view x))) (λ held. (view x, refl, is)) })
 
 -- ---- what is made of files, or of a text
 module _ {F A X : Type 0} (g : Ghosts F) (a b : F) (step : Step A) (wrap : A → Made) (view : X → A) where

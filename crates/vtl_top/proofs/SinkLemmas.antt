@@ -1,5 +1,5 @@
 -- What a call hands to the sink.
-use Rattle.std.proofs.Common.{◌≡◌, ◌≤◌, List, [], ℕ, Option, Some, None, refl, sym, ap, subst, ◌∙◌}
+use Rattle.std.proofs.Common.{◌≡◌, ◌≤◌, inl, inr, List, [], ℕ, Option, Some, None, refl, sym, ap, subst, ◌∙◌}
 use Rattle.std.proofs.lemmas.List.{append-nil}
 use Rattle.vtl_files.specs.Outside.{Rose, TakesAll}
 use Rattle.vtl_files.specs.Whole.{TakesFront}
@@ -8,9 +8,10 @@ use Rattle.vtl_files.specs.declared.files.Files.{Ghosts as Store}
 use Rattle.vtl_status.specs.StatusLine.{line_of}
 use Rattle.vtl_status.specs.declared.status.Status.{Status}
 use Rattle.vtl_status.specs.declared.status.Status.TheVariants as st
-use Rattle.vtl_top.specs.Answered.{Ends}
+use Rattle.vtl_top.specs.Answered.{Ends, IsMadeBy}
 use Rattle.vtl_top.specs.Said.{Hears, Says}
-use Rattle.vtl_top.specs.Words.{Engine, Run, engine, run}
+use Rattle.vtl_top.specs.Steps.{Made}
+use Rattle.vtl_top.specs.Words.{Command, Engine, Run, RunsScript, engine}
 
 taken_nothing : (t : Option (List ℕ)) → TakesAll t t []
 taken_nothing None = refl
@@ -29,8 +30,12 @@ pub says_nothing : {S : Type 0} (g : Ghosts S) (s : S) (status : Status) → sta
 says_nothing g s status e = subst (λ (x : Status). Says g s s x) (sym e) refl
 
 -- a run that is done has no text, and so says nothing
-pub run_is_quiet : {F S : Type 0} (g : Store F) (o : Ghosts S) (a b : F) (out now : S) (r : Run) → Ends g o a b out now (Some (run r)) st.Done → now ≡ out
-run_is_quiet g o a b out now r ends = ends.line ∙ ends.command_ends.gave.1.silent ends.command_ends.shape
+made_quietly : (command : Command) (r : Run) (made : Made) → RunsScript command r → IsMadeBy (Some command) made → made.text ≡ []
+made_quietly command r made (inl e) shape = subst (λ (c : Command). IsMadeBy (Some c) made) e shape
+made_quietly command r made (inr e) shape = subst (λ (c : Command). IsMadeBy (Some c) made) e shape
+
+pub run_is_quiet : {F S : Type 0} (g : Store F) (o : Ghosts S) (a b : F) (out now : S) (command : Command) (r : Run) → RunsScript command r → Ends g o a b out now (Some command) st.Done → now ≡ out
+run_is_quiet g o a b out now command r runs ends = ends.line ∙ ends.command_ends.gave.1.silent (made_quietly command r ends.command_ends.made runs ends.command_ends.shape)
 
 pub engine_is_quiet : {F S : Type 0} (g : Store F) (o : Ghosts S) (a b : F) (out now : S) (e : Engine) → Ends g o a b out now (Some (engine e)) st.Done → now ≡ out
 engine_is_quiet g o a b out now e ends = ends.line ∙ ends.command_ends.gave.1.silent ends.command_ends.shape

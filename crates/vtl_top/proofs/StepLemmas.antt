@@ -11,9 +11,9 @@ use Rattle.vtl_files.specs.declared.sink.Sink.{Ghosts as Sinks}
 use Rattle.vtl_interp.specs.Checked.{TypedScript}
 use Rattle.vtl_top.specs.Answered.{Adds, AddsUpTo, Came, EndsAs, Faulted, Gives, GivesOut, IsMadeBy, OnlyReads, Stops, Takes, Unsaid, WritesAs}
 use Rattle.vtl_top.specs.Asked.{asked_step}
-use Rattle.vtl_top.specs.Expected.{typed_step}
+use Rattle.vtl_top.specs.Expected.{built_step}
 use Rattle.vtl_top.specs.Informed.{HasRun, Informs, IsTold, TellsRun, typed_view}
-use Rattle.vtl_top.specs.Words.{Command, Source, engine, run}
+use Rattle.vtl_top.specs.Words.{Command, Source, engine, run, sql, sqlrun}
 
 pub rose_before : (a b c : ℕ) → a ≤ b → Rose b c → Rose a c
 rose_before a b c le rose = omega (arith, le, rose)
@@ -159,10 +159,12 @@ given_not_usage g o b c out between made status w e = subst (λ (s : Status). Gi
 -- once a run came to its script, whatever became of its files
 pub informed : {F B : Type 0} (g : Ghosts F) (a : F) (told : B → TypedScript → Type 0) (old new : B) (command : Option Command) (status : Status) → Informs g a told old new command st.Done → Informs g a told old new command status
 informed g a told old new None status i = i
-informed g a told old new (Some (run r)) status i = λ h. i tt
+informed g a told old new (Some (run r)) status i = i
+informed g a told old new (Some (sqlrun r)) status i = λ h. i tt
+informed g a told old new (Some (sql s)) status i = i
 informed g a told old new (Some (engine e)) status i = i
 
 -- a script that was accepted
-pub told_behind : {F : Type 0} (g : Ghosts F) (a b : F) (s : Source) (told : TypedScript → Type 0) (t : TypedScript) (status : Status) → Takes g a b (typed_step s) typed_view (Ok t) → (HasRun status → told t) → TellsRun g a s told status
+pub told_behind : {F : Type 0} (g : Ghosts F) (a b : F) (s : Source) (told : TypedScript → Type 0) (t : TypedScript) (status : Status) → Takes g a b (built_step s) typed_view (Ok t) → (HasRun status → told t) → TellsRun g a s told status
 told_behind g a b s told t status takes f h =
-    if_some_map (g.held a) (λ held. (typed_step s).gives held (Ok (typed_view t))) (λ held. IsTold held s told) (λ held p. record { script = t; given = p; told_of = f h }) takes.came
+    if_some_map (g.held a) (λ held. (built_step s).gives held (Ok (typed_view t))) (λ held. IsTold held s told) (λ held p. record { script = t; given = p; told_of = f h }) takes.came

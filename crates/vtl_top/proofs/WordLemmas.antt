@@ -1,6 +1,6 @@
 -- Fewer words than a command has.
 use Rattle.std.proofs.Common.{◌≡◌, ℕ, ◌<◌, List, [], ◌∷◌, length, map, None, arith, refl}
-use Rattle.vtl_top.specs.Words.{run_of}
+use Rattle.vtl_top.specs.Words.{run_of, source_of}
 
 pub too_few : {X : Type 0} (f : X → List ℕ) (xs : List X) → length xs < 4 → None ≡ run_of (map f xs)
 too_few f [] h = refl
@@ -8,3 +8,8 @@ too_few f (a ∷ []) h = refl
 too_few f (a ∷ b ∷ []) h = refl
 too_few f (a ∷ b ∷ c ∷ []) h = refl
 too_few f (a ∷ b ∷ c ∷ d ∷ xs) h = absurd (omega (arith, h))
+
+pub too_few_for_source : {X : Type 0} (f : X → List ℕ) (xs : List X) → length xs < 2 → None ≡ source_of (map f xs)
+too_few_for_source f [] h = refl
+too_few_for_source f (a ∷ []) h = refl
+too_few_for_source f (a ∷ b ∷ xs) h = absurd (omega (arith, h))

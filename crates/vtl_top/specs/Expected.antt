@@ -1,4 +1,4 @@
--- What the words and the files that are held give: the outputs of the run, or the first refusal.
+-- What the words and the files that are held give: the outputs of the run or the text in SQL, or the first refusal.
 use Rattle.std.specs.Prelude.{◌≡◌, ℕ, not, List, [], ◌∷◌, ◌++◌, length, map, nat_lt, Option, Some, None, Result, Ok, Err, codes, chars, encode_utf8_all, if◌then◌else◌}
 use Rattle.vtl_files.specs.Outside.{bytes_at}
 use Rattle.vtl_cell.specs.Outcome.{DivZero, Fault as EvaluationFault, Range}
@@ -8,7 +8,7 @@ use Rattle.vtl_syntax.specs.Trees.{ScriptTree}
 use Rattle.vtl_tree.specs.Environment.{DataSet, Environment}
 use Rattle.vtl_tree.specs.Structures.{Named}
 use Rattle.vtl_interp.specs.Trees.{NodeTree}
-use Rattle.vtl_interp.specs.Meaning.{Outputs, is_built, meaning}
+use Rattle.vtl_interp.specs.Meaning.{Outputs, Statement, is_built, meaning}
 use Rattle.vtl_interp.specs.Statements.{with_nodes}
 use Rattle.vtl_interp.specs.Transformations.{transformations}
 use Rattle.std.specs.List.{list_all}
@@ -18,6 +18,7 @@ use Rattle.vtl_csv.specs.InputFile.{Fault, dataset_rows}
 use Rattle.vtl_interp.specs.Checked.{env_over}
 use Rattle.vtl_interp.specs.Script.{has_definitions, script_typed}
 use Rattle.vtl_interp.specs.Uses.{reads}
+use Rattle.sql_back.specs.Texts.{IsTextFor}
 use Rattle.vtl_top.specs.ScriptFile.{IsParsed, Parsed, faulty, no_text, whole}
 use Rattle.vtl_top.specs.Steps.{File, Held, Name, Path, Step, Text, ◌>>=◌, refused_if, settled}
 use Rattle.vtl_top.specs.Structures.{structures_in}
@@ -141,14 +142,36 @@ typed_step s =
     settled (typing_of s tree structures) >>= λ nodes.
     settled (Ok (typed_by tree structures s.settings nodes))
 
+-- the same, where each of its forms is evaluated
+abbrev pub built_step : Source → Step Typed
+built_step s =
+    typed_step s >>= λ t.
+    refused_if (not (list_all is_built t.nodes)) (unbuilt s) >>= λ built.
+    settled (Ok t)
+
+-- its statements
+abbrev pub statements_in : Typed → List Statement
+statements_in t = with_nodes (transformations t.tree) t.nodes
+
 -- what a script means over the data sets that were read
 abbrev pub meant : Typed → Environment → Result Outputs (EvaluationFault × Name)
-meant t env = meaning t.settings (with_nodes (transformations t.tree) t.nodes) env
+meant t env = meaning t.settings (statements_in t) env
 
 -- what a run makes: the files of its outputs. Inputs are read, and outputs written, with the settings of the typed script.
 abbrev pub run_step : Run → Step (List File)
 run_step r =
-    typed_step r.source >>= λ t.
-    refused_if (not (list_all is_built t.nodes)) (unbuilt r.source) >>= λ built.
+    built_step r.source >>= λ t.
     inputs_step r.input t.settings [] (reads t.structures t.nodes) >>= λ env.
     settled (outputs_of r.output t.settings (meant t env))
+
+-- ---- the text in SQL
+-- a text of a typed script; others may be texts of it, too
+abbrev pub IsTextOf : Typed → Text → Type 0
+IsTextOf t text = IsTextFor t.settings (reads t.structures t.nodes) (statements_in t) text
+
+abbrev pub text_for : Typed → Step Text
+text_for t = record { gives = λ held given. (text : Text) × (given ≡ Ok text) × IsTextOf t text; reads = λ held named. ⊥ }
+
+-- a text of the script of a source. No data set is read.
+abbrev pub text_step : Source → Step Text
+text_step s = built_step s >>= text_for

@@ -1,4 +1,4 @@
--- The outputs of a run in the words of the language: what the script means over its inputs.
+-- The outputs of a run, and the text of a script in SQL, in the words of the language: what the script means over its inputs.
 use Rattle.std.specs.Prelude.{◌≡◌, ℕ, false, true, List, [], map, Err, Ok, IsUtf8}
 use Rattle.vtl_syntax.specs.Trees.{ScriptTree}
 use Rattle.vtl_parser.specs.Parsed.{IsScript}
@@ -10,7 +10,7 @@ use Rattle.vtl_interp.specs.Script.{has_definitions, script_typed}
 use Rattle.vtl_interp.specs.Uses.{reads}
 use Rattle.vtl_interp.specs.Meaning.{Outputs, is_built}
 use Rattle.std.specs.List.{list_all}
-use Rattle.vtl_top.specs.Expected.{Typed, content, inputs_step, meant, output_of, script_limit, structures_step}
+use Rattle.vtl_top.specs.Expected.{IsTextOf, Typed, content, inputs_step, meant, output_of, script_limit, structures_step}
 use Rattle.vtl_top.specs.Steps.{File, Held, Name, Text}
 use Rattle.vtl_top.specs.Words.{Run, Source}
 
@@ -23,13 +23,16 @@ pub record IsRead (s : Source) (held : Held) (tree : ScriptTree) (structures : N
   pub plain : has_definitions tree ≡ false
   pub declared : (structures_step s.structures).gives held (Ok structures)
 
--- That script is typed over the structures with the settings of the words, and each of its expressions is evaluated; and these
--- are the data sets that it reads.
-pub record IsReady (r : Run) (held : Held) (t : Typed) (inputs : Environment) : Type 0 where
-  pub source : IsRead r.source held t.tree t.structures
-  pub settings : t.settings ≡ r.source.settings
-  pub fits : script_typed (env_over r.source.settings t.structures) t.tree ≡ Ok t.nodes
+-- That script is typed over the structures with the settings of the words, and each of its expressions is evaluated.
+pub record IsAccepted (s : Source) (held : Held) (t : Typed) : Type 0 where
+  pub source : IsRead s held t.tree t.structures
+  pub settings : t.settings ≡ s.settings
+  pub fits : script_typed (env_over s.settings t.structures) t.tree ≡ Ok t.nodes
   pub built : list_all is_built t.nodes ≡ true
+
+-- And these are the data sets that it reads.
+pub record IsReady (r : Run) (held : Held) (t : Typed) (inputs : Environment) : Type 0 where
+  pub script : IsAccepted r.source held t
   pub read : (inputs_step r.input t.settings [] (reads t.structures t.nodes)).gives held (Ok inputs)
 
 -- A script is ready, and its statements mean results over the data sets that it reads; and the files are named after the results
@@ -55,3 +58,9 @@ pub record IsMistyped (s : Source) (held : Held) (statement rule : ℕ) : Type 0
   pub structures : Named
   pub source : IsRead s held tree structures
   pub fault : script_typed (env_over s.settings structures) tree ≡ Err (statement, rule)
+
+-- A script is typed and evaluated so, and this is a text of it in SQL.
+pub record IsTextMeant (s : Source) (held : Held) (text : Text) : Type 0 where
+  pub typed : Typed
+  pub script : IsAccepted s held typed
+  pub text_of : IsTextOf typed text

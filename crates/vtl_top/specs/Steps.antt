@@ -60,3 +60,6 @@ pub record Made : Type 0 where
 
 abbrev pub only_files : List File → Made
 only_files files = record { files = files; text = [] }
+
+abbrev pub only_text : Text → Made
+only_text text = record { files = []; text = text }

@@ -1,5 +1,5 @@
 -- The command that the words of a command line are.
-use Rattle.std.specs.Prelude.{ℕ, ◌-◌, Bool, not, ◌&&◌, ◌==◌, List, [], ◌∷◌, length, nat_le, Option, Some, None, option_map, codes, if◌then◌else◌}
+use Rattle.std.specs.Prelude.{◌≡◌, ◌⊎◌, ℕ, ◌-◌, Bool, not, ◌&&◌, ◌==◌, List, [], ◌∷◌, length, nat_le, Option, Some, None, option_map, codes, if◌then◌else◌}
 use Rattle.std.specs.List.{list_all}
 use Rattle.std.specs.Option.{option_and_then}
 use Rattle.vtl_decimal.specs.Settings.{Settings}
@@ -26,10 +26,17 @@ pub record Engine : Type 0 where
   pub input : Path
   pub output : Path
 
--- a command, with its paths and settings
+-- a command, with its paths and settings: a script is run by the interpreter, or by its text in SQL; its text in SQL is said; an SQL
+-- file is run
 pub data Command : Type 0 where
   run : Run → Command
+  sqlrun : Run → Command
+  sql : Source → Command
   engine : Engine → Command
+
+-- the command runs a script, in either way
+abbrev pub RunsScript : Command → Run → Type 0
+RunsScript command r = (command ≡ run r) ⊎ (command ≡ sqlrun r)
 
 abbrev pub is_path : Path → Bool
 is_path word = not (length word == 0)
@@ -91,24 +98,34 @@ settings_in _ = None
 abbrev pub source_with : (script structures : Path) → Settings → Source
 source_with script structures settings = record { script = script; structures = structures; settings = settings }
 
-abbrev pub run_with : (script structures input output : Path) → Settings → Command
-run_with script structures input output settings = run (record { source = source_with script structures settings; input = input; output = output })
+-- the words behind `sql`: SCRIPT STRUCTURES, each a path, and then options
+abbrev pub source_of : List Text → Option Source
+source_of (script ∷ structures ∷ options) =
+    if list_all is_path (script ∷ structures ∷ []) then option_map (source_with script structures) (settings_in options) else None
+source_of _ = None
 
--- the words behind `run`: SCRIPT STRUCTURES IN OUT, each a path, and then options
-abbrev pub run_of : List Text → Option Command
+abbrev pub run_with : (input output : Path) → Source → Run
+run_with input output source = record { source = source; input = input; output = output }
+
+-- the words behind `run` and `sqlrun`: SCRIPT STRUCTURES IN OUT, each a path, and then options
+abbrev pub run_of : List Text → Option Run
 run_of (script ∷ structures ∷ input ∷ output ∷ options) =
-    if list_all is_path (script ∷ structures ∷ input ∷ output ∷ []) then option_map (run_with script structures input output) (settings_in options) else None
+    if list_all is_path (input ∷ output ∷ []) then option_map (run_with input output) (source_of (script ∷ structures ∷ options)) else None
 run_of _ = None
 
-abbrev pub engine_with : (sql input output : Path) → Engine
-engine_with sql input output = record { sql = sql; input = input; output = output }
+abbrev pub engine_with : (file input output : Path) → Engine
+engine_with file input output = record { sql = file; input = input; output = output }
 
 -- the words behind `engine`: SQLFILE IN OUT, each a path
-abbrev pub engine_of : List Text → Option Command
-engine_of (sql ∷ input ∷ output ∷ []) = if list_all is_path (sql ∷ input ∷ output ∷ []) then Some (engine (engine_with sql input output)) else None
+abbrev pub engine_of : List Text → Option Engine
+engine_of (file ∷ input ∷ output ∷ []) = if list_all is_path (file ∷ input ∷ output ∷ []) then Some (engine_with file input output) else None
 engine_of _ = None
 
 -- the command that the words are, by its name
 abbrev pub command_of : List Text → Option Command
 command_of [] = None
-command_of (name ∷ words) = if same_name name (codes "run") then run_of words else (if same_name name (codes "engine") then engine_of words else None)
+command_of (name ∷ words) =
+    if same_name name (codes "run") then option_map run (run_of words)
+    else (if same_name name (codes "sqlrun") then option_map sqlrun (run_of words)
+    else (if same_name name (codes "sql") then option_map sql (source_of words)
+    else (if same_name name (codes "engine") then option_map engine (engine_of words) else None)))

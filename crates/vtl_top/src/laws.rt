@@ -1,5 +1,5 @@
 // Laws of the definitions that the top call cites.
-ghost use Rattle.std.specs.Prelude.{◌≡◌, ◌≤◌, ◌⊎◌, ℕ, Err, List, Ok, Option, Result, Some};
+ghost use Rattle.std.specs.Prelude.{◌≡◌, ◌≢◌, ◌≤◌, ◌⊎◌, ℕ, Err, List, Ok, Option, Result, Some};
 ghost use Rattle.std.specs.Map.{lookup};
 ghost use Rattle.vtl_tree.specs.Structure.{IsStructure, key_width, same_name};
 ghost use Rattle.vtl_tree.specs.Structures.{Named};
@@ -9,34 +9,45 @@ ghost use Rattle.vtl_cell.specs.Outcome.{Fault};
 ghost use Rattle.vtl_top.specs.Answered.{Ends};
 ghost use Rattle.vtl_top.specs.Complete.{IsCalm};
 ghost use Rattle.vtl_top.specs.Asked.{asked_step};
-ghost use Rattle.vtl_top.specs.Expected.{fault_status, run_step};
-ghost use Rattle.vtl_top.specs.Meant.{IsFaulted, IsMeant, IsMistyped};
+ghost use Rattle.vtl_top.specs.Expected.{IsTextOf, Typed, fault_status, run_step, text_step};
+ghost use Rattle.vtl_top.specs.Meant.{IsAccepted, IsFaulted, IsMeant, IsMistyped, IsTextMeant};
 ghost use Rattle.vtl_top.specs.SqlMeant.{IsExported, IsSqlFaulted, IsSqlMistyped};
 ghost use Rattle.vtl_top.specs.SqlRun.{engine_step};
 ghost use Rattle.sql_engine.specs.Rules.{number_of};
 ghost use Rattle.sql_engine.specs.TypingStatements.{Fault as Breach};
 ghost use Rattle.vtl_top.specs.Steps.{File, Held, Made, Name, Text, status_of};
-ghost use Rattle.vtl_top.specs.Words.{Command, Engine, Run, engine, run};
+ghost use Rattle.vtl_top.specs.Words.{Command, Engine, Run, RunsScript, Source, engine, sql};
 ghost use Rattle.vtl_status.specs.declared.status.Status.{Status};
 
 use vtl_files::{Files, Sink};
 
 /// The outputs that a run gives over the held files are what the script means: its text, over the data sets that the
-/// inputs hold, gives results, and each file is named after a result and holds its CSV text, in order.
+/// inputs hold, gives results, and each file is named after a result and holds its CSV text, in order. A run in SQL gives
+/// what the run does, since both ask for `run_step`.
 pub fn output_is_meant()
     ensures only { (r : Run) (held : Held) (files : List File) → (run_step r).gives held (Ok files) → IsMeant r held files }
     ensures always { (r : Run) (held : Held) (files : List File) → IsMeant r held files → (run_step r).gives held (Ok files) }
 {}
 
-/// A run is `Mistyped` exactly where its script, without rulesets, breaks a rule over its structures: by the first
-/// statement that does, and by its rule. Neither the form of the statements nor the data sets are looked at before.
+/// A run, in SQL or not, is `Mistyped` exactly where its script, without rulesets, breaks a rule over its structures: by
+/// the first statement that does, and by its rule. Neither the form of the statements nor the data sets are looked at
+/// before. The same holds where the text of the script in SQL is asked for.
 pub fn mistyped_is_first_fault()
     ensures only { (r : Run) (held : Held) (statement rule : ℕ) → (run_step r).gives held (Err (Status.Mistyped statement rule)) → IsMistyped r.source held statement rule }
     ensures always { (r : Run) (held : Held) (statement rule : ℕ) → IsMistyped r.source held statement rule → (run_step r).gives held (Err (Status.Mistyped statement rule)) }
+    ensures text_only { (s : Source) (held : Held) (statement rule : ℕ) → (text_step s).gives held (Err (Status.Mistyped statement rule)) → IsMistyped s held statement rule }
+    ensures text_always { (s : Source) (held : Held) (statement rule : ℕ) → IsMistyped s held statement rule → (text_step s).gives held (Err (Status.Mistyped statement rule)) }
 {}
 
-/// A run divides by zero, or a number leaves its range, exactly where its script means this fault over its inputs, in
-/// the statement with this result.
+/// What `sql` gives over the held files is a text in SQL of the script that they hold, which is typed and evaluated; and
+/// it may give any such text.
+pub fn texts_are_meant()
+    ensures only { (s : Source) (held : Held) (text : Text) → (text_step s).gives held (Ok text) → IsTextMeant s held text }
+    ensures always { (s : Source) (held : Held) (text : Text) → IsTextMeant s held text → (text_step s).gives held (Ok text) }
+{}
+
+/// A run, and so a run in SQL, divides by zero, or a number leaves its range, exactly where its script means this fault
+/// over its inputs, in the statement with this result.
 pub fn faults_are_meant()
     ensures only { (r : Run) (held : Held) (fault : Fault) (name : Name) → (run_step r).gives held (Err (fault_status fault name)) → IsFaulted r held fault name }
     ensures always { (r : Run) (held : Held) (fault : Fault) (name : Name) → IsFaulted r held fault name → (run_step r).gives held (Err (fault_status fault name)) }
@@ -62,28 +73,33 @@ pub fn sql_breaches_are_refused()
     ensures { (e : Engine) (held : Held) (breach : Breach) → IsSqlMistyped e held breach → (engine_step e).gives held (Err (Status.SqlType breach.0 (number_of breach.1))) }
 {}
 
-/// A command has at most one outcome: two outcomes over the same held bytes are equal.
+/// Two outcomes of a command over the same held bytes have the same status, and but for `sql`, whose text may be any text
+/// of the script, they are equal: such a command has at most one outcome.
 pub fn expected_is_determined()
-    ensures { (command : Option Command) (held : Held) (given other : Result Made Status) → (asked_step command).gives held given → (asked_step command).gives held other → given ≡ other }
+    ensures status { (command : Option Command) (held : Held) (given other : Result Made Status) → (asked_step command).gives held given → (asked_step command).gives held other → status_of given ≡ status_of other }
+    ensures given { (command : Option Command) (held : Held) (given other : Result Made Status) → ((s : Source) → command ≢ Some (sql s)) → (asked_step command).gives held given → (asked_step command).gives held other → given ≡ other }
 {}
 
-/// No held files leave a command without an outcome; so, with `expected_is_determined`, it has exactly one.
+/// No held files leave a command but `sql` without an outcome; so, with `expected_is_determined`, it has exactly one.
+/// And none leave `sql` without one where the script that they hold, if they hold one that is accepted, has a text in SQL.
 pub fn expected_is_there()
-    ensures { (command : Option Command) (held : Held) → ¬ ((given : Result Made Status) → ¬ (asked_step command).gives held given) }
+    ensures given { (command : Option Command) (held : Held) → ((s : Source) → command ≢ Some (sql s)) → ¬ ((given : Result Made Status) → ¬ (asked_step command).gives held given) }
+    ensures texts { (s : Source) (held : Held) → ((t : Typed) → IsAccepted s held t → (text : Text) × IsTextOf t text) → ¬ ((given : Result Made Status) → ¬ (asked_step (Some (sql s))).gives held given) }
 {}
 
 /// A call in which no count of faults rose answers what the words and the held files give, or that memory ran out. So,
-/// unless memory runs out, where a script means results over its inputs, its run is done, and where it has a fault,
-/// that fault is reported.
+/// unless memory runs out, where a script means results over its inputs, its run is done, in SQL or not, and where it has
+/// a fault, that fault is reported; and where a script is accepted, `sql` is done.
 pub fn calm_calls_are_complete<F: Files, O: Sink>()
     ensures given { (a b : F) (u v : O) (command : Option Command) (status : Status) (held : Held) (given : Result Made Status) → Ends F.Files O.Sink a b u v command status → IsCalm F.Files O.Sink a b u v → F.held a ≡ Some held → (asked_step command).gives held given → (status ≡ Status.Memory) ⊎ (status ≡ status_of given) }
-    ensures meant { (a b : F) (u v : O) (r : Run) (status : Status) (held : Held) (files : List File) → Ends F.Files O.Sink a b u v (Some (run r)) status → IsCalm F.Files O.Sink a b u v → F.held a ≡ Some held → IsMeant r held files → (status ≡ Status.Memory) ⊎ (status ≡ Status.Done) }
-    ensures faulted { (a b : F) (u v : O) (r : Run) (status : Status) (held : Held) (fault : Fault) (name : Name) → Ends F.Files O.Sink a b u v (Some (run r)) status → IsCalm F.Files O.Sink a b u v → F.held a ≡ Some held → IsFaulted r held fault name → (status ≡ Status.Memory) ⊎ (status ≡ fault_status fault name) }
+    ensures meant { (a b : F) (u v : O) (command : Command) (r : Run) (status : Status) (held : Held) (files : List File) → RunsScript command r → Ends F.Files O.Sink a b u v (Some command) status → IsCalm F.Files O.Sink a b u v → F.held a ≡ Some held → IsMeant r held files → (status ≡ Status.Memory) ⊎ (status ≡ Status.Done) }
+    ensures faulted { (a b : F) (u v : O) (command : Command) (r : Run) (status : Status) (held : Held) (fault : Fault) (name : Name) → RunsScript command r → Ends F.Files O.Sink a b u v (Some command) status → IsCalm F.Files O.Sink a b u v → F.held a ≡ Some held → IsFaulted r held fault name → (status ≡ Status.Memory) ⊎ (status ≡ fault_status fault name) }
+    ensures texts { (a b : F) (u v : O) (s : Source) (status : Status) (held : Held) (t : Typed) → Ends F.Files O.Sink a b u v (Some (sql s)) status → IsCalm F.Files O.Sink a b u v → F.held a ≡ Some held → IsAccepted s held t → (status ≡ Status.Memory) ⊎ (status ≡ Status.Done) }
 {}
 
-/// A run that is done leaves the sink as before, and so does an engine.
+/// A run that is done, in SQL or not, leaves the sink as before, and so does an engine.
 pub fn runs_are_quiet<F: Files, O: Sink>()
-    ensures runs { (a b : F) (u v : O) (r : Run) → Ends F.Files O.Sink a b u v (Some (run r)) Status.Done → v ≡ u }
+    ensures runs { (a b : F) (u v : O) (command : Command) (r : Run) → RunsScript command r → Ends F.Files O.Sink a b u v (Some command) Status.Done → v ≡ u }
     ensures engines { (a b : F) (u v : O) (e : Engine) → Ends F.Files O.Sink a b u v (Some (engine e)) Status.Done → v ≡ u }
 {}
 

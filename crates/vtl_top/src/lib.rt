@@ -2,9 +2,10 @@
 //!
 //! The commands and the steps of a run in their order are decided here, and here alone; the statuses with their codes
 //! and lines are those of `vtl_status`. A step says what it gives over held bytes and which paths it reads; a run is
-//! one chain of steps (`run_step`). Nothing is created before all is computed, and from then on no memory is taken.
-//! It sees the outside through the traits `Files` and `Sink`, and knows of reading, typing and evaluation only what
-//! they promise.
+//! one chain of steps (`run_step`), and so is the text of a script in SQL (`text_step`). Nothing is created before all
+//! is computed, and from then on no memory is taken.
+//! It sees the outside through the traits `Files` and `Sink`, and knows of reading, typing, evaluation and texts in SQL
+//! only what they promise.
 //! Begin with specs/Expected.antt and specs/Answered.antt, then src/top.rt.
 #![tactic(auto)]
 
@@ -26,7 +27,7 @@ mod words;
 pub use laws::{
     calm_calls_are_complete, expected_is_determined, expected_is_there, exports_are_meant,
     faults_are_meant, mistyped_is_first_fault, output_is_meant, runs_are_quiet,
-    sql_breaches_are_refused, sql_faults_are_meant, structures_have_identifiers,
+    sql_breaches_are_refused, sql_faults_are_meant, structures_have_identifiers, texts_are_meant,
 };
-pub use top::{vtl, vtl_by};
+pub use top::{vtl, vtl_by, vtl_with};
 pub use vtl_status::{Status, tell};

@@ -4,19 +4,19 @@ ghost use Rattle.std.specs.List.{AllByRecursion};
 ghost use Rattle.vtl_top.specs.Answered.{IsMadeBy, Takes};
 ghost use Rattle.vtl_top.specs.Asked.{asked_step};
 ghost use Rattle.vtl_top.specs.MadeView.{IsMade, Names, made_view};
-ghost use Rattle.vtl_top.specs.OutputView.{NamesPath};
+ghost use Rattle.vtl_top.specs.OutputView.{NamesPath, outputs_view};
 ghost use Rattle.vtl_top.specs.RunView.{command_view, engine_view, run_view, source_view};
 ghost use Rattle.vtl_top.specs.Informed.{Informs, TellsRun};
 ghost use Rattle.vtl_top.specs.Steps.{status_of};
-ghost use Rattle.vtl_top.specs.Words.{engine, run};
+ghost use Rattle.vtl_top.specs.Words.{engine, run, sql};
 
 use crate::output::Output;
-use crate::run::prepare;
+use crate::run::{prepare, prepare_text};
 use crate::sql_run::prepare_exports;
-use crate::words::{Command, Engine, Run};
+use crate::words::{Command, Engine, Run, Source};
 use std::alloc::Global;
 use vtl_files::Files;
-use vtl_interp::Backend;
+use vtl_interp::{Backend, Interp};
 use vtl_status::Status;
 use vtl_text::Txt;
 
@@ -31,7 +31,7 @@ pub struct Made {
     pub sink: Txt,
 }
 
-/// Makes all that a command gives out. It reads only.
+/// Makes all that a command gives out. It reads only. A run goes by the interpreter, a run in SQL by the back end.
 pub fn make<B: Backend, F: Files>(
     alloc: Global,
     back: &mut B,
@@ -44,7 +44,9 @@ pub fn make<B: Backend, F: Files>(
     ensures told { Informs F.Files files.old B.told back.old back.new (Some (command_view command.now)) (status_of result) }
 {
     match command {
-        Command::Run(run) => make_run(alloc, back, files, run),
+        Command::Run(run) => make_run(alloc, &mut Interp, files, run),
+        Command::SqlRun(run) => make_run(alloc, back, files, run),
+        Command::Sql(source) => make_text(alloc, files, source),
         Command::Engine(engine) => make_exports(alloc, files, engine),
     }
 }
@@ -62,6 +64,17 @@ fn make_run<B: Backend, F: Files>(
 {
     match prepare(alloc, back, files, asked) {
         Ok(outputs) => made_of(alloc, outputs, Vec::new(alloc)),
+        Err(status) => Err(status),
+    }
+}
+
+fn make_text<F: Files>(alloc: Global, files: &mut F, asked: &Source<'_>) -> Result<Made, Status>
+    ensures takes { Takes F.Files files.old files.new (asked_step (Some (sql (source_view asked.now)))) made_view result }
+    ensures named { IfOk result Names }
+    ensures shape { IfOk result (λ m. outputs_view m.outputs ≡ []) }
+{
+    match prepare_text(alloc, files, asked) {
+        Ok(text) => made_of(alloc, Vec::new(alloc), text.into_bytes()),
         Err(status) => Err(status),
     }
 }

@@ -1,10 +1,11 @@
-// The run of a script, from the paths of its files to the texts of its outputs.
-ghost use Rattle.std.specs.Prelude.{◌≡◌, IfOk};
+// A script from its files: its run up to the texts of its outputs, and its text in SQL.
+ghost use Rattle.std.specs.Prelude.{◌≡◌, true, IfOk, string_bytes};
 ghost use Rattle.std.specs.List.{AllByRecursion};
 ghost use Rattle.vtl_syntax.specs.View.{script_tree};
 ghost use Rattle.vtl_syntax.specs.Written.{AreWritten};
 ghost use Rattle.vtl_top.specs.Answered.{Takes};
-ghost use Rattle.vtl_top.specs.Expected.{run_step, script_step, structures_step, typed_step};
+ghost use Rattle.vtl_interp.specs.Statements.{is_script_built};
+ghost use Rattle.vtl_top.specs.Expected.{built_step, run_step, script_step, structures_step, text_step, typed_step};
 ghost use Rattle.vtl_top.specs.OutputView.{NamesPath, outputs_view};
 ghost use Rattle.vtl_top.specs.Refusal.{IsScriptOf, IsScriptOfText, fault_of};
 ghost use Rattle.vtl_top.specs.RunView.{run_view, source_view};
@@ -19,6 +20,7 @@ use crate::results::results;
 use crate::structures::structures_of;
 use crate::typing::typed;
 use crate::words::{Run, Source};
+use sql_back::text_of;
 use std::alloc::Global;
 use std::str;
 use vtl_files::Files;
@@ -105,6 +107,22 @@ pub fn read_typed<F: Files>(
     typed(alloc, &script, &structures, &source.profile)
 }
 
+/// The same, where each of its forms is evaluated.
+pub fn read_built<F: Files>(
+    alloc: Global,
+    files: &mut F,
+    source: &Source<'_>,
+) -> Result<Checked, Status>
+    ensures takes { Takes F.Files files.old files.new (built_step (source_view source.now)) typed_view result }
+    ensures built { IfOk result (λ c. is_script_built c ≡ true) }
+{
+    let checked = read_typed(alloc, files, source)?;
+    if !is_built(&checked) {
+        return Err(unbuilt(alloc, source.script));
+    }
+    Ok(checked)
+}
+
 /// Reads the files of a run, and makes its outputs: nothing is created. The answer is the outputs, or the first
 /// refusal: by the script, then by the inputs, then by what it means; or, at any place, that memory ran out.
 pub fn prepare<B: Backend, F: Files>(
@@ -117,10 +135,20 @@ pub fn prepare<B: Backend, F: Files>(
     ensures named { IfOk result (λ o. AllByRecursion NamesPath o.items) }
     ensures told { TellsRun F.Files files.old (source_view run.now.source) (B.told back.new) (status_of result) }
 {
-    let checked = read_typed(alloc, files, &run.source)?;
-    if !is_built(&checked) {
-        return Err(unbuilt(alloc, run.source.script));
-    }
+    let checked = read_built(alloc, files, &run.source)?;
     let inputs = read_inputs(alloc, files, run.input, &checked)?;
     results(alloc, back, run.output, &checked, inputs)
+}
+
+/// A text in SQL of the script of a source; or the first refusal, as that of a run before its inputs; or, at any place,
+/// that memory ran out. No data set is read.
+pub fn prepare_text<F: Files>(
+    alloc: Global,
+    files: &mut F,
+    source: &Source<'_>,
+) -> Result<String, Status>
+    ensures { Takes F.Files files.old files.new (text_step (source_view source.now)) string_bytes result }
+{
+    let checked = read_built(alloc, files, source)?;
+    Ok(text_of(alloc, &checked)?)
 }

@@ -1,5 +1,6 @@
 // The top call.
 ghost use Rattle.std.specs.Prelude.{◌≡◌, ◌≢◌, ◌≤◌, ◌↔◌, None, Some, false, map, IsTrue, OnErr, OnOk, string_bytes};
+ghost use Rattle.sql_back.specs.Texts.{HasTextOf};
 ghost use Rattle.vtl_files.specs.Outside.{Rose};
 ghost use Rattle.vtl_files.specs.Whole.{TakesFront};
 ghost use Rattle.vtl_top.specs.Answered.{Ends, EndsAs, GivesOut, OnlyWrites};
@@ -13,18 +14,25 @@ ghost use Rattle.vtl_top.specs.Informed.{Informs};
 use crate::made::{Made, make};
 use crate::output::write_outputs;
 use crate::words::{Command, command_of};
+use sql_back::{Bundled, SqlBack, TextEngine};
 use std::alloc::Global;
 use vtl_files::{Failed, Files, Sink, sink_all};
-use vtl_interp::{Backend, Interp};
+use vtl_interp::Backend;
 use vtl_status::{Status, tell};
 
 /// Carries out the words of a command line over the given files and the given sink, and answers how it went.
 ///
-/// `run SCRIPT STRUCTURES IN OUT` reads the script and the structures file, and from the folder IN the CSV file of each
-/// data set that the script reads, however many there are; into the folder OUT it writes the CSV file of each result
-/// that the script assigns by `<-`, however many there are. Options may follow: `--scale D`, the digits of a number
-/// after its point (one digit, 6 by default), and `--round R`, how results are rounded to them (`half_up`, the default,
-/// `half_even` or `down`), each at most once. A status other than Done is named by a line on `out`.
+/// - `run SCRIPT STRUCTURES IN OUT` reads the script and the structures file, and from the folder IN the CSV file of
+///   each data set that the script reads, however many there are; into the folder OUT it writes the CSV file of each
+///   result that the script assigns by `<-`, however many there are.
+/// - `sqlrun SCRIPT STRUCTURES IN OUT` does the same by a text of the script in SQL, which the bundled engine runs.
+/// - `sql SCRIPT STRUCTURES` hands such a text to `out`, whole on Done; it reads no data set.
+/// - `engine SQLFILE IN OUT` runs a text of the SQL dialect: it reads the CSV file of each INPUT, and writes that of each
+///   EXPORT.
+///
+/// Options may follow the paths of a script: `--scale D`, the digits of a number after its point (one digit, 6 by
+/// default), and `--round R`, how results are rounded to them (`half_up`, the default, `half_even` or `down`), each at
+/// most once. A status other than Done is named by a line on `out`.
 pub fn vtl<F: Files, O: Sink>(alloc: Global, words: &[String], files: &mut F, out: &mut O) -> Status
     requires { F.creating files.old ≡ false }
     ensures held { F.held files.new ≡ F.held files.old }
@@ -34,10 +42,32 @@ pub fn vtl<F: Files, O: Sink>(alloc: Global, words: &[String], files: &mut F, ou
     ensures usage { (result ≡ Status.Usage) ↔ (command_of (map string_bytes words.now) ≡ None) }
     ensures ends { Ends F.Files O.Sink files.old files.new out.old out.new (command_of (map string_bytes words.now)) result }
 {
-    vtl_by(alloc, words, files, out, &mut Interp)
+    vtl_with(alloc, words, files, out, &mut SqlBack::new(Bundled::new()))
 }
 
-/// The same by a given back end.
+/// The same, where texts in SQL are run by the engine of a given back end.
+pub fn vtl_with<F: Files, O: Sink, E: TextEngine>(
+    alloc: Global,
+    words: &[String],
+    files: &mut F,
+    out: &mut O,
+    back: &mut SqlBack<E>,
+) -> Status
+    requires { F.creating files.old ≡ false }
+    ensures held { F.held files.new ≡ F.held files.old }
+    ensures misuses { F.misuses files.new ≡ F.misuses files.old }
+    ensures faults { F.faults files.old ≤ F.faults files.new }
+    ensures absences { F.absences files.old ≤ F.absences files.new }
+    ensures usage { (result ≡ Status.Usage) ↔ (command_of (map string_bytes words.now) ≡ None) }
+    ensures ends { Ends F.Files O.Sink files.old files.new out.old out.new (command_of (map string_bytes words.now)) result }
+
+    // What the engine was handed last is a text of the script that was run in SQL.
+    ensures told { Informs F.Files files.old (λ b t. HasTextOf t (E.last b.engine)) back.old back.new (command_of (map string_bytes words.now)) result }
+{
+    vtl_by(alloc, words, files, out, back)
+}
+
+/// The same, where scripts are run in SQL by a given back end.
 pub fn vtl_by<B: Backend, F: Files, O: Sink>(
     alloc: Global,
     words: &[String],
@@ -59,7 +89,8 @@ pub fn vtl_by<B: Backend, F: Files, O: Sink>(
     // the held files are revealed, what the words and the held bytes give; and then the line of the status.
     ensures ends { Ends F.Files O.Sink files.old files.new out.old out.new (command_of (map string_bytes words.now)) result }
 
-    // What the back end shows of the script that was run.
+    // What the back end shows of the script that it was given: one that is run in SQL. Any other command leaves it as it
+    // was.
     ensures told { Informs F.Files files.old B.told back.old back.new (command_of (map string_bytes words.now)) result }
 {
     let status = answer(alloc, back, words, files, out);

@@ -1,7 +1,7 @@
 // The words of the command line.
 ghost use Rattle.std.specs.Prelude.{◌≡◌, ◌∷◌, [], map, option_map, string_bytes};
-ghost use Rattle.vtl_top.specs.RunView.{command_view, setting_view};
-ghost use Rattle.vtl_top.specs.Words.{both_set, command_of, engine_of, is_path, one_set, rounding, rounding_in, run_of, scale, scale_in, setting_in, settings_in, settings_with};
+ghost use Rattle.vtl_top.specs.RunView.{command_view, engine_view, run_view, setting_view, source_view};
+ghost use Rattle.vtl_top.specs.Words.{both_set, command_of, engine_of, is_path, one_set, rounding, rounding_in, run_of, scale, scale_in, setting_in, settings_in, settings_with, source_of};
 
 use vtl_decimal::{Profile, Rounding};
 
@@ -32,8 +32,12 @@ pub struct Engine<'a> {
 /// What the words ask for.
 #[derive(Drop)]
 pub enum Command<'a> {
-    /// A script is run.
+    /// A script is run by the interpreter.
     Run(Run<'a>),
+    /// A script is run by its text in SQL.
+    SqlRun(Run<'a>),
+    /// The text of a script in SQL is said.
+    Sql(Source<'a>),
     /// An SQL file is run.
     Engine(Engine<'a>),
 }
@@ -53,8 +57,9 @@ fn is_path(word: &str) -> bool
     !word.is_empty()
 }
 
-/// The command that the words are, by its name: `run SCRIPT STRUCTURES IN OUT`, each a path that is not empty, and then
-/// the options `--scale D` and `--round R`, each at most once; or `engine SQLFILE IN OUT`, each a path that is not empty.
+/// The command that the words are, by its name: `run` or `sqlrun`, and SCRIPT STRUCTURES IN OUT, each a path that is not
+/// empty, and then the options `--scale D` and `--round R`, each at most once; `sql`, and SCRIPT STRUCTURES and such
+/// options; or `engine`, and SQLFILE IN OUT.
 pub fn command_of(words: &[String]) -> Option<Command<'_>>
     ensures { option_map command_view result ≡ command_of (map string_bytes words.now) }
 {
@@ -68,16 +73,59 @@ fn named<'a>(name: &str, words: &'a [String]) -> Option<Command<'a>>
     ensures { option_map command_view result ≡ command_of (name.now ∷ map string_bytes words.now) }
 {
     if name == "run" {
-        return run_of(words);
+        return match run_of(words) {
+            Some(run) => Some(Command::Run(run)),
+            None => None,
+        };
+    }
+    if name == "sqlrun" {
+        return match run_of(words) {
+            Some(run) => Some(Command::SqlRun(run)),
+            None => None,
+        };
+    }
+    if name == "sql" {
+        return match source_of(words) {
+            Some(source) => Some(Command::Sql(source)),
+            None => None,
+        };
     }
     if name == "engine" {
-        return engine_of(words);
+        return match engine_of(words) {
+            Some(engine) => Some(Command::Engine(engine)),
+            None => None,
+        };
     }
     None
 }
 
-fn run_of(words: &[String]) -> Option<Command<'_>>
-    ensures { option_map command_view result ≡ run_of (map string_bytes words.now) }
+fn source_of(words: &[String]) -> Option<Source<'_>>
+    ensures { option_map source_view result ≡ source_of (map string_bytes words.now) }
+{
+    match words {
+        [script, structures, options @ ..] => {
+            source_with(script.as_str(), structures.as_str(), options)
+        }
+        _ => None,
+    }
+}
+
+fn source_with<'a>(script: &'a str, structures: &'a str, options: &[String]) -> Option<Source<'a>>
+    ensures { option_map source_view result ≡ source_of (script.now ∷ structures.now ∷ map string_bytes options.now) }
+{
+    if !is_path(script) || !is_path(structures) {
+        return None;
+    }
+    let profile = profile_of(options)?;
+    Some(Source {
+        script,
+        structures,
+        profile,
+    })
+}
+
+fn run_of(words: &[String]) -> Option<Run<'_>>
+    ensures { option_map run_view result ≡ run_of (map string_bytes words.now) }
 {
     match words {
         [script, structures, input, output, options @ ..] => run_with(
@@ -97,28 +145,24 @@ fn run_with<'a>(
     input: &'a str,
     output: &'a str,
     options: &[String],
-) -> Option<Command<'a>>
-    ensures { option_map command_view result ≡ run_of (script.now ∷ structures.now ∷ input.now ∷ output.now ∷ map string_bytes options.now) }
+) -> Option<Run<'a>>
+    ensures { option_map run_view result ≡ run_of (script.now ∷ structures.now ∷ input.now ∷ output.now ∷ map string_bytes options.now) }
 {
-    if !is_path(script) || !is_path(structures) || !is_path(input) || !is_path(output) {
+    if !is_path(input) || !is_path(output) {
         return None;
     }
-    match profile_of(options) {
-        Some(profile) => Some(Command::Run(Run {
-            source: Source {
-                script,
-                structures,
-                profile,
-            },
+    match source_with(script, structures, options) {
+        Some(source) => Some(Run {
+            source,
             input,
             output,
-        })),
+        }),
         None => None,
     }
 }
 
-fn engine_of(words: &[String]) -> Option<Command<'_>>
-    ensures { option_map command_view result ≡ engine_of (map string_bytes words.now) }
+fn engine_of(words: &[String]) -> Option<Engine<'_>>
+    ensures { option_map engine_view result ≡ engine_of (map string_bytes words.now) }
 {
     match words {
         [sql, input, output] => engine_with(sql.as_str(), input.as_str(), output.as_str()),
@@ -126,13 +170,13 @@ fn engine_of(words: &[String]) -> Option<Command<'_>>
     }
 }
 
-fn engine_with<'a>(sql: &'a str, input: &'a str, output: &'a str) -> Option<Command<'a>>
-    ensures { option_map command_view result ≡ engine_of (sql.now ∷ input.now ∷ output.now ∷ []) }
+fn engine_with<'a>(sql: &'a str, input: &'a str, output: &'a str) -> Option<Engine<'a>>
+    ensures { option_map engine_view result ≡ engine_of (sql.now ∷ input.now ∷ output.now ∷ []) }
 {
     if !is_path(sql) || !is_path(input) || !is_path(output) {
         return None;
     }
-    Some(Command::Engine(Engine { sql, input, output }))
+    Some(Engine { sql, input, output })
 }
 
 // The profile that options give.

@@ -1,5 +1,5 @@
-use Rattle.vtl_top.proofs.Outcomes.{not_without}
+use Rattle.vtl_top.proofs.Outcomes.{not_without, texts_not_without}
 use Rattle.vtl_top.proofs.laws.expected_is_there.Goals as goal
 
 pub returns : goal.returns
-returns c = not_without
+returns c = record { given = not_without; texts = texts_not_without }

@@ -1,12 +1,20 @@
 use Rattle.std.proofs.Common.{ap, sym}
-use Rattle.vtl_top.specs.RunView.{command_view, engine_view, run_view}
-use Rattle.vtl_top.specs.Words.{engine, run}
+use Rattle.vtl_top.specs.RunView.{command_view, engine_view, run_view, source_view}
+use Rattle.vtl_top.specs.Words.{engine, run, sql, sqlrun}
 use Rattle.vtl_top.proofs.MadeLemmas.{of_command}
 use Rattle.vtl_top.proofs.made.make.Goals as goal
 
 pub returns-in-Run-clause-takes : goal.returns-in-Run-clause-takes
 returns-in-Run-clause-takes g c =
     of_command g.F.Files c.args.files.now c.make_run.new.files (run (run_view c.in-Run.run')) (command_view c.args.command.now) c.make_run.result c.make_run.ensures.takes (sym (ap command_view c.in-Run.is))
+
+pub returns-in-SqlRun-clause-takes : goal.returns-in-SqlRun-clause-takes
+returns-in-SqlRun-clause-takes g c =
+    of_command g.F.Files c.args.files.now c.make_run-in-SqlRun.new.files (sqlrun (run_view c.in-SqlRun.run')) (command_view c.args.command.now) c.make_run-in-SqlRun.result c.make_run-in-SqlRun.ensures.takes (sym (ap command_view c.in-SqlRun.is))
+
+pub returns-in-Sql-clause-takes : goal.returns-in-Sql-clause-takes
+returns-in-Sql-clause-takes g c =
+    of_command g.F.Files c.args.files.now c.make_text.new.files (sql (source_view c.in-Sql.source)) (command_view c.args.command.now) c.make_text.result c.make_text.ensures.takes (sym (ap command_view c.in-Sql.is))
 
 pub returns-in-Engine-clause-takes : goal.returns-in-Engine-clause-takes
 returns-in-Engine-clause-takes g c =
