@@ -1,12 +1,12 @@
 -- What commands make, by its parts.
-use Rattle.std.proofs.Common.{◌≡◌, inl, ℕ, List, [], Some, Result, Ok, Err, sym, ap, subst, ◌∙◌}
+use Rattle.std.proofs.Common.{◌≡◌, inl, ℕ, List, [], map, Some, Result, Ok, Err, sym, ap, subst, ◌∙◌}
 use Rattle.std.specs.Global.{Vec}
 use Rattle.std.specs.Prelude.{IfOk}
 use Rattle.vtl_files.specs.declared.files.Files.{Ghosts}
 use Rattle.vtl_top.specs.Answered.{Takes}
 use Rattle.vtl_top.specs.Asked.{asked_step}
 use Rattle.vtl_top.specs.MadeView.{IsMade, Names, made_view}
-use Rattle.vtl_top.specs.OutputView.{outputs_view}
+use Rattle.vtl_top.specs.OutputView.{output_view, outputs_view}
 use Rattle.vtl_top.specs.Refusal.{SettlesBy}
 use Rattle.vtl_top.specs.Steps.{File, Made}
 use Rattle.vtl_top.specs.Words.{Command}
@@ -32,6 +32,10 @@ module _ (outputs : Vec Output) (text : Vec ℕ) where
   pub no_text_made : (result : Result Program Status) → IsMade outputs text result → text.items ≡ [] → IfOk result (λ m. m.text.items ≡ [])
   no_text_made (Ok m) is e = ap (λ (v : Vec ℕ). v.items) is.1 ∙ e
   no_text_made (Err status) is e = tt
+
+  pub no_files_made : (result : Result Program Status) → IsMade outputs text result → outputs.items ≡ [] → IfOk result (λ m. outputs_view m.outputs ≡ [])
+  no_files_made (Ok m) is e = ap outputs_view is.0 ∙ ap (map output_view) e
+  no_files_made (Err status) is e = tt
 
 -- what one command takes, the same one takes
 pub of_command : {F : Type 0} (g : Ghosts F) (before now : F) (c d : Command) (result : Result Program Status) → Takes g before now (asked_step (Some c)) made_view result → c ≡ d → Takes g before now (asked_step (Some d)) made_view result

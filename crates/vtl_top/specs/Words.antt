@@ -113,12 +113,12 @@ run_of (script ∷ structures ∷ input ∷ output ∷ options) =
     if list_all is_path (input ∷ output ∷ []) then option_map (run_with input output) (source_of (script ∷ structures ∷ options)) else None
 run_of _ = None
 
-abbrev pub engine_with : (sql input output : Path) → Engine
-engine_with sql input output = record { sql = sql; input = input; output = output }
+abbrev pub engine_with : (file input output : Path) → Engine
+engine_with file input output = record { sql = file; input = input; output = output }
 
 -- the words behind `engine`: SQLFILE IN OUT, each a path
 abbrev pub engine_of : List Text → Option Engine
-engine_of (sql ∷ input ∷ output ∷ []) = if list_all is_path (sql ∷ input ∷ output ∷ []) then Some (engine_with sql input output) else None
+engine_of (file ∷ input ∷ output ∷ []) = if list_all is_path (file ∷ input ∷ output ∷ []) then Some (engine_with file input output) else None
 engine_of _ = None
 
 -- the command that the words are, by its name

@@ -73,16 +73,28 @@ fn named<'a>(name: &str, words: &'a [String]) -> Option<Command<'a>>
     ensures { option_map command_view result ≡ command_of (name.now ∷ map string_bytes words.now) }
 {
     if name == "run" {
-        return Some(Command::Run(run_of(words)?));
+        return match run_of(words) {
+            Some(run) => Some(Command::Run(run)),
+            None => None,
+        };
     }
     if name == "sqlrun" {
-        return Some(Command::SqlRun(run_of(words)?));
+        return match run_of(words) {
+            Some(run) => Some(Command::SqlRun(run)),
+            None => None,
+        };
     }
     if name == "sql" {
-        return Some(Command::Sql(source_of(words)?));
+        return match source_of(words) {
+            Some(source) => Some(Command::Sql(source)),
+            None => None,
+        };
     }
     if name == "engine" {
-        return Some(Command::Engine(engine_of(words)?));
+        return match engine_of(words) {
+            Some(engine) => Some(Command::Engine(engine)),
+            None => None,
+        };
     }
     None
 }
@@ -139,12 +151,14 @@ fn run_with<'a>(
     if !is_path(input) || !is_path(output) {
         return None;
     }
-    let source = source_with(script, structures, options)?;
-    Some(Run {
-        source,
-        input,
-        output,
-    })
+    match source_with(script, structures, options) {
+        Some(source) => Some(Run {
+            source,
+            input,
+            output,
+        }),
+        None => None,
+    }
 }
 
 fn engine_of(words: &[String]) -> Option<Engine<'_>>

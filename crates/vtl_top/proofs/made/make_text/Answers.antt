@@ -1,7 +1,9 @@
-use Rattle.std.proofs.Common.{refl}
+use Rattle.std.proofs.Common.{[], ap, map, ℕ}
+use Rattle.std.specs.Global.{Vec}
 use Rattle.std.specs.Prelude.{string_bytes}
 use Rattle.vtl_top.specs.Expected.{text_step}
 use Rattle.vtl_top.specs.MadeView.{made_view}
+use Rattle.vtl_top.specs.OutputView.{output_view}
 use Rattle.vtl_top.specs.RunView.{source_view}
 use Rattle.vtl_top.specs.Steps.{only_text}
 use Rattle.vtl_top.proofs.MadeLemmas.{settles}
@@ -11,7 +13,7 @@ use Rattle.vtl_top.proofs.made.make_text.Goals as goal
 pub returns-in-Ok-clause-takes : goal.returns-in-Ok-clause-takes
 returns-in-Ok-clause-takes g c =
     wrapped g.F.Files c.args.files.now c.prepare_text.new.files (text_step (source_view c.args.asked.now)) only_text string_bytes made_view c.in-Ok.text c.made_of.result c.in-Ok.ensures
-    (settles c.new.result c.into_bytes.result _ _ c.made_of.result c.made_of.ensures ? ?)
+    (settles c.new.result c.into_bytes.result [] (string_bytes c.in-Ok.text) c.made_of.result c.made_of.ensures (ap (map output_view) c.new.ensures.items) (ap (λ (v : Vec ℕ). v.items) c.into_bytes.ensures.value))
 
 pub returns-in-Err-clause-takes : goal.returns-in-Err-clause-takes
 returns-in-Err-clause-takes g c =
