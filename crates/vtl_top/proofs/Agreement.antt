@@ -1,14 +1,12 @@
 -- Interpreting a script and running its text in SQL come to the same.
-use Rattle.std.proofs.Common.{◌≡◌, ℕ, false, true, List, [], map, Option, Some, Result, Ok, Err, refl, sym, ap, subst, ◌∙◌}
-use Rattle.std.specs.Prelude.{IsUtf8}
+use Rattle.std.proofs.Common.{◌≡◌, List, [], map, Some, Result, Ok, Err, refl, sym, ap, subst, ◌∙◌}
 use Rattle.std.specs.List.{AllByRecursion}
-use Rattle.vtl_files.specs.Outside.{bytes_at}
 use Rattle.vtl_decimal.specs.Settings.{Settings}
 use Rattle.vtl_tree.specs.Environment.{Environment}
 use Rattle.vtl_tree.specs.Structures.{AreStructures, Named}
 use Rattle.sql_tree.specs.Trees.{ScriptTree}
 use Rattle.sql_engine.specs.Scripts.{script_value}
-use Rattle.sql_engine.specs.TypingStatements.{script_fault, script_settings}
+use Rattle.sql_engine.specs.TypingStatements.{script_settings}
 use Rattle.sql_engine.specs.Windows.{script_has_window}
 use Rattle.vtl_interp.specs.Meaning.{meaning}
 use Rattle.vtl_interp.specs.Transformations.{transformations}

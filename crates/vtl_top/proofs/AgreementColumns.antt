@@ -15,7 +15,7 @@ use Rattle.vtl_tree.specs.declared.structure.Role.TheVariants as role
 use Rattle.vtl_tree.specs.declared.structure.Structure.{Structure}
 use Rattle.check_laws.specs.Columns.{identifiers_of, others_of}
 use Rattle.check_laws.proofs.OwnColumns.{columns_apart}
-use Rattle.check_laws.proofs.Places.{IsIdentifier, IsOther, all_append, all_back, all_front, all_map, all_more, all_of_map, are_identifiers, are_others, columns_split}
+use Rattle.check_laws.proofs.Places.{IsIdentifier, IsOther, all_append, all_map, all_more, all_of_map, are_identifiers, are_others, columns_split}
 use Rattle.check_laws.proofs.SetsFolds.{filter_once}
 use Rattle.vtl_csv.specs.InputFile.{dataset_rows}
 use Rattle.vtl_csv.specs.Plain.{plain, plain_columns}

@@ -1,12 +1,11 @@
 -- What a script reads are structures as they may be declared.
-use Rattle.std.proofs.Common.{◌≡◌, ℕ, Bool, true, false, cond, List, [], ◌∷◌, drop, Option, Some, None, Result, Ok, Err, refl, sym, subst}
+use Rattle.std.proofs.Common.{◌≡◌, ℕ, Bool, true, false, cond, List, [], ◌∷◌, drop, Option, Some, None, Result, Ok, Err, refl, subst}
 use Rattle.std.specs.List.{AllByRecursion}
 use Rattle.std.specs.Option.{option_map_or}
 use Rattle.std.specs.Prelude.{chars}
 use Rattle.std.specs.Str.{is_utf8}
 use Rattle.vtl_lists.specs.Results.{◌>>=◌}
 use Rattle.vtl_tree.specs.Structures.{AreStructures, Named, is_declarable_entry}
-use Rattle.vtl_tree.specs.declared.structure.Structure.{Structure}
 use Rattle.vtl_csv.specs.StructuresFile.{Fault, is_header, lines_declare, lines_in, records_in, structures_of_file, with_identifiers, without_identifier}
 use Rattle.vtl_to_sql.proofs.TypedScripts.{declared_coded, declared_each_entry}
 use Rattle.vtl_top.specs.Expected.{read, structures_limit, structures_step}
