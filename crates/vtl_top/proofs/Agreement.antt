@@ -12,7 +12,7 @@ use Rattle.vtl_interp.specs.Meaning.{meaning}
 use Rattle.vtl_interp.specs.Transformations.{transformations}
 use Rattle.vtl_interp.specs.Uses.{reads}
 use Rattle.vtl_to_sql.specs.Exports.{exported_as}
-use Rattle.vtl_top.specs.Agreement.{AreTwins}
+use Rattle.vtl_top.specs.Agreement.{AreTwins, IsOutcomeOf}
 use Rattle.vtl_top.specs.Asked.{asked_step}
 use Rattle.vtl_top.specs.Expected.{IsTextOf, Typed, inputs_step, meant, outputs_of, run_step, statements_in}
 use Rattle.vtl_top.specs.ScriptFile.{whole}
@@ -158,8 +158,16 @@ module _ (r : Run) (e : Engine) (held other : Held) (twins : AreTwins r e held o
   pub run_agrees : (given : Result (List File) Status) → (engine_step e).gives other given → (run_step r).gives held given
   run_agrees given is = subst (λ x. (run_step r).gives held x) (sym one_result ∙ engine_once e other engine_result given engine_there is) run_there
 
+  -- ---- and so are the commands
+  pub run_makes : (asked_step (Some (run r))).gives held (made_of run_result)
+  run_makes = made_given (run_step r) held run_result run_there
+
+  pub engine_makes : (asked_step (Some (engine e))).gives other (made_of run_result)
+  engine_makes = subst (λ x. (asked_step (Some (engine e))).gives other (made_of x)) one_result (made_given (engine_step e) other engine_result engine_there)
+
   pub outcomes_agree : (given found : Result Made Status) → (asked_step (Some (run r))).gives held given → (asked_step (Some (engine e))).gives other found → given ≡ found
   outcomes_agree given found p q =
-      determined (Some (run r)) held given (made_of run_result) (no_text_run r) p (made_given (run_step r) held run_result run_there)
-      ∙ ap made_of (sym one_result)
-      ∙ determined (Some (engine e)) other (made_of engine_result) found (no_text_engine e) (made_given (engine_step e) other engine_result engine_there) q
+      determined (Some (run r)) held given (made_of run_result) (no_text_run r) p run_makes ∙ determined (Some (engine e)) other (made_of run_result) found (no_text_engine e) engine_makes q
+
+pub outcome_there : (r : Run) (e : Engine) (held other : Held) → AreTwins r e held other → IsOutcomeOf r e held other
+outcome_there r e held other twins = record { given = made_of (run_result r e held other twins); of_run = run_makes r e held other twins; of_engine = engine_makes r e held other twins }

@@ -1,13 +1,17 @@
 -- A run, and an engine that is given the text of its script in SQL over the same data sets.
-use Rattle.std.specs.Prelude.{◌≡◌, Some}
+use Rattle.std.specs.Prelude.{◌≡◌, List, Result, Some}
 use Rattle.std.specs.List.{AllByRecursion}
 use Rattle.vtl_files.specs.Outside.{bytes_at}
+use Rattle.vtl_files.specs.declared.files.Files.{Ghosts}
 use Rattle.vtl_tree.specs.Structures.{Named}
 use Rattle.vtl_interp.specs.Uses.{reads}
+use Rattle.vtl_top.specs.Answered.{Adds}
+use Rattle.vtl_top.specs.Asked.{asked_step}
 use Rattle.vtl_top.specs.Expected.{file_in}
 use Rattle.vtl_top.specs.Meant.{IsTextMeant}
-use Rattle.vtl_top.specs.Steps.{Held, Path, Text}
-use Rattle.vtl_top.specs.Words.{Engine, Run}
+use Rattle.vtl_top.specs.Steps.{File, Held, Made, Path, Text}
+use Rattle.vtl_top.specs.Words.{Engine, Run, engine, run}
+use Rattle.vtl_status.specs.declared.status.Status.{Status}
 
 -- the files of these data sets in a folder hold the same bytes, or none of the two is there
 abbrev pub HoldSame : Path → (held other : Held) → Named → Type 0
@@ -22,3 +26,15 @@ pub record AreTwins (r : Run) (e : Engine) (held other : Held) : Type 0 where
   pub input : e.input ≡ r.input
   pub output : e.output ≡ r.output
   pub same : HoldSame r.input held other (reads script.typed.structures script.typed.nodes)
+
+-- an outcome of both
+pub record IsOutcomeOf (r : Run) (e : Engine) (held other : Held) : Type 0 where
+  pub given : Result Made Status
+  pub of_run : (asked_step (Some (run r))).gives held given
+  pub of_engine : (asked_step (Some (engine e))).gives other given
+
+-- two calls added the same files, in the same order, to those that had been written before
+pub record WroteSame {F : Type 0} (g : Ghosts F) (a b c d : F) : Type 0 where
+  pub files : List File
+  pub first : Adds (g.written a) (g.written b) files
+  pub second : Adds (g.written c) (g.written d) files

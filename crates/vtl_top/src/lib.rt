@@ -25,7 +25,7 @@ mod top;
 mod typing;
 mod words;
 
-pub use agreement::interpreter_and_sql_agree;
+pub use agreement::{agreeing_calls_end_alike, interpreter_and_sql_agree};
 pub use laws::{
     calm_calls_are_complete, expected_is_determined, expected_is_there, exports_are_meant,
     faults_are_meant, mistyped_is_first_fault, output_is_meant, runs_are_quiet,
