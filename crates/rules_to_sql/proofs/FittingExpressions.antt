@@ -10,9 +10,9 @@ use Rattle.vtl_cell.specs.declared.operator.ScalarOp.TheVariants as op
 use Rattle.vtl_tree.specs.CompExp as comp
 use Rattle.vtl_tree.specs.CompExp.{CompExp, CompExps, no_comp_exps, comp_exp}
 use Rattle.vtl_tree.specs.declared.expression.AggCall.{AggCall}
-use Rattle.check_laws.specs.Kinds.{exp_kind}
-use Rattle.check_laws.specs.Literals.{HasLiterals}
-use Rattle.check_laws.specs.Made.{kinds_in as comp_kinds}
+use Rattle.vtl_backend.specs.Kinds.{exp_kind}
+use Rattle.vtl_backend.specs.Literals.{HasLiterals}
+use Rattle.vtl_backend.specs.Made.{kinds_in as comp_kinds}
 use Rattle.sql_tree.specs.Trees as tree
 use Rattle.sql_tree.specs.Trees.{Exp, Exps, Text}
 use Rattle.sql_meaning.specs.Fits.{AllFit, Fits, IsSeen}

@@ -6,7 +6,7 @@ use Rattle.vtl_cell.specs.declared.operator.ScalarOp.{ScalarOp}
 use Rattle.vtl_tree.specs.CompExp as comp
 use Rattle.vtl_tree.specs.CompExp.{CompExp, CompExps, no_comp_exps, comp_exp}
 use Rattle.vtl_tree.specs.declared.expression.AggCall.{AggCall}
-use Rattle.check_laws.specs.Literals.{HasLiterals}
+use Rattle.vtl_backend.specs.Literals.{HasLiterals}
 use Rattle.sql_tree.specs.Formed.{EachFormed, Formed, IsColumn}
 use Rattle.sql_tree.specs.Trees.{Text}
 use Rattle.rules_to_sql.specs.Groups.{AreTypedOver, IsTypedOver}

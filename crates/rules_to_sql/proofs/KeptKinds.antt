@@ -9,8 +9,8 @@ use Rattle.vtl_cell.specs.declared.operator.ScalarOp.TheVariants as op
 use Rattle.vtl_tree.specs.CompExp as comp
 use Rattle.vtl_tree.specs.CompExp.{CompExp, CompExps, no_comp_exps, comp_exp}
 use Rattle.vtl_tree.specs.declared.expression.AggCall.{AggCall}
-use Rattle.check_laws.specs.Kinds.{exp_kind}
-use Rattle.check_laws.specs.Made.{kinds_in as comp_kinds}
+use Rattle.vtl_backend.specs.Kinds.{exp_kind}
+use Rattle.vtl_backend.specs.Made.{kinds_in as comp_kinds}
 use Rattle.sql_tree.specs.Trees.{Text}
 use Rattle.sql_check_parts.specs.Kinds.{kind_in, kinds_in, operator_kind}
 use Rattle.sql_check_parts.specs.Scopes.{Scope, found, or_null}

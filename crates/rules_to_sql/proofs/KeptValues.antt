@@ -15,8 +15,8 @@ use Rattle.vtl_tree.specs.CompExp as comp
 use Rattle.vtl_tree.specs.CompExp.{CompExp, CompExps, no_comp_exps, comp_exp}
 use Rattle.vtl_tree.specs.Value as points
 use Rattle.vtl_tree.specs.declared.expression.AggCall.{AggCall}
-use Rattle.check_laws.specs.Literals.{HasLiterals}
-use Rattle.check_laws.specs.Made.{kinds_in as comp_kinds}
+use Rattle.vtl_backend.specs.Literals.{HasLiterals}
+use Rattle.vtl_backend.specs.Made.{kinds_in as comp_kinds}
 use Rattle.sql_tree.specs.Formed.{is_binary, is_function, is_unary}
 use Rattle.sql_tree.specs.Trees.{Exp, Text}
 use Rattle.sql_check_parts.specs.Kinds.{kind_in, kinds_in, operator_kind}

@@ -10,8 +10,8 @@ use Rattle.vtl_kinds.specs.Literals.{largest_place, lies_between}
 use Rattle.vtl_tree.specs.CompExp as comp
 use Rattle.vtl_tree.specs.CompExp.{CompExp, CompExps, no_comp_exps, comp_exp}
 use Rattle.vtl_tree.specs.declared.expression.AggCall.{AggCall}
-use Rattle.check_laws.specs.Literals as vtl
-use Rattle.check_laws.specs.Literals.{HasLiterals, is_integer}
+use Rattle.vtl_backend.specs.Literals as vtl
+use Rattle.vtl_backend.specs.Literals.{HasLiterals, is_integer}
 use Rattle.sql_tree.specs.Trees.{Text}
 use Rattle.sql_check_parts.specs.Literals.{are_digits, integer_in, is_size, literals_fit}
 use Rattle.rules_to_sql.specs.Groups.{AreTypedOver, IsTypedOver}

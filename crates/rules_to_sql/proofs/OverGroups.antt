@@ -18,8 +18,8 @@ use Rattle.vtl_kinds.specs.Aggregates.{aggregate_kind}
 use Rattle.vtl_tree.specs.CompExp.{CompExp}
 use Rattle.vtl_tree.specs.declared.expression.AggCall.{AggCall}
 use Rattle.vtl_tree.specs.declared.structure.Component.{Component}
-use Rattle.check_laws.specs.Kinds.{exp_kind}
-use Rattle.check_laws.specs.Columns.{kind_named, place_of}
+use Rattle.vtl_backend.specs.Kinds.{exp_kind}
+use Rattle.vtl_backend.specs.Columns.{kind_named, place_of}
 use Rattle.sql_tree.specs.Formed.{Formed}
 use Rattle.sql_tree.specs.Trees.{Text}
 use Rattle.sql_meaning.specs.Fits.{Fits}

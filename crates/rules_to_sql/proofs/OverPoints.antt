@@ -11,8 +11,8 @@ use Rattle.vtl_tree.specs.CompExp.{CompExp, CompExps, column, const, call, aggre
 use Rattle.vtl_tree.specs.Value as points
 use Rattle.vtl_tree.specs.declared.expression.AggCall.{AggCall}
 use Rattle.vtl_tree.specs.declared.structure.Component.{Component}
-use Rattle.check_laws.specs.Kinds.{exp_kind}
-use Rattle.check_laws.specs.Made.{AreTyped, IsColumnAt, IsTyped}
+use Rattle.vtl_backend.specs.Kinds.{exp_kind}
+use Rattle.vtl_backend.specs.Made.{AreTyped, IsColumnAt, IsTyped}
 use Rattle.sql_tree.specs.Formed.{Formed}
 use Rattle.sql_tree.specs.Trees.{Text}
 use Rattle.sql_meaning.specs.Fits.{Fits}

@@ -15,9 +15,9 @@ use Rattle.vtl_cell.specs.declared.operator.ScalarOp.TheVariants as op
 use Rattle.vtl_tree.specs.CompExp as comp
 use Rattle.vtl_tree.specs.CompExp.{CompExp, CompExps, no_comp_exps, comp_exp}
 use Rattle.vtl_tree.specs.declared.expression.AggCall.{AggCall}
-use Rattle.check_laws.specs.Kinds.{exp_kind}
-use Rattle.check_laws.specs.Literals.{HasLiterals, all_pass, is_member}
-use Rattle.check_laws.specs.Made.{kinds_in}
+use Rattle.vtl_backend.specs.Kinds.{exp_kind}
+use Rattle.vtl_backend.specs.Literals.{HasLiterals, all_pass, is_member}
+use Rattle.vtl_backend.specs.Made.{kinds_in}
 use Rattle.sql_tree.specs.Formed.{IsLiteral}
 use Rattle.sql_tree.specs.Trees.{Text}
 use Rattle.sql_meaning.specs.Fits.{HasValue}

@@ -19,9 +19,9 @@ use Rattle.vtl_tree.specs.CompExp.{CompExp, CompExps, column, const, call, aggre
 use Rattle.vtl_tree.specs.Value.{called}
 use Rattle.vtl_tree.specs.declared.expression.AggCall.{AggCall}
 use Rattle.vtl_tree.specs.declared.structure.Component.{Component}
-use Rattle.check_laws.specs.Columns.{kind_named, place_of}
-use Rattle.check_laws.specs.Literals.{HasLiterals}
-use Rattle.check_laws.specs.Made.{IsColumnAt, kinds_in}
+use Rattle.vtl_backend.specs.Columns.{kind_named, place_of}
+use Rattle.vtl_backend.specs.Literals.{HasLiterals}
+use Rattle.vtl_backend.specs.Made.{IsColumnAt, kinds_in}
 
 -- ---- typed expressions
 

@@ -1,50 +1,3 @@
-pub use Rattle.check_laws.specs.Aggregates
-pub use Rattle.check_laws.specs.Agreement
-pub use Rattle.check_laws.specs.CheckOperators
-pub use Rattle.check_laws.specs.CheckSets
-pub use Rattle.check_laws.specs.Checked
-pub use Rattle.check_laws.specs.Clauses
-pub use Rattle.check_laws.specs.Columns
-pub use Rattle.check_laws.specs.Count
-pub use Rattle.check_laws.specs.Depths
-pub use Rattle.check_laws.specs.Gives
-pub use Rattle.check_laws.specs.Groupings
-pub use Rattle.check_laws.specs.JoinOperands
-pub use Rattle.check_laws.specs.Joined
-pub use Rattle.check_laws.specs.Joins
-pub use Rattle.check_laws.specs.Kinds as LawsKinds
-pub use Rattle.check_laws.specs.LookUps
-pub use Rattle.check_laws.specs.Made
-pub use Rattle.check_laws.specs.Meaning
-pub use Rattle.check_laws.specs.Names as LawsNames
-pub use Rattle.check_laws.specs.Nodes
-pub use Rattle.check_laws.specs.Operators
-pub use Rattle.check_laws.specs.Orders
-pub use Rattle.check_laws.specs.Places
-pub use Rattle.check_laws.specs.Points
-pub use Rattle.check_laws.specs.Script
-pub use Rattle.check_laws.specs.Scripts as LawsScripts
-pub use Rattle.check_laws.specs.Sets
-pub use Rattle.check_laws.specs.Shapes
-pub use Rattle.check_laws.specs.Targets
-pub use Rattle.check_laws.specs.Transformations
-pub use Rattle.check_laws.specs.Trees
-pub use Rattle.check_laws.specs.Turned
-pub use Rattle.check_laws.specs.Typed
-pub use Rattle.check_laws.specs.Typing
-pub use Rattle.check_laws.specs.Uses
-pub use Rattle.check_laws.specs.ValuesColumns
-pub use Rattle.check_laws.specs.ValuesLiterals
-pub use Rattle.check_laws.specs.ValuesOperators
-pub use Rattle.check_laws.specs.View
-pub use Rattle.check_laws.specs.Windowed
-pub use Rattle.check_laws.specs.calls
-pub use Rattle.check_laws.specs.check_calls
-pub use Rattle.check_laws.specs.clauses
-pub use Rattle.check_laws.specs.joins
-pub use Rattle.check_laws.specs.places
-pub use Rattle.check_laws.specs.specifications
-pub use Rattle.check_laws.specs.targets
 pub use Rattle.sql_check_parts.specs.Exists
 pub use Rattle.sql_check_parts.specs.Expressions
 pub use Rattle.sql_check_parts.specs.Kinds
@@ -63,6 +16,60 @@ pub use Rattle.sql_meaning.specs.Tables
 pub use Rattle.sql_meaning.specs.TypedSelects as TypedSelects
 pub use Rattle.sql_meaning.specs.Values
 pub use Rattle.sql_meaning.specs.Windows
+pub use Rattle.vtl_backend.specs.Aggregates
+pub use Rattle.vtl_backend.specs.Agreement
+pub use Rattle.vtl_backend.specs.CheckOperators
+pub use Rattle.vtl_backend.specs.CheckSets
+pub use Rattle.vtl_backend.specs.Checked
+pub use Rattle.vtl_backend.specs.Clauses
+pub use Rattle.vtl_backend.specs.Columns
+pub use Rattle.vtl_backend.specs.Count
+pub use Rattle.vtl_backend.specs.Depths
+pub use Rattle.vtl_backend.specs.Gives
+pub use Rattle.vtl_backend.specs.Groupings
+pub use Rattle.vtl_backend.specs.Inputs as BackendInputs
+pub use Rattle.vtl_backend.specs.JoinOperands
+pub use Rattle.vtl_backend.specs.Joined
+pub use Rattle.vtl_backend.specs.Joins
+pub use Rattle.vtl_backend.specs.Kinds as LawsKinds
+pub use Rattle.vtl_backend.specs.LookUps
+pub use Rattle.vtl_backend.specs.Made
+pub use Rattle.vtl_backend.specs.Meaning
+pub use Rattle.vtl_backend.specs.Names as LawsNames
+pub use Rattle.vtl_backend.specs.Nodes
+pub use Rattle.vtl_backend.specs.Operators
+pub use Rattle.vtl_backend.specs.Orders
+pub use Rattle.vtl_backend.specs.Places
+pub use Rattle.vtl_backend.specs.Points
+pub use Rattle.vtl_backend.specs.Profiles
+pub use Rattle.vtl_backend.specs.Runs
+pub use Rattle.vtl_backend.specs.Script
+pub use Rattle.vtl_backend.specs.Scripts as LawsScripts
+pub use Rattle.vtl_backend.specs.Sets
+pub use Rattle.vtl_backend.specs.Shapes
+pub use Rattle.vtl_backend.specs.Statements as BackendStatements
+pub use Rattle.vtl_backend.specs.TableOf
+pub use Rattle.vtl_backend.specs.Tables as BackendTables
+pub use Rattle.vtl_backend.specs.Targets
+pub use Rattle.vtl_backend.specs.Transformations
+pub use Rattle.vtl_backend.specs.Trees
+pub use Rattle.vtl_backend.specs.Turned
+pub use Rattle.vtl_backend.specs.Typed
+pub use Rattle.vtl_backend.specs.Typing
+pub use Rattle.vtl_backend.specs.Uses
+pub use Rattle.vtl_backend.specs.ValuesColumns
+pub use Rattle.vtl_backend.specs.ValuesLiterals
+pub use Rattle.vtl_backend.specs.ValuesOperators
+pub use Rattle.vtl_backend.specs.View
+pub use Rattle.vtl_backend.specs.Windowed
+pub use Rattle.vtl_backend.specs.calls
+pub use Rattle.vtl_backend.specs.check_calls
+pub use Rattle.vtl_backend.specs.clauses
+pub use Rattle.vtl_backend.specs.declared.error
+pub use Rattle.vtl_backend.specs.joins
+pub use Rattle.vtl_backend.specs.places
+pub use Rattle.vtl_backend.specs.specifications
+pub use Rattle.vtl_backend.specs.targets
 pub mod Constants
 pub mod ToSql
 pub mod Names

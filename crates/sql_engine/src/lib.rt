@@ -25,5 +25,6 @@ mod windows;
 pub use engine::run;
 pub use error::RunErr;
 pub use laws::{inputs_are_data_sets, queries_depend_on_what_they_read};
+pub use sql_check::{SqlChecked, SqlTypeErr, check};
 pub use structures::structure_of;
 pub use windows::has_window;
