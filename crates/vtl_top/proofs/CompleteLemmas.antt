@@ -56,20 +56,20 @@ module _ {F O : Type 0} (g : Ghosts F) (o : Sinks O) (a b : F) (out between : O)
   ended no_memory e w = wants_memory (is_memory status e)
 
 -- ---- what a run makes of its files, in either way
-made_of : Result (List File) Status → Result Made Status
-made_of (Ok files) = Ok (only_files files)
-made_of (Err status) = Err status
+abbrev made_from : Result (List File) Status → Result Made Status
+made_from (Ok files) = Ok (only_files files)
+made_from (Err status) = Err status
 
-run_asked : (command : Command) (r : Run) (held : Held) (given : Result (List File) Status) → RunsScript command r → (run_step r).gives held given → (asked_step (Some command)).gives held (made_of given)
+run_asked : (command : Command) (r : Run) (held : Held) (given : Result (List File) Status) → RunsScript command r → (run_step r).gives held given → (asked_step (Some command)).gives held (made_from given)
 run_asked command r held given runs is = go runs
   where
-    behind : (given : Result (List File) Status) → Behind given (λ files. (settled (Ok (only_files files))).gives held) (made_of given)
+    behind : (given : Result (List File) Status) → Behind given (λ files. (settled (Ok (only_files files))).gives held) (made_from given)
     behind (Ok files) = refl
     behind (Err status) = refl
 
-    go : RunsScript command r → (asked_step (Some command)).gives held (made_of given)
-    go (inl e) = subst (λ (c : Command). (asked_step (Some c)).gives held (made_of given)) (sym e) (given, is, behind given)
-    go (inr e) = subst (λ (c : Command). (asked_step (Some c)).gives held (made_of given)) (sym e) (given, is, behind given)
+    go : RunsScript command r → (asked_step (Some command)).gives held (made_from given)
+    go (inl e) = subst (λ (c : Command). (asked_step (Some c)).gives held (made_from given)) (sym e) (given, is, behind given)
+    go (inr e) = subst (λ (c : Command). (asked_step (Some c)).gives held (made_from given)) (sym e) (given, is, behind given)
 
 -- the text of a script that is accepted is not refused
 text_not_refused : (s : Source) (held : Held) (t : Typed) (status : Status) → IsAccepted s held t → (asked_step (Some (sql s))).gives held (Err status) → ⊥

@@ -137,11 +137,11 @@ abbrev pub IsNoText : Option Command → Type 0
 IsNoText command = (s : Source) → (command ≡ Some (sql s) → ⊥)
 
 pub determined : (command : Option Command) (held : Held) (given other : Result Made Status) → IsNoText command → (asked_step command).gives held given → (asked_step command).gives held other → given ≡ other
-determined None held given other no p q = settled_once (Err st.Usage) held given other p q
-determined (Some (run r)) held given other no p q = onward_once (run_step r) (λ files. settled (Ok (only_files files))) held (run_once r held) (λ files. settled_once (Ok (only_files files)) held) given other p q
-determined (Some (sqlrun r)) held given other no p q = onward_once (run_step r) (λ files. settled (Ok (only_files files))) held (run_once r held) (λ files. settled_once (Ok (only_files files)) held) given other p q
-determined (Some (sql s)) held given other no p q = absurd (no s refl)
-determined (Some (engine e)) held given other no p q = onward_once (engine_step e) (λ files. settled (Ok (only_files files))) held (engine_once e held) (λ files. settled_once (Ok (only_files files)) held) given other p q
+determined None held given other other_command p q = settled_once (Err st.Usage) held given other p q
+determined (Some (run r)) held given other other_command p q = onward_once (run_step r) (λ files. settled (Ok (only_files files))) held (run_once r held) (λ files. settled_once (Ok (only_files files)) held) given other p q
+determined (Some (sqlrun r)) held given other other_command p q = onward_once (run_step r) (λ files. settled (Ok (only_files files))) held (run_once r held) (λ files. settled_once (Ok (only_files files)) held) given other p q
+determined (Some (sql s)) held given other other_command p q = absurd (other_command s refl)
+determined (Some (engine e)) held given other other_command p q = onward_once (engine_step e) (λ files. settled (Ok (only_files files))) held (engine_once e held) (λ files. settled_once (Ok (only_files files)) held) given other p q
 
 pub one_status : (command : Option Command) (held : Held) → Alike (asked_step command) held
 one_status None held = once_alike (settled (Err st.Usage)) held (settled_once (Err st.Usage) held)

@@ -123,14 +123,14 @@ engine_total e held =
     settled_total (exports_of e.output (script_settings tree) (script_value tree (rows_by_name env))) held))
 
 total : (command : Option Command) (held : Held) → IsNoText command → Total (asked_step command) held
-total None held no = settled_total (Err st.Usage) held
-total (Some (run r)) held no = onward_total (run_step r) (λ files. settled (Ok (only_files files))) held (run_total r held) (λ files. settled_total (Ok (only_files files)) held)
-total (Some (sqlrun r)) held no = onward_total (run_step r) (λ files. settled (Ok (only_files files))) held (run_total r held) (λ files. settled_total (Ok (only_files files)) held)
-total (Some (sql s)) held no = absurd (no s refl)
-total (Some (engine e)) held no = onward_total (engine_step e) (λ files. settled (Ok (only_files files))) held (engine_total e held) (λ files. settled_total (Ok (only_files files)) held)
+total None held other_command = settled_total (Err st.Usage) held
+total (Some (run r)) held other_command = onward_total (run_step r) (λ files. settled (Ok (only_files files))) held (run_total r held) (λ files. settled_total (Ok (only_files files)) held)
+total (Some (sqlrun r)) held other_command = onward_total (run_step r) (λ files. settled (Ok (only_files files))) held (run_total r held) (λ files. settled_total (Ok (only_files files)) held)
+total (Some (sql s)) held other_command = absurd (other_command s refl)
+total (Some (engine e)) held other_command = onward_total (engine_step e) (λ files. settled (Ok (only_files files))) held (engine_total e held) (λ files. settled_total (Ok (only_files files)) held)
 
 pub not_without : (command : Option Command) (held : Held) → IsNoText command → ¬ ((given : Result Made Status) → ¬ (asked_step command).gives held given)
-not_without command held no none = total command held no (λ p. none p.0 p.1)
+not_without command held other_command none = total command held other_command (λ p. none p.0 p.1)
 
 -- ---- a text, where the script has one
 module _ (s : Source) (held : Held) (has : (t : Typed) → IsAccepted s held t → (text : List ℕ) × IsTextOf t text) where
