@@ -30,21 +30,19 @@ use Rattle.vtl_top.proofs.MeantLemmas.{accepted_always, passes}
 use Rattle.vtl_top.proofs.Once.{IsNoText, determined}
 
 -- ---- a step that makes files gives one result, where its command does
-made_of : Result (List File) Status → Result Made Status
+abbrev made_of : Result (List File) Status → Result Made Status
 made_of (Ok files) = Ok (only_files files)
 made_of (Err status) = Err status
 
-files_in : Result Made Status → Result (List File) Status
+abbrev files_in : Result Made Status → Result (List File) Status
 files_in (Ok made) = Ok made.files
 files_in (Err status) = Err status
 
 files_again : (given : Result (List File) Status) → files_in (made_of given) ≡ given
-unfolding files_in, made_of
 files_again (Ok files) = refl
 files_again (Err status) = refl
 
 made_given : (step : Step (List File)) (held : Held) (given : Result (List File) Status) → step.gives held given → (step >>= λ files. settled (Ok (only_files files))).gives held (made_of given)
-unfolding made_of
 made_given step held (Ok files) is = (Ok files, is, refl)
 made_given step held (Err status) is = (Err status, is, refl)
 
@@ -93,13 +91,12 @@ module _ (r : Run) (e : Engine) (held other : Held) (twins : AreTwins r e held o
   run_result = then_on (sets_in r.input t.settings held [] es) (λ env. outputs_of r.output t.settings (meant t env))
 
   run_there : (run_step r).gives held run_result
-  run_there =
-      (
-        Ok t,
-        accepted_always r.source held t twins.script.script,
-        then_gives (inputs_step r.input t.settings [] es) (λ env. settled (outputs_of r.output t.settings (meant t env))) held (sets_in r.input t.settings held [] es) (λ env. outputs_of r.output t.settings (meant t env))
+  run_there = (
+    Ok t,
+    accepted_always r.source held t twins.script.script,
+    then_gives (inputs_step r.input t.settings [] es) (λ env. settled (outputs_of r.output t.settings (meant t env))) held (sets_in r.input t.settings held [] es) (λ env. outputs_of r.output t.settings (meant t env))
         (sets_given r.input t.settings held [] es) (λ env. refl),
-      )
+  )
 
   -- ---- what the engine gives
   abbrev result_by : Path → Path → Settings → Named → Result (List File) Status
@@ -109,22 +106,20 @@ module _ (r : Run) (e : Engine) (held other : Held) (twins : AreTwins r e held o
   engine_result = result_by e.input e.output (script_settings tree) (input_structures tree)
 
   checked : (sql_checked_step e.sql).gives other (Ok tree)
-  checked =
-      (
-        Ok tree,
-        (Ok twins.text, sym (ap (present e.sql) twins.sql), (whole tree, (its_text.utf8, its_text.spelled), refl)),
-        (Ok tt, passes (script_has_window tree) (sql_unbuilt e.sql) its_text.plain, (Ok tt, sym (ap sql_typing its_text.typed), refl)),
-      )
+  checked = (
+    Ok tree,
+    (Ok twins.text, sym (ap (present e.sql) twins.sql), (whole tree, (its_text.utf8, its_text.spelled), refl)),
+    (Ok tt, passes (script_has_window tree) (sql_unbuilt e.sql) its_text.plain, (Ok tt, sym (ap sql_typing its_text.typed), refl)),
+  )
 
   engine_there : (engine_step e).gives other engine_result
-  engine_there =
-      (
-        Ok tree,
-        checked,
-        then_gives (inputs_step e.input (script_settings tree) [] (input_structures tree)) (λ env. settled (exports_of e.output (script_settings tree) (script_value tree (rows_by_name env)))) other
+  engine_there = (
+    Ok tree,
+    checked,
+    then_gives (inputs_step e.input (script_settings tree) [] (input_structures tree)) (λ env. settled (exports_of e.output (script_settings tree) (script_value tree (rows_by_name env)))) other
         (sets_in e.input (script_settings tree) other [] (input_structures tree)) (λ env. exports_of e.output (script_settings tree) (script_value tree (rows_by_name env)))
         (sets_given e.input (script_settings tree) other [] (input_structures tree)) (λ env. refl),
-      )
+  )
 
   -- ---- they are one
   value_same : (env : Environment) → sets_in r.input t.settings held [] es ≡ Ok env → exports_of r.output t.settings (script_value tree (rows_by_name env)) ≡ outputs_of r.output t.settings (meant t env)
