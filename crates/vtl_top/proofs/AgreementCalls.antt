@@ -11,7 +11,7 @@ use Rattle.vtl_top.specs.Steps.{Held, Made, status_of}
 use Rattle.vtl_top.specs.Words.{Command, Engine, Run, RunsScript, engine, run}
 use Rattle.vtl_status.specs.declared.status.Status.{Status}
 use Rattle.vtl_status.specs.declared.status.Status.TheVariants as st
-use Rattle.vtl_top.proofs.Agreement.{outcome_there, outcomes_agree}
+use Rattle.vtl_top.proofs.AgreementWhole.{outcome_there, outcomes_agree}
 use Rattle.vtl_top.proofs.CompleteLemmas.{complete}
 
 -- what asks for a run, asks for what `run` does

@@ -1,4 +1,4 @@
-use Rattle.vtl_top.proofs.Agreement.{engine_agrees, outcome_there, outcomes_agree, run_agrees}
+use Rattle.vtl_top.proofs.AgreementWhole.{engine_agrees, outcome_there, outcomes_agree, run_agrees}
 use Rattle.vtl_top.proofs.agreement.interpreter_and_sql_agree.Goals as goal
 
 pub returns-clause-engine : goal.returns-clause-engine
