@@ -108,7 +108,7 @@ module _ (r : Run) (e : Engine) (held other : Held) (twins : AreTwins r e held o
   checked : (sql_checked_step e.sql).gives other (Ok tree)
   checked = (
     Ok tree,
-    (Ok twins.text, sym (ap (present e.sql) twins.sql), (whole tree, (its_text.utf8, its_text.spelled), refl)),
+    (Ok twins.text, sym (ap (present e.sql) twins.sql_file), (whole tree, (its_text.utf8, its_text.spelled), refl)),
     (Ok tt, passes (script_has_window tree) (sql_unbuilt e.sql) its_text.plain, (Ok tt, sym (ap sql_typing its_text.typed), refl)),
   )
 

@@ -1,6 +1,6 @@
 // Interpreter and SQL agree.
 ghost use Rattle.std.specs.Prelude.{◌≡◌, ◌⊎◌, List, Result, Some};
-ghost use Rattle.vtl_top.specs.Agreement.{AreTwins, IsOutcomeOf, WroteSame};
+ghost use Rattle.vtl_top.specs.Agreement.{AreTwins, IsOutcomeOf, IsPrinted, WroteSame};
 ghost use Rattle.vtl_top.specs.Answered.{Ends};
 ghost use Rattle.vtl_top.specs.Asked.{asked_step};
 ghost use Rattle.vtl_top.specs.Complete.{IsCalm};
@@ -19,12 +19,14 @@ use vtl_files::{Files, Sink};
 /// the script.
 ///
 /// `engine` and `run` say it of the steps, both ways. `outcome` says it of the commands: there is an outcome of both; and
-/// `outcomes` that whatever the words `run` come to, and whatever the words `engine` come to, it is one.
+/// `outcomes` that whatever the words `run` come to, and whatever the words `engine` come to, it is one. By `printed` all of
+/// this holds of what the words `sql` print, kept as the SQL file.
 pub fn interpreter_and_sql_agree()
     ensures engine { (r : Run) (e : Engine) (held other : Held) (given : Result (List File) Status) → AreTwins r e held other → (run_step r).gives held given → (engine_step e).gives other given }
     ensures run { (r : Run) (e : Engine) (held other : Held) (given : Result (List File) Status) → AreTwins r e held other → (engine_step e).gives other given → (run_step r).gives held given }
     ensures outcome { (r : Run) (e : Engine) (held other : Held) → AreTwins r e held other → IsOutcomeOf r e held other }
     ensures outcomes { (r : Run) (e : Engine) (held other : Held) (given found : Result Made Status) → AreTwins r e held other → (asked_step (Some (run r))).gives held given → (asked_step (Some (engine e))).gives other found → given ≡ found }
+    ensures printed { (r : Run) (e : Engine) (held other : Held) → IsPrinted r e held other → AreTwins r e held other }
 {}
 
 /// So two calls, one that runs a script and one of an engine that is given its text, answer the same status where nothing

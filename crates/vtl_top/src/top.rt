@@ -42,13 +42,7 @@ pub fn vtl<F: Files, O: Sink>(alloc: Global, words: &[String], files: &mut F, ou
     ensures usage { (result ≡ Status.Usage) ↔ (command_of (map string_bytes words.now) ≡ None) }
     ensures ends { Ends F.Files O.Sink files.old files.new out.old out.new (command_of (map string_bytes words.now)) result }
 {
-    vtl_with(
-        alloc,
-        words,
-        files,
-        out,
-        &mut SqlBack::new(Bundled::new()),
-    )
+    vtl_with(alloc, words, files, out, &mut SqlBack::new(Bundled::new()))
 }
 
 /// The same, where texts in SQL are run by the engine of a given back end.
