@@ -13,7 +13,7 @@ use Rattle.vtl_top.specs.Steps.{File, Held, Made, Name, Path, Text}
 use Rattle.vtl_top.specs.Words.{Engine, Run, engine, run, sql}
 use Rattle.vtl_status.specs.declared.status.Status.{Status}
 
--- the files of these data sets in a folder hold the same bytes, or none of the two is there
+-- of each of these data sets the file in a folder holds the same bytes in both, or is in neither
 abbrev pub HoldSame : Path → (held other : Held) → Named → Type 0
 HoldSame folder held other sets = AllByRecursion (λ e. bytes_at (file_in folder e.0) other ≡ bytes_at (file_in folder e.0) held) sets
 
