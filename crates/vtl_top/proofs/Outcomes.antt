@@ -13,7 +13,7 @@ use Rattle.vtl_interp.specs.Script.{has_definitions}
 use Rattle.vtl_interp.specs.Uses.{reads}
 use Rattle.vtl_interp.specs.Meaning.{is_built}
 use Rattle.vtl_top.specs.Asked.{asked_step}
-use Rattle.vtl_top.specs.Expected.{IsTextOf, Typed, built_step, content, csv_limit, dataset_step, file_in, inputs_step, meant, one_more_step, outputs_of, points_or_fault, read, run_step, script_limit, script_of, script_step, structures_limit, structures_step, text_for, text_step, typed_by, typed_step, typing_of, unbuilt, with_points}
+use Rattle.vtl_top.specs.Expected.{IsTextOf, Typed, built_step, content, csv_limit, dataset_step, file_in, inputs_step, meant, one_more_step, outputs_of, points_or_fault, read, run_step, script_limit, script_of, script_step, structures_limit, structures_step, text_step, typed_by, typed_step, typing_of, unbuilt, with_points}
 use Rattle.vtl_top.specs.ScriptFile.{faulty, no_text, whole}
 use Rattle.vtl_top.specs.Steps.{Held, Made, Path, Step, ◌>>=◌, only_files, only_text, refused_if, settled}
 use Rattle.vtl_top.specs.Structures.{structures_in}

@@ -1,5 +1,5 @@
 -- The steps of an engine, by what its parts answer.
-use Rattle.std.proofs.Common.{◌≡◌, ◌⊎◌, inl, inr, ℕ, Bool, true, false, List, [], map, Option, Some, None, Result, Ok, Err, refl, sym, ap, subst, ◌∙◌, chars}
+use Rattle.std.proofs.Common.{◌≡◌, inl, inr, ℕ, true, false, List, [], map, Option, Some, None, Result, Ok, Err, refl, sym, ap, subst, ◌∙◌, chars}
 use Rattle.std.specs.Option.{option_map}
 use Rattle.vtl_files.specs.declared.files.Files.{Ghosts}
 use Rattle.vtl_cell.specs.Outcome.{DivZero, Fault as EvaluationFault, Range}
@@ -14,9 +14,9 @@ use Rattle.sql_check.specs.declared.error.SqlTypeErr.{SqlTypeErr}
 use Rattle.sql_check.specs.declared.error.SqlTypeErr.TheVariants as typed
 use Rattle.sql_engine.specs.Rules.{number_of}
 use Rattle.sql_engine.specs.TypingStatements.{Fault, script_fault, script_settings}
-use Rattle.sql_engine.specs.Scripts.{Export, Inputs, NamedFault, script_value}
+use Rattle.sql_engine.specs.Scripts.{Export, NamedFault, script_value}
 use Rattle.sql_engine.specs.Exported.{shown}
-use Rattle.sql_engine.specs.Runs.{FaultIs, ShowsExports, Tells}
+use Rattle.sql_engine.specs.Runs.{FaultIs, ShowsExports}
 use Rattle.sql_engine.specs.Windows.{script_has_window}
 use Rattle.sql_engine.specs.declared.error.RunErr.{RunErr}
 use Rattle.sql_engine.specs.declared.error.RunErr.TheVariants as engine
@@ -24,10 +24,10 @@ use Rattle.vtl_top.specs.Answered.{Came, Takes}
 use Rattle.vtl_top.specs.Expected.{fault_status, inputs_step}
 use Rattle.vtl_top.specs.Kinds.{refused, told_by}
 use Rattle.vtl_top.specs.Refusal.{IsOrMemory, IsSqlOf, SettlesBy, sql_faulted, sql_mistyped}
-use Rattle.vtl_top.specs.ScriptFile.{IsSqlParsed, Parsed, faulty, no_text, whole}
+use Rattle.vtl_top.specs.ScriptFile.{faulty, no_text, whole}
 use Rattle.vtl_top.specs.SqlInputs.{input_structures, rows_by_name}
-use Rattle.vtl_top.specs.SqlRun.{engine_step, export_file, exports_of, sql_checked_step, sql_in, sql_of, sql_step, sql_typing, sql_unbuilt, table_file}
-use Rattle.vtl_top.specs.Steps.{File, Path, Step, ◌>>=◌, refused_if, settled}
+use Rattle.vtl_top.specs.SqlRun.{engine_step, exports_of, sql_checked_step, sql_of, sql_step, sql_typing, sql_unbuilt, table_file}
+use Rattle.vtl_top.specs.Steps.{File, Path, refused_if, settled}
 use Rattle.vtl_top.specs.Words.{Engine}
 use Rattle.vtl_status.specs.declared.status.Status.{Status}
 use Rattle.vtl_status.specs.declared.status.Status.TheVariants as st

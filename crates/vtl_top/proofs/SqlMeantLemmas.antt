@@ -1,5 +1,5 @@
 -- What an engine gives is what its script means, and the other way round.
-use Rattle.std.proofs.Common.{◌≡◌, ◌⊎◌, inl, inr, ℕ, Bool, true, false, List, [], map, Option, Some, None, Result, Ok, Err, refl, sym, ap, subst, ◌∙◌, chars}
+use Rattle.std.proofs.Common.{◌≡◌, ◌⊎◌, inl, inr, ℕ, List, [], map, Option, Some, None, Result, Ok, Err, refl, sym, ap, subst, ◌∙◌, chars}
 use Rattle.std.specs.Prelude.{IsUtf8}
 use Rattle.vtl_files.specs.Outside.{bytes_at}
 use Rattle.vtl_cell.specs.Outcome.{DivZero, Fault as EvaluationFault, Range}
@@ -16,7 +16,7 @@ use Rattle.vtl_top.specs.ScriptFile.{IsSqlParsed, Parsed, faulty, no_text, whole
 use Rattle.vtl_top.specs.SqlInputs.{input_structures, rows_by_name}
 use Rattle.vtl_top.specs.SqlMeant.{IsExported, IsSqlFaulted, IsSqlMistyped, IsSqlRead, IsSqlReady}
 use Rattle.vtl_top.specs.SqlRun.{engine_step, export_file, exports_of, present, read_whole, sql_checked_step, sql_in, sql_of, sql_step, sql_typing, sql_unbuilt}
-use Rattle.vtl_top.specs.Steps.{File, Held, Path, Step, ◌>>=◌, refused_if, settled}
+use Rattle.vtl_top.specs.Steps.{File, Held, Path, refused_if, settled}
 use Rattle.vtl_top.specs.Words.{Engine}
 use Rattle.vtl_status.specs.declared.status.Status.{Status}
 use Rattle.vtl_status.specs.declared.status.Status.TheVariants as st

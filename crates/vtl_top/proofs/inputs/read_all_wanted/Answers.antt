@@ -8,7 +8,7 @@ use Rattle.vtl_interp.specs.Inputs.{input_of, rows_named}
 use Rattle.vtl_interp.specs.Profiles.{AllAreOfProfile}
 use Rattle.vtl_top.specs.Answered.{Takes}
 use Rattle.vtl_top.specs.Expected.{dataset_step, inputs_step, one_more_step, with_points}
-use Rattle.vtl_top.specs.InputsRead.{Adds, all_wanted, wanted_of}
+use Rattle.vtl_top.specs.InputsRead.{all_wanted, wanted_of}
 use Rattle.vtl_top.specs.Steps.{settled}
 use Rattle.vtl_top.proofs.InputLemmas.{here_at, not_yet, one_more, structure_at}
 use Rattle.vtl_top.proofs.RunLemmas.{settled_ok}

@@ -10,7 +10,7 @@ returns-in-Run-clause-takes g c =
 
 pub returns-in-SqlRun-clause-takes : goal.returns-in-SqlRun-clause-takes
 returns-in-SqlRun-clause-takes g c =
-    of_command g.F.Files c.args.files.now c.make_run.new.files (sqlrun (run_view c.in-SqlRun.run')) (command_view c.args.command.now) c.make_run.result c.make_run.ensures.takes (sym (ap command_view c.in-SqlRun.is))
+    of_command g.F.Files c.args.files.now c.make_run-in-SqlRun.new.files (sqlrun (run_view c.in-SqlRun.run')) (command_view c.args.command.now) c.make_run-in-SqlRun.result c.make_run-in-SqlRun.ensures.takes (sym (ap command_view c.in-SqlRun.is))
 
 pub returns-in-Sql-clause-takes : goal.returns-in-Sql-clause-takes
 returns-in-Sql-clause-takes g c =

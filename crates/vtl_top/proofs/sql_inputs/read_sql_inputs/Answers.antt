@@ -1,9 +1,5 @@
-use Rattle.std.proofs.Common.{◌≡◌, List, map, ap, sym, subst, ◌∙◌}
-use Rattle.vtl_tree.specs.Structures.{Named}
+use Rattle.std.proofs.Common.{map, ap, sym, subst, ◌∙◌}
 use Rattle.sql_tree.specs.View.{script_tree, statement_tree}
-use Rattle.vtl_interp.specs.Inputs.{input_of}
-use Rattle.vtl_top.specs.Answered.{Takes}
-use Rattle.vtl_top.specs.Expected.{inputs_step}
 use Rattle.vtl_top.specs.InputsRead.{AreReadable, all_wanted}
 use Rattle.vtl_top.specs.SqlInputs.{declared_by, input_structures}
 use Rattle.vtl_top.proofs.SqlReadable.{all_by_name, all_have_tables, all_in_range, script_readable}
