@@ -1,4 +1,5 @@
 pub use Rattle.vtl_status.specs.StatusLine
+pub mod Agreement
 pub mod Answered
 pub mod Asked
 pub mod Complete

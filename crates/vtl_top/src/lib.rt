@@ -9,6 +9,7 @@
 //! Begin with specs/Expected.antt and specs/Answered.antt, then src/top.rt.
 #![tactic(auto)]
 
+mod agreement;
 mod inputs;
 mod laws;
 mod made;
@@ -24,6 +25,7 @@ mod top;
 mod typing;
 mod words;
 
+pub use agreement::{agreeing_calls_end_alike, interpreter_and_sql_agree};
 pub use laws::{
     calm_calls_are_complete, expected_is_determined, expected_is_there, exports_are_meant,
     faults_are_meant, mistyped_is_first_fault, output_is_meant, runs_are_quiet,
