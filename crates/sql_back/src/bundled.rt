@@ -82,8 +82,8 @@ fn run_text(
 
 // The script that a text spells.
 fn script_of(alloc: Global, text: &str) -> Result<SqlScript, AllocError>
-    requires { (script : ScriptTree) × IsScript text.now script }
-    ensures script { IfOk result (λ script. IsScript text.now (script_tree script)) }
+    requires { (tree : ScriptTree) × IsScript text.now tree }
+    ensures script { (tree : ScriptTree) → IsScript text.now tree → IfOk result (λ script. script_tree script ≡ tree) }
     ensures formed { IfOk result (λ script. FormedScript (script_tree script)) }
 {
     match parse(alloc, text) {
