@@ -1,29 +1,15 @@
-// The bundled engine, which runs texts by this repository's own parser and engine.
-ghost use Rattle.std.specs.Prelude.{◌≡◌, ◌<◌, false, IfOk, None};
-ghost use Rattle.sql_tree.specs.Formed.{FormedScript};
-ghost use Rattle.sql_tree.specs.Texts.{IsScript};
-ghost use Rattle.sql_tree.specs.Trees.{ScriptTree};
-ghost use Rattle.sql_tree.specs.View.{script_tree};
-ghost use Rattle.sql_engine.specs.InputTables.{AreInputsInRange, HaveInputTables};
-ghost use Rattle.sql_engine.specs.Runs.{Runs};
-ghost use Rattle.sql_engine.specs.Windows.{script_has_window};
-ghost use Rattle.sql_back.specs.TextRuns.{CanRun, RunsText};
-ghost use Rattle.sql_back.specs.Engines.{same_error};
+// The bundled engine.
+ghost use Rattle.std.specs.Prelude.{◌≡◌, None};
 
 use crate::TextEngine;
-use sql_check::SqlChecked;
-use sql_engine::{RunErr as EngineErr, run};
-use sql_parser::{SqlErr, parse};
-use sql_tree::SqlScript;
-use std::alloc::{AllocError, Global};
-use std::marker::{Brand, Model};
-use std::sync::ledger::{Blank, Ledger};
+use crate::text_runs::run_text;
+use std::alloc::Global;
+use std::marker::Model;
 use vtl_backend::RunErr;
-use vtl_index::Steps;
 use vtl_rows::{Inputs, Outputs};
 
-/// The bundled engine: it reads a text and runs the script that it spells. It holds the text that it was handed last;
-/// a contract sees the bytes of that text.
+/// The engine of this repository: it reads a text by the parser of the dialect and runs it. It holds the text that it
+/// was handed last; a contract sees the bytes of that text.
 #[derive(Drop)]
 pub struct Bundled {
     last: Option<String>,
@@ -59,67 +45,5 @@ impl TextEngine for Bundled {
         let ran = run_text(alloc, &text, inputs, out);
         self.last = Some(text);
         ran
-    }
-}
-
-// Runs the script that a text spells.
-fn run_text(
-    alloc: Global,
-    text: &str,
-    inputs: &Inputs,
-    out: &mut Outputs,
-) -> Result<(), RunErr>
-    requires { CanRun text.now inputs.now }
-    ensures { RunsText text.now inputs.now out.old out.new result }
-{
-    let script = script_of(alloc, text)?;
-    let checked = SqlChecked::of(script);
-    match run_uncounted::<Brand>(alloc, &checked, inputs, out, Blank::new(1)) {
-        Ok(()) => Ok(()),
-        Err(error) => Err(same_error(error)),
-    }
-}
-
-// The script that a text spells.
-fn script_of(alloc: Global, text: &str) -> Result<SqlScript, AllocError>
-    requires { (tree : ScriptTree) × IsScript text.now tree }
-    ensures script { (tree : ScriptTree) → IsScript text.now tree → IfOk result (λ script. script_tree script ≡ tree) }
-    ensures formed { IfOk result (λ script. FormedScript (script_tree script)) }
-{
-    match parse(alloc, text) {
-        Ok(script) => Ok(script),
-        Err(SqlErr::OutOfMemory) => Err(AllocError),
-        Err(SqlErr::Syntax { .. }) => unreachable!(),
-    }
-}
-
-// The run of a script, whose steps nobody counts.
-fn run_uncounted<L: Ledger>(
-    alloc: Global,
-    checked: &SqlChecked,
-    inputs: &Inputs,
-    out: &mut Outputs,
-    blank: Blank,
-) -> Result<(), EngineErr>
-    requires name { blank.name ≡ L.name }
-    requires parts { blank.parts ≡ L.parts }
-    requires some { 0 < L.parts }
-    requires plain { script_has_window (script_tree checked.now.script) ≡ false }
-    requires there { HaveInputTables inputs.now (script_tree checked.now.script) }
-    requires in_range { AreInputsInRange checked.now.settings inputs.now (script_tree checked.now.script) }
-    ensures { Runs (script_tree checked.now.script) inputs.now out.old out.new result }
-{
-    let mut steps: Steps<L> = Steps::new(blank);
-    run(alloc, checked, inputs, out, &mut steps)
-}
-
-// The same error, as back ends tell it.
-fn same_error(error: EngineErr) -> RunErr
-    ensures { result ≡ same_error error }
-{
-    match error {
-        EngineErr::DivZero(name) => RunErr::DivZero(name),
-        EngineErr::Range(name) => RunErr::Range(name),
-        EngineErr::OutOfMemory => RunErr::OutOfMemory,
     }
 }

@@ -11,6 +11,7 @@
 mod backend;
 mod bundled;
 mod text_engine;
+mod text_runs;
 mod texts;
 
 pub use backend::SqlBack;
