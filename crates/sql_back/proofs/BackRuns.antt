@@ -35,7 +35,7 @@ use Rattle.vtl_to_sql.specs.Runs.{entries}
 use Rattle.vtl_to_sql.specs.Scripts.{script_for}
 use Rattle.vtl_to_sql.proofs.Exact.{set_turned}
 use Rattle.vtl_to_sql.proofs.TranslatedScripts.{all_made, script_means}
-use Rattle.vtl_meaning.proofs.ScriptsKept.{meaning_kept}
+use Rattle.vtl_backend.proofs.ScriptsKept.{meaning_kept}
 use Rattle.sql_back.specs.TextRuns.{CanRun, RunsText, ShowsAs, TellsText}
 use Rattle.sql_back.specs.Texts.{IsTextOf}
 use Rattle.sql_back.proofs.InputTables.{are_read, are_sets, inputs_ranged, inputs_there, sets_known}

@@ -10,8 +10,7 @@ ghost use Rattle.sql_engine.specs.Windows.{script_has_window};
 ghost use Rattle.sql_back.specs.Engines.{same_error};
 ghost use Rattle.sql_back.specs.TextRuns.{CanRun, RunsText};
 
-use sql_check::SqlChecked;
-use sql_engine::{RunErr as EngineErr, run};
+use sql_engine::{RunErr as EngineErr, SqlChecked, run};
 use sql_parser::{SqlErr, parse};
 use sql_tree::SqlScript;
 use std::alloc::{AllocError, Global};
