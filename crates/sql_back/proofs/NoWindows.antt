@@ -13,15 +13,17 @@ use Rattle.vtl_syntax.specs.declared.word_groups.JoinKind as vtl
 use Rattle.vtl_syntax.specs.declared.word_groups.JoinKind.TheVariants as join
 use Rattle.vtl_nodes.specs.Trees as nodes
 use Rattle.vtl_nodes.specs.Trees.{FormTree, NodeTree, NodeTrees, OperandTrees, structure_of}
+use Rattle.check_shapes.specs.Pairs.{contains}
 use Rattle.vtl_backend.specs.Joined.{reference_place}
 use Rattle.vtl_backend.specs.Meaning.{Statement}
+use Rattle.vtl_backend.specs.Operators.{pair_exps}
 use Rattle.sql_tree.specs.Trees.{Exp, ItemTree, QueryTree, SelectTree, StatementTree, Text, create}
 use Rattle.sql_tree.specs.declared.word_groups.JoinKind.{JoinKind}
 use Rattle.sql_tree.specs.declared.word_groups.JoinKind.TheVariants as joining
 use Rattle.sql_engine.specs.Windows.{script_has_window, statement_has_window}
 use Rattle.vtl_to_sql.specs.FullJoins.{full_query, key_structure, keys_query, once_query}
 use Rattle.vtl_to_sql.specs.Joins.{cross_query, from_reference, reference_query}
-use Rattle.vtl_to_sql.specs.Queries.{calc_query, choose_query, copy_query, difference_query, existence_query, filter_query, intersection_query, items_as, left_query, measures_query, pair_query, rename_query, select_as, shown_query, source_as, sub_query, symmetric_difference_query, union_query}
+use Rattle.vtl_to_sql.specs.Queries.{calc_query, choose_query, copy_query, difference_query, existence_query, filter_query, intersection_query, items_as, left_query, measures_query, pair_query, pairs_select, rename_query, select_as, shown_query, source_as, sub_query, symmetric_difference_query, union_query}
 use Rattle.vtl_to_sql.specs.Scripts.{create_for, export_for, input_for, script_for, written_of}
 use Rattle.vtl_to_sql.specs.Tables.{Made, Sources, Table, and_then, by_name, by_names, combined_of, first_number, full_made, join_made, keys_of, made_of, made_of_form, numbered, operands_of, over, script_tables, source_of, sources_of, statement_tables, stored, table_of, with_last, with_one, with_three, with_two}
 use Rattle.vtl_to_sql.specs.Turned.{pivot_query, unpivot_query, unpivoted_select}
@@ -71,7 +73,7 @@ module _ (p : Settings) where
   referred kind i ss s xs (Some r) (Some x) = one _ (columns_of s)
 
   paired : (o : ScalarOp) (a b s : Structure) (x y : Text) → IsPlain (pair_query p o a b s x y)
-  paired o a b s x y = chosen _ _ _ (one _ (columns_of s)) (one _ (columns_of s))
+  paired o a b s x y = chosen (contains a b) (pairs_select p (pair_exps o a b s) a b s None x y ∷ []) (pairs_select p (pair_exps o a b s) b a s None y x ∷ []) (one _ (columns_of s)) (one _ (columns_of s))
 
 -- ---- tables
 
@@ -166,11 +168,11 @@ module _ (p : Settings) (r : Text) where
         plain_over (and_then (sources_of p r t k) (λ m. and_then (sources_of p r a m) (sources_of p r b))) (with_three (choose_query p (structure_of t) (structure_of a) (structure_of b) s))
         (plain_then (sources_of p r t k) (λ m. and_then (sources_of p r a m) (sources_of p r b)) (plain_sources t k) (λ m. plain_then (sources_of p r a m) (sources_of p r b) (plain_sources a m) (plain_sources b)))
         (of_three_names (choose_query p (structure_of t) (structure_of a) (structure_of b) s) (λ x y z. two _ _ (columns_of s) (columns_of s)))
-    plain_form s (nodes.member a m) k = plain_left a s k
+    plain_form s (nodes.member a m) k = plain_over (sources_of p r a k) (with_one (left_query p (structure_of a) s)) (plain_sources a k) (of_one_name (left_query p (structure_of a) s) (λ t. one _ (columns_of s)))
     plain_form s (nodes.filter a e) k = plain_over (sources_of p r a k) (with_one (filter_query p e s)) (plain_sources a k) (of_one_name (filter_query p e s) (λ t. one _ (columns_of s)))
     plain_form s (nodes.calc a items) k = plain_over (sources_of p r a k) (with_one (calc_query p items (structure_of a) s)) (plain_sources a k) (of_one_name (calc_query p items (structure_of a) s) (λ t. one _ (columns_of s)))
-    plain_form s (nodes.keep a names) k = plain_left a s k
-    plain_form s (nodes.drop_named a names) k = plain_left a s k
+    plain_form s (nodes.keep a names) k = plain_over (sources_of p r a k) (with_one (left_query p (structure_of a) s)) (plain_sources a k) (of_one_name (left_query p (structure_of a) s) (λ t. one _ (columns_of s)))
+    plain_form s (nodes.drop_named a names) k = plain_over (sources_of p r a k) (with_one (left_query p (structure_of a) s)) (plain_sources a k) (of_one_name (left_query p (structure_of a) s) (λ t. one _ (columns_of s)))
     plain_form s (nodes.rename a pairs) k = plain_over (sources_of p r a k) (with_one (rename_query p (structure_of a) s)) (plain_sources a k) (of_one_name (rename_query p (structure_of a) s) (λ t. one _ (columns_of s)))
     plain_form s (nodes.sub a items) k = plain_over (sources_of p r a k) (with_one (sub_query p items (structure_of a) s)) (plain_sources a k) (of_one_name (sub_query p items (structure_of a) s) (λ t. one _ (columns_of s)))
     plain_form s (nodes.join os spec) k = plain_join spec.kind _ s (operands_of p r os k) (plain_operands os k)
@@ -188,9 +190,6 @@ module _ (p : Settings) (r : Text) where
     plain_form s (nodes.pivot a id m) k = plain_over (sources_of p r a k) (with_one (pivot_query p id m (structure_of a) s)) (plain_sources a k) (of_one_name (pivot_query p id m (structure_of a) s) (λ t. one _ (columns_of s)))
     plain_form s (nodes.unpivot a id m) k = plain_over (sources_of p r a k) (with_one (unpivot_query p (structure_of a) s)) (plain_sources a k) (of_one_name (unpivot_query p (structure_of a) s) (each_measure p _ (structure_of a) s))
     plain_form s other k = no_query k
-
-    plain_left : (a : NodeTree) (s : Structure) (k : ℕ) → IsPlainMade (over (sources_of p r a k) (with_one (left_query p (structure_of a) s)))
-    plain_left a s k = plain_over (sources_of p r a k) (with_one (left_query p (structure_of a) s)) (plain_sources a k) (of_one_name (left_query p (structure_of a) s) (λ t. one _ (columns_of s)))
 
     plain_operands : (os : OperandTrees) (k : ℕ) → ArePlain (operands_of p r os k).tables
     plain_operands nodes.no_operands k = tt

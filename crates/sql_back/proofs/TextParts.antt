@@ -47,15 +47,17 @@ text_for p reads ss text script spelled alone = record {
   means = λ inputs taken. inputs_mean inputs p reads ss script taken;
 }
 
+printable : (p : Settings) (reads : Named) (ss : List Statement) (tree : ScriptTree) → tree ≡ script_for p reads ss → IsScript p reads ss → PrintableScript tree
+printable p reads ss tree same script = subst PrintableScript (sym same) (script_is_printable p reads ss script)
+
 -- of what was printed, or not
 module _ (p : Settings) (reads : Named) (ss : List Statement) (tree : ScriptTree) (same : tree ≡ script_for p reads ss) (script : IsScript p reads ss) {T E : Type 0} (bytes : T → List ℕ) where
-  printable : PrintableScript tree
-  printable = subst PrintableScript (sym same) (script_is_printable p reads ss script)
-
   pub printed_spells : (r : Result T E) → IfOk r (λ t. PrintableScript tree → IsSpelled (bytes t) tree) → IfOk r (λ t. IsSpelled (bytes t) (script_for p reads ss))
-  printed_spells (Ok t) h = subst (IsSpelled (bytes t)) same (h printable)
+  printed_spells (Ok t) h = subst (IsSpelled (bytes t)) same (h (printable p reads ss tree same script))
   printed_spells (Err e) h = tt
 
   pub printed_is_text : (r : Result T E) → IfOk r (λ t. PrintableScript tree → IsSpelled (bytes t) tree) → IfOk r (λ t. PrintableScript tree → (other : ScriptTree) → IsSpelled (bytes t) other → other ≡ tree) → IfOk r (λ t. IsTextFor p reads ss (bytes t))
-  printed_is_text (Ok t) h i = text_for p reads ss (bytes t) script (subst (IsSpelled (bytes t)) same (h printable)) (λ other s. i printable other s ∙ same)
+  printed_is_text (Ok t) h i =
+      let can = printable p reads ss tree same script in
+      text_for p reads ss (bytes t) script (subst (IsSpelled (bytes t)) same (h can)) (λ other s. i can other s ∙ same)
   printed_is_text (Err e) h i = tt
