@@ -1,0 +1,5 @@
+pub mod NoWindows
+pub mod TextParts
+pub mod EngineRuns
+pub mod InputTables
+pub mod BackRuns

@@ -1,0 +1,44 @@
+use Rattle.std.proofs.Common.{◌≡◌, false, Err, ap, sym, subst, ◌∙◌}
+use Rattle.sql_tree.specs.View.{script_tree}
+use Rattle.sql_engine.specs.InputTables.{AreInputsInRange, HaveInputTables, rows_given}
+use Rattle.sql_engine.specs.Runs.{FaultIs, ShowsExports}
+use Rattle.sql_engine.specs.Scripts.{script_value}
+use Rattle.sql_engine.specs.TypingStatements.{IsTypedScript, script_settings}
+use Rattle.sql_engine.specs.Windows.{script_has_window}
+use Rattle.sql_back.specs.TextRuns.{TellsText}
+use Rattle.sql_back.proofs.EngineRuns.{exports_shown, fault_told}
+use Rattle.sql_back.proofs.text_runs.run_text.Goals as goal
+
+pub of-checked-requires-clause-typed : goal.of-checked-requires-clause-typed
+of-checked-requires-clause-typed c = subst IsTypedScript (sym (c.in_ok-script.ensures.script c.requires.script c.requires.spelled)) c.requires.typed
+
+pub run_uncounted-requires-clause-plain : goal.run_uncounted-requires-clause-plain
+run_uncounted-requires-clause-plain c =
+    let same = ap script_tree c.of-checked.ensures.script ∙ c.in_ok-script.ensures.script c.requires.script c.requires.spelled in
+    subst (λ s. script_has_window s ≡ false) (sym same) c.requires.plain
+
+pub run_uncounted-requires-clause-there : goal.run_uncounted-requires-clause-there
+run_uncounted-requires-clause-there c =
+    let same = ap script_tree c.of-checked.ensures.script ∙ c.in_ok-script.ensures.script c.requires.script c.requires.spelled in
+    subst (HaveInputTables c.args.inputs.now) (sym same) c.requires.there
+
+pub run_uncounted-requires-clause-in_range : goal.run_uncounted-requires-clause-in_range
+run_uncounted-requires-clause-in_range c =
+    let read = c.in_ok-script.ensures.script c.requires.script c.requires.spelled in
+    let same = ap script_tree c.of-checked.ensures.script ∙ read in
+    subst (λ p. AreInputsInRange p c.args.inputs.now (script_tree c.of-checked.result.script)) (ap script_settings (sym read) ∙ sym c.of-checked.ensures.settings)
+    (subst (AreInputsInRange (script_settings c.requires.script) c.args.inputs.now) (sym same) c.requires.in_range)
+
+-- whatever script the text spells, it is the one that was read
+pub returns-in-Ok : goal.returns-in-Ok
+returns-in-Ok c script spelled =
+    let same = ap script_tree c.of-checked.ensures.script ∙ c.in_ok-script.ensures.script script spelled in
+    let rows = rows_given c.args.inputs.now in
+    exports_shown (script_value script rows) c.run_uncounted.new.out (subst (λ s. ShowsExports (script_value s rows) c.run_uncounted.new.out) same c.in-Ok.ensures)
+
+pub returns : goal.returns
+returns c script spelled =
+    let same = ap script_tree c.of-checked.ensures.script ∙ c.in_ok-script.ensures.script script spelled in
+    let meant = script_value script (rows_given c.args.inputs.now) in
+    let told = subst (λ s. FaultIs (script_value s (rows_given c.args.inputs.now)) c.in-Err.error) same c.in-Err.ensures.0 in
+    subst (λ e. TellsText meant c.args.out.now c.run_uncounted.new.out (Err e)) (sym c.told.ensures) (fault_told meant c.args.out.now c.run_uncounted.new.out c.in-Err.error told c.in-Err.ensures.1)

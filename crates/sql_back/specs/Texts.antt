@@ -1,0 +1,47 @@
+-- The text of a script in SQL.
+use Rattle.std.specs.Prelude.{◌≡◌, ℕ, false, List, [], ◌∷◌, map, Option, Some}
+use Rattle.vtl_cell.specs.Settings.{Settings}
+use Rattle.vtl_tree.specs.Structures.{Named}
+use Rattle.sql_tree.specs.Texts.{IsScript}
+use Rattle.sql_tree.specs.Trees as tree
+use Rattle.sql_tree.specs.Trees.{ScriptTree, StatementTree}
+use Rattle.sql_tree.specs.declared.statements.SqlInput.{SqlInput}
+use Rattle.sql_engine.specs.Scripts.{Inputs, script_value}
+use Rattle.sql_engine.specs.TypingStatements.{IsTypedScript, script_settings}
+use Rattle.sql_engine.specs.Windows.{script_has_window}
+use Rattle.vtl_backend.specs.Checked.{TypedScript}
+use Rattle.vtl_backend.specs.Inputs.{inputs_of}
+use Rattle.vtl_backend.specs.Meaning.{Statement, meaning}
+use Rattle.vtl_backend.specs.Statements.{statements_of}
+use Rattle.vtl_to_sql.specs.Exports.{exported_as}
+use Rattle.vtl_to_sql.specs.Inputs.{AreTaken, sets_read}
+use Rattle.vtl_to_sql.specs.Scripts.{input_of}
+
+-- the INPUT statements, in order
+abbrev pub inputs_in : List StatementTree → List SqlInput
+inputs_in [] = []
+inputs_in (tree.input s ∷ ss) = s ∷ inputs_in ss
+inputs_in (other ∷ ss) = inputs_in ss
+
+-- The text of a script in SQL.
+pub record IsTextFor (p : Settings) (reads : Named) (ss : List Statement) (text : List ℕ) : Type 0 where
+  pub script : ScriptTree
+  -- the text spells this script, and no other
+  pub spelled : IsScript text script
+  pub alone : (other : ScriptTree) → IsScript text other → other ≡ script
+  -- it breaks no rule, and holds no window
+  pub typed : IsTypedScript script
+  pub plain : script_has_window script ≡ false
+  -- it sets these settings, and reads these data sets: an INPUT for each, in order
+  pub settings : script_settings script ≡ p
+  pub inputs : inputs_in script ≡ map input_of reads
+  -- over all rows that its INPUTs take, it exports the outputs that the statements mean, or has their fault with its name
+  pub means : (inputs : Inputs) → AreTaken inputs reads → script_value script inputs ≡ exported_as (meaning p ss (sets_read inputs reads))
+
+-- the text of a typed script
+abbrev pub IsTextOf : TypedScript → List ℕ → Type 0
+IsTextOf t text = IsTextFor t.settings (inputs_of t) (statements_of t) text
+
+-- there is a text, and it is that of the script
+abbrev pub HasTextOf : TypedScript → Option (List ℕ) → Type 0
+HasTextOf t last = (text : List ℕ) × (last ≡ Some text) × IsTextOf t text

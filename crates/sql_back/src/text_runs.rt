@@ -1,0 +1,83 @@
+// Runs of texts by the parser and the engine of this repository.
+ghost use Rattle.std.specs.Prelude.{◌≡◌, ◌<◌, false, IfOk};
+ghost use Rattle.sql_tree.specs.Formed.{FormedScript};
+ghost use Rattle.sql_tree.specs.Texts.{IsScript};
+ghost use Rattle.sql_tree.specs.Trees.{ScriptTree};
+ghost use Rattle.sql_tree.specs.View.{script_tree};
+ghost use Rattle.sql_engine.specs.InputTables.{AreInputsInRange, HaveInputTables};
+ghost use Rattle.sql_engine.specs.Runs.{Runs};
+ghost use Rattle.sql_engine.specs.Windows.{script_has_window};
+ghost use Rattle.sql_back.specs.Engines.{same_error};
+ghost use Rattle.sql_back.specs.TextRuns.{CanRun, RunsText};
+
+use sql_engine::{RunErr as EngineErr, SqlChecked, run};
+use sql_parser::{SqlErr, parse};
+use sql_tree::SqlScript;
+use std::alloc::{AllocError, Global};
+use std::marker::Brand;
+use std::sync::ledger::{Blank, Ledger};
+use vtl_backend::RunErr;
+use vtl_index::Steps;
+use vtl_rows::{Inputs, Outputs};
+
+// The script that a text spells.
+fn script_of(alloc: Global, text: &str) -> Result<SqlScript, AllocError>
+    requires { (tree : ScriptTree) × IsScript text.now tree }
+    ensures script { (tree : ScriptTree) → IsScript text.now tree → IfOk result (λ script. script_tree script ≡ tree) }
+    ensures formed { IfOk result (λ script. FormedScript (script_tree script)) }
+{
+    match parse(alloc, text) {
+        Ok(script) => Ok(script),
+        Err(SqlErr::OutOfMemory) => Err(AllocError),
+        Err(SqlErr::Syntax { .. }) => unreachable!(),
+    }
+}
+
+// The same error, as back ends tell it.
+fn told(error: EngineErr) -> RunErr
+    ensures { result ≡ same_error error }
+{
+    match error {
+        EngineErr::DivZero(name) => RunErr::DivZero(name),
+        EngineErr::Range(name) => RunErr::Range(name),
+        EngineErr::OutOfMemory => RunErr::OutOfMemory,
+    }
+}
+
+// The run of a script, whose steps nobody counts.
+fn run_uncounted<L: Ledger>(
+    alloc: Global,
+    checked: &SqlChecked,
+    inputs: &Inputs,
+    out: &mut Outputs,
+    blank: Blank,
+) -> Result<(), EngineErr>
+    requires name { blank.name ≡ L.name }
+    requires parts { blank.parts ≡ L.parts }
+    requires some { 0 < L.parts }
+    requires plain { script_has_window (script_tree checked.now.script) ≡ false }
+    requires there { HaveInputTables inputs.now (script_tree checked.now.script) }
+    requires in_range { AreInputsInRange checked.now.settings inputs.now (script_tree checked.now.script) }
+    ensures { Runs (script_tree checked.now.script) inputs.now out.old out.new result }
+{
+    let mut steps: Steps<L> = Steps::new(blank);
+    run(alloc, checked, inputs, out, &mut steps)
+}
+
+/// Runs the script that a text spells. Its rules need no test: a text that can be run breaks none.
+pub(crate) fn run_text(
+    alloc: Global,
+    text: &str,
+    inputs: &Inputs,
+    out: &mut Outputs,
+) -> Result<(), RunErr>
+    requires { CanRun text.now inputs.now }
+    ensures { RunsText text.now inputs.now out.old out.new result }
+{
+    let script = script_of(alloc, text)?;
+    let checked = SqlChecked::of(script);
+    match run_uncounted::<Brand>(alloc, &checked, inputs, out, Blank::new(1)) {
+        Ok(()) => Ok(()),
+        Err(error) => Err(told(error)),
+    }
+}
