@@ -26,9 +26,11 @@ pub use Rattle.vtl_backend.proofs.OwnColumns
 pub use Rattle.vtl_backend.proofs.Places
 pub use Rattle.vtl_backend.proofs.Scripts
 pub use Rattle.vtl_backend.proofs.ScriptsKept
+pub use Rattle.vtl_backend.proofs.Sets
 pub use Rattle.vtl_backend.proofs.SetsFolds
 pub use Rattle.vtl_backend.proofs.SetsKept
 pub use Rattle.vtl_backend.proofs.SetsOrders
+pub use Rattle.vtl_backend.proofs.Sound
 pub use Rattle.vtl_backend.proofs.Steps
 pub use Rattle.vtl_backend.proofs.Tests
 pub use Rattle.vtl_backend.proofs.TurnedKept

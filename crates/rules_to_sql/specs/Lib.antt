@@ -61,6 +61,7 @@ pub use Rattle.vtl_backend.specs.ValuesColumns
 pub use Rattle.vtl_backend.specs.ValuesLiterals
 pub use Rattle.vtl_backend.specs.ValuesOperators
 pub use Rattle.vtl_backend.specs.View
+pub use Rattle.vtl_backend.specs.WellTyped
 pub use Rattle.vtl_backend.specs.Windowed
 pub use Rattle.vtl_backend.specs.calls
 pub use Rattle.vtl_backend.specs.check_calls

@@ -1,3 +1,5 @@
+pub use Rattle.sql_check.specs.Answers
+pub use Rattle.sql_check.specs.declared.error
 pub use Rattle.sql_exec.specs.Rules
 pub use Rattle.sql_exec.specs.Scopes
 pub use Rattle.sql_exec.specs.Scripts

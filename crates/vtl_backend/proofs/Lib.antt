@@ -25,9 +25,11 @@ pub use Rattle.check_laws.proofs.OwnColumns
 pub use Rattle.check_laws.proofs.Places
 pub use Rattle.check_laws.proofs.Scripts
 pub use Rattle.check_laws.proofs.ScriptsKept
+pub use Rattle.check_laws.proofs.Sets
 pub use Rattle.check_laws.proofs.SetsFolds
 pub use Rattle.check_laws.proofs.SetsKept
 pub use Rattle.check_laws.proofs.SetsOrders
+pub use Rattle.check_laws.proofs.Sound
 pub use Rattle.check_laws.proofs.Steps
 pub use Rattle.check_laws.proofs.Tests
 pub use Rattle.check_laws.proofs.TurnedKept

@@ -39,6 +39,7 @@ pub use Rattle.check_laws.specs.ValuesColumns
 pub use Rattle.check_laws.specs.ValuesLiterals
 pub use Rattle.check_laws.specs.ValuesOperators
 pub use Rattle.check_laws.specs.View
+pub use Rattle.check_laws.specs.WellTyped
 pub use Rattle.check_laws.specs.Windowed
 pub use Rattle.check_laws.specs.calls
 pub use Rattle.check_laws.specs.check_calls
