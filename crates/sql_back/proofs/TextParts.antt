@@ -1,6 +1,6 @@
 -- The text that spells a translation is a text for its script.
 use Rattle.std.proofs.Common.{◌≡◌, List, [], ◌∷◌, ◌++◌, map, Result, Ok, Err, refl, sym, ap, ◌∙◌, subst, ℕ}
-use Rattle.std.specs.Prelude.{IfOk}
+use Rattle.std.specs.Prelude.{IfOk, IsUtf8}
 use Rattle.vtl_cell.specs.Settings.{Settings}
 use Rattle.vtl_tree.specs.Structures.{Named}
 use Rattle.vtl_backend.specs.Meaning.{Statement}
@@ -35,9 +35,10 @@ inputs_are p reads ss = of_inputs reads (map create_for (script_tables p ss) ++ 
 
 -- ---- the text
 
-text_for : (p : Settings) (reads : Named) (ss : List Statement) (text : List ℕ) → IsScript p reads ss → IsSpelled text (script_for p reads ss) → ((other : ScriptTree) → IsSpelled text other → other ≡ script_for p reads ss) → IsTextFor p reads ss text
-text_for p reads ss text script spelled alone = record {
+text_for : (p : Settings) (reads : Named) (ss : List Statement) (text : List ℕ) → IsUtf8 text → IsScript p reads ss → IsSpelled text (script_for p reads ss) → ((other : ScriptTree) → IsSpelled text other → other ≡ script_for p reads ss) → IsTextFor p reads ss text
+text_for p reads ss text utf8 script spelled alone = record {
   script = script_for p reads ss;
+  utf8 = utf8;
   spelled = spelled;
   alone = alone;
   typed = script_is_typed p reads ss script;
@@ -51,7 +52,7 @@ printable : (p : Settings) (reads : Named) (ss : List Statement) (tree : ScriptT
 printable p reads ss tree same script = subst PrintableScript (sym same) (script_is_printable p reads ss script)
 
 -- of what was printed, or not
-module _ (p : Settings) (reads : Named) (ss : List Statement) (tree : ScriptTree) (same : tree ≡ script_for p reads ss) (script : IsScript p reads ss) {T E : Type 0} (bytes : T → List ℕ) where
+module _ (p : Settings) (reads : Named) (ss : List Statement) (tree : ScriptTree) (same : tree ≡ script_for p reads ss) (script : IsScript p reads ss) {T E : Type 0} (bytes : T → List ℕ) (utf8 : (t : T) → IsUtf8 (bytes t)) where
   pub printed_spells : (r : Result T E) → IfOk r (λ t. PrintableScript tree → IsSpelled (bytes t) tree) → IfOk r (λ t. IsSpelled (bytes t) (script_for p reads ss))
   printed_spells (Ok t) h = subst (IsSpelled (bytes t)) same (h (printable p reads ss tree same script))
   printed_spells (Err e) h = tt
@@ -59,5 +60,5 @@ module _ (p : Settings) (reads : Named) (ss : List Statement) (tree : ScriptTree
   pub printed_is_text : (r : Result T E) → IfOk r (λ t. PrintableScript tree → IsSpelled (bytes t) tree) → IfOk r (λ t. PrintableScript tree → (other : ScriptTree) → IsSpelled (bytes t) other → other ≡ tree) → IfOk r (λ t. IsTextFor p reads ss (bytes t))
   printed_is_text (Ok t) h i =
       let can = printable p reads ss tree same script in
-      text_for p reads ss (bytes t) script (subst (IsSpelled (bytes t)) same (h can)) (λ other s. i can other s ∙ same)
+      text_for p reads ss (bytes t) (utf8 t) script (subst (IsSpelled (bytes t)) same (h can)) (λ other s. i can other s ∙ same)
   printed_is_text (Err e) h i = tt

@@ -1,5 +1,5 @@
 -- The text of a script in SQL.
-use Rattle.std.specs.Prelude.{◌≡◌, ℕ, false, List, [], ◌∷◌, map, Option, Some}
+use Rattle.std.specs.Prelude.{◌≡◌, ℕ, false, List, [], ◌∷◌, map, Option, Some, IsUtf8}
 use Rattle.vtl_cell.specs.Settings.{Settings}
 use Rattle.vtl_tree.specs.Structures.{Named}
 use Rattle.sql_tree.specs.Texts.{IsScript}
@@ -26,7 +26,8 @@ inputs_in (other ∷ ss) = inputs_in ss
 -- The text of a script in SQL.
 pub record IsTextFor (p : Settings) (reads : Named) (ss : List Statement) (text : List ℕ) : Type 0 where
   pub script : ScriptTree
-  -- the text spells this script, and no other
+  -- the text is UTF-8, and spells this script, and no other
+  pub utf8 : IsUtf8 text
   pub spelled : IsScript text script
   pub alone : (other : ScriptTree) → IsScript text other → other ≡ script
   -- it breaks no rule, and holds no window
