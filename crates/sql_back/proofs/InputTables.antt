@@ -23,10 +23,10 @@ use Rattle.sql_engine.specs.InputTables.{AreInputsInRange, HaveInputTables, IsIn
 use Rattle.sql_engine.specs.Scripts.{rows_read}
 use Rattle.sql_engine.specs.Tables.{HasTable, RowsFit, column_entry, kinds_of, rows_of}
 use Rattle.sql_engine.specs.TypingStatements.{input_columns}
-use Rattle.vtl_backend.specs.Inputs.{Holds, input_of as data_set_in, rows_named}
-use Rattle.vtl_backend.specs.Meaning.{AreDataSets, known_in}
-use Rattle.vtl_backend.specs.Profiles.{AllAreOfProfile}
-use Rattle.vtl_backend.specs.TableOf.{IsTableOf, column_for, table_columns}
+use Rattle.vtl_to_sql.specs.BackendInputs.{Holds, input_of as data_set_in, rows_named}
+use Rattle.vtl_to_sql.specs.Meaning.{AreDataSets, known_in}
+use Rattle.vtl_to_sql.specs.Profiles.{AllAreOfProfile}
+use Rattle.vtl_to_sql.specs.TableOf.{IsTableOf, column_for, table_columns}
 use Rattle.vtl_sets.proofs.TableLemmas.{point_fits}
 use Rattle.vtl_to_sql.specs.Exports.{AreRead}
 use Rattle.vtl_to_sql.specs.Runs.{entries}

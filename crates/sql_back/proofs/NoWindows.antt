@@ -13,10 +13,10 @@ use Rattle.vtl_syntax.specs.declared.word_groups.JoinKind as vtl
 use Rattle.vtl_syntax.specs.declared.word_groups.JoinKind.TheVariants as join
 use Rattle.vtl_nodes.specs.Trees as nodes
 use Rattle.vtl_nodes.specs.Trees.{FormTree, NodeTree, NodeTrees, OperandTrees, structure_of}
-use Rattle.check_shapes.specs.Pairs.{contains}
-use Rattle.vtl_backend.specs.Joined.{reference_place}
-use Rattle.vtl_backend.specs.Meaning.{Statement}
-use Rattle.vtl_backend.specs.Operators.{pair_exps}
+use Rattle.vtl_to_sql.specs.Pairs.{contains}
+use Rattle.vtl_to_sql.specs.Joined.{reference_place}
+use Rattle.vtl_to_sql.specs.Meaning.{Statement}
+use Rattle.vtl_to_sql.specs.Operators.{pair_exps}
 use Rattle.sql_tree.specs.Trees.{Exp, ItemTree, QueryTree, SelectTree, StatementTree, Text, create}
 use Rattle.sql_tree.specs.declared.word_groups.JoinKind.{JoinKind}
 use Rattle.sql_tree.specs.declared.word_groups.JoinKind.TheVariants as joining

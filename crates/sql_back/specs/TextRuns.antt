@@ -10,8 +10,8 @@ use Rattle.sql_engine.specs.InputTables.{AreInputsInRange, HaveInputTables, rows
 use Rattle.sql_engine.specs.Scripts.{Export, NamedFault, script_value}
 use Rattle.sql_engine.specs.TypingStatements.{IsTypedScript, script_settings}
 use Rattle.sql_engine.specs.Windows.{script_has_window}
-use Rattle.vtl_backend.specs.declared.error.RunErr.{RunErr}
-use Rattle.vtl_backend.specs.declared.error.RunErr.TheVariants as err
+use Rattle.vtl_to_sql.specs.error.RunErr.{RunErr}
+use Rattle.vtl_to_sql.specs.error.RunErr.TheVariants as err
 
 -- the text spells a script that breaks no rule and holds no window, and each of its INPUTs has a table whose rows fit it and whose
 -- integers are of the script's profile

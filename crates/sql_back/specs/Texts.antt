@@ -9,10 +9,10 @@ use Rattle.sql_tree.specs.declared.statements.SqlInput.{SqlInput}
 use Rattle.sql_engine.specs.Scripts.{Inputs, script_value}
 use Rattle.sql_engine.specs.TypingStatements.{IsTypedScript, script_settings}
 use Rattle.sql_engine.specs.Windows.{script_has_window}
-use Rattle.vtl_backend.specs.Checked.{TypedScript}
-use Rattle.vtl_backend.specs.Inputs.{inputs_of}
-use Rattle.vtl_backend.specs.Meaning.{Statement, meaning}
-use Rattle.vtl_backend.specs.Statements.{statements_of}
+use Rattle.vtl_to_sql.specs.Checked.{TypedScript}
+use Rattle.vtl_to_sql.specs.BackendInputs.{inputs_of}
+use Rattle.vtl_to_sql.specs.Meaning.{Statement, meaning}
+use Rattle.vtl_to_sql.specs.BackendStatements.{statements_of}
 use Rattle.vtl_to_sql.specs.Exports.{exported_as}
 use Rattle.vtl_to_sql.specs.Inputs.{AreTaken, sets_read}
 use Rattle.vtl_to_sql.specs.Scripts.{input_of}

@@ -16,9 +16,9 @@ use sql_tree::SqlScript;
 use std::alloc::{AllocError, Global};
 use std::marker::Brand;
 use std::sync::ledger::{Blank, Ledger};
-use vtl_backend::RunErr;
 use vtl_index::Steps;
 use vtl_rows::{Inputs, Outputs};
+use vtl_to_sql::RunErr;
 
 // The script that a text spells.
 fn script_of(alloc: Global, text: &str) -> Result<SqlScript, AllocError>

@@ -19,7 +19,7 @@ use Rattle.rules_to_sql.specs.LawsNames.{names_at, names_in, names_of}
 use Rattle.rules_to_sql.specs.Transformations.{Transformation, transformations}
 use Rattle.rules_to_sql.specs.Uses.{reads}
 use Rattle.rules_to_sql.proofs.NameLemmas.{names_append}
-use Rattle.vtl_backend.specs.Statements.{statements_of, with_nodes}
+use Rattle.rules_to_sql.specs.BackendStatements.{statements_of, with_nodes}
 use Rattle.rules_to_sql.specs.Depths.{node_depth}
 use Rattle.rules_to_sql.specs.LawsScripts.{AreKnownAlike, AreMadeFrom}
 use Rattle.rules_to_sql.proofs.DepthBounds.{node-below}

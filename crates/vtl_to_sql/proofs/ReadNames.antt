@@ -12,11 +12,11 @@ use Rattle.vtl_tree.specs.Structure.{same_name}
 use Rattle.vtl_tree.specs.Structures.{Named, has_name}
 use Rattle.vtl_tree.specs.declared.structure.Structure.{Structure}
 use Rattle.vtl_nodes.specs.Trees.{NodeTree, structure_of}
-use Rattle.vtl_backend.specs.Checked.{TypedScript, known_of, nodes_of, tree_of}
-use Rattle.vtl_backend.specs.Inputs.{inputs_of}
-use Rattle.vtl_backend.specs.Names.{names_of}
-use Rattle.vtl_backend.specs.Transformations.{Transformation, transformations}
-use Rattle.vtl_backend.specs.Uses.{read_behind, reads, results_behind, with_declared, with_new}
+use Rattle.rules_to_sql.specs.Checked.{TypedScript, known_of, nodes_of, tree_of}
+use Rattle.rules_to_sql.specs.BackendInputs.{inputs_of}
+use Rattle.rules_to_sql.specs.LawsNames.{names_of}
+use Rattle.rules_to_sql.specs.Transformations.{Transformation, transformations}
+use Rattle.rules_to_sql.specs.Uses.{read_behind, reads, results_behind, with_declared, with_new}
 use Rattle.sql_tree.specs.Trees.{StatementTree}
 use Rattle.vtl_to_sql.specs.Reads.{IsRead}
 use Rattle.vtl_to_sql.specs.Scripts.{input_for}

@@ -6,8 +6,8 @@ use Rattle.vtl_tree.specs.Structure.{same_name}
 use Rattle.vtl_tree.specs.declared.structure.Structure.{Structure}
 use Rattle.rules_to_sql.specs.Meaning.{Statement}
 use Rattle.rules_to_sql.specs.Trees.{NodeTree}
-use Rattle.vtl_backend.specs.Checked.{TypedScript, known_of}
-use Rattle.vtl_backend.specs.Statements.{is_written}
+use Rattle.rules_to_sql.specs.Checked.{TypedScript, known_of}
+use Rattle.rules_to_sql.specs.BackendStatements.{is_written}
 
 -- the name has a structure
 pub record IsRead (t : TypedScript) (name : List ℕ) : Type 0 where

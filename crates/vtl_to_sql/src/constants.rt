@@ -6,12 +6,12 @@ ghost use Rattle.vtl_cell.specs.Held.{IsHeld};
 ghost use Rattle.vtl_tree.specs.View.{comp_exp_of};
 ghost use Rattle.vtl_nodes.specs.View.{node_tree, value_tree};
 ghost use Rattle.rules_to_sql.specs.Operators.{value_exp};
-ghost use Rattle.vtl_backend.specs.Checked.{nodes_of};
+ghost use Rattle.rules_to_sql.specs.Checked.{nodes_of};
 ghost use Rattle.rules_to_sql.specs.Held.{HoldsValues};
 ghost use Rattle.vtl_to_sql.specs.Accepted.{AreHeld, HoldsParts};
 
+use rules_to_sql::Checked;
 use std::alloc::Global;
-use vtl_backend::Checked;
 use vtl_cell::{Cell, Profile, write_cell};
 use vtl_nodes::{CalcItem, CalcValue, JoinOperand, Node, NodeForm, SubItem};
 use vtl_tree::CompExpr;

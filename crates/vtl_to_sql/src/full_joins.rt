@@ -47,10 +47,7 @@ fn only_spare(alloc: Global) -> Result<Vec<Component>, AllocError>
 }
 
 // The same components once more.
-fn same_components(
-    alloc: Global,
-    components: &[&Component],
-) -> Result<Vec<Component>, AllocError>
+fn same_components(alloc: Global, components: &[&Component]) -> Result<Vec<Component>, AllocError>
     ensures { IfOk result (λ v. v.items ≡ shown components.now) }
 {
     let mut same = Vec::with_capacity(alloc, components.len())?;
@@ -168,11 +165,7 @@ pub(crate) fn once_query(
 }
 
 // An operand where the identifiers of a table have the values that they have there.
-fn keyed_with(
-    alloc: Global,
-    keys: &Aliased<'_>,
-    operand: &Aliased<'_>,
-) -> Result<Join, AllocError>
+fn keyed_with(alloc: Global, keys: &Aliased<'_>, operand: &Aliased<'_>) -> Result<Join, AllocError>
     ensures { IfOk result (λ j. join_tree j ≡ keyed_with (aliased_of keys.now) (aliased_of operand.now)) }
 {
     let common = common_identifiers(alloc, operand.structure, keys.structure)?;

@@ -11,7 +11,7 @@ ghost use Rattle.rules_to_sql.specs.Meaning.{AreDataSets, Statement, is_built, k
 ghost use Rattle.rules_to_sql.specs.Trees.{NodeTree};
 ghost use Rattle.rules_to_sql.specs.Checked.{IsTyped, TypedScript, nodes_of, tree_of};
 ghost use Rattle.rules_to_sql.specs.Uses.{reads};
-ghost use Rattle.vtl_backend.specs.Statements.{statements_of};
+ghost use Rattle.rules_to_sql.specs.BackendStatements.{statements_of};
 ghost use Rattle.sql_tree.specs.Formed.{PrintableScript};
 ghost use Rattle.rules_to_sql.specs.TypingStatements.{IsTypedScript, input_columns};
 ghost use Rattle.rules_to_sql.specs.Inputs.{IsInputData};

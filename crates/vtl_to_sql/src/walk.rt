@@ -12,9 +12,9 @@ ghost use Rattle.vtl_to_sql.specs.Queries.{left_query};
 ghost use Rattle.vtl_to_sql.specs.Tables.{made_of_form, operands_of as joined_sources, over, sources_of, with_one};
 ghost use Rattle.vtl_to_sql.specs.Accepted.{are_nodes_translated, are_operands_translated, is_form_translated, is_translated};
 
+use crate::all_joins::join_query;
 use crate::draft::Draft;
 use crate::existence_queries::existence_query;
-use crate::all_joins::join_query;
 use crate::pair_queries::{Operand, choose_query, pair_query};
 use crate::pivot_queries::pivot_query;
 use crate::queries::{

@@ -14,17 +14,17 @@ use Rattle.vtl_tree.specs.Environment.{DataSet}
 use Rattle.vtl_tree.specs.Structure.{IsStructure, columns_of, key_width, names_of, same_name}
 use Rattle.vtl_tree.specs.declared.structure.Component.{Component}
 use Rattle.vtl_tree.specs.declared.structure.Structure.{Structure}
-use Rattle.check_laws.specs.Columns.{identifiers_of, others_of}
-use Rattle.check_laws.specs.Meaning.{Outputs}
-use Rattle.check_laws.proofs.OwnColumns.{columns_apart}
-use Rattle.check_laws.proofs.Places.{columns_split}
-use Rattle.vtl_csv.specs.CsvText.{csv_rows, header_of}
-use Rattle.vtl_csv.specs.TableText.{names_written, rows_text}
-use Rattle.sql_engine.specs.Exported.{entry_column}
-use Rattle.sql_engine.specs.Scopes.{Columns}
-use Rattle.sql_engine.specs.Scripts.{sort_key}
-use Rattle.vtl_to_sql.specs.Exports.{exported, exported_as}
-use Rattle.vtl_to_sql.specs.Runs.{entries}
+use Rattle.sql_back.specs.Columns.{identifiers_of, others_of}
+use Rattle.sql_back.specs.Meaning.{Outputs}
+use Rattle.sql_back.proofs.OwnColumns.{columns_apart}
+use Rattle.sql_back.proofs.Places.{columns_split}
+use Rattle.vtl_status.specs.CsvText.{csv_rows, header_of}
+use Rattle.vtl_status.specs.TableText.{names_written, rows_text}
+use Rattle.sql_back.specs.Exported.{entry_column}
+use Rattle.sql_back.specs.Scopes.{Columns}
+use Rattle.sql_back.specs.EngineScripts.{sort_key}
+use Rattle.sql_back.specs.Exports.{exported, exported_as}
+use Rattle.sql_back.specs.Runs.{entries}
 use Rattle.vtl_top.specs.Expected.{file_in, output_of, outputs_of}
 use Rattle.vtl_top.specs.SqlRun.{export_file, exports_of}
 use Rattle.vtl_top.specs.Steps.{File, Path}

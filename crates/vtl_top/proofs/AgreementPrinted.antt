@@ -2,7 +2,7 @@
 use Rattle.std.proofs.Common.{◌≡◌, Some, Ok, ap, ◌∙◌}
 use Rattle.vtl_files.specs.Outside.{bytes_at}
 use Rattle.vtl_interp.specs.Uses.{reads}
-use Rattle.check_laws.proofs.Places.{each}
+use Rattle.sql_back.proofs.Places.{each}
 use Rattle.vtl_top.specs.Agreement.{AreTwins, IsPrinted}
 use Rattle.vtl_top.specs.Expected.{file_in, text_step}
 use Rattle.vtl_top.specs.Steps.{Held, Made, only_text, settled}

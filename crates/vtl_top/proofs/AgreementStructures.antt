@@ -9,29 +9,29 @@ use Rattle.vtl_tree.specs.Structure.{IsStructure}
 use Rattle.vtl_tree.specs.Structures.{AreStructures, Named, has_name}
 use Rattle.check_faults.specs.Rules.{ruled}
 use Rattle.check_faults.specs.declared.rules.Rule.TheVariants as rule
-use Rattle.check_laws.specs.Checked.{env_over}
-use Rattle.check_laws.specs.Count.{count}
-use Rattle.check_laws.specs.Gives.{Gives}
-use Rattle.check_laws.specs.Made.{IsMade}
-use Rattle.check_laws.specs.Meaning.{Outputs, Statement, meaning}
-use Rattle.check_laws.specs.Places.{Env}
-use Rattle.check_laws.specs.places.Place.TheVariants as place
-use Rattle.check_laws.specs.Script.{assigned, is_too_much, script_typed, transformations_typed, value_typed, with_result}
-use Rattle.check_laws.specs.Shapes.{IsShaped}
-use Rattle.check_laws.specs.Transformations.{Transformation, transformations}
-use Rattle.check_laws.specs.Trees.{NodeTree, structure_of}
-use Rattle.check_laws.specs.Typed.{dataset_in}
-use Rattle.check_laws.specs.Typing.{typed}
-use Rattle.check_laws.specs.WellTyped.{AreShaped, IsWellTyped}
-use Rattle.check_laws.proofs.Inner.{made-shaped}
-use Rattle.check_laws.proofs.Places.{all_append, all_of_map}
-use Rattle.check_laws.proofs.Scripts.{at-then, structures-shaped}
-use Rattle.check_laws.proofs.Sets.{dataset-gives}
-use Rattle.check_laws.proofs.Sound.{sound}
-use Rattle.check_laws.proofs.Steps.{after, tested, then}
+use Rattle.sql_back.specs.Checked.{env_over}
+use Rattle.sql_back.specs.Count.{count}
+use Rattle.sql_back.specs.Gives.{Gives}
+use Rattle.sql_back.specs.Made.{IsMade}
+use Rattle.sql_back.specs.Meaning.{Outputs, Statement, meaning}
+use Rattle.sql_back.specs.Places.{Env}
+use Rattle.sql_back.specs.places.Place.TheVariants as place
+use Rattle.sql_back.specs.Script.{assigned, is_too_much, script_typed, transformations_typed, value_typed, with_result}
+use Rattle.sql_back.specs.Shapes.{IsShaped}
+use Rattle.sql_back.specs.Transformations.{Transformation, transformations}
+use Rattle.sql_back.specs.Trees.{NodeTree, structure_of}
+use Rattle.sql_back.specs.Typed.{dataset_in}
+use Rattle.sql_back.specs.Typing.{typed}
+use Rattle.sql_back.specs.WellTyped.{AreShaped, IsWellTyped}
+use Rattle.sql_back.proofs.Inner.{made-shaped}
+use Rattle.sql_back.proofs.Places.{all_append, all_of_map}
+use Rattle.sql_back.proofs.Scripts.{at-then, structures-shaped}
+use Rattle.sql_back.proofs.Sets.{dataset-gives}
+use Rattle.sql_back.proofs.Sound.{sound}
+use Rattle.sql_back.proofs.Steps.{after, tested, then}
 use Rattle.vtl_interp.specs.Statements.{is_written, with_nodes}
-use Rattle.vtl_to_sql.specs.Scripts.{written_of}
-use Rattle.vtl_to_sql.proofs.WholeScript.{written_are}
+use Rattle.sql_back.specs.Scripts.{written_of}
+use Rattle.sql_back.proofs.WholeScript.{written_are}
 
 -- ---- the nodes of a script
 abbrev pub HasStructure : NodeTree → Type 0

@@ -4,7 +4,7 @@ use Rattle.std.specs.List.{list_all}
 use Rattle.vtl_tree.specs.Environment.{Environment}
 use Rattle.vtl_tree.specs.Structures.{Named}
 use Rattle.vtl_tree.specs.declared.structure.Structure.{Structure}
-use Rattle.vtl_csv.specs.InputFile.{dataset_rows}
+use Rattle.vtl_status.specs.InputFile.{dataset_rows}
 use Rattle.vtl_decimal.specs.Settings.{Settings}
 use Rattle.vtl_interp.specs.Script.{has_definitions}
 use Rattle.vtl_interp.specs.Uses.{reads}
@@ -18,10 +18,10 @@ use Rattle.vtl_status.specs.declared.status.Status.{Status}
 use Rattle.vtl_status.specs.declared.status.Status.TheVariants as st
 use Rattle.vtl_top.proofs.MeantLemmas.{after_built, after_plain, after_script, after_structures, after_typing}
 use Rattle.vtl_top.proofs.ReadScripts.{parsed_once}
-use Rattle.sql_engine.specs.TypingStatements.{script_fault, script_settings}
-use Rattle.sql_engine.specs.Scripts.{script_value}
+use Rattle.sql_back.specs.TypingStatements.{script_fault, script_settings}
+use Rattle.sql_back.specs.EngineScripts.{script_value}
 use Rattle.vtl_top.specs.SqlInputs.{input_structures, rows_by_name}
-use Rattle.sql_engine.specs.Windows.{script_has_window}
+use Rattle.sql_back.specs.Windows.{script_has_window}
 use Rattle.vtl_top.specs.SqlRun.{engine_step, exports_of, read_whole, sql_checked_step, sql_in, sql_of, sql_step, sql_typing, sql_unbuilt}
 use Rattle.vtl_top.proofs.SqlSteps.{after_checked, after_sql, after_windows, sql_parsed_once}
 

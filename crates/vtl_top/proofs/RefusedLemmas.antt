@@ -11,8 +11,8 @@ use Rattle.vtl_syntax.specs.Trees.{ScriptTree}
 use Rattle.vtl_tree.specs.Environment.{Environment}
 use Rattle.vtl_tree.specs.Structures.{Named}
 use Rattle.vtl_tree.specs.declared.structure.Structure.{Structure}
-use Rattle.vtl_csv.specs.InputFile.{Fault, dataset_rows}
-use Rattle.vtl_csv.specs.StructuresFile.{Fault as StructuresFault, structures_of_file}
+use Rattle.vtl_status.specs.InputFile.{Fault, dataset_rows}
+use Rattle.vtl_status.specs.StructuresFile.{Fault as StructuresFault, structures_of_file}
 use Rattle.vtl_interp.specs.Trees.{NodeTree}
 use Rattle.vtl_interp.specs.Meaning.{Outputs, is_built}
 use Rattle.vtl_interp.specs.Checked.{env_over}

@@ -6,9 +6,9 @@ use Rattle.vtl_cell.specs.Row.{Row}
 use Rattle.vtl_rows.specs.Named.{NamedTables}
 use Rattle.vtl_rows.specs.Tables.{Listed}
 use Rattle.vtl_tree.specs.declared.structure.Structure.{Structure}
-use Rattle.vtl_csv.specs.InputFile.{Fault, Reads}
-use Rattle.vtl_csv.specs.declared.input.InputErr.{InputErr}
-use Rattle.vtl_csv.specs.declared.input.InputErr.TheVariants as input
+use Rattle.vtl_status.specs.InputFile.{Fault, Reads}
+use Rattle.vtl_status.specs.input.InputErr.{InputErr}
+use Rattle.vtl_status.specs.input.InputErr.TheVariants as input
 use Rattle.vtl_interp.specs.Meaning.{Outputs, is_built}
 use Rattle.vtl_interp.specs.Runs.{Tells}
 use Rattle.vtl_interp.specs.error.RunErr.{RunErr}

@@ -7,10 +7,10 @@ use Rattle.vtl_decimal.specs.Settings.{Settings}
 use Rattle.vtl_tree.specs.Environment.{Environment}
 use Rattle.sql_tree.specs.Texts.{IsScript}
 use Rattle.sql_tree.specs.Trees.{ScriptTree}
-use Rattle.sql_engine.specs.Rules.{number_of}
-use Rattle.sql_engine.specs.TypingStatements.{Fault, script_fault, script_settings}
-use Rattle.sql_engine.specs.Scripts.{Export, NamedFault, script_value}
-use Rattle.sql_engine.specs.Windows.{script_has_window}
+use Rattle.sql_back.specs.Rules.{number_of}
+use Rattle.sql_back.specs.TypingStatements.{Fault, script_fault, script_settings}
+use Rattle.sql_back.specs.EngineScripts.{Export, NamedFault, script_value}
+use Rattle.sql_back.specs.Windows.{script_has_window}
 use Rattle.vtl_top.specs.Expected.{fault_status, inputs_step}
 use Rattle.vtl_top.specs.ScriptFile.{IsSqlParsed, Parsed, faulty, no_text, whole}
 use Rattle.vtl_top.specs.SqlInputs.{input_structures, rows_by_name}

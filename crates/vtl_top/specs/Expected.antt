@@ -13,8 +13,8 @@ use Rattle.vtl_interp.specs.Statements.{with_nodes}
 use Rattle.vtl_interp.specs.Transformations.{transformations}
 use Rattle.std.specs.List.{list_all}
 use Rattle.vtl_tree.specs.declared.structure.Structure.{Structure}
-use Rattle.vtl_csv.specs.CsvText.{csv_of}
-use Rattle.vtl_csv.specs.InputFile.{Fault, dataset_rows}
+use Rattle.vtl_status.specs.CsvText.{csv_of}
+use Rattle.vtl_status.specs.InputFile.{Fault, dataset_rows}
 use Rattle.vtl_interp.specs.Checked.{env_over}
 use Rattle.vtl_interp.specs.Script.{has_definitions, script_typed}
 use Rattle.vtl_interp.specs.Uses.{reads}

@@ -16,10 +16,9 @@ ghost use Rattle.vtl_top.specs.Steps.{status_of};
 use crate::output::Output;
 use crate::reading::file_in;
 use std::alloc::{AllocError, Global};
-use vtl_csv::write_dataset;
 use vtl_interp::{Backend, Checked, RunErr};
 use vtl_rows::{Table, Tables};
-use vtl_status::Status;
+use vtl_status::{Status, write_dataset};
 use vtl_text::Txt;
 use vtl_tree::Structure;
 

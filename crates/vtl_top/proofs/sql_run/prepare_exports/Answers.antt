@@ -1,8 +1,8 @@
 use Rattle.std.proofs.Common.{[], map, subst, Ok}
 use Rattle.sql_tree.specs.View.{script_tree}
-use Rattle.sql_engine.specs.TypingStatements.{script_settings}
-use Rattle.sql_engine.specs.InputTables.{rows_given}
-use Rattle.sql_engine.specs.Scripts.{script_value}
+use Rattle.sql_back.specs.TypingStatements.{script_settings}
+use Rattle.sql_back.specs.InputTables.{rows_given}
+use Rattle.sql_back.specs.EngineScripts.{script_value}
 use Rattle.vtl_interp.specs.Inputs.{input_of}
 use Rattle.vtl_top.specs.Answered.{Takes}
 use Rattle.vtl_top.specs.Expected.{inputs_step}
