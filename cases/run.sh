@@ -427,7 +427,7 @@ if wanted ways; then
     while read -r word first second; do
         case $word in
             ways) within "$second" 5000 "ways down from $first" ;;
-            chain) within "$first" 16 "libraries in the longest chain, $second" ;;
+            chain) within "$first" 17 "libraries in the longest chain, $second" ;;
         esac
     done <"$made/said"
 fi
