@@ -1,0 +1,4 @@
+pub mod Examples
+pub mod GroupKinds
+pub mod GroupOrders
+pub mod GroupPoints
