@@ -2,8 +2,8 @@
 use Rattle.std.proofs.Common.{◌≡◌, ℕ, Bool, true, false, not, cond, List, [], ◌∷◌, map, Option, None, Some, Ok, refl, sym, ap, ◌∙◌, subst, true≢false}
 use Rattle.std.specs.List.{filter}
 use Rattle.std.specs.Option.{option_map_or}
-use Rattle.vtl_cell.specs.Outcome.{Fault, Outcome, fault_in, faults_by, join}
-use Rattle.vtl_cell.specs.Outcomes.{Same, is_true}
+use Rattle.vtl_cell.specs.Outcome.{Outcome, faults_by, join}
+use Rattle.vtl_cell.specs.Outcomes.{Same}
 use Rattle.vtl_cell.specs.Perm.{Perm, empty, keep, cross, chain}
 use Rattle.vtl_cell.specs.Row.{Row, column_of, same_row}
 use Rattle.vtl_cell.specs.Settings.{Settings}
@@ -24,7 +24,7 @@ use Rattle.vtl_tree.proofs.Faults.{Same_unless, faults_by-Perm}
 use Rattle.vtl_nodes.specs.Trees.{AggTree}
 use Rattle.vtl_tuples.specs.Keys.{each_once}
 use Rattle.check_shapes.specs.Columns.{others_of, place_of}
-use Rattle.vtl_aggregates.specs.Aggregates.{Condition, Made, aggregate_of, call_for, condition_of, each_group, group_fault, group_point, grouped_points, having_fault, kept_keys, made_of}
+use Rattle.vtl_aggregates.specs.Aggregates.{Condition, Made, aggregate_of, call_for, condition_fault, condition_of, each_group, group_fault, group_point, grouped_points, is_kept, made_of}
 use Rattle.vtl_aggregates.specs.Expressions.{aggregated, value_over}
 use Rattle.vtl_aggregates.specs.Expressions as exp
 use Rattle.vtl_aggregates.specs.Groups.{keys_by, places_named, points_with}
@@ -58,21 +58,13 @@ once-Perm (cross x y xs) = go (same_row x y) refl
 once-Perm (chain p q) = chain (once-Perm p) (once-Perm q)
 
 -- ---- keys in another order
-kept-Perm : (at : Condition) (having : Option CompExp) {ks js : List Row} → Perm ks js → Perm (kept_keys at having ks) (kept_keys at having js)
-kept-Perm at None q = q
-kept-Perm at (Some e) q = Perm-filter (λ key. is_true (at e key)) q
-
-having_same : (at : Condition) (having : Option CompExp) {ks js : List Row} → Perm ks js → having_fault at having ks ≡ having_fault at having js
-having_same at None q = refl
-having_same at (Some e) q = faults_by-Perm (λ key. fault_in (at e key)) q
-
 groups_respect : (at : Condition) (having : Option CompExp) (made : Made) (ys : List Component) (ks js : List Row) → Perm ks js → Same (each_group at having made ys ks) (each_group at having made ys js)
 groups_respect at having made ys ks js q =
-    let kept = kept-Perm at having q in
-    let faults : join (having_fault at having ks) (faults_by (group_fault made ys) (kept_keys at having ks)) ≡ join (having_fault at having js) (faults_by (group_fault made ys) (kept_keys at having js)) =
-    λ i. join (having_same at having q i) (faults_by-Perm (group_fault made ys) kept i) in
-    Same_unless (join (having_fault at having ks) (faults_by (group_fault made ys) (kept_keys at having ks))) (join (having_fault at having js) (faults_by (group_fault made ys) (kept_keys at having js)))
-    (map (group_point made ys) (kept_keys at having ks)) (map (group_point made ys) (kept_keys at having js)) faults (Perm-map (group_point made ys) kept)
+    let kept = Perm-filter (is_kept at having) q in
+    let faults : join (faults_by (condition_fault at having) ks) (faults_by (group_fault made ys) (filter (is_kept at having) ks)) ≡ join (faults_by (condition_fault at having) js) (faults_by (group_fault made ys) (filter (is_kept at having) js)) =
+    λ i. join (faults_by-Perm (condition_fault at having) q i) (faults_by-Perm (group_fault made ys) kept i) in
+    Same_unless (join (faults_by (condition_fault at having) ks) (faults_by (group_fault made ys) (filter (is_kept at having) ks))) (join (faults_by (condition_fault at having) js) (faults_by (group_fault made ys) (filter (is_kept at having) js)))
+    (map (group_point made ys) (filter (is_kept at having) ks)) (map (group_point made ys) (filter (is_kept at having) js)) faults (Perm-map (group_point made ys) kept)
 
 -- ---- points in another order
 aggregated_same : (p : Settings) (xs : List Component) (f : AggKind) (component : Option (List ℕ)) (us vs : List Row) → Perm us vs → aggregated p xs f component us ≡ aggregated p xs f component vs

@@ -8,7 +8,6 @@ use Rattle.vtl_cell.specs.Apart.{all_apart}
 use Rattle.vtl_cell.specs.Groups.{count_of_points, group_value}
 use Rattle.vtl_cell.specs.Kinds.{is_null, is_of}
 use Rattle.vtl_cell.specs.Outcome.{Fault, Outcome, faults_by, join, unless}
-use Rattle.vtl_cell.specs.Outcomes.{is_true}
 use Rattle.vtl_cell.specs.Profile.{IsOfProfile}
 use Rattle.vtl_cell.specs.Range.{fit_integer}
 use Rattle.vtl_cell.specs.Row.{Row, column_of, same_key, same_row}
@@ -38,7 +37,7 @@ use Rattle.vtl_tuples.specs.Keys.{each_once}
 use Rattle.vtl_tuples.proofs.Onces.{once_apart}
 use Rattle.check_shapes.specs.Columns.{identifiers_of, others_of, place_of}
 use Rattle.check_shapes.specs.Names.{component_of}
-use Rattle.vtl_aggregates.specs.Aggregates.{Condition, Made, aggregate_of, call_for, cell_or_null, condition_of, each_group, group_fault, group_point, having_fault, kept_keys, made_of, made_value}
+use Rattle.vtl_aggregates.specs.Aggregates.{Condition, Made, aggregate_of, call_for, cell_or_null, condition_fault, condition_of, group_fault, group_point, is_kept, made_of, made_value}
 use Rattle.vtl_aggregates.specs.Expressions.{aggregated}
 use Rattle.vtl_aggregates.specs.Groups.{keys_by, places_named, points_with}
 use Rattle.vtl_aggregates.specs.Shapes.{IsAggregated, IsMadeColumn, given_kind, given_of}
@@ -49,7 +48,7 @@ all_map : {X Y : Type 0} (f : X → Y) (P : Y → Type 0) (xs : List X) → AllB
 all_map f P [] all = tt
 all_map f P (x ∷ xs) all = (all.0, all_map f P xs all.1)
 
-all_more : {X : Type 0} (P Q : X → Type 0) → ((x : X) → P x → Q x) → (xs : List X) → AllByRecursion P xs → AllByRecursion Q xs
+pub all_more : {X : Type 0} (P Q : X → Type 0) → ((x : X) → P x → Q x) → (xs : List X) → AllByRecursion P xs → AllByRecursion Q xs
 all_more P Q f [] all = tt
 all_more P Q f (x ∷ xs) all = (f x all.0, all_more P Q f xs all.1)
 
@@ -65,7 +64,7 @@ all_filtered p (x ∷ xs) = go (p x) refl (all_filtered p xs)
     go true e ih = (e, ih)
     go false e ih = ih
 
-all_once : (P : Row → Type 0) (xs : List Row) → AllByRecursion P xs → AllByRecursion P (each_once same_row xs)
+pub all_once : (P : Row → Type 0) (xs : List Row) → AllByRecursion P xs → AllByRecursion P (each_once same_row xs)
 all_once P [] all = tt
 all_once P (x ∷ xs) all = (all.0, AllByRecursion-filter P (λ y. not (same_row x y)) (each_once same_row xs) (all_once P xs all.1))
 
@@ -200,44 +199,35 @@ apart_by_key : (n : ℕ) (d : List Row) → all_apart (same_key n) d ≡ all_apa
 apart_by_key n [] = refl
 apart_by_key n (r ∷ d) = λ i. not (any_by_key n r d i) && apart_by_key n d i
 
--- ---- groups that are kept
-kept_all : (P : Row → Type 0) (at : Condition) (having : Option CompExp) (keys : List Row) → AllByRecursion P keys → AllByRecursion P (kept_keys at having keys)
-kept_all P at None keys all = all
-kept_all P at (Some e) keys all = AllByRecursion-filter P (λ key. is_true (at e key)) keys all
-
-kept_apart : (at : Condition) (having : Option CompExp) (keys : List Row) → all_apart same_row keys ≡ true → all_apart same_row (kept_keys at having keys) ≡ true
-kept_apart at None keys h = h
-kept_apart at (Some e) keys h = all_apart-filter same_row (λ key. is_true (at e key)) keys h
-
 -- ---- the result
 module _ (p : Settings) (spec : AggTree) (d : DataSet) (s : Structure) (i : IsAggregated spec d.structure s) (h : IsDataSet d.structure d.points) where
-  abbrev xs : List Component
-  xs = columns_of d.structure
+  abbrev columns : List Component
+  columns = columns_of d.structure
 
   abbrev places : List ℕ
-  places = places_named spec.grouping xs
+  places = places_named spec.grouping columns
 
   abbrev at : Condition
-  at = condition_of p spec xs d.points
+  at = condition_of p spec columns d.points
 
   abbrev made : Made
-  made = made_of p spec xs d.points
+  made = made_of p spec columns d.points
 
   abbrev kept : List Row
-  kept = kept_keys at spec.having (keys_by places d.points)
+  kept = filter (is_kept at spec.having) (keys_by places d.points)
 
-  abbrev IsKey : Row → Type 0
+  abbrev pub IsKey : Row → Type 0
   IsKey key = is_point (identifiers_of s) key ≡ true
 
   keys_are : AllByRecursion IsKey (keys_by places d.points)
   keys_are =
-      let key_is : (r : Row) → is_point xs r ≡ true → IsKey (cells_at places r) = λ r t. subst (λ names. is_point (identifiers_of s) (cells_at (places_named names xs) r) ≡ true) i.grouping (found_key (identifiers_of s) xs r i.identifiers t) in
-      all_once IsKey (map (cells_at places) d.points) (all_map (cells_at places) IsKey d.points (all_more (λ r. is_point xs r ≡ true) (λ r. IsKey (cells_at places r)) key_is d.points h.typed))
+      let key_is : (r : Row) → is_point columns r ≡ true → IsKey (cells_at places r) = λ r t. subst (λ names. is_point (identifiers_of s) (cells_at (places_named names columns) r) ≡ true) i.grouping (found_key (identifiers_of s) columns r i.identifiers t) in
+      all_once IsKey (map (cells_at places) d.points) (all_map (cells_at places) IsKey d.points (all_more (λ r. is_point columns r ≡ true) (λ r. IsKey (cells_at places r)) key_is d.points h.typed))
 
   made_are : (key : Row) → AllByRecursion (λ y. GivesOf y.kind (made y key)) (others_of s)
   made_are key =
-      let all : AllByRecursion (λ r. is_point xs r ≡ true) (points_with places d.points key) = AllByRecursion-filter (λ r. is_point xs r ≡ true) (λ r. same_row (cells_at places r) key) d.points h.typed in
-      all_more (IsMadeColumn spec.items xs) (λ y. GivesOf y.kind (made y key)) (λ y e. made_is p xs (points_with places d.points key) spec y e all) (others_of s) i.columns
+      let all : AllByRecursion (λ r. is_point columns r ≡ true) (points_with places d.points key) = AllByRecursion-filter (λ r. is_point columns r ≡ true) (λ r. same_row (cells_at places r) key) d.points h.typed in
+      all_more (IsMadeColumn spec.items columns) (λ y. GivesOf y.kind (made y key)) (λ y e. made_is p columns (points_with places d.points key) spec y e all) (others_of s) i.columns
 
   point_is : (key : Row) → IsKey key → is_point (columns_of s) (group_point made (others_of s) key) ≡ true
   point_is key t =
@@ -248,13 +238,13 @@ module _ (p : Settings) (spec : AggTree) (d : DataSet) (s : Structure) (i : IsAg
   key_of_point key t = ap (λ n. take n (group_point made (others_of s) key)) (sym (point_length (identifiers_of s) key t)) ∙ take-append_seam key (map (λ y. cell_or_null (made y key)) (others_of s))
 
   pub kept_are : AllByRecursion IsKey kept
-  kept_are = kept_all IsKey at spec.having (keys_by places d.points) keys_are
+  kept_are = AllByRecursion-filter IsKey (is_kept at spec.having) (keys_by places d.points) keys_are
 
   points_are : IsDataSet s (map (group_point made (others_of s)) kept)
   points_are =
       let f = group_point made (others_of s) in
       let back = keys_back (key_width s) f kept (all_more IsKey (λ key. take (key_width s) (f key) ≡ key) key_of_point kept kept_are) in
-      let apart = kept_apart at spec.having (keys_by places d.points) (once_apart same_row (map (cells_at places) d.points)) in
+      let apart = all_apart-filter same_row (is_kept at spec.having) (keys_by places d.points) (once_apart same_row (map (cells_at places) d.points)) in
       record {
         well_formed = i.well_formed;
         typed = all_map f (λ r. is_point (columns_of s) r ≡ true) kept (all_more IsKey (λ key. is_point (columns_of s) (f key) ≡ true) point_is kept kept_are);
@@ -262,7 +252,7 @@ module _ (p : Settings) (spec : AggTree) (d : DataSet) (s : Structure) (i : IsAg
       }
 
   pub result_is : IfOk (aggregate_of p spec d s) (IsDataSet s)
-  result_is = unless_has (IsDataSet s) (join (having_fault at spec.having (keys_by places d.points)) (faults_by (group_fault made (others_of s)) kept)) (map (group_point made (others_of s)) kept) points_are
+  result_is = unless_has (IsDataSet s) (join (faults_by (condition_fault at spec.having) (keys_by places d.points)) (faults_by (group_fault made (others_of s)) kept)) (map (group_point made (others_of s)) kept) points_are
 
 -- ---- integers of the profile
 column_gives : (p : Settings) (i : ℕ) (r : Row) → AllByRecursion (IsOfProfile p) r → IsOfProfile p (column_of i r)
@@ -302,12 +292,12 @@ module _ (p : Settings) (spec : AggTree) (d : DataSet) (s : Structure) (h : AreO
       let at = condition_of p spec xs d.points in
       let made = made_of p spec xs d.points in
       let keys = keys_by places d.points in
-      let kept = kept_keys at spec.having keys in
+      let kept = filter (is_kept at spec.having) keys in
       let keys_proper = all_once IsProper (map (cells_at places) d.points) (all_map (cells_at places) IsProper d.points (all_more IsProper (λ r. IsProper (cells_at places r)) (λ r. cells_give p places r) d.points h)) in
       let point : (key : Row) → IsProper key → IsProper (group_point made (others_of s) key) =
       λ key t. all_append (IsOfProfile p) key (map (λ y. cell_or_null (made y key)) (others_of s)) t (values key (others_of s)) in
-      unless_has (AreOfProfile p) (join (having_fault at spec.having keys) (faults_by (group_fault made (others_of s)) kept)) (map (group_point made (others_of s)) kept)
-      (all_map (group_point made (others_of s)) IsProper kept (all_more IsProper (λ key. IsProper (group_point made (others_of s) key)) point kept (kept_all IsProper at spec.having keys keys_proper)))
+      unless_has (AreOfProfile p) (join (faults_by (condition_fault at spec.having) keys) (faults_by (group_fault made (others_of s)) kept)) (map (group_point made (others_of s)) kept)
+      (all_map (group_point made (others_of s)) IsProper kept (all_more IsProper (λ key. IsProper (group_point made (others_of s) key)) point kept (AllByRecursion-filter IsProper (is_kept at spec.having) keys keys_proper)))
     where
       values : (key : Row) (ys : List Component) → AllByRecursion (IsOfProfile p) (map (λ y. cell_or_null (made_of p spec (columns_of d.structure) d.points y key)) ys)
       values key [] = tt

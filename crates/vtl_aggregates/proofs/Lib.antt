@@ -1,4 +1,5 @@
 pub mod Examples
 pub mod GroupKinds
+pub mod GroupLooks
 pub mod GroupOrders
 pub mod GroupPoints

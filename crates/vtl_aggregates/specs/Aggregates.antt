@@ -1,5 +1,5 @@
 -- What an aggregate operator gives of a data set: `sum(ds group by ..)` and the like on all measures, and the clause `aggr`.
-use Rattle.std.specs.Prelude.{ℕ, List, [], ◌++◌, map, filter, find, Option, Some, None, option_map, Ok, Err}
+use Rattle.std.specs.Prelude.{ℕ, Bool, true, List, [], ◌++◌, map, filter, find, Option, Some, None, option_map, Ok, Err}
 use Rattle.std.specs.Option.{option_map_or}
 use Rattle.vtl_cell.specs.Outcome.{Fault, Outcome, fault_in, faults_by, join, unless}
 use Rattle.vtl_cell.specs.Outcomes.{is_true}
@@ -55,15 +55,14 @@ Condition = CompExp → Row → Outcome Cell
 abbrev pub Made : Type 0
 Made = Component → Row → Outcome Cell
 
--- `having` keeps the groups at which it is true
-abbrev pub kept_keys : Condition → Option CompExp → List Row → List Row
-kept_keys at None keys = keys
-kept_keys at (Some e) keys = filter (λ key. is_true (at e key)) keys
+-- `having` keeps the groups at which it is true; without one all are kept
+abbrev pub is_kept : Condition → Option CompExp → Row → Bool
+is_kept at None key = true
+is_kept at (Some e) key = is_true (at e key)
 
--- it is evaluated at each group
-abbrev pub having_fault : Condition → Option CompExp → List Row → Option Fault
-having_fault at None keys = None
-having_fault at (Some e) keys = faults_by (λ key. fault_in (at e key)) keys
+abbrev pub condition_fault : Condition → Option CompExp → Row → Option Fault
+condition_fault at None key = None
+condition_fault at (Some e) key = fault_in (at e key)
 
 -- the fault of the values of a group: division by zero where one of them has it, else out of range where one has it
 abbrev pub group_fault : Made → List Component → Row → Option Fault
@@ -73,10 +72,12 @@ group_fault made ys key = faults_by (λ y. fault_in (made y key)) ys
 abbrev pub group_point : Made → List Component → Row → Row
 group_point made ys key = key ++ map (λ y. cell_or_null (made y key)) ys
 
--- a point for each group that is kept, unless the condition has a fault at a group, or a value at one that is kept
+-- A point for each group that is kept, unless there is a fault. The condition is evaluated at each group, the values of columns at those that
+-- are kept alone; division by zero comes first wherever it is.
 abbrev pub each_group : Condition → Option CompExp → Made → List Component → List Row → Outcome (List Row)
 each_group at having made ys keys =
-    unless (join (having_fault at having keys) (faults_by (group_fault made ys) (kept_keys at having keys))) (map (group_point made ys) (kept_keys at having keys))
+    let kept = filter (is_kept at having) keys in
+    unless (join (faults_by (condition_fault at having) keys) (faults_by (group_fault made ys) kept)) (map (group_point made ys) kept)
 
 -- ---- data sets
 
