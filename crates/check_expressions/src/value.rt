@@ -35,7 +35,7 @@ pub fn scalar_value(value: Typed) -> Result<CalcValue, TypeErr>
 }
 
 /// A function on its operands.
-#[tactic(auto, using(check_clauses::proofs::LiteralLemmas::as_many))]
+#[tactic(auto, using(crate::proofs::Lengths::as_many))]
 pub fn function(
     alloc: Global,
     profile: &Profile,
