@@ -18,12 +18,10 @@ use Rattle.vtl_decimal.specs.declared.settings.Rounding.TheVariants.{Down, HalfE
 use Rattle.vtl_tree.specs.CompExp.{CompExp, aggregate, call, column, comp_exp, const, no_comp_exps}
 use Rattle.vtl_tree.specs.Environment.{DataSet, no_data}
 use Rattle.vtl_tree.specs.Structure.{names_of}
-use Rattle.vtl_tree.specs.declared.expression.AggCall.{AggCall}
 use Rattle.vtl_tree.specs.declared.structure.Component.{Component}
 use Rattle.vtl_tree.specs.declared.structure.Role.TheVariants as role
 use Rattle.vtl_tree.specs.declared.structure.Structure.{Structure}
 use Rattle.vtl_nodes.specs.Trees.{AggTree}
-use Rattle.vtl_nodes.specs.declared.specifications.AggItems.{AggItems}
 use Rattle.vtl_nodes.specs.declared.specifications.AggItems.TheVariants as items
 use Rattle.vtl_nodes.specs.declared.specifications.AggTarget.{AggTarget}
 use Rattle.check_shapes.specs.Measures.{int_var, made}

@@ -1,8 +1,8 @@
 -- The value of an aggregate is null or of exactly the kind that the aggregate gives, and an integer of the profile where its values are.
-use Rattle.std.proofs.Common.{◌≡◌, ◌+◌, ◌-◌, ◌^◌, ◌<◌, ◌≤◌, ℕ, zero, suc, pos, ℤ, Bool, true, false, not, ◌&&◌, cond, List, [], ◌∷◌, map, length, get_or, Result, Ok, Err, Option, Some, None, refl, sym, ap, subst, true≢false, arith}
+use Rattle.std.proofs.Common.{◌≡◌, ◌-◌, ◌^◌, ◌<◌, ◌≤◌, ℕ, zero, suc, pos, ℤ, Bool, true, false, not, ◌&&◌, cond, List, [], ◌∷◌, length, get_or, Result, Ok, Err, Option, Some, None, refl, sym, ap, subst, true≢false, arith}
 use Rattle.std.specs.Prelude.{Contains, IfOk, nat_lt, unsigned_abs}
 use Rattle.std.specs.Int.RustNames.{int_le}
-use Rattle.std.specs.List.{AllByRecursion, filter, list_all}
+use Rattle.std.specs.List.{AllByRecursion, list_all}
 use Rattle.vtl_decimal.specs.Tally.{mean_of, tally_of}
 use Rattle.vtl_decimal.specs.declared.number.Fault.{Fault as DecimalFault}
 use Rattle.vtl_decimal.proofs.PowerLemmas.{power_of_ten_fits}
@@ -23,10 +23,10 @@ use Rattle.vtl_cell.specs.declared.operator.AggKind.TheVariants as agg
 use Rattle.vtl_cell.proofs.Extremes.{greatest_member, least_member}
 use Rattle.vtl_cell.proofs.Rows.{split_and}
 use Rattle.vtl_cell.proofs.Sorts.{AllByRecursion-filter}
-use Rattle.vtl_kinds.specs.Aggregates.{aggregate_kind, number_of, sum_kind}
+use Rattle.vtl_kinds.specs.Aggregates.{aggregate_kind, sum_kind}
 
 -- ---- lists and choices
-all_at : {X : Type 0} (P : X → Type 0) (xs : List X) (i : ℕ) (d : X) → i < length xs → AllByRecursion P xs → P (get_or xs i d)
+pub all_at : {X : Type 0} (P : X → Type 0) (xs : List X) (i : ℕ) (d : X) → i < length xs → AllByRecursion P xs → P (get_or xs i d)
 all_at P [] i d h all = absurd (omega arith)
 all_at P (x ∷ xs) zero d h all = all.0
 all_at P (x ∷ xs) (suc i) d h all = all_at P xs i d (omega arith) all.1

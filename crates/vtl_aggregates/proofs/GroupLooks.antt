@@ -1,8 +1,8 @@
 -- What the result has at a key; and the one group of points that are not grouped.
-use Rattle.std.proofs.Common.{◌≡◌, ℕ, Bool, true, false, not, ◌&&◌, ◌||◌, cond, List, [], ◌∷◌, map, take, Ok, Err, Option, Some, None, refl, sym, ap, ◌∙◌}
+use Rattle.std.proofs.Common.{◌≡◌, ℕ, Bool, true, false, not, ◌&&◌, ◌||◌, cond, List, [], ◌∷◌, map, take, Option, Some, None, refl, sym, ap, ◌∙◌}
 use Rattle.std.specs.Prelude.{IfOk}
 use Rattle.std.specs.List.{AllByRecursion, filter, list_any}
-use Rattle.vtl_cell.specs.Outcome.{Fault, Outcome, faults_by, join, unless}
+use Rattle.vtl_cell.specs.Outcome.{Fault, faults_by, join, unless}
 use Rattle.vtl_cell.specs.Row.{Row, same_row}
 use Rattle.vtl_cell.specs.Settings.{Settings}
 use Rattle.vtl_cell.proofs.Rows.{same_row-is, same_row-refl}

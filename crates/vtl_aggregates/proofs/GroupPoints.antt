@@ -1,11 +1,11 @@
 -- The points of the result: their columns, their keys, and that they are a data set.
-use Rattle.std.proofs.Common.{◌≡◌, ◌+◌, ◌≤◌, ℕ, zero, suc, pos, Bool, true, false, not, ◌&&◌, ◌||◌, cond, List, [], ◌∷◌, ◌++◌, map, take, length, Result, Ok, Err, Option, Some, None, refl, sym, ap, ◌∙◌, subst, true≢false, arith, append_assoc}
+use Rattle.std.proofs.Common.{◌≡◌, ℕ, zero, suc, pos, Bool, true, false, not, ◌&&◌, ◌||◌, cond, List, [], ◌∷◌, ◌++◌, map, take, length, Ok, Err, Option, Some, None, refl, sym, ap, ◌∙◌, subst, arith, append_assoc}
 use Rattle.std.specs.Prelude.{IfOk, option_and_then}
 use Rattle.std.specs.List.{AllByRecursion, filter, list_any}
 use Rattle.std.specs.Option.{option_map_or}
 use Rattle.std.proofs.Math.Seq.{take-append_seam}
 use Rattle.vtl_cell.specs.Apart.{all_apart}
-use Rattle.vtl_cell.specs.Groups.{count_of_points, group_value}
+use Rattle.vtl_cell.specs.Groups.{count_of_points}
 use Rattle.vtl_cell.specs.Kinds.{is_null, is_of}
 use Rattle.vtl_cell.specs.Outcome.{Fault, Outcome, faults_by, join, unless}
 use Rattle.vtl_cell.specs.Profile.{IsOfProfile}
@@ -19,11 +19,9 @@ use Rattle.vtl_cell.specs.declared.kind.Kind.TheVariants as k
 use Rattle.vtl_cell.specs.declared.operator.AggKind.{AggKind}
 use Rattle.vtl_cell.specs.declared.operator.AggKind.TheVariants as agg
 use Rattle.vtl_cell.proofs.Aparts.{all_apart-filter}
-use Rattle.vtl_cell.proofs.Rows.{split_and}
 use Rattle.vtl_cell.proofs.Sorts.{AllByRecursion-filter}
 use Rattle.vtl_kinds.specs.Aggregates.{aggregate_kind}
 use Rattle.vtl_rows.specs.Tables.{cells_at}
-use Rattle.vtl_tree.specs.CompExp.{CompExp}
 use Rattle.vtl_tree.specs.DataSet.{AreOfProfile, IsDataSet, is_point}
 use Rattle.vtl_tree.specs.Environment.{DataSet}
 use Rattle.vtl_tree.specs.Structure.{columns_of, key_width, names_of, of_role, same_name, same_role}
@@ -219,7 +217,7 @@ module _ (p : Settings) (spec : AggTree) (d : DataSet) (s : Structure) (i : IsAg
   abbrev pub IsKey : Row → Type 0
   IsKey key = is_point (identifiers_of s) key ≡ true
 
-  keys_are : AllByRecursion IsKey (keys_by places d.points)
+  pub keys_are : AllByRecursion IsKey (keys_by places d.points)
   keys_are =
       let key_is : (r : Row) → is_point columns r ≡ true → IsKey (cells_at places r) = λ r t. subst (λ names. is_point (identifiers_of s) (cells_at (places_named names columns) r) ≡ true) i.grouping (found_key (identifiers_of s) columns r i.identifiers t) in
       all_once IsKey (map (cells_at places) d.points) (all_map (cells_at places) IsKey d.points (all_more (λ r. is_point columns r ≡ true) (λ r. IsKey (cells_at places r)) key_is d.points h.typed))
@@ -229,7 +227,7 @@ module _ (p : Settings) (spec : AggTree) (d : DataSet) (s : Structure) (i : IsAg
       let all : AllByRecursion (λ r. is_point columns r ≡ true) (points_with places d.points key) = AllByRecursion-filter (λ r. is_point columns r ≡ true) (λ r. same_row (cells_at places r) key) d.points h.typed in
       all_more (IsMadeColumn spec.items columns) (λ y. GivesOf y.kind (made y key)) (λ y e. made_is p columns (points_with places d.points key) spec y e all) (others_of s) i.columns
 
-  point_is : (key : Row) → IsKey key → is_point (columns_of s) (group_point made (others_of s) key) ≡ true
+  pub point_is : (key : Row) → IsKey key → is_point (columns_of s) (group_point made (others_of s) key) ≡ true
   point_is key t =
       subst (λ zs. is_point zs (group_point made (others_of s) key) ≡ true) (sym (columns_split s))
       (point_append (identifiers_of s) (others_of s) key (map (λ y. cell_or_null (made y key)) (others_of s)) t (values_are made key (others_of s) (are_others s) (made_are key)))

@@ -1,5 +1,5 @@
 -- What an aggregate operator gives of a data set: `sum(ds group by ..)` and the like on all measures, and the clause `aggr`.
-use Rattle.std.specs.Prelude.{ℕ, Bool, true, List, [], ◌++◌, map, filter, find, Option, Some, None, option_map, Ok, Err}
+use Rattle.std.specs.Prelude.{ℕ, Bool, true, List, ◌++◌, map, filter, find, Option, Some, None, option_map, Ok, Err}
 use Rattle.std.specs.Option.{option_map_or}
 use Rattle.vtl_cell.specs.Outcome.{Fault, Outcome, fault_in, faults_by, join, unless}
 use Rattle.vtl_cell.specs.Outcomes.{is_true}

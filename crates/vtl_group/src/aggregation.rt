@@ -22,11 +22,7 @@ use vtl_scalar::ScalarErr;
 use vtl_tree::{Component, Structure};
 
 // The places of columns by their names.
-fn column_places(
-    alloc: Global,
-    columns: &[Column],
-    names: &[Txt],
-) -> Result<Vec<usize>, AllocError>
+fn column_places(alloc: Global, columns: &[Column], names: &[Txt]) -> Result<Vec<usize>, AllocError>
     ensures { IfOk result (λ v. v.items ≡ map (λ name. column_place name columns.now) names.now) }
 {
     let mut places = Vec::with_capacity(alloc, names.len())?;

@@ -172,7 +172,15 @@ impl Points {
         ensures err { IfErr result (λ e. e ≡ ScalarErr.OutOfMemory) }
     {
         let cells = &mut self.cells;
-        let seen = push_values(alloc, cells, self.seen, &recipe.calls, recipe.table, numbers, p)?;
+        let seen = push_values(
+            alloc,
+            cells,
+            self.seen,
+            &recipe.calls,
+            recipe.table,
+            numbers,
+            p,
+        )?;
         self.table.push_cells(&mut self.cells)?;
         self.seen = seen;
         Ok(())
