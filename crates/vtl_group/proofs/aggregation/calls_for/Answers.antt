@@ -1,4 +1,4 @@
-use Rattle.std.proofs.Common.{Global, Vec, ◌≡◌, ℕ, ◌++◌, List, drop, length, map, refl, sym, ap, ◌∙◌}
+use Rattle.std.proofs.Common.{Global, Vec, ◌≡◌, ℕ, ◌++◌, List, drop, length, map, sym, ap, ◌∙◌, arith}
 use Rattle.std.proofs.lemmas.List.{drop-map, length-map}
 use Rattle.std.proofs.lemmas.Result.{IfOk-weaker}
 use Rattle.std.proofs.Math.Seq.{drop-append_seam}
@@ -25,6 +25,7 @@ returns c =
     let made = c.args.made.now in
     let by : Component → Call = λ y. placed_for c.args.columns.now c.args.items.now y.name in
     let n = c.len-identifiers.result in
+    let many : n ≡ length c.in_ok-identifiers.field-0.items = omega (arith, c.len-identifiers.ensures, c.in_ok-identifiers.field-0.ok) in
     IfOk-weaker c.calls_of.result (λ (v : Vec Call Global). v.items ≡ map by (shown (drop n c.deref.result.now))) (λ (v : Vec Call Global). v.items ≡ map by (others_of made))
-    (λ v e. e ∙ ap (map by) (ap (λ l. shown (drop n l)) c.deref.ensures.value ∙ others_behind made c.in_ok-all.all.items c.in_ok-identifiers.field-0.items n c.len-identifiers.ensures c.in_ok-all.ensures c.in_ok-identifiers.ensures))
+    (λ v e. e ∙ ap (map by) (ap (λ l. shown (drop n l)) c.deref.ensures.value ∙ others_behind made c.in_ok-all.all.items c.in_ok-identifiers.field-0.items n many c.in_ok-all.ensures c.in_ok-identifiers.ensures))
     c.calls_of.ensures
