@@ -1,5 +1,5 @@
-use Rattle.std.proofs.Common.{Global, Vec, ◌≡◌, ℕ, ◌++◌, List, drop, length, map, sym, ap, ◌∙◌, arith}
-use Rattle.std.proofs.lemmas.List.{drop-map, length-map}
+use Rattle.std.proofs.Common.{Global, Vec, ◌≡◌, ◌-◌, ◌≤◌, ℕ, ◌++◌, List, drop, take, length, map, sym, ap, ◌∙◌, arith}
+use Rattle.std.proofs.lemmas.List.{drop-map, length-drop, length-map, take_all}
 use Rattle.std.proofs.lemmas.Result.{IfOk-weaker}
 use Rattle.std.proofs.Math.Seq.{drop-append_seam}
 use Rattle.std.specs.Borrow.{Bor}
@@ -20,12 +20,16 @@ others_behind s all ids n many columns identifiers =
     ∙ ap (λ m. drop m (identifiers_of s ++ others_of s)) (many ∙ sym (length-map ids (λ r. r.now)) ∙ ap length identifiers)
     ∙ drop-append_seam (identifiers_of s) (others_of s)
 
+all_behind : {X : Type 0} (n : ℕ) (xs : List X) → take (length xs - n) (drop n xs) ≡ drop n xs
+all_behind n xs = take_all (length xs - n) (drop n xs) (let l = length-drop n xs in omega (arith, l))
+
 pub returns : goal.returns
 returns c =
     let made = c.args.made.now in
     let by : Component → Call = λ y. placed_for c.args.columns.now c.args.items.now y.name in
     let n = c.len-identifiers.result in
+    let lent = c.deref.result.now in
     let many : n ≡ length c.in_ok-identifiers.field-0.items = omega (arith, c.len-identifiers.ensures, c.in_ok-identifiers.field-0.ok) in
-    IfOk-weaker c.calls_of.result (λ (v : Vec Call Global). v.items ≡ map by (shown (drop n c.deref.result.now))) (λ (v : Vec Call Global). v.items ≡ map by (others_of made))
-    (λ v e. e ∙ ap (map by) (ap (λ l. shown (drop n l)) c.deref.ensures.value ∙ others_behind made c.in_ok-all.all.items c.in_ok-identifiers.field-0.items n many c.in_ok-all.ensures c.in_ok-identifiers.ensures))
+    IfOk-weaker c.calls_of.result (λ (v : Vec Call Global). v.items ≡ map by (shown (take (length lent - n) (drop n lent)))) (λ (v : Vec Call Global). v.items ≡ map by (others_of made))
+    (λ v e. e ∙ ap (λ l. map by (shown l)) (all_behind n lent ∙ ap (drop n) c.deref.ensures.value) ∙ ap (map by) (others_behind made c.in_ok-all.all.items c.in_ok-identifiers.field-0.items n many c.in_ok-all.ensures c.in_ok-identifiers.ensures))
     c.calls_of.ensures

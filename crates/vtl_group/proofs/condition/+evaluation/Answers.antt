@@ -1,4 +1,4 @@
-use Rattle.std.proofs.Common.{rules, arith, Global, Vec, ◌≡◌, ◌++◌, true, false, Some, None, Ok, Err, refl, sym, ap, ◌∙◌}
+use Rattle.std.proofs.Common.{rules, arith, Global, Vec, ◌≡◌, true, false, Some, None, Ok, Err, refl, sym, ap, ◌∙◌}
 use Rattle.vtl_cell.specs.Outcomes.{all_of, first_chosen, result_of}
 use Rattle.vtl_cell.specs.declared.cell.Cell.{Cell}
 use Rattle.vtl_cell.specs.declared.cell.Cell.TheVariants as cell

@@ -1,4 +1,4 @@
-use Rattle.std.proofs.Common.{◌≡◌, ◌++◌, drop}
+use Rattle.std.proofs.Common.{◌≡◌, drop}
 use Rattle.vtl_cell.specs.Outcomes.{all_of}
 use Rattle.vtl_group.proofs.Values.{of_items, rest}
 use Rattle.vtl_group.proofs.condition.+evaluation.Given as goal

@@ -1,7 +1,6 @@
 use Rattle.vtl_expr.specs.Seen.{seen_of}
 use Rattle.vtl_group.specs.Calls.{call_value, rows_at}
 use Rattle.vtl_group.specs.declared.calls.Call.{Call}
-use Rattle.vtl_group.specs.declared.calls.Call.TheVariants as call
 use Rattle.vtl_cell.specs.Outcome.{Outcome}
 use Rattle.vtl_cell.specs.declared.cell.Cell.{Cell}
 use Rattle.vtl_group.proofs.GroupWalks.{cells_more, seen_more}
