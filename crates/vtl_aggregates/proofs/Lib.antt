@@ -3,3 +3,4 @@ pub mod GroupKinds
 pub mod GroupLooks
 pub mod GroupOrders
 pub mod GroupPoints
+pub mod Shaped

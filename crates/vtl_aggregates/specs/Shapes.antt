@@ -1,10 +1,10 @@
 -- How the structure of an aggregate's result fits its operand.
-use Rattle.std.specs.Prelude.{◌≡◌, ℕ, List, ◌++◌, map, Option, Some, None, option_and_then, unwrap_or}
+use Rattle.std.specs.Prelude.{◌≡◌, false, IsSome, ℕ, List, ◌++◌, map, Option, Some, None, option_and_then, unwrap_or}
 use Rattle.std.specs.List.{AllByRecursion}
 use Rattle.vtl_cell.specs.declared.operator.AggKind.{AggKind}
 use Rattle.vtl_cell.specs.declared.operator.AggKind.TheVariants as agg
 use Rattle.vtl_kinds.specs.Aggregates.{aggregate_kind}
-use Rattle.vtl_tree.specs.Structure.{IsStructure, columns_of, names_of}
+use Rattle.vtl_tree.specs.Structure.{IsStructure, columns_of, names_of, same_role}
 use Rattle.vtl_tree.specs.declared.expression.AggCall.{AggCall}
 use Rattle.vtl_tree.specs.declared.structure.Component.{Component}
 use Rattle.vtl_tree.specs.declared.structure.Role.TheVariants as role
@@ -17,7 +17,7 @@ use Rattle.vtl_nodes.specs.declared.specifications.AggItems.TheVariants as items
 use Rattle.vtl_nodes.specs.declared.specifications.AggTarget.{AggTarget}
 use Rattle.check_shapes.specs.Choices.{chosen}
 use Rattle.check_shapes.specs.Columns.{identifiers_of, others_of}
-use Rattle.check_shapes.specs.Measures.{Gives, given_measures, made}
+use Rattle.check_shapes.specs.Measures.{Gives, given_measures, made, measures}
 use Rattle.check_shapes.specs.Names.{component_of}
 use Rattle.check_shapes.specs.declared.choices.Choice.TheVariants as choice
 use Rattle.check_shapes.specs.declared.measures.Outcome.{Outcome}
@@ -65,4 +65,18 @@ pub record IsAggregated (spec : AggTree) (a s : Structure) : Type 0 where
   pub grouping : names_of (identifiers_of s) ≡ spec.grouping
   pub identifiers : AllByRecursion (λ y. component_of y.name (columns_of a) ≡ Some y) (identifiers_of s)
   pub columns : AllByRecursion (IsMadeColumn spec.items (columns_of a)) (others_of s)
+  pub shape : s.components ≡ chosen choice.By spec.grouping a.components ++ made_components spec.items a.components
+
+-- ---- what typing tells of an aggregate
+-- each aggregate takes the values of its component, and no target is an identifier
+abbrev pub AreTaken : AggItems → List Component → Type 0
+AreTaken (items.Measures f) xs = AllByRecursion (λ x. IsSome (aggregate_kind f x.kind)) (measures xs)
+AreTaken (items.Targets ts) xs = AllByRecursion (λ t. IsSome (given_kind xs t.call) × (same_role (unwrap_or t.role role.Measure) role.Identifier ≡ false)) ts
+
+-- the aggregates, the grouping identifiers in the operand's order, and the structure that is made of both
+pub record IsTypedAggregate (spec : AggTree) (a s : Structure) : Type 0 where
+  pub operand : IsStructure a
+  pub well_formed : IsStructure s
+  pub taken : AreTaken spec.items a.components
+  pub grouping : spec.grouping ≡ names_of (chosen choice.By spec.grouping a.components)
   pub shape : s.components ≡ chosen choice.By spec.grouping a.components ++ made_components spec.items a.components

@@ -12,7 +12,7 @@ ghost use Rattle.vtl_nodes.specs.Trees.{AggTree};
 ghost use Rattle.check_shapes.specs.Columns.{others_of};
 ghost use Rattle.vtl_aggregates.specs.Aggregates.{aggregate_of, condition_of, group_point, is_kept, made_of};
 ghost use Rattle.vtl_aggregates.specs.Groups.{has_group, keys_by, places_named, points_with};
-ghost use Rattle.vtl_aggregates.specs.Shapes.{IsAggregated};
+ghost use Rattle.vtl_aggregates.specs.Shapes.{IsAggregated, IsTypedAggregate};
 
 /// An aggregate of a data set is a data set of the structure that typing gives, and its integers are of the profile
 /// where those of the operand are.
@@ -37,4 +37,10 @@ pub fn points_without_grouping_are_one_group()
     ensures none { keys_by [] [] ≡ [] }
     ensures one { (r : Row) (d : List Row) → keys_by [] (r ∷ d) ≡ [] ∷ [] }
     ensures all { (d : List Row) → points_with [] d [] ≡ d }
+{}
+
+/// The structure that typing gives fits the operand: the grouping identifiers as the operand has them, and each other
+/// column of the kind that its aggregate gives.
+pub fn typed_structures_fit()
+    ensures { (spec : AggTree) (a s : Structure) → IsTypedAggregate spec a s → IsAggregated spec a s }
 {}

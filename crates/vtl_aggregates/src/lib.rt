@@ -11,5 +11,5 @@ mod laws;
 
 pub use laws::{
     aggregates_by_look_up, aggregates_do_not_see_order, aggregates_keep_data_sets,
-    points_without_grouping_are_one_group,
+    points_without_grouping_are_one_group, typed_structures_fit,
 };
