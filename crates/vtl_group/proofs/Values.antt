@@ -1,0 +1,100 @@
+-- The values of operators on operands over a group.
+use Rattle.std.proofs.Common.{◌≡◌, ◌==◌, Bool, true, false, Option, Some, arith, suc, ℕ, List, [], ◌∷◌, ◌++◌, length, get_or, map, Result, Ok, Err, subst, refl, sym, ap, ◌∙◌}
+use Rattle.std.proofs.lemmas.Bool.{eqb-true}
+use Rattle.vtl_cell.specs.Conversion.{as_kind}
+use Rattle.vtl_cell.specs.Outcome.{Fault, DivZero, Range, Outcome, after}
+use Rattle.vtl_cell.specs.Outcomes.{all_of, branch, first_chosen, result_of}
+use Rattle.vtl_cell.specs.Settings.{Settings}
+use Rattle.vtl_cell.specs.declared.cell.Cell.{Cell}
+use Rattle.vtl_cell.specs.declared.kind.Kind.{Kind}
+use Rattle.vtl_cell.specs.declared.operator.ScalarOp.{ScalarOp}
+use Rattle.vtl_cell.specs.declared.operator.ScalarOp.TheVariants as op
+use Rattle.vtl_tree.specs.Value.{called, is_choice}
+use Rattle.vtl_tree.specs.View.{comp_exp_of, comp_exps_of}
+use Rattle.vtl_tree.specs.declared.expression.CompExpr.{CompExpr}
+use Rattle.vtl_expr.proofs.Values.{after_value, no_choice}
+use Rattle.vtl_group.specs.Points.{Group, value_in, values_in}
+
+-- ---- calls that are a choice, and calls that are none
+two_of : {B : Type 0} (m n : Outcome Cell) (f : List Cell → Outcome B) → after (all_of (m ∷ n ∷ [])) f ≡ after m (λ x. after n (λ y. f (x ∷ y ∷ [])))
+two_of (Ok x) (Ok y) f = refl
+two_of (Ok x) (Err e) f = refl
+two_of (Err e) n f = refl
+
+three_of : {B : Type 0} (m n o : Outcome Cell) (f : List Cell → Outcome B) → after (all_of (m ∷ n ∷ o ∷ [])) f ≡ after m (λ x. after n (λ y. after o (λ z. f (x ∷ y ∷ z ∷ []))))
+three_of (Ok x) (Ok y) (Ok z) f = refl
+three_of (Ok x) (Ok y) (Err e) f = refl
+three_of (Ok x) (Err e) o f = refl
+three_of (Err e) n o f = refl
+
+other_number : (o : ScalarOp) (n : ℕ) → (n == 3) ≡ false → is_choice o n ≡ false
+other_number op.If n h = h
+other_number other n h = refl
+
+module _ (p : Settings) (g : Group) where
+  abbrev pub of_item : CompExpr → Outcome Cell
+  of_item x = value_in p g (comp_exp_of x)
+
+  abbrev pub of_items : List CompExpr → List (Outcome Cell)
+  of_items args = values_in p g (comp_exps_of (map comp_exp_of args))
+
+  pub no_operands_chosen : (kind : Kind) (o : ScalarOp) (args : List CompExpr) → ¬ (length args ≡ 3) → called p kind (of_items args) o ≡ after (all_of (of_items args)) (result_of p o kind)
+  no_operands_chosen kind o args h = no_choice p kind o (of_items args) (other_number o (length (of_items args)) (ap (λ n. n == 3) (as_many args) ∙ not_three (length args == 3) refl))
+    where
+      not_three : (b : Bool) → (length args == 3) ≡ b → (length args == 3) ≡ false
+      not_three true e = absurd (h (eqb-true (length args) 3 e))
+      not_three false e = e
+
+      as_many : (xs : List CompExpr) → length (of_items xs) ≡ length xs
+      as_many [] = refl
+      as_many (x ∷ xs) = ap suc (as_many xs)
+
+  pub two_value : (kind : Kind) (o : ScalarOp) (args : List CompExpr) → length args ≡ 2 → (x : CompExpr) → x ≡ get_or args 0 x → (y : CompExpr) → y ≡ get_or args 1 y → called p kind (of_items args) o ≡ after (of_item x) (λ v. after (of_item y) (λ w. result_of p o kind (v ∷ w ∷ [])))
+  two_value kind o [] h x at y at_y = absurd (omega (arith, h))
+  two_value kind o (a ∷ []) h x at y at_y = absurd (omega (arith, h))
+  two_value kind o (a ∷ b ∷ c ∷ more) h x at y at_y = absurd (omega (arith, h))
+  two_value kind o (a ∷ b ∷ []) h x at y at_y =
+      no_choice p kind o (of_item a ∷ of_item b ∷ []) (other_number o 2 refl) ∙ two_of (of_item a) (of_item b) (result_of p o kind)
+      ∙ ap (λ t. after (of_item t) (λ v. after (of_item b) (λ w. result_of p o kind (v ∷ w ∷ [])))) (sym at)
+      ∙ ap (λ t. after (of_item x) (λ v. after (of_item t) (λ w. result_of p o kind (v ∷ w ∷ [])))) (sym at_y)
+
+  pub three_value : (kind : Kind) (o : ScalarOp) (args : List CompExpr) → length args ≡ 3 → is_choice o 3 ≡ false → (x : CompExpr) → x ≡ get_or args 0 x → (y : CompExpr) → y ≡ get_or args 1 y → (z : CompExpr) → z ≡ get_or args 2 z
+      → called p kind (of_items args) o ≡ after (of_item x) (λ v. after (of_item y) (λ w. after (of_item z) (λ u. result_of p o kind (v ∷ w ∷ u ∷ []))))
+  three_value kind o [] h none x at y at_y z at_z = absurd (omega (arith, h))
+  three_value kind o (a ∷ []) h none x at y at_y z at_z = absurd (omega (arith, h))
+  three_value kind o (a ∷ b ∷ []) h none x at y at_y z at_z = absurd (omega (arith, h))
+  three_value kind o (a ∷ b ∷ c ∷ d ∷ more) h none x at y at_y z at_z = absurd (omega (arith, h))
+  three_value kind o (a ∷ b ∷ c ∷ []) h none x at y at_y z at_z =
+      no_choice p kind o (of_item a ∷ of_item b ∷ of_item c ∷ []) none ∙ three_of (of_item a) (of_item b) (of_item c) (result_of p o kind)
+      ∙ ap (λ t. after (of_item t) (λ v. after (of_item b) (λ w. after (of_item c) (λ u. result_of p o kind (v ∷ w ∷ u ∷ []))))) (sym at)
+      ∙ ap (λ t. after (of_item x) (λ v. after (of_item t) (λ w. after (of_item c) (λ u. result_of p o kind (v ∷ w ∷ u ∷ []))))) (sym at_y)
+      ∙ ap (λ t. after (of_item x) (λ v. after (of_item y) (λ w. after (of_item t) (λ u. result_of p o kind (v ∷ w ∷ u ∷ []))))) (sym at_z)
+
+  -- ---- a choice
+  abbrev chosen : Kind → Outcome Cell → Outcome Cell → Cell → Outcome Cell
+  chosen kind a b t = after (branch (first_chosen t) a b) (as_kind p kind)
+
+  three_items : (kind : Kind) (o : ScalarOp) (args : List CompExpr) → length args ≡ 3 → is_choice o 3 ≡ true → (x y z : CompExpr) → called p kind (of_items args) o ≡ after (of_item (get_or args 0 x)) (chosen kind (of_item (get_or args 1 y)) (of_item (get_or args 2 z)))
+  three_items kind op.If (a ∷ b ∷ c ∷ []) h i x y z = refl
+  three_items kind op.If [] h i x y z = absurd (omega (arith, h))
+  three_items kind op.If (a ∷ []) h i x y z = absurd (omega (arith, h))
+  three_items kind op.If (a ∷ b ∷ []) h i x y z = absurd (omega (arith, h))
+  three_items kind op.If (a ∷ b ∷ c ∷ d ∷ more) h i x y z = absurd (omega (arith, h))
+  three_items kind o args h i x y z = cc
+
+  module _ (kind : Kind) (o : ScalarOp) (args : List CompExpr) (h : length args ≡ 3) (i : is_choice o 3 ≡ true) (x : CompExpr) (at : x ≡ get_or args 0 x) where
+    choice_is : (y z : CompExpr) → called p kind (of_items args) o ≡ after (of_item x) (chosen kind (of_item (get_or args 1 y)) (of_item (get_or args 2 z)))
+    choice_is y z = three_items kind o args h i x y z ∙ ap (λ t. after (of_item t) (chosen kind (of_item (get_or args 1 y)) (of_item (get_or args 2 z)))) (sym at)
+
+    module _ (t : Cell) (e : of_item x ≡ Ok t) where
+      pub choice_value : (b : Option Bool) → b ≡ first_chosen t → (y z : CompExpr) → called p kind (of_items args) o ≡ after (branch b (of_item (get_or args 1 y)) (of_item (get_or args 2 z))) (as_kind p kind)
+      choice_value b is y z =
+          choice_is y z ∙ after_value (of_item x) (chosen kind (of_item (get_or args 1 y)) (of_item (get_or args 2 z))) t e
+          ∙ ap (λ d. after (branch d (of_item (get_or args 1 y)) (of_item (get_or args 2 z))) (as_kind p kind)) (sym is)
+
+      pub choice_first : Some true ≡ first_chosen t → (y : CompExpr) → y ≡ get_or args 1 y → called p kind (of_items args) o ≡ after (of_item y) (as_kind p kind)
+      choice_first is y at_y = choice_value (Some true) is y y ∙ ap (λ w. after (of_item w) (as_kind p kind)) (sym at_y)
+
+  -- ---- all operands, one after the other: what comes of those that are left, behind the values of others
+  abbrev pub rest : List CompExpr → List Cell → Outcome (List Cell)
+  rest args done = after (all_of (of_items args)) (λ vs. Ok (done ++ vs))
