@@ -12,7 +12,7 @@ pub use Rattle.vtl_to_sql.proofs.Scripts
 pub use Rattle.vtl_to_sql.proofs.Sets
 pub use Rattle.vtl_to_sql.proofs.SetsFolds
 pub use Rattle.vtl_to_sql.proofs.Sound
-pub use Rattle.vtl_to_sql.proofs.Steps
+pub use Rattle.vtl_to_sql.proofs.Steps as TypingSteps
 pub use Rattle.vtl_to_sql.proofs.TypedScripts
 pub use Rattle.vtl_to_sql.proofs.WholeScript
 pub mod NoWindows

@@ -28,7 +28,7 @@ use Rattle.sql_back.proofs.Places.{all_append, all_of_map}
 use Rattle.sql_back.proofs.Scripts.{at-then, structures-shaped}
 use Rattle.sql_back.proofs.Sets.{dataset-gives}
 use Rattle.sql_back.proofs.Sound.{sound}
-use Rattle.sql_back.proofs.Steps.{after, tested, then}
+use Rattle.sql_back.proofs.TypingSteps.{after, tested, then}
 use Rattle.vtl_interp.specs.Statements.{is_written, with_nodes}
 use Rattle.sql_back.specs.Scripts.{written_of}
 use Rattle.sql_back.proofs.WholeScript.{written_are}
