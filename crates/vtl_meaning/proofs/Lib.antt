@@ -1,4 +1,9 @@
 pub use Rattle.check_joins.proofs.Twins
+pub use Rattle.vtl_aggregates.proofs.GroupKinds
+pub use Rattle.vtl_aggregates.proofs.GroupLooks
+pub use Rattle.vtl_aggregates.proofs.GroupOrders
+pub use Rattle.vtl_aggregates.proofs.GroupPoints
+pub use Rattle.vtl_aggregates.proofs.Shaped
 pub mod Agreements
 mod Determined
 pub mod Drawn

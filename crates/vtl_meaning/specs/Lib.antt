@@ -23,6 +23,11 @@ pub use Rattle.check_values.specs.names
 pub use Rattle.check_values.specs.operands
 pub use Rattle.check_values.specs.renaming
 pub use Rattle.check_values.specs.targets
+pub use Rattle.vtl_aggregates.specs.AggregateKinds
+pub use Rattle.vtl_aggregates.specs.Aggregates as AggregatePoints
+pub use Rattle.vtl_aggregates.specs.Expressions as GroupExpressions
+pub use Rattle.vtl_aggregates.specs.Groups
+pub use Rattle.vtl_aggregates.specs.Shapes as AggregateShapes
 pub use Rattle.vtl_nodes.specs.Nodes
 pub use Rattle.vtl_nodes.specs.Trees
 pub use Rattle.vtl_nodes.specs.View

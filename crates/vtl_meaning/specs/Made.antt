@@ -2,12 +2,15 @@
 use Rattle.std.specs.Prelude.{◌≡◌, ℕ, zero, suc, true, false, ◌||◌, cond, List, [], ◌∷◌, ◌++◌, length, map, Some, None, slice_get}
 use Rattle.std.specs.List.{AllByRecursion, flat_map, list_any}
 use Rattle.std.specs.Map.{lookup}
+use Rattle.std.specs.Option.{IfSome}
 use Rattle.vtl_cell.specs.Settings.{Settings}
 use Rattle.vtl_cell.specs.Apart.{all_apart}
 use Rattle.vtl_cell.specs.Profile.{IsOfProfile}
 use Rattle.vtl_cell.specs.ScalarKinds.{kinds_of, meets}
 use Rattle.vtl_cell.specs.declared.kind.Kind.{Kind}
 use Rattle.vtl_cell.specs.declared.kind.Kind.TheVariants as k
+use Rattle.vtl_cell.specs.declared.operator.AggKind.{AggKind}
+use Rattle.vtl_cell.specs.declared.operator.AggKind.TheVariants as agg
 use Rattle.vtl_cell.specs.declared.operator.ScalarOp.{ScalarOp}
 use Rattle.vtl_cell.specs.Kinds.{is_of}
 use Rattle.vtl_tree.specs.CompExp.{CompExp, CompExps, column, const, call, aggregate, no_comp_exps, comp_exp}
@@ -15,11 +18,12 @@ use Rattle.vtl_syntax.specs.declared.word_groups.JoinKind.{JoinKind}
 use Rattle.vtl_syntax.specs.declared.word_groups.JoinKind.TheVariants as join
 use Rattle.vtl_tree.specs.Structure.{IsStructure, columns_of, names_of, of_role, same_name}
 use Rattle.vtl_tree.specs.Structures.{Named}
+use Rattle.vtl_tree.specs.declared.expression.AggCall.{AggCall}
 use Rattle.vtl_tree.specs.declared.structure.Component.{Component}
 use Rattle.vtl_tree.specs.declared.structure.Role.TheVariants as role
 use Rattle.vtl_tree.specs.declared.structure.Structure.{Structure}
 use Rattle.vtl_nodes.specs.Trees as nodes
-use Rattle.vtl_nodes.specs.Trees.{FormTree, ItemTree, MaybeNode, MeasureTree, NodeTree, NodeTrees, OperandTrees, structure_of}
+use Rattle.vtl_nodes.specs.Trees.{AggTree, FormTree, ItemTree, MaybeNode, MeasureTree, NodeTree, NodeTrees, OperandTrees, structure_of}
 use Rattle.vtl_nodes.specs.declared.clauses.SubItem.{SubItem}
 use Rattle.check_joins.specs.Joins as joins
 use Rattle.check_joins.specs.declared.joins.Operand.{Operand}
@@ -32,6 +36,8 @@ use Rattle.check_values.specs.choices.Choice.TheVariants as choice
 use Rattle.check_values.specs.names.Wanted.TheVariants as wanted
 use Rattle.check_values.specs.operands.Compared.TheVariants as compared
 use Rattle.check_values.specs.Kinds.{exp_kind}
+use Rattle.vtl_aggregates.specs.AggregateKinds.{aggregate_kind}
+use Rattle.vtl_aggregates.specs.Shapes.{IsAggregated}
 use Rattle.vtl_meaning.specs.Agreement.{common_identifiers}
 use Rattle.check_values.specs.ShapesColumns.{identifiers_of, kind_named, measures_of, others_of, place_of}
 use Rattle.vtl_meaning.specs.Joined.{reference_place}
@@ -65,6 +71,32 @@ abbrev mutual
   pub AreTyped : Settings → List Component → CompExps → Type 0
   AreTyped p xs no_comp_exps = Unit {0}
   AreTyped p xs (comp_exp e es) = IsTyped p xs e × AreTyped p xs es
+
+-- ---- expressions over groups
+-- Typed, where these columns and these aggregates may stand. An aggregate is an operand like another.
+abbrev mutual
+  pub IsTypedOver : Settings → (columns : ℕ → List ℕ → Kind → Type 0) → (aggregates : AggCall → Kind → Type 0) → CompExp → Type 0
+  IsTypedOver p columns aggregates (column place name kind) = columns place name kind
+  IsTypedOver p columns aggregates (const v) = IsOfProfile p v
+  IsTypedOver p columns aggregates (call o kind args) = (kinds_of o (kinds_in args) ≡ Some kind) × AreTypedOver p columns aggregates args × HasLiterals o args
+  IsTypedOver p columns aggregates (aggregate a kind) = aggregates a kind
+
+  pub AreTypedOver : Settings → (columns : ℕ → List ℕ → Kind → Type 0) → (aggregates : AggCall → Kind → Type 0) → CompExps → Type 0
+  AreTypedOver p columns aggregates no_comp_exps = Unit {0}
+  AreTypedOver p columns aggregates (comp_exp e es) = IsTypedOver p columns aggregates e × AreTypedOver p columns aggregates es
+
+-- a grouping identifier among the components of the points
+abbrev pub IsGroupedColumn : (names : List (List ℕ)) → List Component → ℕ → List ℕ → Kind → Type 0
+IsGroupedColumn names xs place name kind = IsColumnAt place name kind xs × (list_any (same_name name) names ≡ true)
+
+-- an aggregate of the values of a component, or how many points there are
+abbrev pub Aggregates : List Component → AggKind → Option (List ℕ) → Kind → Type 0
+Aggregates xs f None kind = (f ≡ agg.Count) × (kind ≡ k.Int)
+Aggregates xs f (Some name) kind = IsColumnAt (place_of name xs) name (kind_named name xs) xs × (aggregate_kind f (kind_named name xs) ≡ Some kind)
+
+-- typed over groups by these identifiers of points with these columns
+abbrev pub IsTypedInGroups : Settings → (names : List (List ℕ)) → List Component → CompExp → Type 0
+IsTypedInGroups p names xs e = IsTypedOver p (IsGroupedColumn names xs) (λ a kind. Aggregates xs a.kind a.component kind) e
 
 -- as many expressions as columns, each typed over the columns that it sees and of the kind of the one that it makes
 abbrev pub AreFor : Settings → List Component → List CompExp → List Component → Type 0
@@ -127,6 +159,14 @@ pub record IsCalculated (p : Settings) (items : List ItemTree) (a s : Structure)
   pub columns : AreFor p (columns_of a) (calculated_exps items a s) (columns_of s)
   pub apart : all_apart same_name (map (λ i. i.target) items) ≡ true
   pub shape : s.components ≡ calculated_components (map target_of items) a.components
+
+-- `having`, where it is written, is a condition on groups
+abbrev pub IsGroupCondition : Settings → AggTree → Structure → CompExp → Type 0
+IsGroupCondition p spec a e = IsTypedInGroups p spec.grouping (columns_of a) e × (meets k.Bool (exp_kind e) ≡ true)
+
+pub record IsGrouped (p : Settings) (spec : AggTree) (a s : Structure) : Type 0 where
+  pub aggregated : IsAggregated spec a s
+  pub condition : IfSome spec.having (IsGroupCondition p spec a)
 
 -- Some of the columns, with all identifiers: `keep`, `drop`, `a#m`. Which ones, `IsChosen` says.
 pub record IsLeft (a s : Structure) : Type 0 where
@@ -253,7 +293,7 @@ abbrev mutual
   IsMadeForm p known s (nodes.set_diff a b) = IsMade p known a × IsMade p known b × IsCombined (structure_of a) (structure_of b ∷ []) s
   IsMadeForm p known s (nodes.sym_diff a b) = IsMade p known a × IsMade p known b × IsCombined (structure_of a) (structure_of b ∷ []) s
   IsMadeForm p known s (nodes.exists_in a b r) = IsMade p known a × IsMade p known b × IsExistence (structure_of a) (structure_of b) s
-  IsMadeForm p known s (nodes.aggregate a spec) = IsMade p known a
+  IsMadeForm p known s (nodes.aggregate a spec) = IsMade p known a × IsGrouped p spec (structure_of a) s
   IsMadeForm p known s (nodes.analytic_of a spec) = IsMade p known a × AreNear spec
   IsMadeForm p known s (nodes.check a i spec) = IsMade p known a × IsMadeMaybe p known i
   IsMadeForm p known s (nodes.check_datapoint a rules out) = IsMade p known a
