@@ -3,6 +3,10 @@ pub use Rattle.vtl_check.proofs.LeftLemmas
 pub use Rattle.vtl_check.proofs.NameLemmas
 pub use Rattle.vtl_meaning.proofs.Agreements
 pub use Rattle.vtl_meaning.proofs.Drawn
+pub use Rattle.vtl_meaning.proofs.GroupKinds
+pub use Rattle.vtl_meaning.proofs.GroupLooks
+pub use Rattle.vtl_meaning.proofs.GroupOrders
+pub use Rattle.vtl_meaning.proofs.GroupPoints
 pub use Rattle.vtl_meaning.proofs.JoinAgreements
 pub use Rattle.vtl_meaning.proofs.JoinKept
 pub use Rattle.vtl_meaning.proofs.JoinOrders

@@ -17,7 +17,12 @@ pub use Rattle.vtl_check.specs.Windowed
 pub use Rattle.vtl_check.specs.calls as check_calls
 pub use Rattle.vtl_check.specs.places
 pub use Rattle.vtl_check.specs.targets
+pub use Rattle.vtl_meaning.specs.AggregateKinds
+pub use Rattle.vtl_meaning.specs.AggregatePoints
+pub use Rattle.vtl_meaning.specs.AggregateShapes
 pub use Rattle.vtl_meaning.specs.Agreement
+pub use Rattle.vtl_meaning.specs.GroupExpressions
+pub use Rattle.vtl_meaning.specs.Groups
 pub use Rattle.vtl_meaning.specs.Columns
 pub use Rattle.vtl_meaning.specs.Groupings
 pub use Rattle.vtl_meaning.specs.Joined

@@ -12,14 +12,13 @@ use Rattle.vtl_tree.specs.CompExp.{CompExp, CompExps, no_comp_exps, comp_exp}
 use Rattle.vtl_tree.specs.declared.expression.AggCall.{AggCall}
 use Rattle.vtl_backend.specs.Kinds.{exp_kind}
 use Rattle.vtl_backend.specs.Literals.{HasLiterals}
-use Rattle.vtl_backend.specs.Made.{kinds_in as comp_kinds}
+use Rattle.vtl_backend.specs.Made.{AreTypedOver, IsTypedOver, kinds_in as comp_kinds}
 use Rattle.sql_tree.specs.Trees as tree
 use Rattle.sql_tree.specs.Trees.{Exp, Exps, Text}
 use Rattle.sql_meaning.specs.Fits.{AllFit, Fits, IsSeen}
 use Rattle.sql_check_parts.specs.Expressions.{Site}
 use Rattle.sql_check_parts.specs.Kinds.{kind_in, kinds_in, operator_kind}
 use Rattle.sql_check_parts.specs.Scopes.{Grouping, Scope, found}
-use Rattle.rules_to_sql.specs.Groups.{AreTypedOver, IsTypedOver}
 use Rattle.rules_to_sql.specs.Held.{AllHoldValues, HoldsValues}
 use Rattle.rules_to_sql.specs.ToSql.{Naming, aggregate_to_sql, all_to_sql, members_behind, members_to_sql, to_sql}
 use Rattle.rules_to_sql.proofs.KeptKinds.{KindsStay, first_stays, kinds_stay, rest_stay}

@@ -9,7 +9,7 @@ use Rattle.vtl_tree.specs.declared.expression.AggCall.{AggCall}
 use Rattle.vtl_backend.specs.Literals.{HasLiterals}
 use Rattle.sql_tree.specs.Formed.{EachFormed, Formed, IsColumn}
 use Rattle.sql_tree.specs.Trees.{Text}
-use Rattle.rules_to_sql.specs.Groups.{AreTypedOver, IsTypedOver}
+use Rattle.vtl_backend.specs.Made.{AreTypedOver, IsTypedOver}
 use Rattle.rules_to_sql.specs.Held.{AllHoldValues, HoldsValues}
 use Rattle.rules_to_sql.specs.ToSql.{Naming, aggregate_to_sql, all_to_sql, members_behind, to_sql}
 use Rattle.rules_to_sql.proofs.FormedConstants.{const_formed}

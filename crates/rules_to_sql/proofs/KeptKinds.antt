@@ -10,11 +10,10 @@ use Rattle.vtl_tree.specs.CompExp as comp
 use Rattle.vtl_tree.specs.CompExp.{CompExp, CompExps, no_comp_exps, comp_exp}
 use Rattle.vtl_tree.specs.declared.expression.AggCall.{AggCall}
 use Rattle.vtl_backend.specs.Kinds.{exp_kind}
-use Rattle.vtl_backend.specs.Made.{kinds_in as comp_kinds}
+use Rattle.vtl_backend.specs.Made.{AreTypedOver, IsTypedOver, kinds_in as comp_kinds}
 use Rattle.sql_tree.specs.Trees.{Text}
 use Rattle.sql_check_parts.specs.Kinds.{kind_in, kinds_in, operator_kind}
 use Rattle.sql_check_parts.specs.Scopes.{Scope, found, or_null}
-use Rattle.rules_to_sql.specs.Groups.{AreTypedOver, IsTypedOver}
 use Rattle.rules_to_sql.specs.ToSql.{Naming, aggregate_to_sql, all_to_sql, members_behind, to_sql}
 use Rattle.rules_to_sql.proofs.TypedCalls.{Form, before, between, called, chosen, form_of, listed, long, one, short, tested, two, unlisted}
 use Rattle.rules_to_sql.proofs.WrittenConstants.{const_kind}

@@ -6,6 +6,10 @@ pub use Rattle.vtl_backend.proofs.DepthBounds
 pub use Rattle.vtl_backend.proofs.DepthScripts
 pub use Rattle.vtl_backend.proofs.Drawn
 pub use Rattle.vtl_backend.proofs.Inner
+pub use Rattle.vtl_backend.proofs.GroupKinds
+pub use Rattle.vtl_backend.proofs.GroupLooks
+pub use Rattle.vtl_backend.proofs.GroupOrders
+pub use Rattle.vtl_backend.proofs.GroupPoints
 pub use Rattle.vtl_backend.proofs.JoinAgreements
 pub use Rattle.vtl_backend.proofs.JoinKept
 pub use Rattle.vtl_backend.proofs.JoinOrders

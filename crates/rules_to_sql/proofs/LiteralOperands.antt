@@ -14,7 +14,7 @@ use Rattle.vtl_backend.specs.Literals as vtl
 use Rattle.vtl_backend.specs.Literals.{HasLiterals, is_integer}
 use Rattle.sql_tree.specs.Trees.{Text}
 use Rattle.sql_check_parts.specs.Literals.{are_digits, integer_in, is_size, literals_fit}
-use Rattle.rules_to_sql.specs.Groups.{AreTypedOver, IsTypedOver}
+use Rattle.vtl_backend.specs.Made.{AreTypedOver, IsTypedOver}
 use Rattle.rules_to_sql.specs.ToSql.{Naming, all_to_sql, to_sql}
 use Rattle.rules_to_sql.proofs.WrittenConstants.{integer_there}
 

@@ -30,7 +30,8 @@ use Rattle.sql_check_parts.proofs.Grouped.{is_column_among, is_in_group}
 use Rattle.sql_meaning.specs.Outcomes.{all_values}
 use Rattle.sql_meaning.specs.Tables.{Base}
 use Rattle.sql_meaning.specs.Values.{at_groups, place_in, same_column, value}
-use Rattle.rules_to_sql.specs.Groups.{Aggregates, IsGroupedColumn, IsTypedInGroups, aggregated, group_value}
+use Rattle.vtl_backend.specs.Made.{Aggregates, IsGroupedColumn, IsTypedInGroups}
+use Rattle.vtl_backend.specs.GroupExpressions.{aggregated, value_at_group}
 use Rattle.rules_to_sql.specs.Held.{HoldsValues}
 use Rattle.rules_to_sql.specs.Names.{AreNamesFormed, Names}
 use Rattle.rules_to_sql.specs.ToSql.{aggregate_to_sql, group_columns, of_source, to_sql}
@@ -117,7 +118,7 @@ module _ (alias : Text) (names : List Text) (xs : List Component) where
     group_kind p e i = kind_stays p (of_source alias) scope (IsGroupedColumn names xs) called known (λ a kind h. aggregate_kind_is a.kind a.component kind h) e i
 
     pub group_value_is : (b : Base) (key : Row) (g : List Row) → b.settings.scale ≤ 9 → (e : CompExp) → IsTypedInGroups b.settings names xs e → HoldsValues e
-        → value (at_groups b scope (group_columns alias names)) (to_sql b.settings (of_source alias) e) key g ≡ group_value b.settings names xs e key g
+        → value (at_groups b scope (group_columns alias names)) (to_sql b.settings (of_source alias) e) key g ≡ value_at_group b.settings names xs e key g
     group_value_is b key g low e i w =
         value_stays (at_groups b scope (group_columns alias names)) key g (of_source alias) (cells_at key) (at_points b.settings g) low (IsGroupedColumn names xs) called
         known (λ a kind h. aggregate_kind_is a.kind a.component kind h)

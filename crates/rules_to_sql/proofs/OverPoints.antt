@@ -12,7 +12,7 @@ use Rattle.vtl_tree.specs.Value as points
 use Rattle.vtl_tree.specs.declared.expression.AggCall.{AggCall}
 use Rattle.vtl_tree.specs.declared.structure.Component.{Component}
 use Rattle.vtl_backend.specs.Kinds.{exp_kind}
-use Rattle.vtl_backend.specs.Made.{AreTyped, IsColumnAt, IsTyped}
+use Rattle.vtl_backend.specs.Made.{AreTyped, AreTypedOver, IsColumnAt, IsTyped, IsTypedOver}
 use Rattle.sql_tree.specs.Formed.{Formed}
 use Rattle.sql_tree.specs.Trees.{Text}
 use Rattle.sql_meaning.specs.Fits.{Fits}
@@ -21,7 +21,7 @@ use Rattle.sql_check_parts.specs.Kinds.{kind_in}
 use Rattle.sql_check_parts.specs.Scopes.{Scope, Tables}
 use Rattle.sql_meaning.specs.Tables.{Base}
 use Rattle.sql_meaning.specs.Values.{at_rows, value}
-use Rattle.rules_to_sql.specs.Groups.{AreTypedOver, IsTypedOver, value_over, values_over}
+use Rattle.vtl_backend.specs.GroupExpressions.{value_over, values_over}
 use Rattle.rules_to_sql.specs.Held.{HoldsValues}
 use Rattle.rules_to_sql.specs.Names.{AreNamesFormed, Names}
 use Rattle.rules_to_sql.specs.ToSql.{Naming, to_sql}

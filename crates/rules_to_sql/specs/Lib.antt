@@ -16,6 +16,9 @@ pub use Rattle.sql_meaning.specs.Tables
 pub use Rattle.sql_meaning.specs.TypedSelects as TypedSelects
 pub use Rattle.sql_meaning.specs.Values
 pub use Rattle.sql_meaning.specs.Windows
+pub use Rattle.vtl_backend.specs.AggregateKinds
+pub use Rattle.vtl_backend.specs.AggregatePoints
+pub use Rattle.vtl_backend.specs.AggregateShapes
 pub use Rattle.vtl_backend.specs.Aggregates
 pub use Rattle.vtl_backend.specs.Agreement
 pub use Rattle.vtl_backend.specs.CheckOperators
@@ -29,6 +32,8 @@ pub use Rattle.vtl_backend.specs.Gives
 pub use Rattle.vtl_backend.specs.Groupings
 pub use Rattle.vtl_backend.specs.Inputs as BackendInputs
 pub use Rattle.vtl_backend.specs.JoinOperands
+pub use Rattle.vtl_backend.specs.GroupExpressions
+pub use Rattle.vtl_backend.specs.Groups
 pub use Rattle.vtl_backend.specs.Joined
 pub use Rattle.vtl_backend.specs.Joins
 pub use Rattle.vtl_backend.specs.Kinds as LawsKinds
@@ -75,6 +80,5 @@ pub mod Constants
 pub mod ToSql
 pub mod Names
 pub mod Held
-pub mod Groups
 pub mod Aliases
 pub mod CallForms

@@ -7,7 +7,7 @@ ghost use Rattle.vtl_tree.specs.Value as points;
 ghost use Rattle.vtl_tree.specs.declared.structure.Component.{Component};
 ghost use Rattle.vtl_backend.specs.Depths.{comp_depth};
 ghost use Rattle.vtl_backend.specs.Kinds.{exp_kind};
-ghost use Rattle.vtl_backend.specs.Made.{IsTyped};
+ghost use Rattle.vtl_backend.specs.Made.{IsTyped, IsTypedInGroups};
 ghost use Rattle.sql_tree.specs.Formed.{Formed, exp_depth};
 ghost use Rattle.sql_tree.specs.Trees.{Text};
 ghost use Rattle.sql_meaning.specs.Fits.{Fits};
@@ -16,7 +16,7 @@ ghost use Rattle.sql_check_parts.specs.Kinds.{kind_in};
 ghost use Rattle.sql_check_parts.specs.Scopes.{Scope, Tables, grouping_of};
 ghost use Rattle.sql_meaning.specs.Tables.{Base};
 ghost use Rattle.sql_meaning.specs.Values.{at_groups, at_rows, value};
-ghost use Rattle.rules_to_sql.specs.Groups.{IsTypedInGroups, group_value};
+ghost use Rattle.vtl_backend.specs.GroupExpressions.{value_at_group};
 ghost use Rattle.rules_to_sql.specs.Held.{HoldsValues};
 ghost use Rattle.rules_to_sql.specs.Names.{AreNamesFormed, Names};
 ghost use Rattle.rules_to_sql.specs.ToSql.{Naming, group_columns, of_source, to_sql};
@@ -35,7 +35,7 @@ pub fn values_stay()
     ensures points { (b : Base) (at : Naming) (scope : Scope) (xs : List Component) (r : Row) (g : List Row) → b.settings.scale ≤ 9 → Names at scope xs → (e : CompExp) → IsTyped b.settings xs e → HoldsValues e
         → value (at_rows b scope) (to_sql b.settings at e) r g ≡ points.value b.settings e r }
     ensures groups { (b : Base) (alias : Text) (scope : Scope) (names : List Text) (xs : List Component) (key : Row) (g : List Row) → b.settings.scale ≤ 9 → Names (of_source alias) scope xs → (e : CompExp) → IsTypedInGroups b.settings names xs e → HoldsValues e
-        → value (at_groups b scope (group_columns alias names)) (to_sql b.settings (of_source alias) e) key g ≡ group_value b.settings names xs e key g }
+        → value (at_groups b scope (group_columns alias names)) (to_sql b.settings (of_source alias) e) key g ≡ value_at_group b.settings names xs e key g }
 {}
 
 /// An expression fits in SQL where it stands: it breaks no rule.

@@ -5,6 +5,10 @@ pub use Rattle.check_laws.proofs.DepthBounds
 pub use Rattle.check_laws.proofs.DepthScripts
 pub use Rattle.check_laws.proofs.Drawn
 pub use Rattle.check_laws.proofs.Inner
+pub use Rattle.check_laws.proofs.GroupKinds
+pub use Rattle.check_laws.proofs.GroupLooks
+pub use Rattle.check_laws.proofs.GroupOrders
+pub use Rattle.check_laws.proofs.GroupPoints
 pub use Rattle.check_laws.proofs.JoinAgreements
 pub use Rattle.check_laws.proofs.JoinKept
 pub use Rattle.check_laws.proofs.JoinOrders

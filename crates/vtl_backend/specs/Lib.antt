@@ -1,3 +1,6 @@
+pub use Rattle.check_laws.specs.AggregateKinds
+pub use Rattle.check_laws.specs.AggregatePoints
+pub use Rattle.check_laws.specs.AggregateShapes
 pub use Rattle.check_laws.specs.Aggregates
 pub use Rattle.check_laws.specs.Agreement
 pub use Rattle.check_laws.specs.CheckOperators
@@ -9,6 +12,8 @@ pub use Rattle.check_laws.specs.Count
 pub use Rattle.check_laws.specs.Depths
 pub use Rattle.check_laws.specs.Gives
 pub use Rattle.check_laws.specs.Groupings
+pub use Rattle.check_laws.specs.GroupExpressions
+pub use Rattle.check_laws.specs.Groups
 pub use Rattle.check_laws.specs.JoinOperands
 pub use Rattle.check_laws.specs.Joined
 pub use Rattle.check_laws.specs.Joins

@@ -2,6 +2,7 @@
 -- values that a program holds, and their tables can be numbered.
 use Rattle.std.specs.Prelude.{◌+◌, ◌<◌, ◌^◌, Bool, true, false, ◌&&◌, List, length}
 use Rattle.std.specs.List.{AllByRecursion, list_all}
+use Rattle.std.specs.Option.{IfSome}
 use Rattle.vtl_cell.specs.Held.{IsHeld}
 use Rattle.vtl_cell.specs.Settings.{Settings}
 use Rattle.vtl_tree.specs.CompExp.{CompExp}
@@ -39,7 +40,7 @@ abbrev mutual
   is_form_translated (nodes.set_diff a b) = is_translated a && is_translated b
   is_form_translated (nodes.sym_diff a b) = is_translated a && is_translated b
   is_form_translated (nodes.exists_in a b r) = is_translated a && is_translated b
-  is_form_translated (nodes.aggregate a spec) = false
+  is_form_translated (nodes.aggregate a spec) = is_translated a
   is_form_translated (nodes.analytic_of a spec) = false
   is_form_translated (nodes.check a i spec) = false
   is_form_translated (nodes.check_datapoint a rules out) = false
@@ -79,6 +80,7 @@ abbrev mutual
   FormHoldsParts s (nodes.sub a items) = HoldsParts a × AllByRecursion (λ i. IsHeld i.value) items
   FormHoldsParts s (nodes.pivot a id m) = HoldsParts a
   FormHoldsParts s (nodes.unpivot a id m) = HoldsParts a
+  FormHoldsParts s (nodes.aggregate a spec) = HoldsParts a × IfSome spec.having HoldsValues
   FormHoldsParts s (nodes.join os spec) = OperandsHoldParts os × (1 + length (operands_in os) < 2 ^ 64)
   FormHoldsParts s (nodes.union ns) = NodesHoldParts ns
   FormHoldsParts s (nodes.intersect ns) = NodesHoldParts ns

@@ -25,6 +25,7 @@ pub use Rattle.rules_to_sql.specs.places
 pub mod Queries
 pub mod Joins
 pub mod Turned
+pub mod Grouped
 pub mod FullJoins
 pub mod Tables
 pub mod Scripts

@@ -17,6 +17,7 @@ use Rattle.sql_tree.specs.Trees.{Text, QueryTree}
 use Rattle.sql_tree.specs.declared.word_groups.JoinKind.TheVariants as joining
 use Rattle.rules_to_sql.specs.Scripts.{dollar}
 use Rattle.vtl_to_sql.specs.FullJoins.{full_query, key_structure, keys_query, once_query}
+use Rattle.vtl_to_sql.specs.Grouped.{aggregate_query}
 use Rattle.vtl_to_sql.specs.Joins.{cross_query, reference_query}
 use Rattle.vtl_to_sql.specs.Queries.{calc_query, choose_query, copy_query, difference_query, filter_query, intersection_query, left_query, measures_query, pair_query, rename_query, shown_query, sub_query, symmetric_difference_query, union_query, existence_query}
 use Rattle.vtl_to_sql.specs.Turned.{pivot_query, unpivot_query}
@@ -140,6 +141,7 @@ abbrev mutual
   made_of_form p r s (nodes.sym_diff a b) n = over (and_then (sources_of p r a n) (sources_of p r b)) (with_two (symmetric_difference_query p (structure_of a) (structure_of b) s))
   made_of_form p r s (nodes.exists_in a b kept) n = over (and_then (sources_of p r a n) (sources_of p r b)) (with_two (existence_query p kept (structure_of a) (structure_of b) s))
   made_of_form p r s (nodes.pivot a id m) n = over (sources_of p r a n) (with_one (pivot_query p id m (structure_of a) s))
+  made_of_form p r s (nodes.aggregate a spec) n = over (sources_of p r a n) (with_one (aggregate_query p spec (structure_of a) s))
   made_of_form p r s (nodes.unpivot a id m) n = over (sources_of p r a n) (with_one (unpivot_query p (structure_of a) s))
   -- the other forms have no meaning yet, and no script that is translated holds one
   made_of_form p r s other n = record { tables = []; query = []; next = n }
