@@ -13,7 +13,7 @@ use Rattle.vtl_cell.specs.declared.kind.Kind.{Kind}
 use Rattle.vtl_tree.specs.CompExp.{CompExp}
 use Rattle.vtl_tree.specs.declared.structure.Component.{Component}
 use Rattle.vtl_meaning.specs.Trees as nodes
-use Rattle.vtl_meaning.specs.Trees.{NodeTree, ValueTree}
+use Rattle.vtl_meaning.specs.Trees.{NodeTree, ValueTree, structure_of}
 use Rattle.vtl_meaning.specs.calls.AnalyticOp.{AnalyticOp}
 use Rattle.vtl_meaning.specs.calls.AnalyticOp.TheVariants as analytic
 use Rattle.vtl_meaning.specs.calls.Window.{Window}
@@ -31,21 +31,26 @@ use Rattle.vtl_check.specs.Aggregates.{aggregate_kind, aggregate_node, aggregate
 use Rattle.vtl_check.specs.Windowed as windowed
 use Rattle.vtl_check.specs.Windowed.{argument, call_of, call_tree, is_misplaced, is_unfit_over, or_count, over_dataset, over_form, over_node, over_parts, over_structure, over_typed, rank_call, suits, target_form, target_typed}
 use Rattle.vtl_check.specs.calls.Call.{Call}
-use Rattle.vtl_meaning.specs.Made.{IsMade, IsTyped}
+use Rattle.vtl_meaning.specs.Made.{IsGroupCondition, IsGrouped, IsMade, IsTyped}
 use Rattle.vtl_meaning.specs.Reaches.{IsNear}
 use Rattle.vtl_meaning.specs.Shapes.{IsShaped}
 use Rattle.check_laws.specs.Gives.{Gives}
 use Rattle.check_laws.specs.WellTyped.{IfUngrouped, IsWellTyped}
+use Rattle.check_laws.proofs.Aggregated.{aggregate-fits}
+use Rattle.check_laws.proofs.Inner.{made-shaped}
+use Rattle.check_laws.proofs.Operators.{IsMadeWith, made-gives}
 use Rattle.check_laws.proofs.Reaches.{AreNearParts, parts-near}
 use Rattle.check_laws.proofs.Sets.{shape-gives}
 use Rattle.check_laws.proofs.OtherForms.{measured-shaped}
 use Rattle.check_laws.proofs.Steps.{after, tested, then, weaker}
 
 -- ---- of a data set
-pub aggregate-gives : (env : Env) (at : Place) (f : AggregateName) (g : Option GroupPart) (a : NodeTree) (having : Option CompExp) → IsMade env.settings env.known a → Gives (IsWellTyped env at) (aggregate_node f g a having)
+pub aggregate-gives : (env : Env) (at : Place) (f : AggregateName) (g : Option GroupPart) (a : NodeTree) (having : Option CompExp) → IsMade env.settings env.known a → IfSome having (IsGroupCondition env.settings (aggregate_tree f g a having) (structure_of a)) → Gives (IsWellTyped env at) (aggregate_node f g a having)
 unfolding aggregate_node
-aggregate-gives env at f g a having is =
-    shape-gives env at (nodes.aggregate a (aggregate_tree f g a having)) (measured_form (outcome_of f) (of_measure f) true (grouping_choice g) (grouping_names g) (components_in a)) (measured-shaped (outcome_of f) (of_measure f) true (grouping_choice g) (grouping_names g) (components_in a)) (λ s shaped. (shaped, is))
+aggregate-gives env at f g a having is condition =
+    made-gives env at (nodes.aggregate a (aggregate_tree f g a having)) (measured_form (outcome_of f) (of_measure f) true (grouping_choice g) (grouping_names g) (components_in a))
+    (weaker (λ s. IsShaped s × IsGrouped env.settings (aggregate_tree f g a having) (structure_of a) s) (IsMadeWith env (nodes.aggregate a (aggregate_tree f g a having))) (measured_form (outcome_of f) (of_measure f) true (grouping_choice g) (grouping_names g) (components_in a)) (λ s h. (h.0, (is, h.1)))
+    (aggregate-fits env.settings f g (structure_of a) (aggregate_tree f g a having) (made-shaped env.settings env.known a is) refl refl condition))
 
 -- ---- values over groups
 -- some value

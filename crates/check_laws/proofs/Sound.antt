@@ -1,7 +1,9 @@
 -- What is typed is typed over the columns of its place, and its nodes are made.
-use Rattle.std.proofs.Common.{◌≡◌, Bool, true, ◌||◌, List, [], ◌∷◌, Option, Some, None, option_map, Result, Ok, Err, refl}
+use Rattle.std.proofs.Common.{◌≡◌, ℕ, Bool, true, not, ◌||◌, List, [], ◌∷◌, Option, Some, None, option_map, Result, Ok, Err, refl, subst}
 use Rattle.std.specs.List.{AllByRecursion}
 use Rattle.std.specs.Option.{IfSome, is_some}
+use Rattle.vtl_cell.specs.ScalarKinds.{meets}
+use Rattle.vtl_cell.specs.declared.kind.Kind.TheVariants as k
 use Rattle.vtl_cell.specs.declared.operator.ScalarOp.{ScalarOp}
 use Rattle.vtl_cell.specs.declared.operator.ScalarOp.TheVariants as op
 use Rattle.vtl_cell.specs.Results.{◌>>=◌}
@@ -9,6 +11,7 @@ use Rattle.check_faults.specs.declared.rules.Rule.{Rule}
 use Rattle.check_faults.specs.declared.rules.Rule.TheVariants as rule
 use Rattle.vtl_syntax.specs.Trees as tree
 use Rattle.vtl_syntax.specs.Trees.{Calcs, ClauseTree, Exp, Exps, MaybeExp, MaybeTargets, Parts, TargetsTree}
+use Rattle.vtl_syntax.specs.declared.parts.Comp.{Comp}
 use Rattle.vtl_syntax.specs.declared.parts.Comp.{Comp}
 use Rattle.vtl_syntax.specs.declared.parts.GroupPart.{GroupPart}
 use Rattle.vtl_syntax.specs.declared.parts.Keeping.{Keeping}
@@ -18,9 +21,10 @@ use Rattle.vtl_syntax.specs.declared.word_groups.BinaryOp.{BinaryOp}
 use Rattle.vtl_syntax.specs.declared.word_groups.BinaryOp.TheVariants as sign
 use Rattle.vtl_syntax.specs.declared.word_groups.UnaryOp.{UnaryOp}
 use Rattle.vtl_syntax.specs.declared.word_groups.UnaryOp.TheVariants as one_sign
-use Rattle.vtl_tree.specs.CompExp.{CompExps}
+use Rattle.vtl_syntax.specs.declared.word_groups.WrittenRole.{WrittenRole}
+use Rattle.vtl_tree.specs.CompExp.{CompExp, CompExps}
 use Rattle.vtl_meaning.specs.Trees as nodes
-use Rattle.vtl_meaning.specs.Trees.{ItemTree, NodeTree, OperandTree, ValueTree}
+use Rattle.vtl_meaning.specs.Trees.{ItemTree, NodeTree, OperandTree, ValueTree, structure_of}
 use Rattle.vtl_meaning.specs.Groupings.{grouping_of, grouping_typed}
 use Rattle.vtl_meaning.specs.ValuesOperators.{exps_length, of_binary, of_function, of_unary, takes}
 use Rattle.vtl_meaning.specs.ValuesLiterals.{literals_fit}
@@ -29,7 +33,8 @@ use Rattle.vtl_meaning.specs.ValuesColumns.{name_of}
 use Rattle.vtl_check.specs.Operators.{operator_form, set_form}
 use Rattle.vtl_check.specs.Places.{Env, Written, at_groups, at_points, columns_in, in_aggregate, member_inside, member_written}
 use Rattle.vtl_check.specs.Sets.{check_form, check_spec, difference_form, exists_form, member_of, sets_form}
-use Rattle.vtl_check.specs.Typed.{TypedTree, value, dataset, components_in, dataset_in}
+use Rattle.vtl_check.specs.Typed.{TypedTree, value, dataset, components_in, condition_in, dataset_in}
+use Rattle.vtl_check.specs.places.Inside.{Inside}
 use Rattle.vtl_check.specs.places.Joined.{Joined}
 use Rattle.vtl_check.specs.places.Place.{Place}
 use Rattle.vtl_check.specs.places.Place.TheVariants as place
@@ -37,12 +42,15 @@ use Rattle.vtl_check.specs.Aggregates.{aggregate_node, count_call, aggregate_val
 use Rattle.vtl_check.specs.Windowed.{over_typed, target_typed}
 use Rattle.vtl_check.specs.Clauses.{filter_form}
 use Rattle.vtl_check.specs.JoinOperands.{PartTyped, joined_node, joined_of, operands_in, with_part}
-use Rattle.vtl_check.specs.Targets.{aggr_clause, calc_clause, calc_name, item_names, with_item}
+use Rattle.vtl_check.specs.Targets.{aggr_clause, aggr_name, calc_clause, calc_name, item_names, with_item, with_made}
+use Rattle.vtl_check.specs.targets.Made.{Made}
 use Rattle.vtl_check.specs.Typing.{Having, aggrs_typed, as_dataset, behind, body_end, calc_value, calcs_typed, clause_typed, filter_step, filtered_join, grouped_of, has_exp, having_typed, join_end, keeping_step, last_step, maybe_typed, operands_typed, or_component, over_operand, own_groups, parts_typed, renaming_step, scalar_value, targets_step, targets_typed, typed}
 use Rattle.vtl_meaning.specs.Literals.{are_literals}
-use Rattle.vtl_meaning.specs.Made.{IsMade}
+use Rattle.vtl_meaning.specs.Kinds.{exp_kind}
+use Rattle.vtl_meaning.specs.Made.{IsMade, IsTypedInGroups}
 use Rattle.check_laws.specs.Gives.{ArePassed, Gives}
-use Rattle.check_laws.specs.WellTyped.{AreShaped, IsWellTyped}
+use Rattle.check_laws.specs.WellTyped.{AreShaped, IsValueAt, IsWellTyped}
+use Rattle.check_laws.proofs.Aggregated.{AreMadeTargets, grouping-is, target-more}
 use Rattle.check_laws.proofs.Clauses.{AreTargets, IsTargetValue, aggr-gives, calc-gives, filter-gives, item-more, keeping-gives, name-free, pivot-gives, renaming-gives, sub-gives, unpivot-gives}
 use Rattle.check_laws.proofs.Groups.{IsAnalytic, aggregate-gives, count-call-gives, over-gives, target-analytic, value-call-gives}
 use Rattle.check_laws.proofs.Joins.{AreJoinOperands, AreJoinParts, joined-gives, last-gives, operands-give, part-gives}
@@ -50,7 +58,8 @@ use Rattle.check_laws.proofs.Lists as lists
 use Rattle.check_laws.proofs.LiteralOperands.{free-gives, functions-give}
 use Rattle.check_laws.proofs.Operators.{AreFit, operator-gives, set-form-gives}
 use Rattle.check_laws.proofs.Sets.{check-gives, dataset-gives, difference-gives, exists-gives, member-gives, sets-give}
-use Rattle.check_laws.proofs.Steps.{after, both, then, weaker}
+use Rattle.check_laws.proofs.Steps.{after, both, tested, then, weaker}
+use Rattle.check_laws.proofs.Tests.{not-false}
 use Rattle.check_laws.proofs.Values.{constants-give, names-give, written-gives}
 
 -- ---- parts of the walk
@@ -86,12 +95,31 @@ component-gives env (place.Inside i) e c rest h = go (member_written e c)
     go None = h
     go (Some w) = written-gives env i w
 
-grouped-gives : (env : Env) (at : Place) (f : AggregateName) (e : MaybeExp) (g : Option GroupPart) (grouped : Bool) (having : Having) (x : Option TypedTree) → IfSome x (IsWellTyped env (in_aggregate at)) → Gives (IsWellTyped env at) (grouped_of at f e g grouped having x)
-grouped-gives env at f e g grouped having (Some (dataset n)) h =
-    after (IsWellTyped env at) (grouping_typed (components_in n) g) (λ names. having (place.Inside (at_groups None n names)) >>= aggregate_node f g n)
-    (λ names. after (IsWellTyped env at) (having (place.Inside (at_groups None n names))) (aggregate_node f g n) (λ c. aggregate-gives env at f g n c h))
-grouped-gives env at f e g grouped having (Some (value v)) h = after (IsWellTyped env at) (own_groups at g having) (λ u. aggregate_value at f grouped e v) (λ u. value-call-gives env at f grouped e v)
-grouped-gives env at f e g grouped having None h = after (IsWellTyped env at) (own_groups at g having) (λ u. count_call at f grouped) (λ u. count-call-gives env at f grouped)
+-- a condition on groups, typed over them
+abbrev IsConditionAt : Env → Inside → CompExp → Type 0
+IsConditionAt env i e = IsValueAt env.settings (place.Inside i) e × (meets k.Bool (exp_kind e) ≡ true)
+
+condition-gives : (env : Env) (i : Inside) (x : TypedTree) → IsWellTyped env (place.Inside i) x → Gives (IsConditionAt env i) (condition_in x)
+condition-gives env i (value e) h = tested (IsConditionAt env i) ((rule.WrongKind, not (meets k.Bool (exp_kind e))) ∷ []) e (λ passed. (h, not-false (meets k.Bool (exp_kind e)) passed.0))
+condition-gives env i (dataset n) h = tt
+
+-- the condition of groups of an operand, by the names that its grouping gives
+abbrev IsHaving : Env → NodeTree → List (List ℕ) → Option CompExp → Type 0
+IsHaving env n names o = IfSome o (λ e. IsTypedInGroups env.settings names (columns_in n) e × (meets k.Bool (exp_kind e) ≡ true))
+
+grouped-gives : (env : Env) (at : Place) (f : AggregateName) (e : MaybeExp) (g : Option GroupPart) (grouped : Bool) (having : Having) (x : Option TypedTree) → IfSome x (IsWellTyped env (in_aggregate at)) → ((i : Inside) → Gives (λ o. IfSome o (IsConditionAt env i)) (having (place.Inside i))) → Gives (IsWellTyped env at) (grouped_of at f e g grouped having x)
+grouped-gives env at f e g grouped having (Some (dataset n)) h c =
+    then (λ names. names ≡ grouping_of g (components_in n)) (IsWellTyped env at) (grouping_typed (components_in n) g) (λ names. having (place.Inside (at_groups None n names)) >>= aggregate_node f g n) (grouping-is (components_in n) g)
+    (λ names same. then (λ o. IfSome o (IsConditionAt env (at_groups None n names))) (IsWellTyped env at) (having (place.Inside (at_groups None n names))) (aggregate_node f g n) (c (at_groups None n names))
+    (λ o condition. aggregate-gives env at f g n o h (subst (λ ns. IsHaving env n ns o) same condition)))
+grouped-gives env at f e g grouped having (Some (value v)) h c = after (IsWellTyped env at) (own_groups at g having) (λ u. aggregate_value at f grouped e v) (λ u. value-call-gives env at f grouped e v)
+grouped-gives env at f e g grouped having None h c = after (IsWellTyped env at) (own_groups at g having) (λ u. count_call at f grouped) (λ u. count-call-gives env at f grouped)
+
+-- one more target of `aggr`
+target-gives-more : (env : Env) (j : Option Joined) (n : NodeTree) (names : List (List ℕ)) (r : Option WrittenRole) (c : Comp) (e : Exp) (done : List Made) (x : TypedTree) → AreMadeTargets (structure_of n) done → IsWellTyped env (place.Inside (at_groups j n names)) x → Gives (AreMadeTargets (structure_of n)) (with_made r c e done x)
+unfolding with_made
+target-gives-more env j n names r c e done (value v) hd h = target-more env.settings names (structure_of n) r c e done v hd h
+target-gives-more env j n names r c e done (dataset d) hd h = tt
 
 keeping-step : (env : Env) (j : Option Joined) (k : Option Keeping) (n : NodeTree) → IsMade env.settings env.known n → Gives (IsMade env.settings env.known) (keeping_step j k n)
 keeping-step env j None n is = is
@@ -158,7 +186,7 @@ mutual
   sound env are at (tree.function f es) = operator-step env at (of_function f) (takes f (exps_length es)) (literals_fit env.settings f es) (operands_typed env at [] es) (functions-give env at f es) (sound-operands env are at [] es tt)
   sound env are at (tree.aggregate f e g h) =
       then (λ x. IfSome x (IsWellTyped env (in_aggregate at))) (IsWellTyped env at) (maybe_typed env (in_aggregate at) e) (grouped_of at f e g (is_some g || has_exp h) (λ groups. having_typed env groups h)) (sound-maybe env are (in_aggregate at) e)
-      (grouped-gives env at f e g (is_some g || has_exp h) (λ groups. having_typed env groups h))
+      (λ x hx. grouped-gives env at f e g (is_some g || has_exp h) (λ groups. having_typed env groups h) x hx (λ i. sound-having env are i h))
   sound env are at (tree.aggregate_over f e o) = then (λ x. IfSome x (IsWellTyped env at)) (IsWellTyped env at) (maybe_typed env at e) (over_typed env.settings at (tree.aggregate_over f e o)) (sound-maybe env are at e) (over-gives env at (tree.aggregate_over f e o))
   sound env are at (tree.value_window f e o) = then (IsWellTyped env at) (IsWellTyped env at) (typed env at e) (λ x. over_typed env.settings at (tree.value_window f e o) (Some x)) (sound env are at e) (λ x h. over-gives env at (tree.value_window f e o) (Some x) h)
   sound env are at (tree.shift f e n l o) = then (IsWellTyped env at) (IsWellTyped env at) (typed env at e) (λ x. over_typed env.settings at (tree.shift f e n l o) (Some x)) (sound env are at e) (λ x h. over-gives env at (tree.shift f e n l o) (Some x) h)
@@ -204,9 +232,26 @@ mutual
   sound-targets : (env : Env) → AreShaped env.known → (j : Option Joined) (n : NodeTree) (m : TargetsTree) → IsMade env.settings env.known n → Gives (IsMade env.settings env.known) (targets_typed env j n m)
   sound-targets env are j n (tree.calc cs) is = then (AreTargets env.settings n) (IsMade env.settings env.known) (calcs_typed env (place.Inside (at_points j n)) n [] cs) (calc_clause n) (sound-calcs env are j n [] cs (record { each = tt; apart = refl })) (λ items h. calc-gives env n items is h)
   sound-targets env are j n (tree.aggr cs g h) is =
-      after (IsMade env.settings env.known) (aggrs_typed env (place.Inside (at_groups j n (grouping_of g (components_in n)))) [] cs) (λ made. grouping_typed (components_in n) g >>= λ names. having_typed env (place.Inside (at_groups j n names)) h >>= aggr_clause g n made)
-      (λ made. after (IsMade env.settings env.known) (grouping_typed (components_in n) g) (λ names. having_typed env (place.Inside (at_groups j n names)) h >>= aggr_clause g n made)
-      (λ names. after (IsMade env.settings env.known) (having_typed env (place.Inside (at_groups j n names)) h) (aggr_clause g n made) (λ c. aggr-gives env g n made c is)))
+      then (AreMadeTargets (structure_of n)) (IsMade env.settings env.known) (aggrs_typed env (place.Inside (at_groups j n (grouping_of g (components_in n)))) [] cs) (λ made. grouping_typed (components_in n) g >>= λ names. having_typed env (place.Inside (at_groups j n names)) h >>= aggr_clause g n made)
+      (sound-aggrs env are j n (grouping_of g (components_in n)) [] cs tt)
+      (λ made targets. then (λ names. names ≡ grouping_of g (components_in n)) (IsMade env.settings env.known) (grouping_typed (components_in n) g) (λ names. having_typed env (place.Inside (at_groups j n names)) h >>= aggr_clause g n made) (grouping-is (components_in n) g)
+      (λ names same. then (λ o. IfSome o (IsConditionAt env (at_groups j n names))) (IsMade env.settings env.known) (having_typed env (place.Inside (at_groups j n names)) h) (aggr_clause g n made) (sound-having env are (at_groups j n names) h)
+      (λ o condition. aggr-gives env g n made o is targets (subst (λ ns. IsHaving env n ns o) same condition))))
+
+  sound-having : (env : Env) → AreShaped env.known → (i : Inside) (e : MaybeExp) → Gives (λ o. IfSome o (IsConditionAt env i)) (having_typed env (place.Inside i) e)
+  sound-having env are i tree.no_exp = tt
+  sound-having env are i (tree.some_exp e) =
+      then (IsConditionAt env i) (λ o. IfSome o (IsConditionAt env i)) (typed env (place.Inside i) e >>= condition_in) (λ c. Ok (Some c))
+      (then (IsWellTyped env (place.Inside i)) (IsConditionAt env i) (typed env (place.Inside i) e) condition_in (sound env are (place.Inside i) e) (λ x h. condition-gives env i x h))
+      (λ c h. h)
+
+  sound-aggrs : (env : Env) → AreShaped env.known → (j : Option Joined) (n : NodeTree) (names : List (List ℕ)) (done : List Made) (cs : Calcs) → AreMadeTargets (structure_of n) done → Gives (AreMadeTargets (structure_of n)) (aggrs_typed env (place.Inside (at_groups j n names)) done cs)
+  sound-aggrs env are j n names done tree.no_calcs hd = hd
+  sound-aggrs env are j n names done (tree.calc_part r c e cs) hd =
+      after (AreMadeTargets (structure_of n)) (aggr_name done c) (λ u. typed env (place.Inside (at_groups j n names)) e >>= with_made r c e done >>= λ made. aggrs_typed env (place.Inside (at_groups j n names)) made cs)
+      (λ u. then (AreMadeTargets (structure_of n)) (AreMadeTargets (structure_of n)) (typed env (place.Inside (at_groups j n names)) e >>= with_made r c e done) (λ made. aggrs_typed env (place.Inside (at_groups j n names)) made cs)
+      (then (IsWellTyped env (place.Inside (at_groups j n names))) (AreMadeTargets (structure_of n)) (typed env (place.Inside (at_groups j n names)) e) (with_made r c e done) (sound env are (place.Inside (at_groups j n names)) e) (λ x h. target-gives-more env j n names r c e done x hd h))
+      (λ made h. sound-aggrs env are j n names made cs h))
 
   sound-calcs : (env : Env) → AreShaped env.known → (j : Option Joined) (n : NodeTree) (done : List ItemTree) (cs : Calcs) → AreTargets env.settings n done → Gives (AreTargets env.settings n) (calcs_typed env (place.Inside (at_points j n)) n done cs)
   sound-calcs env are j n done tree.no_calcs hd = hd
