@@ -1,0 +1,4 @@
+pub mod Firsts
+pub mod Pieces
+pub mod Sums
+pub mod Told
