@@ -27,7 +27,7 @@ use Rattle.vtl_aggregate_laws.proofs.Pieces.{parts}
 use Rattle.vtl_aggregate_laws.proofs.Told.{Tells, told}
 
 -- ---- totals of lists
-abbrev total : List ℤ → ℤ
+abbrev pub total : List ℤ → ℤ
 total ks = (tally_of ks).total
 
 total_from : (a : ℤ) (ks : List ℤ) → fold ◌+ℤ◌ a ks ≡ a +ℤ total ks
@@ -38,7 +38,7 @@ total_from a (k ∷ ks) =
 pub total-append : (ks js : List ℤ) → total (ks ++ js) ≡ total ks +ℤ total js
 total-append ks js = fold-append ◌+ℤ◌ (pos 0) ks js ∙ total_from (total ks) js
 
-total-cons : (k : ℤ) (ks : List ℤ) → total (k ∷ ks) ≡ k +ℤ total ks
+pub total-cons : (k : ℤ) (ks : List ℤ) → total (k ∷ ks) ≡ k +ℤ total ks
 total-cons k ks = total_from (pos 0 +ℤ k) ks ∙ ap (λ z. z +ℤ total ks) (+ℤ_idl k)
 
 times_more : (n : ℤ) (m : ℕ) → n *ℤ pos (suc m) ≡ (n *ℤ pos m) +ℤ n
