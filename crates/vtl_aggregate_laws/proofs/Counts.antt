@@ -81,9 +81,9 @@ module _ (p : Settings) (size : Row → ℕ) where
 
   counts_sum : (k : Row) (ks : List Row) → after (all_of (map (λ j. counted p (size j)) (k ∷ ks))) (group_value p Sum) ≡ counted p (sum_by size (k ∷ ks))
   counts_sum k ks = ⊎_elim
-    (λ h. ap (λ m. after m (group_value p Sum)) h ∙ summed_counts k ks)
-    (λ h. ap (λ m. after m (group_value p Sum)) h.0 ∙ sym h.1)
-    (each_counted (k ∷ ks))
+      (λ h. ap (λ m. after m (group_value p Sum)) h ∙ summed_counts k ks)
+      (λ h. ap (λ m. after m (group_value p Sum)) h.0 ∙ sym h.1)
+      (each_counted (k ∷ ks))
 
   -- where the counts are values, their sum is the count of all
   sum_of_values : (k : Row) (ks : List Row) (vs : List Cell) → all_of (map (λ j. counted p (size j)) (k ∷ ks)) ≡ Ok vs → group_value p Sum vs ≡ counted p (sum_by size (k ∷ ks))

@@ -1,5 +1,10 @@
+pub mod ColumnCells
 pub mod Counts
+pub mod Evaluated
 pub mod Firsts
+pub mod Nested
 pub mod Pieces
+pub mod Structures
 pub mod Sums
 pub mod Told
+pub mod Twice

@@ -12,6 +12,7 @@ use Rattle.vtl_tuples.specs.Keys.{TellsApart, each_once}
 use Rattle.vtl_tuples.proofs.Lists.{filter_same}
 use Rattle.vtl_tuples.proofs.Onces.{alike, among_once, once_apart}
 use Rattle.vtl_aggregates.specs.Groups.{keys_by, points_with}
+use Rattle.vtl_aggregates.proofs.GroupPoints.{all_more}
 
 -- what either of two tests keeps, where none keeps what the other does
 filter_either : {X : Type 0} (p q : X → Bool) → ((x : X) → p x ≡ true → q x ≡ false) → (xs : List X) → Perm (filter p xs ++ filter q xs) (filter (λ x. p x || q x) xs)
@@ -43,6 +44,15 @@ any_passing t k (j ∷ ks) = go (t j) refl (same_row k j) refl (any_passing t k 
         ih ∙ ap (λ b. list_any (same_row k) ks && b) gone ∙ never (list_any (same_row k) ks) ∙ sym gone
     go false s false h ih = ih
 
+-- each row is among all
+pub each_among : (ks : List Row) → AllByRecursion (λ j. list_any (λ k. same_row k j) ks ≡ true) ks
+each_among [] = tt
+each_among (k ∷ ks) = (ap (λ b. b || list_any (λ j. same_row j k) ks) (same_row-refl k), all_more (λ i. list_any (λ j. same_row j i) ks ≡ true) (λ i. list_any (λ j. same_row j i) (k ∷ ks) ≡ true) (λ i e. ap (λ b. same_row k i || b) e ∙ or_true (same_row k i)) ks (each_among ks))
+  where
+    or_true : (b : Bool) → (b || true) ≡ true
+    or_true true = refl
+    or_true false = refl
+
 rows_apart : TellsApart same_row
 rows_apart = record { is = same_row-is; self = same_row-refl }
 
@@ -67,23 +77,18 @@ module _ (places : List ℕ) where
 
   -- each point has its key among the keys
   own_key : (d : List Row) → AllByRecursion (λ r. list_any (λ k. same_row k (key_of r)) (map key_of d) ≡ true) d
-  own_key [] = tt
-  own_key (r ∷ d) = (ap (λ b. b || list_any (λ k. same_row k (key_of r)) (map key_of d)) (same_row-refl (key_of r)), later d (own_key d))
+  own_key d = back d (each_among (map key_of d))
     where
-      or_true : (b : Bool) → (b || true) ≡ true
-      or_true true = refl
-      or_true false = refl
-
-      later : (qs : List Row) → AllByRecursion (λ q. list_any (λ k. same_row k (key_of q)) (map key_of d) ≡ true) qs → AllByRecursion (λ q. list_any (λ k. same_row k (key_of q)) (map key_of (r ∷ d)) ≡ true) qs
-      later [] all = tt
-      later (q ∷ qs) all = (ap (λ b. same_row (key_of r) (key_of q) || b) all.0 ∙ or_true (same_row (key_of r) (key_of q)), later qs all.1)
+      back : (rows : List Row) → AllByRecursion (λ j. list_any (λ k. same_row k j) (map key_of d) ≡ true) (map key_of rows) → AllByRecursion (λ r. list_any (λ k. same_row k (key_of r)) (map key_of d) ≡ true) rows
+      back [] all = tt
+      back (r ∷ rows) all = (all.0, back rows all.1)
 
   passes : (t : Row → Bool) (d rows : List Row) → AllByRecursion (λ r. list_any (λ k. same_row k (key_of r)) (map key_of d) ≡ true) rows
       → AllByRecursion (λ r. has_one_of (filter t (keys_by places d)) r ≡ t (key_of r)) rows
   passes t d [] all = tt
   passes t d (r ∷ rows) all = (
     any_passing t (key_of r) (keys_by places d)
-    ∙ ap (λ b. b && t (key_of r)) (turned (keys_by places d) ∙ among_once same_row (alike same_row rows_apart) (map key_of d) (key_of r) ∙ all.0),
+        ∙ ap (λ b. b && t (key_of r)) (turned (keys_by places d) ∙ among_once same_row (alike same_row rows_apart) (map key_of d) (key_of r) ∙ all.0),
     passes t d rows all.1,
   )
     where

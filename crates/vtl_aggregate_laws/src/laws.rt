@@ -1,14 +1,19 @@
 // What the groups of points give together.
-ghost use Rattle.std.specs.Prelude.{◌≡◌, ◌<◌, ℕ, IfOk, List, length};
+ghost use Rattle.std.specs.Prelude.{◌≡◌, ◌<◌, ℕ, IfOk, List, Some, length};
 ghost use Rattle.std.specs.List.{flat_map};
 ghost use Rattle.vtl_cell.specs.Groups.{count_of_points, group_value};
 ghost use Rattle.vtl_cell.specs.Outcome.{after};
 ghost use Rattle.vtl_cell.specs.Perm.{Perm};
 ghost use Rattle.vtl_cell.specs.Row.{Row};
 ghost use Rattle.vtl_cell.specs.Settings.{Settings};
+ghost use Rattle.vtl_cell.specs.declared.operator.AggKind.{AggKind};
 ghost use Rattle.vtl_cell.specs.declared.operator.AggKind.TheVariants.{Count, Max, Min, Sum};
+ghost use Rattle.vtl_tree.specs.Environment.{DataSet};
+ghost use Rattle.vtl_tree.specs.declared.structure.Structure.{Structure};
+ghost use Rattle.vtl_aggregates.specs.Aggregates.{aggregate_of};
 ghost use Rattle.vtl_aggregates.specs.Groups.{keys_by, points_with};
-ghost use Rattle.vtl_aggregate_laws.specs.Parts.{of_column, of_groups};
+ghost use Rattle.vtl_aggregates.specs.Shapes.{IsAggregated};
+ghost use Rattle.vtl_aggregate_laws.specs.Parts.{gathered_by, grouped, of_column, of_groups};
 
 /// Each point is in one group and no other: the points of all groups are the points, up to order.
 pub fn groups_part_the_points()
@@ -32,4 +37,11 @@ pub fn counts_add_up_to_the_count()
 pub fn least_and_greatest_of_groups_are_those_of_all()
     ensures least { (p : Settings) (places : List ℕ) (i : ℕ) (d : List Row) → after (of_groups (of_column p Min i) places d) (group_value p Min) ≡ of_column p Min i d }
     ensures greatest { (p : Settings) (places : List ℕ) (i : ℕ) (d : List Row) → after (of_groups (of_column p Max i) places d) (group_value p Max) ≡ of_column p Max i d }
+{}
+
+/// Totals of totals are totals, for data sets: an aggregate of what an aggregate gave, by `gathered_by`, is that of the
+/// operand at once, as `sum(sum(ds group by year, place) group by year)` is `sum(ds group by year)` and `sum(count(ds
+/// group by year))` is `count(ds)`. It is the same value or the same fault, where the inner aggregate has no fault.
+pub fn aggregates_of_aggregates_are_those_of_all()
+    ensures { (p : Settings) (f g : AggKind) (fine coarse : List (List ℕ)) (d : DataSet) (middle s : Structure) → gathered_by f ≡ Some g → IsAggregated (grouped f fine) d.structure middle → IsAggregated (grouped g coarse) middle s → IfOk (aggregate_of p (grouped f fine) d middle) (λ points. aggregate_of p (grouped g coarse) (record { structure = middle; points = points }) s ≡ aggregate_of p (grouped f coarse) d s) }
 {}

@@ -9,6 +9,6 @@
 mod laws;
 
 pub use laws::{
-    counts_add_up_to_the_count, groups_part_the_points, least_and_greatest_of_groups_are_those_of_all,
-    sums_add_up_to_the_sum,
+    aggregates_of_aggregates_are_those_of_all, counts_add_up_to_the_count, groups_part_the_points,
+    least_and_greatest_of_groups_are_those_of_all, sums_add_up_to_the_sum,
 };
