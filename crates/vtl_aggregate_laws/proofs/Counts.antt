@@ -1,12 +1,12 @@
 -- The counts of parts add up to the count of all.
-use Rattle.std.proofs.Common.{◌≡◌, ℕ, ◌+◌, ◌<◌, ◌≤◌, pos, Bool, true, false, cond, List, [], ◌∷◌, ◌++◌, map, length, Ok, Err, refl, sym, ap, ◌∙◌, arith, ◌⊎◌, inl, inr, ⊎_elim}
+use Rattle.std.proofs.Common.{◌≡◌, ℕ, ◌+◌, ◌<◌, pos, Bool, true, false, cond, List, [], ◌∷◌, map, length, Ok, Err, refl, sym, ap, ◌∙◌, arith, ◌⊎◌, inl, inr, ⊎_elim}
 use Rattle.std.specs.Prelude.{◌+ℤ◌, ◌-◌, ◌^◌, nat_lt, not}
 use Rattle.std.specs.List.{filter, flat_map, list_all, sum_by}
 use Rattle.std.proofs.lemmas.List.Concat.{length-flat_map}
 use Rattle.std.proofs.lemmas.List.Sums.{sum_by-cons}
 use Rattle.std.proofs.Math.Nat.{one-le-pow}
-use Rattle.vtl_decimal.specs.Range.{fit_integer}
-use Rattle.vtl_decimal.specs.Settings.{Settings}
+use Rattle.vtl_cell.specs.Range.{fit_integer}
+use Rattle.vtl_cell.specs.Settings.{Settings}
 use Rattle.vtl_cell.specs.Groups.{aggregate, count_of_points, group_value, is_integer, values_of, wholes_of}
 use Rattle.vtl_cell.specs.Kinds.{is_null}
 use Rattle.vtl_cell.specs.Outcome.{Outcome, Range, after}

@@ -1,13 +1,13 @@
 -- Groups that are all kept: their faults, their values, and that these depend on nothing else.
 use Rattle.std.proofs.Common.{◌≡◌, List, [], ◌∷◌, ◌++◌, map, Ok, Err, Option, Some, None, refl, sym, ap, ◌∙◌}
-use Rattle.std.specs.List.{AllByRecursion, filter}
+use Rattle.std.specs.List.{AllByRecursion}
 use Rattle.vtl_cell.specs.Outcome.{Fault, DivZero, Range, Outcome, after, fault_in, faults_by, join, unless}
 use Rattle.vtl_cell.specs.Outcomes.{all_of}
 use Rattle.vtl_cell.specs.Row.{Row}
 use Rattle.vtl_cell.specs.declared.cell.Cell.{Cell}
 use Rattle.vtl_tree.specs.declared.structure.Component.{Component}
 use Rattle.vtl_tuples.proofs.Lists.{map_same}
-use Rattle.vtl_aggregates.specs.Aggregates.{Condition, Made, cell_or_null, condition_fault, each_group, group_fault, group_point}
+use Rattle.vtl_aggregates.specs.Aggregates.{Condition, Made, cell_or_null, each_group, group_fault, group_point}
 use Rattle.vtl_aggregate_laws.proofs.Pieces.{filter_true}
 
 -- ---- faults

@@ -1,16 +1,14 @@
 -- The least of the least values of parts is the least of all, and likewise the greatest.
-use Rattle.std.proofs.Common.{◌≡◌, ℕ, Bool, true, false, not, cond, List, [], ◌∷◌, ◌++◌, map, Ok, refl, sym, ap, ◌∙◌, subst, true≢false, ◌⊎◌, ⊎_elim}
-use Rattle.std.specs.List.{AllByRecursion, filter, flat_map}
+use Rattle.std.proofs.Common.{◌≡◌, ℕ, Bool, true, false, not, cond, List, [], ◌∷◌, ◌++◌, map, Ok, refl, sym, ap, ◌∙◌, true≢false, ⊎_elim}
+use Rattle.std.specs.List.{AllByRecursion, flat_map}
 use Rattle.std.proofs.lemmas.List.{map-append}
 use Rattle.vtl_cell.specs.Groups.{aggregate, greatest, group_value, least, values_of}
 use Rattle.vtl_cell.specs.Kinds.{is_null}
-use Rattle.vtl_cell.specs.Order.{cell_cmp}
-use Rattle.vtl_cell.specs.Outcome.{Outcome, after}
+use Rattle.vtl_cell.specs.Outcome.{after}
 use Rattle.vtl_cell.specs.Outcomes.{all_of}
-use Rattle.vtl_cell.specs.Perm.{Perm}
 use Rattle.vtl_cell.specs.Row.{Row, column_of}
 use Rattle.vtl_cell.specs.Settings.{Settings}
-use Rattle.vtl_cell.specs.Sorting.{IsOrder, insert_by, le_by, sorted_by}
+use Rattle.vtl_cell.specs.Sorting.{IsOrder, insert_by, sorted_by}
 use Rattle.vtl_cell.specs.declared.cell.Cell.{Cell}
 use Rattle.vtl_cell.specs.declared.cell.Cell.TheVariants as c
 use Rattle.vtl_cell.specs.declared.operator.AggKind.{AggKind}

@@ -1,6 +1,7 @@
 pub mod ColumnCells
 pub mod Counts
 pub mod Evaluated
+pub mod Examples
 pub mod Firsts
 pub mod Nested
 pub mod Pieces

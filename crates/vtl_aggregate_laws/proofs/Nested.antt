@@ -1,5 +1,5 @@
 -- An aggregate of an aggregate: over coarser groups it gives what the first gives of them.
-use Rattle.std.proofs.Common.{◌≡◌, ℕ, ◌<◌, Bool, true, false, ◌||◌, cond, List, [], ◌∷◌, ◌++◌, map, length, Ok, Err, Option, Some, None, refl, sym, ap, ◌∙◌, subst, true≢false}
+use Rattle.std.proofs.Common.{◌≡◌, ℕ, Bool, true, false, ◌||◌, cond, List, [], ◌∷◌, ◌++◌, map, length, Ok, Err, Option, Some, None, refl, sym, ap, ◌∙◌, subst, true≢false}
 use Rattle.std.specs.Prelude.{IfOk}
 use Rattle.std.specs.List.{AllByRecursion, filter, flat_map, list_any}
 use Rattle.std.proofs.lemmas.List.{append-nil, length-map}
@@ -18,7 +18,7 @@ use Rattle.vtl_cell.proofs.Perms.{Perm-map}
 use Rattle.vtl_cell.proofs.Sorts.{AllByRecursion-filter}
 use Rattle.vtl_rows.specs.Tables.{cells_at}
 use Rattle.vtl_tree.specs.Environment.{DataSet}
-use Rattle.vtl_tree.specs.Structure.{IsStructure, columns_of, names_of, same_name}
+use Rattle.vtl_tree.specs.Structure.{columns_of, names_of, same_name}
 use Rattle.vtl_tree.specs.declared.expression.AggCall.{AggCall}
 use Rattle.vtl_tree.specs.declared.structure.Component.{Component}
 use Rattle.vtl_tree.specs.declared.structure.Structure.{Structure}
@@ -28,7 +28,7 @@ use Rattle.vtl_tuples.proofs.Lists.{filter-map, filter_each, map-map, map_each, 
 use Rattle.check_shapes.specs.Columns.{identifiers_of, others_of, place_of}
 use Rattle.check_shapes.specs.Measures.{given_measure, measures}
 use Rattle.check_shapes.specs.Names.{is_among}
-use Rattle.vtl_aggregates.specs.Aggregates.{Made, aggregate_of, cell_or_null, condition_of, each_group, group_point, made_of, measure_call}
+use Rattle.vtl_aggregates.specs.Aggregates.{Made, aggregate_of, cell_or_null, condition_of, each_group, made_of, measure_call}
 use Rattle.vtl_aggregates.specs.Expressions.{aggregated}
 use Rattle.vtl_aggregates.specs.Groups.{keys_by, places_named, points_with}
 use Rattle.vtl_aggregates.specs.Shapes.{IsAggregated, made_components, of_measure}

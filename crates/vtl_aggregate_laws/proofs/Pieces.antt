@@ -1,5 +1,5 @@
 -- The points of all groups are the points, up to order.
-use Rattle.std.proofs.Common.{◌≡◌, ℕ, Bool, true, false, not, ◌&&◌, ◌||◌, cond, List, [], ◌∷◌, ◌++◌, map, refl, sym, ap, ◌∙◌, true≢false}
+use Rattle.std.proofs.Common.{◌≡◌, ℕ, Bool, true, false, ◌&&◌, ◌||◌, cond, List, [], ◌∷◌, ◌++◌, map, refl, sym, ap, ◌∙◌, true≢false}
 use Rattle.std.specs.List.{AllByRecursion, filter, flat_map, list_any}
 use Rattle.vtl_cell.specs.Apart.{all_apart}
 use Rattle.vtl_cell.specs.Perm.{Perm, empty, keep, chain}
@@ -8,7 +8,7 @@ use Rattle.vtl_cell.proofs.Aparts.{all_apart-filter, apart_parts, none_is}
 use Rattle.vtl_cell.proofs.Perms.{Perm-append_front, Perm-middle, Perm-same}
 use Rattle.vtl_cell.proofs.Rows.{same_row-is, same_row-refl, same_row-sym}
 use Rattle.vtl_rows.specs.Tables.{cells_at}
-use Rattle.vtl_tuples.specs.Keys.{TellsApart, each_once}
+use Rattle.vtl_tuples.specs.Keys.{TellsApart}
 use Rattle.vtl_tuples.proofs.Lists.{filter_same}
 use Rattle.vtl_tuples.proofs.Onces.{alike, among_once, once_apart}
 use Rattle.vtl_aggregates.specs.Groups.{keys_by, points_with}

@@ -1,12 +1,11 @@
 -- The structures of aggregates one after the other: which columns of the first the second names.
-use Rattle.std.proofs.Common.{◌≡◌, ℕ, Bool, true, false, not, ◌&&◌, ◌||◌, cond, List, [], ◌∷◌, ◌++◌, map, Some, None, Option, refl, sym, ap, ◌∙◌, subst, append_assoc, true≢false}
-use Rattle.std.specs.List.{AllByRecursion, filter, list_any}
+use Rattle.std.proofs.Common.{◌≡◌, ℕ, Bool, true, false, ◌&&◌, ◌||◌, cond, List, [], ◌∷◌, ◌++◌, map, Some, None, refl, sym, ap, ◌∙◌, subst, append_assoc, true≢false}
+use Rattle.std.specs.List.{AllByRecursion, filter}
 use Rattle.std.proofs.lemmas.Cmp.{nat_list_eq_equiv}
 use Rattle.std.proofs.lemmas.List.Elements.{filter_passes, recursion_from_All}
 use Rattle.std.proofs.lemmas.Slice.Eq.{bytes_eq-Decides}
 use Rattle.vtl_cell.specs.Apart.{all_apart}
 use Rattle.vtl_cell.specs.declared.operator.AggKind.{AggKind}
-use Rattle.vtl_cell.specs.declared.operator.AggKind.TheVariants as agg
 use Rattle.vtl_cell.proofs.Aparts.{apart_parts}
 use Rattle.vtl_cell.proofs.Sorts.{AllByRecursion-filter}
 use Rattle.vtl_tree.specs.Structure.{IsStructure, columns_of, names_of, of_role, same_name, same_role}
@@ -14,7 +13,6 @@ use Rattle.vtl_tree.specs.declared.structure.Component.{Component}
 use Rattle.vtl_tree.specs.declared.structure.Role.{Role}
 use Rattle.vtl_tree.specs.declared.structure.Role.TheVariants as role
 use Rattle.vtl_tree.specs.declared.structure.Structure.{Structure}
-use Rattle.vtl_nodes.specs.Trees.{AggTree}
 use Rattle.vtl_nodes.specs.declared.specifications.AggItems.TheVariants as items
 use Rattle.check_shapes.specs.Choices.{chosen, is_identifier}
 use Rattle.check_shapes.specs.Columns.{identifiers_of, measures_of, others_of}
@@ -23,7 +21,7 @@ use Rattle.check_shapes.specs.Names.{component_of, is_among}
 use Rattle.check_shapes.specs.declared.choices.Choice.TheVariants as choice
 use Rattle.vtl_aggregates.specs.Shapes.{IsAggregated, made_components, of_measure}
 use Rattle.vtl_aggregates.proofs.GroupPoints.{all_more}
-use Rattle.vtl_aggregate_laws.specs.Parts.{gathered_by, grouped}
+use Rattle.vtl_aggregate_laws.specs.Parts.{grouped}
 
 -- ---- names
 both : (P : Component → Type 0) (xs ys : List Component) → AllByRecursion P xs → AllByRecursion P ys → AllByRecursion P (xs ++ ys)

@@ -1,15 +1,14 @@
 -- The sum of the sums of parts is the sum of all.
-use Rattle.std.proofs.Common.{◌≡◌, ℕ, zero, suc, pos, ℤ, Bool, true, false, ◌&&◌, ◌||◌, cond, List, [], ◌∷◌, ◌++◌, map, Ok, Err, refl, sym, ap, ◌∙◌, subst, arith}
+use Rattle.std.proofs.Common.{◌≡◌, ℕ, zero, suc, pos, ℤ, Bool, true, false, ◌&&◌, ◌||◌, cond, List, [], ◌∷◌, ◌++◌, map, Ok, Err, refl, sym, ap, ◌∙◌, subst}
 use Rattle.std.specs.Prelude.{IfOk, ◌+ℤ◌, ◌*ℤ◌, ◌-◌, ◌^◌, nat_lt, not, unsigned_abs}
-use Rattle.std.specs.List.{filter, flat_map, fold, list_all, list_any}
+use Rattle.std.specs.List.{flat_map, fold, list_all, list_any}
 use Rattle.std.proofs.Math.IntN.{*ℤ-zero, *ℤ_comm, +ℤ_assoc, +ℤ_comm, +ℤ_idl, +ℤ_idr, suc_ℤ-*ℤ, zero-*ℤ}
 use Rattle.std.proofs.lemmas.List.{map-append}
 use Rattle.std.proofs.lemmas.List.Elements.{filter-append}
 use Rattle.std.proofs.lemmas.List.Folds.{list_all-append, list_any-append}
 use Rattle.std.proofs.lemmas.List.Sums.{fold-append}
-use Rattle.vtl_decimal.specs.Range.{fit_integer, fit_number}
-use Rattle.vtl_decimal.specs.Settings.{Settings}
-use Rattle.vtl_decimal.specs.Tally.{tally_of}
+use Rattle.vtl_cell.specs.Range.{fit_integer, fit_number}
+use Rattle.vtl_cell.specs.Settings.{Settings}
 use Rattle.vtl_cell.specs.Groups.{aggregate, group_value, is_integer, numbers_of, total_of, units_of, values_of, whole_of, wholes_of}
 use Rattle.vtl_cell.specs.Kinds.{is_null}
 use Rattle.vtl_cell.specs.Outcome.{Outcome, Range}
@@ -28,7 +27,7 @@ use Rattle.vtl_aggregate_laws.proofs.Told.{Tells, told}
 
 -- ---- totals of lists
 abbrev pub total : List ℤ → ℤ
-total ks = (tally_of ks).total
+total ks = fold ◌+ℤ◌ (pos 0) ks
 
 total_from : (a : ℤ) (ks : List ℤ) → fold ◌+ℤ◌ a ks ≡ a +ℤ total ks
 total_from a [] = sym (+ℤ_idr a)
