@@ -59,7 +59,7 @@ use Rattle.check_laws.specs.Gives.{ArePassed, Gives}
 use Rattle.check_laws.specs.WellTyped.{IsWellTyped}
 use Rattle.check_laws.proofs.Aggregated.{AreMadeTargets, aggr-fits}
 use Rattle.check_laws.proofs.Calculated.{IsItemFor, calculated-fits}
-use Rattle.check_laws.proofs.Columns.{same-symm}
+use Rattle.check_laws.proofs.Columns.{among-any}
 use Rattle.check_laws.proofs.Inner.{made-shaped}
 use Rattle.check_laws.proofs.Left.{IsItem, IsName, IsNamed, drop-fits, keep-fits, known-gives, sub-fits}
 use Rattle.check_laws.proofs.Lists as lists
@@ -180,10 +180,6 @@ written-role : (r : Option WrittenRole) (q : Role) → unwrap_or (role_of r) q �
 written-role None q e = e
 written-role (Some written.Measure) q e = cc
 written-role (Some written.Attribute) q e = cc
-
-pub among-any : (name : List ℕ) (names : List (List ℕ)) → is_among name names ≡ list_any (same_name name) names
-among-any name [] = refl
-among-any name (n ∷ names) = ap (λ b. b || is_among name names) (same-symm n name) ∙ ap (λ b. same_name name n || b) (among-any name names)
 
 names-more : (items : List ItemTree) (i : ItemTree) → item_names (items ++ i ∷ []) ≡ item_names items ++ i.target ∷ []
 names-more [] i = refl
