@@ -1,20 +1,14 @@
 -- Aggregates: what a form gives fits its operand.
-use Rattle.std.proofs.Common.{◌≡◌, ℕ, zero, suc, ◌+◌, Bool, true, false, cond, not, ◌&&◌, ◌||◌, List, [], ◌∷◌, ◌++◌, map, Option, Some, None, Result, Ok, Err, refl, sym, ap, ◌∙◌, subst, arith}
-use Rattle.std.proofs.lemmas.Bool.{false≢true}
-use Rattle.std.specs.List.{AllByRecursion, filter, list_any}
+use Rattle.std.proofs.Common.{◌≡◌, ℕ, suc, ◌+◌, Bool, true, false, cond, not, ◌&&◌, ◌||◌, List, [], ◌∷◌, ◌++◌, map, Option, Some, None, Ok, refl, sym, ap, ◌∙◌, subst, arith}
+use Rattle.std.specs.List.{AllByRecursion, filter}
 use Rattle.std.specs.Option.{IfSome, is_none}
 use Rattle.std.specs.Prelude.{IsSome, option_and_then, unwrap_or}
 use Rattle.vtl_cell.specs.Apart.{all_apart}
-use Rattle.vtl_cell.specs.Results.{◌>>=◌}
 use Rattle.vtl_cell.specs.Settings.{Settings}
 use Rattle.vtl_cell.specs.declared.kind.Kind.{Kind}
 use Rattle.vtl_cell.specs.declared.kind.Kind.TheVariants as k
 use Rattle.vtl_cell.specs.declared.operator.AggKind.{AggKind}
-use Rattle.vtl_cell.specs.declared.operator.AggKind.TheVariants as agg
 use Rattle.vtl_cell.proofs.Aparts.{apart_parts}
-use Rattle.check_faults.specs.Rules.{ruled}
-use Rattle.check_faults.specs.declared.rules.Rule.{Rule}
-use Rattle.check_faults.specs.declared.rules.Rule.TheVariants as rule
 use Rattle.vtl_syntax.specs.Trees.{Exp}
 use Rattle.vtl_syntax.specs.declared.parts.Comp.{Comp}
 use Rattle.vtl_syntax.specs.declared.parts.GroupPart.{GroupPart}
@@ -29,12 +23,11 @@ use Rattle.vtl_tree.specs.Structure.{IsStructure, columns_of, names_of, same_nam
 use Rattle.vtl_tree.specs.Structures.{structure_of}
 use Rattle.vtl_tree.specs.declared.expression.AggCall.{AggCall}
 use Rattle.vtl_tree.specs.declared.structure.Component.{Component}
-use Rattle.vtl_tree.specs.declared.structure.Role.{Role}
 use Rattle.vtl_tree.specs.declared.structure.Role.TheVariants as role
 use Rattle.vtl_tree.specs.declared.structure.Structure.{Structure}
 use Rattle.vtl_meaning.specs.AggregateKinds as kinds
 use Rattle.vtl_meaning.specs.AggregateShapes as shapes
-use Rattle.vtl_meaning.specs.AggregateShapes.{IsTypedAggregate, given_kind, given_of}
+use Rattle.vtl_meaning.specs.AggregateShapes.{IsTypedAggregate, given_of}
 use Rattle.vtl_meaning.specs.Choices.{chosen, is_chosen, is_identifier}
 use Rattle.vtl_meaning.specs.Clauses.{aggr_form, target_component}
 use Rattle.vtl_meaning.specs.Columns.{kind_named, place_of}
@@ -45,15 +38,13 @@ use Rattle.vtl_meaning.specs.Names.{all_known, component_of, is_among}
 use Rattle.vtl_meaning.specs.Shape.{shaped}
 use Rattle.vtl_meaning.specs.Shapes.{IsShaped}
 use Rattle.vtl_meaning.specs.Trees.{AggTree}
-use Rattle.vtl_meaning.specs.choices.Choice.{Choice}
 use Rattle.vtl_meaning.specs.choices.Choice.TheVariants as choice
 use Rattle.vtl_meaning.specs.names.Wanted.TheVariants as wanted
 use Rattle.vtl_meaning.specs.specifications.AggItems.TheVariants as items
-use Rattle.vtl_meaning.specs.specifications.AggTarget.{AggTarget}
 use Rattle.vtl_meaning.proofs.Shaped.{fits}
-use Rattle.vtl_check.specs.Aggregates.{agg_kind, aggregate_tree, of_measure, outcome_of}
+use Rattle.vtl_check.specs.Aggregates.{agg_kind, of_measure, outcome_of}
 use Rattle.vtl_check.specs.Targets.{call_in, is_aggregate, made_as, made_target, role_of, targets_in, with_made}
-use Rattle.vtl_check.specs.Typed.{TypedTree, value, dataset, value_in}
+use Rattle.vtl_check.specs.Typed.{value}
 use Rattle.vtl_check.specs.targets.Made.{Made}
 use Rattle.check_laws.specs.Gives.{Gives}
 use Rattle.check_laws.proofs.Columns.{IsFound, all-found, at-found, name-found, of-columns, same-refl, same-symm}
