@@ -61,7 +61,7 @@ use Rattle.rules_to_sql.specs.places.Joined.{Joined}
 use Rattle.rules_to_sql.specs.places.Place.{Place}
 use Rattle.rules_to_sql.specs.places.Place.TheVariants as place
 use Rattle.rules_to_sql.specs.Gives.{Gives}
-use Rattle.rules_to_sql.proofs.Clauses.{among-any}
+use Rattle.rules_to_sql.proofs.Columns.{among-any}
 use Rattle.rules_to_sql.proofs.Lists as lists
 use Rattle.rules_to_sql.proofs.Literals.{IsCell, literal-cell, valued-gives}
 use Rattle.rules_to_sql.proofs.Steps.{after, tested, then}
