@@ -318,7 +318,7 @@ module _ (p : Settings) (law : Translates p) (before : Data) (name : Text) (a s 
   -- ---- the one group without grouping
 
   -- the condition, which is false where there is no row
-  guarded : CompExp → List Row → Outcome Cell
+  abbrev guarded : CompExp → List Row → Outcome Cell
   guarded e [] = Ok (c.Bool false)
   guarded e (r ∷ rows) = at e []
 
