@@ -9,7 +9,7 @@ use Rattle.vtl_cell.specs.Conversion.{as_kind}
 use Rattle.vtl_cell.specs.Kinds.{is_of}
 use Rattle.vtl_cell.specs.Outcome.{Fault, Outcome, after, fault_in, faults_by, join, unless}
 use Rattle.vtl_cell.specs.Outcomes.{branch, first_chosen, is_true}
-use Rattle.vtl_cell.specs.Row.{Row, column_of}
+use Rattle.vtl_cell.specs.Row.{Row}
 use Rattle.vtl_cell.specs.ScalarKinds.{common_kind, meets}
 use Rattle.vtl_cell.specs.Settings.{Settings}
 use Rattle.vtl_cell.specs.declared.cell.Cell.{Cell}
@@ -27,14 +27,12 @@ use Rattle.vtl_tree.specs.declared.structure.Structure.{Structure}
 use Rattle.vtl_tuples.proofs.Lists.{map_same}
 use Rattle.check_shapes.specs.Names.{component_of}
 use Rattle.rules_to_sql.specs.AggregateKinds.{aggregate_kind}
-use Rattle.rules_to_sql.specs.AggregatePoints.{Condition, Made, aggregate_of, call_for, cell_or_null as made_cell, condition_fault, condition_of, group_fault, group_point, is_kept, made_of}
+use Rattle.rules_to_sql.specs.AggregatePoints.{Condition, Made, aggregate_of, call_for, cell_or_null, condition_fault, condition_of, group_fault, group_point, is_kept, made_of}
 use Rattle.rules_to_sql.specs.AggregateShapes.{IsMadeColumn, given_kind, given_of}
 use Rattle.rules_to_sql.specs.Columns.{columns_named, identifiers_of, kind_named, others_of, place_of, places_in}
 use Rattle.rules_to_sql.specs.GroupExpressions.{aggregated}
 use Rattle.rules_to_sql.specs.Groups.{keys_by, places_named}
-use Rattle.rules_to_sql.specs.LawsKinds.{exp_kind}
 use Rattle.rules_to_sql.specs.Made.{Aggregates, IsColumnAt, IsGroupCondition, IsGrouped, IsTypedInGroups}
-use Rattle.rules_to_sql.specs.Outcomes.{cell_or_null}
 use Rattle.rules_to_sql.specs.Points.{with_points}
 use Rattle.rules_to_sql.specs.Trees.{AggTree}
 use Rattle.rules_to_sql.proofs.Columns.{at-place, kind-found}
@@ -48,7 +46,7 @@ use Rattle.sql_tree.specs.Formed.{IsColumn, IsExp, IsMaybeExp, IsName, exp_depth
 use Rattle.sql_tree.specs.Trees.{Exp, SelectTree, Text}
 use Rattle.sql_tree.specs.declared.parts.Column.{Column}
 use Rattle.rules_to_sql.specs.Expressions.{site}
-use Rattle.rules_to_sql.specs.Fits.{Fits, IsCondition, IsMaybeCondition, IsSeen}
+use Rattle.rules_to_sql.specs.Fits.{IsCondition, IsMaybeCondition, IsSeen}
 use Rattle.rules_to_sql.specs.Kinds.{kind_in}
 use Rattle.rules_to_sql.specs.MeantGroups.{rows_with}
 use Rattle.rules_to_sql.specs.MeantGroups as sql
@@ -99,10 +97,6 @@ after_bool : (p : Settings) (m : Outcome Cell) → after m (as_kind p k.Bool) �
 after_bool p (Ok v) = refl
 after_bool p (Err f) = refl
 
-same_cell_or_null : (m : Outcome Cell) → cell_or_null m ≡ made_cell m
-same_cell_or_null (Ok v) = refl
-same_cell_or_null (Err f) = refl
-
 shallow : (f : AggKind) (component : Option (List ℕ)) → exp_depth (aggregate_to_sql of_one f component) ≤ printable_depth
 shallow f None = omega arith
 shallow f (Some name) = omega arith
@@ -117,13 +111,13 @@ point_behind (z ∷ zs) ys (v ∷ key) r h e = point_behind zs ys key r (point_p
 abbrev IsOfKind : (Component → Outcome Cell) → Component → Type 0
 IsOfKind f y = IfOk (f y) (λ v. is_of y.kind v ≡ true)
 
-each_of_kind : (f : Component → Outcome Cell) (ys : List Component) → is_point ys (map (λ y. made_cell (f y)) ys) ≡ true → AllByRecursion (IsOfKind f) ys
+each_of_kind : (f : Component → Outcome Cell) (ys : List Component) → is_point ys (map (λ y. cell_or_null (f y)) ys) ≡ true → AllByRecursion (IsOfKind f) ys
 each_of_kind f [] h = tt
 each_of_kind f (y ∷ ys) h =
-    let parts = point_parts y ys (made_cell (f y)) (map (λ z. made_cell (f z)) ys) h in
+    let parts = point_parts y ys (cell_or_null (f y)) (map (λ z. cell_or_null (f z)) ys) h in
     (found (f y) parts.0, each_of_kind f ys parts.2)
   where
-    found : (m : Outcome Cell) → is_of y.kind (made_cell m) ≡ true → IfOk m (λ v. is_of y.kind v ≡ true)
+    found : (m : Outcome Cell) → is_of y.kind (cell_or_null m) ≡ true → IfOk m (λ v. is_of y.kind v ≡ true)
     found (Ok v) i = i
     found (Err e) i = tt
 
@@ -229,7 +223,7 @@ module _ (p : Settings) (law : Translates p) (before : Data) (name : Text) (a s 
   made_typed : (key : Row) → IsKey key → AllByRecursion (IsOfKind (λ z. made z key)) ys
   made_typed key h =
       let point = point_is p spec (with_points a d) s i.aggregated set key h in
-      each_of_kind (λ z. made z key) ys (point_behind zs ys key (map (λ y. made_cell (made y key)) ys) h (subst (λ us. is_point us (group_point made ys key) ≡ true) (columns_split s) point))
+      each_of_kind (λ z. made z key) ys (point_behind zs ys key (map (λ y. cell_or_null (made y key)) ys) h (subst (λ us. is_point us (group_point made ys key) ≡ true) (columns_split s) point))
 
   -- ---- all items
 
@@ -251,9 +245,9 @@ module _ (p : Settings) (law : Translates p) (before : Data) (name : Text) (a s 
   made_fault [] key = refl
   made_fault (u ∷ us) key = ap (join (fault_in (made u key))) (made_fault us key)
 
-  made_cells : (us : List Component) (key : Row) → values_at (map made us) key ≡ map (λ y. made_cell (made y key)) us
+  made_cells : (us : List Component) (key : Row) → values_at (map made us) key ≡ map (λ y. cell_or_null (made y key)) us
   made_cells [] key = refl
-  made_cells (u ∷ us) key = ap (λ l. cell_or_null (made u key) ∷ l) (made_cells us key) ∙ ap (λ v. v ∷ map (λ y. made_cell (made y key)) us) (same_cell_or_null (made u key))
+  made_cells (u ∷ us) key = ap (λ l. cell_or_null (made u key) ∷ l) (made_cells us key)
 
   abbrev keys : List Row
   keys = keys_by places d

@@ -1,5 +1,5 @@
 -- `pivot` is a grouped select with the greatest value of each code.
-use Rattle.std.proofs.Common.{◌≡◌, ℕ, ◌+◌, Bool, true, false, ◌||◌, not, cond, List, [], ◌∷◌, ◌++◌, map, Option, Some, None, Ok, refl, ap, sym, ◌∙◌, subst, arith}
+use Rattle.std.proofs.Common.{◌≡◌, ℕ, ◌+◌, Bool, true, false, cond, List, [], ◌∷◌, ◌++◌, map, Option, Some, None, Ok, refl, ap, sym, ◌∙◌, subst, arith}
 use Rattle.std.specs.Prelude.{is_some}
 use Rattle.std.specs.List.{AllByRecursion, filter, find}
 use Rattle.std.specs.Option.{option_map_or}
@@ -32,7 +32,7 @@ use Rattle.check_shapes.specs.Clauses.{code_measure}
 use Rattle.rules_to_sql.specs.Agreement.{values_in}
 use Rattle.rules_to_sql.specs.Columns.{columns_named, identifiers_of, kind_named, others_of, place_of, places_in}
 use Rattle.rules_to_sql.specs.LookUps.{value_named}
-use Rattle.rules_to_sql.specs.Made.{IsColumnAt, IsPivoted}
+use Rattle.rules_to_sql.specs.Made.{IsPivoted}
 use Rattle.rules_to_sql.specs.Points.{with_points}
 use Rattle.rules_to_sql.specs.Turned.{coded_value, codes_of, is_coded, other_identifiers, pivot_of, pivoted_point}
 use Rattle.rules_to_sql.proofs.GroupLooks.{all_points, one_key}
@@ -59,7 +59,7 @@ use Rattle.rules_to_sql.specs.ToSql.{column_of as sql_column, group_columns}
 use Rattle.vtl_to_sql.specs.Conditions.{HaveNames}
 use Rattle.vtl_to_sql.specs.Queries.{all_to_sql, first_alias, items_as, of_one, source_as}
 use Rattle.vtl_to_sql.specs.Runs.{IsTable, printable_depth}
-use Rattle.vtl_to_sql.specs.Turned.{coded_item, grouped_as, has_rows, kept_groups, own_column, pivot_query, pivot_select, pivoted_items, text_constant, where_coded}
+use Rattle.vtl_to_sql.specs.Turned.{coded_item, grouped_as, kept_groups, own_column, pivot_query, pivot_select, pivoted_items, text_constant, where_coded}
 use Rattle.vtl_to_sql.proofs.Coded.{all_there, case_of, cells_named, greatest_coded, truth_of}
 use Rattle.vtl_to_sql.proofs.Conjunctions.{equal_cells}
 use Rattle.vtl_to_sql.proofs.Exact.{IsExactly}
