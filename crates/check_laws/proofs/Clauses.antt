@@ -1,5 +1,5 @@
 -- Clauses on typed data sets.
-use Rattle.std.proofs.Common.{◌≡◌, ℕ, Bool, true, false, cond, not, ◌||◌, List, [], ◌∷◌, ◌++◌, map, Option, Some, None, Result, Ok, Err, refl, sym, ap, ◌∙◌, subst, true≢false}
+use Rattle.std.proofs.Common.{◌≡◌, ℕ, Bool, true, false, cond, not, List, [], ◌∷◌, ◌++◌, map, Option, Some, None, Result, Ok, Err, refl, sym, ap, ◌∙◌, subst, true≢false}
 use Rattle.std.specs.List.{AllByRecursion, list_any}
 use Rattle.std.specs.Option.{IfSome}
 use Rattle.std.specs.Prelude.{unwrap_or}
@@ -34,7 +34,7 @@ use Rattle.vtl_meaning.specs.Trees.{FormTree, ItemTree, NodeTree, ValueTree, str
 use Rattle.vtl_meaning.specs.clauses.SubItem.{SubItem}
 use Rattle.vtl_meaning.specs.Choices.{chosen, is_identifier_name}
 use Rattle.vtl_meaning.specs.Clauses.{aggr_form, calc_form, pivot_form, rename_form, target_tests, unpivot_form}
-use Rattle.vtl_meaning.specs.Names.{is_among, known}
+use Rattle.vtl_meaning.specs.Names.{known}
 use Rattle.vtl_meaning.specs.Shape.{shaped}
 use Rattle.vtl_meaning.specs.choices.Choice.TheVariants as choice
 use Rattle.vtl_meaning.specs.names.Wanted.{Wanted}

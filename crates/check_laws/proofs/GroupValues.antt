@@ -1,14 +1,9 @@
 -- Values over groups: aggregates of a component, and the component that their operand is.
-use Rattle.std.proofs.Common.{◌≡◌, ℕ, Bool, true, false, cond, ◌||◌, List, [], ◌∷◌, Option, Some, None, is_none, Result, Ok, Err, refl, sym, ap, ◌∙◌, subst, true≢false}
+use Rattle.std.proofs.Common.{◌≡◌, ℕ, Bool, true, false, cond, not, ◌||◌, List, [], ◌∷◌, Option, Some, None, is_none, Result, Ok, Err, refl, sym, ap, ◌∙◌, subst, true≢false}
 use Rattle.std.proofs.lemmas.Bool.{false≢true}
 use Rattle.std.specs.Option.{IfSome, is_some, option_map}
-use Rattle.vtl_cell.specs.Results.{◌>>=◌}
 use Rattle.vtl_cell.specs.Settings.{Settings}
 use Rattle.vtl_cell.specs.declared.kind.Kind.{Kind}
-use Rattle.vtl_cell.specs.declared.kind.Kind.TheVariants as k
-use Rattle.vtl_cell.specs.declared.operator.AggKind.{AggKind}
-use Rattle.vtl_cell.specs.declared.operator.AggKind.TheVariants as agg
-use Rattle.check_faults.specs.Rules.{ruled}
 use Rattle.check_faults.specs.declared.rules.Rule.{Rule}
 use Rattle.check_faults.specs.declared.rules.Rule.TheVariants as rule
 use Rattle.vtl_syntax.specs.Trees as tree
@@ -21,9 +16,9 @@ use Rattle.vtl_tree.specs.CompExp.{CompExp}
 use Rattle.vtl_tree.specs.Structure.{names_of}
 use Rattle.vtl_tree.specs.declared.structure.Component.{Component}
 use Rattle.vtl_meaning.specs.AggregateKinds as kinds
-use Rattle.vtl_meaning.specs.Columns.{column_named}
 use Rattle.vtl_meaning.specs.Kinds.{exp_kind}
 use Rattle.vtl_meaning.specs.Made.{Aggregates}
+use Rattle.vtl_meaning.specs.Names.{is_among}
 use Rattle.vtl_meaning.specs.ValuesColumns.{column_typed, name_of}
 use Rattle.vtl_check.specs.Aggregates.{agg_kind, aggregate_kind, aggregate_value, column_name, count_call, count_kind, group_call, group_call_by, is_component, operand_name}
 use Rattle.vtl_check.specs.Places.{Env, Written, alone, component_typed, in_aggregate, name_written, with_alias, written_in, written_typed}
@@ -51,7 +46,7 @@ IsOperand (place.Inside i) e x = is_component e ≡ true → IsNamed i.component
 
 alone-gives : (P : TypedTree → Type 0) (grouping : Option (List (List ℕ))) (name : List ℕ) (e : CompExp) → P (value e) → Gives P (alone grouping name e)
 alone-gives P None name e h = h
-alone-gives P (Some names) name e h = tested-then P _ (λ u. of_value e) (λ passed. h)
+alone-gives P (Some names) name e h = tested-then P ((rule.AggregateMisuse, not (is_among name names)) ∷ []) (λ u. of_value e) (λ passed. h)
 
 component-named : (i : Inside) (name : List ℕ) → Gives (IsNamed i.components) (component_typed i name)
 component-named i name =
@@ -88,8 +83,8 @@ operand-named env (place.Inside i) (tree.some_exp e) = then (IsWritten inner e) 
 
 -- ---- the aggregate
 in-groups : (p : Settings) (grouping : Option (List (List ℕ))) (xs : List Component) (f : AggregateName) (component : Option (List ℕ)) (kind : Kind) → is_none grouping ≡ false → Aggregates xs (agg_kind f) component kind → IsTypedIn p grouping xs (exp.aggregate (record { kind = agg_kind f; component = component }) kind)
-in-groups p None xs f component kind no h = absurd (true≢false no)
-in-groups p (Some names) xs f component kind no h = h
+in-groups p None xs f component kind e h = absurd (true≢false e)
+in-groups p (Some names) xs f component kind e h = h
 
 call-gives : (env : Env) (i : Inside) (f : AggregateName) (component : Option (List ℕ)) (misused : Bool) (given : Option Kind) → (misused ≡ false → is_none i.grouping ≡ false) → (misused ≡ false → (kind : Kind) → given ≡ Some kind → Aggregates i.components (agg_kind f) component kind) → Gives (IsWellTyped env (place.Inside i)) (group_call_by f component misused given)
 call-gives env i f component misused None grouped h = tt
@@ -101,10 +96,10 @@ call-gives env i f component misused (Some kind) grouped h =
 pub value-call-gives : (env : Env) (at : Place) (f : AggregateName) (grouped : Bool) (e : MaybeExp) (v : CompExp) → IsOperand at e (value v) → Gives (IsWellTyped env at) (aggregate_value at f grouped e v)
 value-call-gives env place.Outside f grouped e v h = tt
 value-call-gives env (place.Inside i) f grouped e v h =
-    call-gives env i f (operand_name e v) ((grouped || is_none i.grouping) || is_none (operand_name e v)) (aggregate_kind f (exp_kind v)) (λ no. (or-false grouped (is_none i.grouping) (parts no).0).1) (λ no kind given. of-named kind given (is_component e) refl (parts no).1)
+    call-gives env i f (operand_name e v) ((grouped || is_none i.grouping) || is_none (operand_name e v)) (aggregate_kind f (exp_kind v)) (λ used. (or-false grouped (is_none i.grouping) (parts used).0).1) (λ used kind given. of-named kind given (is_component e) refl (parts used).1)
   where
     parts : ((grouped || is_none i.grouping) || is_none (operand_name e v)) ≡ false → ((grouped || is_none i.grouping) ≡ false) × (is_none (operand_name e v) ≡ false)
-    parts no = or-false (grouped || is_none i.grouping) (is_none (operand_name e v)) no
+    parts used = or-false (grouped || is_none i.grouping) (is_none (operand_name e v)) used
 
     by-name : (kind : Kind) → aggregate_kind f (exp_kind v) ≡ Some kind → (o : Option (List ℕ)) → IfSome o (λ name. IsNamedIn i.components name v) → is_none o ≡ false → Aggregates i.components (agg_kind f) o kind
     by-name kind given None named some = absurd (true≢false some)
@@ -128,5 +123,5 @@ count-call-gives env (place.Inside i) f grouped = go (is_some i.grouping) refl
     there (Some names) e = refl
 
     go : (b : Bool) → is_some i.grouping ≡ b → Gives (IsWellTyped env (place.Inside i)) (cond b (group_call_by f None grouped (count_kind f)) (Err rule.WrongKind))
-    go true e = call-gives env i f None grouped (count_kind f) (λ no. there i.grouping e) (λ no kind given. counted i.components f kind given)
+    go true e = call-gives env i f None grouped (count_kind f) (λ used. there i.grouping e) (λ used kind given. counted i.components f kind given)
     go false e = tt

@@ -1,15 +1,12 @@
 -- Aggregates and analytic calls.
-use Rattle.std.proofs.Common.{◌≡◌, ℕ, Bool, true, false, cond, not, ◌||◌, List, [], ◌∷◌, Option, Some, None, Result, Err, refl, subst, sym}
-use Rattle.std.specs.Option.{IfSome, is_none, is_some}
-use Rattle.vtl_cell.specs.Results.{◌>>=◌}
+use Rattle.std.proofs.Common.{ℕ, Bool, true, false, cond, not, List, [], ◌∷◌, Option, Some, None, Err, refl}
+use Rattle.std.specs.Option.{IfSome}
 use Rattle.vtl_cell.specs.Settings.{Settings}
 use Rattle.check_faults.specs.Rules.{ruled, Tests}
-use Rattle.check_faults.specs.declared.rules.Rule.{Rule}
 use Rattle.check_faults.specs.declared.rules.Rule.TheVariants as rule
-use Rattle.vtl_syntax.specs.Trees.{Exp, MaybeExp}
+use Rattle.vtl_syntax.specs.Trees.{Exp}
 use Rattle.vtl_syntax.specs.declared.parts.GroupPart.{GroupPart}
 use Rattle.vtl_syntax.specs.declared.word_groups.AggregateName.{AggregateName}
-use Rattle.vtl_cell.specs.declared.kind.Kind.{Kind}
 use Rattle.vtl_tree.specs.CompExp.{CompExp}
 use Rattle.vtl_tree.specs.declared.structure.Component.{Component}
 use Rattle.vtl_meaning.specs.Trees as nodes
@@ -24,14 +21,13 @@ use Rattle.vtl_meaning.specs.Groupings.{grouping_choice, grouping_names}
 use Rattle.vtl_meaning.specs.Kinds.{exp_kind}
 use Rattle.vtl_check.specs.Places.{Env}
 use Rattle.vtl_check.specs.Typed.{TypedTree, value, dataset, components_in}
-use Rattle.vtl_check.specs.places.Inside.{Inside}
 use Rattle.vtl_check.specs.places.Place.{Place}
 use Rattle.vtl_check.specs.places.Place.TheVariants as place
 use Rattle.vtl_check.specs.Aggregates.{aggregate_node, aggregate_tree, of_measure, outcome_of}
 use Rattle.vtl_check.specs.Windowed as windowed
 use Rattle.vtl_check.specs.Windowed.{argument, call_of, call_tree, is_misplaced, is_unfit_over, or_count, over_dataset, over_form, over_node, over_parts, over_structure, over_typed, rank_call, suits, target_form, target_typed}
 use Rattle.vtl_check.specs.calls.Call.{Call}
-use Rattle.vtl_meaning.specs.Made.{IsGroupCondition, IsGrouped, IsMade, IsTyped}
+use Rattle.vtl_meaning.specs.Made.{IsGroupCondition, IsGrouped, IsMade}
 use Rattle.vtl_meaning.specs.Reaches.{IsNear}
 use Rattle.vtl_meaning.specs.Shapes.{IsShaped}
 use Rattle.check_laws.specs.Gives.{Gives}

@@ -1,5 +1,5 @@
 -- The condition of groups.
-use Rattle.std.proofs.Common.{◌≡◌, ℕ, true, not, List, [], ◌∷◌, Option, Some, None, Result, Ok, Err}
+use Rattle.std.proofs.Common.{◌≡◌, true, not, [], ◌∷◌, Some, Result, Ok, Err}
 use Rattle.std.specs.Option.{IfSome}
 use Rattle.vtl_cell.specs.Results.{◌>>=◌}
 use Rattle.vtl_cell.specs.ScalarKinds.{meets}
@@ -11,14 +11,10 @@ use Rattle.vtl_syntax.specs.Trees as tree
 use Rattle.vtl_syntax.specs.Trees.{MaybeExp}
 use Rattle.vtl_tree.specs.CompExp.{CompExp}
 use Rattle.vtl_meaning.specs.Kinds.{exp_kind}
-use Rattle.vtl_meaning.specs.Made.{IsTypedInGroups}
-use Rattle.vtl_meaning.specs.Trees.{NodeTree}
-use Rattle.vtl_check.specs.Places.{Env, at_groups, columns_in}
+use Rattle.vtl_check.specs.Places.{Env}
 use Rattle.vtl_check.specs.Typed.{TypedTree, value, dataset, condition_in}
 use Rattle.vtl_check.specs.Typing.{having_typed, maybe_typed, typed}
-use Rattle.vtl_check.specs.places.Joined.{Joined}
 use Rattle.vtl_check.specs.places.Place.{Place}
-use Rattle.vtl_check.specs.places.Place.TheVariants as place
 use Rattle.check_laws.specs.Gives.{Gives}
 use Rattle.check_laws.specs.WellTyped.{IsValueAt, IsWellTyped}
 use Rattle.check_laws.proofs.Steps.{tested, then}

@@ -1,5 +1,5 @@
 -- What is typed is typed over the columns of its place, and its nodes are made.
-use Rattle.std.proofs.Common.{◌≡◌, ℕ, Bool, true, not, ◌||◌, List, [], ◌∷◌, Option, Some, None, option_map, Result, Ok, Err, refl, subst}
+use Rattle.std.proofs.Common.{◌≡◌, ℕ, Bool, true, ◌||◌, List, [], ◌∷◌, Option, Some, None, option_map, Result, Ok, Err, refl, subst}
 use Rattle.std.specs.List.{AllByRecursion}
 use Rattle.std.specs.Option.{IfSome, is_some}
 use Rattle.vtl_cell.specs.ScalarKinds.{meets}
@@ -24,7 +24,7 @@ use Rattle.vtl_syntax.specs.declared.word_groups.UnaryOp.TheVariants as one_sign
 use Rattle.vtl_syntax.specs.declared.word_groups.WrittenRole.{WrittenRole}
 use Rattle.vtl_tree.specs.CompExp.{CompExp, CompExps}
 use Rattle.vtl_meaning.specs.Trees as nodes
-use Rattle.vtl_meaning.specs.Trees.{ItemTree, NodeTree, OperandTree, ValueTree, structure_of}
+use Rattle.vtl_meaning.specs.Trees.{ItemTree, NodeTree, ValueTree, structure_of}
 use Rattle.vtl_meaning.specs.Groupings.{grouping_of, grouping_typed}
 use Rattle.vtl_meaning.specs.ValuesOperators.{exps_length, of_binary, of_function, of_unary, takes}
 use Rattle.vtl_meaning.specs.ValuesLiterals.{literals_fit}
