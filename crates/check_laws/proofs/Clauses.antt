@@ -1,6 +1,7 @@
 -- Clauses on typed data sets.
 use Rattle.std.proofs.Common.{◌≡◌, ℕ, Bool, true, false, cond, not, ◌||◌, List, [], ◌∷◌, ◌++◌, map, Option, Some, None, Result, Ok, Err, refl, sym, ap, ◌∙◌, subst, true≢false}
 use Rattle.std.specs.List.{AllByRecursion, list_any}
+use Rattle.std.specs.Option.{IfSome}
 use Rattle.std.specs.Prelude.{unwrap_or}
 use Rattle.vtl_cell.specs.Settings.{Settings}
 use Rattle.vtl_cell.specs.Apart.{all_apart}
@@ -50,21 +51,22 @@ use Rattle.vtl_check.specs.places.Place.TheVariants as place
 use Rattle.vtl_check.specs.Clauses.{cell_as, filter_form, kept_of, keeping_form, made_of, name_known, names_typed, pivot_names, pivot_of, references_in, renamed_of, renaming_form, renamings_typed, sub_form, sub_item, sub_known, sub_names, sub_of, sub_value, subs_typed, unpivot_of}
 use Rattle.vtl_check.specs.Targets.{aggr_clause, aggr_tree, calc_clause, calc_name, is_analytic, is_analytic_value, item_names, item_of, made_target, role_of, target_of, value_kind}
 use Rattle.vtl_check.specs.targets.Made.{Made}
-use Rattle.vtl_meaning.specs.Made.{IsCalculated, IsFiltered, IsLeft, IsMade, IsPivoted, IsRenamed, IsSub, IsTyped, IsUnpivoted}
+use Rattle.vtl_meaning.specs.Made.{IsCalculated, IsFiltered, IsGroupCondition, IsGrouped, IsLeft, IsMade, IsPivoted, IsRenamed, IsSub, IsTyped, IsUnpivoted}
 use Rattle.vtl_meaning.specs.Operators.{value_exp}
 use Rattle.vtl_meaning.specs.Reaches.{IsNear, IsNearValue}
 use Rattle.vtl_meaning.specs.Shapes.{IsChosen, IsRenamedBy, IsShaped}
 use Rattle.check_laws.specs.Gives.{ArePassed, Gives}
 use Rattle.check_laws.specs.WellTyped.{IsWellTyped}
+use Rattle.check_laws.proofs.Aggregated.{AreMadeTargets, aggr-fits}
 use Rattle.check_laws.proofs.Calculated.{IsItemFor, calculated-fits}
-use Rattle.check_laws.proofs.Columns.{same-symm}
+use Rattle.check_laws.proofs.Columns.{among-any}
 use Rattle.check_laws.proofs.Inner.{made-shaped}
 use Rattle.check_laws.proofs.Left.{IsItem, IsName, IsNamed, drop-fits, keep-fits, known-gives, sub-fits}
 use Rattle.check_laws.proofs.Lists as lists
 use Rattle.check_laws.proofs.Literals.{literal-as, valued-gives, kind-met}
 use Rattle.check_laws.proofs.Operators.{IsMadeWith}
 use Rattle.check_laws.proofs.Renamed.{renamed-fits}
-use Rattle.check_laws.proofs.OtherForms.{aggr-shaped, calc-shaped}
+use Rattle.check_laws.proofs.OtherForms.{calc-shaped}
 use Rattle.check_laws.proofs.Steps.{after, tested, then, weaker}
 use Rattle.check_laws.proofs.Tests.{not-false}
 use Rattle.check_laws.proofs.Turned.{pivot-fits, unpivot-fits}
@@ -179,10 +181,6 @@ written-role None q e = e
 written-role (Some written.Measure) q e = cc
 written-role (Some written.Attribute) q e = cc
 
-pub among-any : (name : List ℕ) (names : List (List ℕ)) → is_among name names ≡ list_any (same_name name) names
-among-any name [] = refl
-among-any name (n ∷ names) = ap (λ b. b || is_among name names) (same-symm n name) ∙ ap (λ b. same_name name n || b) (among-any name names)
-
 names-more : (items : List ItemTree) (i : ItemTree) → item_names (items ++ i ∷ []) ≡ item_names items ++ i.target ∷ []
 names-more [] i = refl
 names-more (x ∷ items) i = ap (λ l. x.target ∷ l) (names-more items i)
@@ -220,8 +218,9 @@ calc-gives env n items is are = go (list_any is_analytic items) refl
         (lists.joined (IsTarget env.settings n) (λ i. is_analytic i ≡ false) (IsItemFor env.settings (structure_of n) (target_of (components_in n))) items (item-for env.settings n) are.each (lists.any_fails is_analytic items e))))
 
 -- ---- `aggr`
-pub aggr-gives : (env : Env) (g : Option GroupPart) (n : NodeTree) (made : List Made) (having : Option CompExp) → IsMade env.settings env.known n → Gives (IsMade env.settings env.known) (aggr_clause g n made having)
+pub aggr-gives : (env : Env) (g : Option GroupPart) (n : NodeTree) (made : List Made) (having : Option CompExp) → IsMade env.settings env.known n → AreMadeTargets (structure_of n) made → IfSome having (IsGroupCondition env.settings (aggr_tree g n made having) (structure_of n)) → Gives (IsMade env.settings env.known) (aggr_clause g n made having)
 unfolding aggr_clause
-aggr-gives env g n made having is =
+aggr-gives env g n made having is targets condition =
     node-gives env (nodes.aggregate n (aggr_tree g n made having)) (aggr_form (grouping_choice g) (grouping_names g) (map made_target made) (components_in n))
-    (weaker IsShaped (IsMadeWith env (nodes.aggregate n (aggr_tree g n made having))) (aggr_form (grouping_choice g) (grouping_names g) (map made_target made) (components_in n)) (λ s f. (f, is)) (aggr-shaped (grouping_choice g) (grouping_names g) (map made_target made) (components_in n)))
+    (weaker (λ s. IsShaped s × IsGrouped env.settings (aggr_tree g n made having) (structure_of n) s) (IsMadeWith env (nodes.aggregate n (aggr_tree g n made having))) (aggr_form (grouping_choice g) (grouping_names g) (map made_target made) (components_in n)) (λ s h. (h.0, (is, h.1)))
+    (aggr-fits env.settings g (structure_of n) made (aggr_tree g n made having) (made-shaped env.settings env.known n is) targets refl refl condition))

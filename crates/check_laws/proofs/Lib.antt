@@ -24,6 +24,7 @@ pub use Rattle.vtl_meaning.proofs.SetsOrders
 pub use Rattle.vtl_meaning.proofs.TurnedKept
 pub use Rattle.vtl_meaning.proofs.TurnedOrders
 pub use Rattle.vtl_meaning.proofs.ValueKinds as MeaningValueKinds
+pub mod Aggregated
 pub mod Alike
 pub mod Among
 pub mod Calculated
@@ -38,7 +39,9 @@ pub mod DepthScripts
 pub mod DepthSets
 pub mod DepthTyping
 pub mod Expressions
+pub mod GroupValues
 pub mod Groups
+pub mod Having
 pub mod Inner
 pub mod Joined
 pub mod Joins

@@ -5,7 +5,7 @@ use Rattle.check_faults.specs.Rules.{ruled}
 use Rattle.vtl_tree.specs.declared.structure.Component.{Component}
 use Rattle.vtl_tree.specs.declared.structure.Structure.{Structure}
 use Rattle.vtl_meaning.specs.Choices.{chosen}
-use Rattle.vtl_meaning.specs.Clauses.{aggr_form, calc_form, calculated, is_new, target_component}
+use Rattle.vtl_meaning.specs.Clauses.{calc_form, calculated, is_new, target_component}
 use Rattle.vtl_meaning.specs.Measures.{Gives as GivesKind, given_measures, measured_form, measured_tests}
 use Rattle.vtl_meaning.specs.Operands.{agreed_identifiers}
 use Rattle.vtl_meaning.specs.Pairs.{check_form, check_measures, check_tests}
@@ -28,6 +28,3 @@ check-shaped s others = any-shaped (ruled (check_tests s others) (tt {0})) (λ u
 
 pub calc-shaped : (ts : List Target) (xs : List Component) → Gives IsShaped (calc_form ts xs)
 calc-shaped ts xs = some-shaped (map (calculated ts) xs ++ map target_component (filter (is_new xs) ts))
-
-pub aggr-shaped : (c : Choice) (names : List (List ℕ)) (ts : List Target) (xs : List Component) → Gives IsShaped (aggr_form c names ts xs)
-aggr-shaped c names ts xs = some-shaped (chosen c names xs ++ map target_component ts)

@@ -1,7 +1,9 @@
 -- What is typed is typed over the columns of its place, and its nodes are made.
-use Rattle.std.proofs.Common.{◌≡◌, Bool, true, ◌||◌, List, [], ◌∷◌, Option, Some, None, option_map, Result, Ok, Err, refl}
+use Rattle.std.proofs.Common.{◌≡◌, ℕ, Bool, true, not, ◌||◌, List, [], ◌∷◌, Option, Some, None, option_map, Result, Ok, Err, refl, subst}
 use Rattle.std.specs.List.{AllByRecursion}
 use Rattle.std.specs.Option.{IfSome, is_some}
+use Rattle.vtl_cell.specs.ScalarKinds.{meets}
+use Rattle.vtl_cell.specs.declared.kind.Kind.TheVariants as k
 use Rattle.vtl_cell.specs.declared.operator.ScalarOp.{ScalarOp}
 use Rattle.vtl_cell.specs.declared.operator.ScalarOp.TheVariants as op
 use Rattle.vtl_cell.specs.Results.{◌>>=◌}
@@ -9,6 +11,7 @@ use Rattle.check_faults.specs.declared.rules.Rule.{Rule}
 use Rattle.check_faults.specs.declared.rules.Rule.TheVariants as rule
 use Rattle.vtl_syntax.specs.Trees as tree
 use Rattle.vtl_syntax.specs.Trees.{Calcs, ClauseTree, Exp, Exps, MaybeExp, MaybeTargets, Parts, TargetsTree}
+use Rattle.vtl_syntax.specs.declared.parts.Comp.{Comp}
 use Rattle.vtl_syntax.specs.declared.parts.Comp.{Comp}
 use Rattle.vtl_syntax.specs.declared.parts.GroupPart.{GroupPart}
 use Rattle.vtl_syntax.specs.declared.parts.Keeping.{Keeping}
@@ -18,9 +21,10 @@ use Rattle.vtl_syntax.specs.declared.word_groups.BinaryOp.{BinaryOp}
 use Rattle.vtl_syntax.specs.declared.word_groups.BinaryOp.TheVariants as sign
 use Rattle.vtl_syntax.specs.declared.word_groups.UnaryOp.{UnaryOp}
 use Rattle.vtl_syntax.specs.declared.word_groups.UnaryOp.TheVariants as one_sign
-use Rattle.vtl_tree.specs.CompExp.{CompExps}
+use Rattle.vtl_syntax.specs.declared.word_groups.WrittenRole.{WrittenRole}
+use Rattle.vtl_tree.specs.CompExp.{CompExp, CompExps}
 use Rattle.vtl_meaning.specs.Trees as nodes
-use Rattle.vtl_meaning.specs.Trees.{ItemTree, NodeTree, OperandTree, ValueTree}
+use Rattle.vtl_meaning.specs.Trees.{ItemTree, NodeTree, OperandTree, ValueTree, structure_of}
 use Rattle.vtl_meaning.specs.Groupings.{grouping_of, grouping_typed}
 use Rattle.vtl_meaning.specs.ValuesOperators.{exps_length, of_binary, of_function, of_unary, takes}
 use Rattle.vtl_meaning.specs.ValuesLiterals.{literals_fit}
@@ -30,6 +34,7 @@ use Rattle.vtl_check.specs.Operators.{operator_form, set_form}
 use Rattle.vtl_check.specs.Places.{Env, Written, at_groups, at_points, columns_in, in_aggregate, member_inside, member_written}
 use Rattle.vtl_check.specs.Sets.{check_form, check_spec, difference_form, exists_form, member_of, sets_form}
 use Rattle.vtl_check.specs.Typed.{TypedTree, value, dataset, components_in, dataset_in}
+use Rattle.vtl_check.specs.places.Inside.{Inside}
 use Rattle.vtl_check.specs.places.Joined.{Joined}
 use Rattle.vtl_check.specs.places.Place.{Place}
 use Rattle.vtl_check.specs.places.Place.TheVariants as place
@@ -37,14 +42,19 @@ use Rattle.vtl_check.specs.Aggregates.{aggregate_node, count_call, aggregate_val
 use Rattle.vtl_check.specs.Windowed.{over_typed, target_typed}
 use Rattle.vtl_check.specs.Clauses.{filter_form}
 use Rattle.vtl_check.specs.JoinOperands.{PartTyped, joined_node, joined_of, operands_in, with_part}
-use Rattle.vtl_check.specs.Targets.{aggr_clause, calc_clause, calc_name, item_names, with_item}
+use Rattle.vtl_check.specs.Targets.{aggr_clause, aggr_name, calc_clause, calc_name, item_names, with_item, with_made}
+use Rattle.vtl_check.specs.targets.Made.{Made}
 use Rattle.vtl_check.specs.Typing.{Having, aggrs_typed, as_dataset, behind, body_end, calc_value, calcs_typed, clause_typed, filter_step, filtered_join, grouped_of, has_exp, having_typed, join_end, keeping_step, last_step, maybe_typed, operands_typed, or_component, over_operand, own_groups, parts_typed, renaming_step, scalar_value, targets_step, targets_typed, typed}
 use Rattle.vtl_meaning.specs.Literals.{are_literals}
-use Rattle.vtl_meaning.specs.Made.{IsMade}
+use Rattle.vtl_meaning.specs.Kinds.{exp_kind}
+use Rattle.vtl_meaning.specs.Made.{IsMade, IsTypedInGroups}
 use Rattle.check_laws.specs.Gives.{ArePassed, Gives}
 use Rattle.check_laws.specs.WellTyped.{AreShaped, IsWellTyped}
+use Rattle.check_laws.proofs.Aggregated.{AreMadeTargets, grouping-is, target-more}
 use Rattle.check_laws.proofs.Clauses.{AreTargets, IsTargetValue, aggr-gives, calc-gives, filter-gives, item-more, keeping-gives, name-free, pivot-gives, renaming-gives, sub-gives, unpivot-gives}
-use Rattle.check_laws.proofs.Groups.{IsAnalytic, aggregate-gives, count-call-gives, over-gives, target-analytic, value-call-gives}
+use Rattle.check_laws.proofs.GroupValues.{IsOperand, count-call-gives, operand-named, value-call-gives}
+use Rattle.check_laws.proofs.Groups.{IsAnalytic, aggregate-gives, over-gives, target-analytic}
+use Rattle.check_laws.proofs.Having.{IsCondition, having-at}
 use Rattle.check_laws.proofs.Joins.{AreJoinOperands, AreJoinParts, joined-gives, last-gives, operands-give, part-gives}
 use Rattle.check_laws.proofs.Lists as lists
 use Rattle.check_laws.proofs.LiteralOperands.{free-gives, functions-give}
@@ -86,12 +96,23 @@ component-gives env (place.Inside i) e c rest h = go (member_written e c)
     go None = h
     go (Some w) = written-gives env i w
 
-grouped-gives : (env : Env) (at : Place) (f : AggregateName) (e : MaybeExp) (g : Option GroupPart) (grouped : Bool) (having : Having) (x : Option TypedTree) → IfSome x (IsWellTyped env (in_aggregate at)) → Gives (IsWellTyped env at) (grouped_of at f e g grouped having x)
-grouped-gives env at f e g grouped having (Some (dataset n)) h =
-    after (IsWellTyped env at) (grouping_typed (components_in n) g) (λ names. having (place.Inside (at_groups None n names)) >>= aggregate_node f g n)
-    (λ names. after (IsWellTyped env at) (having (place.Inside (at_groups None n names))) (aggregate_node f g n) (λ c. aggregate-gives env at f g n c h))
-grouped-gives env at f e g grouped having (Some (value v)) h = after (IsWellTyped env at) (own_groups at g having) (λ u. aggregate_value at f grouped e v) (λ u. value-call-gives env at f grouped e v)
-grouped-gives env at f e g grouped having None h = after (IsWellTyped env at) (own_groups at g having) (λ u. count_call at f grouped) (λ u. count-call-gives env at f grouped)
+-- the condition of groups of an operand, by the names that its grouping gives
+abbrev IsHaving : Env → NodeTree → List (List ℕ) → Option CompExp → Type 0
+IsHaving env n names o = IfSome o (λ e. IsTypedInGroups env.settings names (columns_in n) e × (meets k.Bool (exp_kind e) ≡ true))
+
+grouped-gives : (env : Env) (at : Place) (f : AggregateName) (e : MaybeExp) (g : Option GroupPart) (grouped : Bool) (having : Having) (x : Option TypedTree) → IfSome x (IsWellTyped env (in_aggregate at)) → IfSome x (IsOperand at e) → ((i : Inside) → Gives (λ o. IfSome o (IsCondition env.settings (place.Inside i))) (having (place.Inside i))) → Gives (IsWellTyped env at) (grouped_of at f e g grouped having x)
+grouped-gives env at f e g grouped having (Some (dataset n)) h named c =
+    then (λ names. names ≡ grouping_of g (components_in n)) (IsWellTyped env at) (grouping_typed (components_in n) g) (λ names. having (place.Inside (at_groups None n names)) >>= aggregate_node f g n) (grouping-is (components_in n) g)
+    (λ names same. then (λ o. IfSome o (IsCondition env.settings (place.Inside (at_groups None n names)))) (IsWellTyped env at) (having (place.Inside (at_groups None n names))) (aggregate_node f g n) (c (at_groups None n names))
+    (λ o condition. aggregate-gives env at f g n o h (subst (λ ns. IsHaving env n ns o) same condition)))
+grouped-gives env at f e g grouped having (Some (value v)) h named c = after (IsWellTyped env at) (own_groups at g having) (λ u. aggregate_value at f grouped e v) (λ u. value-call-gives env at f grouped e v named)
+grouped-gives env at f e g grouped having None h named c = after (IsWellTyped env at) (own_groups at g having) (λ u. count_call at f grouped) (λ u. count-call-gives env at f grouped)
+
+-- one more target of `aggr`
+target-gives-more : (env : Env) (j : Option Joined) (n : NodeTree) (names : List (List ℕ)) (r : Option WrittenRole) (c : Comp) (e : Exp) (done : List Made) (x : TypedTree) → AreMadeTargets (structure_of n) done → IsWellTyped env (place.Inside (at_groups j n names)) x → Gives (AreMadeTargets (structure_of n)) (with_made r c e done x)
+unfolding with_made
+target-gives-more env j n names r c e done (value v) hd h = target-more env.settings names (structure_of n) r c e done v hd h
+target-gives-more env j n names r c e done (dataset d) hd h = tt
 
 keeping-step : (env : Env) (j : Option Joined) (k : Option Keeping) (n : NodeTree) → IsMade env.settings env.known n → Gives (IsMade env.settings env.known) (keeping_step j k n)
 keeping-step env j None n is = is
@@ -157,8 +178,9 @@ mutual
   sound env are at (tree.brackets e) = sound env are at e
   sound env are at (tree.function f es) = operator-step env at (of_function f) (takes f (exps_length es)) (literals_fit env.settings f es) (operands_typed env at [] es) (functions-give env at f es) (sound-operands env are at [] es tt)
   sound env are at (tree.aggregate f e g h) =
-      then (λ x. IfSome x (IsWellTyped env (in_aggregate at))) (IsWellTyped env at) (maybe_typed env (in_aggregate at) e) (grouped_of at f e g (is_some g || has_exp h) (λ groups. having_typed env groups h)) (sound-maybe env are (in_aggregate at) e)
-      (grouped-gives env at f e g (is_some g || has_exp h) (λ groups. having_typed env groups h))
+      then (λ x. IfSome x (IsWellTyped env (in_aggregate at)) × IfSome x (IsOperand at e)) (IsWellTyped env at) (maybe_typed env (in_aggregate at) e) (grouped_of at f e g (is_some g || has_exp h) (λ groups. having_typed env groups h))
+      (both (λ x. IfSome x (IsWellTyped env (in_aggregate at))) (λ x. IfSome x (IsOperand at e)) (maybe_typed env (in_aggregate at) e) (sound-maybe env are (in_aggregate at) e) (operand-named env at e))
+      (λ x is. grouped-gives env at f e g (is_some g || has_exp h) (λ groups. having_typed env groups h) x is.0 is.1 (λ i. having-at env (place.Inside i) h (sound-maybe env are (place.Inside i) h)))
   sound env are at (tree.aggregate_over f e o) = then (λ x. IfSome x (IsWellTyped env at)) (IsWellTyped env at) (maybe_typed env at e) (over_typed env.settings at (tree.aggregate_over f e o)) (sound-maybe env are at e) (over-gives env at (tree.aggregate_over f e o))
   sound env are at (tree.value_window f e o) = then (IsWellTyped env at) (IsWellTyped env at) (typed env at e) (λ x. over_typed env.settings at (tree.value_window f e o) (Some x)) (sound env are at e) (λ x h. over-gives env at (tree.value_window f e o) (Some x) h)
   sound env are at (tree.shift f e n l o) = then (IsWellTyped env at) (IsWellTyped env at) (typed env at e) (λ x. over_typed env.settings at (tree.shift f e n l o) (Some x)) (sound env are at e) (λ x h. over-gives env at (tree.shift f e n l o) (Some x) h)
@@ -204,9 +226,19 @@ mutual
   sound-targets : (env : Env) → AreShaped env.known → (j : Option Joined) (n : NodeTree) (m : TargetsTree) → IsMade env.settings env.known n → Gives (IsMade env.settings env.known) (targets_typed env j n m)
   sound-targets env are j n (tree.calc cs) is = then (AreTargets env.settings n) (IsMade env.settings env.known) (calcs_typed env (place.Inside (at_points j n)) n [] cs) (calc_clause n) (sound-calcs env are j n [] cs (record { each = tt; apart = refl })) (λ items h. calc-gives env n items is h)
   sound-targets env are j n (tree.aggr cs g h) is =
-      after (IsMade env.settings env.known) (aggrs_typed env (place.Inside (at_groups j n (grouping_of g (components_in n)))) [] cs) (λ made. grouping_typed (components_in n) g >>= λ names. having_typed env (place.Inside (at_groups j n names)) h >>= aggr_clause g n made)
-      (λ made. after (IsMade env.settings env.known) (grouping_typed (components_in n) g) (λ names. having_typed env (place.Inside (at_groups j n names)) h >>= aggr_clause g n made)
-      (λ names. after (IsMade env.settings env.known) (having_typed env (place.Inside (at_groups j n names)) h) (aggr_clause g n made) (λ c. aggr-gives env g n made c is)))
+      then (AreMadeTargets (structure_of n)) (IsMade env.settings env.known) (aggrs_typed env (place.Inside (at_groups j n (grouping_of g (components_in n)))) [] cs) (λ made. grouping_typed (components_in n) g >>= λ names. having_typed env (place.Inside (at_groups j n names)) h >>= aggr_clause g n made)
+      (sound-aggrs env are j n (grouping_of g (components_in n)) [] cs tt)
+      (λ made targets. then (λ names. names ≡ grouping_of g (components_in n)) (IsMade env.settings env.known) (grouping_typed (components_in n) g) (λ names. having_typed env (place.Inside (at_groups j n names)) h >>= aggr_clause g n made) (grouping-is (components_in n) g)
+      (λ names same. then (λ o. IfSome o (IsCondition env.settings (place.Inside (at_groups j n names)))) (IsMade env.settings env.known) (having_typed env (place.Inside (at_groups j n names)) h) (aggr_clause g n made) (having-at env (place.Inside (at_groups j n names)) h (sound-maybe env are (place.Inside (at_groups j n names)) h))
+      (λ o condition. aggr-gives env g n made o is targets (subst (λ ns. IsHaving env n ns o) same condition))))
+
+  sound-aggrs : (env : Env) → AreShaped env.known → (j : Option Joined) (n : NodeTree) (names : List (List ℕ)) (done : List Made) (cs : Calcs) → AreMadeTargets (structure_of n) done → Gives (AreMadeTargets (structure_of n)) (aggrs_typed env (place.Inside (at_groups j n names)) done cs)
+  sound-aggrs env are j n names done tree.no_calcs hd = hd
+  sound-aggrs env are j n names done (tree.calc_part r c e cs) hd =
+      after (AreMadeTargets (structure_of n)) (aggr_name done c) (λ u. typed env (place.Inside (at_groups j n names)) e >>= with_made r c e done >>= λ made. aggrs_typed env (place.Inside (at_groups j n names)) made cs)
+      (λ u. then (AreMadeTargets (structure_of n)) (AreMadeTargets (structure_of n)) (typed env (place.Inside (at_groups j n names)) e >>= with_made r c e done) (λ made. aggrs_typed env (place.Inside (at_groups j n names)) made cs)
+      (then (IsWellTyped env (place.Inside (at_groups j n names))) (AreMadeTargets (structure_of n)) (typed env (place.Inside (at_groups j n names)) e) (with_made r c e done) (sound env are (place.Inside (at_groups j n names)) e) (λ x h. target-gives-more env j n names r c e done x hd h))
+      (λ made h. sound-aggrs env are j n names made cs h))
 
   sound-calcs : (env : Env) → AreShaped env.known → (j : Option Joined) (n : NodeTree) (done : List ItemTree) (cs : Calcs) → AreTargets env.settings n done → Gives (AreTargets env.settings n) (calcs_typed env (place.Inside (at_points j n)) n done cs)
   sound-calcs env are j n done tree.no_calcs hd = hd

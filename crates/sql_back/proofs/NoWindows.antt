@@ -26,6 +26,7 @@ use Rattle.vtl_to_sql.specs.Joins.{cross_query, from_reference, reference_query}
 use Rattle.vtl_to_sql.specs.Queries.{calc_query, choose_query, copy_query, difference_query, existence_query, filter_query, intersection_query, items_as, left_query, measures_query, pair_query, pairs_select, rename_query, select_as, shown_query, source_as, sub_query, symmetric_difference_query, union_query}
 use Rattle.vtl_to_sql.specs.Scripts.{create_for, export_for, input_for, script_for, written_of}
 use Rattle.vtl_to_sql.specs.Tables.{Made, Sources, Table, and_then, by_name, by_names, combined_of, first_number, full_made, join_made, keys_of, made_of, made_of_form, numbered, operands_of, over, script_tables, source_of, sources_of, statement_tables, stored, table_of, with_last, with_one, with_three, with_two}
+use Rattle.vtl_to_sql.specs.Grouped.{aggregate_query}
 use Rattle.vtl_to_sql.specs.Turned.{pivot_query, unpivot_query, unpivoted_select}
 
 -- ---- queries
@@ -189,6 +190,7 @@ module _ (p : Settings) (r : Text) where
         (of_two_names (existence_query p kept (structure_of a) (structure_of b) s) (λ x y. one _ (columns_of s)))
     plain_form s (nodes.pivot a id m) k = plain_over (sources_of p r a k) (with_one (pivot_query p id m (structure_of a) s)) (plain_sources a k) (of_one_name (pivot_query p id m (structure_of a) s) (λ t. one _ (columns_of s)))
     plain_form s (nodes.unpivot a id m) k = plain_over (sources_of p r a k) (with_one (unpivot_query p (structure_of a) s)) (plain_sources a k) (of_one_name (unpivot_query p (structure_of a) s) (each_measure p _ (structure_of a) s))
+    plain_form s (nodes.aggregate a spec) k = plain_over (sources_of p r a k) (with_one (aggregate_query p spec (structure_of a) s)) (plain_sources a k) (of_one_name (aggregate_query p spec (structure_of a) s) (λ t. one _ (columns_of s)))
     plain_form s other k = no_query k
 
     plain_operands : (os : OperandTrees) (k : ℕ) → ArePlain (operands_of p r os k).tables

@@ -38,7 +38,8 @@ fn is_node_built(node: &Node) -> bool
         | NodeForm::Rename { a, .. }
         | NodeForm::Sub { a, .. }
         | NodeForm::Pivot { a, .. }
-        | NodeForm::Unpivot { a, .. } => is_node_built(a),
+        | NodeForm::Unpivot { a, .. }
+        | NodeForm::Aggregate { a, .. } => is_node_built(a),
         _ => false,
     }
 }

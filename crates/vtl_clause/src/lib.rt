@@ -1,5 +1,5 @@
 //! Clauses on data sets: `filter`, `calc`, `rename` and `sub`. `keep` and `drop` leave some of the columns, as
-//! `vtl_expr::keep_columns` does.
+//! `vtl_expr::keep_columns` does, and `aggr` is `vtl_group::aggregate`: both are passed on.
 //!
 //! It decides which points a clause keeps and what their cells are made of. The values of expressions come from
 //! `vtl_expr`, and the structure of each result is passed in as typing found it.
@@ -16,4 +16,4 @@ pub use calculation::calc;
 pub use filtering::filter;
 pub use renaming::rename;
 pub use subspace::sub;
-pub use vtl_expr::{choose, keep_columns, map_measures, pair_measures};
+pub use vtl_group::{aggregate, choose, keep_columns, map_measures, pair_measures};

@@ -1,3 +1,5 @@
+pub use Rattle.vtl_meaning.proofs.GroupKinds
+pub use Rattle.vtl_meaning.proofs.GroupPoints
 pub use Rattle.vtl_meaning.proofs.JoinKept
 pub use Rattle.vtl_meaning.proofs.Kept
 pub use Rattle.vtl_meaning.proofs.LookUps

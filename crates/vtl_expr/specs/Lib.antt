@@ -1,5 +1,9 @@
+pub use Rattle.vtl_meaning.specs.AggregatePoints
+pub use Rattle.vtl_meaning.specs.AggregateShapes
 pub use Rattle.vtl_meaning.specs.Agreement
 pub use Rattle.vtl_meaning.specs.Columns
+pub use Rattle.vtl_meaning.specs.GroupExpressions
+pub use Rattle.vtl_meaning.specs.Groups
 pub use Rattle.vtl_meaning.specs.Joined
 pub use Rattle.vtl_meaning.specs.LookUps
 pub use Rattle.vtl_meaning.specs.Made
@@ -8,9 +12,11 @@ pub use Rattle.vtl_meaning.specs.Operators
 pub use Rattle.vtl_meaning.specs.Points
 pub use Rattle.vtl_meaning.specs.Profiles
 pub use Rattle.vtl_meaning.specs.Sets
+pub use Rattle.vtl_meaning.specs.Trees
 pub use Rattle.vtl_meaning.specs.Turned
 pub use Rattle.vtl_meaning.specs.View
 pub use Rattle.vtl_meaning.specs.clauses
+pub use Rattle.vtl_meaning.specs.specifications
 pub use Rattle.vtl_sets.specs.DataSets
 pub use Rattle.vtl_sets.specs.TableOf
 pub mod Choices

@@ -33,5 +33,5 @@ pub use places::{places_in, push_cells};
 pub use points::each_point;
 pub use prepared::{Prepared, prepare, prepare_all};
 pub use seen::Seen;
-pub use vtl_meaning::{CalcItem, CalcValue, SubItem};
+pub use vtl_meaning::{AggItems, AggSpec, AggTarget, CalcItem, CalcValue, SubItem};
 pub use vtl_sets::{DataSet, new_table, table_columns};

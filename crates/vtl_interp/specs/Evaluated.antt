@@ -33,6 +33,7 @@ GivesOne p env (nodes.rename a pairs) d = Gives p env a d
 GivesOne p env (nodes.sub a items) d = Gives p env a d
 GivesOne p env (nodes.pivot a id m) d = Gives p env a d
 GivesOne p env (nodes.unpivot a id m) d = Gives p env a d
+GivesOne p env (nodes.aggregate a spec) d = Gives p env a d
 GivesOne p env other d = ⊥
 
 abbrev pub GivesTwo : Settings → Environment → FormTree → (d e : DataSet) → Type 0

@@ -45,7 +45,8 @@ pub fn evaluate<'a>(
         | NodeForm::Rename { a, .. }
         | NodeForm::Sub { a, .. }
         | NodeForm::Pivot { a, .. }
-        | NodeForm::Unpivot { a, .. } => {
+        | NodeForm::Unpivot { a, .. }
+        | NodeForm::Aggregate { a, .. } => {
             apply_to_one(alloc, node, evaluate(alloc, known, a, p)?, p)
         }
         NodeForm::Pair { a, b, .. }

@@ -3,7 +3,9 @@ ghost use Rattle.std.specs.Prelude.{Ok, map};
 ghost use Rattle.vtl_scalar.specs.Answers.{AnswersBy};
 ghost use Rattle.vtl_tree.specs.Clauses.{filter_of};
 ghost use Rattle.vtl_tree.specs.View.{comp_exp_of};
-ghost use Rattle.vtl_nodes.specs.View.{item_tree, measure_tree};
+ghost use Rattle.vtl_nodes.specs.View.{agg_tree, item_tree, measure_tree};
+ghost use Rattle.vtl_backend.specs.AggregatePoints.{aggregate_of};
+ghost use Rattle.vtl_backend.specs.AggregateShapes.{IsAggregated};
 ghost use Rattle.vtl_backend.specs.DataSets.{data_set, with_structure};
 ghost use Rattle.vtl_backend.specs.Made.{IsCalculated, IsChoice, IsFiltered, IsLeft, IsMeasured, IsPaired, IsRenamed, IsSub};
 ghost use Rattle.vtl_backend.specs.Operators.{calculated_of, choice_of, left_of, measured_of, pair_of, sub_of};
@@ -12,7 +14,7 @@ ghost use Rattle.vtl_interp.specs.Values.{value_view};
 use crate::value::Value;
 use std::alloc::Global;
 use vtl_cell::{Profile, ScalarOp};
-use vtl_nodes::{CalcItem, MeasureOp, SubItem};
+use vtl_nodes::{AggSpec, CalcItem, MeasureOp, SubItem};
 use vtl_scalar::ScalarErr;
 use vtl_tree::{CompExpr, Structure, share_structure};
 
@@ -122,4 +124,19 @@ pub fn sub<'a>(
 {
     let made = share_structure(alloc, made)?;
     Ok(Value::Made(vtl_clause::sub(alloc, a.data(), items, made)?))
+}
+
+/// An aggregate of each measure, and `aggr`
+pub fn aggregate<'a>(
+    alloc: Global,
+    a: Value<'a>,
+    spec: &AggSpec,
+    made: &Structure,
+    p: &Profile,
+) -> Result<Value<'a>, ScalarErr>
+    requires { IsAggregated (agg_tree spec.now) (value_view a).structure made.now }
+    ensures { AnswersBy value_view result (with_structure made.now (aggregate_of p.now (agg_tree spec.now) (value_view a.entry) made.now)) }
+{
+    let made = share_structure(alloc, made)?;
+    Ok(Value::Made(vtl_clause::aggregate(alloc, a.data(), spec, made, p)?))
 }

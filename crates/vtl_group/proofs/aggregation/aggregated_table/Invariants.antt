@@ -1,7 +1,7 @@
 use Rattle.std.proofs.Common.{◌≡◌, filter, map, take}
 use Rattle.vtl_cell.specs.Outcome.{faults_by}
 use Rattle.vtl_tree.specs.Structure.{columns_of}
-use Rattle.vtl_nodes.specs.View.{agg_tree}
+use Rattle.vtl_expr.specs.View.{agg_tree}
 use Rattle.vtl_expr.specs.Columns.{others_of}
 use Rattle.vtl_expr.specs.Seen.{seen_of}
 use Rattle.vtl_expr.specs.TableOf.{table_columns}
