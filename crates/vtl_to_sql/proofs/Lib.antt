@@ -88,6 +88,7 @@ pub mod References
 pub mod JoinForms
 pub mod NamedItems
 pub mod TurnedForms
+pub mod GroupedForms
 pub mod KeyForms
 pub mod ExistenceForms
 pub mod HeldConstants
