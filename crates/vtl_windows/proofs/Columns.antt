@@ -130,12 +130,12 @@ cells_are f (y ∷ ys) all = λ i. all.0.0 i && all.0.1 i && cells_are f ys all.
 abbrev pub IsOther : Component → Type 0
 IsOther x = same_role x.role role.Identifier ≡ false
 
-measure_role : (r : Role) → same_role r role.Measure ≡ true → same_role r role.Identifier ≡ false
+pub measure_role : (r : Role) → same_role r role.Measure ≡ true → same_role r role.Identifier ≡ false
 measure_role role.Identifier h = cc
 measure_role role.Measure h = refl
 measure_role role.Attribute h = refl
 
-attribute_role : (r : Role) → same_role r role.Attribute ≡ true → same_role r role.Identifier ≡ false
+pub attribute_role : (r : Role) → same_role r role.Attribute ≡ true → same_role r role.Identifier ≡ false
 attribute_role role.Identifier h = cc
 attribute_role role.Measure h = refl
 attribute_role role.Attribute h = refl
