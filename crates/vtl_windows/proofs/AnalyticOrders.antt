@@ -1,13 +1,12 @@
 -- The result does not depend on the order of points.
-use Rattle.std.proofs.Common.{◌≡◌, ℕ, List, map, Option, None, Some, Ok, refl, ap, ◌∙◌, subst}
+use Rattle.std.proofs.Common.{◌≡◌, List, map, Option, None, Some, Ok, refl, ap, subst}
 use Rattle.std.specs.Option.{option_map_or}
 use Rattle.vtl_cell.specs.Conversion.{as_kind}
-use Rattle.vtl_cell.specs.Outcome.{Outcome, after, faults_by}
+use Rattle.vtl_cell.specs.Outcome.{after, faults_by}
 use Rattle.vtl_cell.specs.Outcomes.{Same}
 use Rattle.vtl_cell.specs.Perm.{Perm}
 use Rattle.vtl_cell.specs.Row.{Row, column_of}
 use Rattle.vtl_cell.specs.Settings.{Settings}
-use Rattle.vtl_cell.specs.declared.cell.Cell.{Cell}
 use Rattle.vtl_cell.specs.declared.kind.Kind.{Kind}
 use Rattle.vtl_cell.proofs.Perms.{Perm-map}
 use Rattle.vtl_tree.specs.Environment.{DataSet}

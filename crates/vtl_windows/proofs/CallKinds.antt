@@ -1,6 +1,6 @@
 -- The value of a call is null or of the kind that the call gives.
-use Rattle.std.proofs.Common.{◌≡◌, ℕ, pos, ◌+◌, ◌-◌, ℤ, Bool, true, false, cond, List, [], ◌∷◌, map, length, get_or, Result, Ok, Err, Option, Some, None, refl, sym, ap, ◌∙◌, subst}
-use Rattle.std.specs.Prelude.{IfOk, count_by, option_and_then}
+use Rattle.std.proofs.Common.{◌≡◌, ℕ, pos, ◌+◌, ◌-◌, ℤ, Bool, true, false, cond, List, map, length, Result, Ok, Err, Option, Some, None, refl, ap, subst}
+use Rattle.std.specs.Prelude.{count_by, option_and_then}
 use Rattle.std.specs.List.{AllByRecursion}
 use Rattle.std.specs.Ordering.{is_lt}
 use Rattle.vtl_decimal.specs.Operators.{quotient}
@@ -9,7 +9,7 @@ use Rattle.vtl_decimal.specs.declared.number.Fault.{Fault as DecimalFault}
 use Rattle.vtl_cell.specs.Conversion.{as_kind}
 use Rattle.vtl_cell.specs.Frames.{first_cell, last_cell}
 use Rattle.vtl_cell.specs.Groups.{group_value, numbers_of, ratio_of, units_of, values_of}
-use Rattle.vtl_cell.specs.Kinds.{is_null, is_of, kind_of}
+use Rattle.vtl_cell.specs.Kinds.{is_null, kind_of}
 use Rattle.vtl_cell.specs.Outcome.{Outcome, after}
 use Rattle.vtl_cell.specs.Range.{fit_integer, fit_number}
 use Rattle.vtl_cell.specs.Row.{Row}
@@ -32,7 +32,6 @@ use Rattle.vtl_nodes.specs.declared.calls.AnalyticCall.{AnalyticCall}
 use Rattle.vtl_nodes.specs.declared.calls.AnalyticOp.{AnalyticOp}
 use Rattle.vtl_nodes.specs.declared.calls.AnalyticOp.TheVariants as op
 use Rattle.vtl_nodes.specs.declared.calls.Window.{Window}
-use Rattle.check_shapes.specs.Columns.{place_of}
 use Rattle.check_shapes.specs.Names.{component_of}
 use Rattle.check_values.specs.Kinds.{given_kind}
 use Rattle.vtl_aggregates.proofs.GroupKinds.{GivesOf, IsOf, group_is, integer_is, null_is_of}

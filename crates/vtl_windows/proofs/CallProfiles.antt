@@ -1,5 +1,5 @@
 -- The value of a call is of the profile where the cells of the points are.
-use Rattle.std.proofs.Common.{◌≡◌, ℕ, zero, suc, pos, ◌+◌, ◌-◌, ℤ, Bool, true, false, cond, List, [], ◌∷◌, map, length, Result, Ok, Err, Option, Some, None}
+use Rattle.std.proofs.Common.{ℕ, pos, ◌+◌, ◌-◌, ℤ, Bool, true, false, cond, List, map, length, Result, Ok, Err, Option, Some, None}
 use Rattle.std.specs.Prelude.{count_by}
 use Rattle.std.specs.List.{AllByRecursion}
 use Rattle.std.specs.Ordering.{is_lt}
@@ -7,7 +7,6 @@ use Rattle.vtl_decimal.specs.Operators.{quotient}
 use Rattle.vtl_decimal.specs.Tally.{tally_of}
 use Rattle.vtl_decimal.specs.declared.number.Fault.{Fault as DecimalFault}
 use Rattle.vtl_cell.specs.Conversion.{as_kind}
-use Rattle.vtl_cell.specs.Frames.{first_cell, last_cell}
 use Rattle.vtl_cell.specs.Groups.{numbers_of, ratio_of, units_of, values_of}
 use Rattle.vtl_cell.specs.Kinds.{is_null}
 use Rattle.vtl_cell.specs.Outcome.{Outcome, after}
@@ -21,7 +20,6 @@ use Rattle.vtl_cell.specs.declared.cell.Cell.{Cell}
 use Rattle.vtl_cell.specs.declared.cell.Cell.TheVariants as c
 use Rattle.vtl_cell.specs.declared.kind.Kind.{Kind}
 use Rattle.vtl_cell.specs.declared.kind.Kind.TheVariants as k
-use Rattle.vtl_cell.specs.declared.operator.AggKind.{AggKind}
 use Rattle.vtl_cell.specs.declared.operator.AggKind.TheVariants as agg
 use Rattle.vtl_tree.specs.DataSet.{AreOfProfile}
 use Rattle.vtl_tree.specs.Environment.{DataSet}

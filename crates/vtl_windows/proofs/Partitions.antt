@@ -1,10 +1,10 @@
 -- What holds of all points holds of a partition and of the cells in a frame; and points in another order.
-use Rattle.std.proofs.Common.{◌≡◌, ℕ, zero, suc, ◌+◌, ◌-◌, cond, Bool, true, false, List, [], ◌∷◌, map, take, drop, length, get_or, refl, ap, ◌∙◌, sym, arith}
+use Rattle.std.proofs.Common.{◌≡◌, ℕ, zero, suc, ◌-◌, cond, Bool, true, false, List, [], ◌∷◌, map, take, drop, length, get_or, ◌∙◌, sym}
 use Rattle.std.specs.Prelude.{count_by, nat_le}
 use Rattle.std.specs.List.{AllByRecursion}
 use Rattle.std.specs.Ordering.{is_lt}
 use Rattle.std.proofs.lemmas.List.Sums.{length-filter}
-use Rattle.vtl_cell.specs.Frames.{before, frame_of, lag_of, up_to}
+use Rattle.vtl_cell.specs.Frames.{before, lag_of, up_to}
 use Rattle.vtl_cell.specs.Perm.{Perm}
 use Rattle.vtl_cell.specs.Row.{Row, same_row}
 use Rattle.vtl_cell.specs.declared.cell.Cell.{Cell}
@@ -17,7 +17,7 @@ use Rattle.vtl_tree.specs.Structure.{columns_of}
 use Rattle.vtl_tree.specs.declared.structure.Structure.{Structure}
 use Rattle.vtl_nodes.specs.declared.calls.Window.{Window}
 use Rattle.vtl_aggregates.specs.Groups.{places_named}
-use Rattle.vtl_windows.specs.Windows.{Stand, bound_of, frame_in, framed, identifier_places, keys_in, partition_of, point_cmp, stand_of}
+use Rattle.vtl_windows.specs.Windows.{bound_of, frame_in, framed, identifier_places, keys_in, partition_of, point_cmp, stand_of}
 
 -- ---- lists
 

@@ -1,5 +1,5 @@
 -- The place of a point in its partition is where it stands in the partition in order; and a whole partition.
-use Rattle.std.proofs.Common.{◌≡◌, ℕ, zero, suc, ◌<◌, ◌⊎◌, inl, inr, List, [], ◌∷◌, length, map, filter, get_or, take, Bool, true, false, cond, not, refl, sym, ap, ◌∙◌, subst, arith, true≢false, None}
+use Rattle.std.proofs.Common.{◌≡◌, ℕ, zero, suc, ◌<◌, ◌⊎◌, inl, inr, List, [], ◌∷◌, length, map, filter, get_or, take, Bool, true, false, cond, not, refl, sym, ap, ◌∙◌, arith, true≢false, None}
 use Rattle.std.specs.Prelude.{count_by, unwrap_or}
 use Rattle.std.specs.List.{AllByRecursion}
 use Rattle.std.specs.Ordering.{is_lt}
@@ -24,7 +24,6 @@ use Rattle.vtl_tree.specs.DataSet.{IsDataSet}
 use Rattle.vtl_tree.specs.Environment.{DataSet}
 use Rattle.vtl_tree.specs.Structure.{columns_of, key_width}
 use Rattle.vtl_nodes.specs.declared.calls.Window.{Window}
-use Rattle.vtl_nodes.specs.declared.calls.OrderKey.{OrderKey}
 use Rattle.vtl_aggregates.specs.Groups.{places_named, points_with}
 use Rattle.vtl_windows.specs.Windows.{bound_of, default_frame, frame_in, framed, identifier_places, keys_in, partition_of, point_cmp, seen, stand_of}
 use Rattle.vtl_windows.proofs.Columns.{all_filtered}

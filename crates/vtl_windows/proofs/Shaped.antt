@@ -1,14 +1,12 @@
 -- The structure that typing gives fits: its identifiers stay, and its other columns are made or stay.
-use Rattle.std.proofs.Common.{◌≡◌, ℕ, Bool, true, false, not, ◌&&◌, cond, List, [], ◌∷◌, ◌++◌, map, Option, Some, None, refl, sym, ap, ◌∙◌, subst, true≢false}
+use Rattle.std.proofs.Common.{◌≡◌, ℕ, Bool, true, false, ◌&&◌, cond, List, [], ◌∷◌, ◌++◌, map, Option, Some, None, refl, sym, ap, ◌∙◌, subst, true≢false}
 use Rattle.std.specs.Prelude.{option_and_then, option_map, unwrap_or}
 use Rattle.std.specs.List.{AllByRecursion, filter, find}
 use Rattle.std.specs.Option.{option_map_or}
 use Rattle.std.proofs.lemmas.List.{append-nil}
 use Rattle.std.proofs.lemmas.List.Elements.{filter-append}
 use Rattle.vtl_cell.specs.Apart.{all_apart}
-use Rattle.vtl_cell.specs.Profile.{IsOfProfile}
 use Rattle.vtl_cell.specs.Settings.{Settings}
-use Rattle.vtl_cell.specs.declared.kind.Kind.{Kind}
 use Rattle.vtl_cell.proofs.Perms.{AllByRecursion-Perm}
 use Rattle.vtl_cell.proofs.Sorts.{AllByRecursion-filter}
 use Rattle.vtl_tree.specs.Structure.{IsStructure, columns_of, of_role, same_name, same_role}
@@ -20,7 +18,7 @@ use Rattle.vtl_nodes.specs.Trees as nodes
 use Rattle.vtl_nodes.specs.Trees.{AnalyticTree, ItemTree, ValueTree}
 use Rattle.vtl_nodes.specs.declared.calls.AnalyticOp.{AnalyticOp}
 use Rattle.vtl_nodes.specs.declared.calls.Window.{Window}
-use Rattle.check_shapes.specs.Choices.{chosen, is_chosen, is_identifier, is_identifier_name}
+use Rattle.check_shapes.specs.Choices.{chosen, is_identifier}
 use Rattle.check_shapes.specs.Clauses.{calculated, is_new, retargeted, target_component}
 use Rattle.check_shapes.specs.Clauses as clauses
 use Rattle.check_shapes.specs.Columns.{identifiers_of, others_of}
@@ -31,7 +29,7 @@ use Rattle.check_shapes.specs.declared.targets.Target.{Target}
 use Rattle.check_values.specs.Kinds.{given_kind}
 use Rattle.vtl_aggregates.proofs.GroupPoints.{all_more}
 use Rattle.vtl_windows.specs.Analytics.{item_named, measure_call, value_for}
-use Rattle.vtl_windows.specs.Shapes.{AreMeasuresTaken, AreTaken, IsAnalyzed, IsMadeBy, IsMadeColumn, IsMadeOrStays, IsTakenItem, IsTypedAnalytic, analyzed_components, default_in, given_of, of_measure, taken, takes, target_of, tree_kind}
+use Rattle.vtl_windows.specs.Shapes.{AreMeasuresTaken, IsAnalyzed, IsMadeBy, IsMadeColumn, IsMadeOrStays, IsTakenItem, IsTypedAnalytic, analyzed_components, given_of, of_measure, taken, takes, target_of, tree_kind}
 use Rattle.vtl_windows.proofs.Columns.{IsOther, all_append, all_filtered, attribute_role, by_roles, columns_found, measure_role, own_found, same-is}
 use Rattle.vtl_windows.proofs.Partitions.{all_map}
 

@@ -22,7 +22,6 @@ use Rattle.vtl_tree.specs.kind.Kind.{Kind}
 use Rattle.vtl_tree.specs.kind.Kind.TheVariants as k
 use Rattle.vtl_nodes.specs.Trees as nodes
 use Rattle.vtl_nodes.specs.Trees.{AnalyticTree, ItemTree, ValueTree}
-use Rattle.vtl_nodes.specs.declared.calls.AnalyticCall.{AnalyticCall}
 use Rattle.vtl_nodes.specs.declared.calls.AnalyticOp.{AnalyticOp}
 use Rattle.vtl_nodes.specs.declared.calls.AnalyticOp.TheVariants as op
 use Rattle.check_shapes.specs.Choices.{chosen, is_identifier_name}

@@ -1,6 +1,6 @@
 -- What a call over a window gives at a point. The points that agree with it on the components of the partition stand in an order, the call
 -- sees those in a frame round its place, and its value is one of their cells or of all of them.
-use Rattle.std.specs.Prelude.{ℕ, List, [], ◌∷◌, map, count_by, Option, None, Some, Ok, unwrap_or}
+use Rattle.std.specs.Prelude.{ℕ, List, [], ◌∷◌, map, count_by, Option, Ok, unwrap_or}
 use Rattle.std.specs.Option.{option_map_or}
 use Rattle.std.specs.Ordering.{is_lt}
 use Rattle.std.specs.declared.cmp.Ordering.{Ordering}
