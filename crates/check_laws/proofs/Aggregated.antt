@@ -1,20 +1,14 @@
 -- Aggregates: what a form gives fits its operand.
-use Rattle.std.proofs.Common.{◌≡◌, ℕ, zero, suc, ◌+◌, Bool, true, false, cond, not, ◌&&◌, ◌||◌, List, [], ◌∷◌, ◌++◌, map, Option, Some, None, Result, Ok, Err, refl, sym, ap, ◌∙◌, subst, arith}
-use Rattle.std.proofs.lemmas.Bool.{false≢true}
-use Rattle.std.specs.List.{AllByRecursion, filter, list_any}
+use Rattle.std.proofs.Common.{◌≡◌, ℕ, suc, ◌+◌, Bool, true, false, cond, not, ◌&&◌, ◌||◌, List, [], ◌∷◌, ◌++◌, map, Option, Some, None, Ok, refl, sym, ap, ◌∙◌, subst, arith}
+use Rattle.std.specs.List.{AllByRecursion, filter}
 use Rattle.std.specs.Option.{IfSome, is_none}
 use Rattle.std.specs.Prelude.{IsSome, option_and_then, unwrap_or}
 use Rattle.vtl_cell.specs.Apart.{all_apart}
-use Rattle.vtl_cell.specs.Results.{◌>>=◌}
 use Rattle.vtl_cell.specs.Settings.{Settings}
 use Rattle.vtl_cell.specs.declared.kind.Kind.{Kind}
 use Rattle.vtl_cell.specs.declared.kind.Kind.TheVariants as k
 use Rattle.vtl_cell.specs.declared.operator.AggKind.{AggKind}
-use Rattle.vtl_cell.specs.declared.operator.AggKind.TheVariants as agg
 use Rattle.vtl_cell.proofs.Aparts.{apart_parts}
-use Rattle.check_faults.specs.Rules.{ruled}
-use Rattle.check_faults.specs.declared.rules.Rule.{Rule}
-use Rattle.check_faults.specs.declared.rules.Rule.TheVariants as rule
 use Rattle.vtl_syntax.specs.Trees.{Exp}
 use Rattle.vtl_syntax.specs.declared.parts.Comp.{Comp}
 use Rattle.vtl_syntax.specs.declared.parts.GroupPart.{GroupPart}
@@ -29,12 +23,11 @@ use Rattle.vtl_tree.specs.Structure.{IsStructure, columns_of, names_of, same_nam
 use Rattle.vtl_tree.specs.Structures.{structure_of}
 use Rattle.vtl_tree.specs.declared.expression.AggCall.{AggCall}
 use Rattle.vtl_tree.specs.declared.structure.Component.{Component}
-use Rattle.vtl_tree.specs.declared.structure.Role.{Role}
 use Rattle.vtl_tree.specs.declared.structure.Role.TheVariants as role
 use Rattle.vtl_tree.specs.declared.structure.Structure.{Structure}
 use Rattle.vtl_meaning.specs.AggregateKinds as kinds
 use Rattle.vtl_meaning.specs.AggregateShapes as shapes
-use Rattle.vtl_meaning.specs.AggregateShapes.{IsTypedAggregate, given_kind, given_of}
+use Rattle.vtl_meaning.specs.AggregateShapes.{IsTypedAggregate, given_of}
 use Rattle.vtl_meaning.specs.Choices.{chosen, is_chosen, is_identifier}
 use Rattle.vtl_meaning.specs.Clauses.{aggr_form, target_component}
 use Rattle.vtl_meaning.specs.Columns.{kind_named, place_of}
@@ -45,15 +38,13 @@ use Rattle.vtl_meaning.specs.Names.{all_known, component_of, is_among}
 use Rattle.vtl_meaning.specs.Shape.{shaped}
 use Rattle.vtl_meaning.specs.Shapes.{IsShaped}
 use Rattle.vtl_meaning.specs.Trees.{AggTree}
-use Rattle.vtl_meaning.specs.choices.Choice.{Choice}
 use Rattle.vtl_meaning.specs.choices.Choice.TheVariants as choice
 use Rattle.vtl_meaning.specs.names.Wanted.TheVariants as wanted
 use Rattle.vtl_meaning.specs.specifications.AggItems.TheVariants as items
-use Rattle.vtl_meaning.specs.specifications.AggTarget.{AggTarget}
 use Rattle.vtl_meaning.proofs.Shaped.{fits}
-use Rattle.vtl_check.specs.Aggregates.{agg_kind, aggregate_tree, of_measure, outcome_of}
+use Rattle.vtl_check.specs.Aggregates.{agg_kind, of_measure, outcome_of}
 use Rattle.vtl_check.specs.Targets.{call_in, is_aggregate, made_as, made_target, role_of, targets_in, with_made}
-use Rattle.vtl_check.specs.Typed.{TypedTree, value, dataset, value_in}
+use Rattle.vtl_check.specs.Typed.{value}
 use Rattle.vtl_check.specs.targets.Made.{Made}
 use Rattle.check_laws.specs.Gives.{Gives}
 use Rattle.check_laws.proofs.Columns.{IsFound, all-found, at-found, name-found, of-columns, same-refl, same-symm}
@@ -78,7 +69,7 @@ names-again : (q : Component → Bool) (xs : List Component) → all_apart same_
 names-again q [] h = tt
 names-again q (x ∷ xs) h = (
   first (q x) refl,
-  lists.joined (λ y. same_name x.name y.name ≡ false) (λ y. is_among y.name (names_of (filter q xs)) ≡ q y) (λ y. is_among y.name (names_of (filter q (x ∷ xs))) ≡ q y) xs (λ y no ih. other y (q x) no ∙ ih)
+  lists.joined (λ y. same_name x.name y.name ≡ false) (λ y. is_among y.name (names_of (filter q xs)) ≡ q y) (λ y. is_among y.name (names_of (filter q (x ∷ xs))) ≡ q y) xs (λ y apart ih. other y (q x) apart ∙ ih)
       (lists.unmapped (λ n. same_name x.name n ≡ false) (λ y. y.name) xs parts.0) (names-again q xs parts.1),
 )
   where
@@ -90,8 +81,8 @@ names-again q (x ∷ xs) h = (
     first false e = ap (λ b. is_among x.name (names_of (cond b (x ∷ filter q xs) (filter q xs)))) e ∙ none-among q x.name xs parts.0 ∙ sym e
 
     other : (y : Component) (b : Bool) → same_name x.name y.name ≡ false → is_among y.name (names_of (cond b (x ∷ filter q xs) (filter q xs))) ≡ is_among y.name (names_of (filter q xs))
-    other y true no = ap (λ c. c || is_among y.name (names_of (filter q xs))) no
-    other y false no = refl
+    other y true apart = ap (λ c. c || is_among y.name (names_of (filter q xs))) apart
+    other y false apart = refl
 
 -- what a grouping chooses are identifiers
 grouping-identifies : (g : Option GroupPart) (x : Component) → (is_identifier x && is_chosen (grouping_choice g) (grouping_names g) x) ≡ is_chosen (grouping_choice g) (grouping_names g) x
@@ -132,7 +123,7 @@ same-outcome name.Max = refl
 same-outcome name.Median = refl
 
 is-some : {A : Type 0} (o : Option A) → is_none o ≡ false → IsSome o
-is-some (Some x) e = tt
+is-some (Some x) e = refl
 is-some None e = cc
 
 pub aggregate-fits : (p : Settings) (f : AggregateName) (g : Option GroupPart) (a : Structure) (spec : AggTree) → IsShaped a → spec.items ≡ items.Measures (agg_kind f) → spec.grouping ≡ grouping_of g a.components → IfSome spec.having (IsGroupCondition p spec a)
@@ -179,15 +170,19 @@ written-role None = refl
 written-role (Some written.Measure) = refl
 written-role (Some written.Attribute) = refl
 
+-- an aggregate of a component whose values it takes, with the kind that it gives
+abbrev IsTaken : Structure → AggCall × Kind → Type 0
+IsTaken a x = Aggregates (columns_of a) x.0.kind x.0.component x.1
+
 -- one more target, whose value is typed over groups
 pub target-more : (p : Settings) (names : List (List ℕ)) (a : Structure) (r : Option WrittenRole) (c : Comp) (e : Exp) (done : List Made) (v : CompExp) → AreMadeTargets a done → IsTypedInGroups p names (columns_of a) v → Gives (AreMadeTargets a) (with_made r c e done (value v))
 unfolding with_made
 target-more p names a r c e done v before typed =
-    then (λ call. Aggregates (columns_of a) call.0.kind call.0.component call.1) (AreMadeTargets a) (call_in (is_aggregate e) v) (λ call. Ok (done ++ made_as r c call ∷ [])) (one (is_aggregate e) v typed)
-    (λ call taken. lists.appended (IsTarget a) done (made_as r c call ∷ []) before (record { taken = taken; role = written-role r }, tt))
+    then (IsTaken a) (AreMadeTargets a) (call_in (is_aggregate e) v) (λ made. Ok (done ++ made_as r c made ∷ [])) (one (is_aggregate e) v typed)
+    (λ made taken. lists.appended (IsTarget a) done (made_as r c made ∷ []) before (record { taken = taken; role = written-role r }, tt))
   where
-    one : (b : Bool) (v : CompExp) → IsTypedInGroups p names (columns_of a) v → Gives (λ call. Aggregates (columns_of a) call.0.kind call.0.component call.1) (call_in b v)
-    one true (aggregate call kind) h = h
+    one : (b : Bool) (v : CompExp) → IsTypedInGroups p names (columns_of a) v → Gives (IsTaken a) (call_in b v)
+    one true (aggregate x kind) h = h
     one true (column place n kind) h = tt
     one true (const x) h = tt
     one true (call o kind args) h = tt
@@ -200,7 +195,7 @@ found-at n kind (x ∷ xs) h = go (same_name x.name n) h (found-at n kind xs)
   where
     go : (b : Bool) → IsColumnAt (cond (not b) (1 + place_of n xs) 0) n kind (x ∷ xs) → (IsColumnAt (place_of n xs) n kind xs → (y : Component) × (component_of n xs ≡ Some y) × (y.kind ≡ kind)) → (y : Component) × (cond b (Some x) (component_of n xs) ≡ Some y) × (y.kind ≡ kind)
     go true h ih = (x, refl, h.1)
-    go false h ih = ih h
+    go false h ih = let next : 1 + place_of n xs ≡ suc (place_of n xs) = omega arith in ih (subst (λ place. IsColumnAt place n kind (x ∷ xs)) next h)
 
 -- a component that is found among the columns is found among the components
 found-within : (a : Structure) → IsStructure a → (n : List ℕ) (x : Component) → component_of n (columns_of a) ≡ Some x → component_of n a.components ≡ Some x
@@ -224,7 +219,7 @@ target-shapes a is (m ∷ made) h = ap (λ x. x ∷ map target_component (map ma
 
 targets-taken : (a : Structure) → IsStructure a → (made : List Made) → AreMadeTargets a made → shapes.AreTaken (items.Targets (targets_in made)) a.components
 targets-taken a is [] h = tt
-targets-taken a is (m ∷ made) h = ((subst IsSome (sym (given-target a is m.target.call.kind m.target.call.component m.kind h.0.taken)) tt, h.0.role), targets-taken a is made h.1)
+targets-taken a is (m ∷ made) h = ((subst IsSome (sym (given-target a is m.target.call.kind m.target.call.component m.kind h.0.taken)) refl, h.0.role), targets-taken a is made h.1)
 
 pub aggr-fits : (p : Settings) (g : Option GroupPart) (a : Structure) (made : List Made) (spec : AggTree) → IsShaped a → AreMadeTargets a made → spec.items ≡ items.Targets (targets_in made) → spec.grouping ≡ grouping_of g a.components → IfSome spec.having (IsGroupCondition p spec a)
     → Gives (λ s. IsShaped s × IsGrouped p spec a s) (aggr_form (grouping_choice g) (grouping_names g) (map made_target made) a.components)

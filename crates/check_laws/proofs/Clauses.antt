@@ -1,5 +1,5 @@
 -- Clauses on typed data sets.
-use Rattle.std.proofs.Common.{◌≡◌, ℕ, Bool, true, false, cond, not, ◌||◌, List, [], ◌∷◌, ◌++◌, map, Option, Some, None, Result, Ok, Err, refl, sym, ap, ◌∙◌, subst, true≢false}
+use Rattle.std.proofs.Common.{◌≡◌, ℕ, Bool, true, false, cond, not, List, [], ◌∷◌, ◌++◌, map, Option, Some, None, Result, Ok, Err, refl, sym, ap, ◌∙◌, subst, true≢false}
 use Rattle.std.specs.List.{AllByRecursion, list_any}
 use Rattle.std.specs.Option.{IfSome}
 use Rattle.std.specs.Prelude.{unwrap_or}
@@ -34,7 +34,7 @@ use Rattle.vtl_meaning.specs.Trees.{FormTree, ItemTree, NodeTree, ValueTree, str
 use Rattle.vtl_meaning.specs.clauses.SubItem.{SubItem}
 use Rattle.vtl_meaning.specs.Choices.{chosen, is_identifier_name}
 use Rattle.vtl_meaning.specs.Clauses.{aggr_form, calc_form, pivot_form, rename_form, target_tests, unpivot_form}
-use Rattle.vtl_meaning.specs.Names.{is_among, known}
+use Rattle.vtl_meaning.specs.Names.{known}
 use Rattle.vtl_meaning.specs.Shape.{shaped}
 use Rattle.vtl_meaning.specs.choices.Choice.TheVariants as choice
 use Rattle.vtl_meaning.specs.names.Wanted.{Wanted}
@@ -59,7 +59,7 @@ use Rattle.check_laws.specs.Gives.{ArePassed, Gives}
 use Rattle.check_laws.specs.WellTyped.{IsWellTyped}
 use Rattle.check_laws.proofs.Aggregated.{AreMadeTargets, aggr-fits}
 use Rattle.check_laws.proofs.Calculated.{IsItemFor, calculated-fits}
-use Rattle.check_laws.proofs.Columns.{same-symm}
+use Rattle.check_laws.proofs.Columns.{among-any}
 use Rattle.check_laws.proofs.Inner.{made-shaped}
 use Rattle.check_laws.proofs.Left.{IsItem, IsName, IsNamed, drop-fits, keep-fits, known-gives, sub-fits}
 use Rattle.check_laws.proofs.Lists as lists
@@ -180,10 +180,6 @@ written-role : (r : Option WrittenRole) (q : Role) → unwrap_or (role_of r) q �
 written-role None q e = e
 written-role (Some written.Measure) q e = cc
 written-role (Some written.Attribute) q e = cc
-
-pub among-any : (name : List ℕ) (names : List (List ℕ)) → is_among name names ≡ list_any (same_name name) names
-among-any name [] = refl
-among-any name (n ∷ names) = ap (λ b. b || is_among name names) (same-symm n name) ∙ ap (λ b. same_name name n || b) (among-any name names)
 
 names-more : (items : List ItemTree) (i : ItemTree) → item_names (items ++ i ∷ []) ≡ item_names items ++ i.target ∷ []
 names-more [] i = refl

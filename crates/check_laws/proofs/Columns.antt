@@ -12,7 +12,7 @@ use Rattle.vtl_tree.specs.declared.structure.Component.{Component}
 use Rattle.vtl_tree.specs.declared.structure.Role.{Role}
 use Rattle.vtl_tree.specs.declared.structure.Role.TheVariants as role
 use Rattle.vtl_tree.specs.declared.structure.Structure.{Structure}
-use Rattle.vtl_meaning.specs.Names.{component_of}
+use Rattle.vtl_meaning.specs.Names.{component_of, is_among}
 use Rattle.vtl_meaning.specs.Columns.{kind_named, place_of}
 use Rattle.vtl_meaning.specs.Made.{IsColumnAt}
 use Rattle.check_laws.proofs.Lists as lists
@@ -26,6 +26,10 @@ same-refl a = nat_list_eq_equiv.refl a
 
 pub same-symm : (a b : List ℕ) → same_name a b ≡ same_name b a
 same-symm a b = nat_list_eq_equiv.symm a b
+
+pub among-any : (name : List ℕ) (names : List (List ℕ)) → is_among name names ≡ list_any (same_name name) names
+among-any name [] = refl
+among-any name (n ∷ names) = ap (λ b. b || is_among name names) (same-symm n name) ∙ ap (λ b. same_name name n || b) (among-any name names)
 
 -- ---- a component by its name
 -- this is the first component of its name

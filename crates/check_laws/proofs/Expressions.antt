@@ -1,5 +1,5 @@
 -- Expressions that are typed over columns, and lists of them.
-use Rattle.std.proofs.Common.{◌≡◌, ℕ, zero, suc, ◌+◌, List, [], ◌∷◌, ◌++◌, length, map, Some, refl, sym, ap, ◌∙◌, subst, arith}
+use Rattle.std.proofs.Common.{◌≡◌, ℕ, zero, suc, ◌+◌, List, [], ◌∷◌, ◌++◌, length, map, Option, Some, None, refl, sym, ap, ◌∙◌, subst, arith}
 use Rattle.std.specs.List.{AllByRecursion}
 use Rattle.vtl_cell.specs.Settings.{Settings}
 use Rattle.vtl_cell.specs.ScalarKinds.{kinds_of}
@@ -7,12 +7,14 @@ use Rattle.vtl_cell.specs.declared.kind.Kind.{Kind}
 use Rattle.vtl_cell.specs.declared.operator.ScalarOp.{ScalarOp}
 use Rattle.vtl_tree.specs.CompExp.{CompExp, CompExps, column, const, call, aggregate, comp_exp, no_comp_exps}
 use Rattle.vtl_tree.specs.View.{comp_exps_of}
+use Rattle.vtl_tree.specs.declared.expression.AggCall.{AggCall}
 use Rattle.vtl_tree.specs.declared.structure.Component.{Component}
 use Rattle.vtl_meaning.specs.Names.{component_of}
 use Rattle.vtl_meaning.specs.Kinds.{exp_kind}
 use Rattle.vtl_meaning.specs.Columns.{column_behind, column_named, kind_named, place_of}
 use Rattle.vtl_meaning.specs.Literals.{HasLiterals}
-use Rattle.vtl_meaning.specs.Made.{AreFor, AreTyped, IsColumnAt, IsTyped, kinds_in}
+use Rattle.vtl_meaning.specs.Made.{Aggregates, AreFor, AreTyped, AreTypedOver, IsColumnAt, IsGroupedColumn, IsTyped, IsTypedOver, kinds_in}
+use Rattle.check_laws.specs.WellTyped.{IsTypedIn}
 use Rattle.check_laws.proofs.Columns.{at-place, kind-found}
 
 -- ---- kinds
@@ -26,6 +28,15 @@ listed-typed p xs (e ∷ es) h = (h.0, listed-typed p xs es h.1)
 
 pub call-typed : (p : Settings) (xs : List Component) (o : ScalarOp) (kind : Kind) (es : List CompExp) → kinds_of o (map exp_kind es) ≡ Some kind → AllByRecursion (IsTyped p xs) es → HasLiterals o (comp_exps_of es) → IsTyped p xs (call o kind (comp_exps_of es))
 call-typed p xs o kind es e h l = (ap (kinds_of o) (kinds-listed es) ∙ e, listed-typed p xs es h, l)
+
+pub listed-over : (p : Settings) (columns : ℕ → List ℕ → Kind → Type 0) (aggregates : AggCall → Kind → Type 0) (es : List CompExp) → AllByRecursion (IsTypedOver p columns aggregates) es → AreTypedOver p columns aggregates (comp_exps_of es)
+listed-over p columns aggregates [] h = tt
+listed-over p columns aggregates (e ∷ es) h = (h.0, listed-over p columns aggregates es h.1)
+
+-- over points or groups
+pub call-in : (p : Settings) (grouping : Option (List (List ℕ))) (xs : List Component) (o : ScalarOp) (kind : Kind) (es : List CompExp) → kinds_of o (map exp_kind es) ≡ Some kind → AllByRecursion (IsTypedIn p grouping xs) es → HasLiterals o (comp_exps_of es) → IsTypedIn p grouping xs (call o kind (comp_exps_of es))
+call-in p None xs o kind es e h l = call-typed p xs o kind es e h l
+call-in p (Some names) xs o kind es e h l = (ap (kinds_of o) (kinds-listed es) ∙ e, listed-over p (IsGroupedColumn names xs) (λ a kind. Aggregates xs a.kind a.component kind) es h, l)
 
 -- ---- more columns
 pub column-before : (xs more : List Component) (i : ℕ) (name : List ℕ) (kind : Kind) → IsColumnAt i name kind xs → IsColumnAt i name kind (xs ++ more)
@@ -50,6 +61,22 @@ mutual
   all-over-any : (p : Settings) (xs : List Component) (es : CompExps) → AreTyped p [] es → AreTyped p xs es
   all-over-any p xs no_comp_exps h = tt
   all-over-any p xs (comp_exp e es) h = (over-any p xs e h.0, all-over-any p xs es h.1)
+
+mutual
+  -- and is typed over any groups
+  pub over-groups : (p : Settings) (columns : ℕ → List ℕ → Kind → Type 0) (aggregates : AggCall → Kind → Type 0) (e : CompExp) → IsTyped p [] e → IsTypedOver p columns aggregates e
+  over-groups p columns aggregates (column place name kind) h = absurd h
+  over-groups p columns aggregates (const v) h = h
+  over-groups p columns aggregates (call o kind args) h = (h.0, all-over-groups p columns aggregates args h.1, h.2)
+  over-groups p columns aggregates (aggregate a kind) h = absurd h
+
+  all-over-groups : (p : Settings) (columns : ℕ → List ℕ → Kind → Type 0) (aggregates : AggCall → Kind → Type 0) (es : CompExps) → AreTyped p [] es → AreTypedOver p columns aggregates es
+  all-over-groups p columns aggregates no_comp_exps h = tt
+  all-over-groups p columns aggregates (comp_exp e es) h = (over-groups p columns aggregates e h.0, all-over-groups p columns aggregates es h.1)
+
+pub over-each : (p : Settings) (grouping : Option (List (List ℕ))) (xs : List Component) (e : CompExp) → IsTyped p [] e → IsTypedIn p grouping xs e
+over-each p None xs e h = over-any p xs e h
+over-each p (Some names) xs e h = over-groups p (IsGroupedColumn names xs) (λ a kind. Aggregates xs a.kind a.component kind) e h
 
 -- ---- expressions for columns
 -- it is typed over columns, and has this kind

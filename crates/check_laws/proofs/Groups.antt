@@ -1,15 +1,12 @@
 -- Aggregates and analytic calls.
-use Rattle.std.proofs.Common.{◌≡◌, ℕ, Bool, true, false, cond, not, ◌||◌, List, [], ◌∷◌, Option, Some, None, Result, Err, refl, subst, sym}
-use Rattle.std.specs.Option.{IfSome, is_none, is_some}
-use Rattle.vtl_cell.specs.Results.{◌>>=◌}
+use Rattle.std.proofs.Common.{ℕ, Bool, true, false, cond, not, List, [], ◌∷◌, Option, Some, None, Err, refl}
+use Rattle.std.specs.Option.{IfSome}
 use Rattle.vtl_cell.specs.Settings.{Settings}
 use Rattle.check_faults.specs.Rules.{ruled, Tests}
-use Rattle.check_faults.specs.declared.rules.Rule.{Rule}
 use Rattle.check_faults.specs.declared.rules.Rule.TheVariants as rule
-use Rattle.vtl_syntax.specs.Trees.{Exp, MaybeExp}
+use Rattle.vtl_syntax.specs.Trees.{Exp}
 use Rattle.vtl_syntax.specs.declared.parts.GroupPart.{GroupPart}
 use Rattle.vtl_syntax.specs.declared.word_groups.AggregateName.{AggregateName}
-use Rattle.vtl_cell.specs.declared.kind.Kind.{Kind}
 use Rattle.vtl_tree.specs.CompExp.{CompExp}
 use Rattle.vtl_tree.specs.declared.structure.Component.{Component}
 use Rattle.vtl_meaning.specs.Trees as nodes
@@ -24,18 +21,17 @@ use Rattle.vtl_meaning.specs.Groupings.{grouping_choice, grouping_names}
 use Rattle.vtl_meaning.specs.Kinds.{exp_kind}
 use Rattle.vtl_check.specs.Places.{Env}
 use Rattle.vtl_check.specs.Typed.{TypedTree, value, dataset, components_in}
-use Rattle.vtl_check.specs.places.Inside.{Inside}
 use Rattle.vtl_check.specs.places.Place.{Place}
 use Rattle.vtl_check.specs.places.Place.TheVariants as place
-use Rattle.vtl_check.specs.Aggregates.{aggregate_kind, aggregate_node, aggregate_tree, aggregate_value, count_call, count_kind, group_call, group_call_by, of_measure, operand_name, outcome_of}
+use Rattle.vtl_check.specs.Aggregates.{aggregate_node, aggregate_tree, of_measure, outcome_of}
 use Rattle.vtl_check.specs.Windowed as windowed
 use Rattle.vtl_check.specs.Windowed.{argument, call_of, call_tree, is_misplaced, is_unfit_over, or_count, over_dataset, over_form, over_node, over_parts, over_structure, over_typed, rank_call, suits, target_form, target_typed}
 use Rattle.vtl_check.specs.calls.Call.{Call}
-use Rattle.vtl_meaning.specs.Made.{IsGroupCondition, IsGrouped, IsMade, IsTyped}
+use Rattle.vtl_meaning.specs.Made.{IsGroupCondition, IsGrouped, IsMade}
 use Rattle.vtl_meaning.specs.Reaches.{IsNear}
 use Rattle.vtl_meaning.specs.Shapes.{IsShaped}
 use Rattle.check_laws.specs.Gives.{Gives}
-use Rattle.check_laws.specs.WellTyped.{IfUngrouped, IsWellTyped}
+use Rattle.check_laws.specs.WellTyped.{IsWellTyped}
 use Rattle.check_laws.proofs.Aggregated.{aggregate-fits}
 use Rattle.check_laws.proofs.Inner.{made-shaped}
 use Rattle.check_laws.proofs.Operators.{IsMadeWith, made-gives}
@@ -51,61 +47,6 @@ aggregate-gives env at f g a having is condition =
     made-gives env at (nodes.aggregate a (aggregate_tree f g a having)) (measured_form (outcome_of f) (of_measure f) true (grouping_choice g) (grouping_names g) (components_in a))
     (weaker (λ s. IsShaped s × IsGrouped env.settings (aggregate_tree f g a having) (structure_of a) s) (IsMadeWith env (nodes.aggregate a (aggregate_tree f g a having))) (measured_form (outcome_of f) (of_measure f) true (grouping_choice g) (grouping_names g) (components_in a)) (λ s h. (h.0, (is, h.1)))
     (aggregate-fits env.settings f g (structure_of a) (aggregate_tree f g a having) (made-shaped env.settings env.known a is) refl refl condition))
-
--- ---- values over groups
--- some value
-abbrev pub IsSomeValue : TypedTree → Type 0
-IsSomeValue (value e) = Unit {0}
-IsSomeValue (dataset n) = ⊥
-
-call-by : (f : AggregateName) (component : Option (List ℕ)) (grouped : Bool) (kind : Option Kind) → Gives IsSomeValue (group_call_by f component grouped kind)
-call-by f component grouped None = tt
-call-by f component grouped (Some kind) = after IsSomeValue (ruled ((rule.AggregateMisuse, grouped) ∷ []) (tt {0})) (λ u. group_call f component kind) (λ u. tt)
-
--- at groups nothing is asked of a value
-at-groups : (env : Env) (i : Inside) (r : Result TypedTree Rule) → is_some i.grouping ≡ true → Gives IsSomeValue r → Gives (IsWellTyped env (place.Inside i)) r
-at-groups env i r grouped h = weaker IsSomeValue (IsWellTyped env (place.Inside i)) r one h
-  where
-    free : (g : Option (List (List ℕ))) (P : Type 0) → is_some g ≡ true → IfUngrouped g P
-    free None P e = cc
-    free (Some names) P e = tt
-
-    one : (x : TypedTree) → IsSomeValue x → IsWellTyped env (place.Inside i) x
-    one (value e) k = free i.grouping (IsTyped env.settings i.components e) grouped
-    one (dataset n) k = absurd k
-
--- a call that is misused gives nothing
-misused-call : (P : TypedTree → Type 0) (f : AggregateName) (component : Option (List ℕ)) (misused : Bool) (kind : Option Kind) → misused ≡ true → Gives P (group_call_by f component misused kind)
-misused-call P f component misused None e = tt
-misused-call P f component misused (Some kind) e = subst (λ b. Gives P (ruled ((rule.AggregateMisuse, b) ∷ []) (tt {0}) >>= λ u. group_call f component kind)) (sym e) tt
-
-or-true : (a b : Bool) → ((a || true) || b) ≡ true
-or-true true b = refl
-or-true false b = refl
-
--- an aggregate of a value: over groups, or nothing
-pub value-call-gives : (env : Env) (at : Place) (f : AggregateName) (grouped : Bool) (e : MaybeExp) (v : CompExp) → Gives (IsWellTyped env at) (aggregate_value at f grouped e v)
-value-call-gives env place.Outside f grouped e v = tt
-value-call-gives env (place.Inside i) f grouped e v = go (is_none i.grouping) refl
-  where
-    component : Option (List ℕ)
-    component = operand_name e v
-
-    some : (g : Option (List (List ℕ))) → is_none g ≡ false → is_some g ≡ true
-    some None e = cc
-    some (Some names) e = refl
-
-    go : (b : Bool) → is_none i.grouping ≡ b → Gives (IsWellTyped env (place.Inside i)) (group_call_by f component (grouped || b || is_none component) (aggregate_kind f (exp_kind v)))
-    go true e = misused-call (IsWellTyped env (place.Inside i)) f component (grouped || true || is_none component) (aggregate_kind f (exp_kind v)) (or-true grouped (is_none component))
-    go false e = at-groups env i (group_call_by f component (grouped || false || is_none component) (aggregate_kind f (exp_kind v))) (some i.grouping e) (call-by f component (grouped || false || is_none component) (aggregate_kind f (exp_kind v)))
-
-pub count-call-gives : (env : Env) (at : Place) (f : AggregateName) (grouped : Bool) → Gives (IsWellTyped env at) (count_call at f grouped)
-count-call-gives env place.Outside f grouped = tt
-count-call-gives env (place.Inside i) f grouped = go (is_some i.grouping) refl
-  where
-    go : (b : Bool) → is_some i.grouping ≡ b → Gives (IsWellTyped env (place.Inside i)) (cond b (group_call_by f None grouped (count_kind f)) (Err rule.WrongKind))
-    go true e = at-groups env i (group_call_by f None grouped (count_kind f)) e (call-by f None grouped (count_kind f))
-    go false e = tt
 
 -- ---- analytic calls
 abbrev tests : Call → Window → Tests

@@ -20,7 +20,7 @@ use Rattle.vtl_tree.specs.declared.structure.Structure.{Structure}
 use Rattle.check_faults.specs.Rules.{Tests, ruled}
 use Rattle.check_faults.specs.declared.rules.Rule.TheVariants as rule
 use Rattle.vtl_meaning.specs.Joins as joins
-use Rattle.vtl_meaning.specs.Joins.{agrees, all_go_with, all_own, clashes, containing, go_together, go_with, goes_with, held_names, is_cross, is_exactly, is_misused, is_part, join_form, join_tests, joined, joined_components, joined_identifiers, own, reference, structures_of, taken, using_form}
+use Rattle.vtl_meaning.specs.Joins.{agrees, all_go_with, all_own, clashes, go_together, go_with, goes_with, held_names, is_cross, is_exactly, is_misused, is_part, join_form, join_tests, joined, joined_components, joined_identifiers, own, reference, structures_of, taken, using_form}
 use Rattle.vtl_meaning.specs.joins.Operand.{Operand}
 use Rattle.vtl_meaning.specs.Choices.{is_identifier}
 use Rattle.vtl_meaning.specs.Operands.{agreed_identifiers}

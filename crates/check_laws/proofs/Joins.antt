@@ -27,7 +27,8 @@ use Rattle.vtl_meaning.specs.Made.{AreMadeOperands, IsJoined, IsMade}
 use Rattle.vtl_meaning.specs.Shapes.{IsJoinedFrom, IsShaped}
 use Rattle.check_laws.specs.Gives.{Gives}
 use Rattle.check_laws.specs.WellTyped.{IsWellTyped}
-use Rattle.check_laws.proofs.Clauses.{among-any, node-gives, renamed-gives}
+use Rattle.check_laws.proofs.Clauses.{node-gives, renamed-gives}
+use Rattle.check_laws.proofs.Columns.{among-any}
 use Rattle.check_laws.proofs.Inner.{made-shaped}
 use Rattle.check_laws.proofs.Joined.{aliases_of, join-fits}
 use Rattle.check_laws.proofs.Lists as lists

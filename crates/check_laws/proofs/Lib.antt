@@ -39,7 +39,9 @@ pub mod DepthScripts
 pub mod DepthSets
 pub mod DepthTyping
 pub mod Expressions
+pub mod GroupValues
 pub mod Groups
+pub mod Having
 pub mod Inner
 pub mod Joined
 pub mod Joins

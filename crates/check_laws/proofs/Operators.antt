@@ -38,9 +38,9 @@ use Rattle.vtl_meaning.specs.Made.{IsChoice, IsMade, IsMadeForm, IsMeasured, IsP
 use Rattle.vtl_meaning.specs.Shapes as shapes
 use Rattle.vtl_meaning.specs.Shapes.{IsShaped}
 use Rattle.check_laws.specs.Gives.{Gives}
-use Rattle.check_laws.specs.WellTyped.{IfUngrouped, IsValueAt, IsWellTyped}
+use Rattle.check_laws.specs.WellTyped.{IsValueAt, IsWellTyped}
 use Rattle.check_laws.proofs.Chosen.{chosen-fits}
-use Rattle.check_laws.proofs.Expressions.{over-any}
+use Rattle.check_laws.proofs.Expressions.{over-any, over-each}
 use Rattle.check_laws.proofs.Lists as lists
 use Rattle.check_laws.proofs.Inner.{made-shaped}
 use Rattle.check_laws.proofs.Literals.{IsMember, set-gives}
@@ -292,11 +292,7 @@ operator-gives env at o number literals xs fit h =
 -- ---- `in`
 cell-at : (p : Settings) (at : Place) (v : Cell) → IsOfProfile p v → IsValueAt p at (const v)
 cell-at p place.Outside v h = h
-cell-at p (place.Inside i) v h = go i.grouping
-  where
-    go : (g : Option (List (List ℕ))) → IfUngrouped g (IsOfProfile p v)
-    go None = h
-    go (Some names) = tt
+cell-at p (place.Inside i) v h = over-each p i.grouping i.components (const v) h
 
 pub set-form-gives : (env : Env) (at : Place) (negated : Bool) (ls : List Literal) (x : TypedTree) → IsWellTyped env at x → Gives (IsWellTyped env at) (set_form env.settings at negated ls x)
 unfolding set_form

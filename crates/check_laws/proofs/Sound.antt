@@ -1,5 +1,5 @@
 -- What is typed is typed over the columns of its place, and its nodes are made.
-use Rattle.std.proofs.Common.{◌≡◌, ℕ, Bool, true, not, ◌||◌, List, [], ◌∷◌, Option, Some, None, option_map, Result, Ok, Err, refl, subst}
+use Rattle.std.proofs.Common.{◌≡◌, ℕ, Bool, true, ◌||◌, List, [], ◌∷◌, Option, Some, None, option_map, Result, Ok, Err, refl, subst}
 use Rattle.std.specs.List.{AllByRecursion}
 use Rattle.std.specs.Option.{IfSome, is_some}
 use Rattle.vtl_cell.specs.ScalarKinds.{meets}
@@ -24,7 +24,7 @@ use Rattle.vtl_syntax.specs.declared.word_groups.UnaryOp.TheVariants as one_sign
 use Rattle.vtl_syntax.specs.declared.word_groups.WrittenRole.{WrittenRole}
 use Rattle.vtl_tree.specs.CompExp.{CompExp, CompExps}
 use Rattle.vtl_meaning.specs.Trees as nodes
-use Rattle.vtl_meaning.specs.Trees.{ItemTree, NodeTree, OperandTree, ValueTree, structure_of}
+use Rattle.vtl_meaning.specs.Trees.{ItemTree, NodeTree, ValueTree, structure_of}
 use Rattle.vtl_meaning.specs.Groupings.{grouping_of, grouping_typed}
 use Rattle.vtl_meaning.specs.ValuesOperators.{exps_length, of_binary, of_function, of_unary, takes}
 use Rattle.vtl_meaning.specs.ValuesLiterals.{literals_fit}
@@ -33,7 +33,7 @@ use Rattle.vtl_meaning.specs.ValuesColumns.{name_of}
 use Rattle.vtl_check.specs.Operators.{operator_form, set_form}
 use Rattle.vtl_check.specs.Places.{Env, Written, at_groups, at_points, columns_in, in_aggregate, member_inside, member_written}
 use Rattle.vtl_check.specs.Sets.{check_form, check_spec, difference_form, exists_form, member_of, sets_form}
-use Rattle.vtl_check.specs.Typed.{TypedTree, value, dataset, components_in, condition_in, dataset_in}
+use Rattle.vtl_check.specs.Typed.{TypedTree, value, dataset, components_in, dataset_in}
 use Rattle.vtl_check.specs.places.Inside.{Inside}
 use Rattle.vtl_check.specs.places.Joined.{Joined}
 use Rattle.vtl_check.specs.places.Place.{Place}
@@ -49,17 +49,18 @@ use Rattle.vtl_meaning.specs.Literals.{are_literals}
 use Rattle.vtl_meaning.specs.Kinds.{exp_kind}
 use Rattle.vtl_meaning.specs.Made.{IsMade, IsTypedInGroups}
 use Rattle.check_laws.specs.Gives.{ArePassed, Gives}
-use Rattle.check_laws.specs.WellTyped.{AreShaped, IsValueAt, IsWellTyped}
+use Rattle.check_laws.specs.WellTyped.{AreShaped, IsWellTyped}
 use Rattle.check_laws.proofs.Aggregated.{AreMadeTargets, grouping-is, target-more}
 use Rattle.check_laws.proofs.Clauses.{AreTargets, IsTargetValue, aggr-gives, calc-gives, filter-gives, item-more, keeping-gives, name-free, pivot-gives, renaming-gives, sub-gives, unpivot-gives}
-use Rattle.check_laws.proofs.Groups.{IsAnalytic, aggregate-gives, count-call-gives, over-gives, target-analytic, value-call-gives}
+use Rattle.check_laws.proofs.GroupValues.{IsOperand, count-call-gives, operand-named, value-call-gives}
+use Rattle.check_laws.proofs.Groups.{IsAnalytic, aggregate-gives, over-gives, target-analytic}
+use Rattle.check_laws.proofs.Having.{IsCondition, having-at}
 use Rattle.check_laws.proofs.Joins.{AreJoinOperands, AreJoinParts, joined-gives, last-gives, operands-give, part-gives}
 use Rattle.check_laws.proofs.Lists as lists
 use Rattle.check_laws.proofs.LiteralOperands.{free-gives, functions-give}
 use Rattle.check_laws.proofs.Operators.{AreFit, operator-gives, set-form-gives}
 use Rattle.check_laws.proofs.Sets.{check-gives, dataset-gives, difference-gives, exists-gives, member-gives, sets-give}
-use Rattle.check_laws.proofs.Steps.{after, both, tested, then, weaker}
-use Rattle.check_laws.proofs.Tests.{not-false}
+use Rattle.check_laws.proofs.Steps.{after, both, then, weaker}
 use Rattle.check_laws.proofs.Values.{constants-give, names-give, written-gives}
 
 -- ---- parts of the walk
@@ -95,25 +96,17 @@ component-gives env (place.Inside i) e c rest h = go (member_written e c)
     go None = h
     go (Some w) = written-gives env i w
 
--- a condition on groups, typed over them
-abbrev IsConditionAt : Env → Inside → CompExp → Type 0
-IsConditionAt env i e = IsValueAt env.settings (place.Inside i) e × (meets k.Bool (exp_kind e) ≡ true)
-
-condition-gives : (env : Env) (i : Inside) (x : TypedTree) → IsWellTyped env (place.Inside i) x → Gives (IsConditionAt env i) (condition_in x)
-condition-gives env i (value e) h = tested (IsConditionAt env i) ((rule.WrongKind, not (meets k.Bool (exp_kind e))) ∷ []) e (λ passed. (h, not-false (meets k.Bool (exp_kind e)) passed.0))
-condition-gives env i (dataset n) h = tt
-
 -- the condition of groups of an operand, by the names that its grouping gives
 abbrev IsHaving : Env → NodeTree → List (List ℕ) → Option CompExp → Type 0
 IsHaving env n names o = IfSome o (λ e. IsTypedInGroups env.settings names (columns_in n) e × (meets k.Bool (exp_kind e) ≡ true))
 
-grouped-gives : (env : Env) (at : Place) (f : AggregateName) (e : MaybeExp) (g : Option GroupPart) (grouped : Bool) (having : Having) (x : Option TypedTree) → IfSome x (IsWellTyped env (in_aggregate at)) → ((i : Inside) → Gives (λ o. IfSome o (IsConditionAt env i)) (having (place.Inside i))) → Gives (IsWellTyped env at) (grouped_of at f e g grouped having x)
-grouped-gives env at f e g grouped having (Some (dataset n)) h c =
+grouped-gives : (env : Env) (at : Place) (f : AggregateName) (e : MaybeExp) (g : Option GroupPart) (grouped : Bool) (having : Having) (x : Option TypedTree) → IfSome x (IsWellTyped env (in_aggregate at)) → IfSome x (IsOperand at e) → ((i : Inside) → Gives (λ o. IfSome o (IsCondition env.settings (place.Inside i))) (having (place.Inside i))) → Gives (IsWellTyped env at) (grouped_of at f e g grouped having x)
+grouped-gives env at f e g grouped having (Some (dataset n)) h named c =
     then (λ names. names ≡ grouping_of g (components_in n)) (IsWellTyped env at) (grouping_typed (components_in n) g) (λ names. having (place.Inside (at_groups None n names)) >>= aggregate_node f g n) (grouping-is (components_in n) g)
-    (λ names same. then (λ o. IfSome o (IsConditionAt env (at_groups None n names))) (IsWellTyped env at) (having (place.Inside (at_groups None n names))) (aggregate_node f g n) (c (at_groups None n names))
+    (λ names same. then (λ o. IfSome o (IsCondition env.settings (place.Inside (at_groups None n names)))) (IsWellTyped env at) (having (place.Inside (at_groups None n names))) (aggregate_node f g n) (c (at_groups None n names))
     (λ o condition. aggregate-gives env at f g n o h (subst (λ ns. IsHaving env n ns o) same condition)))
-grouped-gives env at f e g grouped having (Some (value v)) h c = after (IsWellTyped env at) (own_groups at g having) (λ u. aggregate_value at f grouped e v) (λ u. value-call-gives env at f grouped e v)
-grouped-gives env at f e g grouped having None h c = after (IsWellTyped env at) (own_groups at g having) (λ u. count_call at f grouped) (λ u. count-call-gives env at f grouped)
+grouped-gives env at f e g grouped having (Some (value v)) h named c = after (IsWellTyped env at) (own_groups at g having) (λ u. aggregate_value at f grouped e v) (λ u. value-call-gives env at f grouped e v named)
+grouped-gives env at f e g grouped having None h named c = after (IsWellTyped env at) (own_groups at g having) (λ u. count_call at f grouped) (λ u. count-call-gives env at f grouped)
 
 -- one more target of `aggr`
 target-gives-more : (env : Env) (j : Option Joined) (n : NodeTree) (names : List (List ℕ)) (r : Option WrittenRole) (c : Comp) (e : Exp) (done : List Made) (x : TypedTree) → AreMadeTargets (structure_of n) done → IsWellTyped env (place.Inside (at_groups j n names)) x → Gives (AreMadeTargets (structure_of n)) (with_made r c e done x)
@@ -185,8 +178,9 @@ mutual
   sound env are at (tree.brackets e) = sound env are at e
   sound env are at (tree.function f es) = operator-step env at (of_function f) (takes f (exps_length es)) (literals_fit env.settings f es) (operands_typed env at [] es) (functions-give env at f es) (sound-operands env are at [] es tt)
   sound env are at (tree.aggregate f e g h) =
-      then (λ x. IfSome x (IsWellTyped env (in_aggregate at))) (IsWellTyped env at) (maybe_typed env (in_aggregate at) e) (grouped_of at f e g (is_some g || has_exp h) (λ groups. having_typed env groups h)) (sound-maybe env are (in_aggregate at) e)
-      (λ x hx. grouped-gives env at f e g (is_some g || has_exp h) (λ groups. having_typed env groups h) x hx (λ i. sound-having env are i h))
+      then (λ x. IfSome x (IsWellTyped env (in_aggregate at)) × IfSome x (IsOperand at e)) (IsWellTyped env at) (maybe_typed env (in_aggregate at) e) (grouped_of at f e g (is_some g || has_exp h) (λ groups. having_typed env groups h))
+      (both (λ x. IfSome x (IsWellTyped env (in_aggregate at))) (λ x. IfSome x (IsOperand at e)) (maybe_typed env (in_aggregate at) e) (sound-maybe env are (in_aggregate at) e) (operand-named env at e))
+      (λ x is. grouped-gives env at f e g (is_some g || has_exp h) (λ groups. having_typed env groups h) x is.0 is.1 (λ i. having-at env (place.Inside i) h (sound-maybe env are (place.Inside i) h)))
   sound env are at (tree.aggregate_over f e o) = then (λ x. IfSome x (IsWellTyped env at)) (IsWellTyped env at) (maybe_typed env at e) (over_typed env.settings at (tree.aggregate_over f e o)) (sound-maybe env are at e) (over-gives env at (tree.aggregate_over f e o))
   sound env are at (tree.value_window f e o) = then (IsWellTyped env at) (IsWellTyped env at) (typed env at e) (λ x. over_typed env.settings at (tree.value_window f e o) (Some x)) (sound env are at e) (λ x h. over-gives env at (tree.value_window f e o) (Some x) h)
   sound env are at (tree.shift f e n l o) = then (IsWellTyped env at) (IsWellTyped env at) (typed env at e) (λ x. over_typed env.settings at (tree.shift f e n l o) (Some x)) (sound env are at e) (λ x h. over-gives env at (tree.shift f e n l o) (Some x) h)
@@ -235,15 +229,8 @@ mutual
       then (AreMadeTargets (structure_of n)) (IsMade env.settings env.known) (aggrs_typed env (place.Inside (at_groups j n (grouping_of g (components_in n)))) [] cs) (λ made. grouping_typed (components_in n) g >>= λ names. having_typed env (place.Inside (at_groups j n names)) h >>= aggr_clause g n made)
       (sound-aggrs env are j n (grouping_of g (components_in n)) [] cs tt)
       (λ made targets. then (λ names. names ≡ grouping_of g (components_in n)) (IsMade env.settings env.known) (grouping_typed (components_in n) g) (λ names. having_typed env (place.Inside (at_groups j n names)) h >>= aggr_clause g n made) (grouping-is (components_in n) g)
-      (λ names same. then (λ o. IfSome o (IsConditionAt env (at_groups j n names))) (IsMade env.settings env.known) (having_typed env (place.Inside (at_groups j n names)) h) (aggr_clause g n made) (sound-having env are (at_groups j n names) h)
+      (λ names same. then (λ o. IfSome o (IsCondition env.settings (place.Inside (at_groups j n names)))) (IsMade env.settings env.known) (having_typed env (place.Inside (at_groups j n names)) h) (aggr_clause g n made) (having-at env (place.Inside (at_groups j n names)) h (sound-maybe env are (place.Inside (at_groups j n names)) h))
       (λ o condition. aggr-gives env g n made o is targets (subst (λ ns. IsHaving env n ns o) same condition))))
-
-  sound-having : (env : Env) → AreShaped env.known → (i : Inside) (e : MaybeExp) → Gives (λ o. IfSome o (IsConditionAt env i)) (having_typed env (place.Inside i) e)
-  sound-having env are i tree.no_exp = tt
-  sound-having env are i (tree.some_exp e) =
-      then (IsConditionAt env i) (λ o. IfSome o (IsConditionAt env i)) (typed env (place.Inside i) e >>= condition_in) (λ c. Ok (Some c))
-      (then (IsWellTyped env (place.Inside i)) (IsConditionAt env i) (typed env (place.Inside i) e) condition_in (sound env are (place.Inside i) e) (λ x h. condition-gives env i x h))
-      (λ c h. h)
 
   sound-aggrs : (env : Env) → AreShaped env.known → (j : Option Joined) (n : NodeTree) (names : List (List ℕ)) (done : List Made) (cs : Calcs) → AreMadeTargets (structure_of n) done → Gives (AreMadeTargets (structure_of n)) (aggrs_typed env (place.Inside (at_groups j n names)) done cs)
   sound-aggrs env are j n names done tree.no_calcs hd = hd

@@ -15,7 +15,7 @@ use Rattle.vtl_check.specs.places.Place.TheVariants as place
 use Rattle.vtl_check.specs.Typing.{typed}
 use Rattle.vtl_meaning.proofs.ValueKinds.{value_is_of}
 use Rattle.vtl_meaning.specs.Made.{IsTyped}
-use Rattle.check_laws.specs.WellTyped.{AreShaped, IfUngrouped, IsWellTyped}
+use Rattle.check_laws.specs.WellTyped.{AreShaped, IsTypedIn, IsWellTyped}
 use Rattle.check_laws.proofs.Sound.{sound}
 use Rattle.check_laws.proofs.Steps.{given}
 
@@ -23,4 +23,4 @@ pub typed-values : (env : Env) (i : Inside) (e : Exp) (x : CompExp) (r : Row) �
 typed-values env i e x r are free is point = value_is_of env.settings i.components x r ungrouped point
   where
     ungrouped : IsTyped env.settings i.components x
-    ungrouped = subst (λ g. IfUngrouped g (IsTyped env.settings i.components x)) free (given (IsWellTyped env (place.Inside i)) (typed env (place.Inside i) e) (value x) (sound env are (place.Inside i) e) is)
+    ungrouped = subst (λ g. IsTypedIn env.settings g i.components x) free (given (IsWellTyped env (place.Inside i)) (typed env (place.Inside i) e) (value x) (sound env are (place.Inside i) e) is)

@@ -1,12 +1,14 @@
 -- Values and names at a place.
-use Rattle.std.proofs.Common.{◌≡◌, ℕ, suc, ◌+◌, Bool, true, false, cond, List, [], ◌∷◌, ◌++◌, length, map, Option, Some, None, is_none, not, Result, Ok, Err, refl, subst, true≢false, append_assoc, length-append, arith}
+use Rattle.std.proofs.Common.{◌≡◌, ℕ, suc, ◌+◌, Bool, true, false, cond, List, [], ◌∷◌, map, Option, Some, None, is_none, not, Result, Ok, Err, refl, sym, ap, ◌∙◌, subst, true≢false, arith}
 use Rattle.std.specs.List.{AllByRecursion}
 use Rattle.std.specs.Map.{lookup}
+use Rattle.std.specs.Option.{option_map_or}
 use Rattle.vtl_cell.specs.Settings.{Settings}
+use Rattle.vtl_cell.specs.ScalarKinds.{kinds_of}
 use Rattle.vtl_cell.specs.declared.kind.Kind.{Kind}
+use Rattle.vtl_cell.specs.declared.kind.Kind.TheVariants as k
 use Rattle.vtl_cell.specs.declared.operator.ScalarOp.{ScalarOp}
 use Rattle.vtl_cell.specs.Results.{◌>>=◌}
-use Rattle.check_faults.specs.Rules.{ruled}
 use Rattle.check_faults.specs.declared.rules.Rule.{Rule}
 use Rattle.check_faults.specs.declared.rules.Rule.TheVariants as rule
 use Rattle.vtl_syntax.specs.declared.parts.Comp.{Comp}
@@ -18,9 +20,10 @@ use Rattle.vtl_tree.specs.Structures.{Named}
 use Rattle.vtl_tree.specs.View.{comp_exps_of}
 use Rattle.vtl_tree.specs.declared.structure.Component.{Component}
 use Rattle.vtl_tree.specs.declared.structure.Structure.{Structure}
-use Rattle.vtl_meaning.specs.Names.{is_among}
+use Rattle.vtl_meaning.specs.Names.{component_of, is_among}
 use Rattle.vtl_meaning.specs.Calls.{call_form, call_kind, or_null}
 use Rattle.vtl_meaning.specs.ValuesColumns.{column_from, column_typed, name_of}
+use Rattle.vtl_meaning.specs.Columns.{column_named, kind_named, place_of}
 use Rattle.vtl_meaning.specs.Kinds.{exp_kind}
 use Rattle.vtl_meaning.specs.KindsOperators.{kind_by_operands}
 use Rattle.vtl_meaning.specs.ValuesLiterals.{constant_typed}
@@ -30,77 +33,72 @@ use Rattle.vtl_check.specs.places.Inside.{Inside}
 use Rattle.vtl_check.specs.places.Place.{Place}
 use Rattle.vtl_check.specs.places.Place.TheVariants as place
 use Rattle.vtl_meaning.specs.Literals.{HasLiterals}
-use Rattle.vtl_meaning.specs.Made.{IsColumnAt, IsMade, IsTyped}
+use Rattle.vtl_meaning.specs.Made.{IsColumnAt, IsMade, IsTyped, IsTypedInGroups}
 use Rattle.vtl_meaning.specs.Shapes.{IsShaped}
 use Rattle.check_laws.specs.Gives.{Gives}
-use Rattle.check_laws.specs.WellTyped.{AreShaped, IfUngrouped, IsValueAt, IsWellTyped}
-use Rattle.check_laws.proofs.Expressions.{call-typed, column-after}
+use Rattle.check_laws.specs.WellTyped.{AreShaped, IsTypedIn, IsValueAt, IsWellTyped}
+use Rattle.check_laws.proofs.Columns.{among-any, same-true}
+use Rattle.check_laws.proofs.Expressions.{call-in, call-typed, over-each}
 use Rattle.check_laws.proofs.Literals.{constant-gives}
-use Rattle.check_laws.proofs.Steps.{after, anything, tested, then, weaker}
+use Rattle.check_laws.proofs.Steps.{after, tested, tested-then, then, weaker}
 use Rattle.check_laws.proofs.Tests.{not-false}
 
--- a typing that only places without groups have to vouch for
-pub ungrouped : {A : Type 0} (g : Option (List (List ℕ))) (P : A → Type 0) (r : Result A Rule) → Gives P r → Gives (λ x. IfUngrouped g (P x)) r
-ungrouped None P r h = h
-ungrouped (Some names) P r h = anything r
-
--- what holds over all columns holds at each place
-pub at-any : (p : Settings) (at : Place) (r : Result CompExp Rule) → ((xs : List Component) → Gives (IsTyped p xs) r) → Gives (IsValueAt p at) r
-at-any p place.Outside r h = h []
-at-any p (place.Inside i) r h = ungrouped i.grouping (IsTyped p i.components) r (h i.components)
+-- what has no components holds at each place
+pub at-any : (p : Settings) (at : Place) (r : Result CompExp Rule) → Gives (IsTyped p []) r → Gives (IsValueAt p at) r
+at-any p place.Outside r h = h
+at-any p (place.Inside i) r h = weaker (IsTyped p []) (IsTypedIn p i.grouping i.components) r (over-each p i.grouping i.components) h
 
 pub value-tree : (env : Env) (at : Place) (r : Result CompExp Rule) → Gives (IsValueAt env.settings at) r → Gives (IsWellTyped env at) (r >>= of_value)
 value-tree env at (Ok e) h = h
 value-tree env at (Err broken) h = tt
 
 -- ---- operators on values
-call-form : (p : Settings) (xs : List Component) (o : ScalarOp) (literals : Bool) (args : List CompExp) → (literals ≡ true → HasLiterals o (comp_exps_of args)) → AllByRecursion (IsTyped p xs) args → Gives (IsTyped p xs) (call_form o literals args)
-call-form p xs o literals args fit h =
-    tested (IsTyped p xs) ((rule.WrongKind, is_none (kind_by_operands o (map exp_kind args))) ∷ (rule.WrongLiteral, is_none (call_kind o args)) ∷ (rule.WrongLiteral, not literals) ∷ []) (call o (or_null (call_kind o args)) (comp_exps_of args)) (λ passed. call-typed p xs o (or_null (call_kind o args)) args (kind (call_kind o args) passed.1.0) h (fit (not-false literals passed.1.1.0)))
+call-at : (p : Settings) (at : Place) (o : ScalarOp) (kind : Kind) (es : List CompExp) → kinds_of o (map exp_kind es) ≡ Some kind → AllByRecursion (IsValueAt p at) es → HasLiterals o (comp_exps_of es) → IsValueAt p at (call o kind (comp_exps_of es))
+call-at p place.Outside o kind es e h l = call-typed p [] o kind es e h l
+call-at p (place.Inside i) o kind es e h l = call-in p i.grouping i.components o kind es e h l
+
+pub values-give : (p : Settings) (at : Place) (o : ScalarOp) (literals : Bool) (args : List CompExp) → (literals ≡ true → HasLiterals o (comp_exps_of args)) → AllByRecursion (IsValueAt p at) args → Gives (IsValueAt p at) (call_form o literals args)
+values-give p at o literals args fit h =
+    tested (IsValueAt p at) ((rule.WrongKind, is_none (kind_by_operands o (map exp_kind args))) ∷ (rule.WrongLiteral, is_none (call_kind o args)) ∷ (rule.WrongLiteral, not literals) ∷ []) (call o (or_null (call_kind o args)) (comp_exps_of args)) (λ passed. call-at p at o (or_null (call_kind o args)) args (kind (call_kind o args) passed.1.0) h (fit (not-false literals passed.1.1.0)))
   where
     kind : (m : Option Kind) → is_none m ≡ false → m ≡ Some (or_null m)
     kind None e = absurd (true≢false e)
     kind (Some k) e = refl
 
-pub values-give : (p : Settings) (at : Place) (o : ScalarOp) (literals : Bool) (args : List CompExp) → (literals ≡ true → HasLiterals o (comp_exps_of args)) → AllByRecursion (IsValueAt p at) args → Gives (IsValueAt p at) (call_form o literals args)
-values-give p place.Outside o literals args fit h = call-form p [] o literals args fit h
-values-give p (place.Inside i) o literals args fit h = go i.grouping h
-  where
-    go : (g : Option (List (List ℕ))) → AllByRecursion (λ e. IfUngrouped g (IsTyped p i.components e)) args → Gives (λ e. IfUngrouped g (IsTyped p i.components e)) (call_form o literals args)
-    go None h = call-form p i.components o literals args fit h
-    go (Some names) h = anything (call_form o literals args)
-
 -- ---- names
-column-from : (p : Settings) (name : List ℕ) (front xs : List Component) (n : ℕ) → n ≡ length front → Gives (IsTyped p (front ++ xs)) (column_from name n xs)
-column-from p name front [] n e = tt
-column-from p name front (x ∷ xs) n e =
-    go (same_name x.name name) (subst (λ l. Gives (IsTyped p l) (column_from name (suc n) xs)) (append_assoc front (x ∷ []) xs) (column-from p name (front ++ x ∷ []) xs (suc n) more))
+-- the first column of this name, where there is one
+abbrev pub IsNamedIn : List Component → List ℕ → CompExp → Type 0
+IsNamedIn xs name e = (e ≡ column_named xs name) × IsColumnAt (place_of name xs) name (kind_named name xs) xs
+
+-- the same behind so many others
+abbrev IsBehind : ℕ → List ℕ → (place : ℕ) → Kind → List Component → CompExp → Type 0
+IsBehind n name place kind xs e = (e ≡ column (n + place) name kind) × IsColumnAt place name kind xs
+
+column-from : (name : List ℕ) (xs : List Component) (n : ℕ) → Gives (IsBehind n name (place_of name xs) (kind_named name xs) xs) (column_from name n xs)
+column-from name [] n = tt
+column-from name (x ∷ xs) n = go (same_name x.name name) refl (column-from name xs (suc n))
   where
-    more : suc n ≡ length (front ++ x ∷ [])
-    more = omega (arith, length-append front (x ∷ []))
+    go : (b : Bool) → same_name x.name name ≡ b → Gives (IsBehind (suc n) name (place_of name xs) (kind_named name xs) xs) (column_from name (suc n) xs) → Gives (IsBehind n name (cond (not b) (1 + place_of name xs) 0) (option_map_or (λ x. x.kind) (cond b (Some x) (component_of name xs)) k.Null) (x ∷ xs)) (cond b (Ok (column n x.name x.kind)) (column_from name (suc n) xs))
+    go true h ih = let named : x.name ≡ name = same-true x.name name h in let first : n ≡ n + 0 = omega arith in (cc, (named, refl))
+    go false h ih =
+        weaker (IsBehind (suc n) name (place_of name xs) (kind_named name xs) xs) (IsBehind n name (1 + place_of name xs) (kind_named name xs) (x ∷ xs)) (column_from name (suc n) xs)
+        (λ e is. let next : suc n + place_of name xs ≡ n + (1 + place_of name xs) = omega arith in let more : suc (place_of name xs) ≡ 1 + place_of name xs = omega arith in (is.0 ∙ ap (λ m. column m name (kind_named name xs)) next, subst (λ m. IsColumnAt m name (kind_named name xs) (x ∷ xs)) more is.1)) ih
 
-    here : IsColumnAt n x.name x.kind (front ++ x ∷ xs)
-    here = let at : length front + 0 ≡ n = omega arith in subst (λ i. IsColumnAt i x.name x.kind (front ++ x ∷ xs)) at (column-after front (x ∷ xs) 0 x.name x.kind (refl, refl))
-
-    go : (b : Bool) → Gives (IsTyped p (front ++ x ∷ xs)) (column_from name (suc n) xs) → Gives (IsTyped p (front ++ x ∷ xs)) (cond b (Ok (column n x.name x.kind)) (column_from name (suc n) xs))
-    go true ih = here
-    go false ih = ih
-
-pub column-gives : (p : Settings) (name : List ℕ) (xs : List Component) → Gives (IsTyped p xs) (column_typed name xs)
-column-gives p name xs = column-from p name [] xs 0 refl
+pub column-gives : (name : List ℕ) (xs : List Component) → Gives (IsNamedIn xs name) (column_typed name xs)
+column-gives name xs = weaker (IsBehind 0 name (place_of name xs) (kind_named name xs) xs) (IsNamedIn xs name) (column_typed name xs) (λ e is. let first : 0 + place_of name xs ≡ place_of name xs = omega arith in (is.0 ∙ ap (λ m. column m name (kind_named name xs)) first, is.1)) (column-from name xs 0)
 
 pub component-gives : (env : Env) (i : Inside) (name : List ℕ) → Gives (IsWellTyped env (place.Inside i)) (component_typed i name)
-component-gives env i name = then (IsTyped env.settings i.components) (IsWellTyped env (place.Inside i)) (column_typed name i.components) (alone i.grouping name) (column-gives env.settings name i.components) one
+component-gives env i name = then (IsNamedIn i.components name) (IsWellTyped env (place.Inside i)) (column_typed name i.components) (alone i.grouping name) (column-gives name i.components) one
   where
     P : Option (List (List ℕ)) → TypedTree → Type 0
-    P g (value e) = IfUngrouped g (IsTyped env.settings i.components e)
+    P g (value e) = IsTypedIn env.settings g i.components e
     P g (dataset n) = IsMade env.settings env.known n
 
-    same : (g : Option (List (List ℕ))) (e : CompExp) → IsTyped env.settings i.components e → Gives (P g) (alone g name e)
-    same None e h = h
-    same (Some names) e h = after (P (Some names)) (ruled ((rule.AggregateMisuse, not (is_among name names)) ∷ []) (tt {0})) (λ u. of_value e) (λ u. tt)
+    same : (g : Option (List (List ℕ))) (e : CompExp) → IsNamedIn i.components name e → Gives (P g) (alone g name e)
+    same None e h = subst (λ e. IsTyped env.settings i.components e) (sym h.0) h.1
+    same (Some names) e h = tested-then (P (Some names)) ((rule.AggregateMisuse, not (is_among name names)) ∷ []) (λ u. of_value e) (λ passed. subst (λ e. IsTypedInGroups env.settings names i.components e) (sym h.0) (h.1, sym (among-any name names) ∙ not-false (is_among name names) passed.0))
 
-    one : (e : CompExp) → IsTyped env.settings i.components e → Gives (IsWellTyped env (place.Inside i)) (alone i.grouping name e)
+    one : (e : CompExp) → IsNamedIn i.components name e → Gives (IsWellTyped env (place.Inside i)) (alone i.grouping name e)
     one e h = weaker (P i.grouping) (IsWellTyped env (place.Inside i)) (alone i.grouping name e) (λ x k. there x k) (same i.grouping e h)
       where
         there : (x : TypedTree) → P i.grouping x → IsWellTyped env (place.Inside i) x
@@ -112,7 +110,7 @@ unfolding written_typed
 written-gives env i w = after (IsWellTyped env (place.Inside i)) (name_written i.joined w) (component_typed i) (component-gives env i)
 
 pub constants-give : (env : Env) (at : Place) (c : Constant) → Gives (IsWellTyped env at) (constant_form env.settings c)
-constants-give env at c = value-tree env at (constant_typed env.settings c) (at-any env.settings at (constant_typed env.settings c) (λ xs. constant-gives env.settings xs c))
+constants-give env at c = value-tree env at (constant_typed env.settings c) (at-any env.settings at (constant_typed env.settings c) (constant-gives env.settings [] c))
 
 -- the structure of a known data set
 pub known-shaped : (name : List ℕ) (known : Named) (s : Structure) → AreShaped known → lookup (same_name name) known ≡ Some s → IsShaped s

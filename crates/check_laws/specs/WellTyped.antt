@@ -1,24 +1,25 @@
--- What typing gives at a place: values that are typed over its columns, and nodes that are made.
+-- What typing gives at a place: values that are typed over its columns or its groups, and nodes that are made.
 use Rattle.std.specs.Prelude.{ℕ, List, [], Option, Some, None}
 use Rattle.std.specs.List.{AllByRecursion}
 use Rattle.vtl_cell.specs.Settings.{Settings}
 use Rattle.vtl_tree.specs.CompExp.{CompExp}
 use Rattle.vtl_tree.specs.Structures.{Named}
+use Rattle.vtl_tree.specs.declared.structure.Component.{Component}
 use Rattle.vtl_check.specs.Places.{Env}
 use Rattle.vtl_check.specs.Typed.{TypedTree, value, dataset}
 use Rattle.vtl_check.specs.places.Place.{Place}
 use Rattle.vtl_check.specs.places.Place.TheVariants as place
-use Rattle.vtl_meaning.specs.Made.{IsMade, IsTyped}
+use Rattle.vtl_meaning.specs.Made.{IsMade, IsTyped, IsTypedInGroups}
 use Rattle.vtl_meaning.specs.Shapes.{IsShaped}
 
--- over groups nothing is said of values
-abbrev pub IfUngrouped : Option (List (List ℕ)) → Type 0 → Type 0
-IfUngrouped None P = P
-IfUngrouped (Some names) P = Unit {0}
+-- typed over points with these columns, or over their groups by these identifiers
+abbrev pub IsTypedIn : Settings → (grouping : Option (List (List ℕ))) → List Component → CompExp → Type 0
+IsTypedIn p None xs e = IsTyped p xs e
+IsTypedIn p (Some names) xs e = IsTypedInGroups p names xs e
 
 abbrev pub IsValueAt : Settings → Place → CompExp → Type 0
 IsValueAt p place.Outside e = IsTyped p [] e
-IsValueAt p (place.Inside i) e = IfUngrouped i.grouping (IsTyped p i.components e)
+IsValueAt p (place.Inside i) e = IsTypedIn p i.grouping i.components e
 
 abbrev pub IsWellTyped : Env → Place → TypedTree → Type 0
 IsWellTyped env at (value e) = IsValueAt env.settings at e

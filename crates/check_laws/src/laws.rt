@@ -34,7 +34,8 @@ ghost use Rattle.check_laws.specs.WellTyped.{AreShaped, IsWellTyped};
 
 /// What typing gives for an expression is typed over the columns of its place, with literals where operators ask for
 /// them, or is made over the data sets that are known: each node has the structure that its form gives of its operands.
-/// Over groups nothing is said about values.
+/// Over groups a value is made of grouping identifiers, of aggregates that take the values of a component, and of how
+/// many points there are.
 pub fn typing_is_sound()
     ensures { (env : Env) (at : Place) (e : Exp) (x : TypedTree) → AreShaped env.known → typed env at e ≡ Ok x → IsWellTyped env at x }
 {}

@@ -1,1 +1,12 @@
+pub use Rattle.vtl_expr.specs.AggregatePoints
+pub use Rattle.vtl_expr.specs.AggregateShapes
+pub use Rattle.vtl_expr.specs.Columns
+pub use Rattle.vtl_expr.specs.DataSets
+pub use Rattle.vtl_expr.specs.GroupExpressions
+pub use Rattle.vtl_expr.specs.Groups
+pub use Rattle.vtl_expr.specs.Seen
+pub use Rattle.vtl_expr.specs.TableOf
+pub use Rattle.vtl_expr.specs.Trees
+pub use Rattle.vtl_expr.specs.View
+pub use Rattle.vtl_expr.specs.specifications
 pub mod Pins

@@ -1,9 +1,9 @@
 //! Clauses on data sets: `filter`, `calc`, `rename` and `sub`. `keep` and `drop` leave some of the columns, as
-//! `vtl_expr::keep_columns` does, and `aggr` is `vtl_group::aggregate`: both are passed on.
+//! `vtl_expr::keep_columns` does.
 //!
 //! It decides which points a clause keeps and what their cells are made of. The values of expressions come from
 //! `vtl_expr`, and the structure of each result is passed in as typing found it.
-//! It knows no script, no statement, no file and no text format.
+//! It knows no script, no statement, no file and no text format. What `vtl_group` needs of `vtl_expr` it passes on.
 //! Begin with `filtering.rt`.
 #![tactic(auto)]
 
@@ -16,4 +16,7 @@ pub use calculation::calc;
 pub use filtering::filter;
 pub use renaming::rename;
 pub use subspace::sub;
-pub use vtl_group::{aggregate, choose, keep_columns, map_measures, pair_measures};
+pub use vtl_expr::{
+    AggItems, AggSpec, AggTarget, DataSet, Seen, choose, keep_columns, map_measures, new_table,
+    pair_measures, push_cells,
+};

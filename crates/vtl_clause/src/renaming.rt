@@ -1,11 +1,11 @@
 // `rename`
 ghost use Rattle.std.specs.Prelude.{◌≡◌, IfOk};
-ghost use Rattle.vtl_group.specs.DataSets.{data_set};
-ghost use Rattle.vtl_group.specs.Made.{IsRenamed};
-ghost use Rattle.vtl_group.specs.TableOf.{IsTableOf};
+ghost use Rattle.vtl_expr.specs.DataSets.{data_set};
+ghost use Rattle.vtl_expr.specs.Made.{IsRenamed};
+ghost use Rattle.vtl_expr.specs.TableOf.{IsTableOf};
 
 use std::alloc::{AllocError, Global};
-use vtl_group::{DataSet, table_columns};
+use vtl_expr::{DataSet, table_columns};
 use vtl_rows::SharedTable;
 use vtl_tree::Structure;
 

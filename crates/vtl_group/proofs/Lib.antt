@@ -1,8 +1,3 @@
-pub use Rattle.vtl_expr.proofs.ColumnLemmas
-pub use Rattle.vtl_expr.proofs.Kept
-pub use Rattle.vtl_expr.proofs.PointLemmas
-pub use Rattle.vtl_expr.proofs.TableLemmas
-pub use Rattle.vtl_expr.proofs.Walks
 pub mod Found
 pub mod GroupWalks
 pub mod KeyedGroups

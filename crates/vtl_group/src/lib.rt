@@ -3,8 +3,8 @@
 //! It decides how groups are gone over: their rows are found at once, and then each group is taken in turn, with one
 //! accumulator for one column after the other. What groups, their values and their faults are is defined in
 //! `vtl_aggregates`; the structure of a result is decided where scripts are checked, and passed in.
-//! It knows no script, no statement, no file, no window and no text format. What clauses need of `vtl_expr` it passes on,
-//! so that `vtl_clause`, which passes on `aggregate`, names one crate.
+//! It knows no script, no statement, no file, no window and no text format. The calls of `vtl_clause` it passes on, so that
+//! the interpreter names one crate for all clauses.
 //! Begin with specs/Calls.antt, then `calls.rt`, `condition.rt` and `aggregation.rt`.
 #![tactic(auto)]
 
@@ -14,8 +14,6 @@ mod condition;
 mod points;
 
 pub use aggregation::aggregate;
-pub use vtl_expr::{
-    AggSpec, CalcItem, CalcValue, DataSet, Prepared, Seen, SubItem, choose, copied, each_point,
-    keep_columns, map_measures, new_table, pair_measures, place_of, places_in, prepare, push_cells,
-    push_column, table_columns, value_at,
+pub use vtl_clause::{
+    calc, choose, filter, keep_columns, map_measures, pair_measures, rename, sub,
 };

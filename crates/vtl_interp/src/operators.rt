@@ -30,7 +30,7 @@ pub fn measures<'a>(
     ensures { AnswersBy value_view result (with_structure made.now (measured_of p.now (measure_tree op.now) (value_view a.entry) made.now)) }
 {
     let made = share_structure(alloc, made)?;
-    Ok(Value::Made(vtl_clause::map_measures(alloc, op, a.data(), made, p)?))
+    Ok(Value::Made(vtl_group::map_measures(alloc, op, a.data(), made, p)?))
 }
 
 /// An operator on the measures of two data sets.
@@ -46,7 +46,7 @@ pub fn pair<'a>(
     ensures { AnswersBy value_view result (with_structure made.now (pair_of p.now op (value_view a.entry) (value_view b.entry) made.now)) }
 {
     let made = share_structure(alloc, made)?;
-    Ok(Value::Made(vtl_clause::pair_measures(alloc, op, a.data(), b.data(), made, p)?))
+    Ok(Value::Made(vtl_group::pair_measures(alloc, op, a.data(), b.data(), made, p)?))
 }
 
 /// `if`
@@ -61,7 +61,7 @@ pub fn choose<'a>(
     ensures { AnswersBy value_view result (Ok (data_set made.now (choice_of (value_view condition.entry) (value_view a.entry) (value_view b.entry) made.now))) }
 {
     let made = share_structure(alloc, made)?;
-    Ok(Value::Made(vtl_clause::choose(alloc, condition.data(), a.data(), b.data(), made)?))
+    Ok(Value::Made(vtl_group::choose(alloc, condition.data(), a.data(), b.data(), made)?))
 }
 
 /// Some of the columns: `keep`, `drop` and `a#m`.
@@ -70,7 +70,7 @@ pub fn columns<'a>(alloc: Global, a: Value<'a>, made: &Structure) -> Result<Valu
     ensures { AnswersBy value_view result (Ok (data_set made.now (left_of (value_view a.entry) made.now))) }
 {
     let made = share_structure(alloc, made)?;
-    Ok(Value::Made(vtl_clause::keep_columns(alloc, a.data(), made)?))
+    Ok(Value::Made(vtl_group::keep_columns(alloc, a.data(), made)?))
 }
 
 /// `filter`
@@ -85,7 +85,7 @@ pub fn filter<'a>(
     ensures { AnswersBy value_view result (with_structure made.now (filter_of p.now (comp_exp_of condition.now) (value_view a.entry).points)) }
 {
     let made = share_structure(alloc, made)?;
-    Ok(Value::Made(vtl_clause::filter(alloc, a.data(), condition, made, p)?))
+    Ok(Value::Made(vtl_group::filter(alloc, a.data(), condition, made, p)?))
 }
 
 /// `calc`
@@ -100,7 +100,7 @@ pub fn calc<'a>(
     ensures { AnswersBy value_view result (with_structure made.now (calculated_of p.now (map item_tree items.now) (value_view a.entry) made.now)) }
 {
     let made = share_structure(alloc, made)?;
-    Ok(Value::Made(vtl_clause::calc(alloc, a.data(), items, made, p)?))
+    Ok(Value::Made(vtl_group::calc(alloc, a.data(), items, made, p)?))
 }
 
 /// `rename`
@@ -109,7 +109,7 @@ pub fn rename<'a>(alloc: Global, a: Value<'a>, made: &Structure) -> Result<Value
     ensures { AnswersBy value_view result (Ok (data_set made.now (value_view a.entry).points)) }
 {
     let made = share_structure(alloc, made)?;
-    Ok(Value::Made(vtl_clause::rename(alloc, a.data(), made)?))
+    Ok(Value::Made(vtl_group::rename(alloc, a.data(), made)?))
 }
 
 /// `sub`
@@ -123,7 +123,7 @@ pub fn sub<'a>(
     ensures { AnswersBy value_view result (Ok (data_set made.now (sub_of items.now (value_view a.entry) made.now))) }
 {
     let made = share_structure(alloc, made)?;
-    Ok(Value::Made(vtl_clause::sub(alloc, a.data(), items, made)?))
+    Ok(Value::Made(vtl_group::sub(alloc, a.data(), items, made)?))
 }
 
 /// An aggregate of each measure, and `aggr`
@@ -138,5 +138,5 @@ pub fn aggregate<'a>(
     ensures { AnswersBy value_view result (with_structure made.now (aggregate_of p.now (agg_tree spec.now) (value_view a.entry) made.now)) }
 {
     let made = share_structure(alloc, made)?;
-    Ok(Value::Made(vtl_clause::aggregate(alloc, a.data(), spec, made, p)?))
+    Ok(Value::Made(vtl_group::aggregate(alloc, a.data(), spec, made, p)?))
 }

@@ -24,12 +24,14 @@ use Rattle.vtl_tree.specs.declared.structure.Component.{Component}
 use Rattle.vtl_tree.specs.declared.structure.Structure.{Structure}
 use Rattle.vtl_syntax.specs.Trees.{Exp, MaybeExp}
 use Rattle.vtl_syntax.specs.Written as written
+use Rattle.vtl_syntax.specs.declared.parts.Comp.{Comp}
 use Rattle.vtl_syntax.specs.declared.parts.GroupPart.{GroupPart}
 use Rattle.vtl_syntax.specs.declared.parts.Keeping.{Keeping}
 use Rattle.vtl_syntax.specs.declared.parts.Keeping.TheVariants as keeping
 use Rattle.vtl_syntax.specs.declared.parts.Literal.{Literal}
 use Rattle.vtl_syntax.specs.declared.parts.RenamePart.{RenamePart}
 use Rattle.vtl_syntax.specs.declared.parts.SubPart.{SubPart}
+use Rattle.vtl_syntax.specs.declared.word_groups.WrittenRole.{WrittenRole}
 use Rattle.rules_to_sql.specs.Meaning.{is_built_form}
 use Rattle.rules_to_sql.specs.Trees as nodes
 use Rattle.rules_to_sql.specs.Trees.{FormTree, ItemTree, NodeTree, structure_of}
@@ -39,7 +41,7 @@ use Rattle.vtl_syntax.specs.Trees.{Calcs, TargetsTree}
 use Rattle.vtl_syntax.specs.Written.{AreMoreCalcs, AreWrittenCalcs, AreWrittenTargets}
 use Rattle.rules_to_sql.specs.Groupings.{grouping_of}
 use Rattle.rules_to_sql.specs.Places.{at_points}
-use Rattle.rules_to_sql.specs.Targets.{aggr_clause, aggr_tree, calc_name, item_of, with_item}
+use Rattle.rules_to_sql.specs.Targets.{aggr_clause, aggr_name, aggr_tree, calc_name, call_in, is_aggregate, item_of, made_as, with_item, with_made}
 use Rattle.rules_to_sql.specs.Typing.{aggrs_typed, calc_value, calcs_typed, having_typed, over_operand, targets_typed, typed}
 use Rattle.rules_to_sql.specs.targets.Made.{Made}
 use Rattle.check_faults.specs.declared.rules.Rule.{Rule}
@@ -54,12 +56,12 @@ use Rattle.rules_to_sql.specs.Clauses as clauses
 use Rattle.rules_to_sql.specs.Clauses.{cell_as, filter_form, kept_of, keeping_form, keeping_tree, name_known, names_typed, old_names, references_in, renamed_of, renaming_form, renaming_known, renaming_to, renamings_typed, sub_form, sub_item, sub_known, sub_names, sub_of, sub_value, subs_typed}
 use Rattle.rules_to_sql.specs.Places.{Env, at_groups}
 use Rattle.rules_to_sql.specs.Targets.{calc_clause, is_analytic, target_of}
-use Rattle.rules_to_sql.specs.Typed.{TypedTree, components_in, condition_in}
+use Rattle.rules_to_sql.specs.Typed.{TypedTree, components_in, condition_in, value_in}
 use Rattle.rules_to_sql.specs.places.Joined.{Joined}
 use Rattle.rules_to_sql.specs.places.Place.{Place}
 use Rattle.rules_to_sql.specs.places.Place.TheVariants as place
 use Rattle.rules_to_sql.specs.Gives.{Gives}
-use Rattle.rules_to_sql.proofs.Clauses.{among-any}
+use Rattle.rules_to_sql.proofs.Columns.{among-any}
 use Rattle.rules_to_sql.proofs.Lists as lists
 use Rattle.rules_to_sql.proofs.Literals.{IsCell, literal-cell, valued-gives}
 use Rattle.rules_to_sql.proofs.Steps.{after, tested, then}
@@ -130,19 +132,37 @@ module _ (p : Settings) (b : Bool) (rs : List Renaming) where
   more_calcs tree.no_calcs w = tt
   more_calcs (tree.calc_part r c e cs) w = w
 
-  -- ---- `aggr`, which is not evaluated yet
-  aggr_clause_at : (g : Option GroupPart) (n : NodeTree) (made : List Made) (having : Option CompExp) → Gives (IsAt p b rs) (aggr_clause g n made having)
+  -- ---- `aggr`
+  abbrev IsNamed : Made → Type 0
+  IsNamed m = IsColumnName m.target.target
+
+  call_named : (r : Option WrittenRole) (c : Comp) (e : Exp) (done : List Made) (x : TypedTree) → written.IsComponent c → AllByRecursion IsNamed done → Gives (AllByRecursion IsNamed) (with_made r c e done x)
+  unfolding with_made
+  call_named r c e done x w hd =
+      after (AllByRecursion IsNamed) (value_in x) (λ v. call_in (is_aggregate e) v >>= λ call. Ok (done ++ made_as r c call ∷ []))
+      (λ v. after (AllByRecursion IsNamed) (call_in (is_aggregate e) v) (λ call. Ok (done ++ made_as r c call ∷ [])) (λ call. lists.appended IsNamed done (made_as r c call ∷ []) hd (component_named c w, tt)))
+
+  calls_named : (env : Env) (at : Place) (done : List Made) (cs : Calcs) → AllByRecursion IsNamed done → AreMoreCalcs cs → Gives (AllByRecursion IsNamed) (aggrs_typed env at done cs)
+  calls_named env at done tree.no_calcs hd w = hd
+  calls_named env at done (tree.calc_part r c e cs) hd w =
+      after (AllByRecursion IsNamed) (aggr_name done c) (λ u. typed env at e >>= with_made r c e done >>= λ made. aggrs_typed env at made cs)
+      (λ u. then (AllByRecursion IsNamed) (AllByRecursion IsNamed) (typed env at e >>= with_made r c e done) (λ made. aggrs_typed env at made cs)
+      (after (AllByRecursion IsNamed) (typed env at e) (with_made r c e done) (λ x. call_named r c e done x w.0 hd))
+      (λ made h. calls_named env at made cs h w.2))
+
+  aggr_clause_at : (g : Option GroupPart) (n : NodeTree) (made : List Made) (having : Option CompExp) → IsAt p b rs n → AllByRecursion IsNamed made → Gives (IsAt p b rs) (aggr_clause g n made having)
   unfolding aggr_clause
-  aggr_clause_at g n made having = clause_at (nodes.aggregate n (aggr_tree g n made having)) _ (λ t. absurd (false≢true t))
+  aggr_clause_at g n made having h named = clause_at (nodes.aggregate n (aggr_tree g n made having)) _ (λ t. (((h t).0, lists.mapped (λ t. IsColumnName t.target) (λ m. m.target) made named), (h t).1))
 
   pub targets_at : (env : Env) (j : Option Joined) (n : NodeTree) (m : TargetsTree) → AreWrittenTargets m → IsAt p b rs n → Gives (IsAt p b rs) (targets_typed env j n m)
   targets_at env j n (tree.calc cs) w h =
       then (AllByRecursion IsTarget) (IsAt p b rs) (calcs_typed env (place.Inside (at_points j n)) n [] cs) (calc_clause n) (targets_named env (place.Inside (at_points j n)) n [] cs tt (more_calcs cs w))
       (λ items named. calc_at n items h named)
   targets_at env j n (tree.aggr cs g e) w h =
-      after (IsAt p b rs) (aggrs_typed env (place.Inside (at_groups j n (grouping_of g (components_in n)))) [] cs) (λ made. grouping_typed (components_in n) g >>= λ names. having_typed env (place.Inside (at_groups j n names)) e >>= aggr_clause g n made)
-      (λ made. after (IsAt p b rs) (grouping_typed (components_in n) g) (λ names. having_typed env (place.Inside (at_groups j n names)) e >>= aggr_clause g n made)
-      (λ names. after (IsAt p b rs) (having_typed env (place.Inside (at_groups j n names)) e) (aggr_clause g n made) (aggr_clause_at g n made)))
+      then (AllByRecursion IsNamed) (IsAt p b rs) (aggrs_typed env (place.Inside (at_groups j n (grouping_of g (components_in n)))) [] cs) (λ made. grouping_typed (components_in n) g >>= λ names. having_typed env (place.Inside (at_groups j n names)) e >>= aggr_clause g n made)
+      (calls_named env (place.Inside (at_groups j n (grouping_of g (components_in n)))) [] cs tt (more_calcs cs w.0))
+      (λ made named. after (IsAt p b rs) (grouping_typed (components_in n) g) (λ names. having_typed env (place.Inside (at_groups j n names)) e >>= aggr_clause g n made)
+      (λ names. after (IsAt p b rs) (having_typed env (place.Inside (at_groups j n names)) e) (aggr_clause g n made) (λ having. aggr_clause_at g n made having h named)))
 
 module _ (p : Settings) where
   -- ---- `sub`

@@ -16,9 +16,13 @@ use Rattle.vtl_tree.specs.declared.structure.Component.{Component}
 use Rattle.vtl_tree.specs.declared.structure.Role.{Role}
 use Rattle.vtl_tree.specs.declared.structure.Role.TheVariants as role
 use Rattle.vtl_tree.specs.declared.structure.Structure.{Structure}
+use Rattle.rules_to_sql.specs.AggregateShapes as aggregates
+use Rattle.rules_to_sql.specs.AggregateShapes.{made_components}
 use Rattle.rules_to_sql.specs.Columns.{identifiers_of, kind_named}
 use Rattle.rules_to_sql.specs.Shapes.{calculated_components}
 use Rattle.rules_to_sql.specs.Turned.{codes_of}
+use Rattle.rules_to_sql.specs.specifications.AggItems.{AggItems}
+use Rattle.rules_to_sql.specs.specifications.AggItems.TheVariants as items
 use Rattle.check_shapes.specs.Choices.{chosen, is_chosen, is_identifier}
 use Rattle.check_shapes.specs.Clauses.{calculated, code_measure, first_kind, is_new, names_column, new_name, pivot_components, renamed, retargeted, target_component}
 use Rattle.check_shapes.specs.Clauses as clauses
@@ -35,7 +39,7 @@ use Rattle.rules_to_sql.proofs.Columns.{at-found, found-filter, kind-found, of-c
 use Rattle.rules_to_sql.proofs.Lists as lists
 use Rattle.sql_tree.specs.Formed.{IsName}
 use Rattle.vtl_to_sql.specs.Conditions.{HaveNames}
-use Rattle.vtl_to_sql.proofs.AcceptedWords.{AreRenamings, HasCodes, IsColumnName}
+use Rattle.vtl_to_sql.proofs.AcceptedWords.{AreRenamings, HasCodes, IsColumnName, TargetsHaveNames}
 use Rattle.vtl_to_sql.proofs.Names.{component_is_name}
 
 -- ---- components
@@ -160,14 +164,22 @@ module _ (rs : List Renaming) where
   renamed_named pairs xs named h = lists.mapped (IsPlain rs) (renamed pairs) xs (lists.weaker (IsPlain rs) (λ x. IsPlain rs (renamed pairs x)) xs (λ x k. new_named pairs x named k) h)
 
 -- ---- what operators give of measures
-each_given : (f : Gives) (others : Option (List Component)) (xs : List Component) → ArePlain [] xs → ArePlain [] (map (given_measure f others) (measures xs))
-each_given f others xs h = lists.mapped (IsPlain []) (given_measure f others) (measures xs) (lists.weaker (IsPlain []) (λ x. IsPlain [] (given_measure f others x)) (measures xs) (λ x k. (k.0, k.1, tt)) (lists.filtered (IsPlain []) is_measure xs h))
+module _ (rs : List Renaming) where
+  each_given : (f : Gives) (others : Option (List Component)) (xs : List Component) → ArePlain rs xs → ArePlain rs (map (given_measure f others) (measures xs))
+  each_given f others xs h = lists.mapped (IsPlain rs) (given_measure f others) (measures xs) (lists.weaker (IsPlain rs) (λ x. IsPlain rs (given_measure f others x)) (measures xs) (λ x k. (k.0, k.1, tt)) (lists.filtered (IsPlain rs) is_measure xs h))
 
-pub given_named : (o : Outcome) (f : Gives) (others : Option (List Component)) (xs : List Component) → ArePlain [] xs → ArePlain [] (given_measures o f others xs)
-given_named outcome.Each f others xs h = each_given f others xs h
-given_named outcome.All f others xs h = each_given f others xs h
-given_named outcome.Truth f others xs h = (bool_var_named, tt)
-given_named outcome.Count f others xs h = (int_var_named, tt)
+  pub given_named : (o : Outcome) (f : Gives) (others : Option (List Component)) (xs : List Component) → ArePlain rs xs → ArePlain rs (given_measures o f others xs)
+  given_named outcome.Each f others xs h = each_given f others xs h
+  given_named outcome.All f others xs h = each_given f others xs h
+  given_named outcome.Truth f others xs h = all_weaker rs (bool_var ∷ []) (bool_var_named, tt)
+  given_named outcome.Count f others xs h = all_weaker rs (int_var ∷ []) (int_var_named, tt)
+
+  -- what an aggregate makes
+  pub made_named : (i : AggItems) (xs : List Component) → TargetsHaveNames i → ArePlain rs xs → ArePlain rs (made_components i xs)
+  made_named (items.Measures f) xs named h = given_named (aggregates.outcome_of f) (aggregates.of_measure f) None xs h
+  made_named (items.Targets ts) xs named h =
+      lists.mapped (IsPlain rs) (aggregates.target_component xs) ts
+      (lists.weaker (λ t. IsColumnName t.target) (λ t. IsPlain rs (aggregates.target_component xs t)) ts (λ t name. plain rs (aggregates.target_component xs t) name tt) named)
 
 pub pair_named : (a b : Structure) → ArePlain [] a.components → ArePlain [] b.components → ArePlain [] (pair_identifiers a b)
 pair_named a b ha hb = go (contains a b)

@@ -13,7 +13,7 @@ use Rattle.vtl_syntax.specs.declared.word_groups.JoinKind.TheVariants as join
 use Rattle.vtl_tree.specs.Structure.{same_name}
 use Rattle.vtl_tree.specs.declared.structure.Component.{Component}
 use Rattle.rules_to_sql.proofs.Places.{same_name-is, same_name-refl}
-use Rattle.rules_to_sql.specs.Joins.{all_own, contains_all, containing, held_names, is_cross, is_held, is_marked, is_part, is_shared, joined, joined_components, joined_identifiers, joined_name, last_renamings, marked, own, own_renamings, reference, structures_of}
+use Rattle.rules_to_sql.specs.Joins.{all_own, contains_all, held_names, is_cross, is_held, is_marked, is_part, is_shared, joined, joined_components, joined_identifiers, joined_name, last_renamings, marked, own, own_renamings, reference, structures_of}
 use Rattle.rules_to_sql.specs.Joins as joins
 use Rattle.rules_to_sql.specs.joins.Operand.{Operand}
 use Rattle.check_shapes.specs.Choices.{is_identifier}

@@ -8,6 +8,7 @@ use Rattle.vtl_tree.specs.Structures.{Named}
 use Rattle.vtl_tree.specs.declared.structure.Component.{Component}
 use Rattle.vtl_tree.specs.declared.structure.Role.TheVariants as role
 use Rattle.vtl_tree.specs.declared.structure.Structure.{Structure}
+use Rattle.rules_to_sql.specs.AggregateShapes.{made_components}
 use Rattle.rules_to_sql.specs.Columns.{kind_named, measures_of}
 use Rattle.rules_to_sql.specs.Made.{AreCombined, AreMade, AreMadeOperands, IsCombined, IsMade, IsMadeForm, node_structures, operands_in}
 use Rattle.rules_to_sql.specs.Shapes.{given_between, given_of_two, outcome_of, target_of}
@@ -23,7 +24,7 @@ use Rattle.check_shapes.specs.Pairs.{pair_identifiers}
 use Rattle.check_shapes.specs.declared.choices.Choice.TheVariants as choice
 use Rattle.check_shapes.specs.declared.renaming.Renaming.{Renaming}
 use Rattle.rules_to_sql.proofs.Lists as lists
-use Rattle.vtl_to_sql.proofs.AcceptedComponents.{AreKnownNamed, ArePlain, Fits, IsPlain, agreed_named, all_weaker, bool_var_named, calculated_named, chosen_named, found_named, given_named, pair_named, pivot_named, plain, renamed_named, role_named}
+use Rattle.vtl_to_sql.proofs.AcceptedComponents.{AreKnownNamed, ArePlain, Fits, IsPlain, agreed_named, all_weaker, bool_var_named, calculated_named, chosen_named, found_named, given_named, made_named, pair_named, pivot_named, plain, renamed_named, role_named}
 use Rattle.vtl_to_sql.proofs.AcceptedMarks.{IsOperandPlain, given_back_named, joined_named, last_named}
 use Rattle.vtl_to_sql.proofs.AcceptedWords.{AreRenamings, FormHasWords, HasWords, HaveWords, IsColumnName, OperandsHaveWords, form_renamings, renamings_below}
 
@@ -61,14 +62,14 @@ module _ (p : Settings) (known : Named) (all : AreKnownNamed known) where
         let xs = (structure_of a).components in
         let h = (components_named false a m.0 t w).0 in
         outside b s _ m.1.shape
-        (lists.appended (IsPlain []) (filter (λ x. same_role x.role role.Identifier) xs) (given_measures (outcome_of o.op) (given_between o) None xs) (role_named [] role.Identifier (structure_of a) h) (given_named (outcome_of o.op) (given_between o) None xs h))
+        (lists.appended (IsPlain []) (filter (λ x. same_role x.role role.Identifier) xs) (given_measures (outcome_of o.op) (given_between o) None xs) (role_named [] role.Identifier (structure_of a) h) (given_named [] (outcome_of o.op) (given_between o) None xs h))
     form_named b s (nodes.pair o a c) m t w =
         let both = and_parts (is_built a) (is_built c) t in
         let ha = (components_named false a m.0 both.0 w.0).0 in
         let hc = (components_named false c m.1 both.1 w.1).0 in
         outside b s _ m.2.shape
         (lists.appended (IsPlain []) (pair_identifiers (structure_of a) (structure_of c)) (given_measures (outcome_of o) (given_of_two o) (Some (structure_of c).components) (structure_of a).components) (pair_named (structure_of a) (structure_of c) ha hc)
-        (given_named (outcome_of o) (given_of_two o) (Some (structure_of c).components) (structure_of a).components ha))
+        (given_named [] (outcome_of o) (given_of_two o) (Some (structure_of c).components) (structure_of a).components ha))
     form_named b s (nodes.choose q a c) m t w =
         let first = and_parts (is_built q) (is_built a && is_built c) t in
         let both = and_parts (is_built a) (is_built c) first.1 in
@@ -98,6 +99,10 @@ module _ (p : Settings) (known : Named) (all : AreKnownNamed known) where
         outside b s _ m.1.shape
         (lists.appended (IsPlain []) (chosen choice.Except [] (structure_of a).components) (names_column id (measures_of (structure_of a)) ∷ made x role.Measure (first_kind (measures_of (structure_of a))) ∷ []) (chosen_named [] choice.Except [] (structure_of a).components (components_named false a m.0 t w.0).0)
         (plain [] (names_column id (measures_of (structure_of a))) w.1 refl, (plain [] (made x role.Measure (first_kind (measures_of (structure_of a)))) w.2 tt, tt)))
+    form_named b s (nodes.aggregate a spec) m t w =
+        let rs = marks b (nodes.aggregate a spec) in
+        let h = components_named b a m.0 t w.0 in
+        (by_shape rs s _ m.1.aggregated.shape (lists.appended (IsPlain rs) (chosen choice.By spec.grouping (structure_of a).components) (made_components spec.items (structure_of a).components) (chosen_named rs choice.By spec.grouping (structure_of a).components h.0) (made_named rs spec.items (structure_of a).components w.1 h.0)), h.1)
     form_named true s (nodes.join os spec) m t w =
         let h = operands_named os m.0 t w in
         (by_shape (form_renamings (nodes.join os spec)) s _ m.2 (joined_named spec.kind (operands_in os) h), given_back_named spec.kind (held_names spec.kind (operands_in os)) (operands_in os) h)

@@ -1,10 +1,12 @@
 -- An expression on data sets that is made over data sets with names is translated, where its words are names, its constants are held
 -- and it is not too deep.
-use Rattle.std.proofs.Common.{inl, inr, ◌≡◌, ◌≤◌, ℕ, zero, suc, Bool, true, false, cond, ◌&&◌, ◌||◌, not, List, [], ◌∷◌, ◌++◌, map, length, refl, sym, ap, ◌∙◌, arith}
+use Rattle.std.proofs.Common.{inl, inr, ◌≡◌, ◌≤◌, ℕ, zero, suc, Bool, true, false, cond, ◌&&◌, ◌||◌, not, List, [], ◌∷◌, ◌++◌, map, length, Option, Some, None, refl, sym, ap, ◌∙◌, arith}
 use Rattle.std.proofs.lemmas.Bool.{and_parts, false≢true}
 use Rattle.std.proofs.lemmas.List.{length-map}
 use Rattle.std.proofs.lemmas.List.Filters.{length-filter_both}
 use Rattle.std.specs.List.{AllByRecursion, filter, list_any}
+use Rattle.std.specs.Option.{IfSome}
+use Rattle.std.specs.Prelude.{option_to_list}
 use Rattle.vtl_cell.specs.Apart.{all_apart}
 use Rattle.vtl_cell.specs.Held.{IsHeld}
 use Rattle.vtl_cell.specs.Settings.{Settings}
@@ -44,6 +46,10 @@ written e h d = record { constants = h; shallow = omega arith }
 
 all_written : (es : List CompExp) → AllHoldValues es → AreUpTo depth_limit es → AllCanBeWritten es
 all_written es h d = lists.joined HoldsValues (IsUpTo depth_limit) CanBeWritten es written h d
+
+maybe_written : (o : Option CompExp) (others : List CompExp) → IfSome o HoldsValues → AreUpTo depth_limit (option_to_list o ++ others) → IfSome o CanBeWritten
+maybe_written None others h d = tt
+maybe_written (Some e) others h d = written e h d.0
 
 -- ---- no more texts that are apart than there are texts that they are among
 IsAmong : List (List ℕ) → List ℕ → Type 0
@@ -138,6 +144,7 @@ module _ (p : Settings) (known : Named) (all : AreKnownNamed known) where
     form_translated b s (nodes.sub a items) m t w h own d = (node_translated false a m.0 t w.0 h.0 d, all_values p items h.1 w.1, few_items p items (structure_of a) s (made-shaped p known a m.0) m.1 w.1)
     form_translated b s (nodes.pivot a id x) m t w h own d = (node_translated false a m.0 t w.0 h d, codes_are_texts id (structure_of a) (components_named p known all false a m.0 (sym (evaluated a) ∙ t) w.0).0 w.1)
     form_translated b s (nodes.unpivot a id x) m t w h own d = node_translated false a m.0 t w.0 h d
+    form_translated b s (nodes.aggregate a spec) m t w h own d = (node_translated b a m.0 t w.0 h.0 d, maybe_written spec.having (made_exps s (nodes.aggregate a spec)) h.1 own)
     form_translated b s (nodes.union ns) m t w h own d = nodes_translated ns m.0 t w h d
     form_translated b s (nodes.intersect ns) m t w h own d = nodes_translated ns m.0 t w h d
     form_translated b s (nodes.set_diff a c) m t w h own d =

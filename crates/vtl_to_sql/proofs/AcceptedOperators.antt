@@ -1,8 +1,8 @@
--- The words of what operators give: those of their operands. Aggregates and analytic calls on data sets are not evaluated yet.
+-- The words of what operators give: those of their operands. Analytic calls on data sets are not evaluated yet.
 use Rattle.std.proofs.Common.{ℕ, Bool, true, false, cond, ◌&&◌, not, List, [], ◌∷◌, map, Option, Some, None, option_map, Result, Ok, Err}
 use Rattle.std.specs.List.{AllByRecursion}
 use Rattle.std.specs.Map.{lookup}
-use Rattle.std.specs.Option.{is_some}
+use Rattle.std.specs.Option.{IfSome, is_some}
 use Rattle.std.proofs.lemmas.Bool.{and_parts, false≢true}
 use Rattle.vtl_cell.specs.Results.{◌>>=◌}
 use Rattle.vtl_cell.specs.ScalarArithmetic.{number}
@@ -174,7 +174,7 @@ module _ (p : Settings) where
       (λ x k. after (IsTreeWorded p) _ (λ cells. operator_form at (membership negated) true true (x ∷ map (λ v. value (const v)) cells))
       (λ cells. operator_worded at (membership negated) true true (x ∷ map (λ v. value (const v)) cells) (k, lists.mapped (IsTreeWorded p) (λ v. value (const v)) cells (lists.every (λ v. Unit {0}) cells (λ v. tt)))))
 
-  -- ---- aggregates and analytic calls: on data sets they are not translated yet
+  -- ---- aggregates, and analytic calls, which on data sets are not translated yet
   group_call_worded : (f : AggregateName) (component : Option (List ℕ)) (grouped : Bool) (kind : Option Kind) → Gives (IsTreeWorded p) (group_call_by f component grouped kind)
   group_call_worded f component grouped None = tt
   group_call_worded f component grouped (Some kind) = after (IsTreeWorded p) (ruled ((rule.AggregateMisuse, grouped) ∷ []) (tt {0})) (λ u. group_call f component kind) (λ u. tt)
@@ -191,16 +191,16 @@ module _ (p : Settings) where
       go true = group_call_worded f None grouped (count_kind f)
       go false = tt
 
-  aggregate_worded : (f : AggregateName) (g : Option GroupPart) (a : NodeTree) (having : Option CompExp) → Gives (IsTreeWorded p) (aggregate_node f g a having)
+  aggregate_worded : (f : AggregateName) (g : Option GroupPart) (a : NodeTree) (having : Option CompExp) → IsWorded p a → Gives (IsTreeWorded p) (aggregate_node f g a having)
   unfolding aggregate_node
-  aggregate_worded f g a having = dataset_worded (nodes.aggregate a (aggregate_tree f g a having)) _ (λ t. absurd (false≢true t))
+  aggregate_worded f g a having h = dataset_worded (nodes.aggregate a (aggregate_tree f g a having)) _ (λ t. (h t, tt))
 
-  pub grouped_worded : (at : Place) (f : AggregateName) (e : MaybeExp) (g : Option GroupPart) (grouped : Bool) (having : Having) (x : Option TypedTree) → Gives (IsTreeWorded p) (grouped_of at f e g grouped having x)
-  grouped_worded at f e g grouped having (Some (dataset n)) =
+  pub grouped_worded : (at : Place) (f : AggregateName) (e : MaybeExp) (g : Option GroupPart) (grouped : Bool) (having : Having) (x : Option TypedTree) → IfSome x (IsTreeWorded p) → Gives (IsTreeWorded p) (grouped_of at f e g grouped having x)
+  grouped_worded at f e g grouped having (Some (dataset n)) h =
       after (IsTreeWorded p) (grouping_typed (components_in n) g) (λ names. having (place.Inside (at_groups None n names)) >>= aggregate_node f g n)
-      (λ names. after (IsTreeWorded p) (having (place.Inside (at_groups None n names))) (aggregate_node f g n) (λ o. aggregate_worded f g n o))
-  grouped_worded at f e g grouped having (Some (value v)) = after (IsTreeWorded p) (own_groups at g having) (λ u. aggregate_value at f grouped e v) (λ u. value_call_worded at f grouped e v)
-  grouped_worded at f e g grouped having None = after (IsTreeWorded p) (own_groups at g having) (λ u. count_call at f grouped) (λ u. count_worded at f grouped)
+      (λ names. after (IsTreeWorded p) (having (place.Inside (at_groups None n names))) (aggregate_node f g n) (λ o. aggregate_worded f g n o h))
+  grouped_worded at f e g grouped having (Some (value v)) h = after (IsTreeWorded p) (own_groups at g having) (λ u. aggregate_value at f grouped e v) (λ u. value_call_worded at f grouped e v)
+  grouped_worded at f e g grouped having None h = after (IsTreeWorded p) (own_groups at g having) (λ u. count_call at f grouped) (λ u. count_worded at f grouped)
 
   over_node_worded : (e : Exp) (call : Call) (w : Window) (a : NodeTree) → Gives (IsTreeWorded p) (over_node e call w a)
   unfolding over_node

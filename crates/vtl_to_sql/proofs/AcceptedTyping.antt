@@ -1,12 +1,12 @@
 -- What typing gives of a written expression has its words.
-use Rattle.std.proofs.Common.{false, true, ◌||◌, List, [], Some, None, Err}
+use Rattle.std.proofs.Common.{false, true, ◌||◌, List, [], Some, None, Ok, Err}
 use Rattle.std.specs.List.{AllByRecursion}
-use Rattle.std.specs.Option.{is_some}
+use Rattle.std.specs.Option.{IfSome, is_some}
 use Rattle.vtl_cell.specs.Results.{◌>>=◌}
 use Rattle.vtl_cell.specs.declared.operator.ScalarOp.TheVariants as op
 use Rattle.vtl_syntax.specs.Trees as tree
-use Rattle.vtl_syntax.specs.Trees.{ClauseTree, Exp, Exps, Parts}
-use Rattle.vtl_syntax.specs.Written.{AreMoreExps, AreMoreParts, AreWrittenExps, AreWrittenParts, IsWrittenClause, IsWrittenExp}
+use Rattle.vtl_syntax.specs.Trees.{ClauseTree, Exp, Exps, MaybeExp, Parts}
+use Rattle.vtl_syntax.specs.Written.{AreMoreExps, AreMoreParts, AreWrittenExps, AreWrittenParts, IsWrittenClause, IsWrittenExp, IsWrittenMaybe}
 use Rattle.rules_to_sql.specs.Trees.{NodeTree}
 use Rattle.check_faults.specs.declared.rules.Rule.TheVariants as rule
 use Rattle.rules_to_sql.specs.ValuesLiterals.{constant_typed, literals_fit}
@@ -65,7 +65,9 @@ mutual
   worded env at (tree.constant c) w = value_worded env.settings (constant_typed env.settings c)
   worded env at (tree.brackets e) w = worded env at e w
   worded env at (tree.function f es) w = operator_step env.settings at (of_function f) (takes f (exps_length es)) (literals_fit env.settings f es) (operands_typed env at [] es) (operands_worded env at [] es tt (more_exps es w))
-  worded env at (tree.aggregate f e g h) w = after (IsTreeWorded env.settings) (maybe_typed env (in_aggregate at) e) (grouped_of at f e g (is_some g || has_exp h) (λ groups. having_typed env groups h)) (λ x. grouped_worded env.settings at f e g (is_some g || has_exp h) (λ groups. having_typed env groups h) x)
+  worded env at (tree.aggregate f e g h) w =
+      then (λ x. IfSome x (IsTreeWorded env.settings)) (IsTreeWorded env.settings) (maybe_typed env (in_aggregate at) e) (grouped_of at f e g (is_some g || has_exp h) (λ groups. having_typed env groups h)) (maybe_worded env (in_aggregate at) e w.0)
+      (λ x k. grouped_worded env.settings at f e g (is_some g || has_exp h) (λ groups. having_typed env groups h) x k)
   worded env at (tree.aggregate_over f e o) w = after (IsTreeWorded env.settings) (maybe_typed env at e) (over_typed env.settings at (tree.aggregate_over f e o)) (over_worded env.settings env.settings at (tree.aggregate_over f e o))
   worded env at (tree.value_window f e o) w = after (IsTreeWorded env.settings) (typed env at e) (λ x. over_typed env.settings at (tree.value_window f e o) (Some x)) (λ x. over_worded env.settings env.settings at (tree.value_window f e o) (Some x))
   worded env at (tree.shift f e n l o) w = after (IsTreeWorded env.settings) (typed env at e) (λ x. over_typed env.settings at (tree.shift f e n l o) (Some x)) (λ x. over_worded env.settings env.settings at (tree.shift f e n l o) (Some x))
@@ -82,6 +84,10 @@ mutual
   worded env at (tree.check_hierarchy e n r m f o) w = after (IsTreeWorded env.settings) (typed env place.Outside e) (λ x. Err rule.UnknownRuleset) (λ x. tt)
   worded env at (tree.hierarchy e n r m i o) w = after (IsTreeWorded env.settings) (typed env place.Outside e) (λ x. Err rule.UnknownRuleset) (λ x. tt)
   worded env at (tree.join kind ps u f m k rs) w = joins_worded env kind (parts_typed env [] ps) u f m k rs (parts_worded env [] ps tt (more_parts ps w.0)) w.3 w.5
+
+  maybe_worded : (env : Env) (at : Place) (e : MaybeExp) → IsWrittenMaybe e → Gives (λ x. IfSome x (IsTreeWorded env.settings)) (maybe_typed env at e)
+  maybe_worded env at tree.no_exp w = tt
+  maybe_worded env at (tree.some_exp e) w = then (IsTreeWorded env.settings) (λ x. IfSome x (IsTreeWorded env.settings)) (typed env at e) (λ x. Ok (Some x)) (worded env at e w) (λ x h. h)
 
   operands_worded : (env : Env) (at : Place) (done : List TypedTree) (es : Exps) → AllByRecursion (IsTreeWorded env.settings) done → AreMoreExps es → Gives (AllByRecursion (IsTreeWorded env.settings)) (operands_typed env at done es)
   operands_worded env at done tree.no_exps hd w = hd

@@ -21,6 +21,8 @@ use Rattle.rules_to_sql.specs.Meaning.{is_built, is_built_form}
 use Rattle.rules_to_sql.specs.Trees as nodes
 use Rattle.rules_to_sql.specs.Trees.{FormTree, NodeTree, NodeTrees, OperandTrees, structure_of}
 use Rattle.rules_to_sql.specs.clauses.SubItem.{SubItem}
+use Rattle.rules_to_sql.specs.specifications.AggItems.{AggItems}
+use Rattle.rules_to_sql.specs.specifications.AggItems.TheVariants as items
 use Rattle.check_faults.specs.declared.rules.Rule.{Rule}
 use Rattle.rules_to_sql.specs.Joins.{held_names, last_renamings}
 use Rattle.check_shapes.specs.declared.names.Wanted.TheVariants as wanted
@@ -73,6 +75,7 @@ abbrev mutual
   form_renamings (nodes.keep a names) = renamings_below a
   form_renamings (nodes.drop_named a names) = renamings_below a
   form_renamings (nodes.rename a pairs) = renamings_below a
+  form_renamings (nodes.aggregate a spec) = renamings_below a
   form_renamings other = []
 
 -- ---- the words of an expression on data sets and of its operands
@@ -95,6 +98,11 @@ pub record HasCodes (id : List ℕ) (a : Structure) : Type 0 where
 
 abbrev pub AreRenamings : List Renaming → Type 0
 AreRenamings pairs = AllByRecursion (λ r. IsColumnName r.to) pairs
+
+-- the targets of an aggregate have names
+abbrev pub TargetsHaveNames : AggItems → Type 0
+TargetsHaveNames (items.Measures f) = Unit {0}
+TargetsHaveNames (items.Targets ts) = AllByRecursion (λ t. IsColumnName t.target) ts
 
 -- the renamings at the end of a join's body, of the names that are left
 abbrev pub AreLast : NodeTree → List Renaming → Type 0
@@ -119,6 +127,7 @@ abbrev mutual
   FormHasWords p b (nodes.sub a items) = HasWords p false a × AreValues p items
   FormHasWords p b (nodes.pivot a id m) = HasWords p false a × HasCodes id (structure_of a)
   FormHasWords p b (nodes.unpivot a id m) = HasWords p false a × IsColumnName id × IsColumnName m
+  FormHasWords p b (nodes.aggregate a spec) = HasWords p b a × TargetsHaveNames spec.items
   FormHasWords p true (nodes.join os spec) = OperandsHaveWords p os
   FormHasWords p false (nodes.join os spec) = ⊥
   FormHasWords p b (nodes.union ns) = HaveWords p ns

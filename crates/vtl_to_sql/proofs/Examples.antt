@@ -1,5 +1,5 @@
 -- What expressions on data sets are written as in SQL, each by computation. Between tokens stands a space.
-use Rattle.std.proofs.Common.{◌≡◌, ℕ, true, false, List, [], ◌∷◌, map, Some, None, refl, sym, ◌∙◌, arith, append-nil, ◌<◌, ◌+◌}
+use Rattle.std.proofs.Common.{◌≡◌, ℕ, true, false, List, [], ◌∷◌, map, Option, Some, None, refl, sym, ◌∙◌, arith, append-nil, ◌<◌, ◌+◌}
 use Rattle.std.specs.Prelude.{codes}
 use Rattle.std.specs.Fmt.{decimal}
 use Rattle.grammar_forms.specs.Written.{run}
@@ -8,8 +8,11 @@ use Rattle.vtl_cell.specs.Settings.{Settings}
 use Rattle.vtl_cell.specs.settings.Rounding.TheVariants.{HalfUp}
 use Rattle.vtl_cell.specs.declared.cell.Cell.TheVariants as c
 use Rattle.vtl_cell.specs.declared.kind.Kind.TheVariants as k
+use Rattle.vtl_cell.specs.declared.operator.AggKind.{AggKind}
+use Rattle.vtl_cell.specs.declared.operator.AggKind.TheVariants as agg
 use Rattle.vtl_cell.specs.declared.operator.ScalarOp.TheVariants as op
-use Rattle.vtl_tree.specs.CompExp.{CompExp, call, comp_exp, no_comp_exps}
+use Rattle.vtl_tree.specs.CompExp.{CompExp, aggregate, call, comp_exp, no_comp_exps}
+use Rattle.vtl_tree.specs.declared.expression.AggCall.{AggCall}
 use Rattle.vtl_tree.specs.declared.structure.Component.{Component}
 use Rattle.vtl_tree.specs.declared.structure.Role.TheVariants as role
 use Rattle.vtl_tree.specs.declared.structure.Structure.{Structure}
@@ -18,12 +21,14 @@ use Rattle.vtl_syntax.specs.declared.word_groups.Retain.TheVariants as retain
 use Rattle.rules_to_sql.specs.Columns.{column_named}
 use Rattle.rules_to_sql.specs.Meaning.{Statement}
 use Rattle.rules_to_sql.specs.Trees as nodes
-use Rattle.rules_to_sql.specs.Trees.{NodeTree}
+use Rattle.rules_to_sql.specs.Trees.{AggTree, NodeTree}
+use Rattle.rules_to_sql.specs.specifications.AggItems.TheVariants as items
 use Rattle.sql_lexer.specs.Spelling.{spelled}
 use Rattle.sql_tree.specs.Printing.{written_query, written_statement}
 use Rattle.sql_tree.specs.Trees.{QueryTree, StatementTree}
 use Rattle.sql_tree.specs.declared.word_groups.JoinKind.TheVariants as joining
 use Rattle.vtl_to_sql.specs.FullJoins.{full_query, key_structure, keys_query, once_query}
+use Rattle.vtl_to_sql.specs.Grouped.{aggregate_query}
 use Rattle.vtl_to_sql.specs.Joins.{cross_query, reference_query}
 use Rattle.vtl_to_sql.specs.Queries as q
 use Rattle.vtl_to_sql.specs.Turned as turned
@@ -115,6 +120,31 @@ pivoted =
 
 pivoted_are : map (λ e. shown e.0) pivoted ≡ map (λ e. e.1) pivoted
 pivoted_are = refl
+
+-- ---- aggregates: without grouping there is no group where there is no row
+
+abbrev total : Component
+total = made (codes "total") role.Measure k.Int
+
+abbrev of_people : AggKind → AggCall
+of_people f = record { kind = f; component = Some (codes "people") }
+
+abbrev do_differ : CompExp
+do_differ = call op.Greater k.Bool (comp_exp (aggregate (of_people agg.Max) k.Int) (comp_exp (aggregate (of_people agg.Min) k.Int) no_comp_exps))
+
+abbrev totals : (names : List (List ℕ)) → Option CompExp → AggTree
+totals names having = record { items = items.Targets (record { role = None; target = codes "total"; call = of_people agg.Sum } ∷ []); grouping = names; having = having }
+
+abbrev aggregated : List (QueryTree × List ℕ)
+aggregated =
+    (aggregate_query scale_six (record { items = items.Measures agg.Max; grouping = codes "area" ∷ []; having = None }) by_year counted table, codes " SELECT \"a\" . \"area\" AS \"area\" , MAX ( \"a\" . \"people\" ) AS \"people\" FROM \"A\" AS \"a\" GROUP BY \"a\" . \"area\"")
+    ∷ (aggregate_query scale_six (record { items = items.Measures agg.Count; grouping = []; having = None }) by_year (of_components (made (codes "int_var") role.Measure k.Int ∷ [])) table, codes " SELECT COUNT ( * ) AS \"int_var\" FROM \"A\" AS \"a\" HAVING MIN ( TRUE )")
+    ∷ (aggregate_query scale_six (totals (codes "area" ∷ []) (Some do_differ)) by_year (of_components (area ∷ total ∷ [])) table, codes " SELECT \"a\" . \"area\" AS \"area\" , SUM ( \"a\" . \"people\" ) AS \"total\" FROM \"A\" AS \"a\" GROUP BY \"a\" . \"area\" HAVING MAX ( \"a\" . \"people\" ) > MIN ( \"a\" . \"people\" )")
+    ∷ (aggregate_query scale_six (totals [] (Some do_differ)) by_year (of_components (total ∷ [])) table, codes " SELECT SUM ( \"a\" . \"people\" ) AS \"total\" FROM \"A\" AS \"a\" HAVING CASE WHEN MIN ( TRUE ) THEN MAX ( \"a\" . \"people\" ) > MIN ( \"a\" . \"people\" ) ELSE FALSE END")
+    ∷ []
+
+aggregated_are : map (λ e. shown e.0) aggregated ≡ map (λ e. e.1) aggregated
+aggregated_are = refl
 
 -- ---- two and three operands; of a pair the operand with all identifiers stands first
 

@@ -6,7 +6,7 @@ use Rattle.std.specs.List.{AllByRecursion}
 use Rattle.grammar_forms.specs.Written.{Each}
 use Rattle.vtl_cell.specs.Conversion.{as_kind}
 use Rattle.vtl_cell.specs.Kinds.{is_of}
-use Rattle.vtl_cell.specs.Outcome.{after, fault_in, faults_by, join, unless}
+use Rattle.vtl_cell.specs.Outcome.{Fault, Outcome, after, fault_in, faults_by, join, unless}
 use Rattle.vtl_cell.specs.Row.{Row}
 use Rattle.vtl_cell.specs.Settings.{Settings}
 use Rattle.vtl_cell.specs.declared.kind.Kind.{Kind}
@@ -36,7 +36,7 @@ use Rattle.vtl_to_sql.specs.Queries.{items_as}
 use Rattle.vtl_to_sql.specs.Runs.{printable_depth}
 use Rattle.vtl_to_sql.specs.Turned.{grouped_as}
 use Rattle.vtl_to_sql.proofs.Givens.{AreGiven, kinds_in}
-use Rattle.vtl_to_sql.proofs.SelectItems.{GivesRows, Valued, each_by, stays_after, values_at, values_fault}
+use Rattle.vtl_to_sql.proofs.SelectItems.{GivesRows, Valued, stays_after, values_at, values_fault}
 
 -- ---- items
 
@@ -53,6 +53,10 @@ abbrev pub AreGroupItems : Base → Scope → List Column → (Row → List Row)
 AreGroupItems b s group members P [] [] [] = Unit {0}
 AreGroupItems b s group members P (f ∷ fs) (e ∷ es) (y ∷ ys) = IsGroupItem b s group members P f e y × AreGroupItems b s group members P fs es ys
 AreGroupItems b s group members P fs es ys = ⊥
+
+-- a row of these values for each key, unless HAVING has this fault or one of the values has one
+abbrev pub each_kept : Option Fault → List Valued → List Row → Outcome (List Row)
+each_kept fault fs keys = unless (join fault (faults_by (values_fault fs) keys)) (map (values_at fs) keys)
 
 module _ (b : Base) (s : Scope) (group : List Column) (members : Row → List Row) (P : Row → Type 0) where
   abbrev Items : List Valued → List Exp → List Component → Type 0
@@ -143,14 +147,14 @@ module _ (b : Base) (s : Scope) (group : List Column) (members : Row → List Ro
         ap (λ l. l ∷ map (row_at (group_item (at_groups b s group) members) (wanted es ys)) keys) (items_cells fs es ys key i h.0)
         ∙ ap (λ l. values_at fs key ∷ l) (keys_cells keys h.1)
 
-    -- the groups that HAVING keeps
-    groups_are : (having : Option Exp) (keys left : List Row) → kept_keys (at_groups b s group) members having keys ≡ left → having_fault (at_groups b s group) members having keys ≡ None → AllByRecursion P left
-        → group_rows (at_groups b s group) (wanted es ys) having members keys ≡ each_by fs left
-    groups_are having keys left kept quiet h =
-        ap (λ f. unless (join f (faults_by (row_fault (group_item (at_groups b s group) members) (wanted es ys)) (kept_keys (at_groups b s group) members having keys))) (map (row_at (group_item (at_groups b s group) members) (wanted es ys)) (kept_keys (at_groups b s group) members having keys))) quiet
-        ∙ ap (λ l. unless (faults_by (row_fault (group_item (at_groups b s group) members) (wanted es ys)) l) (map (row_at (group_item (at_groups b s group) members) (wanted es ys)) l)) kept
-        ∙ ap (λ f. unless f (map (row_at (group_item (at_groups b s group) members) (wanted es ys)) left)) (keys_fault left h)
-        ∙ ap (unless (faults_by (values_fault fs) left)) (keys_cells left h)
+    -- the groups that HAVING keeps, and its fault
+    groups_are : (having : Option Exp) (keys left : List Row) (fault : Option Fault) → kept_keys (at_groups b s group) members having keys ≡ left → having_fault (at_groups b s group) members having keys ≡ fault → AllByRecursion P left
+        → group_rows (at_groups b s group) (wanted es ys) having members keys ≡ each_kept fault fs left
+    groups_are having keys left fault kept told h =
+        ap (λ f. unless (join f (faults_by (row_fault (group_item (at_groups b s group) members) (wanted es ys)) (kept_keys (at_groups b s group) members having keys))) (map (row_at (group_item (at_groups b s group) members) (wanted es ys)) (kept_keys (at_groups b s group) members having keys))) told
+        ∙ ap (λ l. unless (join fault (faults_by (row_fault (group_item (at_groups b s group) members) (wanted es ys)) l)) (map (row_at (group_item (at_groups b s group) members) (wanted es ys)) l)) kept
+        ∙ ap (λ f. unless (join fault f) (map (row_at (group_item (at_groups b s group) members) (wanted es ys)) left)) (keys_fault left h)
+        ∙ ap (unless (join fault (faults_by (values_fault fs) left))) (keys_cells left h)
 
 -- ---- the select
 
@@ -176,9 +180,9 @@ module _ (p : Settings) (before : Data) (s : Scope) (group : List Column) (place
   abbrev it : SelectTree
   it = grouped_as (items_as es ys) source group having
 
-  pub groups_give : IsGrouped p before s it → source_rows b it ≡ Ok d → (left : List Row) → kept_keys (at_groups b s group) members having (keys_by places d) ≡ left → having_fault (at_groups b s group) members having (keys_by places d) ≡ None → AllByRecursion P left
-      → GivesRows p before t it (each_by fs left)
-  groups_give from rows left kept quiet all =
+  pub groups_give : IsGrouped p before s it → source_rows b it ≡ Ok d → (left : List Row) (fault : Option Fault) → kept_keys (at_groups b s group) members having (keys_by places d) ≡ left → having_fault (at_groups b s group) members having (keys_by places d) ≡ fault → AllByRecursion P left
+      → GivesRows p before t it (each_kept fault fs left)
+  groups_give from rows left fault kept told all =
       let grouped : groups_of it ≡ Some (grouping_of group) = ap (λ g. cond g (Some (grouping_of group)) None) from.grouped in
       record {
         names = item_names b s group members P fs es ys i;
@@ -206,5 +210,5 @@ module _ (p : Settings) (before : Data) (s : Scope) (group : List Column) (place
             ∙ ap (λ z. second_phase (at_rows b z) (zip (items_as es ys) (kinds_in ys)) it d) from.scope
             ∙ ap (λ g. cond g (grouped_rows (at_rows b s) (zip (items_as es ys) (kinds_in ys)) group having d) (plain_rows (at_rows b s) (zip (items_as es ys) (kinds_in ys)) d)) from.grouped
             ∙ ap (λ l. group_rows (at_groups b s group) (zip (items_as es ys) (kinds_in ys)) having (rows_with l d) (keys_by l d)) placed
-            ∙ groups_are b s group members P fs es ys i having (keys_by places d) left kept quiet all;
+            ∙ groups_are b s group members P fs es ys i having (keys_by places d) left fault kept told all;
       }

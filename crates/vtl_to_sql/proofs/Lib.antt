@@ -50,7 +50,9 @@ pub mod ItemLists
 pub mod Unpivots
 pub mod GroupItems
 pub mod Coded
+pub mod GroupKeys
 pub mod Pivots
+pub mod Aggregated
 pub mod Nodes
 pub mod Statements
 pub mod WholeScript
@@ -86,6 +88,7 @@ pub mod References
 pub mod JoinForms
 pub mod NamedItems
 pub mod TurnedForms
+pub mod GroupedForms
 pub mod KeyForms
 pub mod ExistenceForms
 pub mod HeldConstants

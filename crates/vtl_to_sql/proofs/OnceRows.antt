@@ -1,48 +1,40 @@
 -- A grouped select by all columns of a table gives each of its rows once.
 use Rattle.std.proofs.Common.{◌≡◌, ◌≤◌, ℕ, true, List, [], ◌∷◌, map, None, Ok, refl, ap, sym, ◌∙◌, arith}
-use Rattle.std.specs.Prelude.{is_some, length}
-use Rattle.std.specs.List.{AllByRecursion, list_any}
-use Rattle.grammar_forms.specs.Written.{Each}
-use Rattle.vtl_cell.specs.Outcome.{faults_by, unless}
+use Rattle.std.specs.Prelude.{length}
+use Rattle.std.specs.List.{AllByRecursion}
+use Rattle.vtl_cell.specs.Outcome.{faults_by, join, unless}
 use Rattle.vtl_cell.specs.Row.{Row, column_of, same_row}
 use Rattle.vtl_cell.specs.Settings.{Settings}
 use Rattle.vtl_rows.specs.Tables.{cells_at}
-use Rattle.vtl_tree.specs.CompExp.{column}
 use Rattle.vtl_tree.specs.DataSet.{is_point}
 use Rattle.vtl_tree.specs.Structure.{IsStructure, columns_of, names_of}
 use Rattle.vtl_tree.specs.declared.structure.Component.{Component}
 use Rattle.vtl_tree.specs.declared.structure.Structure.{Structure}
 use Rattle.vtl_tuples.specs.Keys.{each_once}
 use Rattle.rules_to_sql.specs.Columns.{columns_named, place_of, places_in}
-use Rattle.rules_to_sql.specs.Made.{IsColumnAt}
 use Rattle.rules_to_sql.proofs.JoinKept.{once_hold}
-use Rattle.rules_to_sql.proofs.OwnColumns.{column_any, columns_apart, own_columns}
-use Rattle.rules_to_sql.proofs.ValueKinds.{cell_is_of}
-use Rattle.vtl_cell.specs.Texts.{same_text}
-use Rattle.sql_tree.specs.Formed.{IsColumn, IsName}
+use Rattle.rules_to_sql.proofs.OwnColumns.{columns_apart, own_columns}
+use Rattle.sql_tree.specs.Formed.{IsName}
 use Rattle.sql_tree.specs.Trees.{Text}
 use Rattle.sql_tree.specs.declared.parts.Column.{Column}
-use Rattle.rules_to_sql.specs.Fits.{IsSeen}
 use Rattle.rules_to_sql.specs.Queries.{is_grouped}
-use Rattle.rules_to_sql.specs.Scopes.{Scope, or_null}
+use Rattle.rules_to_sql.specs.Scopes.{Scope}
 use Rattle.rules_to_sql.specs.MeantGroups.{keys_by, rows_with}
 use Rattle.rules_to_sql.specs.Scripts.{Data, base_of}
 use Rattle.rules_to_sql.specs.Tables.{Base}
-use Rattle.rules_to_sql.specs.Values.{place_in}
 use Rattle.rules_to_sql.specs.ToSql.{group_columns}
-use Rattle.rules_to_sql.proofs.OverGroups.{group_fits, group_value_is}
 use Rattle.vtl_to_sql.specs.FullJoins.{once_query}
 use Rattle.vtl_to_sql.specs.Queries.{all_to_sql, first_alias, items_as, of_one, source_as}
 use Rattle.vtl_to_sql.specs.Runs.{IsTable}
-use Rattle.vtl_to_sql.specs.Turned.{grouped_as, own_column}
+use Rattle.vtl_to_sql.specs.Turned.{grouped_as}
 use Rattle.vtl_to_sql.proofs.Exact.{IsExactly, exactly_same}
 use Rattle.vtl_to_sql.proofs.Expressions.{Translates}
 use Rattle.vtl_to_sql.proofs.Givens.{AreGiven}
-use Rattle.vtl_to_sql.proofs.GroupItems.{AreGroupItems, IsGroupItem, groups_give}
-use Rattle.vtl_to_sql.proofs.OneOperand.{one_from, own_cells, own_names, rows_there}
-use Rattle.vtl_to_sql.proofs.Pivots.{among_names, place_by_names}
+use Rattle.vtl_to_sql.proofs.GroupItems.{groups_give}
+use Rattle.vtl_to_sql.proofs.GroupKeys.{IsIn, group_printed, group_seen, key_cell, key_items, placed_in}
+use Rattle.vtl_to_sql.proofs.OneOperand.{one_from, own_cells, rows_there}
 use Rattle.vtl_to_sql.proofs.SelectItems.{Valued, each_by, values_at, values_fault}
-use Rattle.vtl_to_sql.proofs.Sources.{one_formed, one_scope}
+use Rattle.vtl_to_sql.proofs.Sources.{one_scope}
 use Rattle.vtl_to_sql.proofs.Unions.{one_exactly}
 
 module _ (p : Settings) (law : Translates p) (before : Data) (name : Text) (t : Structure) (d : List Row) (there : IsTable before name t d) (named : IsName name) (w : IsStructure t) (given : AreGiven (columns_of t)) (typed : AllByRecursion (λ r. is_point (columns_of t) r ≡ true) d) where
@@ -64,68 +56,34 @@ module _ (p : Settings) (law : Translates p) (before : Data) (name : Text) (t : 
   abbrev IsKey : Row → Type 0
   IsKey key = is_point xs key ≡ true
 
-  abbrev IsOwn : Component → Type 0
-  IsOwn y = IsColumnAt (place_of y.name xs) y.name y.kind xs
-
-  abbrev cell_of : Component → Valued
-  cell_of y key = Ok (column_of (place_of y.name xs) key)
+  abbrev cells : List Valued
+  cells = map (key_cell xs) xs
 
   -- ---- items
 
-  key_item : (y : Component) → IsOwn y → IsGroupItem b scope group members IsKey (cell_of y) (own_column y.name) y
-  key_item y own =
-      let names = own_names p law before name t d there named w given.named in
-      let e = column (place_of y.name xs) y.name y.kind in
-      let among : list_any (same_text y.name) (names_of xs) ≡ true = among_names y.name xs ∙ column_any (place_of y.name xs) y.name y.kind xs own in
-      record {
-        kind = ap or_null (names.known (place_of y.name xs) y.name y.kind own);
-        fits = group_fits first_alias (names_of xs) xs scope names p b.tables law.low e (own, among) tt;
-        printed = (one_formed xs given.named (place_of y.name xs) y.name y.kind own, omega arith);
-        value_is = λ key h. group_value_is first_alias (names_of xs) xs scope names b key (members key) law.low e (own, among) tt ∙ ap (λ n. Ok (column_of n key)) (place_by_names y.name xs);
-        of_kind = λ key h. cell_is_of (place_of y.name xs) y.name y.kind xs key own h;
-      }
-
-  key_items : (ys : List Component) → AllByRecursion IsOwn ys → AreGroupItems b scope group members IsKey (map cell_of ys) (all_to_sql p of_one (columns_named xs ys)) ys
-  key_items [] all = tt
-  key_items (y ∷ ys) all = (key_item y all.0, key_items ys all.1)
-
-  quiet : (ys : List Component) (key : Row) → values_fault (map cell_of ys) key ≡ None
-  quiet [] key = refl
-  quiet (y ∷ ys) key = quiet ys key
-
-  all_quiet : (keys : List Row) → faults_by (values_fault (map cell_of xs)) keys ≡ None
+  all_quiet : (keys : List Row) → faults_by (values_fault cells) keys ≡ None
   all_quiet [] = refl
-  all_quiet (key ∷ keys) = rw (quiet xs key) (all_quiet keys)
+  all_quiet (key ∷ keys) = ap (λ f. join f (faults_by (values_fault cells) keys)) (quiet xs key) ∙ all_quiet keys
+    where
+      quiet : (ys : List Component) (z : Row) → values_fault (map (key_cell xs) ys) z ≡ None
+      quiet [] z = refl
+      quiet (y ∷ ys) z = quiet ys z
 
-  cells : (ys : List Component) (key : Row) → values_at (map cell_of ys) key ≡ cells_at (places_in xs ys) key
-  cells [] key = refl
-  cells (y ∷ ys) key = ap (λ l. column_of (place_of y.name xs) key ∷ l) (cells ys key)
+  own_values : (ys : List Component) (key : Row) → values_at (map (key_cell xs) ys) key ≡ cells_at (places_in xs ys) key
+  own_values [] key = refl
+  own_values (y ∷ ys) key = ap (λ l. column_of (place_of y.name xs) key ∷ l) (own_values ys key)
 
-  each_own : (keys : List Row) → AllByRecursion IsKey keys → map (values_at (map cell_of xs)) keys ≡ keys
+  each_own : (keys : List Row) → AllByRecursion IsKey keys → map (values_at cells) keys ≡ keys
   each_own [] all = refl
-  each_own (key ∷ keys) all = ap (λ r. r ∷ map (values_at (map cell_of xs)) keys) (cells xs key ∙ own_cells xs key (columns_apart t w) all.0) ∙ ap (λ l. key ∷ l) (each_own keys all.1)
+  each_own (key ∷ keys) all = ap (λ r. r ∷ map (values_at cells) keys) (own_values xs key ∙ own_cells xs key (columns_apart t w) all.0) ∙ ap (λ l. key ∷ l) (each_own keys all.1)
 
-  rows_are : (keys : List Row) → AllByRecursion IsKey keys → each_by (map cell_of xs) keys ≡ Ok keys
-  rows_are keys all = ap (λ f. unless f (map (values_at (map cell_of xs)) keys)) (all_quiet keys) ∙ ap Ok (each_own keys all)
+  rows_are : (keys : List Row) → AllByRecursion IsKey keys → each_by cells keys ≡ Ok keys
+  rows_are keys all = ap (λ f. unless f (map (values_at cells) keys)) (all_quiet keys) ∙ ap Ok (each_own keys all)
 
   -- ---- groups
 
-  own : AllByRecursion IsOwn xs
+  own : AllByRecursion (IsIn xs) xs
   own = own_columns t w
-
-  placed_in : (zs : List Component) → AllByRecursion IsOwn zs → map (place_in scope) (group_columns first_alias (names_of zs)) ≡ places_in xs zs
-  placed_in [] all = refl
-  placed_in (z ∷ zs) all =
-      ap (λ n. n ∷ map (place_in scope) (group_columns first_alias (names_of zs))) ((own_names p law before name t d there named w given.named).placed (place_of z.name xs) z.name z.kind all.0)
-      ∙ ap (λ l. place_of z.name xs ∷ l) (placed_in zs all.1)
-
-  group_seen : (zs : List Component) → AllByRecursion IsOwn zs → AllByRecursion (IsSeen scope None) (group_columns first_alias (names_of zs))
-  group_seen [] all = tt
-  group_seen (z ∷ zs) all = ((ap is_some ((own_names p law before name t d there named w given.named).known (place_of z.name xs) z.name z.kind all.0), refl), group_seen zs all.1)
-
-  group_printed : (zs : List Component) → AllByRecursion IsOwn zs → Each IsColumn (group_columns first_alias (names_of zs))
-  group_printed [] all = tt
-  group_printed (z ∷ zs) all = (one_formed xs given.named (place_of z.name xs) z.name z.kind all.0, group_printed zs all.1)
 
   cells_same : (rows : List Row) → AllByRecursion IsKey rows → map (cells_at (places_in xs xs)) rows ≡ rows
   cells_same [] all = refl
@@ -150,9 +108,16 @@ module _ (p : Settings) (law : Translates p) (before : Data) (name : Text) (t : 
   once_exactly =
       let es = all_to_sql p of_one (columns_named xs xs) in
       let all = once_hold IsKey same_row d typed in
+      let apart = columns_apart t w in
       let from = one_from p law before name t d there named w given.named (items_as es xs) None tt tt in
-      exactly_same p before (once_query p t name) t (each_by (map cell_of xs) (each_once same_row d)) (Ok (each_once same_row d)) (rows_are (each_once same_row d) all)
-      (one_exactly p before t given (grouped_as (items_as es xs) (source_as first_alias name) group None) (each_by (map cell_of xs) (each_once same_row d))
-      (groups_give p before scope group (places_in xs xs) (placed_in xs own) d IsKey (map cell_of xs) es t (key_items xs own) given (source_as first_alias name) None
-      (record { grouped = grouped_by xs given.some; scope = from.scope; source = from.source; group = (group_seen xs own, group_printed xs own); having = (tt, tt) })
-      (ap Ok (rows_there p law before name t d there named w given.named)) (each_once same_row d) keys_are refl all))
+      exactly_same p before (once_query p t name) t (each_by cells (each_once same_row d)) (Ok (each_once same_row d)) (rows_are (each_once same_row d) all)
+      (one_exactly p before t given (grouped_as (items_as es xs) (source_as first_alias name) group None) (each_by cells (each_once same_row d))
+      (groups_give p before scope group (places_in xs xs) (placed_in p law before xs apart given.named xs own) d IsKey cells es t (key_items p law before xs apart given.named xs members xs own own) given (source_as first_alias name) None
+      (record {
+        grouped = grouped_by xs given.some;
+        scope = from.scope;
+        source = from.source;
+        group = (group_seen p law before xs apart given.named xs own, group_printed p law before xs apart given.named xs own);
+        having = (tt, tt);
+      })
+      (ap Ok (rows_there p law before name t d there named w given.named)) (each_once same_row d) None keys_are refl all))

@@ -1,10 +1,9 @@
 -- `pivot` is a grouped select with the greatest value of each code.
-use Rattle.std.proofs.Common.{◌≡◌, ℕ, ◌+◌, Bool, true, false, ◌||◌, not, cond, List, [], ◌∷◌, ◌++◌, map, Option, Some, None, Ok, refl, ap, sym, ◌∙◌, subst, arith}
+use Rattle.std.proofs.Common.{◌≡◌, ℕ, Bool, true, false, cond, List, [], ◌∷◌, ◌++◌, map, Option, Some, None, Ok, refl, ap, sym, ◌∙◌, subst, arith}
 use Rattle.std.specs.Prelude.{is_some}
-use Rattle.std.specs.List.{AllByRecursion, filter, find, list_any, position_or_len}
+use Rattle.std.specs.List.{AllByRecursion, filter, find}
 use Rattle.std.specs.Option.{option_map_or}
 use Rattle.std.proofs.lemmas.List.{map-append}
-use Rattle.grammar_forms.specs.Written.{Each}
 use Rattle.vtl_cell.specs.Apart.{all_apart}
 use Rattle.vtl_cell.specs.Conversion.{as_kind}
 use Rattle.vtl_cell.specs.Groups.{group_value}
@@ -15,7 +14,6 @@ use Rattle.vtl_cell.specs.Outcomes.{branch, first_chosen, is_true}
 use Rattle.vtl_cell.specs.Row.{Row, column_of, same_row}
 use Rattle.vtl_cell.specs.ScalarKinds.{common_kind, meets}
 use Rattle.vtl_cell.specs.Settings.{Settings}
-use Rattle.vtl_cell.specs.Texts.{same_text}
 use Rattle.vtl_cell.specs.declared.cell.Cell.{Cell}
 use Rattle.vtl_cell.specs.declared.cell.Cell.TheVariants as c
 use Rattle.vtl_cell.specs.declared.kind.Kind.{Kind}
@@ -28,26 +26,25 @@ use Rattle.vtl_tree.specs.DataSet.{IsDataSet, is_point}
 use Rattle.vtl_tree.specs.Structure.{columns_of, names_of, same_name}
 use Rattle.vtl_tree.specs.declared.structure.Component.{Component}
 use Rattle.vtl_tree.specs.declared.structure.Structure.{Structure}
-use Rattle.vtl_tree.specs.CompExp.{column}
 use Rattle.vtl_tuples.specs.Keys.{each_once}
 use Rattle.vtl_tuples.proofs.Lists.{map_each, map_same}
 use Rattle.check_shapes.specs.Clauses.{code_measure}
 use Rattle.rules_to_sql.specs.Agreement.{values_in}
 use Rattle.rules_to_sql.specs.Columns.{columns_named, identifiers_of, kind_named, others_of, place_of, places_in}
 use Rattle.rules_to_sql.specs.LookUps.{value_named}
-use Rattle.rules_to_sql.specs.Made.{IsColumnAt, IsPivoted}
+use Rattle.rules_to_sql.specs.Made.{IsPivoted}
 use Rattle.rules_to_sql.specs.Points.{with_points}
 use Rattle.rules_to_sql.specs.Turned.{coded_value, codes_of, is_coded, other_identifiers, pivot_of, pivoted_point}
-use Rattle.rules_to_sql.proofs.JoinKept.{once_hold}
+use Rattle.rules_to_sql.proofs.GroupLooks.{all_points, one_key}
 use Rattle.rules_to_sql.proofs.JoinParts.{found_is}
-use Rattle.rules_to_sql.proofs.OwnColumns.{column_any, own_among}
-use Rattle.rules_to_sql.proofs.Places.{all_map, all_more, columns_split, each, identifiers_apart, same_name-sym}
+use Rattle.rules_to_sql.proofs.OwnColumns.{columns_apart, own_among}
+use Rattle.rules_to_sql.proofs.Places.{all_more, columns_split, identifiers_apart}
 use Rattle.rules_to_sql.proofs.TurnedKept.{keys_typed, others_among}
 use Rattle.rules_to_sql.proofs.ValueKinds.{cell_is_of, null_is_of}
-use Rattle.sql_tree.specs.Formed.{IsColumn, IsMaybeExp, IsName}
+use Rattle.sql_tree.specs.Formed.{IsMaybeExp, IsName}
 use Rattle.sql_tree.specs.Trees.{Text, binary}
 use Rattle.sql_tree.specs.declared.parts.Column.{Column}
-use Rattle.rules_to_sql.specs.Fits.{Fits, IsMaybeCondition, IsSeen}
+use Rattle.rules_to_sql.specs.Fits.{Fits, IsMaybeCondition}
 use Rattle.rules_to_sql.specs.Expressions.{site}
 use Rattle.rules_to_sql.specs.Kinds.{kind_in, operator_kind}
 use Rattle.rules_to_sql.specs.Queries.{is_grouped}
@@ -59,32 +56,24 @@ use Rattle.rules_to_sql.specs.Selects.{having_fault, kept_keys}
 use Rattle.rules_to_sql.specs.Tables.{Base}
 use Rattle.rules_to_sql.specs.Values.{at_groups, at_rows, place_in, value as sql_value}
 use Rattle.rules_to_sql.specs.ToSql.{column_of as sql_column, group_columns}
-use Rattle.rules_to_sql.proofs.OverGroups.{group_fits, group_value_is}
 use Rattle.vtl_to_sql.specs.Conditions.{HaveNames}
 use Rattle.vtl_to_sql.specs.Queries.{all_to_sql, first_alias, items_as, of_one, source_as}
 use Rattle.vtl_to_sql.specs.Runs.{IsTable, printable_depth}
-use Rattle.vtl_to_sql.specs.Turned.{coded_item, grouped_as, has_rows, kept_groups, own_column, pivot_query, pivot_select, pivoted_items, text_constant, where_coded}
-use Rattle.vtl_to_sql.proofs.Coded.{all_there, case_of, cells_named, greatest_coded, least_truth, truth_of}
+use Rattle.vtl_to_sql.specs.Turned.{coded_item, grouped_as, kept_groups, own_column, pivot_query, pivot_select, pivoted_items, text_constant, where_coded}
+use Rattle.vtl_to_sql.proofs.Coded.{all_there, case_of, cells_named, greatest_coded, truth_of}
 use Rattle.vtl_to_sql.proofs.Conjunctions.{equal_cells}
 use Rattle.vtl_to_sql.proofs.Exact.{IsExactly}
 use Rattle.vtl_to_sql.proofs.Expressions.{Translates}
 use Rattle.vtl_to_sql.proofs.Givens.{AreGiven, kinds_in}
+use Rattle.vtl_to_sql.proofs.GroupKeys.{IsIn, group_printed, group_seen, key_cell, key_items, keys_before, keys_quiet, placed_in, truth_is}
 use Rattle.vtl_to_sql.proofs.GroupItems.{AreGroupItems, IsGroupItem, groups_behind, groups_give, groups_like}
-use Rattle.vtl_to_sql.proofs.Identifiers.{AreIdentifiersAt, IsIdentifierAt, identifier_there, identifiers_there}
+use Rattle.vtl_to_sql.proofs.Identifiers.{IsIdentifierAt, identifier_there, identifiers_there}
 use Rattle.vtl_to_sql.proofs.OneOperand.{one_from, own_cells, own_names, rows_there}
 use Rattle.vtl_to_sql.proofs.SelectItems.{Valued, each_by, gives_same, stays_after, values_at, values_fault}
 use Rattle.vtl_to_sql.proofs.Sources.{AreApart, one_formed, one_scope}
 use Rattle.vtl_to_sql.proofs.Unions.{one_exactly}
 
--- ---- names
-
-pub among_names : (name : Text) (zs : List Component) → list_any (same_text name) (names_of zs) ≡ list_any (λ z. same_name z.name name) zs
-among_names name [] = refl
-among_names name (z ∷ zs) = ap (λ b. b || list_any (same_text name) (names_of zs)) (same_name-sym name z.name) ∙ ap (λ b. same_name z.name name || b) (among_names name zs)
-
-pub place_by_names : (name : Text) (zs : List Component) → position_or_len (same_text name) (names_of zs) ≡ place_of name zs
-place_by_names name [] = refl
-place_by_names name (z ∷ zs) = ap (λ b. cond (not b) (1 + position_or_len (same_text name) (names_of zs)) 0) (same_name-sym name z.name) ∙ ap (λ n. cond (not (same_name z.name name)) (1 + n) 0) (place_by_names name zs)
+-- ---- kinds
 
 null_shared : (kind : Kind) → or_null (common_kind (kind ∷ k.Null ∷ [])) ≡ kind
 null_shared k.Null = refl
@@ -103,15 +92,6 @@ some_shared k.Num = refl
 some_shared k.Text = refl
 some_shared k.Day = refl
 some_shared k.Period = refl
-
--- ---- no columns in GROUP BY
-
-no_others : (rows : List Row) → filter (λ z. not (same_row [] z)) (each_once same_row (map (λ r. []) rows)) ≡ []
-no_others rows = go (each_once same_row (map (λ r. []) rows)) (once_hold (λ z. z ≡ []) same_row (map (λ r. []) rows) (all_map (λ r. []) (λ z. z ≡ []) rows (each (λ r. [] ≡ []) (λ r. refl) rows)))
-  where
-    go : (zs : List Row) → AllByRecursion (λ z. z ≡ []) zs → filter (λ z. not (same_row [] z)) zs ≡ []
-    go [] all = refl
-    go (z ∷ zs) all = ap (λ q. cond (not (same_row [] q)) (z ∷ filter (λ u. not (same_row [] u)) zs) (filter (λ u. not (same_row [] u)) zs)) all.0 ∙ go zs all.1
 
 module _ (p : Settings) (law : Translates p) (before : Data) (name : Text) (a s : Structure) (d : List Row) (there : IsTable before name a d) (named : IsName name) (na : HaveNames (columns_of a)) (set : IsDataSet a d) (id m : List ℕ) (i : IsPivoted id m a s) (texts : kind_named id (identifiers_of a) ≡ k.Text) (given : AreGiven (columns_of s)) where
   abbrev xs : List Component
@@ -146,8 +126,8 @@ module _ (p : Settings) (law : Translates p) (before : Data) (name : Text) (a s 
   others_apart : AreApart others
   others_apart = ap (all_apart same_name) (sym i.identifiers.0) ∙ identifiers_apart s i.well_formed
 
-  others_there : AreIdentifiersAt xs others
-  others_there = identifiers_there a set.well_formed others (others_among id a set.well_formed)
+  others_there : AllByRecursion (IsIn xs) others
+  others_there = all_more (λ z. IsIdentifierAt z.name z.kind xs) (IsIn xs) (λ z h. h.column) others (identifiers_there a set.well_formed others (others_among id a set.well_formed))
 
   id_there : IsIdentifierAt id k.Text xs
   id_there = subst (λ q. IsIdentifierAt id q xs) texts (identifier_there a set.well_formed id (kind_named id (identifiers_of a)) i.coded).0
@@ -157,26 +137,6 @@ module _ (p : Settings) (law : Translates p) (before : Data) (name : Text) (a s 
 
   known_measure : found scope (sql_column first_alias m) ≡ Some kind
   known_measure = (own_names p law before name a d there named set.well_formed na).known (place_of m xs) m kind i.measured
-
-  -- ---- the column of an identifier
-
-  key_item : (y : Component) → IsColumnAt (place_of y.name xs) y.name y.kind xs → IsColumnAt (place_of y.name others) y.name y.kind others → IsGroupItem b scope group members IsKey (λ key. Ok (column_of (place_of y.name others) key)) (own_column y.name) y
-  key_item y at own =
-      let names = own_names p law before name a d there named set.well_formed na in
-      let e = column (place_of y.name xs) y.name y.kind in
-      let among : list_any (same_text y.name) (names_of others) ≡ true = among_names y.name others ∙ column_any (place_of y.name others) y.name y.kind others own in
-      record {
-        kind = ap or_null (names.known (place_of y.name xs) y.name y.kind at);
-        fits = group_fits first_alias (names_of others) xs scope names p b.tables law.low e (at, among) tt;
-        printed = (one_formed xs na (place_of y.name xs) y.name y.kind at, omega arith);
-        value_is = λ key h. group_value_is first_alias (names_of others) xs scope names b key (members key) law.low e (at, among) tt ∙ ap (λ n. Ok (column_of n key)) (place_by_names y.name others);
-        of_kind = λ key h. cell_is_of (place_of y.name others) y.name y.kind others key own h;
-      }
-
-  key_items : (ys : List Component) → AreIdentifiersAt xs ys → AllByRecursion (λ y. IsColumnAt (place_of y.name others) y.name y.kind others) ys
-      → AreGroupItems b scope group members IsKey (map (λ y. λ key. Ok (column_of (place_of y.name others) key)) ys) (all_to_sql p of_one (columns_named xs ys)) ys
-  key_items [] at own = tt
-  key_items (y ∷ ys) at own = (key_item y at.0.column own.0, key_items ys at.1 own.1)
 
   -- ---- the measure at a code
 
@@ -240,8 +200,11 @@ module _ (p : Settings) (law : Translates p) (before : Data) (name : Text) (a s 
 
   -- ---- all items
 
+  abbrev code_values : List Valued
+  code_values = map (λ code. λ key. Ok (there_is code key)) (codes_of id a)
+
   abbrev all : List Valued
-  all = map (λ y. λ key. Ok (column_of (place_of y.name others) key)) others ++ map (λ code. λ key. Ok (there_is code key)) (codes_of id a)
+  all = map (key_cell others) others ++ code_values
 
   kinds_same : kinds_in (others ++ map (code_measure kind) (codes_of id a)) ≡ kinds_in (columns_of s)
   kinds_same =
@@ -259,32 +222,24 @@ module _ (p : Settings) (law : Translates p) (before : Data) (name : Text) (a s 
   items : AreGroupItems b scope group members IsKey all (pivoted_items p a id m) (columns_of s)
   items =
       groups_like b scope group members IsKey all (pivoted_items p a id m) (others ++ map (code_measure kind) (codes_of id a)) (columns_of s) kinds_same
-      (groups_behind b scope group members IsKey (map (λ y. λ key. Ok (column_of (place_of y.name others) key)) others) (map (λ code. λ key. Ok (there_is code key)) (codes_of id a)) (all_to_sql p of_one (columns_named xs others)) (map (coded_item id m) (codes_of id a)) others (map (code_measure kind) (codes_of id a))
-      (key_items others others_there (own_among others others_apart)) (code_items (codes_of id a)))
+      (groups_behind b scope group members IsKey (map (key_cell others) others) code_values (all_to_sql p of_one (columns_named xs others)) (map (coded_item id m) (codes_of id a)) others (map (code_measure kind) (codes_of id a))
+      (key_items p law before xs (columns_apart a set.well_formed) na others members others others_there (own_among others others_apart)) (code_items (codes_of id a)))
 
   -- no item has a fault
   quiet_codes : (codes : List (List ℕ)) (key : Row) → values_fault (map (λ code. λ z. Ok (there_is code z)) codes) key ≡ None
   quiet_codes [] key = refl
   quiet_codes (code ∷ codes) key = quiet_codes codes key
 
-  quiet_key : (ys : List Component) (key : Row) → values_fault (map (λ y. λ z. Ok (column_of (place_of y.name others) z)) ys ++ map (λ code. λ z. Ok (there_is code z)) (codes_of id a)) key ≡ None
-  quiet_key [] key = quiet_codes (codes_of id a) key
-  quiet_key (y ∷ ys) key = quiet_key ys key
-
   all_quiet : (keys : List Row) → faults_by (values_fault all) keys ≡ None
   all_quiet [] = refl
-  all_quiet (key ∷ keys) = rw (quiet_key others key) (all_quiet keys)
+  all_quiet (key ∷ keys) = ap (λ f. join f (faults_by (values_fault all) keys)) (keys_quiet others others code_values key ∙ quiet_codes (codes_of id a) key) ∙ all_quiet keys
 
   code_cells : (codes : List (List ℕ)) (key : Row) → values_at (map (λ code. λ z. Ok (there_is code z)) codes) key ≡ map (λ code. there_is code key) codes
   code_cells [] key = refl
   code_cells (code ∷ codes) key = ap (λ l. there_is code key ∷ l) (code_cells codes key)
 
-  cells : (ys : List Component) (key : Row) → values_at (map (λ y. λ z. Ok (column_of (place_of y.name others) z)) ys ++ map (λ code. λ z. Ok (there_is code z)) (codes_of id a)) key ≡ cells_at (places_in others ys) key ++ map (λ code. there_is code key) (codes_of id a)
-  cells [] key = code_cells (codes_of id a) key
-  cells (y ∷ ys) key = ap (λ l. column_of (place_of y.name others) key ∷ l) (cells ys key)
-
   point_is : (key : Row) → IsKey key → values_at all key ≡ pivoted_point (with_points a d) id m key
-  point_is key h = cells others key ∙ ap (λ l. l ++ map (λ code. there_is code key) (codes_of id a)) (own_cells others key others_apart h)
+  point_is key h = keys_before others others code_values key ∙ ap (λ l. l ++ values_at code_values key) (own_cells others key others_apart h) ∙ ap (λ l. key ++ l) (code_cells (codes_of id a) key)
 
   abbrev keys : List Row
   keys = each_once same_row (map (values_in a others) d)
@@ -299,20 +254,6 @@ module _ (p : Settings) (law : Translates p) (before : Data) (name : Text) (a s 
 
   -- ---- the groups
 
-  placed_in : (zs : List Component) → AreIdentifiersAt xs zs → map (place_in scope) (group_columns first_alias (names_of zs)) ≡ places_in xs zs
-  placed_in [] at = refl
-  placed_in (z ∷ zs) at =
-      ap (λ n. n ∷ map (place_in scope) (group_columns first_alias (names_of zs))) ((own_names p law before name a d there named set.well_formed na).placed (place_of z.name xs) z.name z.kind at.0.column)
-      ∙ ap (λ l. place_of z.name xs ∷ l) (placed_in zs at.1)
-
-  group_seen : (zs : List Component) → AreIdentifiersAt xs zs → AllByRecursion (IsSeen scope None) (group_columns first_alias (names_of zs))
-  group_seen [] at = tt
-  group_seen (z ∷ zs) at = ((ap is_some ((own_names p law before name a d there named set.well_formed na).known (place_of z.name xs) z.name z.kind at.0.column), refl), group_seen zs at.1)
-
-  group_printed : (zs : List Component) → AreIdentifiersAt xs zs → Each IsColumn (group_columns first_alias (names_of zs))
-  group_printed [] at = tt
-  group_printed (z ∷ zs) at = (one_formed xs na (place_of z.name xs) z.name z.kind at.0.column, group_printed zs at.1)
-
   having_fits : (zs : List Component) (g : Grouping) → IsMaybeCondition (site p (tables_in before) scope) (Some g) (kept_groups zs)
   having_fits [] g = ((refl, refl, refl), refl)
   having_fits (z ∷ zs) g = tt
@@ -325,37 +266,31 @@ module _ (p : Settings) (law : Translates p) (before : Data) (name : Text) (a s 
   grouped_by [] = refl
   grouped_by (z ∷ zs) = refl
 
-  truth_is : (columns : List Column) (key : Row) (rows : List Row) → sql_value (at_groups b scope columns) has_rows key rows ≡ Ok (truth_of rows)
-  truth_is columns key rows = ap (λ o. after o (group_value p agg.Min)) (all_there (λ r. Unit {0}) (λ r. Ok (c.Bool true)) (λ r. c.Bool true) (λ r h. refl) rows (each (λ r. Unit {0}) (λ r. tt) rows)) ∙ least_truth p rows
-
-  whole : (rows : List Row) → rows_with [] rows [] ≡ rows
-  whole [] = refl
-  whole (r ∷ rows) = ap (λ l. r ∷ l) (whole rows)
-
   one_kept : (rows : List Row) → filter (λ key. is_true (Ok (truth_of rows))) ([] ∷ []) ≡ each_once same_row (map (values_in a []) rows)
   one_kept [] = refl
-  one_kept (r ∷ rows) = ap (λ l. [] ∷ l) (sym (no_others rows))
+  one_kept (r ∷ rows) = sym (one_key r rows)
 
   kept_for : (zs : List Component) → kept_keys (at_groups b scope (group_columns first_alias (names_of zs))) (rows_with (places_in xs zs) d) (kept_groups zs) (keys_by (places_in xs zs) d) ≡ each_once same_row (map (values_in a zs) d)
-  kept_for [] = ap (λ o. cond (is_true o) ([] ∷ []) []) (truth_is [] [] (rows_with [] d []) ∙ ap (λ l. Ok (truth_of l)) (whole d)) ∙ one_kept d
+  kept_for [] = ap (λ o. cond (is_true o) ([] ∷ []) []) (truth_is p law before xs (columns_apart a set.well_formed) na [] [] (rows_with [] d []) ∙ ap (λ l. Ok (truth_of l)) (all_points d)) ∙ one_kept d
   kept_for (z ∷ zs) = ap (each_once same_row) (map_each (cells_at (places_in xs (z ∷ zs))) (values_in a (z ∷ zs)) (cells_named xs (z ∷ zs)) d)
 
   quiet_for : (zs : List Component) → having_fault (at_groups b scope (group_columns first_alias (names_of zs))) (rows_with (places_in xs zs) d) (kept_groups zs) (keys_by (places_in xs zs) d) ≡ None
-  quiet_for [] = ap (λ o. join (fault_in o) None) (truth_is [] [] (rows_with [] d []))
+  quiet_for [] = ap (λ o. join (fault_in o) None) (truth_is p law before xs (columns_apart a set.well_formed) na [] [] (rows_with [] d []))
   quiet_for (z ∷ zs) = refl
 
   pub pivot_means : IsExactly p before (pivot_query p id m a s name) s (Ok (pivot_of (with_points a d) id m))
   pivot_means =
       let from = one_from p law before name a d there named set.well_formed na (items_as (pivoted_items p a id m) (columns_of s)) None tt tt in
       let it = pivot_select p id m a s name in
+      let own = columns_apart a set.well_formed in
       one_exactly p before s given it (Ok (pivot_of (with_points a d) id m))
       (gives_same p before s it (each_by all keys) (Ok (pivot_of (with_points a d) id m)) rows_are
-      (groups_give p before scope group (places_in xs others) (placed_in others others_there) d IsKey all (pivoted_items p a id m) s items given (source_as first_alias name) (kept_groups others)
+      (groups_give p before scope group (places_in xs others) (placed_in p law before xs own na others others_there) d IsKey all (pivoted_items p a id m) s items given (source_as first_alias name) (kept_groups others)
       (record {
         grouped = grouped_by others;
         scope = from.scope;
         source = from.source;
-        group = (group_seen others others_there, group_printed others others_there);
+        group = (group_seen p law before xs own na others others_there, group_printed p law before xs own na others others_there);
         having = (having_fits others (grouping_of group), having_printed others);
       })
-      (ap Ok (rows_there p law before name a d there named set.well_formed na)) keys (kept_for others) (quiet_for others) keys_are))
+      (ap Ok (rows_there p law before name a d there named set.well_formed na)) keys None (kept_for others) (quiet_for others) keys_are))

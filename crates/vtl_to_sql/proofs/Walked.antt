@@ -7,13 +7,14 @@ use Rattle.vtl_cell.specs.declared.operator.ScalarOp.{ScalarOp}
 use Rattle.vtl_syntax.specs.declared.word_groups.Retain.{Retain}
 use Rattle.vtl_text.specs.declared.shared_text.Txt.{Txt}
 use Rattle.vtl_nodes.specs.Trees as nodes
-use Rattle.vtl_nodes.specs.View.{form_tree, item_tree, node_tree}
+use Rattle.vtl_nodes.specs.View.{agg_tree, form_tree, item_tree, node_tree}
 use Rattle.vtl_nodes.specs.declared.clauses.CalcItem.{CalcItem}
 use Rattle.vtl_nodes.specs.declared.clauses.SubItem.{SubItem}
 use Rattle.vtl_nodes.specs.declared.nodes.Node.{Node}
 use Rattle.vtl_nodes.specs.declared.nodes.NodeForm as forms
 use Rattle.vtl_nodes.specs.declared.nodes.NodeForm.{NodeForm}
 use Rattle.vtl_nodes.specs.declared.nodes.NodeForm.TheVariants as form
+use Rattle.vtl_nodes.specs.declared.specifications.AggSpec.{AggSpec}
 use Rattle.sql_tree.specs.Trees.{StatementTree, Text}
 use Rattle.vtl_to_sql.specs.Scripts.{create_for}
 use Rattle.vtl_to_sql.specs.Tables.{Sources, and_then}
@@ -28,6 +29,9 @@ tree_of_calc f a items e = ap form_tree e ∙ search (rules, forms.the_lemmas)
 
 pub tree_of_sub : (f : NodeForm) (a : Box Node Global) (values : List SubItem) → f ≡ form.Sub a values → form_tree f ≡ nodes.sub (node_tree a.value) values
 tree_of_sub f a values e = ap form_tree e ∙ search (rules, forms.the_lemmas)
+
+pub tree_of_aggregate : (f : NodeForm) (a : Box Node Global) (spec : AggSpec) → f ≡ form.Aggregate a spec → form_tree f ≡ nodes.aggregate (node_tree a.value) (agg_tree spec)
+tree_of_aggregate f a spec e = ap form_tree e ∙ search (rules, forms.the_lemmas)
 
 pub tree_of_pair : (f : NodeForm) (o : ScalarOp) (a b : Box Node Global) → f ≡ form.Pair o a b → form_tree f ≡ nodes.pair o (node_tree a.value) (node_tree b.value)
 tree_of_pair f o a b e = ap form_tree e ∙ search (rules, forms.the_lemmas)

@@ -25,7 +25,7 @@ use Rattle.rules_to_sql.specs.Points.{with_points}
 use Rattle.rules_to_sql.specs.Trees.{structure_of}
 use Rattle.sql_tree.specs.Trees.{StatementTree}
 use Rattle.rules_to_sql.specs.TypingStatements.{scale_of, scale_written, settings_of}
-use Rattle.rules_to_sql.specs.Scripts.{Data, Export, Inputs, NamedFault, and_export, base_of, created, export_of, fault_name, input_table, no_table, or_named, script_value, sort_key, statements_made}
+use Rattle.rules_to_sql.specs.Scripts.{Data, Export, Inputs, NamedFault, base_of, export_of, fault_name, input_table, no_table, or_named, script_value, sort_key, statements_made}
 use Rattle.rules_to_sql.specs.Scripts as sql
 use Rattle.rules_to_sql.specs.Selects.{query_value}
 use Rattle.rules_to_sql.proofs.WrittenConstants.{integer_there}

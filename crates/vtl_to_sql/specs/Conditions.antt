@@ -2,6 +2,7 @@
 -- is too deep to be printed.
 use Rattle.std.specs.Prelude.{◌≡◌, ◌≤◌, ◌<◌, ◌+◌, ◌^◌, ℕ, true, false, List, [], ◌∷◌, length}
 use Rattle.std.specs.List.{AllByRecursion}
+use Rattle.std.specs.Option.{IfSome}
 use Rattle.vtl_cell.specs.Held.{IsHeld}
 use Rattle.vtl_cell.specs.Kinds.{is_null}
 use Rattle.vtl_cell.specs.Profile.{IsOfProfile}
@@ -76,6 +77,7 @@ abbrev mutual
   -- codes are texts
   IsFormTranslated p s (nodes.pivot a id m) = IsTranslated p a × (kind_named id (identifiers_of (structure_of a)) ≡ k.Text)
   IsFormTranslated p s (nodes.unpivot a id m) = IsTranslated p a
+  IsFormTranslated p s (nodes.aggregate a spec) = IsTranslated p a × IfSome spec.having CanBeWritten
   -- the other forms have no meaning yet
   IsFormTranslated p s other = ⊥
 

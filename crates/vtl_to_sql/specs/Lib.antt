@@ -41,6 +41,7 @@ pub mod JoinItems
 pub mod KeyItems
 pub mod NamedItems
 pub mod TurnedItems
+pub mod GroupedItems
 pub mod Combined
 pub mod Existences
 pub mod Inputs

@@ -1,6 +1,6 @@
 // Conditions of selects.
 ghost use Rattle.std.specs.Prelude.{◌≡◌, ◌++◌, ◌∷◌, [], length, map, IfOk, OnOk};
-ghost use Rattle.sql_tree.specs.Trees.{binary};
+ghost use Rattle.sql_tree.specs.Trees.{binary, branch, case_when, constant, no_branches};
 ghost use Rattle.sql_tree.specs.View.{expr_tree};
 ghost use Rattle.vtl_tree.specs.Shown.{shown};
 ghost use Rattle.vtl_tree.specs.Structure.{columns_of, key_width};
@@ -133,15 +133,29 @@ pub(crate) fn chosen(
     writer.column_at(identifiers.len(), columns.len(), &name)
 }
 
+/// A value where a condition is true, and a constant elsewhere. It fails only if memory runs out.
+pub(crate) fn when(
+    alloc: Global,
+    condition: SqlExpr,
+    value: SqlExpr,
+    elsewhere: Constant,
+) -> Result<SqlExpr, AllocError>
+    ensures { IfOk result (λ e. expr_tree e ≡ case_when (branch (expr_tree condition) (expr_tree value) no_branches) (constant elsewhere)) }
+{
+    let mut branches = Vec::with_capacity(alloc, 1)?;
+    branches.push(Branch { condition, value })?;
+    let other = Box::new(alloc, SqlExpr::Constant(elsewhere))?;
+    Ok(SqlExpr::Case { branches, other })
+}
+
 /// The second branch is chosen: the first one is not. It fails only if memory runs out.
 pub(crate) fn not_chosen(alloc: Global, condition: SqlExpr) -> Result<SqlExpr, AllocError>
     ensures { IfOk result (λ e. expr_tree e ≡ not_chosen (expr_tree condition)) }
 {
-    let mut branches = Vec::with_capacity(alloc, 1)?;
-    branches.push(Branch {
+    when(
+        alloc,
         condition,
-        value: SqlExpr::Constant(Constant::False),
-    })?;
-    let other = Box::new(alloc, SqlExpr::Constant(Constant::True))?;
-    Ok(SqlExpr::Case { branches, other })
+        SqlExpr::Constant(Constant::False),
+        Constant::True,
+    )
 }

@@ -1,6 +1,7 @@
 // The constants of a checked script are values that a program holds. A tree does not show it, so the program's own values
 // are asked, one by one.
 ghost use Rattle.std.specs.List.{AllByRecursion};
+ghost use Rattle.std.specs.Option.{IfSome, option_map};
 ghost use Rattle.std.specs.Prelude.{◌≡◌, map};
 ghost use Rattle.vtl_cell.specs.Held.{IsHeld};
 ghost use Rattle.vtl_tree.specs.View.{comp_exp_of};
@@ -70,6 +71,14 @@ fn values_are_held(alloc: Global, values: &[SubItem], p: &Profile)
     }
 }
 
+fn condition_is_held(alloc: Global, condition: &Option<CompExpr>, p: &Profile)
+    ensures { IfSome (option_map comp_exp_of condition.now) HoldsValues }
+{
+    if let Some(e) = condition {
+        expression_is_held(alloc, e, p);
+    }
+}
+
 #[cycle(constants)]
 fn node_is_held(alloc: Global, node: &Node, p: &Profile)
     ensures { HoldsParts (node_tree node.now) }
@@ -91,6 +100,10 @@ fn node_is_held(alloc: Global, node: &Node, p: &Profile)
         }
         NodeForm::Sub { a, values } => {
             values_are_held(alloc, values.as_slice(), p);
+            node_is_held(alloc, a, p)
+        }
+        NodeForm::Aggregate { a, spec } => {
+            condition_is_held(alloc, &spec.having, p);
             node_is_held(alloc, a, p)
         }
         NodeForm::Member { a, .. } => node_is_held(alloc, a, p),

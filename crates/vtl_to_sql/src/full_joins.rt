@@ -7,11 +7,11 @@ ghost use Rattle.vtl_to_sql.specs.FullJoins.{full_query, key_structure, keys_que
 ghost use Rattle.vtl_to_sql.specs.JoinItems.{aliased_of, keyed_query, keyed_with};
 ghost use Rattle.vtl_to_sql.specs.KeyItems.{identifiers_select, key_items};
 
+use crate::groups::{group_of, grouped};
 use crate::items::{own_items, push_item};
 use crate::join_items::push_columns;
 use crate::join_operands::{Aliased, common_identifiers, with_aliases};
 use crate::join_queries::{joined_on, joined_query, push_others};
-use crate::pivot_queries::grouped;
 use crate::queries::{from_one, one_select};
 use crate::writer::Writer;
 use sql_tree::{Constant, Item, Join, JoinKind, Query, Select, SqlExpr};
@@ -161,7 +161,8 @@ pub(crate) fn once_query(
 {
     let columns = keys.columns(alloc)?;
     let items = own_items(alloc, writer, &columns)?;
-    one_select(alloc, grouped(alloc, writer, &columns, items, None, table)?)
+    let group = group_of(alloc, writer, &columns)?;
+    one_select(alloc, grouped(alloc, writer, items, table, group, None)?)
 }
 
 // An operand where the identifiers of a table have the values that they have there.

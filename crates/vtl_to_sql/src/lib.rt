@@ -16,6 +16,8 @@ mod constants;
 mod draft;
 mod existence_queries;
 mod full_joins;
+mod grouped_queries;
+mod groups;
 mod inputs;
 mod items;
 mod join_items;

@@ -3,23 +3,23 @@ ghost use Rattle.std.specs.Prelude.{◌≡◌, map, IfOk, OnOk};
 ghost use Rattle.std.specs.Option.{option_map};
 ghost use Rattle.vtl_tree.specs.Shown.{shown};
 ghost use Rattle.rules_to_sql.specs.Turned.{codes_of, other_identifiers};
-ghost use Rattle.sql_tree.specs.Trees.{aggregate};
 ghost use Rattle.sql_tree.specs.View.{expr_tree, item_tree, query_tree, select_tree};
 ghost use Rattle.vtl_to_sql.specs.NamedItems.{AreNext};
-ghost use Rattle.vtl_to_sql.specs.Queries.{first_alias, items_as, source_as};
-ghost use Rattle.vtl_to_sql.specs.Turned.{coded_item, grouped_as, kept_groups, pivot_query, where_coded};
-ghost use Rattle.vtl_to_sql.specs.TurnedItems.{coded_values, group_of, grouped_by};
+ghost use Rattle.vtl_to_sql.specs.Queries.{items_as};
+ghost use Rattle.vtl_to_sql.specs.Turned.{coded_item, kept_groups, pivot_query, where_coded};
+ghost use Rattle.vtl_to_sql.specs.TurnedItems.{coded_values, grouped_by};
 
-use crate::conditions::between;
+use crate::conditions::{between, when};
+use crate::groups::{aggregate, group_of, grouped, has_rows};
 use crate::named_items::{push_next, push_own};
 use crate::queries::one_select;
 use crate::unpivot_queries::text_constant;
 use crate::writer::Writer;
 use check_shapes::{Choice, component_of, is_chosen};
-use sql_tree::{Branch, Column, Constant, Item, Query, Select, SqlExpr};
+use sql_tree::{Constant, Item, Query, Select, SqlExpr};
 use std::alloc::{AllocError, Global};
 use std::slice;
-use vtl_cell::{AggKind, List, ScalarOp, Txt};
+use vtl_cell::{AggKind, ScalarOp, Txt};
 use vtl_tree::{Component, Structure};
 
 // The identifiers but one.
@@ -52,16 +52,6 @@ fn codes_of<'a>(structure: &'a Structure, id: &Txt) -> &'a [Txt]
     }
 }
 
-// An aggregate function of an operand.
-fn aggregate(alloc: Global, function: AggKind, operand: SqlExpr) -> Result<SqlExpr, AllocError>
-    ensures { IfOk result (λ e. expr_tree e ≡ aggregate function (expr_tree operand)) }
-{
-    Ok(SqlExpr::Aggregate {
-        function,
-        operand: Box::new(alloc, operand)?,
-    })
-}
-
 // A measure where an identifier has a code, and null elsewhere.
 fn where_coded(
     alloc: Global,
@@ -78,11 +68,7 @@ fn where_coded(
         ScalarOp::Equal,
         text_constant(code)?,
     )?;
-    let value = writer.column(measure)?;
-    let mut branches = Vec::with_capacity(alloc, 1)?;
-    branches.push(Branch { condition, value })?;
-    let other = Box::new(alloc, SqlExpr::Constant(Constant::Null))?;
-    Ok(SqlExpr::Case { branches, other })
+    when(alloc, condition, writer.column(measure)?, Constant::Null)
 }
 
 // Adds the value of a measure at each code of an identifier as the next columns of a result.
@@ -122,54 +108,14 @@ fn coded_values(
     Ok(items)
 }
 
-// The columns of identifiers.
-fn group_of(
-    alloc: Global,
-    writer: &Writer,
-    identifiers: &[&Component],
-) -> Result<Vec<Column>, AllocError>
-    ensures { IfOk result (λ v. v.items ≡ group_of (shown identifiers.now)) }
-{
-    let mut columns = Vec::with_capacity(alloc, identifiers.len())?;
-    for identifier in identifiers {
-        columns.push(writer.first(&identifier.name)?)?;
-    }
-    Ok(columns)
-}
-
 // The condition of the groups: without identifiers the only group must have a row.
 fn kept_groups(alloc: Global, identifiers: &[&Component]) -> Result<Option<SqlExpr>, AllocError>
     ensures { IfOk result (λ o. option_map expr_tree o ≡ kept_groups (shown identifiers.now)) }
 {
     match identifiers {
-        [] => {
-            let has_rows = aggregate(alloc, AggKind::Min, SqlExpr::Constant(Constant::True))?;
-            Ok(Some(has_rows))
-        }
+        [] => Ok(Some(has_rows(alloc)?)),
         [_, ..] => Ok(None),
     }
-}
-
-/// A group for each tuple of columns of a table. It fails only if memory runs out.
-pub(crate) fn grouped(
-    alloc: Global,
-    writer: &Writer,
-    columns: &[&Component],
-    items: Vec<Item>,
-    having: Option<SqlExpr>,
-    table: &Txt,
-) -> Result<Select, AllocError>
-    ensures { IfOk result (λ x. select_tree x ≡ grouped_as (map item_tree items.items) (source_as first_alias table.now) (group_of (shown columns.now)) (option_map expr_tree having)) }
-{
-    let group = group_of(alloc, writer, columns)?;
-    Ok(Select {
-        items: List::of(items),
-        from: writer.source(table)?,
-        joins: List::of(Vec::new(alloc)),
-        condition: None,
-        group: List::of(group),
-        having,
-    })
 }
 
 // A group for each tuple of identifiers.
@@ -182,8 +128,9 @@ fn grouped_by(
 ) -> Result<Select, AllocError>
     ensures { IfOk result (λ x. select_tree x ≡ grouped_by (shown identifiers.now) (map item_tree items.items) table.now) }
 {
+    let group = group_of(alloc, writer, identifiers)?;
     let having = kept_groups(alloc, identifiers)?;
-    grouped(alloc, writer, identifiers, items, having, table)
+    grouped(alloc, writer, items, table, group, having)
 }
 
 /// `pivot`: a row for each tuple of the other identifiers, with a column for each code of an identifier, which has the

@@ -15,6 +15,7 @@ ghost use Rattle.vtl_to_sql.specs.Accepted.{are_nodes_translated, are_operands_t
 use crate::all_joins::join_query;
 use crate::draft::Draft;
 use crate::existence_queries::existence_query;
+use crate::grouped_queries::aggregate_query;
 use crate::pair_queries::{Operand, choose_query, pair_query};
 use crate::pivot_queries::pivot_query;
 use crate::queries::{
@@ -193,6 +194,10 @@ pub(crate) fn query(
         NodeForm::Unpivot { a, .. } => {
             let table = source(alloc, writer, a, target, draft)?;
             unpivot_query(alloc, writer, &a.structure, s, &table)
+        }
+        NodeForm::Aggregate { a, spec } => {
+            let table = source(alloc, writer, a, target, draft)?;
+            aggregate_query(alloc, writer, spec, s, &table)
         }
         NodeForm::Member { a, .. } => left(alloc, writer, a, s, target, draft),
         NodeForm::Keep { a, .. } => left(alloc, writer, a, s, target, draft),

@@ -9,12 +9,12 @@ use Rattle.vtl_tree.specs.DataSet.{IsDataSet, is_point}
 use Rattle.vtl_tree.specs.Structure.{IsStructure, columns_of}
 use Rattle.vtl_tree.specs.Value.{value}
 use Rattle.vtl_tree.specs.View.{comp_exp_of}
-use Rattle.vtl_group.specs.TableOf.{table_columns}
-use Rattle.vtl_group.proofs.TableLemmas.{answered_is_table, point_fits}
-use Rattle.vtl_group.proofs.Kept.{filtered_kept}
-use Rattle.vtl_group.specs.Seen.{seen_of}
-use Rattle.vtl_group.proofs.PointLemmas.{answered_keeps, finished, holds_at}
-use Rattle.vtl_group.proofs.Walks.{kept_more, seen_more}
+use Rattle.vtl_expr.specs.TableOf.{table_columns}
+use Rattle.vtl_expr.proofs.TableLemmas.{answered_is_table, point_fits}
+use Rattle.vtl_expr.proofs.Kept.{filtered_kept}
+use Rattle.vtl_expr.specs.Seen.{seen_of}
+use Rattle.vtl_expr.proofs.PointLemmas.{answered_keeps, finished, holds_at}
+use Rattle.vtl_expr.proofs.Walks.{kept_more, seen_more}
 use Rattle.vtl_clause.proofs.filtering.kept_table.Goals as goal
 
 pub new_table-requires : goal.new_table-requires

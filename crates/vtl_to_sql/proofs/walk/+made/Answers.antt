@@ -2,16 +2,17 @@ use Rattle.std.proofs.Common.{◌∷◌, [], ◌++◌, ℕ, ◌+◌, ◌-◌, le
 use Rattle.std.proofs.lemmas.Result.{IfOk-weaker}
 use Rattle.vtl_tree.specs.Shown.{shown}
 use Rattle.vtl_nodes.specs.Trees.{FormTree, structure_of}
-use Rattle.vtl_nodes.specs.View.{item_tree, node_tree}
+use Rattle.vtl_nodes.specs.View.{agg_tree, item_tree, node_tree}
 use Rattle.vtl_nodes.specs.declared.nodes.Node.{Node}
 use Rattle.sql_tree.specs.View.{query_tree, statement_tree}
 use Rattle.vtl_to_sql.specs.Combined.{combined_made}
+use Rattle.vtl_to_sql.specs.Grouped.{aggregate_query}
 use Rattle.vtl_to_sql.specs.Queries.{calc_query, difference_query, left_query, sub_query, symmetric_difference_query}
 use Rattle.vtl_to_sql.specs.Scripts.{create_for}
 use Rattle.vtl_to_sql.specs.Tables.{Made, and_then, made_of_form, sources_of, with_one, with_two}
 use Rattle.vtl_to_sql.proofs.JoinTables.{join_gives}
 use Rattle.vtl_to_sql.proofs.Combining.{alone, begun, ended, ends, intersection_of_form, left_ready, one_more, turn_made, union_of_form}
-use Rattle.vtl_to_sql.proofs.Walked.{behind_names, behind_others, tree_of_calc, tree_of_choose, tree_of_difference, tree_of_existence, tree_of_named, tree_of_pair, tree_of_sub, tree_of_symmetric_difference}
+use Rattle.vtl_to_sql.proofs.Walked.{behind_names, behind_others, tree_of_aggregate, tree_of_calc, tree_of_choose, tree_of_difference, tree_of_existence, tree_of_named, tree_of_pair, tree_of_sub, tree_of_symmetric_difference}
 use Rattle.vtl_to_sql.proofs.walk.+made.Goals as goal
 
 pub left-returns-clause-query : goal.left-returns-clause-query
@@ -55,6 +56,19 @@ query-returns-in_ok-table-in-Sub-clause-query t c =
     ∙ ap (λ l. sub_query p l a s table) c.as_slice-in-Sub.ensures
     ∙ ap (with_one (sub_query p c.in-Sub.values a s)) (c.in_ok-table-in-Sub.ensures.name ∙ ap (λ (x : Node). (sources_of p r (node_tree x) n).names) c.deref-in-Sub.ensures)
     ∙ sym (ap (λ (f : FormTree). (made_of_form p r s f n).query) is)) c.sub_query.ensures
+
+pub query-returns-in_ok-table-in-Aggregate-clause-query : goal.query-returns-in_ok-table-in-Aggregate-clause-query
+query-returns-in_ok-table-in-Aggregate-clause-query t c =
+    let p = c.args.writer.now in
+    let r = c.args.target.now in
+    let s = c.args.s.now in
+    let n = c.args.draft.now.next in
+    let is = tree_of_aggregate c.args.form.now c.in-Aggregate.a c.in-Aggregate.spec c.in-Aggregate.is in
+    let a = structure_of (node_tree c.in-Aggregate.a.value) in
+    IfOk-weaker c.aggregate_query.result _ _
+    (λ q e. e a
+    ∙ ap (with_one (aggregate_query p (agg_tree c.in-Aggregate.spec) a s)) (c.in_ok-table-in-Aggregate.ensures.name ∙ ap (λ (x : Node). (sources_of p r (node_tree x) n).names) c.deref-in-Aggregate.ensures)
+    ∙ sym (ap (λ (f : FormTree). (made_of_form p r s f n).query) is)) c.aggregate_query.ensures
 
 pub query-returns-in_ok-second-in-Pair-clause-tables : goal.query-returns-in_ok-second-in-Pair-clause-tables
 query-returns-in_ok-second-in-Pair-clause-tables t c =

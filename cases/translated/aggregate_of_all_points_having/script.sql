@@ -1,0 +1,7 @@
+SET SCALE 6 ROUNDING HALF_UP;
+INPUT "x" ("k" TEXT, "j" INTEGER, "u" INTEGER) KEY ("k", "j");
+CREATE TABLE "R" AS
+  SELECT SUM("a"."u") AS "s", COUNT("a"."u") AS "n"
+  FROM "x" AS "a"
+  HAVING CASE WHEN MIN(TRUE) THEN AVG("a"."u") > 1.5 ELSE FALSE END;
+EXPORT "R";

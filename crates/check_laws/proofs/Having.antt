@@ -1,0 +1,38 @@
+-- The condition of groups.
+use Rattle.std.proofs.Common.{◌≡◌, true, not, [], ◌∷◌, Some, Result, Ok, Err}
+use Rattle.std.specs.Option.{IfSome}
+use Rattle.vtl_cell.specs.Results.{◌>>=◌}
+use Rattle.vtl_cell.specs.ScalarKinds.{meets}
+use Rattle.vtl_cell.specs.Settings.{Settings}
+use Rattle.vtl_cell.specs.declared.kind.Kind.TheVariants as k
+use Rattle.check_faults.specs.declared.rules.Rule.{Rule}
+use Rattle.check_faults.specs.declared.rules.Rule.TheVariants as rule
+use Rattle.vtl_syntax.specs.Trees as tree
+use Rattle.vtl_syntax.specs.Trees.{MaybeExp}
+use Rattle.vtl_tree.specs.CompExp.{CompExp}
+use Rattle.vtl_meaning.specs.Kinds.{exp_kind}
+use Rattle.vtl_check.specs.Places.{Env}
+use Rattle.vtl_check.specs.Typed.{TypedTree, value, dataset, condition_in}
+use Rattle.vtl_check.specs.Typing.{having_typed, maybe_typed, typed}
+use Rattle.vtl_check.specs.places.Place.{Place}
+use Rattle.check_laws.specs.Gives.{Gives}
+use Rattle.check_laws.specs.WellTyped.{IsValueAt, IsWellTyped}
+use Rattle.check_laws.proofs.Steps.{tested, then}
+use Rattle.check_laws.proofs.Tests.{not-false}
+
+-- a condition at a place
+abbrev pub IsCondition : Settings → Place → CompExp → Type 0
+IsCondition p at e = IsValueAt p at e × (meets k.Bool (exp_kind e) ≡ true)
+
+condition-gives : (env : Env) (at : Place) (x : TypedTree) → IsWellTyped env at x → Gives (IsCondition env.settings at) (condition_in x)
+condition-gives env at (value e) h = tested (IsCondition env.settings at) ((rule.WrongKind, not (meets k.Bool (exp_kind e))) ∷ []) e (λ passed. (h, not-false (meets k.Bool (exp_kind e)) passed.0))
+condition-gives env at (dataset n) h = tt
+
+-- by the typing of its expression
+pub having-at : (env : Env) (at : Place) (e : MaybeExp) → Gives (λ x. IfSome x (IsWellTyped env at)) (maybe_typed env at e) → Gives (λ c. IfSome c (IsCondition env.settings at)) (having_typed env at e)
+having-at env at tree.no_exp h = tt
+having-at env at (tree.some_exp e) h = go (typed env at e) h
+  where
+    go : (r : Result TypedTree Rule) → Gives (λ x. IfSome x (IsWellTyped env at)) (r >>= λ x. Ok (Some x)) → Gives (λ c. IfSome c (IsCondition env.settings at)) (r >>= condition_in >>= λ c. Ok (Some c))
+    go (Ok x) h = then (IsCondition env.settings at) (λ c. IfSome c (IsCondition env.settings at)) (condition_in x) (λ c. Ok (Some c)) (condition-gives env at x h) (λ c k. k)
+    go (Err broken) h = tt
