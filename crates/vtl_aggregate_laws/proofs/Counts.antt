@@ -23,7 +23,7 @@ use Rattle.vtl_tuples.proofs.Lists.{filter-flat_map, map-flat_map, map_each}
 use Rattle.vtl_aggregates.specs.Groups.{keys_by, points_with}
 use Rattle.vtl_aggregate_laws.specs.Parts.{of_column, of_groups, values_at}
 use Rattle.vtl_aggregate_laws.proofs.Pieces.{parts}
-use Rattle.vtl_aggregate_laws.proofs.Sums.{total, total-cons}
+use Rattle.vtl_aggregate_laws.proofs.Totals.{total, total-cons}
 
 -- a count is a value where it is an integer of the profile
 abbrev counted : Settings → ℕ → Outcome Cell

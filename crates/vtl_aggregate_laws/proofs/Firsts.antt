@@ -38,37 +38,43 @@ module _ {le : Cell → Cell → Bool} (o : IsOrder le) where
       go true e ih = ih
       go false e ih = (e, ih)
 
+  -- null goes, and of two values the first in order stays
+  left_null : (x y : Cell) → is_null x ≡ true → first_of x y ≡ y
+  left_null x y e = ap (λ b. cond b y (cond (is_null y) x (cond (le x y) x y))) e
+
+  of_value : (x y : Cell) → is_null x ≡ false → first_of x y ≡ cond (is_null y) x (cond (le x y) x y)
+  of_value x y e = ap (λ b. cond b y (cond (is_null y) x (cond (le x y) x y))) e
+
+  right_null : (x y : Cell) → is_null x ≡ false → is_null y ≡ true → first_of x y ≡ x
+  right_null x y e f = of_value x y e ∙ ap (λ b. cond b x (cond (le x y) x y)) f
+
+  of_values : (x y : Cell) → is_null x ≡ false → is_null y ≡ false → first_of x y ≡ cond (le x y) x y
+  of_values x y e f = of_value x y e ∙ ap (λ b. cond b x (cond (le x y) x y)) f
+
+  alone : (x : Cell) → first_of x c.Null ≡ x
+  alone c.Null = refl
+  alone (c.Bool b) = refl
+  alone (c.Int n) = refl
+  alone (c.Num k) = refl
+  alone (c.Text t) = refl
+  alone (c.Day d) = refl
+  alone (c.Period q) = refl
+
   -- a value before others
   first_inserted : (x : Cell) (ys : List Cell) → is_null x ≡ false → AllByRecursion (λ y. is_null y ≡ false) ys → column_of 0 (insert_by le x ys) ≡ first_of x (column_of 0 ys)
-  first_inserted x [] e all = sym (ap (λ b. cond b c.Null x) e)
+  first_inserted x [] e all = sym (right_null x c.Null e refl)
   first_inserted x (y ∷ ys) e all = go (le x y) refl
     where
       go : (b : Bool) → le x y ≡ b → column_of 0 (cond b (x ∷ y ∷ ys) (y ∷ insert_by le x ys)) ≡ first_of x y
-      go true h = sym (ap (λ b. cond b y (cond (is_null y) x (cond (le x y) x y))) e ∙ ap (λ b. cond b x (cond (le x y) x y)) all.0 ∙ ap (λ b. cond b x y) h)
-      go false h = sym (ap (λ b. cond b y (cond (is_null y) x (cond (le x y) x y))) e ∙ ap (λ b. cond b x (cond (le x y) x y)) all.0 ∙ ap (λ b. cond b x y) h)
+      go true h = sym (of_values x y e all.0 ∙ ap (λ b. cond b x y) h)
+      go false h = sym (of_values x y e all.0 ∙ ap (λ b. cond b x y) h)
 
   first-cons : (x : Cell) (xs : List Cell) → first (x ∷ xs) ≡ first_of x (first xs)
   first-cons x xs = go (is_null x) refl
     where
       go : (b : Bool) → is_null x ≡ b → column_of 0 (sorted_by le (cond (not b) (x ∷ values_of xs) (values_of xs))) ≡ first_of x (first xs)
-      go true e = sym (ap (λ b. cond b (first xs) (cond (is_null (first xs)) x (cond (le x (first xs)) x (first xs)))) e)
+      go true e = sym (left_null x (first xs) e)
       go false e = first_inserted x (sorted_by le (values_of xs)) e (AllByRecursion-Perm (λ y. is_null y ≡ false) (Perm-sym (Perm-sorted_by o (values_of xs))) (values_there xs))
-
-  first_null : (x : Cell) → is_null x ≡ true → first_of x c.Null ≡ x
-  first_null c.Null e = refl
-  first_null (c.Bool b) e = cc
-  first_null (c.Int n) e = cc
-  first_null (c.Num k) e = cc
-  first_null (c.Text t) e = cc
-  first_null (c.Day d) e = cc
-  first_null (c.Period q) e = cc
-
-  alone : (x : Cell) → first_of x c.Null ≡ x
-  alone x = go (is_null x) refl
-    where
-      go : (b : Bool) → is_null x ≡ b → first_of x c.Null ≡ x
-      go true e = first_null x e
-      go false e = ap (λ b. cond b c.Null x) e
 
   -- of three values
   three : (x y z : Cell) (xy yz xz : Bool) → le x y ≡ xy → le y z ≡ yz → le x z ≡ xz → cond (le x (cond yz y z)) x (cond yz y z) ≡ cond (le (cond xy x y) z) (cond xy x y) z
@@ -80,15 +86,6 @@ module _ {le : Cell → Cell → Bool} (o : IsOrder le) where
   three x y z false false true a b d =
       let back : le y x ≡ true = ⊎_elim (λ h. absurd (true≢false (sym h ∙ a))) (λ h. h) (o.total x y) in
       absurd (true≢false (sym (o.trans y x z back d) ∙ b))
-
-  left_null : (x y : Cell) → is_null x ≡ true → first_of x y ≡ y
-  left_null x y e = ap (λ b. cond b y (cond (is_null y) x (cond (le x y) x y))) e
-
-  right_null : (x y : Cell) → is_null x ≡ false → is_null y ≡ true → first_of x y ≡ x
-  right_null x y e f = ap (λ b. cond b y (cond (is_null y) x (cond (le x y) x y))) e ∙ ap (λ b. cond b x (cond (le x y) x y)) f
-
-  of_values : (x y : Cell) → is_null x ≡ false → is_null y ≡ false → first_of x y ≡ cond (le x y) x y
-  of_values x y e f = ap (λ b. cond b y (cond (is_null y) x (cond (le x y) x y))) e ∙ ap (λ b. cond b x (cond (le x y) x y)) f
 
   one_there : (b : Bool) (x y : Cell) → is_null x ≡ false → is_null y ≡ false → is_null (cond b x y) ≡ false
   one_there true x y e f = e

@@ -8,4 +8,5 @@ pub mod Pieces
 pub mod Structures
 pub mod Sums
 pub mod Told
+pub mod Totals
 pub mod Twice

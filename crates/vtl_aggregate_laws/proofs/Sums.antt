@@ -1,12 +1,11 @@
 -- The sum of the sums of parts is the sum of all.
-use Rattle.std.proofs.Common.{◌≡◌, ℕ, zero, suc, pos, ℤ, Bool, true, false, ◌&&◌, ◌||◌, cond, List, [], ◌∷◌, ◌++◌, map, Ok, Err, refl, sym, ap, ◌∙◌, subst}
+use Rattle.std.proofs.Common.{◌≡◌, ℕ, pos, ℤ, Bool, true, false, ◌&&◌, ◌||◌, cond, List, [], ◌∷◌, ◌++◌, map, Ok, Err, refl, sym, ap, ◌∙◌, subst}
 use Rattle.std.specs.Prelude.{IfOk, ◌+ℤ◌, ◌*ℤ◌, ◌-◌, ◌^◌, nat_lt, not, unsigned_abs}
-use Rattle.std.specs.List.{flat_map, fold, list_all, list_any}
-use Rattle.std.proofs.Math.IntN.{*ℤ-zero, *ℤ_comm, +ℤ_assoc, +ℤ_comm, +ℤ_idl, +ℤ_idr, suc_ℤ-*ℤ, zero-*ℤ}
+use Rattle.std.specs.List.{flat_map, list_all, list_any}
+use Rattle.std.proofs.Math.IntN.{+ℤ_idl}
 use Rattle.std.proofs.lemmas.List.{map-append}
 use Rattle.std.proofs.lemmas.List.Elements.{filter-append}
 use Rattle.std.proofs.lemmas.List.Folds.{list_all-append, list_any-append}
-use Rattle.std.proofs.lemmas.List.Sums.{fold-append}
 use Rattle.vtl_cell.specs.Range.{fit_integer, fit_number}
 use Rattle.vtl_cell.specs.Settings.{Settings}
 use Rattle.vtl_cell.specs.Groups.{aggregate, group_value, is_integer, numbers_of, total_of, units_of, values_of, whole_of, wholes_of}
@@ -24,54 +23,7 @@ use Rattle.vtl_aggregates.specs.Groups.{keys_by, points_with}
 use Rattle.vtl_aggregate_laws.specs.Parts.{of_column, of_groups, values_at}
 use Rattle.vtl_aggregate_laws.proofs.Pieces.{parts}
 use Rattle.vtl_aggregate_laws.proofs.Told.{Tells, told}
-
--- ---- totals of lists
-abbrev pub total : List ℤ → ℤ
-total ks = fold ◌+ℤ◌ (pos 0) ks
-
-total_from : (a : ℤ) (ks : List ℤ) → fold ◌+ℤ◌ a ks ≡ a +ℤ total ks
-total_from a [] = sym (+ℤ_idr a)
-total_from a (k ∷ ks) =
-    total_from (a +ℤ k) ks ∙ +ℤ_assoc a k (total ks) ∙ ap (λ z. a +ℤ (z +ℤ total ks)) (sym (+ℤ_idl k)) ∙ ap (λ z. a +ℤ z) (sym (total_from (pos 0 +ℤ k) ks))
-
-pub total-append : (ks js : List ℤ) → total (ks ++ js) ≡ total ks +ℤ total js
-total-append ks js = fold-append ◌+ℤ◌ (pos 0) ks js ∙ total_from (total ks) js
-
-pub total-cons : (k : ℤ) (ks : List ℤ) → total (k ∷ ks) ≡ k +ℤ total ks
-total-cons k ks = total_from (pos 0 +ℤ k) ks ∙ ap (λ z. z +ℤ total ks) (+ℤ_idl k)
-
-times_more : (n : ℤ) (m : ℕ) → n *ℤ pos (suc m) ≡ (n *ℤ pos m) +ℤ n
-times_more n m = *ℤ_comm n (pos (suc m)) ∙ suc_ℤ-*ℤ (pos m) n ∙ ap (λ z. z +ℤ n) (*ℤ_comm (pos m) n)
-
-exchanged : (a b d e : ℤ) → (a +ℤ b) +ℤ (d +ℤ e) ≡ (a +ℤ d) +ℤ (b +ℤ e)
-exchanged a b d e =
-    +ℤ_assoc a b (d +ℤ e)
-    ∙ ap (λ z. a +ℤ z) (sym (+ℤ_assoc b d e) ∙ ap (λ z. z +ℤ e) (+ℤ_comm b d) ∙ +ℤ_assoc d b e)
-    ∙ sym (+ℤ_assoc a d (b +ℤ e))
-
-distributed : (a n : ℤ) (m : ℕ) → (a *ℤ pos m) +ℤ (n *ℤ pos m) ≡ (a +ℤ n) *ℤ pos m
-distributed a n zero = ap (λ z. z +ℤ (n *ℤ pos 0)) (*ℤ-zero a) ∙ ap (λ z. pos 0 +ℤ z) (*ℤ-zero n) ∙ sym (*ℤ-zero (a +ℤ n))
-distributed a n (suc m) =
-    ap (λ z. z +ℤ (n *ℤ pos (suc m))) (times_more a m)
-    ∙ ap (λ z. ((a *ℤ pos m) +ℤ a) +ℤ z) (times_more n m)
-    ∙ exchanged (a *ℤ pos m) a (n *ℤ pos m) n
-    ∙ ap (λ z. z +ℤ (a +ℤ n)) (distributed a n m)
-    ∙ sym (times_more (a +ℤ n) m)
-
--- of integers alone the total in units is that of the integers, in units
-units_of_wholes : (s : ℕ) (xs : List Cell) → list_all is_integer xs ≡ true → total (numbers_of s xs) ≡ total (wholes_of xs) *ℤ pos (10 ^ s)
-units_of_wholes s [] e = sym (zero-*ℤ (pos (10 ^ s)))
-units_of_wholes s (c.Int n ∷ xs) e =
-    total-cons (n *ℤ pos (10 ^ s)) (numbers_of s xs)
-    ∙ ap (λ z. (n *ℤ pos (10 ^ s)) +ℤ z) (units_of_wholes s xs e)
-    ∙ distributed n (total (wholes_of xs)) (10 ^ s)
-    ∙ ap (λ z. z *ℤ pos (10 ^ s)) (sym (total-cons n (wholes_of xs)))
-units_of_wholes s (c.Null ∷ xs) e = cc
-units_of_wholes s (c.Bool b ∷ xs) e = cc
-units_of_wholes s (c.Num k ∷ xs) e = cc
-units_of_wholes s (c.Text t ∷ xs) e = cc
-units_of_wholes s (c.Day d ∷ xs) e = cc
-units_of_wholes s (c.Period q ∷ xs) e = cc
+use Rattle.vtl_aggregate_laws.proofs.Totals.{total, total-append, units_of_wholes}
 
 -- ---- what a sum knows of values
 pub record Summed : Type 0 where

@@ -26,8 +26,8 @@ pub fn sums_add_up_to_the_sum()
     ensures { (p : Settings) (places : List ℕ) (i : ℕ) (d : List Row) → IfOk (of_groups (of_column p Sum i) places d) (λ sums. group_value p Sum sums ≡ of_column p Sum i d) }
 {}
 
-/// The counts of groups add up to the count of all, and it is out of range where one of them or their sum is: of the
-/// points, and of the values of a column. Without points there is no group to count.
+/// The counts of groups add up to the count of all, of points and of the values of a column: to the same integer, or
+/// both are out of range. Without points there is no group, and counts of none add up to null.
 pub fn counts_add_up_to_the_count()
     ensures points { (p : Settings) (places : List ℕ) (d : List Row) → 0 < length d → after (of_groups (count_of_points p) places d) (group_value p Sum) ≡ count_of_points p d }
     ensures values { (p : Settings) (places : List ℕ) (i : ℕ) (d : List Row) → 0 < length d → after (of_groups (of_column p Count i) places d) (group_value p Sum) ≡ of_column p Count i d }
@@ -39,9 +39,10 @@ pub fn least_and_greatest_of_groups_are_those_of_all()
     ensures greatest { (p : Settings) (places : List ℕ) (i : ℕ) (d : List Row) → after (of_groups (of_column p Max i) places d) (group_value p Max) ≡ of_column p Max i d }
 {}
 
-/// Totals of totals are totals, for data sets: an aggregate of what an aggregate gave, by `gathered_by`, is that of the
-/// operand at once, as `sum(sum(ds group by year, place) group by year)` is `sum(ds group by year)` and `sum(count(ds
-/// group by year))` is `count(ds)`. It is the same value or the same fault, where the inner aggregate has no fault.
+/// An aggregate of what an aggregate gave is the aggregate of the operand at once, where the second gathers the first
+/// (`gathered_by`) and groups by some of its identifiers: `sum(sum(ds group by year, place) group by year)` is
+/// `sum(ds group by year)`, and `sum(count(ds group by year))` is `count(ds)`. The points are the same in the same
+/// order, or the fault is the same; where the first has a fault, nothing is said.
 pub fn aggregates_of_aggregates_are_those_of_all()
     ensures { (p : Settings) (f g : AggKind) (fine coarse : List (List ℕ)) (d : DataSet) (middle s : Structure) → gathered_by f ≡ Some g → IsAggregated (grouped f fine) d.structure middle → IsAggregated (grouped g coarse) middle s → IfOk (aggregate_of p (grouped f fine) d middle) (λ points. aggregate_of p (grouped g coarse) (record { structure = middle; points = points }) s ≡ aggregate_of p (grouped f coarse) d s) }
 {}

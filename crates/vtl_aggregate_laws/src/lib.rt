@@ -1,9 +1,9 @@
-//! The whole and its parts: what an aggregate gives of all points, and of what it gave of their groups, as laws on the
-//! definitions of vtl_aggregates. It has no code.
+//! The whole and its parts: what an aggregate gives of all points, told from what it gives of their groups. Laws on the
+//! definitions of `vtl_aggregates`; no code.
 //!
-//! The law decides nothing about a script; it says that totals may be made step by step. It knows no script, no window
-//! and no table. No crate stands on it.
-//! Begin with specs/Parts.antt and src/laws.rt.
+//! They stand apart, so that a change of them has nothing else proved again; no crate stands on this one.
+//! It knows no script, no window and no table, and types nothing.
+//! Begin with specs/Parts.antt, proofs/Examples.antt and src/laws.rt.
 #![tactic(auto)]
 
 mod laws;
