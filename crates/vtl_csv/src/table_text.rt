@@ -19,6 +19,9 @@ use vtl_cell::{Cell, Profile};
 use vtl_rows::{Column, SortKey, Table};
 use vtl_tree::Structure;
 
+// Room for the texts of so many rows is made at once.
+const AHEAD: usize = 32;
+
 /// The CSV text of a table: a header of the names of its columns, and a record for each row. The rows stand in order by
 /// the columns at the places in `order`, and, where these tie, by all columns from the left. Null and the empty text
 /// are empty fields. It fails only if memory runs out.
@@ -134,10 +137,36 @@ fn text_at(
     ensures { IfOk result (λ text. text.items ≡ rows_text profile.now table.now.columns (map (row_at table.now.rows) places.now)) }
 {
     let mut text = header_text(alloc, table.columns())?;
-    for place in places {
-        push_record(&mut text, row_at(table, *place), profile)?;
+    for i in 0..places.len() {
+        if i % AHEAD == 0 {
+            text.reserve(bytes_ahead(table, &places[i..]))?;
+        }
+        push_record(&mut text, row_at(table, places[i]), profile)?;
     }
     Ok(text)
+}
+
+// How many bytes the texts of the first of these rows have, in all. Their rows and texts lie anywhere in memory, and are
+// fetched side by side here rather than one after the other where they are written.
+fn bytes_ahead(table: &Table, places: &[usize]) -> usize
+    requires { All (λ i. i < length table.now.rows) places.now }
+{
+    let mut bytes = 0usize;
+    for place in &places[..places.len().min(AHEAD)] {
+        bytes = bytes.saturating_add(text_bytes(row_at(table, *place)));
+    }
+    bytes
+}
+
+// How many bytes the texts of a row have, in all.
+fn text_bytes(row: &[Cell]) -> usize {
+    let mut bytes = 0usize;
+    for cell in row {
+        if let Cell::Text(text) = cell {
+            bytes = bytes.saturating_add(text.as_str().len());
+        }
+    }
+    bytes
 }
 
 // The text of a header.
