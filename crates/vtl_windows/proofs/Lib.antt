@@ -1,0 +1,10 @@
+pub mod AnalyticLooks
+pub mod AnalyticOrders
+pub mod AnalyticPoints
+pub mod CallKinds
+pub mod CallProfiles
+pub mod Columns
+pub mod Examples
+pub mod Partitions
+pub mod Places
+pub mod Shaped

@@ -1,0 +1,3 @@
+pub mod Analytics
+pub mod Shapes
+pub mod Windows
