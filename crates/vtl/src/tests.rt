@@ -5,14 +5,11 @@ use std::test::Fail;
 use vtl_files::{FailAt, MemFile, MemFiles, MemSink, Method};
 use vtl_top::{Status, vtl};
 
-const HELD: [(&str, &str); 3] = [
-    ("script.vtl", "DS_r <- DS_1 [filter Me_1 > 5];"),
-    (
-        "structures.csv",
-        "dataset,component,role,type,codes\nDS_1,Id_1,identifier,string,\nDS_1,Me_1,measure,integer,\n",
-    ),
-    ("in/DS_1.csv", "Id_1,Me_1\nb,7\na,9\nc,3\n"),
-];
+const SCRIPT: &str = "DS_r <- DS_1 [filter Me_1 > 5];";
+
+const STRUCTURES: &str = "dataset,component,role,type,codes\nDS_1,Id_1,identifier,string,\nDS_1,Me_1,measure,integer,\n";
+
+const LINES: &str = "Id_1,Me_1\nb,7\na,9\nc,3\n";
 
 const KEPT: &str = "Id_1,Me_1\na,9\nb,7\n";
 
@@ -34,9 +31,14 @@ fn strings(alloc: Global, words: &[&str]) -> Result<Vec<String>, AllocError> {
     Ok(all)
 }
 
-fn held(alloc: Global) -> Result<Vec<MemFile>, AllocError> {
+/// A script that filters a data set, its structures, and the data set with these lines.
+pub(crate) fn held(alloc: Global, lines: &str) -> Result<Vec<MemFile>, AllocError> {
     let mut files = Vec::new(alloc);
-    for (name, text) in HELD {
+    for (name, text) in [
+        ("script.vtl", SCRIPT),
+        ("structures.csv", STRUCTURES),
+        ("in/DS_1.csv", lines),
+    ] {
         let name = String::from_str(alloc, name)?;
         let bytes = Vec::from_slice(alloc, text.as_bytes())?;
         files.push(MemFile { name, bytes })?;
@@ -52,7 +54,7 @@ fn call(
     fail: Vec<FailAt>,
     sink_fail: Vec<u64>,
 ) -> Result<Ended, AllocError> {
-    let mut files = MemFiles::new(alloc, held(alloc)?, chunk.max(1), fail);
+    let mut files = MemFiles::new(alloc, held(alloc, LINES)?, chunk.max(1), fail);
     let mut out = MemSink::new(alloc, 8, sink_fail);
     let words = strings(alloc, words)?;
     let status = vtl(alloc, words.as_slice(), &mut files, &mut out);

@@ -6,6 +6,7 @@
 //! is computed, and from then on no memory is taken.
 //! It sees the outside through the traits `Files` and `Sink`, and knows of reading, typing, evaluation and texts in SQL
 //! only what they promise.
+//! Who brings an engine or a back end finds the words for it here: the traits, and the tables that they are handed.
 //! Begin with specs/Expected.antt and specs/Answered.antt, then src/top.rt.
 #![tactic(auto)]
 
@@ -26,10 +27,17 @@ mod typing;
 mod words;
 
 pub use agreement::{agreeing_calls_end_alike, interpreter_and_sql_agree};
+pub use inputs::read_inputs;
 pub use laws::{
     calm_calls_are_complete, expected_is_determined, expected_is_there, exports_are_meant,
     faults_are_meant, mistyped_is_first_fault, output_is_meant, runs_are_quiet,
     sql_breaches_are_refused, sql_faults_are_meant, structures_have_identifiers, texts_are_meant,
 };
+pub use run::read_built;
+pub use sql_back::{Bundled, SqlBack, TextEngine};
 pub use top::{vtl, vtl_by, vtl_with};
+pub use vtl_cell::{Cell, Profile, Rounding, Txt};
+pub use vtl_interp::{Backend, Checked, RunErr};
+pub use vtl_rows::{Inputs, Outputs, SortKey, Table};
 pub use vtl_status::{Status, tell};
+pub use words::Source;

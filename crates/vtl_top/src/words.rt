@@ -8,8 +8,11 @@ use vtl_decimal::{Profile, Rounding};
 /// The paths of a script and of its structures, and the profile that it is typed with.
 #[derive(Drop)]
 pub struct Source<'a> {
+    /// The path of the script.
     pub script: &'a str,
+    /// The path of its structures.
     pub structures: &'a str,
+    /// The profile.
     pub profile: Profile,
 }
 
