@@ -18,43 +18,19 @@ ghost use Rattle.sql_from.specs.Seen.{answer_of, seen_of};
 ghost use Rattle.sql_from.specs.Sources.{parts_of, scope_held};
 ghost use Rattle.sql_from.specs.Standing.{StandsFor, condition_at, rows_for};
 
-use crate::condition::Condition;
-use crate::joining::{cross_step, join_step, keep, singles};
+use crate::joining::{cross_step, join_each, keep, singles};
 use crate::pairs::Walked;
-use crate::{Seen, Sources, TupleRow, TupleRows};
-use sql_eval::{Level, Resolved, resolve, value_at};
+use crate::source_condition::SourceCondition;
+use crate::{Seen, Sources, TupleRows};
+use sql_eval::{Level, resolve};
 use sql_tree::{Join, JoinKind, Select, Source, SqlExpr};
 use std::alloc::{AllocError, Global};
-use vtl_cell::{Cell, Profile};
+use vtl_cell::Profile;
 use vtl_rows::{Table, Tables};
 use vtl_scalar::ScalarErr;
 
 /// Why there are no rows: the fault of an expression, or want of memory.
 pub type ExecErr = ScalarErr;
-
-// A condition at the rows of sources.
-#[derive(Clone, Copy)]
-struct SourceCondition<'a> {
-    sources: &'a Sources<'a>,
-    expression: &'a Resolved,
-    profile: &'a Profile,
-}
-
-impl<'a> Condition for SourceCondition<'a> {
-    ghost width = { λ c. length c.sources.now.sources };
-
-    ghost value = { λ c x. placed_value c.profile.now (rows_held c.sources.now.held) (placed_of c.expression.now) (combined (parts_of c.sources.now.sources) x) [] };
-
-    fn width(&self) -> usize {
-        self.sources.len()
-    }
-
-    fn at(&self, alloc: Global, front: &[usize], last: usize) -> Result<bool, ScalarErr> {
-        let row = TupleRow::of(self.sources, front, last);
-        let value = value_at(alloc, self.expression, &row, self.profile)?;
-        Ok(matches!(value.cell(), Cell::Bool(true)))
-    }
-}
 
 // Joins the tuples with the rows of a further source, which is the last one, by a condition on all sources.
 fn joined_on(
@@ -80,7 +56,7 @@ fn joined_on(
         expression: &resolved.exp,
         profile: p,
     };
-    join_step(alloc, kind, &condition, left, marks, count)
+    join_each(alloc, kind, &condition, left, marks, count)
 }
 
 // The tuples at which WHERE is true.

@@ -16,4 +16,4 @@ returns-clause-seen c =
     let s = c.args.sources.now in
     let ghost_value : Test = λ x. placed_value c.args.p.now (rows_held s.held) (placed_of c.in_ok-resolved.resolved.exp) (combined (parts_of s.sources) x) [] in
     let on : ghost_value ≡ condition_at c.args.p.now s (expr_tree c.args.condition.now) = λ i x. c.in_ok-resolved.ensures.value_is (rows_held s.held) (combined (parts_of s.sources) x) [] i in
-    subst (λ (f : Test). IfOk c.join_step.result (λ w. seen_of w.seen ≡ join (seen_of c.args.left.now.seen) (pairs_fault f c.args.count c.args.left.now.rows.tuples))) on c.join_step.ensures.seen
+    subst (λ (f : Test). IfOk c.join_each.result (λ w. seen_of w.seen ≡ join (seen_of c.args.left.now.seen) (pairs_fault f c.args.count c.args.left.now.rows.tuples))) on c.join_each.ensures.seen
