@@ -9,7 +9,7 @@ use Rattle.sql_from.specs.Rows.{combined}
 use Rattle.sql_from.specs.Seen.{seen_of}
 use Rattle.sql_from.specs.Sources.{parts_of}
 use Rattle.sql_from.specs.Standing.{condition_at}
-use Rattle.sql_from.proofs.selects.joined_on.Goals as goal
+use Rattle.sql_from.proofs.selects.each_on.Goals as goal
 
 pub returns-clause-seen : goal.returns-clause-seen
 returns-clause-seen c =
