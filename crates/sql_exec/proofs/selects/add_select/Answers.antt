@@ -12,13 +12,14 @@ use Rattle.sql_groups.proofs.SourceKinds.{source_rows_fit}
 use Rattle.sql_groups.specs.Held.{base_held}
 use Rattle.sql_groups.specs.Standing.{rows_for, sight_of}
 use Rattle.sql_exec.specs.Outputs.{Adds}
+use Rattle.sql_exec.proofs.QueryParts.{may_look_up}
 use Rattle.sql_exec.proofs.selects.add_select.Goals as goal
 
 pub add_phase-requires-clause-fit : goal.add_phase-requires-clause-fit
 add_phase-requires-clause-fit c =
     let rows = rows_for c.in-Ok.rows.sources c.in-Ok.rows.tuples in
     subst (λ (scope : Scope). RowsFit (row_of scope) rows) (sym c.in-Ok.ensures.scope)
-    (source_rows_fit (base_held c.args.p.now c.args.tables.now) c.requires.tables (select_tree c.args.select.now) rows c.requires.part.known.typed c.in-Ok.ensures.rows)
+    (source_rows_fit (base_held c.args.p.now c.args.tables.now) c.requires.lawful.fit (select_tree c.args.select.now) rows c.requires.part.known.typed c.in-Ok.ensures.rows)
 
 pub returns-in-Ok-clause-adds : goal.returns-in-Ok-clause-adds
 returns-in-Ok-clause-adds c =
@@ -31,3 +32,6 @@ returns-in-Ok-clause-adds c =
     let same : second_phase (sight_of p sources) wanted s rows ≡ select_value b c.args.kinds.now s =
     (λ i. second_phase (at_rows (base_held p (c.in-Ok.ensures.held i)) (c.in-Ok.ensures.scope i)) wanted s rows) ∙ sym (ap (λ (m : Outcome (List Row)). after m (second_phase (at_rows b (scope_of b.tables s)) wanted s)) c.in-Ok.ensures.rows) in
     subst (λ (m : Outcome (List Row)). OnOk c.add_phase.result (Adds m c.args.out.now c.add_phase.new.out)) same c.add_phase.ensures.adds
+
+pub source_tuples-requires-clause-lawful : goal.source_tuples-requires-clause-lawful
+source_tuples-requires-clause-lawful c = may_look_up (base_held c.args.p.now c.args.tables.now) c.requires.lawful c.args.by_index.now

@@ -9,11 +9,11 @@ use Rattle.sql_from.specs.Rows.{combined}
 use Rattle.sql_from.specs.Seen.{seen_of}
 use Rattle.sql_from.specs.Sources.{parts_of}
 use Rattle.sql_from.specs.Standing.{condition_at}
-use Rattle.sql_from.proofs.selects.joined_on.Goals as goal
+use Rattle.sql_from.proofs.selects.each_on.Goals as goal
 
 pub returns-clause-seen : goal.returns-clause-seen
 returns-clause-seen c =
     let s = c.args.sources.now in
     let ghost_value : Test = λ x. placed_value c.args.p.now (rows_held s.held) (placed_of c.in_ok-resolved.resolved.exp) (combined (parts_of s.sources) x) [] in
     let on : ghost_value ≡ condition_at c.args.p.now s (expr_tree c.args.condition.now) = λ i x. c.in_ok-resolved.ensures.value_is (rows_held s.held) (combined (parts_of s.sources) x) [] i in
-    subst (λ (f : Test). IfOk c.join_step.result (λ w. seen_of w.seen ≡ join (seen_of c.args.left.now.seen) (pairs_fault f c.args.count c.args.left.now.rows.tuples))) on c.join_step.ensures.seen
+    subst (λ (f : Test). IfOk c.join_each.result (λ w. seen_of w.seen ≡ join (seen_of c.args.left.now.seen) (pairs_fault f c.args.count c.args.left.now.rows.tuples))) on c.join_each.ensures.seen

@@ -1,0 +1,17 @@
+-- What a look-up by keys finds for a tuple.
+use Rattle.std.specs.Prelude.{◌≡◌, ℕ, ◌+◌, ◌<◌, List, filter, length, slice_index, None}
+use Rattle.vtl_rows.specs.Places.{row_at}
+use Rattle.vtl_index.specs.RowIndex.{found_rows}
+use Rattle.vtl_index.specs.RowKeys.{key_at}
+use Rattle.sql_from.specs.Joins.{Test, fault_of, numbers_to, passes}
+use Rattle.sql_from.specs.declared.key_lookup.KeyLookup.{KeyLookup}
+
+-- the rows that have the cells of a row of the source that leads
+abbrev pub found_by : KeyLookup → ℕ → List ℕ
+found_by l number = found_rows l.index (key_at l.index.p l.asked.items (row_at l.table.now.rows number))
+
+-- It finds the rows with which a condition is true of a tuple, and the condition has no fault; tuples have so many numbers with a row.
+pub record Finds (width : ℕ) (f : Test) (l : KeyLookup) : Type 0 where
+  pub lead : l.lead + 1 < width
+  pub sound : (front : List ℕ) (last : ℕ) → length front + 1 ≡ width → fault_of f front last ≡ None
+  pub found : (front : List ℕ) → length front + 1 ≡ width → found_by l (slice_index front l.lead) ≡ filter (passes f front) (numbers_to (length l.index.rows))
