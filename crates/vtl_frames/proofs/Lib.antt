@@ -1,0 +1,6 @@
+pub mod BestLemmas
+pub mod KeptLemmas
+pub mod PickLemmas
+pub mod PlaceLemmas
+pub mod QuotientLemmas
+pub mod TotalLemmas

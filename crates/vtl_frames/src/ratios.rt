@@ -1,0 +1,52 @@
+// Shares of the total of a partition.
+ghost use Rattle.std.specs.Prelude.{◌≡◌, ◌^◌, ◌<◌, ◌++◌, OnOk, length};
+ghost use Rattle.vtl_cell.specs.Groups.{ratio_of};
+ghost use Rattle.vtl_cell.specs.Row.{column_of};
+ghost use Rattle.vtl_frames.specs.Framed.{at_each};
+ghost use Rattle.vtl_frames.specs.Ratios.{ratio_to, total_number};
+
+use crate::Partition;
+use crate::numbers::share;
+use crate::totals::Totals;
+use std::alloc::AllocError;
+use vtl_cell::{Cell, Profile};
+use vtl_decimal::{Dec, Fault};
+
+// The total of the cells as a number.
+fn total_of<P: Partition>(cells: &P, p: &Profile) -> Result<Dec, Fault>
+    ensures { result ≡ total_number p.now (P.cells cells.now) }
+{
+    let mut totals = Totals::new();
+    for place in 0..cells.len() {
+        totals.enter(cells.cell(place));
+    }
+    totals.total(p)
+}
+
+// The share that a cell has of a total, null for null.
+fn ratio(c: &Cell, total: &Result<Dec, Fault>, p: &Profile) -> Result<Cell, Fault>
+    ensures { result ≡ ratio_to p.now total.now c.now }
+{
+    if let Cell::Null = c {
+        return Ok(Cell::Null);
+    }
+    match total {
+        Ok(total) => Ok(Cell::Num(share(c, *total, p)?)),
+        Err(fault) => Err(*fault),
+    }
+}
+
+/// Puts the share that each cell has of the total behind other values. It fails only if memory runs out.
+pub fn push_ratios<P: Partition>(
+    out: &mut Vec<Result<Cell, Fault>>,
+    cells: &P,
+    p: &Profile,
+) -> Result<(), AllocError>
+    ensures { OnOk result (out.new.items ≡ out.old.items ++ at_each (λ i. ratio_of p.now (column_of i (P.cells cells.now)) (P.cells cells.now)) (P.cells cells.now)) }
+{
+    let total = total_of(cells, p);
+    for place in 0..cells.len() {
+        out.push(ratio(cells.cell(place), &total, p))?;
+    }
+    Ok(())
+}
