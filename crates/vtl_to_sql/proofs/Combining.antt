@@ -1,5 +1,5 @@
 -- Operands one after the other: what is left of them gives, behind the tables so far, what all of them give.
-use Rattle.std.proofs.Common.{◌≡◌, ℕ, ◌+◌, ◌-◌, ◌<◌, ◌≤◌, length, take, drop, get_or, arith, ◌&&◌, true, false, Option, None, Some, subst, List, [], ◌∷◌, ◌++◌, map, append_assoc, append-nil, refl, rules, sym, ap, ◌∙◌}
+use Rattle.std.proofs.Common.{◌≡◌, ℕ, ◌+◌, ◌-◌, ◌<◌, ◌≤◌, length, take, drop, get_or, arith, true, false, Option, None, Some, subst, List, [], ◌∷◌, ◌++◌, map, append_assoc, append-nil, refl, rules, sym, ap, ◌∙◌}
 use Rattle.std.specs.Prelude.{Vec}
 use Rattle.std.specs.declared.alloc.Global.{Global}
 use Rattle.std.proofs.lemmas.Bool.{and_parts}

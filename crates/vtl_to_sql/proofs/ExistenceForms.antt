@@ -1,5 +1,5 @@
 -- The query of `exists_in`, as it is written.
-use Rattle.std.proofs.Common.{◌≡◌, true, List, [], ◌∷◌, ◌++◌, ap}
+use Rattle.std.proofs.Common.{◌≡◌, true, [], ◌∷◌, ◌++◌, ap}
 use Rattle.vtl_cell.specs.Settings.{Settings}
 use Rattle.vtl_syntax.specs.declared.word_groups.Retain.{Retain}
 use Rattle.vtl_tree.specs.Structure.{columns_of}

@@ -1,15 +1,13 @@
 -- The queries of joins, as they are written.
 use Rattle.std.proofs.Common.{◌≡◌, ℕ, zero, suc, ◌+◌, ◌<◌, ◌≤◌, Bool, true, false, cond, not, nat_lt, ◌||◌, List, [], ◌∷◌, ◌++◌, length, map, Option, None, Some, if◌then◌else◌, refl, sym, ap, ◌∙◌, subst, arith, append_assoc, append-nil}
 use Rattle.std.specs.Prelude.{slice_get}
-use Rattle.std.specs.List.{AllByRecursion, filter, flat_map}
+use Rattle.std.specs.List.{AllByRecursion, filter}
 use Rattle.std.proofs.lemmas.Bool.{le-ltb, lt-ltb}
 use Rattle.std.proofs.lemmas.List.{map-append}
 use Rattle.vtl_cell.specs.Settings.{Settings}
 use Rattle.vtl_cell.specs.declared.operator.ScalarOp.TheVariants as op
-use Rattle.vtl_tree.specs.CompExp.{CompExp}
-use Rattle.vtl_tree.specs.Structure.{columns_of, names_of, of_role, same_name}
+use Rattle.vtl_tree.specs.Structure.{columns_of, names_of, same_name}
 use Rattle.vtl_tree.specs.declared.structure.Component.{Component}
-use Rattle.vtl_tree.specs.declared.structure.Role.TheVariants as role
 use Rattle.vtl_tree.specs.declared.structure.Structure.{Structure}
 use Rattle.check_shapes.specs.Names.{is_among}
 use Rattle.rules_to_sql.specs.Agreement.{common_identifiers, has_identifier}
@@ -24,8 +22,8 @@ use Rattle.rules_to_sql.specs.ToSql.{Naming, column_of, to_sql}
 use Rattle.vtl_to_sql.specs.FullJoins.{full_query, key_structure}
 use Rattle.vtl_to_sql.specs.Items.{all_of}
 use Rattle.vtl_to_sql.specs.JoinItems.{Aliased, aliased, aliased_around, column_from, columns_from, columns_from_all, crossed_query, crossed_with, joined_on, joined_query, joined_values, joined_with, keyed_query, number_around, referred_query, tied_with}
-use Rattle.vtl_to_sql.specs.Joins.{Placed, alias_of, all_tied, columns_at, columns_in, cross_query, crosses, from_reference, joined_exps, joins_on, of_many, placed_around, placed_at, placed_from, reference_query, tied_to, width_of, without}
-use Rattle.vtl_to_sql.specs.Queries.{conjunction, items_as, select_as, source_as}
+use Rattle.vtl_to_sql.specs.Joins.{Placed, alias_of, columns_at, columns_in, cross_query, crosses, from_reference, joined_exps, joins_on, of_many, placed_around, placed_at, placed_from, reference_query, tied_to, width_of, without}
+use Rattle.vtl_to_sql.specs.Queries.{conjunction, source_as}
 use Rattle.vtl_to_sql.proofs.Conjunctions.{conjunction_to_sql}
 use Rattle.vtl_to_sql.proofs.ManySources.{of_first, of_later}
 

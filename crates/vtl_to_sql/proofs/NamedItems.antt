@@ -6,7 +6,7 @@ use Rattle.vtl_cell.specs.Settings.{Settings}
 use Rattle.vtl_tree.specs.Shown.{shown}
 use Rattle.vtl_tree.specs.declared.structure.Component.{Component}
 use Rattle.rules_to_sql.specs.Columns.{columns_named}
-use Rattle.sql_tree.specs.Trees.{Exp, ItemTree}
+use Rattle.sql_tree.specs.Trees.{Exp}
 use Rattle.sql_tree.specs.View.{item_tree}
 use Rattle.sql_tree.specs.declared.statements.Item.{Item}
 use Rattle.vtl_to_sql.specs.Queries.{all_to_sql, item_as, items_as, of_one}

@@ -1,11 +1,9 @@
-use Rattle.std.proofs.Common.{◌++◌, [], map, ap, sym, append-nil, length, ◌∙◌}
+use Rattle.std.proofs.Common.{map, sym, ◌∙◌}
 use Rattle.std.proofs.lemmas.List.{length-map}
 use Rattle.std.proofs.lemmas.Result.{IfOk-weaker}
 use Rattle.vtl_tree.specs.Shown.{shown}
 use Rattle.sql_tree.specs.View.{query_tree, statement_tree}
-use Rattle.vtl_to_sql.specs.Scripts.{create_for}
-use Rattle.vtl_to_sql.specs.Tables.{Made}
-use Rattle.vtl_to_sql.proofs.JoinTables.{full_is_next, full_is_query, full_is_tables, none_is}
+use Rattle.vtl_to_sql.proofs.JoinTables.{full_is_next, full_is_query, full_is_tables}
 use Rattle.vtl_to_sql.proofs.all_joins.full_join.Goals as goal
 
 pub returns-clause-query : goal.returns-clause-query

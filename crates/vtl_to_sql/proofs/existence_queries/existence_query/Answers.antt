@@ -1,4 +1,4 @@
-use Rattle.std.proofs.Common.{[], ◌∷◌, ◌++◌, List, Option, ap, map, sym, true, ◌∙◌}
+use Rattle.std.proofs.Common.{[], ◌∷◌, ◌++◌, List, Option, ap, sym, true, ◌∙◌}
 use Rattle.std.proofs.lemmas.Result.{IfOk-weaker}
 use Rattle.std.specs.Option.{option_map}
 use Rattle.vtl_tree.specs.Shown.{shown}

@@ -1,10 +1,10 @@
-use Rattle.std.proofs.Common.{[], ◌∷◌, map, ap, sym, ◌∙◌}
+use Rattle.std.proofs.Common.{[], ◌∷◌, ap, sym, ◌∙◌}
 use Rattle.std.specs.Option.{option_map}
 use Rattle.std.proofs.lemmas.Result.{IfOk-weaker}
 use Rattle.vtl_tree.specs.Structure.{columns_of}
 use Rattle.vtl_nodes.specs.View.{agg_tree}
 use Rattle.rules_to_sql.specs.ToSql.{group_columns}
-use Rattle.sql_tree.specs.View.{expr_tree, item_tree}
+use Rattle.sql_tree.specs.View.{expr_tree}
 use Rattle.vtl_to_sql.specs.Grouped.{kept_where}
 use Rattle.vtl_to_sql.specs.GroupedItems.{aggregated_items}
 use Rattle.vtl_to_sql.specs.Queries.{first_alias, source_as}

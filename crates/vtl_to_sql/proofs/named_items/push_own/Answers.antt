@@ -1,8 +1,7 @@
-use Rattle.std.proofs.Common.{[], ◌∷◌, List, subst, sym, ap, take, ◌∙◌}
+use Rattle.std.proofs.Common.{[], ◌∷◌, List, subst, sym, take}
 use Rattle.std.proofs.lemmas.List.{take_all}
 use Rattle.vtl_tree.specs.Shown.{shown}
 use Rattle.sql_tree.specs.Trees.{Exp}
-use Rattle.sql_tree.specs.View.{expr_tree}
 use Rattle.vtl_to_sql.specs.Items.{first_column}
 use Rattle.vtl_to_sql.specs.NamedItems.{AreNext, own_columns}
 use Rattle.vtl_to_sql.proofs.NamedItems.{each_more, next_behind, none_behind}

@@ -2,7 +2,6 @@ use Rattle.std.proofs.Common.{[], ◌∷◌, ◌++◌, List, ap, map, append_ass
 use Rattle.vtl_tree.specs.Shown.{shown}
 use Rattle.sql_tree.specs.Trees.{Exp}
 use Rattle.sql_tree.specs.View.{expr_tree, item_tree}
-use Rattle.vtl_to_sql.specs.Items.{first_column}
 use Rattle.vtl_to_sql.specs.Queries.{items_as}
 use Rattle.vtl_to_sql.specs.Turned.{text_constant}
 use Rattle.vtl_to_sql.specs.NamedItems.{own_columns}
