@@ -41,7 +41,7 @@ use Rattle.vtl_meaning.specs.Trees.{AggTree}
 use Rattle.vtl_meaning.specs.choices.Choice.TheVariants as choice
 use Rattle.vtl_meaning.specs.names.Wanted.TheVariants as wanted
 use Rattle.vtl_meaning.specs.specifications.AggItems.TheVariants as items
-use Rattle.vtl_meaning.proofs.Shaped.{fits}
+use Rattle.vtl_meaning.proofs.GroupShaped.{fits}
 use Rattle.vtl_check.specs.Aggregates.{agg_kind, of_measure, outcome_of}
 use Rattle.vtl_check.specs.Targets.{call_in, is_aggregate, made_as, made_target, role_of, targets_in, with_made}
 use Rattle.vtl_check.specs.Typed.{value}
