@@ -5,4 +5,4 @@ use Rattle.vtl_to_sql.specs.GroupedItems.{aggregated_items}
 use Rattle.vtl_to_sql.proofs.grouped_queries.aggregated_items.Given as goal
 
 abbrev pub invariant-loop-column : goal.invariant-loop-column
-invariant-loop-column l = map item_tree l.items.items ≡ aggregated_items l.made (shown (take l.column-index l.columns.items))
+invariant-loop-column l = map item_tree l.items.items ≡ aggregated_items l.made (shown (take l.column-index l.column-items))
