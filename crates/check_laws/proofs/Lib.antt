@@ -27,6 +27,8 @@ pub use Rattle.vtl_meaning.proofs.ValueKinds as MeaningValueKinds
 pub mod Aggregated
 pub mod Alike
 pub mod Among
+pub mod Analyzed
+pub mod CalcCalls
 pub mod Calculated
 pub mod Chosen
 pub mod Clauses
@@ -66,3 +68,4 @@ pub mod Turned
 pub mod Twins
 pub mod ValueKinds
 pub mod Values
+pub mod WindowParts
