@@ -1,0 +1,83 @@
+-- Why the laws are said as they are.
+use Rattle.std.proofs.Common.{◌≡◌, ℕ, ◌*◌, pos, negsuc, List, [], ◌∷◌, Ok, Err, refl}
+use Rattle.vtl_cell.specs.Groups.{group_value}
+use Rattle.vtl_cell.specs.Outcome.{Outcome, Range}
+use Rattle.vtl_cell.specs.Row.{Row}
+use Rattle.vtl_cell.specs.Settings.{Settings}
+use Rattle.vtl_cell.specs.declared.cell.Cell.{Cell}
+use Rattle.vtl_cell.specs.declared.cell.Cell.TheVariants.{Int, Null, Num}
+use Rattle.vtl_cell.specs.declared.operator.AggKind.{AggKind}
+use Rattle.vtl_cell.specs.declared.operator.AggKind.TheVariants.{Avg, Count, Median, Sum}
+use Rattle.vtl_cell.specs.settings.Rounding.TheVariants.{HalfUp}
+use Rattle.vtl_aggregate_laws.specs.Parts.{of_column, of_groups}
+
+abbrev scale_six : Settings
+scale_six = record { scale = 6; rounding = HalfUp }
+
+abbrev int : ℕ → Cell
+int n = Int (pos n)
+
+-- points of an identifier and a measure, grouped by the identifier
+abbrev by_groups : AggKind → List Row → Outcome (List Cell)
+by_groups f d = of_groups (of_column scale_six f 1) (0 ∷ []) d
+
+abbrev of_all : AggKind → List Row → Outcome Cell
+of_all f d = of_column scale_six f 1 d
+
+-- a group of one null alone has no sum, and counts no value
+abbrev two_groups : List Row
+two_groups = (int 1 ∷ int 2 ∷ []) ∷ (int 2 ∷ Null ∷ []) ∷ (int 1 ∷ int 5 ∷ []) ∷ []
+
+sums : by_groups Sum two_groups ≡ Ok (int 7 ∷ Null ∷ [])
+sums = refl
+
+sum_of_sums : group_value scale_six Sum (int 7 ∷ Null ∷ []) ≡ of_all Sum two_groups
+sum_of_sums = refl
+
+counts : by_groups Count two_groups ≡ Ok (int 2 ∷ int 0 ∷ [])
+counts = refl
+
+-- the sum of a group may be out of range where that of all points is not
+abbrev far_apart : List Row
+far_apart = (int 1 ∷ int 999999999999 ∷ []) ∷ (int 1 ∷ int 1 ∷ []) ∷ (int 2 ∷ Int (negsuc 4) ∷ []) ∷ []
+
+group_too_large : by_groups Sum far_apart ≡ Err Range
+group_too_large = refl
+
+all_in_range : of_all Sum far_apart ≡ Ok (int 999999999995)
+all_in_range = refl
+
+-- without points there is no group, so counts add up to null, and the count is zero
+no_group : by_groups Count [] ≡ Ok []
+no_group = refl
+
+nothing_added : group_value scale_six Sum [] ≡ Ok Null
+nothing_added = refl
+
+nothing_counted : of_all Count [] ≡ Ok (int 0)
+nothing_counted = refl
+
+-- the mean of means is not the mean, and neither is the middle of middles the middle
+abbrev uneven : List Row
+uneven = (int 1 ∷ int 1 ∷ []) ∷ (int 2 ∷ int 3 ∷ []) ∷ (int 2 ∷ int 5 ∷ []) ∷ (int 2 ∷ int 7 ∷ []) ∷ []
+
+abbrev num : ℕ → Cell
+num n = Num (pos (n * 1000000))
+
+means : by_groups Avg uneven ≡ Ok (num 1 ∷ num 5 ∷ [])
+means = refl
+
+mean_of_means : group_value scale_six Avg (num 1 ∷ num 5 ∷ []) ≡ Ok (num 3)
+mean_of_means = refl
+
+mean_of_all : of_all Avg uneven ≡ Ok (num 4)
+mean_of_all = refl
+
+middles : by_groups Median uneven ≡ Ok (num 1 ∷ num 5 ∷ [])
+middles = refl
+
+middle_of_middles : group_value scale_six Median (num 1 ∷ num 5 ∷ []) ≡ Ok (num 3)
+middle_of_middles = refl
+
+middle_of_all : of_all Median uneven ≡ Ok (num 4)
+middle_of_all = refl

@@ -1,0 +1,12 @@
+pub mod ColumnCells
+pub mod Counts
+pub mod Evaluated
+pub mod Examples
+pub mod Firsts
+pub mod Nested
+pub mod Pieces
+pub mod Structures
+pub mod Sums
+pub mod Told
+pub mod Totals
+pub mod Twice

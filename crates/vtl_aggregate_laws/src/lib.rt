@@ -1,0 +1,14 @@
+//! The whole and its parts: what an aggregate gives of all points, told from what it gives of their groups. Laws on the
+//! definitions of `vtl_aggregates`; no code.
+//!
+//! They stand apart, so that a change of them has nothing else proved again; no crate stands on this one.
+//! It knows no script, no window and no table, and types nothing.
+//! Begin with specs/Parts.antt, proofs/Examples.antt and src/laws.rt.
+#![tactic(auto)]
+
+mod laws;
+
+pub use laws::{
+    aggregates_of_aggregates_are_those_of_all, counts_add_up_to_the_count, groups_part_the_points,
+    least_and_greatest_of_groups_are_those_of_all, sums_add_up_to_the_sum,
+};
