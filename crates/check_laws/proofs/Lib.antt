@@ -3,7 +3,11 @@ pub use Rattle.vtl_check.proofs.LeftLemmas
 pub use Rattle.vtl_check.proofs.NameLemmas
 pub use Rattle.vtl_meaning.proofs.Agreements
 pub use Rattle.vtl_meaning.proofs.Drawn
+pub use Rattle.vtl_meaning.proofs.AnalyticOrders
+pub use Rattle.vtl_meaning.proofs.AnalyticPoints
 pub use Rattle.vtl_meaning.proofs.GroupKinds
+pub use Rattle.vtl_meaning.proofs.WindowPartitions
+pub use Rattle.vtl_meaning.proofs.WindowPlaces
 pub use Rattle.vtl_meaning.proofs.GroupLooks
 pub use Rattle.vtl_meaning.proofs.GroupOrders
 pub use Rattle.vtl_meaning.proofs.GroupPoints

@@ -20,6 +20,9 @@ pub use Rattle.vtl_check.specs.targets
 pub use Rattle.vtl_meaning.specs.AggregateKinds
 pub use Rattle.vtl_meaning.specs.AggregatePoints
 pub use Rattle.vtl_meaning.specs.AggregateShapes
+pub use Rattle.vtl_meaning.specs.AnalyticPoints
+pub use Rattle.vtl_meaning.specs.AnalyticShapes
+pub use Rattle.vtl_meaning.specs.Windows as PointWindows
 pub use Rattle.vtl_meaning.specs.Agreement
 pub use Rattle.vtl_meaning.specs.GroupExpressions
 pub use Rattle.vtl_meaning.specs.Groups

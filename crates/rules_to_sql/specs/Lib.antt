@@ -20,6 +20,9 @@ pub use Rattle.vtl_backend.specs.AggregateKinds
 pub use Rattle.vtl_backend.specs.AggregatePoints
 pub use Rattle.vtl_backend.specs.AggregateShapes
 pub use Rattle.vtl_backend.specs.Aggregates
+pub use Rattle.vtl_backend.specs.AnalyticPoints
+pub use Rattle.vtl_backend.specs.AnalyticShapes
+pub use Rattle.vtl_backend.specs.PointWindows
 pub use Rattle.vtl_backend.specs.Agreement
 pub use Rattle.vtl_backend.specs.CheckOperators
 pub use Rattle.vtl_backend.specs.CheckSets

@@ -26,6 +26,7 @@ pub mod Queries
 pub mod Joins
 pub mod Turned
 pub mod Grouped
+pub mod Windowed
 pub mod FullJoins
 pub mod Tables
 pub mod Scripts
