@@ -50,6 +50,7 @@ pub use Rattle.vtl_backend.specs.Orders
 pub use Rattle.vtl_backend.specs.Places
 pub use Rattle.vtl_backend.specs.Points
 pub use Rattle.vtl_backend.specs.Profiles
+pub use Rattle.vtl_backend.specs.Reaches
 pub use Rattle.vtl_backend.specs.Runs
 pub use Rattle.vtl_backend.specs.Script
 pub use Rattle.vtl_backend.specs.Scripts as LawsScripts
