@@ -321,7 +321,8 @@ fn over(
     })
 }
 
-/// The window of an operator on a column, over the points of a structure that it sees. It fails only if memory runs out.
+/// The window of an operator on a column, with the points of a structure that it sees. It fails only if memory runs
+/// out.
 pub(crate) fn window(
     alloc: Global,
     writer: &Writer,
