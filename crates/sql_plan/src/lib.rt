@@ -9,5 +9,6 @@
 
 mod joins;
 mod planning;
+mod safety;
 
 pub use planning::plan;
