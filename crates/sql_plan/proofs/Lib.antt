@@ -1,3 +1,4 @@
 pub mod Views
 pub mod Entries
 pub mod Pushed
+pub mod Reaches

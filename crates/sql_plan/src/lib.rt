@@ -9,6 +9,7 @@
 
 mod joins;
 mod planning;
+mod reach;
 mod safety;
 
 pub use planning::plan;
