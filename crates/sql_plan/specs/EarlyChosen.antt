@@ -28,11 +28,15 @@ may_precede s e n = is_lasting (drop n s.joins) && names_only (aliases_left s n)
 abbrev pub first_join : SelectTree → Exp → Option ℕ
 first_join s e = find (may_precede s e) (range_with_len 0 (length s.joins))
 
--- of the parts of a select from this one on, each by the join before which it is tried, those that are tried early
+-- the entry of a part that has such a join
+abbrev pub entry_of : ℕ → ℕ → Option ℕ → List Early
+entry_of select conjunct None = []
+entry_of select conjunct (Some join) = record { select = select; conjunct = conjunct; join = join } ∷ []
+
+-- those of the parts of a select from this one on, of each of which the join is given
 abbrev pub entries_from : ℕ → ℕ → List (Option ℕ) → List Early
 entries_from select n [] = []
-entries_from select n (None ∷ js) = entries_from select (suc n) js
-entries_from select n (Some j ∷ js) = record { select = select; conjunct = n; join = j } ∷ entries_from select (suc n) js
+entries_from select n (j ∷ js) = entry_of select n j ++ entries_from select (suc n) js
 
 -- each part of the WHERE of a select that may be tried before a join is so once, before the first such join
 abbrev pub early_parts_in : ℕ → SelectTree → List Early

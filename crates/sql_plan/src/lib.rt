@@ -7,9 +7,11 @@
 //! Begin with sql_meaning/specs/Plans.antt and specs/Chosen.antt, then `planning.rt` and `joins.rt`.
 #![tactic(auto)]
 
+mod early;
 mod joins;
 mod planning;
 mod reach;
 mod safety;
+mod standing;
 
 pub use planning::plan;
