@@ -1,5 +1,5 @@
 -- What is chosen names parts of the query: joins whose ON is a conjunction of equalities, and parts of WHERE that may be tried early.
-use Rattle.std.proofs.Common.{◌≡◌, ◌<◌, ℕ, zero, suc, ◌+◌, Bool, true, false, cond, not, ◌&&◌, List, [], ◌∷◌, ◌++◌, map, drop, length, Option, Some, None, refl, sym, ap, ◌∙◌, subst, true≢false, arith}
+use Rattle.std.proofs.Common.{◌≡◌, ◌<◌, ℕ, zero, suc, ◌+◌, Bool, true, false, cond, not, List, [], ◌∷◌, map, drop, length, Option, Some, None, refl, sym, ap, ◌∙◌, subst, true≢false, arith}
 use Rattle.std.specs.Prelude.{find}
 use Rattle.std.specs.List.{AllByRecursion, list_all, range_with_len}
 use Rattle.std.proofs.lemmas.Bool.{and_parts}
@@ -8,8 +8,6 @@ use Rattle.sql_tree.specs.Trees.{Exp, JoinTree, QueryTree, SelectTree}
 use Rattle.sql_check_laws.specs.Scopes.{is_among}
 use Rattle.sql_meaning.specs.Early.{MayBeEarly, NamesEarly, NamesOnly, aliases_left, columns_in, is_full, is_safe_condition, is_safe_join}
 use Rattle.sql_meaning.specs.Plans.{IsAt, IsEqualityJoin, IsFirst, IsPlan, NamesJoin, conjuncts_of}
-use Rattle.sql_meaning.specs.declared.plan.Early.{Early}
-use Rattle.sql_meaning.specs.declared.plan.Indexed.{Indexed}
 use Rattle.sql_meaning.proofs.EarlyPlans.{chosen_stands}
 use Rattle.sql_meaning.proofs.Lists.{all_joined, under}
 use Rattle.sql_meaning.proofs.Planned.{next_behind}

@@ -1,16 +1,15 @@
 -- The first join before which a part may be tried is that of its last source, or the first behind the last FULL join.
-use Rattle.std.proofs.Common.{◌≡◌, ◌≤◌, ◌<◌, ℕ, zero, suc, ◌+◌, max, Bool, true, false, cond, ◌&&◌, not, List, [], ◌∷◌, ◌++◌, map, take, drop, length, Option, Some, None, refl, sym, ap, ◌∙◌, arith}
+use Rattle.std.proofs.Common.{◌≡◌, ◌≤◌, ℕ, zero, suc, ◌+◌, max, Bool, true, false, cond, ◌&&◌, List, [], ◌∷◌, take, drop, length, Option, Some, None, refl, sym, ap, ◌∙◌, arith}
 use Rattle.std.specs.Prelude.{find, nat_le, nat_lt, option_and_then}
 use Rattle.std.specs.List.{list_all, range_with_len}
 use Rattle.std.proofs.lemmas.Bool.Decides.{nat_tests}
 use Rattle.std.proofs.lemmas.List.{take-map}
-use Rattle.vtl_cell.specs.Texts.{same_text}
-use Rattle.sql_tree.specs.Trees.{Exp, JoinTree, SelectTree, Text}
+use Rattle.sql_tree.specs.Trees.{Exp, SelectTree, Text}
 use Rattle.sql_tree.specs.declared.parts.Column.{Column}
 use Rattle.sql_check_laws.specs.Scopes.{Named, is_among, value_among}
-use Rattle.sql_meaning.specs.Early.{aliases_left, columns_in, is_full, join_alias}
+use Rattle.sql_meaning.specs.Early.{aliases_left, columns_in, join_alias}
 use Rattle.sql_plan.specs.EarlyChosen.{first_join, is_lasting, may_precede, names_only}
-use Rattle.sql_plan.specs.Reach.{ArePlaces, aliases_of, below, place_among, reach}
+use Rattle.sql_plan.specs.Reach.{ArePlaces, aliases_of, below, reach}
 use Rattle.sql_plan.proofs.Places.{among_first, within}
 
 -- ---- numbers
@@ -65,9 +64,6 @@ module _ (names : List Text) (places : Named ℕ) (are : ArePlaces names places)
       ap (λ b. nat_le m n && (b && list_all (λ y. is_among y.source (take (suc n) names)) xs)) (among_first x.source n names ∙ ap (within n) (sym (are x.source)))
       ∙ go (value_among places x.source) (λ p. names_within (max m p) n xs)
     where
-      rest : Bool
-      rest = list_all (λ y. is_among y.source (take (suc n) names)) xs
-
       go : (o : Option ℕ) → ((p : ℕ) → (nat_le (max m p) n && list_all (λ y. is_among y.source (take (suc n) names)) xs) ≡ within n (reach places (max m p) xs))
           → (nat_le m n && (within n o && list_all (λ y. is_among y.source (take (suc n) names)) xs)) ≡ within n (option_and_then (λ p. reach places (max m p) xs) o)
       go None ih = and_false (nat_le m n)

@@ -1,15 +1,14 @@
 -- Names and the first places where they stand.
 use Rattle.std.proofs.Common.{◌≡◌, ◌<◌, ℕ, zero, suc, ◌+◌, Bool, true, false, cond, ◌||◌, List, [], ◌∷◌, ◌++◌, map, take, get_or, length, Option, Some, None, refl, sym, ap, ◌∙◌, subst, true≢false, arith}
 use Rattle.std.specs.Prelude.{nat_le, option_map}
-use Rattle.std.specs.List.{list_any}
-use Rattle.std.specs.Map.{keys_of, lookup}
+use Rattle.std.specs.Map.{keys_of}
 use Rattle.std.specs.Option.{is_some, option_or}
 use Rattle.std.specs.Cmp.Lexicographic as texts
 use Rattle.std.proofs.lemmas.Bool.Decides.{nat_tests}
 use Rattle.std.proofs.lemmas.List.{length-map, length-take, map-append, take_more}
 use Rattle.std.proofs.lemmas.Map.Made.{is_some-lookup}
 use Rattle.vtl_cell.specs.Texts.{same_text}
-use Rattle.sql_tree.specs.Trees.{JoinTree, Text}
+use Rattle.sql_tree.specs.Trees.{Text}
 use Rattle.sql_tree.specs.declared.statements.Join.{Join}
 use Rattle.sql_tree.specs.View.{join_tree}
 use Rattle.sql_check_laws.specs.Scopes.{Named, is_among, value_among}

@@ -1,5 +1,5 @@
 -- Entries that are put one behind the other, item by item, where each knows the place of its item.
-use Rattle.std.proofs.Common.{◌≡◌, ℕ, suc, ◌+◌, ◌<◌, List, [], ◌∷◌, ◌++◌, drop, length, get_or, arith, append_assoc, sym, ap, ◌∙◌}
+use Rattle.std.proofs.Common.{◌≡◌, ℕ, suc, ◌+◌, ◌<◌, List, ◌∷◌, ◌++◌, drop, length, get_or, arith, append_assoc, sym, ap, ◌∙◌}
 use Rattle.std.proofs.lemmas.List.{drop_more}
 
 module _ {A E : Type 0} (one : ℕ → A → List E) (from : ℕ → List A → List E) (begins : (n : ℕ) (x : A) (xs : List A) → from n (x ∷ xs) ≡ one n x ++ from (suc n) xs) where

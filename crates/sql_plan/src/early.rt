@@ -50,7 +50,11 @@ fn first_joins(alloc: Global, select: &Select) -> Result<Vec<Option<usize>>, All
 }
 
 // Puts the parts of a select that have a join behind others.
-fn push_entries(early: &mut Vec<Early>, select: usize, firsts: &[Option<usize>]) -> Result<(), AllocError>
+fn push_entries(
+    early: &mut Vec<Early>,
+    select: usize,
+    firsts: &[Option<usize>],
+) -> Result<(), AllocError>
     ensures { OnOk result (early.new.items ≡ early.old.items ++ entries_from select 0 firsts.now) }
 {
     for conjunct in 0..firsts.len() {
@@ -83,7 +87,11 @@ fn push_parts(
 
 /// Puts the parts of a query that are tried early behind others, by select and then by part. It fails only if memory runs
 /// out.
-pub(crate) fn push_early(alloc: Global, early: &mut Vec<Early>, selects: &[Select]) -> Result<(), AllocError>
+pub(crate) fn push_early(
+    alloc: Global,
+    early: &mut Vec<Early>,
+    selects: &[Select],
+) -> Result<(), AllocError>
     ensures { OnOk result (early.new.items ≡ early.old.items ++ early_parts (map select_tree selects.now)) }
 {
     for place in 0..selects.len() {

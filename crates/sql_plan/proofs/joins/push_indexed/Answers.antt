@@ -1,4 +1,4 @@
-use Rattle.std.proofs.Common.{◌≡◌, ◌∙◌, ◌++◌, List, map, ap, refl, sym}
+use Rattle.std.proofs.Common.{◌∙◌, ◌++◌, List, map, ap, refl, sym}
 use Rattle.sql_tree.specs.View.{join_tree, select_tree}
 use Rattle.sql_tree.specs.declared.statements.Join.{Join}
 use Rattle.sql_tree.specs.declared.statements.Select.{Select}

@@ -1,4 +1,4 @@
-use Rattle.std.proofs.Common.{◌≡◌, ◌∙◌, ◌+◌, ap, sym, Some, None}
+use Rattle.std.proofs.Common.{◌∙◌, ◌+◌, ap, sym}
 use Rattle.std.specs.Prelude.{option_and_then}
 use Rattle.sql_tree.specs.View.{expr_tree}
 use Rattle.sql_meaning.specs.Early.{columns_in}
@@ -42,7 +42,7 @@ reach_branches-returns-in_err-last-2 t c =
     let step = branches_next places c.loop-branch.last bs i b c.loop-branch-test.true c.branch-item.is in
     c.from_residual-in_err-last-2.ensures
     ∙ sym (step ∙ ap (λ o. option_and_then (λ m. reach places m (branches_left bs (i + 1))) (option_and_then (λ m. reach places m (columns_in (expr_tree b.value))) o)) (sym c.reach.ensures ∙ c.in_ok-last.was)
-      ∙ ap (option_and_then (λ m. reach places m (branches_left bs (i + 1)))) (sym c.reach-in-loop-branch.ensures ∙ c.in_err-last-2.was))
+    ∙ ap (option_and_then (λ m. reach places m (branches_left bs (i + 1)))) (sym c.reach-in-loop-branch.ensures ∙ c.in_err-last-2.was))
     ∙ c.loop-branch.invariant
 
 pub reach_branches-loop-branch-preserved : goal.reach_branches-loop-branch-preserved
@@ -53,5 +53,5 @@ reach_branches-loop-branch-preserved t c =
     let b = c.branch-item.result in
     let step = branches_next places c.loop-branch.last bs i b c.loop-branch-test.true c.branch-item.is in
     sym (step ∙ ap (λ o. option_and_then (λ m. reach places m (branches_left bs (i + 1))) (option_and_then (λ m. reach places m (columns_in (expr_tree b.value))) o)) (sym c.reach.ensures ∙ c.in_ok-last.was)
-      ∙ ap (option_and_then (λ m. reach places m (branches_left bs (i + 1)))) (sym c.reach-in-loop-branch.ensures ∙ c.in_ok-last-2.was))
+    ∙ ap (option_and_then (λ m. reach places m (branches_left bs (i + 1)))) (sym c.reach-in-loop-branch.ensures ∙ c.in_ok-last-2.was))
     ∙ c.loop-branch.invariant
