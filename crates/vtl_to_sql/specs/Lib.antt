@@ -43,6 +43,7 @@ pub mod KeyItems
 pub mod NamedItems
 pub mod TurnedItems
 pub mod GroupedItems
+pub mod WindowItems
 pub mod Combined
 pub mod Existences
 pub mod Inputs

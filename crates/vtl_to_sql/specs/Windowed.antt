@@ -1,15 +1,15 @@
 -- The query of analytic operators: a window for each call.
 use Rattle.std.specs.Prelude.{ℕ, ◌==◌, Bool, true, false, not, ◌&&◌, ◌||◌, cond, List, [], ◌∷◌, ◌++◌, filter, length, map, Option, Some, None, is_some}
 use Rattle.std.specs.Fmt.{decimal}
-use Rattle.std.specs.List.{list_any}
 use Rattle.std.specs.Option.{option_map_or}
 use Rattle.vtl_cell.specs.Settings.{Settings}
 use Rattle.vtl_cell.specs.declared.cell.Cell.{Cell}
 use Rattle.vtl_cell.specs.declared.cell.Cell.TheVariants as c
 use Rattle.vtl_cell.specs.declared.operator.AggKind.TheVariants as agg
-use Rattle.vtl_tree.specs.Structure.{columns_of, same_name}
+use Rattle.vtl_tree.specs.Structure.{columns_of}
 use Rattle.vtl_tree.specs.declared.structure.Component.{Component}
 use Rattle.vtl_tree.specs.declared.structure.Structure.{Structure}
+use Rattle.check_shapes.specs.Names.{is_among}
 use Rattle.rules_to_sql.specs.AnalyticPoints.{value_for}
 use Rattle.rules_to_sql.specs.Columns.{identifiers_of}
 use Rattle.rules_to_sql.specs.Constants.{literal_to_sql}
@@ -65,9 +65,12 @@ sees_order op.Rank w = false
 sees_order op.RatioToReport w = false
 sees_order o w = is_ordered w || is_some w.frame
 
--- a name that the partition or the order holds already
+abbrev pub key_names : List OrderKey → List Text
+key_names ks = map (λ k. k.component) ks
+
+-- a component that the partition or the order holds already
 abbrev pub is_listed : windows.Window → Component → Bool
-is_listed w x = list_any (same_name x.name) w.partition || list_any (λ y. same_name x.name y.component) w.order
+is_listed w x = is_among x.name w.partition || is_among x.name (key_names w.order)
 
 abbrev pub rising_key : Component → WindowKey
 rising_key x = record { column = column_of first_alias x.name; direction = None }

@@ -34,6 +34,8 @@ mod set_operators;
 mod set_queries;
 mod unpivot_queries;
 mod walk;
+mod windowed_queries;
+mod windows;
 mod writer;
 
 pub use constants::constants_are_held;

@@ -24,6 +24,7 @@ use crate::queries::{
 use crate::set_operators::SetOperator;
 use crate::set_queries::set_query;
 use crate::unpivot_queries::unpivot_query;
+use crate::windowed_queries::analytic_query;
 use crate::writer::Writer;
 use sql_tree::Query;
 use std::alloc::{AllocError, Global};
@@ -198,6 +199,10 @@ pub(crate) fn query(
         NodeForm::Aggregate { a, spec } => {
             let table = source(alloc, writer, a, target, draft)?;
             aggregate_query(alloc, writer, spec, s, &table)
+        }
+        NodeForm::Analytic { a, spec } => {
+            let table = source(alloc, writer, a, target, draft)?;
+            analytic_query(alloc, writer, spec, &a.structure, s, &table)
         }
         NodeForm::Member { a, .. } => left(alloc, writer, a, s, target, draft),
         NodeForm::Keep { a, .. } => left(alloc, writer, a, s, target, draft),
