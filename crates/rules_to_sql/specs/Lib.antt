@@ -4,6 +4,7 @@ pub use Rattle.sql_check_parts.specs.Kinds
 pub use Rattle.sql_check_parts.specs.Queries
 pub use Rattle.sql_check_parts.specs.Scopes
 pub use Rattle.sql_check_parts.specs.Statements as TypingStatements
+pub use Rattle.sql_check_parts.specs.Windows as CheckedWindows
 pub use Rattle.sql_meaning.specs.Fits
 pub use Rattle.sql_meaning.specs.From
 pub use Rattle.sql_meaning.specs.Groups as MeantGroups

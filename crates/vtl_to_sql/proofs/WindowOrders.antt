@@ -2,7 +2,7 @@
 use Rattle.std.proofs.Common.{◌≡◌, ℕ, zero, suc, ◌+◌, ◌-◌, Bool, true, false, cond, ◌||◌, not, List, [], ◌∷◌, ◌++◌, map, filter, take, length, refl, ap, sym, ◌∙◌, subst, arith, append-nil, true≢false}
 use Rattle.std.specs.Prelude.{count_by}
 use Rattle.std.specs.Cmp.{IsTotalOrder}
-use Rattle.std.specs.List.{AllByRecursion, list_any}
+use Rattle.std.specs.List.{AllByRecursion}
 use Rattle.std.specs.Ordering.{flip_args, is_lt, on, ordering_reverse, ordering_then}
 use Rattle.std.specs.declared.cmp.Ordering.{Ordering}
 use Rattle.std.specs.declared.cmp.Ordering.TheVariants.{Less, Equal, Greater}
@@ -25,6 +25,7 @@ use Rattle.vtl_tree.specs.DataSet.{is_point}
 use Rattle.vtl_tree.specs.Structure.{IsStructure, columns_of, key_width, same_name}
 use Rattle.vtl_tree.specs.declared.structure.Component.{Component}
 use Rattle.vtl_tree.specs.declared.structure.Structure.{Structure}
+use Rattle.check_shapes.specs.Names.{is_among}
 use Rattle.rules_to_sql.specs.Columns.{identifiers_of, place_of, places_in}
 use Rattle.rules_to_sql.specs.Groups.{places_named}
 use Rattle.rules_to_sql.specs.PointWindows.{identifier_places, key_in, keys_in, point_cmp}
@@ -32,7 +33,7 @@ use Rattle.rules_to_sql.specs.calls.OrderKey.{OrderKey}
 use Rattle.rules_to_sql.specs.calls.Window.{Window}
 use Rattle.rules_to_sql.specs.Windows.{place_within, told_apart}
 use Rattle.rules_to_sql.proofs.Places.{all_filtered, all_more, key_cells, key_within, same_name-is}
-use Rattle.vtl_to_sql.specs.Windowed.{is_listed}
+use Rattle.vtl_to_sql.specs.Windowed.{is_listed, key_names}
 
 -- ---- comparisons
 
@@ -139,9 +140,9 @@ module _ (xs : List Component) (w : Window) (q r : Row) where
   abbrev Tie : List ℕ → Type 0
   Tie name = cell_cmp (column_of (place_of name xs) q) (column_of (place_of name xs) r) ≡ Equal
 
-  tie_agreed : (name : List ℕ) (ns : List (List ℕ)) → cells_at (places_named ns xs) q ≡ cells_at (places_named ns xs) r → list_any (same_name name) ns ≡ true → Tie name
+  tie_agreed : (name : List ℕ) (ns : List (List ℕ)) → cells_at (places_named ns xs) q ≡ cells_at (places_named ns xs) r → is_among name ns ≡ true → Tie name
   tie_agreed name [] e h = cc
-  tie_agreed name (n ∷ ns) e h = go (same_name name n) refl h (tie_agreed name ns rest)
+  tie_agreed name (n ∷ ns) e h = go (same_name n name) refl h (tie_agreed name ns rest)
     where
       first : column_of (place_of n xs) q ≡ column_of (place_of n xs) r
       first = cc
@@ -149,26 +150,26 @@ module _ (xs : List Component) (w : Window) (q r : Row) where
       rest : cells_at (places_named ns xs) q ≡ cells_at (places_named ns xs) r
       rest = cc
 
-      go : (b : Bool) → same_name name n ≡ b → (b || list_any (same_name name) ns) ≡ true → (list_any (same_name name) ns ≡ true → Tie name) → Tie name
-      go true i t ih = subst Tie (sym (same_name-is name n i)) (subst (λ v. cell_cmp (column_of (place_of n xs) q) v ≡ Equal) first (cell_ties (column_of (place_of n xs) q)))
+      go : (b : Bool) → same_name n name ≡ b → (b || is_among name ns) ≡ true → (is_among name ns ≡ true → Tie name) → Tie name
+      go true i t ih = subst Tie (same_name-is n name i) (subst (λ v. cell_cmp (column_of (place_of n xs) q) v ≡ Equal) first (cell_ties (column_of (place_of n xs) q)))
       go false i t ih = ih t
 
-  tie_ordered : (name : List ℕ) (ks : List OrderKey) → by_keys (map (key_in xs) ks) q r ≡ Equal → list_any (λ y. same_name name y.component) ks ≡ true → Tie name
+  tie_ordered : (name : List ℕ) (ks : List OrderKey) → by_keys (map (key_in xs) ks) q r ≡ Equal → is_among name (key_names ks) ≡ true → Tie name
   tie_ordered name [] e h = cc
-  tie_ordered name (k ∷ ks) e h = go (same_name name k.component) refl h (tie_ordered name ks parts.1)
+  tie_ordered name (k ∷ ks) e h = go (same_name k.component name) refl h (tie_ordered name ks parts.1)
     where
       parts : (key_cmp (key_in xs k) q r ≡ Equal) × (by_keys (map (key_in xs) ks) q r ≡ Equal)
       parts = then_ties (key_cmp (key_in xs k) q r) (by_keys (map (key_in xs) ks) q r) e
 
-      go : (b : Bool) → same_name name k.component ≡ b → (b || list_any (λ y. same_name name y.component) ks) ≡ true → (list_any (λ y. same_name name y.component) ks ≡ true → Tie name) → Tie name
-      go true i t ih = subst Tie (sym (same_name-is name k.component i)) (key_ties (key_in xs k) q r parts.0)
+      go : (b : Bool) → same_name k.component name ≡ b → (b || is_among name (key_names ks)) ≡ true → (is_among name (key_names ks) ≡ true → Tie name) → Tie name
+      go true i t ih = subst Tie (same_name-is k.component name i) (key_ties (key_in xs k) q r parts.0)
       go false i t ih = ih t
 
   module _ (agreed : cells_at (places_named w.partition xs) q ≡ cells_at (places_named w.partition xs) r) (tied : by_keys (keys_in xs w) q r ≡ Equal) where
     tie_listed : (z : Component) → is_listed w z ≡ true → Tie z.name
-    tie_listed z h = go (list_any (same_name z.name) w.partition) refl h
+    tie_listed z h = go (is_among z.name w.partition) refl h
       where
-        go : (b : Bool) → list_any (same_name z.name) w.partition ≡ b → (b || list_any (λ y. same_name z.name y.component) w.order) ≡ true → Tie z.name
+        go : (b : Bool) → is_among z.name w.partition ≡ b → (b || is_among z.name (key_names w.order)) ≡ true → Tie z.name
         go true i t = tie_agreed z.name w.partition agreed i
         go false i t = tie_ordered z.name w.order tied t
 
