@@ -41,7 +41,7 @@ use Rattle.vtl_meaning.specs.Trees.{AggTree}
 use Rattle.vtl_meaning.specs.choices.Choice.TheVariants as choice
 use Rattle.vtl_meaning.specs.names.Wanted.TheVariants as wanted
 use Rattle.vtl_meaning.specs.specifications.AggItems.TheVariants as items
-use Rattle.vtl_meaning.proofs.Shaped.{fits}
+use Rattle.vtl_meaning.proofs.GroupShaped.{fits}
 use Rattle.vtl_check.specs.Aggregates.{agg_kind, of_measure, outcome_of}
 use Rattle.vtl_check.specs.Targets.{call_in, is_aggregate, made_as, made_target, role_of, targets_in, with_made}
 use Rattle.vtl_check.specs.Typed.{value}
@@ -189,7 +189,7 @@ target-more p names a r c e done v before typed =
     one false v h = tt
 
 -- where a column of a name and a kind stands at its place, there is a component of this name, and it has the kind
-found-at : (n : List ℕ) (kind : Kind) (xs : List Component) → IsColumnAt (place_of n xs) n kind xs → (x : Component) × (component_of n xs ≡ Some x) × (x.kind ≡ kind)
+pub found-at : (n : List ℕ) (kind : Kind) (xs : List Component) → IsColumnAt (place_of n xs) n kind xs → (x : Component) × (component_of n xs ≡ Some x) × (x.kind ≡ kind)
 found-at n kind [] h = absurd h
 found-at n kind (x ∷ xs) h = go (same_name x.name n) h (found-at n kind xs)
   where
@@ -198,7 +198,7 @@ found-at n kind (x ∷ xs) h = go (same_name x.name n) h (found-at n kind xs)
     go false h ih = let next : 1 + place_of n xs ≡ suc (place_of n xs) = omega arith in ih (subst (λ place. IsColumnAt place n kind (x ∷ xs)) next h)
 
 -- a component that is found among the columns is found among the components
-found-within : (a : Structure) → IsStructure a → (n : List ℕ) (x : Component) → component_of n (columns_of a) ≡ Some x → component_of n a.components ≡ Some x
+pub found-within : (a : Structure) → IsStructure a → (n : List ℕ) (x : Component) → component_of n (columns_of a) ≡ Some x → component_of n a.components ≡ Some x
 found-within a is n x e =
     let found : IsFound a.components x = at-found (IsFound a.components) n (columns_of a) x (of-columns (IsFound a.components) a (all-found a is)) e in
     subst (λ m. component_of m a.components ≡ Some x) (name-found n (columns_of a) x e) found

@@ -51,13 +51,15 @@ use Rattle.vtl_check.specs.places.Place.TheVariants as place
 use Rattle.vtl_check.specs.Clauses.{cell_as, filter_form, kept_of, keeping_form, made_of, name_known, names_typed, pivot_names, pivot_of, references_in, renamed_of, renaming_form, renamings_typed, sub_form, sub_item, sub_known, sub_names, sub_of, sub_value, subs_typed, unpivot_of}
 use Rattle.vtl_check.specs.Targets.{aggr_clause, aggr_tree, calc_clause, calc_name, is_analytic, is_analytic_value, item_names, item_of, made_target, role_of, target_of, value_kind}
 use Rattle.vtl_check.specs.targets.Made.{Made}
-use Rattle.vtl_meaning.specs.Made.{IsCalculated, IsFiltered, IsGroupCondition, IsGrouped, IsLeft, IsMade, IsPivoted, IsRenamed, IsSub, IsTyped, IsUnpivoted}
+use Rattle.vtl_meaning.specs.Made.{IsCalculated, IsFiltered, IsGroupCondition, IsGrouped, IsLeft, IsMade, IsPivoted, IsRenamed, IsSub, IsTyped, IsUnpivoted, IsWindowed}
 use Rattle.vtl_meaning.specs.Operators.{value_exp}
-use Rattle.vtl_meaning.specs.Reaches.{IsNear, IsNearValue}
+use Rattle.vtl_meaning.specs.Reaches.{IsNearValue}
 use Rattle.vtl_meaning.specs.Shapes.{IsChosen, IsRenamedBy, IsShaped}
 use Rattle.check_laws.specs.Gives.{ArePassed, Gives}
 use Rattle.check_laws.specs.WellTyped.{IsWellTyped}
 use Rattle.check_laws.proofs.Aggregated.{AreMadeTargets, aggr-fits}
+use Rattle.check_laws.proofs.Analyzed as analyzed
+use Rattle.check_laws.proofs.Analyzed.{IsTargetItem, items-analyzed}
 use Rattle.check_laws.proofs.Calculated.{IsItemFor, calculated-fits}
 use Rattle.check_laws.proofs.Columns.{among-any}
 use Rattle.check_laws.proofs.Inner.{made-shaped}
@@ -66,7 +68,6 @@ use Rattle.check_laws.proofs.Lists as lists
 use Rattle.check_laws.proofs.Literals.{literal-as, valued-gives, kind-met}
 use Rattle.check_laws.proofs.Operators.{IsMadeWith}
 use Rattle.check_laws.proofs.Renamed.{renamed-fits}
-use Rattle.check_laws.proofs.OtherForms.{calc-shaped}
 use Rattle.check_laws.proofs.Steps.{after, tested, then, weaker}
 use Rattle.check_laws.proofs.Tests.{not-false}
 use Rattle.check_laws.proofs.Turned.{pivot-fits, unpivot-fits}
@@ -155,17 +156,13 @@ unpivot-gives env id m n is =
     node-gives env (nodes.unpivot n (name_of id) (name_of m)) (unpivot_form (name_of id) (name_of m) (components_in n)) (weaker (λ s. IsShaped s × IsUnpivoted (name_of id) (name_of m) (structure_of n) s) (IsMadeWith env (nodes.unpivot n (name_of id) (name_of m))) (unpivot_form (name_of id) (name_of m) (components_in n)) (λ s f. (f.0, (is, f.1))) (unpivot-fits (name_of id) (name_of m) (structure_of n)))
 
 -- ---- `calc`
--- a value of a target: an expression that is typed over the operand's columns, or an analytic call that does not reach too far
-abbrev pub IsTargetValue : Settings → List Component → ValueTree → Type 0
-IsTargetValue p xs (nodes.scalar e) = IsTyped p xs e
-IsTargetValue p xs (nodes.analytic call) = IsNear call.op call.window
-
-near-value : (p : Settings) (xs : List Component) (v : ValueTree) → IsTargetValue p xs v → IsNearValue v
-near-value p xs (nodes.scalar e) h = tt
-near-value p xs (nodes.analytic call) h = h
+-- a value of a target: an expression that is typed over the operand's columns, or an analytic call of one of them that does not reach
+-- too far
+abbrev pub IsTargetValue : Settings → NodeTree → ValueTree → Type 0
+IsTargetValue p n v = analyzed.IsTargetValue p (structure_of n) v × IsNearValue v
 
 pub record IsTarget (p : Settings) (n : NodeTree) (i : ItemTree) : Type 0 where
-  pub value : IsTargetValue p (columns_in n) i.value
+  pub value : IsTargetValue p n i.value
   pub free : is_identifier_name (components_in n) i.target ≡ false
   pub role : (r : Role) → unwrap_or i.role r ≡ role.Identifier → r ≡ role.Identifier
 
@@ -185,7 +182,7 @@ names-more : (items : List ItemTree) (i : ItemTree) → item_names (items ++ i �
 names-more [] i = refl
 names-more (x ∷ items) i = ap (λ l. x.target ∷ l) (names-more items i)
 
-pub item-more : (p : Settings) (n : NodeTree) (r : Option WrittenRole) (c : Comp) (done : List ItemTree) (v : ValueTree) → AreTargets p n done → ArePassed (target_tests (components_in n) (item_names done) (name_of c)) → IsTargetValue p (columns_in n) v → AreTargets p n (done ++ item_of r c v ∷ [])
+pub item-more : (p : Settings) (n : NodeTree) (r : Option WrittenRole) (c : Comp) (done : List ItemTree) (v : ValueTree) → AreTargets p n done → ArePassed (target_tests (components_in n) (item_names done) (name_of c)) → IsTargetValue p n v → AreTargets p n (done ++ item_of r c v ∷ [])
 item-more p n r c done v are passed is = record {
   each = lists.appended (IsTarget p n) done (item_of r c v ∷ []) are.each (record { value = is; free = passed.1.0; role = written-role r }, tt);
   apart = ap (all_apart same_name) (names-more done (item_of r c v)) ∙ apart_push (item_names done) (name_of c) are.apart (sym (among-any (name_of c) (item_names done)) ∙ passed.0);
@@ -194,11 +191,11 @@ item-more p n r c done v are passed is = record {
 item-for : (p : Settings) (n : NodeTree) (i : ItemTree) → IsTarget p n i → is_analytic i ≡ false → IsItemFor p (structure_of n) (target_of (components_in n)) i
 item-for p n i is plain = go i.value refl is.value plain
   where
-    go : (v : ValueTree) → i.value ≡ v → IsTargetValue p (columns_in n) v → is_analytic_value v ≡ false → IsItemFor p (structure_of n) (target_of (components_in n)) i
+    go : (v : ValueTree) → i.value ≡ v → IsTargetValue p n v → is_analytic_value v ≡ false → IsItemFor p (structure_of n) (target_of (components_in n)) i
     go (nodes.scalar e) s t plain = record {
       same = ap (λ kind. record { name = i.target; role = i.role; kind = kind }) (ap (value_kind (components_in n)) s ∙ sym (ap (λ v. exp_kind (value_exp v)) s));
       role = is.role;
-      typed = subst (λ v. IsTyped p (columns_in n) (value_exp v)) (sym s) t;
+      typed = subst (λ v. IsTyped p (columns_in n) (value_exp v)) (sym s) t.0;
       free = is.free;
     }
     go (nodes.analytic call) s t plain = absurd (true≢false plain)
@@ -211,7 +208,11 @@ calc-gives env n items is are = go (list_any is_analytic items) refl
     r = calc_form (map (target_of (components_in n)) items) (components_in n)
 
     go : (b : Bool) → list_any is_analytic items ≡ b → Gives (IsMade env.settings env.known) (r >>= made_of (cond b (nodes.analytic_of n (nodes.of_items items)) (nodes.calc n items)))
-    go true e = node-gives env (nodes.analytic_of n (nodes.of_items items)) r (weaker IsShaped (IsMadeWith env (nodes.analytic_of n (nodes.of_items items))) r (λ s f. (f, (is, lists.weaker (IsTarget env.settings n) (λ i. IsNearValue i.value) items (λ i t. near-value env.settings (columns_in n) i.value t.value) are.each))) (calc-shaped (map (target_of (components_in n)) items) (components_in n)))
+    go true e =
+        node-gives env (nodes.analytic_of n (nodes.of_items items)) r (weaker (λ s. IsShaped s × IsWindowed env.settings (nodes.of_items items) (structure_of n) s) (IsMadeWith env (nodes.analytic_of n (nodes.of_items items))) r
+        (λ s f. (f.0, (is, f.1, lists.weaker (IsTarget env.settings n) (λ i. IsNearValue i.value) items (λ i t. t.value.1) are.each)))
+        (items-analyzed env.settings items (structure_of n) (made-shaped env.settings env.known n is) are.apart
+        (lists.weaker (IsTarget env.settings n) (IsTargetItem env.settings (structure_of n)) items (λ i t. record { value = t.value.0; free = t.free; role = t.role }) are.each)))
     go false e =
         node-gives env (nodes.calc n items) r (weaker (λ s. IsShaped s × IsCalculated env.settings items (structure_of n) s) (IsMadeWith env (nodes.calc n items)) r (λ s f. (f.0, (is, f.1)))
         (calculated-fits env.settings items (target_of (components_in n)) (structure_of n) (made-shaped env.settings env.known n is) are.apart (λ i. refl)

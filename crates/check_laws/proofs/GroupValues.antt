@@ -23,7 +23,8 @@ use Rattle.vtl_meaning.specs.ValuesColumns.{column_typed, name_of}
 use Rattle.vtl_check.specs.Aggregates.{agg_kind, aggregate_kind, aggregate_value, column_name, count_call, count_kind, group_call, group_call_by, is_component, operand_name}
 use Rattle.vtl_check.specs.Places.{Env, Written, alone, component_typed, in_aggregate, name_written, with_alias, written_in, written_typed}
 use Rattle.vtl_check.specs.Typed.{TypedTree, value, dataset, of_value}
-use Rattle.vtl_check.specs.Typing.{maybe_typed, typed}
+use Rattle.vtl_check.specs.Typing.{maybe_typed, over_operand, typed}
+use Rattle.vtl_check.specs.Windowed.{operand_exp}
 use Rattle.vtl_check.specs.places.Inside.{Inside}
 use Rattle.vtl_check.specs.places.Place.{Place}
 use Rattle.vtl_check.specs.places.Place.TheVariants as place
@@ -80,6 +81,14 @@ operand-named env (place.Inside i) (tree.some_exp e) = then (IsWritten inner e) 
   where
     inner : Inside
     inner = record i { grouping = option_map (λ names. names_of i.components) i.grouping }
+
+-- the operand of an analytic call, where it has one
+pub call-operand-named : (env : Env) (i : Inside) (e : Exp) → Gives (λ x. IfSome x (IsOperand (place.Inside i) (operand_exp e))) (over_operand env (place.Inside i) e)
+call-operand-named env i (tree.aggregate_over f tree.no_exp o) = tt
+call-operand-named env i (tree.aggregate_over f (tree.some_exp e) o) = then (IsWritten i e) (λ x. IfSome x (IsOperand (place.Inside i) (tree.some_exp e))) (typed env (place.Inside i) e) (λ x. Ok (Some x)) (exp-named env i e) (λ x h. h)
+call-operand-named env i (tree.value_window f e o) = then (IsWritten i e) (λ x. IfSome x (IsOperand (place.Inside i) (tree.some_exp e))) (typed env (place.Inside i) e) (λ x. Ok (Some x)) (exp-named env i e) (λ x h. h)
+call-operand-named env i (tree.shift f e n l o) = then (IsWritten i e) (λ x. IfSome x (IsOperand (place.Inside i) (tree.some_exp e))) (typed env (place.Inside i) e) (λ x. Ok (Some x)) (exp-named env i e) (λ x h. h)
+call-operand-named env i e = tt
 
 -- ---- the aggregate
 in-groups : (p : Settings) (grouping : Option (List (List ℕ))) (xs : List Component) (f : AggregateName) (component : Option (List ℕ)) (kind : Kind) → is_none grouping ≡ false → Aggregates xs (agg_kind f) component kind → IsTypedIn p grouping xs (exp.aggregate (record { kind = agg_kind f; component = component }) kind)

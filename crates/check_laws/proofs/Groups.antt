@@ -1,43 +1,40 @@
 -- Aggregates and analytic calls.
-use Rattle.std.proofs.Common.{ℕ, Bool, true, false, cond, not, List, [], ◌∷◌, Option, Some, None, Err, refl}
+use Rattle.std.proofs.Common.{ℕ, Bool, true, false, cond, not, List, [], ◌∷◌, map, Option, Some, None, Err, refl}
 use Rattle.std.specs.Option.{IfSome}
 use Rattle.vtl_cell.specs.Settings.{Settings}
-use Rattle.check_faults.specs.Rules.{ruled, Tests}
+use Rattle.check_faults.specs.Rules.{ruled}
 use Rattle.check_faults.specs.declared.rules.Rule.TheVariants as rule
 use Rattle.vtl_syntax.specs.Trees.{Exp}
 use Rattle.vtl_syntax.specs.declared.parts.GroupPart.{GroupPart}
 use Rattle.vtl_syntax.specs.declared.word_groups.AggregateName.{AggregateName}
 use Rattle.vtl_tree.specs.CompExp.{CompExp}
-use Rattle.vtl_tree.specs.declared.structure.Component.{Component}
 use Rattle.vtl_meaning.specs.Trees as nodes
 use Rattle.vtl_meaning.specs.Trees.{NodeTree, ValueTree, structure_of}
 use Rattle.vtl_meaning.specs.calls.AnalyticOp.{AnalyticOp}
 use Rattle.vtl_meaning.specs.calls.AnalyticOp.TheVariants as analytic
 use Rattle.vtl_meaning.specs.calls.Window.{Window}
-use Rattle.vtl_meaning.specs.Measures.{measured_form}
-use Rattle.vtl_meaning.specs.choices.Choice.TheVariants as choice
-use Rattle.vtl_meaning.specs.measures.Outcome.TheVariants as outcome
+use Rattle.vtl_meaning.specs.Measures.{measured_form, measures}
 use Rattle.vtl_meaning.specs.Groupings.{grouping_choice, grouping_names}
 use Rattle.vtl_meaning.specs.Kinds.{exp_kind}
-use Rattle.vtl_check.specs.Places.{Env}
+use Rattle.vtl_check.specs.Places.{Env, columns_in}
 use Rattle.vtl_check.specs.Typed.{TypedTree, value, dataset, components_in}
 use Rattle.vtl_check.specs.places.Place.{Place}
 use Rattle.vtl_check.specs.places.Place.TheVariants as place
 use Rattle.vtl_check.specs.Aggregates.{aggregate_node, aggregate_tree, of_measure, outcome_of}
 use Rattle.vtl_check.specs.Windowed as windowed
-use Rattle.vtl_check.specs.Windowed.{argument, call_of, call_tree, is_misplaced, is_unfit_over, or_count, over_dataset, over_form, over_node, over_parts, over_structure, over_typed, rank_call, suits, target_form, target_typed}
+use Rattle.vtl_check.specs.Windowed.{argument, call_of, call_tree, is_unfit_over, or_count, over_dataset, over_form, over_node, over_parts, over_structure, over_typed, rank_call, suits, target_form, target_typed}
 use Rattle.vtl_check.specs.calls.Call.{Call}
-use Rattle.vtl_meaning.specs.Made.{IsGroupCondition, IsGrouped, IsMade}
+use Rattle.vtl_meaning.specs.Made.{IsGroupCondition, IsGrouped, IsMade, IsWindowed}
 use Rattle.vtl_meaning.specs.Reaches.{IsNear}
 use Rattle.vtl_meaning.specs.Shapes.{IsShaped}
 use Rattle.check_laws.specs.Gives.{Gives}
 use Rattle.check_laws.specs.WellTyped.{IsWellTyped}
 use Rattle.check_laws.proofs.Aggregated.{aggregate-fits}
+use Rattle.check_laws.proofs.Analyzed.{over-analyzed}
 use Rattle.check_laws.proofs.Inner.{made-shaped}
 use Rattle.check_laws.proofs.Operators.{IsMadeWith, made-gives}
 use Rattle.check_laws.proofs.Reaches.{AreNearParts, parts-near}
-use Rattle.check_laws.proofs.Sets.{shape-gives}
-use Rattle.check_laws.proofs.OtherForms.{measured-shaped}
+use Rattle.check_laws.proofs.WindowParts.{AreParts, HasNames, IsCallFor, parts-give}
 use Rattle.check_laws.proofs.Steps.{after, tested, then, weaker}
 
 -- ---- of a data set
@@ -49,29 +46,28 @@ aggregate-gives env at f g a having is condition =
     (aggregate-fits env.settings f g (structure_of a) (aggregate_tree f g a having) (made-shaped env.settings env.known a is) refl refl condition))
 
 -- ---- analytic calls
-abbrev tests : Call → Window → Tests
-tests call w = (rule.AnalyticMisuse, is_misplaced call.op) ∷ (rule.AnalyticMisuse, not (suits call.needed w)) ∷ []
+abbrev IsCallOn : Env → Exp → NodeTree → Call → Window → Type 0
+IsCallOn env e n x w = IsNear (or_count x.op) w × IsCallFor env.settings e (map (λ y. y.kind) (measures (components_in n))) x × HasNames (columns_in n) w
 
-over-structure : (e : Exp) (call : Call) (w : Window) (xs : List Component) → Gives IsShaped (over_structure e call w xs)
-unfolding over_structure
-over-structure e call w xs = then IsShaped IsShaped (measured_form outcome.All (windowed.of_measure e) true choice.Except [] xs) (λ s. ruled (tests call w) s) (measured-shaped outcome.All (windowed.of_measure e) true choice.Except [] xs) (λ s is. tested IsShaped (tests call w) s (λ passed. is))
-
-over-node : (env : Env) (at : Place) (e : Exp) (call : Call) (w : Window) (a : NodeTree) → IsNear (or_count call.op) w → IsMade env.settings env.known a → Gives (IsWellTyped env at) (over_node e call w a)
+over-node : (env : Env) (at : Place) (e : Exp) (x : Call) (w : Window) (a : NodeTree) → IsCallOn env e a x w → IsMade env.settings env.known a → Gives (IsWellTyped env at) (over_node e x w a)
 unfolding over_node
-over-node env at e call w a near is = shape-gives env at (nodes.analytic_of a (nodes.of_measures (or_count call.op) w)) (over_structure e call w (components_in a)) (over-structure e call w (components_in a)) (λ s shaped. (shaped, (is, near)))
+over-node env at e x w a on is =
+    made-gives env at (nodes.analytic_of a (nodes.of_measures (or_count x.op) w)) (over_structure e x w (components_in a))
+    (weaker (λ s. IsShaped s × IsWindowed env.settings (nodes.of_measures (or_count x.op) w) (structure_of a) s) (IsMadeWith env (nodes.analytic_of a (nodes.of_measures (or_count x.op) w))) (over_structure e x w (components_in a)) (λ s h. (h.0, (is, h.1, on.0)))
+    (over-analyzed env.settings e (structure_of a) x w (made-shaped env.settings env.known a is) on.1 on.2))
 
-over-dataset : (env : Env) (at : Place) (e : Exp) (n : NodeTree) (call : Call) (w : Window) → IsNear (or_count call.op) w → IsMade env.settings env.known n → Gives (IsWellTyped env at) (over_dataset at e n call w)
-over-dataset env place.Outside e n call w near is = over-node env place.Outside e call w n near is
-over-dataset env (place.Inside i) e n call w near is = after (IsWellTyped env (place.Inside i)) (windowed.given_structure e (components_in n)) (λ s. Err rule.DatasetOrValue) (λ s. tt)
+over-dataset : (env : Env) (at : Place) (e : Exp) (n : NodeTree) (x : Call) (w : Window) → IsCallOn env e n x w → IsMade env.settings env.known n → Gives (IsWellTyped env at) (over_dataset at e n x w)
+over-dataset env place.Outside e n x w on is = over-node env place.Outside e x w n on is
+over-dataset env (place.Inside i) e n x w on is = after (IsWellTyped env (place.Inside i)) (windowed.given_structure e (components_in n)) (λ s. Err rule.DatasetOrValue) (λ s. tt)
 
 pub over-gives : (env : Env) (at : Place) (e : Exp) (x : Option TypedTree) → IfSome x (IsWellTyped env at) → Gives (IsWellTyped env at) (over_typed env.settings at e x)
 unfolding over_typed
-over-gives env at e x h = then AreNearParts (IsWellTyped env at) (over_parts env.settings at e x) (λ parts. over_form at e x parts.0 parts.1) (parts-near env.settings at e x) (λ parts near. go x h parts.0 parts.1 near)
+over-gives env at e x h = then (AreParts env.settings at e x) (IsWellTyped env at) (over_parts env.settings at e x) (λ parts. over_form at e x parts.0 parts.1) (parts-give env.settings at e x) (λ parts are. go x h parts.0 parts.1 are)
   where
-    go : (x : Option TypedTree) → IfSome x (IsWellTyped env at) → (call : Call) (w : Window) → IsNear (or_count call.op) w → Gives (IsWellTyped env at) (over_form at e x call w)
-    go (Some (dataset n)) h call w near = over-dataset env at e n call w near h
-    go (Some (value v)) h call w near = tt
-    go None h call w near = tt
+    go : (x : Option TypedTree) → IfSome x (IsWellTyped env at) → (y : Call) (w : Window) → AreParts env.settings at e x (y, w) → Gives (IsWellTyped env at) (over_form at e x y w)
+    go (Some (dataset n)) h y w are = over-dataset env at e n y w are h
+    go (Some (value v)) h y w are = tt
+    go None h y w are = tt
 
 -- as a target of `calc`
 abbrev pub IsAnalytic : ValueTree → Type 0

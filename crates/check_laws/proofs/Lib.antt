@@ -3,7 +3,11 @@ pub use Rattle.vtl_check.proofs.LeftLemmas
 pub use Rattle.vtl_check.proofs.NameLemmas
 pub use Rattle.vtl_meaning.proofs.Agreements
 pub use Rattle.vtl_meaning.proofs.Drawn
+pub use Rattle.vtl_meaning.proofs.AnalyticOrders
+pub use Rattle.vtl_meaning.proofs.AnalyticPoints
 pub use Rattle.vtl_meaning.proofs.GroupKinds
+pub use Rattle.vtl_meaning.proofs.WindowPartitions
+pub use Rattle.vtl_meaning.proofs.WindowPlaces
 pub use Rattle.vtl_meaning.proofs.GroupLooks
 pub use Rattle.vtl_meaning.proofs.GroupOrders
 pub use Rattle.vtl_meaning.proofs.GroupPoints
@@ -27,6 +31,8 @@ pub use Rattle.vtl_meaning.proofs.ValueKinds as MeaningValueKinds
 pub mod Aggregated
 pub mod Alike
 pub mod Among
+pub mod Analyzed
+pub mod CalcCalls
 pub mod Calculated
 pub mod Chosen
 pub mod Clauses
@@ -66,3 +72,4 @@ pub mod Turned
 pub mod Twins
 pub mod ValueKinds
 pub mod Values
+pub mod WindowParts

@@ -27,7 +27,7 @@ use Rattle.vtl_meaning.specs.KindsLiterals.{integer_written, longest_reach}
 use Rattle.vtl_tree.specs.declared.structure.Component.{Component}
 use Rattle.vtl_meaning.specs.calls.Frame.{Frame}
 use Rattle.vtl_meaning.specs.calls.Window.{Window}
-use Rattle.vtl_meaning.specs.Windows.{bound_typed, frame_alone, frame_typed, or_none, order_typed, partition_typed, points_at, points_in, points_typed, window_typed}
+use Rattle.vtl_meaning.specs.TypedWindows.{bound_typed, frame_alone, frame_typed, or_none, order_typed, partition_typed, points_at, points_in, points_typed, window_typed}
 use Rattle.vtl_check.specs.Typed.{TypedTree}
 use Rattle.vtl_check.specs.places.Place.{Place}
 use Rattle.vtl_check.specs.places.Place.TheVariants as place

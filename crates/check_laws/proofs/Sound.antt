@@ -39,7 +39,7 @@ use Rattle.vtl_check.specs.places.Joined.{Joined}
 use Rattle.vtl_check.specs.places.Place.{Place}
 use Rattle.vtl_check.specs.places.Place.TheVariants as place
 use Rattle.vtl_check.specs.Aggregates.{aggregate_node, count_call, aggregate_value}
-use Rattle.vtl_check.specs.Windowed.{over_typed, target_typed}
+use Rattle.vtl_check.specs.Windowed.{operand_exp, over_typed, target_typed}
 use Rattle.vtl_check.specs.Clauses.{filter_form}
 use Rattle.vtl_check.specs.JoinOperands.{PartTyped, joined_node, joined_of, operands_in, with_part}
 use Rattle.vtl_check.specs.Targets.{aggr_clause, aggr_name, calc_clause, calc_name, item_names, with_item, with_made}
@@ -48,13 +48,16 @@ use Rattle.vtl_check.specs.Typing.{Having, aggrs_typed, as_dataset, behind, body
 use Rattle.vtl_meaning.specs.Literals.{are_literals}
 use Rattle.vtl_meaning.specs.Kinds.{exp_kind}
 use Rattle.vtl_meaning.specs.Made.{IsMade, IsTypedInGroups}
+use Rattle.vtl_meaning.specs.Shapes.{IsShaped}
 use Rattle.check_laws.specs.Gives.{ArePassed, Gives}
 use Rattle.check_laws.specs.WellTyped.{AreShaped, IsWellTyped}
 use Rattle.check_laws.proofs.Aggregated.{AreMadeTargets, grouping-is, target-more}
 use Rattle.check_laws.proofs.Clauses.{AreTargets, IsTargetValue, aggr-gives, calc-gives, filter-gives, item-more, keeping-gives, name-free, pivot-gives, renaming-gives, sub-gives, unpivot-gives}
-use Rattle.check_laws.proofs.GroupValues.{IsOperand, count-call-gives, operand-named, value-call-gives}
+use Rattle.check_laws.proofs.CalcCalls.{IsCallValue, target-over}
+use Rattle.check_laws.proofs.GroupValues.{IsOperand, call-operand-named, count-call-gives, operand-named, value-call-gives}
 use Rattle.check_laws.proofs.Groups.{IsAnalytic, aggregate-gives, over-gives, target-analytic}
 use Rattle.check_laws.proofs.Having.{IsCondition, having-at}
+use Rattle.check_laws.proofs.Inner.{made-shaped}
 use Rattle.check_laws.proofs.Joins.{AreJoinOperands, AreJoinParts, joined-gives, last-gives, operands-give, part-gives}
 use Rattle.check_laws.proofs.Lists as lists
 use Rattle.check_laws.proofs.LiteralOperands.{free-gives, functions-give}
@@ -133,32 +136,35 @@ end-gives env at j k rs n is =
     (λ z iz. tree-gives env at (last_step j z) (last-step env j z iz))
 
 -- the value of a target
-target-gives : (env : Env) (j : Option Joined) (n : NodeTree) (e : Exp) (plain : Result TypedTree Rule) (operand : Result (Option TypedTree) Rule) → Gives (IsWellTyped env (place.Inside (at_points j n))) plain → Gives (IsTargetValue env.settings (columns_in n)) (calc_value env.settings (place.Inside (at_points j n)) e plain operand)
-target-gives env j n e plain operand h = go e
+target-gives : (env : Env) (j : Option Joined) (n : NodeTree) (e : Exp) (plain : Result TypedTree Rule) (operand : Result (Option TypedTree) Rule) → Gives (IsWellTyped env (place.Inside (at_points j n))) plain → IsShaped (structure_of n) → Gives (λ x. IfSome x (IsOperand (place.Inside (at_points j n)) (operand_exp e))) operand → Gives (IsTargetValue env.settings n) (calc_value env.settings (place.Inside (at_points j n)) e plain operand)
+target-gives env j n e plain operand h shaped named = go e named
   where
     at : Place
     at = place.Inside (at_points j n)
 
-    scalar-gives : Gives (IsTargetValue env.settings (columns_in n)) (plain >>= scalar_value)
-    scalar-gives = then (IsWellTyped env at) (IsTargetValue env.settings (columns_in n)) plain scalar_value h one
+    scalar-gives : Gives (IsTargetValue env.settings n) (plain >>= scalar_value)
+    scalar-gives = then (IsWellTyped env at) (IsTargetValue env.settings n) plain scalar_value h one
       where
-        one : (x : TypedTree) → IsWellTyped env at x → Gives (IsTargetValue env.settings (columns_in n)) (scalar_value x)
-        one (value v) k = k
+        one : (x : TypedTree) → IsWellTyped env at x → Gives (IsTargetValue env.settings n) (scalar_value x)
+        one (value v) k = (k, tt)
         one (dataset m) k = tt
 
-    analytic-gives : (e : Exp) → Gives (IsTargetValue env.settings (columns_in n)) (operand >>= target_typed env.settings at e)
-    analytic-gives e = after (IsTargetValue env.settings (columns_in n)) operand (target_typed env.settings at e) (λ x. weaker IsAnalytic (IsTargetValue env.settings (columns_in n)) (target_typed env.settings at e x) one (target-analytic env.settings at e x))
+    analytic-gives : (e : Exp) → Gives (λ x. IfSome x (IsOperand at (operand_exp e))) operand → Gives (IsTargetValue env.settings n) (operand >>= target_typed env.settings at e)
+    analytic-gives e named =
+        then (λ x. IfSome x (IsOperand at (operand_exp e))) (IsTargetValue env.settings n) operand (target_typed env.settings at e) named
+        (λ x k. weaker (λ v. IsAnalytic v × IsCallValue env.settings (structure_of n) v) (IsTargetValue env.settings n) (target_typed env.settings at e x) one
+        (both IsAnalytic (IsCallValue env.settings (structure_of n)) (target_typed env.settings at e x) (target-analytic env.settings at e x) (target-over env.settings j n shaped e x k)))
       where
-        one : (v : ValueTree) → IsAnalytic v → IsTargetValue env.settings (columns_in n) v
-        one (nodes.scalar e) k = absurd k
-        one (nodes.analytic call) k = k
+        one : (v : ValueTree) → IsAnalytic v × IsCallValue env.settings (structure_of n) v → IsTargetValue env.settings n v
+        one (nodes.scalar e) k = absurd k.0
+        one (nodes.analytic x) k = (k.1, k.0)
 
-    go : (e : Exp) → Gives (IsTargetValue env.settings (columns_in n)) (calc_value env.settings at e plain operand)
-    go (tree.aggregate_over f x o) = analytic-gives (tree.aggregate_over f x o)
-    go (tree.value_window f x o) = analytic-gives (tree.value_window f x o)
-    go (tree.shift f x m l o) = analytic-gives (tree.shift f x m l o)
-    go (tree.rank o) = analytic-gives (tree.rank o)
-    go e = scalar-gives
+    go : (e : Exp) → Gives (λ x. IfSome x (IsOperand at (operand_exp e))) operand → Gives (IsTargetValue env.settings n) (calc_value env.settings at e plain operand)
+    go (tree.aggregate_over f x o) named = analytic-gives (tree.aggregate_over f x o) named
+    go (tree.value_window f x o) named = analytic-gives (tree.value_window f x o) named
+    go (tree.shift f x m l o) named = analytic-gives (tree.shift f x m l o) named
+    go (tree.rank o) named = analytic-gives (tree.rank o) named
+    go e named = scalar-gives
 
 mutual
   pub sound : (env : Env) → AreShaped env.known → (at : Place) (e : Exp) → Gives (IsWellTyped env at) (typed env at e)
@@ -224,7 +230,7 @@ mutual
   sound-clause env are n (tree.unpivot id m) is = unpivot-gives env id m n is
 
   sound-targets : (env : Env) → AreShaped env.known → (j : Option Joined) (n : NodeTree) (m : TargetsTree) → IsMade env.settings env.known n → Gives (IsMade env.settings env.known) (targets_typed env j n m)
-  sound-targets env are j n (tree.calc cs) is = then (AreTargets env.settings n) (IsMade env.settings env.known) (calcs_typed env (place.Inside (at_points j n)) n [] cs) (calc_clause n) (sound-calcs env are j n [] cs (record { each = tt; apart = refl })) (λ items h. calc-gives env n items is h)
+  sound-targets env are j n (tree.calc cs) is = then (AreTargets env.settings n) (IsMade env.settings env.known) (calcs_typed env (place.Inside (at_points j n)) n [] cs) (calc_clause n) (sound-calcs env are j n (made-shaped env.settings env.known n is) [] cs (record { each = tt; apart = refl })) (λ items h. calc-gives env n items is h)
   sound-targets env are j n (tree.aggr cs g h) is =
       then (AreMadeTargets (structure_of n)) (IsMade env.settings env.known) (aggrs_typed env (place.Inside (at_groups j n (grouping_of g (components_in n)))) [] cs) (λ made. grouping_typed (components_in n) g >>= λ names. having_typed env (place.Inside (at_groups j n names)) h >>= aggr_clause g n made)
       (sound-aggrs env are j n (grouping_of g (components_in n)) [] cs tt)
@@ -240,15 +246,15 @@ mutual
       (then (IsWellTyped env (place.Inside (at_groups j n names))) (AreMadeTargets (structure_of n)) (typed env (place.Inside (at_groups j n names)) e) (with_made r c e done) (sound env are (place.Inside (at_groups j n names)) e) (λ x h. target-gives-more env j n names r c e done x hd h))
       (λ made h. sound-aggrs env are j n names made cs h))
 
-  sound-calcs : (env : Env) → AreShaped env.known → (j : Option Joined) (n : NodeTree) (done : List ItemTree) (cs : Calcs) → AreTargets env.settings n done → Gives (AreTargets env.settings n) (calcs_typed env (place.Inside (at_points j n)) n done cs)
-  sound-calcs env are j n done tree.no_calcs hd = hd
-  sound-calcs env are j n done (tree.calc_part r c e cs) hd =
+  sound-calcs : (env : Env) → AreShaped env.known → (j : Option Joined) (n : NodeTree) → IsShaped (structure_of n) → (done : List ItemTree) (cs : Calcs) → AreTargets env.settings n done → Gives (AreTargets env.settings n) (calcs_typed env (place.Inside (at_points j n)) n done cs)
+  sound-calcs env are j n shaped done tree.no_calcs hd = hd
+  sound-calcs env are j n shaped done (tree.calc_part r c e cs) hd =
       then (λ u. ArePassed (target_tests (components_in n) (item_names done) (name_of c))) (AreTargets env.settings n) (calc_name n done c) (λ u. calc_value env.settings (place.Inside (at_points j n)) e (typed env (place.Inside (at_points j n)) e) (over_operand env (place.Inside (at_points j n)) e) >>= with_item r c done >>= λ items. calcs_typed env (place.Inside (at_points j n)) n items cs) (name-free n done c)
       (λ u passed. then (AreTargets env.settings n) (AreTargets env.settings n) (calc_value env.settings (place.Inside (at_points j n)) e (typed env (place.Inside (at_points j n)) e) (over_operand env (place.Inside (at_points j n)) e) >>= with_item r c done) (λ items. calcs_typed env (place.Inside (at_points j n)) n items cs)
-      (then (IsTargetValue env.settings (columns_in n)) (AreTargets env.settings n) (calc_value env.settings (place.Inside (at_points j n)) e (typed env (place.Inside (at_points j n)) e) (over_operand env (place.Inside (at_points j n)) e)) (with_item r c done)
-      (target-gives env j n e (typed env (place.Inside (at_points j n)) e) (over_operand env (place.Inside (at_points j n)) e) (sound env are (place.Inside (at_points j n)) e))
+      (then (IsTargetValue env.settings n) (AreTargets env.settings n) (calc_value env.settings (place.Inside (at_points j n)) e (typed env (place.Inside (at_points j n)) e) (over_operand env (place.Inside (at_points j n)) e)) (with_item r c done)
+      (target-gives env j n e (typed env (place.Inside (at_points j n)) e) (over_operand env (place.Inside (at_points j n)) e) (sound env are (place.Inside (at_points j n)) e) shaped (call-operand-named env (at_points j n) e))
       (λ v is. item-more env.settings n r c done v hd passed is))
-      (λ items h. sound-calcs env are j n items cs h))
+      (λ items h. sound-calcs env are j n shaped items cs h))
 
   sound-parts : (env : Env) → AreShaped env.known → (done : List PartTyped) (ps : Parts) → AreJoinParts env done → Gives (AreJoinParts env) (parts_typed env done ps)
   sound-parts env are done tree.no_parts hd = hd

@@ -20,6 +20,9 @@ pub use Rattle.vtl_check.specs.targets
 pub use Rattle.vtl_meaning.specs.AggregateKinds
 pub use Rattle.vtl_meaning.specs.AggregatePoints
 pub use Rattle.vtl_meaning.specs.AggregateShapes
+pub use Rattle.vtl_meaning.specs.AnalyticPoints
+pub use Rattle.vtl_meaning.specs.AnalyticShapes
+pub use Rattle.vtl_meaning.specs.Windows as PointWindows
 pub use Rattle.vtl_meaning.specs.Agreement
 pub use Rattle.vtl_meaning.specs.GroupExpressions
 pub use Rattle.vtl_meaning.specs.Groups
@@ -37,6 +40,7 @@ pub use Rattle.vtl_meaning.specs.Operators
 pub use Rattle.vtl_meaning.specs.Orders
 pub use Rattle.vtl_meaning.specs.Points
 pub use Rattle.vtl_meaning.specs.Profiles
+pub use Rattle.vtl_meaning.specs.Reaches
 pub use Rattle.vtl_meaning.specs.Sets
 pub use Rattle.vtl_meaning.specs.Shapes
 pub use Rattle.vtl_meaning.specs.Trees

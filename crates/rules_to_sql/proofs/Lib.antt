@@ -6,7 +6,11 @@ pub use Rattle.vtl_backend.proofs.DepthBounds
 pub use Rattle.vtl_backend.proofs.DepthScripts
 pub use Rattle.vtl_backend.proofs.Drawn
 pub use Rattle.vtl_backend.proofs.Inner
+pub use Rattle.vtl_backend.proofs.AnalyticOrders
+pub use Rattle.vtl_backend.proofs.AnalyticPoints
 pub use Rattle.vtl_backend.proofs.GroupKinds
+pub use Rattle.vtl_backend.proofs.WindowPartitions
+pub use Rattle.vtl_backend.proofs.WindowPlaces
 pub use Rattle.vtl_backend.proofs.GroupLooks
 pub use Rattle.vtl_backend.proofs.GroupOrders
 pub use Rattle.vtl_backend.proofs.GroupPoints

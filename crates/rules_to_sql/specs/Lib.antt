@@ -4,6 +4,7 @@ pub use Rattle.sql_check_parts.specs.Kinds
 pub use Rattle.sql_check_parts.specs.Queries
 pub use Rattle.sql_check_parts.specs.Scopes
 pub use Rattle.sql_check_parts.specs.Statements as TypingStatements
+pub use Rattle.sql_check_parts.specs.Windows as CheckedWindows
 pub use Rattle.sql_meaning.specs.Fits
 pub use Rattle.sql_meaning.specs.From
 pub use Rattle.sql_meaning.specs.Groups as MeantGroups
@@ -20,6 +21,9 @@ pub use Rattle.vtl_backend.specs.AggregateKinds
 pub use Rattle.vtl_backend.specs.AggregatePoints
 pub use Rattle.vtl_backend.specs.AggregateShapes
 pub use Rattle.vtl_backend.specs.Aggregates
+pub use Rattle.vtl_backend.specs.AnalyticPoints
+pub use Rattle.vtl_backend.specs.AnalyticShapes
+pub use Rattle.vtl_backend.specs.PointWindows
 pub use Rattle.vtl_backend.specs.Agreement
 pub use Rattle.vtl_backend.specs.CheckOperators
 pub use Rattle.vtl_backend.specs.CheckSets
@@ -47,6 +51,7 @@ pub use Rattle.vtl_backend.specs.Orders
 pub use Rattle.vtl_backend.specs.Places
 pub use Rattle.vtl_backend.specs.Points
 pub use Rattle.vtl_backend.specs.Profiles
+pub use Rattle.vtl_backend.specs.Reaches
 pub use Rattle.vtl_backend.specs.Runs
 pub use Rattle.vtl_backend.specs.Script
 pub use Rattle.vtl_backend.specs.Scripts as LawsScripts

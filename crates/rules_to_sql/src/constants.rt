@@ -54,8 +54,8 @@ fn truth_literal(b: bool) -> Literal
     if b { Literal::True } else { Literal::False }
 }
 
-/// A value as a literal of a set, in which null does not stand. It fails only if memory runs out.
-pub(crate) fn literal_to_sql(alloc: Global, cell: &Cell, p: &Profile) -> Result<Literal, AllocError>
+/// A value as a literal, which no null has. It fails only if memory runs out.
+pub fn literal_to_sql(alloc: Global, cell: &Cell, p: &Profile) -> Result<Literal, AllocError>
     ensures literal { IfOk result (λ x. x ≡ literal_to_sql p.now cell.now) }
     ensures held { IfOk result (λ x. IsHeld cell.now) }
 {

@@ -16,7 +16,7 @@ mod texts;
 mod translation;
 
 pub use aliases::Aliases;
-pub use constants::const_to_sql;
+pub use constants::{const_to_sql, literal_to_sql};
 pub use laws::{
     depths_grow_by_one, kinds_stay, translations_are_formed, translations_fit, values_stay,
 };

@@ -1,2 +1,6 @@
+pub mod Views
+pub mod Reaches
+pub mod Places
+pub mod FirstJoins
 pub mod Entries
 pub mod Pushed

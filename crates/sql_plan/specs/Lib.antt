@@ -1,1 +1,3 @@
 pub mod Chosen
+pub mod EarlyChosen
+pub mod Reach

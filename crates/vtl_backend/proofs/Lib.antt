@@ -5,7 +5,11 @@ pub use Rattle.check_laws.proofs.DepthBounds
 pub use Rattle.check_laws.proofs.DepthScripts
 pub use Rattle.check_laws.proofs.Drawn
 pub use Rattle.check_laws.proofs.Inner
+pub use Rattle.check_laws.proofs.AnalyticOrders
+pub use Rattle.check_laws.proofs.AnalyticPoints
 pub use Rattle.check_laws.proofs.GroupKinds
+pub use Rattle.check_laws.proofs.WindowPartitions
+pub use Rattle.check_laws.proofs.WindowPlaces
 pub use Rattle.check_laws.proofs.GroupLooks
 pub use Rattle.check_laws.proofs.GroupOrders
 pub use Rattle.check_laws.proofs.GroupPoints

@@ -2,6 +2,9 @@ pub use Rattle.check_laws.specs.AggregateKinds
 pub use Rattle.check_laws.specs.AggregatePoints
 pub use Rattle.check_laws.specs.AggregateShapes
 pub use Rattle.check_laws.specs.Aggregates
+pub use Rattle.check_laws.specs.AnalyticPoints
+pub use Rattle.check_laws.specs.AnalyticShapes
+pub use Rattle.check_laws.specs.PointWindows
 pub use Rattle.check_laws.specs.Agreement
 pub use Rattle.check_laws.specs.CheckOperators
 pub use Rattle.check_laws.specs.CheckSets
@@ -29,6 +32,7 @@ pub use Rattle.check_laws.specs.Orders
 pub use Rattle.check_laws.specs.Places
 pub use Rattle.check_laws.specs.Points
 pub use Rattle.check_laws.specs.Profiles
+pub use Rattle.check_laws.specs.Reaches
 pub use Rattle.check_laws.specs.Script
 pub use Rattle.check_laws.specs.Scripts
 pub use Rattle.check_laws.specs.Sets

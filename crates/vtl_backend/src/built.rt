@@ -39,7 +39,8 @@ fn is_node_built(node: &Node) -> bool
         | NodeForm::Sub { a, .. }
         | NodeForm::Pivot { a, .. }
         | NodeForm::Unpivot { a, .. }
-        | NodeForm::Aggregate { a, .. } => is_node_built(a),
+        | NodeForm::Aggregate { a, .. }
+        | NodeForm::Analytic { a, .. } => is_node_built(a),
         _ => false,
     }
 }

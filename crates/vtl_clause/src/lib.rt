@@ -3,7 +3,8 @@
 //!
 //! It decides which points a clause keeps and what their cells are made of. The values of expressions come from
 //! `vtl_expr`, and the structure of each result is passed in as typing found it.
-//! It knows no script, no statement, no file and no text format. What `vtl_group` needs of `vtl_expr` it passes on.
+//! It knows no script, no statement, no file and no text format. What the crates of data sets above
+//! need of `vtl_expr` it passes on.
 //! Begin with `filtering.rt`.
 #![tactic(auto)]
 
@@ -18,5 +19,5 @@ pub use renaming::rename;
 pub use subspace::sub;
 pub use vtl_expr::{
     AggItems, AggSpec, AggTarget, DataSet, Seen, choose, keep_columns, map_measures, new_table,
-    pair_measures, push_cells,
+    pair_measures, place_of, places_in, push_cells, table_columns,
 };

@@ -2,10 +2,10 @@
 ghost use Rattle.std.specs.Prelude.{◌≡◌, ◌<◌, true, ◌++◌, ◌∷◌, [], map, IfOk, OnOk};
 ghost use Rattle.vtl_rows.specs.Tables.{cells_at, fits};
 ghost use Rattle.vtl_tree.specs.Shown.{shown};
-ghost use Rattle.vtl_expr.specs.DataSets.{data_set};
-ghost use Rattle.vtl_expr.specs.TableOf.{IsTableOf};
-ghost use Rattle.vtl_expr.specs.Made.{IsPivoted};
-ghost use Rattle.vtl_expr.specs.Turned.{codes_of, other_identifiers, pivot_of};
+ghost use Rattle.vtl_clause.specs.DataSets.{data_set};
+ghost use Rattle.vtl_clause.specs.TableOf.{IsTableOf};
+ghost use Rattle.vtl_clause.specs.Made.{IsPivoted};
+ghost use Rattle.vtl_clause.specs.Turned.{codes_of, other_identifiers, pivot_of};
 ghost use Rattle.vtl_combine.specs.Pivots.{AreCoded, coded, pivoted};
 
 use crate::firsts::first_rows;
@@ -16,7 +16,7 @@ use std::marker::Brand;
 use std::slice;
 use std::sync::ledger::{Blank, Ledger};
 use vtl_cell::{Cell, Txt};
-use vtl_expr::{DataSet, new_table, place_of, places_in, push_cells};
+use vtl_clause::{DataSet, new_table, place_of, places_in, push_cells};
 use vtl_index::{Groups, Seeker, Steps};
 use vtl_rows::Table;
 use vtl_tree::{Component, Structure};

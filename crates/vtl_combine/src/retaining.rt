@@ -1,13 +1,13 @@
 // The points of an operand whose identifiers another operand has, or lacks.
 ghost use Rattle.std.specs.Prelude.{◌≡◌, ◌<◌, length, All, IfOk};
-ghost use Rattle.vtl_expr.specs.Sets.{is_retained};
+ghost use Rattle.vtl_clause.specs.Sets.{is_retained};
 ghost use Rattle.vtl_combine.specs.Operands.{retained, retained_by};
 
 use crate::rows::key_places;
 use std::alloc::{AllocError, Global};
 use std::marker::Brand;
 use std::sync::ledger::{Blank, Ledger};
-use vtl_expr::DataSet;
+use vtl_clause::DataSet;
 use vtl_index::{Seeker, Steps};
 use vtl_rows::Table;
 use vtl_syntax::Retain;

@@ -4,17 +4,17 @@ ghost use Rattle.std.specs.Option.{option_to_list};
 ghost use Rattle.std.specs.Prelude.{◌≡◌, ℕ, true, ◌++◌, ◌∷◌, [], List, map, IfOk, IfSome, OnOk};
 ghost use Rattle.vtl_rows.specs.Tables.{cells_at, fits};
 ghost use Rattle.vtl_tree.specs.Structure.{columns_of};
-ghost use Rattle.vtl_expr.specs.DataSets.{data_set};
-ghost use Rattle.vtl_expr.specs.TableOf.{IsTableOf};
-ghost use Rattle.vtl_expr.specs.Columns.{measures_of};
-ghost use Rattle.vtl_expr.specs.Made.{IsUnpivoted};
-ghost use Rattle.vtl_expr.specs.Turned.{unpivot_of};
+ghost use Rattle.vtl_clause.specs.DataSets.{data_set};
+ghost use Rattle.vtl_clause.specs.TableOf.{IsTableOf};
+ghost use Rattle.vtl_clause.specs.Columns.{measures_of};
+ghost use Rattle.vtl_clause.specs.Made.{IsUnpivoted};
+ghost use Rattle.vtl_clause.specs.Turned.{unpivot_of};
 ghost use Rattle.vtl_combine.specs.Unpivots.{measure_by, measure_in, named_row, unpivoted};
 
 use crate::rows::own_key;
 use std::alloc::{AllocError, Global};
 use vtl_cell::{Cell, Txt, clone_cell};
-use vtl_expr::{DataSet, new_table, place_of, push_cells};
+use vtl_clause::{DataSet, new_table, place_of, push_cells};
 use vtl_rows::Table;
 use vtl_tree::{Role, Structure, is_same_role};
 

@@ -1,3 +1,4 @@
+pub use Rattle.vtl_meaning.proofs.AnalyticPoints
 pub use Rattle.vtl_meaning.proofs.GroupKinds
 pub use Rattle.vtl_meaning.proofs.GroupPoints
 pub use Rattle.vtl_meaning.proofs.JoinKept

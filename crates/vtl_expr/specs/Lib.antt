@@ -1,6 +1,8 @@
 pub use Rattle.vtl_meaning.specs.AggregatePoints
 pub use Rattle.vtl_meaning.specs.AggregateShapes
 pub use Rattle.vtl_meaning.specs.Agreement
+pub use Rattle.vtl_meaning.specs.AnalyticPoints
+pub use Rattle.vtl_meaning.specs.AnalyticShapes
 pub use Rattle.vtl_meaning.specs.Columns
 pub use Rattle.vtl_meaning.specs.GroupExpressions
 pub use Rattle.vtl_meaning.specs.Groups
@@ -15,6 +17,8 @@ pub use Rattle.vtl_meaning.specs.Sets
 pub use Rattle.vtl_meaning.specs.Trees
 pub use Rattle.vtl_meaning.specs.Turned
 pub use Rattle.vtl_meaning.specs.View
+pub use Rattle.vtl_meaning.specs.Windows as PointWindows
+pub use Rattle.vtl_meaning.specs.calls
 pub use Rattle.vtl_meaning.specs.clauses
 pub use Rattle.vtl_meaning.specs.specifications
 pub use Rattle.vtl_sets.specs.DataSets

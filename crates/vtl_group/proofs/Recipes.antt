@@ -14,13 +14,13 @@ use Rattle.vtl_tree.specs.CompExp.{CompExp}
 use Rattle.vtl_tree.specs.Structure.{same_name}
 use Rattle.vtl_tree.specs.declared.expression.AggCall.{AggCall}
 use Rattle.vtl_tree.specs.declared.structure.Component.{Component}
-use Rattle.vtl_clause.specs.Trees.{AggTree}
-use Rattle.vtl_clause.specs.specifications.AggItems.{AggItems}
-use Rattle.vtl_clause.specs.Columns.{place_of}
-use Rattle.vtl_clause.specs.TableOf.{column_for}
-use Rattle.vtl_clause.specs.AggregatePoints.{call_for, cell_or_null, condition_fault, condition_of, group_fault, group_point, is_kept, made_of, made_value}
-use Rattle.vtl_clause.specs.GroupExpressions.{aggregated, grouped_cell, value_at_group, value_over}
-use Rattle.vtl_clause.specs.Groups.{keys_by, places_named, points_with}
+use Rattle.vtl_combine.specs.Trees.{AggTree}
+use Rattle.vtl_combine.specs.specifications.AggItems.{AggItems}
+use Rattle.vtl_combine.specs.Columns.{place_of}
+use Rattle.vtl_combine.specs.TableOf.{column_for}
+use Rattle.vtl_combine.specs.AggregatePoints.{call_for, cell_or_null, condition_fault, condition_of, group_fault, group_point, is_kept, made_of, made_value}
+use Rattle.vtl_combine.specs.GroupExpressions.{aggregated, grouped_cell, value_at_group, value_over}
+use Rattle.vtl_combine.specs.Groups.{keys_by, places_named, points_with}
 use Rattle.vtl_group.specs.Calls.{call_value, column_place, placed, placed_call, placed_for}
 use Rattle.vtl_group.specs.declared.calls.Call.{Call}
 use Rattle.vtl_group.specs.declared.calls.Call.TheVariants as call

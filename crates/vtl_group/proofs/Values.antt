@@ -12,7 +12,7 @@ use Rattle.vtl_cell.specs.declared.operator.ScalarOp.TheVariants as op
 use Rattle.vtl_tree.specs.Value.{called, is_choice}
 use Rattle.vtl_tree.specs.View.{comp_exp_of, comp_exps_of}
 use Rattle.vtl_tree.specs.declared.expression.CompExpr.{CompExpr}
-use Rattle.vtl_clause.proofs.Values.{after_value, no_choice}
+use Rattle.vtl_combine.proofs.Values.{after_value, no_choice}
 use Rattle.vtl_group.specs.Points.{Group, value_in, values_in}
 
 -- ---- calls that are a choice, and calls that are none

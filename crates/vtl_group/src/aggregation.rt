@@ -1,12 +1,12 @@
 // Aggregates of data sets.
 ghost use Rattle.std.specs.Prelude.{◌≡◌, IfOk, map};
-ghost use Rattle.vtl_clause.specs.AggregatePoints.{aggregate_of};
-ghost use Rattle.vtl_clause.specs.AggregateShapes.{IsAggregated};
-ghost use Rattle.vtl_clause.specs.Columns.{others_of};
-ghost use Rattle.vtl_clause.specs.DataSets.{with_structure};
-ghost use Rattle.vtl_clause.specs.TableOf.{IsTableOf};
+ghost use Rattle.vtl_combine.specs.AggregatePoints.{aggregate_of};
+ghost use Rattle.vtl_combine.specs.AggregateShapes.{IsAggregated};
+ghost use Rattle.vtl_combine.specs.Columns.{others_of};
+ghost use Rattle.vtl_combine.specs.DataSets.{with_structure};
+ghost use Rattle.vtl_combine.specs.TableOf.{IsTableOf};
 ghost use Rattle.vtl_group.specs.Calls.{column_place, placed_for};
-ghost use Rattle.vtl_clause.specs.View.{agg_tree};
+ghost use Rattle.vtl_combine.specs.View.{agg_tree};
 ghost use Rattle.vtl_scalar.specs.Answers.{Answers, AnswersBy};
 ghost use Rattle.vtl_tree.specs.Shown.{shown};
 
@@ -14,7 +14,7 @@ use crate::calls::{Call, call_for, column_place};
 use crate::points::{Points, Recipe};
 use std::alloc::{AllocError, Global};
 use vtl_cell::{Profile, Txt};
-use vtl_clause::{AggItems, AggSpec, DataSet};
+use vtl_combine::{AggItems, AggSpec, DataSet};
 use vtl_index::Groups;
 use vtl_rows::{Column, Table};
 use vtl_scalar::ScalarErr;

@@ -20,6 +20,7 @@ use Rattle.vtl_backend.specs.Joined.{join_of}
 use Rattle.vtl_backend.specs.Made.{AreMadeStatements}
 use Rattle.vtl_backend.specs.Meaning.{Statement, data_set_of, form_value, kept_output, meaning, node_value, nodes_value, operands_value, stated, with_first, with_operand}
 use Rattle.vtl_backend.specs.AggregatePoints.{aggregate_of}
+use Rattle.vtl_backend.specs.AnalyticPoints.{analytic_of}
 use Rattle.vtl_backend.specs.Operators.{calculated_of, choice_of, left_of, measured_of, pair_of, sub_of}
 use Rattle.vtl_backend.specs.Sets.{difference_of, existence_of, intersection_of, symmetric_difference_of, union_of}
 use Rattle.vtl_backend.specs.Turned.{pivot_of, unpivot_of}
@@ -96,6 +97,7 @@ mutual
   form_same p e f s (nodes.pivot a id m) h = ap (λ r. with_operand a r (λ d. Ok (pivot_of d id m))) (node_same p e f a h)
   form_same p e f s (nodes.unpivot a id m) h = ap (λ r. with_operand a r (λ d. Ok (unpivot_of d))) (node_same p e f a h)
   form_same p e f s (nodes.aggregate a spec) h = ap (λ r. with_operand a r (λ d. aggregate_of p spec d s)) (node_same p e f a h)
+  form_same p e f s (nodes.analytic_of a spec) h = ap (λ r. with_operand a r (λ d. analytic_of p spec d s)) (node_same p e f a h)
   form_same p e f s (nodes.join os spec) h = ap (λ r. after r (λ ds. Ok (join_of spec.kind ds))) (operands_same p e f os h)
   form_same p e f s (nodes.union ns) h = ap (λ r. after r (λ ds. Ok (union_of ds s))) (nodes_same p e f ns h)
   form_same p e f s (nodes.intersect ns) h = ap (λ r. after r (λ ds. Ok (intersection_of ds s))) (nodes_same p e f ns h)

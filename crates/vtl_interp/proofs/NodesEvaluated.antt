@@ -16,7 +16,7 @@ use Rattle.vtl_tree.specs.Structure.{same_name}
 use Rattle.vtl_tree.specs.declared.structure.Structure.{Structure}
 use Rattle.vtl_nodes.specs.Trees as nodes
 use Rattle.vtl_nodes.specs.Trees.{FormTree, NodeTree, nodes_of, operands_of, structure_of}
-use Rattle.vtl_nodes.specs.View.{agg_tree, form_tree, item_tree, measure_tree, node_tree, operand_tree}
+use Rattle.vtl_nodes.specs.View.{agg_tree, analytic_tree, form_tree, item_tree, measure_tree, node_tree, operand_tree}
 use Rattle.vtl_nodes.specs.declared.clauses.CalcItem.{CalcItem}
 use Rattle.vtl_nodes.specs.declared.clauses.SubItem.{SubItem}
 use Rattle.vtl_nodes.specs.declared.nodes.JoinOperand.{JoinOperand}
@@ -27,12 +27,13 @@ use Rattle.vtl_nodes.specs.declared.nodes.NodeForm.{NodeForm}
 use Rattle.vtl_nodes.specs.declared.nodes.NodeForm.TheVariants as form
 use Rattle.vtl_nodes.specs.declared.nodes.NodeForm as forms
 use Rattle.vtl_nodes.specs.declared.specifications.AggSpec.{AggSpec}
+use Rattle.vtl_nodes.specs.declared.specifications.AnalyticSpec.{AnalyticSpec}
 use Rattle.vtl_nodes.specs.declared.specifications.JoinSpec.{JoinSpec}
 use Rattle.vtl_syntax.specs.declared.word_groups.Retain.{Retain}
 use Rattle.vtl_backend.specs.AggregateShapes.{IsAggregated}
 use Rattle.vtl_backend.specs.DataSets.{with_structure}
 use Rattle.vtl_backend.specs.Joined.{structures_of}
-use Rattle.vtl_backend.specs.Made.{AreCombined, IsChoice, IsJoined, IsMade, IsMadeForm, IsMeasured, node_structures}
+use Rattle.vtl_backend.specs.Made.{AreCombined, IsChoice, IsJoined, IsMade, IsMadeForm, IsMeasured, IsWindowed, node_structures}
 use Rattle.vtl_backend.specs.Meaning.{form_value, known_in, node_value, nodes_value, operands_value, with_operand}
 use Rattle.vtl_interp.specs.Evaluated.{Evaluates, Gives, GivesOne, GivesTwo}
 use Rattle.vtl_interp.proofs.Environments.{data_looked, known_looked}
@@ -78,6 +79,9 @@ form_tree-Unpivot a id m = search (rules, forms.the_lemmas)
 pub form_tree-Aggregate : (a : Box Node Global) (spec : AggSpec) → form_tree (form.Aggregate a spec) ≡ nodes.aggregate (node_tree a.value) (agg_tree spec)
 form_tree-Aggregate a spec = search (rules, forms.the_lemmas)
 
+pub form_tree-Analytic : (a : Box Node Global) (spec : AnalyticSpec) → form_tree (form.Analytic a spec) ≡ nodes.analytic_of (node_tree a.value) (analytic_tree spec)
+form_tree-Analytic a spec = search (rules, forms.the_lemmas)
+
 pub form_tree-Join : (os : Vec JoinOperand Global) (spec : JoinSpec) → form_tree (form.Join os spec) ≡ nodes.join (operands_of (map operand_tree os.items)) spec
 form_tree-Join os spec = search (rules, forms.the_lemmas)
 
@@ -109,6 +113,11 @@ pub aggregate_fits : (p : Settings) (env : Environment) (n : Node) (a : Box Node
 aggregate_fits p env n a spec d e made g =
     subst (λ (s : Structure). IsAggregated (agg_tree spec) s n.structure) (sym g.structure)
     (subst (IsMade p (known_in env)) (tree_with n (form.Aggregate a spec) (nodes.aggregate (node_tree a.value) (agg_tree spec)) e (form_tree-Aggregate a spec)) made).1.1.aggregated
+
+pub analytic_fits : (p : Settings) (env : Environment) (n : Node) (a : Box Node Global) (spec : AnalyticSpec) (d : DataSet) → n.form ≡ form.Analytic a spec → IsMade p (known_in env) (node_tree n) → Gives p env (node_tree a.value) d → IsWindowed p (analytic_tree spec) d.structure n.structure
+analytic_fits p env n a spec d e made g =
+    subst (λ (s : Structure). IsWindowed p (analytic_tree spec) s n.structure) (sym g.structure)
+    (subst (IsMade p (known_in env)) (tree_with n (form.Analytic a spec) (nodes.analytic_of (node_tree a.value) (analytic_tree spec)) e (form_tree-Analytic a spec)) made).1.1
 
 pub choose_fits : (p : Settings) (env : Environment) (n : Node) (c a b : Box Node Global) (t d o : DataSet) → n.form ≡ form.Choose c a b → IsMade p (known_in env) (node_tree n) → Gives p env (node_tree c.value) t → Gives p env (node_tree a.value) d → Gives p env (node_tree b.value) o → IsChoice t.structure d.structure o.structure n.structure
 choose_fits p env n c a b t d o e made gt gd go =

@@ -34,6 +34,7 @@ GivesOne p env (nodes.sub a items) d = Gives p env a d
 GivesOne p env (nodes.pivot a id m) d = Gives p env a d
 GivesOne p env (nodes.unpivot a id m) d = Gives p env a d
 GivesOne p env (nodes.aggregate a spec) d = Gives p env a d
+GivesOne p env (nodes.analytic_of a spec) d = Gives p env a d
 GivesOne p env other d = ⊥
 
 abbrev pub GivesTwo : Settings → Environment → FormTree → (d e : DataSet) → Type 0

@@ -8,7 +8,7 @@ ghost use Rattle.vtl_interp.specs.Evaluated.{Evaluates, GivesOne, GivesTwo};
 ghost use Rattle.vtl_interp.specs.Values.{value_view};
 
 use crate::combinations::{exists_in, pivot, set_diff, sym_diff, unpivot};
-use crate::operators::{aggregate, calc, columns, filter, measures, pair, rename, sub};
+use crate::operators::{aggregate, analytic, calc, columns, filter, measures, pair, rename, sub};
 use crate::value::Value;
 use std::alloc::Global;
 use vtl_cell::Profile;
@@ -39,6 +39,7 @@ pub fn apply_to_one<'a>(
         NodeForm::Pivot { id, m, .. } => pivot(alloc, a, id, m, made),
         NodeForm::Unpivot { .. } => unpivot(alloc, a, made),
         NodeForm::Aggregate { spec, .. } => aggregate(alloc, a, spec, made, p),
+        NodeForm::Analytic { spec, .. } => analytic(alloc, a, spec, made, p),
         _ => unreachable!(),
     }
 }

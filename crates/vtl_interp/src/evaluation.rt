@@ -46,7 +46,8 @@ pub fn evaluate<'a>(
         | NodeForm::Sub { a, .. }
         | NodeForm::Pivot { a, .. }
         | NodeForm::Unpivot { a, .. }
-        | NodeForm::Aggregate { a, .. } => {
+        | NodeForm::Aggregate { a, .. }
+        | NodeForm::Analytic { a, .. } => {
             apply_to_one(alloc, node, evaluate(alloc, known, a, p)?, p)
         }
         NodeForm::Pair { a, b, .. }

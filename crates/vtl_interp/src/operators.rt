@@ -3,18 +3,19 @@ ghost use Rattle.std.specs.Prelude.{Ok, map};
 ghost use Rattle.vtl_scalar.specs.Answers.{AnswersBy};
 ghost use Rattle.vtl_tree.specs.Clauses.{filter_of};
 ghost use Rattle.vtl_tree.specs.View.{comp_exp_of};
-ghost use Rattle.vtl_nodes.specs.View.{agg_tree, item_tree, measure_tree};
+ghost use Rattle.vtl_nodes.specs.View.{agg_tree, analytic_tree, item_tree, measure_tree};
 ghost use Rattle.vtl_backend.specs.AggregatePoints.{aggregate_of};
 ghost use Rattle.vtl_backend.specs.AggregateShapes.{IsAggregated};
+ghost use Rattle.vtl_backend.specs.AnalyticPoints.{analytic_of};
 ghost use Rattle.vtl_backend.specs.DataSets.{data_set, with_structure};
-ghost use Rattle.vtl_backend.specs.Made.{IsCalculated, IsChoice, IsFiltered, IsLeft, IsMeasured, IsPaired, IsRenamed, IsSub};
+ghost use Rattle.vtl_backend.specs.Made.{IsCalculated, IsChoice, IsFiltered, IsLeft, IsMeasured, IsPaired, IsRenamed, IsSub, IsWindowed};
 ghost use Rattle.vtl_backend.specs.Operators.{calculated_of, choice_of, left_of, measured_of, pair_of, sub_of};
 ghost use Rattle.vtl_interp.specs.Values.{value_view};
 
 use crate::value::Value;
 use std::alloc::Global;
 use vtl_cell::{Profile, ScalarOp};
-use vtl_nodes::{AggSpec, CalcItem, MeasureOp, SubItem};
+use vtl_nodes::{AggSpec, AnalyticSpec, CalcItem, MeasureOp, SubItem};
 use vtl_scalar::ScalarErr;
 use vtl_tree::{CompExpr, Structure, share_structure};
 
@@ -139,4 +140,19 @@ pub fn aggregate<'a>(
 {
     let made = share_structure(alloc, made)?;
     Ok(Value::Made(vtl_group::aggregate(alloc, a.data(), spec, made, p)?))
+}
+
+/// An analytic operator on each measure, and `calc` with an analytic call
+pub fn analytic<'a>(
+    alloc: Global,
+    a: Value<'a>,
+    spec: &AnalyticSpec,
+    made: &Structure,
+    p: &Profile,
+) -> Result<Value<'a>, ScalarErr>
+    requires { IsWindowed p.now (analytic_tree spec.now) (value_view a).structure made.now }
+    ensures { AnswersBy value_view result (with_structure made.now (analytic_of p.now (analytic_tree spec.now) (value_view a.entry) made.now)) }
+{
+    let made = share_structure(alloc, made)?;
+    Ok(Value::Made(vtl_window::analytic(alloc, a.data(), spec, made, p)?))
 }

@@ -38,4 +38,5 @@ form_shape p known s t (nodes.set_diff a c) b h k = same_shape s t _ h.2.shape k
 form_shape p known s t (nodes.sym_diff a c) b h k = same_shape s t _ h.2.shape k.2.shape
 form_shape p known s t (nodes.exists_in a c r) b h k = same_shape s t _ h.2.shape k.2.shape
 form_shape p known s t (nodes.aggregate a spec) b h k = same_shape s t _ h.1.aggregated.shape k.1.aggregated.shape
+form_shape p known s t (nodes.analytic_of a spec) b h k = same_shape s t _ h.1.analyzed.shape k.1.analyzed.shape
 form_shape p known s t form b h k = cc

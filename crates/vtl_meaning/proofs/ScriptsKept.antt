@@ -16,8 +16,10 @@ use Rattle.vtl_tree.specs.declared.structure.Structure.{Structure}
 use Rattle.vtl_nodes.specs.Trees as nodes
 use Rattle.vtl_nodes.specs.Trees.{FormTree, NodeTree, NodeTrees, OperandTrees, structure_of}
 use Rattle.check_joins.specs.Joins as joins
-use Rattle.vtl_aggregates.specs.Aggregates.{aggregate_of}
-use Rattle.vtl_aggregates.proofs.GroupPoints.{result_is}
+use Rattle.vtl_windows.specs.AggregatePoints.{aggregate_of}
+use Rattle.vtl_windows.specs.Analytics.{analytic_of}
+use Rattle.vtl_windows.proofs.AnalyticPoints.{result_is as analytic_is}
+use Rattle.vtl_windows.proofs.GroupPoints.{result_is}
 use Rattle.vtl_meaning.specs.Joined.{join_of, structures_of}
 use Rattle.vtl_meaning.specs.Made.{AreCombined, AreMade, AreMadeOperands, AreMadeStatements, IsJoined, IsLeft, IsMade, IsMadeForm, node_structures, operands_in}
 use Rattle.vtl_meaning.specs.Meaning.{AreDataSets, Outputs, Statement, are_nodes_built, are_operands_built, form_value, is_built, is_built_form, known_in, meaning, node_value, nodes_value, operands_value, points_named, stated, with_first, with_operand, with_output}
@@ -127,6 +129,10 @@ mutual
       let x = operand_ok a (node_value p env a) (λ d. aggregate_of p spec d s) out e in
       let d = with_points (structure_of a) x.0 in
       subst (λ m. IfOk m (IsDataSet s)) x.2 (result_is p spec d s i.1.aggregated (node_kept p env a x.0 b i.0 h x.1))
+  form_kept p env s (nodes.analytic_of a spec) out b i h e =
+      let x = operand_ok a (node_value p env a) (λ d. analytic_of p spec d s) out e in
+      let d = with_points (structure_of a) x.0 in
+      subst (λ m. IfOk m (IsDataSet s)) x.2 (analytic_is p spec d s i.1.analyzed (node_kept p env a x.0 b i.0 h x.1))
   form_kept p env s (nodes.join os spec) out b i h e =
       let x = after_ok (operands_value p env os) (λ ds. Ok (join_of spec.kind ds)) out e in
       let sets = operands_kept p env os x.0 b i.0 h x.1 in

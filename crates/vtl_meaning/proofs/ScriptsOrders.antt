@@ -14,8 +14,10 @@ use Rattle.vtl_tree.specs.Structure.{columns_of, same_name}
 use Rattle.vtl_tree.specs.declared.structure.Structure.{Structure}
 use Rattle.vtl_nodes.specs.Trees as nodes
 use Rattle.vtl_nodes.specs.Trees.{FormTree, NodeTree, NodeTrees, OperandTrees, structure_of}
-use Rattle.vtl_aggregates.specs.Aggregates.{aggregate_of}
-use Rattle.vtl_aggregates.proofs.GroupOrders.{aggregates_respect}
+use Rattle.vtl_windows.specs.AggregatePoints.{aggregate_of}
+use Rattle.vtl_windows.specs.Analytics.{analytic_of}
+use Rattle.vtl_windows.proofs.AnalyticOrders.{analytics_respect}
+use Rattle.vtl_windows.proofs.GroupOrders.{aggregates_respect}
 use Rattle.vtl_meaning.specs.Joined.{join_of}
 use Rattle.vtl_meaning.specs.Made.{AreCombined, AreMade, AreMadeOperands, AreMadeStatements, IsJoined, IsMade, IsMadeForm}
 use Rattle.vtl_meaning.specs.Meaning.{AreDataSets, Outputs, Statement, are_nodes_built, are_operands_built, form_value, is_built, is_built_form, known_in, meaning, node_value, nodes_value, operands_value, points_named, stated, with_first, with_operand, with_output}
@@ -127,6 +129,9 @@ module _ (p : Settings) (env other : Environment) (h : AreDataSets env) (same : 
     form_respects s (nodes.aggregate a spec) b i =
         same_operand a (node_value p env a) (node_value p other a) (λ d. aggregate_of p spec d s) (λ d. aggregate_of p spec d s) (node_respects a b i.0)
         (λ d e is q. aggregates_respect p spec (with_points (structure_of a) d) (with_points (structure_of a) e) s refl q)
+    form_respects s (nodes.analytic_of a spec) b i =
+        same_operand a (node_value p env a) (node_value p other a) (λ d. analytic_of p spec d s) (λ d. analytic_of p spec d s) (node_respects a b i.0)
+        (λ d e is q. analytics_respect p spec (with_points (structure_of a) d) (with_points (structure_of a) e) s refl q)
     form_respects s (nodes.pivot a id m) b i =
         same_operand a (node_value p env a) (node_value p other a) (λ d. Ok (pivot_of d id m)) (λ d. Ok (pivot_of d id m)) (node_respects a b i.0)
         (λ d e is q. pivot_order (structure_of a) id d (node_kept p env a d b i.0 h is) e q m)

@@ -15,9 +15,11 @@ use Rattle.vtl_tree.specs.Structure.{columns_of, same_name}
 use Rattle.vtl_tree.specs.declared.structure.Structure.{Structure}
 use Rattle.vtl_nodes.specs.Trees as nodes
 use Rattle.vtl_nodes.specs.Trees.{FormTree, NodeTree, NodeTrees, OperandTrees, structure_of}
-use Rattle.check_values.specs.ShapesColumns.{places_in}
-use Rattle.vtl_aggregates.specs.Aggregates.{aggregate_of}
-use Rattle.vtl_aggregates.proofs.GroupPoints.{result_is_proper}
+use Rattle.vtl_windows.specs.Columns.{places_in}
+use Rattle.vtl_windows.specs.AggregatePoints.{aggregate_of}
+use Rattle.vtl_windows.specs.Analytics.{analytic_of}
+use Rattle.vtl_windows.proofs.AnalyticPoints.{result_is_proper as analytic_is_proper}
+use Rattle.vtl_windows.proofs.GroupPoints.{result_is_proper}
 use Rattle.vtl_meaning.specs.Joined.{join_of}
 use Rattle.vtl_meaning.specs.Made.{AreMade, AreMadeOperands, AreMadeStatements, IsMade, IsMadeForm}
 use Rattle.vtl_meaning.specs.Meaning.{Outputs, Statement, form_value, known_in, meaning, node_value, nodes_value, operands_value, points_named, stated, with_first, with_operand, with_output}
@@ -113,6 +115,9 @@ module _ (p : Settings) (env : Environment) (h : AllAreOfProfile p env) where
     form_gives s (nodes.aggregate a spec) i =
         onward (node_value p env a) (λ points. aggregate_of p spec (with_points (structure_of a) points) s) (node_gives a i.0)
         (λ points k. result_is_proper p spec (with_points (structure_of a) points) s k)
+    form_gives s (nodes.analytic_of a spec) i =
+        onward (node_value p env a) (λ points. analytic_of p spec (with_points (structure_of a) points) s) (node_gives a i.0)
+        (λ points k. analytic_is_proper p spec (with_points (structure_of a) points) s i.1.analyzed k)
     form_gives s (nodes.join os spec) i = onward_all (operands_value p env os) (join_of spec.kind) (operands_give os i.0) (λ ds k. join_profile p spec.kind ds k)
     form_gives s (nodes.union ns) i = onward_all (nodes_value p env ns) (λ ds. union_of ds s) (nodes_give ns i.0) (λ ds k. union_profile p ds s k)
     form_gives s (nodes.intersect ns) i = onward_all (nodes_value p env ns) (λ ds. intersection_of ds s) (nodes_give ns i.0) (λ ds k. intersection_profile p ds s k)

@@ -1,33 +1,6 @@
 pub use Rattle.check_joins.specs.Joins
 pub use Rattle.check_joins.specs.Shape
 pub use Rattle.check_joins.specs.declared.joins
-pub use Rattle.check_values.specs.Calls
-pub use Rattle.check_values.specs.Choices
-pub use Rattle.check_values.specs.Clauses
-pub use Rattle.check_values.specs.Columns as ValuesColumns
-pub use Rattle.check_values.specs.Groupings
-pub use Rattle.check_values.specs.Kinds
-pub use Rattle.check_values.specs.KindsLiterals
-pub use Rattle.check_values.specs.KindsOperators
-pub use Rattle.check_values.specs.Literals as ValuesLiterals
-pub use Rattle.check_values.specs.Measures
-pub use Rattle.check_values.specs.Names
-pub use Rattle.check_values.specs.Operands
-pub use Rattle.check_values.specs.Operators as ValuesOperators
-pub use Rattle.check_values.specs.Pairs
-pub use Rattle.check_values.specs.ShapesColumns as Columns
-pub use Rattle.check_values.specs.Windows
-pub use Rattle.check_values.specs.choices
-pub use Rattle.check_values.specs.measures
-pub use Rattle.check_values.specs.names
-pub use Rattle.check_values.specs.operands
-pub use Rattle.check_values.specs.renaming
-pub use Rattle.check_values.specs.targets
-pub use Rattle.vtl_aggregates.specs.AggregateKinds
-pub use Rattle.vtl_aggregates.specs.Aggregates as AggregatePoints
-pub use Rattle.vtl_aggregates.specs.Expressions as GroupExpressions
-pub use Rattle.vtl_aggregates.specs.Groups
-pub use Rattle.vtl_aggregates.specs.Shapes as AggregateShapes
 pub use Rattle.vtl_nodes.specs.Nodes
 pub use Rattle.vtl_nodes.specs.Trees
 pub use Rattle.vtl_nodes.specs.View
@@ -35,6 +8,36 @@ pub use Rattle.vtl_nodes.specs.declared.calls
 pub use Rattle.vtl_nodes.specs.declared.clauses
 pub use Rattle.vtl_nodes.specs.declared.nodes
 pub use Rattle.vtl_nodes.specs.declared.specifications
+pub use Rattle.vtl_windows.specs.AggregateKinds
+pub use Rattle.vtl_windows.specs.AggregatePoints
+pub use Rattle.vtl_windows.specs.AggregateShapes
+pub use Rattle.vtl_windows.specs.Analytics as AnalyticPoints
+pub use Rattle.vtl_windows.specs.Calls
+pub use Rattle.vtl_windows.specs.Choices
+pub use Rattle.vtl_windows.specs.Clauses
+pub use Rattle.vtl_windows.specs.Columns
+pub use Rattle.vtl_windows.specs.GroupExpressions
+pub use Rattle.vtl_windows.specs.Groupings
+pub use Rattle.vtl_windows.specs.Groups
+pub use Rattle.vtl_windows.specs.Kinds
+pub use Rattle.vtl_windows.specs.KindsLiterals
+pub use Rattle.vtl_windows.specs.KindsOperators
+pub use Rattle.vtl_windows.specs.Measures
+pub use Rattle.vtl_windows.specs.Names
+pub use Rattle.vtl_windows.specs.Operands
+pub use Rattle.vtl_windows.specs.Pairs
+pub use Rattle.vtl_windows.specs.Shapes as AnalyticShapes
+pub use Rattle.vtl_windows.specs.TypedWindows
+pub use Rattle.vtl_windows.specs.ValuesColumns
+pub use Rattle.vtl_windows.specs.ValuesLiterals
+pub use Rattle.vtl_windows.specs.ValuesOperators
+pub use Rattle.vtl_windows.specs.Windows
+pub use Rattle.vtl_windows.specs.choices
+pub use Rattle.vtl_windows.specs.measures
+pub use Rattle.vtl_windows.specs.names
+pub use Rattle.vtl_windows.specs.operands
+pub use Rattle.vtl_windows.specs.renaming
+pub use Rattle.vtl_windows.specs.targets
 pub mod Agreement
 pub mod Faults
 pub mod JoinWords

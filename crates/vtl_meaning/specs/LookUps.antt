@@ -17,7 +17,7 @@ use Rattle.vtl_tree.specs.declared.structure.Component.{Component}
 use Rattle.vtl_tree.specs.declared.structure.Structure.{Structure}
 use Rattle.vtl_nodes.specs.Trees.{ItemTree, MeasureTree}
 use Rattle.vtl_nodes.specs.declared.clauses.SubItem.{SubItem}
-use Rattle.check_values.specs.ShapesColumns.{identifiers_of, measures_of, place_of}
+use Rattle.vtl_windows.specs.Columns.{identifiers_of, measures_of, place_of}
 use Rattle.vtl_meaning.specs.Operators.{target_named, value_exp}
 use Rattle.vtl_meaning.specs.Points.{cell_or_null}
 

@@ -1,8 +1,8 @@
 -- What typing gives: which expressions are typed over which columns, and how the structure of each node fits its operands.
-use Rattle.std.specs.Prelude.{◌≡◌, ℕ, zero, suc, true, false, ◌||◌, cond, List, [], ◌∷◌, ◌++◌, length, map, Option, Some, None, slice_get}
+use Rattle.std.specs.Prelude.{◌≡◌, ◌==◌, ℕ, zero, suc, Bool, true, false, not, ◌&&◌, ◌||◌, cond, List, [], ◌∷◌, ◌++◌, length, map, Option, Some, None, slice_get}
 use Rattle.std.specs.List.{AllByRecursion, flat_map, list_any}
 use Rattle.std.specs.Map.{lookup}
-use Rattle.std.specs.Option.{IfSome}
+use Rattle.std.specs.Option.{IfSome, is_none}
 use Rattle.vtl_cell.specs.Settings.{Settings}
 use Rattle.vtl_cell.specs.Apart.{all_apart}
 use Rattle.vtl_cell.specs.Profile.{IsOfProfile}
@@ -23,23 +23,27 @@ use Rattle.vtl_tree.specs.declared.structure.Component.{Component}
 use Rattle.vtl_tree.specs.declared.structure.Role.TheVariants as role
 use Rattle.vtl_tree.specs.declared.structure.Structure.{Structure}
 use Rattle.vtl_nodes.specs.Trees as nodes
-use Rattle.vtl_nodes.specs.Trees.{AggTree, FormTree, ItemTree, MaybeNode, MeasureTree, NodeTree, NodeTrees, OperandTrees, structure_of}
+use Rattle.vtl_nodes.specs.Trees.{AggTree, AnalyticTree, FormTree, ItemTree, MaybeNode, MeasureTree, NodeTree, NodeTrees, OperandTrees, ValueTree, structure_of}
+use Rattle.vtl_nodes.specs.declared.calls.AnalyticOp.{AnalyticOp}
+use Rattle.vtl_nodes.specs.declared.calls.AnalyticOp.TheVariants as window
+use Rattle.vtl_nodes.specs.declared.calls.Window.{Window}
 use Rattle.vtl_nodes.specs.declared.clauses.SubItem.{SubItem}
 use Rattle.check_joins.specs.Joins as joins
 use Rattle.check_joins.specs.declared.joins.Operand.{Operand}
-use Rattle.check_values.specs.Choices.{chosen}
-use Rattle.check_values.specs.Clauses.{first_kind, names_column, pivot_components}
-use Rattle.check_values.specs.Measures.{bool_var, given_measures, is_miscounted, made}
-use Rattle.check_values.specs.Operands.{agree, agreed_identifiers}
-use Rattle.check_values.specs.Pairs.{contains, pair_identifiers}
-use Rattle.check_values.specs.choices.Choice.TheVariants as choice
-use Rattle.check_values.specs.names.Wanted.TheVariants as wanted
-use Rattle.check_values.specs.operands.Compared.TheVariants as compared
-use Rattle.check_values.specs.Kinds.{exp_kind}
-use Rattle.vtl_aggregates.specs.AggregateKinds.{aggregate_kind}
-use Rattle.vtl_aggregates.specs.Shapes.{IsAggregated}
+use Rattle.vtl_windows.specs.Choices.{chosen}
+use Rattle.vtl_windows.specs.Clauses.{first_kind, names_column, pivot_components}
+use Rattle.vtl_windows.specs.Measures.{bool_var, given_measures, is_miscounted, made}
+use Rattle.vtl_windows.specs.Operands.{agree, agreed_identifiers}
+use Rattle.vtl_windows.specs.Pairs.{contains, pair_identifiers}
+use Rattle.vtl_windows.specs.choices.Choice.TheVariants as choice
+use Rattle.vtl_windows.specs.names.Wanted.TheVariants as wanted
+use Rattle.vtl_windows.specs.operands.Compared.TheVariants as compared
+use Rattle.vtl_windows.specs.Kinds.{exp_kind}
+use Rattle.vtl_windows.specs.AggregateKinds.{aggregate_kind}
+use Rattle.vtl_windows.specs.AggregateShapes.{IsAggregated}
+use Rattle.vtl_windows.specs.Shapes.{IsAnalyzed}
 use Rattle.vtl_meaning.specs.Agreement.{common_identifiers}
-use Rattle.check_values.specs.ShapesColumns.{identifiers_of, kind_named, measures_of, others_of, place_of}
+use Rattle.vtl_windows.specs.Columns.{identifiers_of, kind_named, measures_of, others_of, place_of}
 use Rattle.vtl_meaning.specs.Joined.{reference_place}
 use Rattle.vtl_meaning.specs.Literals.{HasLiterals}
 use Rattle.vtl_meaning.specs.Meaning.{Statement}
@@ -168,6 +172,43 @@ pub record IsGrouped (p : Settings) (spec : AggTree) (a s : Structure) : Type 0 
   pub aggregated : IsAggregated spec a s
   pub condition : IfSome spec.having (IsGroupCondition p spec a)
 
+-- ---- analytic calls
+-- the components that a window names are columns
+abbrev pub IsNamedColumn : List Component → List ℕ → Type 0
+IsNamedColumn xs name = IsColumnAt (place_of name xs) name (kind_named name xs) xs
+
+abbrev pub is_ordered : Window → Bool
+is_ordered w = not (length w.order == 0)
+
+abbrev pub is_unframed : Window → Bool
+is_unframed w = is_none w.frame
+
+-- `lag`, `lead` and `rank` have an order and no frame, `ratio_to_report` has neither
+abbrev pub is_suited : AnalyticOp → Window → Bool
+is_suited (window.Lag n default) w = is_ordered w && is_unframed w
+is_suited (window.Lead n default) w = is_ordered w && is_unframed w
+is_suited window.Rank w = is_ordered w && is_unframed w
+is_suited window.RatioToReport w = not (is_ordered w) && is_unframed w
+is_suited o w = true
+
+pub record IsWindowOver (xs : List Component) (o : AnalyticOp) (w : Window) : Type 0 where
+  pub partition : AllByRecursion (IsNamedColumn xs) w.partition
+  pub order : AllByRecursion (λ key. IsNamedColumn xs key.component) w.order
+  pub suited : is_suited o w ≡ true
+
+-- the value of a target
+abbrev pub IsValueOver : Settings → List Component → ValueTree → Type 0
+IsValueOver p xs (nodes.scalar e) = IsTyped p xs e
+IsValueOver p xs (nodes.analytic x) = IsWindowOver xs x.op x.window
+
+abbrev pub AreValuesOver : Settings → List Component → AnalyticTree → Type 0
+AreValuesOver p xs (nodes.of_measures o w) = IsWindowOver xs o w
+AreValuesOver p xs (nodes.of_items items) = AllByRecursion (λ i. IsValueOver p xs i.value) items
+
+pub record IsWindowed (p : Settings) (spec : AnalyticTree) (a s : Structure) : Type 0 where
+  pub analyzed : IsAnalyzed p spec a s
+  pub values : AreValuesOver p (columns_of a) spec
+
 -- Some of the columns, with all identifiers: `keep`, `drop`, `a#m`. Which ones, `IsChosen` says.
 pub record IsLeft (a s : Structure) : Type 0 where
   pub well_formed : IsStructure s
@@ -268,7 +309,7 @@ node_structures (nodes.and_node n ns) = structure_of n ∷ node_structures ns
 
 -- ---- nodes
 -- Each node has a structure whose components have kinds and which fits its operands, and each name is known with its structure.
--- Of the forms that are not evaluated yet only the operands are told, and how far analytic calls reach.
+-- Of analytic calls it is told too how far they reach; of the forms that are not evaluated yet only the operands.
 abbrev mutual
   pub IsMade : Settings → Named → NodeTree → Type 0
   IsMade p known (nodes.node s form) = IsShaped s × IsMadeForm p known s form
@@ -294,7 +335,7 @@ abbrev mutual
   IsMadeForm p known s (nodes.sym_diff a b) = IsMade p known a × IsMade p known b × IsCombined (structure_of a) (structure_of b ∷ []) s
   IsMadeForm p known s (nodes.exists_in a b r) = IsMade p known a × IsMade p known b × IsExistence (structure_of a) (structure_of b) s
   IsMadeForm p known s (nodes.aggregate a spec) = IsMade p known a × IsGrouped p spec (structure_of a) s
-  IsMadeForm p known s (nodes.analytic_of a spec) = IsMade p known a × AreNear spec
+  IsMadeForm p known s (nodes.analytic_of a spec) = IsMade p known a × IsWindowed p spec (structure_of a) s × AreNear spec
   IsMadeForm p known s (nodes.check a i spec) = IsMade p known a × IsMadeMaybe p known i
   IsMadeForm p known s (nodes.check_datapoint a rules out) = IsMade p known a
   IsMadeForm p known s (nodes.check_hierarchy a rules m out) = IsMade p known a

@@ -12,7 +12,8 @@ use Rattle.vtl_tree.specs.Structures.{Named}
 use Rattle.vtl_tree.specs.declared.structure.Structure.{Structure}
 use Rattle.vtl_nodes.specs.Trees as nodes
 use Rattle.vtl_nodes.specs.Trees.{FormTree, NodeTree, NodeTrees, OperandTrees, structure_of}
-use Rattle.vtl_aggregates.specs.Aggregates.{aggregate_of}
+use Rattle.vtl_windows.specs.AggregatePoints.{aggregate_of}
+use Rattle.vtl_windows.specs.Analytics.{analytic_of}
 use Rattle.vtl_meaning.specs.Joined.{join_of}
 use Rattle.vtl_meaning.specs.Operators.{calculated_of, choice_of, left_of, measured_of, pair_of, sub_of}
 use Rattle.vtl_meaning.specs.Points.{with_points}
@@ -70,7 +71,7 @@ abbrev mutual
   form_value p env s (nodes.sym_diff a b) = with_operand a (node_value p env a) (λ d. with_operand b (node_value p env b) (λ e. Ok (symmetric_difference_of d e s)))
   form_value p env s (nodes.exists_in a b r) = with_operand a (node_value p env a) (λ d. with_operand b (node_value p env b) (λ e. Ok (existence_of d e r)))
   form_value p env s (nodes.aggregate a spec) = with_operand a (node_value p env a) (λ d. aggregate_of p spec d s)
-  form_value p env s (nodes.analytic_of a spec) = no_points_yet
+  form_value p env s (nodes.analytic_of a spec) = with_operand a (node_value p env a) (λ d. analytic_of p spec d s)
   form_value p env s (nodes.check a i spec) = no_points_yet
   form_value p env s (nodes.check_datapoint a rules out) = no_points_yet
   form_value p env s (nodes.check_hierarchy a rules m out) = no_points_yet
@@ -143,7 +144,7 @@ abbrev mutual
   is_built_form (nodes.sym_diff a b) = is_built a && is_built b
   is_built_form (nodes.exists_in a b r) = is_built a && is_built b
   is_built_form (nodes.aggregate a spec) = is_built a
-  is_built_form (nodes.analytic_of a spec) = false
+  is_built_form (nodes.analytic_of a spec) = is_built a
   is_built_form (nodes.check a i spec) = false
   is_built_form (nodes.check_datapoint a rules out) = false
   is_built_form (nodes.check_hierarchy a rules m out) = false

@@ -21,8 +21,8 @@ use Rattle.vtl_tree.specs.declared.structure.Structure.{Structure}
 use Rattle.vtl_nodes.specs.Trees as nodes
 use Rattle.vtl_nodes.specs.Trees.{ItemTree, MeasureTree, ValueTree}
 use Rattle.vtl_nodes.specs.declared.clauses.SubItem.{SubItem}
-use Rattle.check_values.specs.Pairs.{contains}
-use Rattle.check_values.specs.ShapesColumns.{column_behind, column_named, columns_named, identifiers_of, measures_of, place_of, places_in}
+use Rattle.vtl_windows.specs.Pairs.{contains}
+use Rattle.vtl_windows.specs.Columns.{column_behind, column_named, columns_named, identifiers_of, measures_of, place_of, places_in}
 use Rattle.vtl_meaning.specs.Points.{each_point, paired, partner, shown, with_points}
 
 -- an expression for each measure of an operand and the one of the result that it becomes

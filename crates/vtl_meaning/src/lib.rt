@@ -4,7 +4,7 @@
 //! Every back end must keep to `meaning`. The laws say that operators give data sets, do not depend on the order of
 //! points, and agree with look-up by identifiers; conditions say which structure a result has, component by component
 //! (specs/Made.antt), and which operands are literals, not how typing found them.
-//! What aggregates mean is defined in `vtl_aggregates`, whose words are passed on.
+//! What aggregates and analytic calls mean is defined in `vtl_aggregates` and `vtl_windows`, whose words are passed on.
 //! It knows no tables, no files and no program: `vtl_expr`, `vtl_clause` and `vtl_interp` compute this.
 //! Begin with specs/Operators.antt, Joined.antt, Sets.antt, Turned.antt and Meaning.antt; LookUps.antt says the same in
 //! the words of the manual.

@@ -11,7 +11,9 @@ use Rattle.rules_to_sql.specs.Made.{operands_in}
 use Rattle.rules_to_sql.specs.Meaning.{Statement}
 use Rattle.rules_to_sql.specs.Operators.{calculated_exps, measured_exps, pair_exps}
 use Rattle.rules_to_sql.specs.Trees as nodes
-use Rattle.rules_to_sql.specs.Trees.{FormTree, NodeTree, NodeTrees, OperandTrees, structure_of}
+use Rattle.rules_to_sql.specs.Trees.{AnalyticTree, FormTree, NodeTree, NodeTrees, OperandTrees, ValueTree, structure_of}
+use Rattle.rules_to_sql.specs.calls.AnalyticOp.{AnalyticOp}
+use Rattle.rules_to_sql.specs.AnalyticShapes.{default_in}
 use Rattle.rules_to_sql.specs.Held.{HoldsValues}
 use Rattle.vtl_to_sql.specs.Conditions.{HasFewTables}
 
@@ -41,7 +43,7 @@ abbrev mutual
   is_form_translated (nodes.sym_diff a b) = is_translated a && is_translated b
   is_form_translated (nodes.exists_in a b r) = is_translated a && is_translated b
   is_form_translated (nodes.aggregate a spec) = is_translated a
-  is_form_translated (nodes.analytic_of a spec) = false
+  is_form_translated (nodes.analytic_of a spec) = is_translated a
   is_form_translated (nodes.check a i spec) = false
   is_form_translated (nodes.check_datapoint a rules out) = false
   is_form_translated (nodes.check_hierarchy a rules m out) = false
@@ -62,6 +64,18 @@ are_translated ns = list_all is_translated ns
 abbrev pub AllHoldValues : List CompExp → Type 0
 AllHoldValues es = AllByRecursion HoldsValues es
 
+-- the default of `lag` and `lead` is held too
+abbrev pub OperatorHoldsValue : AnalyticOp → Type 0
+OperatorHoldsValue o = IsHeld (default_in o)
+
+abbrev pub MadeHoldsValues : ValueTree → Type 0
+MadeHoldsValues (nodes.scalar e) = HoldsValues e
+MadeHoldsValues (nodes.analytic x) = OperatorHoldsValue x.op
+
+abbrev pub AnalyticHoldsValues : AnalyticTree → Type 0
+AnalyticHoldsValues (nodes.of_measures o w) = OperatorHoldsValue o
+AnalyticHoldsValues (nodes.of_items items) = AllByRecursion (λ i. MadeHoldsValues i.value) items
+
 abbrev mutual
   pub HoldsParts : NodeTree → Type 0
   HoldsParts (nodes.node s form) = FormHoldsParts s form
@@ -80,6 +94,7 @@ abbrev mutual
   FormHoldsParts s (nodes.sub a items) = HoldsParts a × AllByRecursion (λ i. IsHeld i.value) items
   FormHoldsParts s (nodes.pivot a id m) = HoldsParts a
   FormHoldsParts s (nodes.unpivot a id m) = HoldsParts a
+  FormHoldsParts s (nodes.analytic_of a spec) = HoldsParts a × AnalyticHoldsValues spec
   FormHoldsParts s (nodes.aggregate a spec) = HoldsParts a × IfSome spec.having HoldsValues
   FormHoldsParts s (nodes.join os spec) = OperandsHoldParts os × (1 + length (operands_in os) < 2 ^ 64)
   FormHoldsParts s (nodes.union ns) = NodesHoldParts ns

@@ -8,6 +8,7 @@ use Rattle.sql_tree.specs.Trees.{QueryTree, Text}
 use Rattle.vtl_to_sql.specs.Grouped.{aggregate_query}
 use Rattle.vtl_to_sql.specs.Queries.{calc_query, choose_query, difference_query, existence_query, filter_query, left_query, measures_query, pair_query, rename_query, sub_query, symmetric_difference_query}
 use Rattle.vtl_to_sql.specs.Turned.{pivot_query, unpivot_query}
+use Rattle.vtl_to_sql.specs.Windowed.{analytic_query}
 
 abbrev pub query_of_one : Settings → FormTree → (s : Structure) → (table : Text) → QueryTree
 query_of_one p (nodes.measures m a) s = measures_query p m (structure_of a) s
@@ -20,6 +21,7 @@ query_of_one p (nodes.rename a pairs) s = rename_query p (structure_of a) s
 query_of_one p (nodes.sub a items) s = sub_query p items (structure_of a) s
 query_of_one p (nodes.pivot a id m) s = pivot_query p id m (structure_of a) s
 query_of_one p (nodes.aggregate a spec) s = aggregate_query p spec (structure_of a) s
+query_of_one p (nodes.analytic_of a spec) s = analytic_query p spec (structure_of a) s
 query_of_one p (nodes.unpivot a id m) s = unpivot_query p (structure_of a) s
 query_of_one p other s = λ x. []
 

@@ -26,6 +26,7 @@ pub mod Queries
 pub mod Joins
 pub mod Turned
 pub mod Grouped
+pub mod Windowed
 pub mod FormQueries
 pub mod FullJoins
 pub mod Tables
@@ -43,6 +44,7 @@ pub mod KeyItems
 pub mod NamedItems
 pub mod TurnedItems
 pub mod GroupedItems
+pub mod WindowItems
 pub mod Combined
 pub mod Existences
 pub mod Inputs

@@ -21,6 +21,7 @@ use Rattle.vtl_to_sql.specs.Grouped.{aggregate_query}
 use Rattle.vtl_to_sql.specs.Joins.{cross_query, reference_query}
 use Rattle.vtl_to_sql.specs.Queries.{calc_query, choose_query, copy_query, difference_query, filter_query, intersection_query, left_query, measures_query, pair_query, rename_query, shown_query, sub_query, symmetric_difference_query, union_query, existence_query}
 use Rattle.vtl_to_sql.specs.Turned.{pivot_query, unpivot_query}
+use Rattle.vtl_to_sql.specs.Windowed.{analytic_query}
 
 -- a table by a query
 pub record Table : Type 0 where
@@ -141,6 +142,7 @@ abbrev mutual
   made_of_form p r s (nodes.sym_diff a b) n = over (and_then (sources_of p r a n) (sources_of p r b)) (with_two (symmetric_difference_query p (structure_of a) (structure_of b) s))
   made_of_form p r s (nodes.exists_in a b kept) n = over (and_then (sources_of p r a n) (sources_of p r b)) (with_two (existence_query p kept (structure_of a) (structure_of b) s))
   made_of_form p r s (nodes.pivot a id m) n = over (sources_of p r a n) (with_one (pivot_query p id m (structure_of a) s))
+  made_of_form p r s (nodes.analytic_of a spec) n = over (sources_of p r a n) (with_one (analytic_query p spec (structure_of a) s))
   made_of_form p r s (nodes.aggregate a spec) n = over (sources_of p r a n) (with_one (aggregate_query p spec (structure_of a) s))
   made_of_form p r s (nodes.unpivot a id m) n = over (sources_of p r a n) (with_one (unpivot_query p (structure_of a) s))
   -- the other forms have no meaning yet, and no script that is translated holds one

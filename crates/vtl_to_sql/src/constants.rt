@@ -5,16 +5,18 @@ ghost use Rattle.std.specs.Option.{IfSome, option_map};
 ghost use Rattle.std.specs.Prelude.{◌≡◌, map};
 ghost use Rattle.vtl_cell.specs.Held.{IsHeld};
 ghost use Rattle.vtl_tree.specs.View.{comp_exp_of};
-ghost use Rattle.vtl_nodes.specs.View.{node_tree, value_tree};
+ghost use Rattle.vtl_nodes.specs.View.{analytic_tree, node_tree, value_tree};
 ghost use Rattle.rules_to_sql.specs.Operators.{value_exp};
 ghost use Rattle.rules_to_sql.specs.Checked.{nodes_of};
 ghost use Rattle.rules_to_sql.specs.Held.{HoldsValues};
-ghost use Rattle.vtl_to_sql.specs.Accepted.{AreHeld, HoldsParts};
+ghost use Rattle.vtl_to_sql.specs.Accepted.{AnalyticHoldsValues, AreHeld, HoldsParts, MadeHoldsValues, OperatorHoldsValue};
 
 use rules_to_sql::Checked;
 use std::alloc::Global;
 use vtl_cell::{Cell, Profile, write_cell};
-use vtl_nodes::{CalcItem, CalcValue, JoinOperand, Node, NodeForm, SubItem};
+use vtl_nodes::{
+    AnalyticOp, AnalyticSpec, CalcItem, CalcValue, JoinOperand, Node, NodeForm, SubItem,
+};
 use vtl_tree::CompExpr;
 
 // A value is one that a program holds, whether or not there is memory to write it.
@@ -46,20 +48,43 @@ fn expressions_are_held(alloc: Global, exps: &[CompExpr], p: &Profile)
     }
 }
 
+// The default of `lag` and `lead`.
+fn default_is_held(alloc: Global, op: &AnalyticOp, p: &Profile)
+    ensures { OperatorHoldsValue op.now }
+{
+    match op {
+        AnalyticOp::Lag { default, .. } | AnalyticOp::Lead { default, .. } => {
+            cell_is_held(alloc, default, p)
+        }
+        _ => {}
+    }
+}
+
 fn value_is_held(alloc: Global, value: &CalcValue, p: &Profile)
-    ensures { HoldsValues (value_exp (value_tree value.now)) }
+    ensures exp { HoldsValues (value_exp (value_tree value.now)) }
+    ensures made { MadeHoldsValues (value_tree value.now) }
 {
     match value {
         CalcValue::Scalar(e) => expression_is_held(alloc, e, p),
-        CalcValue::Analytic(_) => {}
+        CalcValue::Analytic(call) => default_is_held(alloc, &call.op, p),
     }
 }
 
 fn targets_are_held(alloc: Global, targets: &[CalcItem], p: &Profile)
-    ensures { AllByRecursion (λ i. HoldsValues (value_exp (value_tree i.value))) targets.now }
+    ensures exps { AllByRecursion (λ i. HoldsValues (value_exp (value_tree i.value))) targets.now }
+    ensures made { AllByRecursion (λ i. MadeHoldsValues (value_tree i.value)) targets.now }
 {
     for target in targets {
         value_is_held(alloc, &target.value, p);
+    }
+}
+
+fn analytic_is_held(alloc: Global, spec: &AnalyticSpec, p: &Profile)
+    ensures { AnalyticHoldsValues (analytic_tree spec.now) }
+{
+    match spec {
+        AnalyticSpec::Measures { op, .. } => default_is_held(alloc, op, p),
+        AnalyticSpec::Calc(targets) => targets_are_held(alloc, targets.as_slice(), p),
     }
 }
 
@@ -104,6 +129,10 @@ fn node_is_held(alloc: Global, node: &Node, p: &Profile)
         }
         NodeForm::Aggregate { a, spec } => {
             condition_is_held(alloc, &spec.having, p);
+            node_is_held(alloc, a, p)
+        }
+        NodeForm::Analytic { a, spec } => {
+            analytic_is_held(alloc, spec, p);
             node_is_held(alloc, a, p)
         }
         NodeForm::Member { a, .. } => node_is_held(alloc, a, p),

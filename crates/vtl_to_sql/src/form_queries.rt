@@ -15,6 +15,7 @@ use crate::queries::{
 use crate::set_operators::SetOperator;
 use crate::set_queries::set_query;
 use crate::unpivot_queries::unpivot_query;
+use crate::windowed_queries::analytic_query;
 use crate::writer::Writer;
 use sql_tree::Query;
 use std::alloc::{AllocError, Global};
@@ -53,6 +54,9 @@ pub(crate) fn query_of_one(
             pivot_query(alloc, writer, id, m, &a.structure, s, table)
         }
         NodeForm::Aggregate { spec, .. } => aggregate_query(alloc, writer, spec, s, table),
+        NodeForm::Analytic { a, spec } => {
+            analytic_query(alloc, writer, spec, &a.structure, s, table)
+        }
         NodeForm::Unpivot { a, .. } => unpivot_query(alloc, writer, &a.structure, s, table),
         NodeForm::Member { .. } => left_query(alloc, writer, s, table),
         NodeForm::Keep { .. } => left_query(alloc, writer, s, table),

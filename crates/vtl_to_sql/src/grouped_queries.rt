@@ -6,18 +6,18 @@ ghost use Rattle.vtl_tree.specs.View.{comp_exp_of};
 ghost use Rattle.vtl_tree.specs.declared.structure.Structure.{Structure as StructureOf};
 ghost use Rattle.vtl_nodes.specs.View.{agg_tree};
 ghost use Rattle.rules_to_sql.specs.AggregatePoints.{measure_call, target_named};
-ghost use Rattle.rules_to_sql.specs.ToSql.{aggregate_to_sql, group_columns};
+ghost use Rattle.rules_to_sql.specs.ToSql.{aggregate_to_sql};
 ghost use Rattle.sql_tree.specs.View.{expr_tree, item_tree, query_tree};
 ghost use Rattle.vtl_to_sql.specs.Grouped.{aggregate_query, kept_where, where_rows};
 ghost use Rattle.vtl_to_sql.specs.GroupedItems.{aggregated_items, aggregated_value, call_value, made_value};
-ghost use Rattle.vtl_to_sql.specs.Queries.{condition_for, first_alias, of_one};
+ghost use Rattle.vtl_to_sql.specs.Queries.{condition_for, of_one};
 
 use crate::conditions::when;
-use crate::groups::{aggregate, grouped, has_rows};
+use crate::groups::{aggregate, group_columns, grouped, has_rows};
 use crate::items::push_item;
 use crate::queries::one_select;
 use crate::writer::Writer;
-use sql_tree::{Column, Constant, Item, Query, SqlExpr};
+use sql_tree::{Constant, Item, Query, SqlExpr};
 use std::alloc::{AllocError, Global};
 use vtl_cell::{AggKind, Txt};
 use vtl_nodes::{AggItems, AggSpec, AggTarget};
@@ -115,17 +115,6 @@ fn aggregated_items(
         push_item(&mut items, value, &column.name)?;
     }
     Ok(items)
-}
-
-// The columns of these names.
-fn group_columns(alloc: Global, writer: &Writer, names: &[Txt]) -> Result<Vec<Column>, AllocError>
-    ensures { IfOk result (λ v. v.items ≡ group_columns first_alias names.now) }
-{
-    let mut columns = Vec::with_capacity(alloc, names.len())?;
-    for name in names {
-        columns.push(writer.first(name)?)?;
-    }
-    Ok(columns)
 }
 
 // The condition of groups, where one is written.

@@ -2,6 +2,7 @@
 ghost use Rattle.std.specs.Prelude.{◌≡◌, map, IfOk};
 ghost use Rattle.std.specs.Option.{option_map};
 ghost use Rattle.vtl_tree.specs.Shown.{shown};
+ghost use Rattle.rules_to_sql.specs.ToSql.{group_columns};
 ghost use Rattle.sql_tree.specs.Trees.{aggregate};
 ghost use Rattle.sql_tree.specs.View.{expr_tree, item_tree, select_tree};
 ghost use Rattle.vtl_to_sql.specs.Queries.{first_alias, source_as};
@@ -46,6 +47,21 @@ pub(crate) fn group_of(
     let mut columns = Vec::with_capacity(alloc, components.len())?;
     for component in components {
         columns.push(writer.first(&component.name)?)?;
+    }
+    Ok(columns)
+}
+
+/// The columns of these names. It fails only if memory runs out.
+pub(crate) fn group_columns(
+    alloc: Global,
+    writer: &Writer,
+    names: &[Txt],
+) -> Result<Vec<Column>, AllocError>
+    ensures { IfOk result (λ v. v.items ≡ group_columns first_alias names.now) }
+{
+    let mut columns = Vec::with_capacity(alloc, names.len())?;
+    for name in names {
+        columns.push(writer.first(name)?)?;
     }
     Ok(columns)
 }

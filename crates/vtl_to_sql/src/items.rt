@@ -66,8 +66,8 @@ pub(crate) fn renamed_items(
     Ok(items)
 }
 
-// The target of a name.
-fn target_named<'a>(targets: &'a [CalcItem], name: &Txt) -> Option<&'a CalcItem>
+/// The target of a name.
+pub(crate) fn target_named<'a>(targets: &'a [CalcItem], name: &Txt) -> Option<&'a CalcItem>
     ensures { option_map (λ i. target_tree i.now) result ≡ target_named (map target_tree targets.now) name.now }
 {
     for target in targets {

@@ -35,6 +35,8 @@ mod set_operators;
 mod set_queries;
 mod unpivot_queries;
 mod walk;
+mod windowed_queries;
+mod windows;
 mod writer;
 
 pub use constants::constants_are_held;

@@ -60,8 +60,8 @@ pub(crate) fn two_selects(alloc: Global, first: Select, second: Select) -> Resul
     })
 }
 
-// A query of one select from one table.
-fn from_table(
+/// A query of one select from one table. It fails only if memory runs out.
+pub(crate) fn from_table(
     alloc: Global,
     writer: &Writer,
     items: Vec<Item>,

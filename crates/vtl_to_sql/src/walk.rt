@@ -167,6 +167,7 @@ pub(crate) fn query(
         | NodeForm::Sub { a, .. }
         | NodeForm::Pivot { a, .. }
         | NodeForm::Aggregate { a, .. }
+        | NodeForm::Analytic { a, .. }
         | NodeForm::Unpivot { a, .. }
         | NodeForm::Member { a, .. }
         | NodeForm::Keep { a, .. }

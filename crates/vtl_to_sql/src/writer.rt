@@ -2,15 +2,15 @@
 ghost use Rattle.std.specs.Prelude.{◌≡◌, IfOk};
 ghost use Rattle.sql_tree.specs.Trees.{column};
 ghost use Rattle.sql_tree.specs.View.{expr_tree};
-ghost use Rattle.rules_to_sql.specs.Constants.{const_to_sql};
+ghost use Rattle.rules_to_sql.specs.Constants.{const_to_sql, literal_to_sql};
 ghost use Rattle.rules_to_sql.specs.ToSql.{column_of, to_sql};
 ghost use Rattle.vtl_tree.specs.View.{comp_exp_of};
 ghost use Rattle.vtl_to_sql.specs.Joins.{alias_of};
 ghost use Rattle.vtl_to_sql.specs.Queries.{first_alias, of_one, of_two, second_alias, source_as};
 
 use crate::draft::numbered;
-use rules_to_sql::{Aliases, comp_to_sql, const_to_sql};
-use sql_tree::{Column, Source, SqlExpr};
+use rules_to_sql::{Aliases, comp_to_sql, const_to_sql, literal_to_sql};
+use sql_tree::{Column, Literal, Source, SqlExpr};
 use std::alloc::{AllocError, Global};
 use std::marker::Model;
 use vtl_cell::{Cell, Profile, Txt};
@@ -120,6 +120,13 @@ impl Writer {
         ensures { IfOk result (λ e. expr_tree e ≡ const_to_sql self.now value.now) }
     {
         const_to_sql(alloc, value, &self.profile)
+    }
+
+    // A value that is not null as a literal.
+    pub(crate) fn literal(&self, alloc: Global, value: &Cell) -> Result<Literal, AllocError>
+        ensures { IfOk result (λ l. l ≡ literal_to_sql self.now value.now) }
+    {
+        literal_to_sql(alloc, value, &self.profile)
     }
 
     // The column at a place of two sources, of which the first has so many columns.

@@ -14,9 +14,9 @@ use Rattle.vtl_tree.specs.Structure.{columns_of}
 use Rattle.vtl_tree.specs.declared.structure.Component.{Component}
 use Rattle.vtl_tree.specs.declared.structure.Structure.{Structure}
 use Rattle.vtl_tree.proofs.Faults.{Same_unless, faults_by-Perm}
-use Rattle.vtl_nodes.specs.Trees as nodes
-use Rattle.vtl_nodes.specs.Trees.{AnalyticTree, ValueTree}
-use Rattle.check_shapes.specs.Columns.{place_of}
+use Rattle.vtl_aggregates.specs.Trees as nodes
+use Rattle.vtl_aggregates.specs.Trees.{AnalyticTree, ValueTree}
+use Rattle.check_values.specs.ShapesColumns.{place_of}
 use Rattle.vtl_aggregates.specs.Aggregates.{Made}
 use Rattle.vtl_aggregates.specs.Aggregates.{group_fault as point_fault}
 use Rattle.vtl_windows.specs.Analytics.{analytic_of, each_point, made_of, point_of, tree_value, value_for}

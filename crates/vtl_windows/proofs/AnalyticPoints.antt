@@ -18,10 +18,10 @@ use Rattle.vtl_tree.specs.Environment.{DataSet}
 use Rattle.vtl_tree.specs.Structure.{columns_of, key_width}
 use Rattle.vtl_tree.specs.declared.structure.Component.{Component}
 use Rattle.vtl_tree.specs.declared.structure.Structure.{Structure}
-use Rattle.vtl_nodes.specs.Trees as nodes
-use Rattle.vtl_nodes.specs.Trees.{AnalyticTree, ValueTree}
-use Rattle.check_shapes.specs.Columns.{identifiers_of, others_of, place_of, places_in}
-use Rattle.check_shapes.specs.Names.{component_of}
+use Rattle.vtl_aggregates.specs.Trees as nodes
+use Rattle.vtl_aggregates.specs.Trees.{AnalyticTree, ValueTree}
+use Rattle.check_values.specs.ShapesColumns.{identifiers_of, others_of, place_of, places_in}
+use Rattle.check_values.specs.Names.{component_of}
 use Rattle.vtl_aggregates.specs.Aggregates.{Made, cell_or_null}
 use Rattle.vtl_aggregates.specs.Aggregates.{group_fault as point_fault}
 use Rattle.vtl_aggregates.proofs.GroupKinds.{GivesOf, GivesOfProfile, IsOf, null_is_of}

@@ -25,11 +25,11 @@ use Rattle.vtl_tree.specs.DataSet.{AreOfProfile}
 use Rattle.vtl_tree.specs.Environment.{DataSet}
 use Rattle.vtl_tree.specs.Structure.{columns_of}
 use Rattle.vtl_tree.specs.declared.structure.Component.{Component}
-use Rattle.vtl_nodes.specs.declared.calls.AnalyticCall.{AnalyticCall}
-use Rattle.vtl_nodes.specs.declared.calls.AnalyticOp.{AnalyticOp}
-use Rattle.vtl_nodes.specs.declared.calls.AnalyticOp.TheVariants as op
-use Rattle.vtl_nodes.specs.declared.calls.Window.{Window}
-use Rattle.check_shapes.specs.Columns.{place_of}
+use Rattle.vtl_aggregates.specs.calls.AnalyticCall.{AnalyticCall}
+use Rattle.vtl_aggregates.specs.calls.AnalyticOp.{AnalyticOp}
+use Rattle.vtl_aggregates.specs.calls.AnalyticOp.TheVariants as op
+use Rattle.vtl_aggregates.specs.calls.Window.{Window}
+use Rattle.check_values.specs.ShapesColumns.{place_of}
 use Rattle.vtl_aggregates.proofs.GroupKinds.{GivesOfProfile, group_gives, whole_gives}
 use Rattle.vtl_aggregates.proofs.GroupPoints.{all_more}
 use Rattle.vtl_windows.specs.Shapes.{default_in}

@@ -17,8 +17,8 @@ use Rattle.vtl_tree.specs.declared.structure.Component.{Component}
 use Rattle.vtl_tree.specs.declared.structure.Role.{Role}
 use Rattle.vtl_tree.specs.declared.structure.Role.TheVariants as role
 use Rattle.vtl_tree.specs.declared.structure.Structure.{Structure}
-use Rattle.check_shapes.specs.Columns.{identifiers_of, others_of, place_of, places_in}
-use Rattle.check_shapes.specs.Names.{component_of}
+use Rattle.check_values.specs.ShapesColumns.{identifiers_of, others_of, place_of, places_in}
+use Rattle.check_values.specs.Names.{component_of}
 use Rattle.vtl_aggregates.proofs.GroupPoints.{HasCell, all_more}
 
 -- ---- names

@@ -15,7 +15,7 @@ use Rattle.vtl_rows.specs.Tables.{cells_at}
 use Rattle.vtl_tree.specs.Environment.{DataSet}
 use Rattle.vtl_tree.specs.Structure.{columns_of}
 use Rattle.vtl_tree.specs.declared.structure.Structure.{Structure}
-use Rattle.vtl_nodes.specs.declared.calls.Window.{Window}
+use Rattle.vtl_aggregates.specs.calls.Window.{Window}
 use Rattle.vtl_aggregates.specs.Groups.{places_named}
 use Rattle.vtl_windows.specs.Windows.{bound_of, frame_in, framed, identifier_places, keys_in, partition_of, point_cmp, stand_of}
 

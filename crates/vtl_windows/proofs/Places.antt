@@ -23,7 +23,7 @@ use Rattle.vtl_rows.specs.Tables.{cells_at}
 use Rattle.vtl_tree.specs.DataSet.{IsDataSet}
 use Rattle.vtl_tree.specs.Environment.{DataSet}
 use Rattle.vtl_tree.specs.Structure.{columns_of, key_width}
-use Rattle.vtl_nodes.specs.declared.calls.Window.{Window}
+use Rattle.vtl_aggregates.specs.calls.Window.{Window}
 use Rattle.vtl_aggregates.specs.Groups.{places_named, points_with}
 use Rattle.vtl_windows.specs.Windows.{bound_of, default_frame, frame_in, framed, identifier_places, keys_in, partition_of, point_cmp, seen, stand_of}
 use Rattle.vtl_windows.proofs.Columns.{all_filtered}

@@ -1,14 +1,15 @@
 use Rattle.std.proofs.Common.{Ok, map, refl, subst}
 use Rattle.vtl_scalar.specs.Answers.{AnswersBy}
 use Rattle.vtl_nodes.specs.Trees as nodes
-use Rattle.vtl_nodes.specs.View.{agg_tree, item_tree, measure_tree, node_tree}
+use Rattle.vtl_nodes.specs.View.{agg_tree, analytic_tree, item_tree, measure_tree, node_tree}
 use Rattle.vtl_nodes.specs.declared.nodes.NodeForm.TheVariants as form
 use Rattle.vtl_backend.specs.AggregatePoints.{aggregate_of}
+use Rattle.vtl_backend.specs.AnalyticPoints.{analytic_of}
 use Rattle.vtl_backend.specs.DataSets.{data_set, with_structure}
 use Rattle.vtl_backend.specs.Operators.{calculated_of, left_of, measured_of, sub_of}
 use Rattle.vtl_backend.specs.Turned.{pivot_of}
 use Rattle.vtl_interp.specs.Values.{value_view}
-use Rattle.vtl_interp.proofs.NodesEvaluated.{aggregate_fits, form_tree-Aggregate, form_tree-Calc, form_tree-DropNamed, form_tree-Keep, form_tree-Measures, form_tree-Member, form_tree-Pivot, form_tree-Sub, measures_fit, one_given_at, one_operand}
+use Rattle.vtl_interp.proofs.NodesEvaluated.{aggregate_fits, analytic_fits, form_tree-Aggregate, form_tree-Analytic, form_tree-Calc, form_tree-DropNamed, form_tree-Keep, form_tree-Measures, form_tree-Member, form_tree-Pivot, form_tree-Sub, measures_fit, one_given_at, one_operand}
 use Rattle.vtl_interp.proofs.applied.apply_to_one.Goals as goal
 
 pub measures-requires : goal.measures-requires
@@ -114,3 +115,22 @@ returns-in-Aggregate c env made g =
     one_operand value_view c.args.p.now env n (form.Aggregate x.a x.spec) (nodes.aggregate a (agg_tree x.spec)) a v (λ d. aggregate_of c.args.p.now (agg_tree x.spec) d s) c.aggregate.result x.is (form_tree-Aggregate x.a x.spec) refl
     (one_given_at c.args.p.now env n (form.Aggregate x.a x.spec) (nodes.aggregate a (agg_tree x.spec)) v x.is (form_tree-Aggregate x.a x.spec) g)
     c.aggregate.ensures
+
+pub analytic-requires : goal.analytic-requires
+analytic-requires c =
+    let n = c.args.node.now in
+    let v = value_view c.args.a in
+    let x = c.in-Analytic in
+    analytic_fits c.args.p.now c.requires.0 n x.a x.spec v x.is c.requires.1
+    (one_given_at c.args.p.now c.requires.0 n (form.Analytic x.a x.spec) (nodes.analytic_of (node_tree x.a.value) (analytic_tree x.spec)) v x.is (form_tree-Analytic x.a x.spec) c.requires.2)
+
+pub returns-in-Analytic : goal.returns-in-Analytic
+returns-in-Analytic c env made g =
+    let n = c.args.node.now in
+    let s = n.structure in
+    let v = value_view c.args.a in
+    let x = c.in-Analytic in
+    let a = node_tree x.a.value in
+    one_operand value_view c.args.p.now env n (form.Analytic x.a x.spec) (nodes.analytic_of a (analytic_tree x.spec)) a v (λ d. analytic_of c.args.p.now (analytic_tree x.spec) d s) c.analytic.result x.is (form_tree-Analytic x.a x.spec) refl
+    (one_given_at c.args.p.now env n (form.Analytic x.a x.spec) (nodes.analytic_of a (analytic_tree x.spec)) v x.is (form_tree-Analytic x.a x.spec) g)
+    c.analytic.ensures

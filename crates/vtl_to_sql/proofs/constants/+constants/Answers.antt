@@ -19,7 +19,7 @@ pub node_is_held-returns-in-Calc : goal.node_is_held-returns-in-Calc
 node_is_held-returns-in-Calc t c =
     calc_node_held c.args.node.now c.in-Calc.a c.in-Calc.items c.in-Calc.is
     (subst (λ n. HoldsParts (node_tree n)) c.deref-in-Calc.ensures c.node_is_held-in-Calc.ensures)
-    (subst (AllByRecursion (λ i. HoldsValues (value_exp (value_tree i.value)))) c.as_slice-in-Calc.ensures c.targets_are_held.ensures)
+    (subst (AllByRecursion (λ i. HoldsValues (value_exp (value_tree i.value)))) c.as_slice-in-Calc.ensures c.targets_are_held.ensures.exps)
 
 pub node_is_held-returns-in-Pair : goal.node_is_held-returns-in-Pair
 node_is_held-returns-in-Pair t c =
