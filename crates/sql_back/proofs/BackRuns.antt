@@ -47,7 +47,6 @@ text_can_run t text tables is there ranged = record {
   script = is.script;
   spelled = is.spelled;
   typed = is.typed;
-  plain = is.plain;
   there = inputs_there tables (inputs_of t) is.script is.inputs there;
   in_range = inputs_ranged tables t.settings _ (inputs_of t) is.script is.settings is.inputs ranged;
 }

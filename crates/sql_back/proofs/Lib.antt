@@ -15,7 +15,6 @@ pub use Rattle.vtl_to_sql.proofs.Sound
 pub use Rattle.vtl_to_sql.proofs.Steps as TypingSteps
 pub use Rattle.vtl_to_sql.proofs.TypedScripts
 pub use Rattle.vtl_to_sql.proofs.WholeScript
-pub mod NoWindows
 pub mod TextParts
 pub mod EngineRuns
 pub mod InputTables

@@ -14,7 +14,6 @@ use Rattle.vtl_to_sql.proofs.InputSets.{inputs_mean}
 use Rattle.vtl_to_sql.proofs.LawfulScripts.{script_is_printable, script_is_typed}
 use Rattle.vtl_to_sql.proofs.WholeScript.{set_is}
 use Rattle.sql_back.specs.Texts.{IsTextFor, inputs_in}
-use Rattle.sql_back.proofs.NoWindows.{no_windows}
 
 -- ---- INPUTs
 
@@ -42,7 +41,6 @@ text_for p reads ss text utf8 script spelled alone = record {
   spelled = spelled;
   alone = alone;
   typed = script_is_typed p reads ss script;
-  plain = no_windows p reads ss;
   settings = set_is p script.low;
   inputs = inputs_are p reads ss;
   means = λ inputs taken. inputs_mean inputs p reads ss script taken;

@@ -1,5 +1,5 @@
 -- What is asked where a text is run, and what a run of it gives.
-use Rattle.std.specs.Prelude.{◌≡◌, ℕ, false, List, [], ◌∷◌, map, Result, Ok, Err}
+use Rattle.std.specs.Prelude.{◌≡◌, ℕ, List, [], ◌∷◌, map, Result, Ok, Err}
 use Rattle.vtl_cell.specs.Outcome.{DivZero, Range}
 use Rattle.vtl_cell.specs.Perm.{Perm}
 use Rattle.vtl_rows.specs.Named.{NamedTables}
@@ -9,17 +9,15 @@ use Rattle.sql_engine.specs.Exported.{entry_column}
 use Rattle.sql_engine.specs.InputTables.{AreInputsInRange, HaveInputTables, rows_given}
 use Rattle.sql_engine.specs.Scripts.{Export, NamedFault, script_value}
 use Rattle.sql_engine.specs.TypingStatements.{IsTypedScript, script_settings}
-use Rattle.sql_engine.specs.Windows.{script_has_window}
 use Rattle.vtl_to_sql.specs.error.RunErr.{RunErr}
 use Rattle.vtl_to_sql.specs.error.RunErr.TheVariants as err
 
--- the text spells a script that breaks no rule and holds no window, and each of its INPUTs has a table whose rows fit it and whose
+-- the text spells a script that breaks no rule, and each of its INPUTs has a table whose rows fit it and whose
 -- integers are of the script's profile
 pub record CanRun (text : List ℕ) (inputs : NamedTables) : Type 0 where
   pub script : ScriptTree
   pub spelled : IsScript text script
   pub typed : IsTypedScript script
-  pub plain : script_has_window script ≡ false
   pub there : HaveInputTables inputs script
   pub in_range : AreInputsInRange (script_settings script) inputs script
 

@@ -1,5 +1,5 @@
 -- The text of a script in SQL.
-use Rattle.std.specs.Prelude.{◌≡◌, ℕ, false, List, [], ◌∷◌, map, Option, Some, IsUtf8}
+use Rattle.std.specs.Prelude.{◌≡◌, ℕ, List, [], ◌∷◌, map, Option, Some, IsUtf8}
 use Rattle.vtl_cell.specs.Settings.{Settings}
 use Rattle.vtl_tree.specs.Structures.{Named}
 use Rattle.sql_tree.specs.Texts.{IsScript}
@@ -8,7 +8,6 @@ use Rattle.sql_tree.specs.Trees.{ScriptTree, StatementTree}
 use Rattle.sql_tree.specs.declared.statements.SqlInput.{SqlInput}
 use Rattle.sql_engine.specs.Scripts.{Inputs, script_value}
 use Rattle.sql_engine.specs.TypingStatements.{IsTypedScript, script_settings}
-use Rattle.sql_engine.specs.Windows.{script_has_window}
 use Rattle.vtl_to_sql.specs.Checked.{TypedScript}
 use Rattle.vtl_to_sql.specs.BackendInputs.{inputs_of}
 use Rattle.vtl_to_sql.specs.Meaning.{Statement, meaning}
@@ -30,9 +29,8 @@ pub record IsTextFor (p : Settings) (reads : Named) (ss : List Statement) (text 
   pub utf8 : IsUtf8 text
   pub spelled : IsScript text script
   pub alone : (other : ScriptTree) → IsScript text other → other ≡ script
-  -- it breaks no rule, and holds no window
+  -- it breaks no rule
   pub typed : IsTypedScript script
-  pub plain : script_has_window script ≡ false
   -- it sets these settings, and reads these data sets: an INPUT for each, in order
   pub settings : script_settings script ≡ p
   pub inputs : inputs_in script ≡ map input_of reads

@@ -1,12 +1,11 @@
 // Runs of texts by the parser and the engine of this repository.
-ghost use Rattle.std.specs.Prelude.{◌≡◌, ◌<◌, false, IfOk};
+ghost use Rattle.std.specs.Prelude.{◌≡◌, ◌<◌, IfOk};
 ghost use Rattle.sql_tree.specs.Formed.{FormedScript};
 ghost use Rattle.sql_tree.specs.Texts.{IsScript};
 ghost use Rattle.sql_tree.specs.Trees.{ScriptTree};
 ghost use Rattle.sql_tree.specs.View.{script_tree};
 ghost use Rattle.sql_engine.specs.InputTables.{AreInputsInRange, HaveInputTables};
 ghost use Rattle.sql_engine.specs.Runs.{Runs};
-ghost use Rattle.sql_engine.specs.Windows.{script_has_window};
 ghost use Rattle.sql_back.specs.Engines.{same_error};
 ghost use Rattle.sql_back.specs.TextRuns.{CanRun, RunsText};
 
@@ -55,7 +54,6 @@ fn run_uncounted<L: Ledger>(
     requires name { blank.name ≡ L.name }
     requires parts { blank.parts ≡ L.parts }
     requires some { 0 < L.parts }
-    requires plain { script_has_window (script_tree checked.now.script) ≡ false }
     requires there { HaveInputTables inputs.now (script_tree checked.now.script) }
     requires in_range { AreInputsInRange checked.now.settings inputs.now (script_tree checked.now.script) }
     ensures { Runs (script_tree checked.now.script) inputs.now out.old out.new result }

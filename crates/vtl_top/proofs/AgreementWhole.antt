@@ -7,7 +7,6 @@ use Rattle.vtl_tree.specs.Structures.{AreStructures, Named}
 use Rattle.sql_tree.specs.Trees.{ScriptTree}
 use Rattle.sql_back.specs.EngineScripts.{script_value}
 use Rattle.sql_back.specs.TypingStatements.{script_settings}
-use Rattle.sql_back.specs.Windows.{script_has_window}
 use Rattle.vtl_interp.specs.Meaning.{meaning}
 use Rattle.vtl_interp.specs.Transformations.{transformations}
 use Rattle.vtl_interp.specs.Uses.{reads}
@@ -17,7 +16,7 @@ use Rattle.vtl_top.specs.Asked.{asked_step}
 use Rattle.vtl_top.specs.Expected.{IsTextOf, Typed, inputs_step, meant, outputs_of, run_step, statements_in}
 use Rattle.vtl_top.specs.ScriptFile.{whole}
 use Rattle.vtl_top.specs.SqlInputs.{input_structures, rows_by_name}
-use Rattle.vtl_top.specs.SqlRun.{engine_step, exports_of, present, sql_checked_step, sql_typing, sql_unbuilt}
+use Rattle.vtl_top.specs.SqlRun.{engine_step, exports_of, present, sql_checked_step, sql_typing}
 use Rattle.vtl_top.specs.Steps.{File, Held, Made, Path, Step, ◌>>=◌, only_files, settled}
 use Rattle.vtl_top.specs.Words.{Engine, Run, engine, run}
 use Rattle.vtl_status.specs.declared.status.Status.{Status}
@@ -26,7 +25,7 @@ use Rattle.vtl_top.proofs.AgreementExports.{exports_are_outputs}
 use Rattle.vtl_top.proofs.AgreementInputs.{IsDeclared, SameRows, as_input, sets_again, sets_alike, sets_are, sets_given, sets_in, sets_taken, structures_are, then_gives, then_on}
 use Rattle.vtl_top.proofs.AgreementStructures.{HaveStructures, nodes_have_structures, outputs_have_structures, results_have_structures}
 use Rattle.vtl_top.proofs.InputLemmas.{inputs_are}
-use Rattle.vtl_top.proofs.MeantLemmas.{accepted_always, passes}
+use Rattle.vtl_top.proofs.MeantLemmas.{accepted_always}
 use Rattle.vtl_top.proofs.Once.{IsNoText, determined}
 
 -- ---- a step that makes files gives one result, where its command does
@@ -109,7 +108,7 @@ module _ (r : Run) (e : Engine) (held other : Held) (twins : AreTwins r e held o
   checked = (
     Ok tree,
     (Ok twins.text, sym (ap (present e.sql) twins.sql_file), (whole tree, (its_text.utf8, its_text.spelled), refl)),
-    (Ok tt, passes (script_has_window tree) (sql_unbuilt e.sql) its_text.plain, (Ok tt, sym (ap sql_typing its_text.typed), refl)),
+    (Ok tt, sym (ap sql_typing its_text.typed), refl),
   )
 
   engine_there : (engine_step e).gives other engine_result

@@ -21,9 +21,8 @@ use Rattle.vtl_top.proofs.ReadScripts.{parsed_once}
 use Rattle.sql_back.specs.TypingStatements.{script_fault, script_settings}
 use Rattle.sql_back.specs.EngineScripts.{script_value}
 use Rattle.vtl_top.specs.SqlInputs.{input_structures, rows_by_name}
-use Rattle.sql_back.specs.Windows.{script_has_window}
-use Rattle.vtl_top.specs.SqlRun.{engine_step, exports_of, read_whole, sql_checked_step, sql_in, sql_of, sql_step, sql_typing, sql_unbuilt}
-use Rattle.vtl_top.proofs.SqlSteps.{after_checked, after_sql, after_windows, sql_parsed_once}
+use Rattle.vtl_top.specs.SqlRun.{engine_step, exports_of, read_whole, sql_checked_step, sql_in, sql_of, sql_step, sql_typing}
+use Rattle.vtl_top.proofs.SqlSteps.{after_checked, after_sql, sql_parsed_once}
 
 -- ---- what is settled, is one; and so is a step that follows one
 abbrev pub Once : {A : Type 0} → Step A → Held → Type 0
@@ -92,10 +91,9 @@ whole_once path held x y p q = p ∙ sym q
 
 sql_checked_once : (path : List ℕ) (held : Held) → Once (sql_checked_step path) held
 sql_checked_once path held =
-    onward_once (sql_step path) (after_sql path) held (onward_once (read_whole path) (sql_of path) held (whole_once path held) (λ bytes. sql_once path bytes held)) (λ tree.
-    onward_once (refused_if (script_has_window tree) (sql_unbuilt path)) (λ plain. after_windows tree) held (refused_once (script_has_window tree) (sql_unbuilt path) held) (λ plain.
+    onward_once (sql_step path) after_sql held (onward_once (read_whole path) (sql_of path) held (whole_once path held) (λ bytes. sql_once path bytes held)) (λ tree.
     onward_once (settled (sql_typing (script_fault tree))) (λ typed. settled (Ok tree)) held (settled_once (sql_typing (script_fault tree)) held) (λ typed.
-    settled_once (Ok tree) held)))
+    settled_once (Ok tree) held))
 
 engine_once : (e : Engine) (held : Held) → Once (engine_step e) held
 engine_once e held =

@@ -27,12 +27,11 @@ use Rattle.vtl_top.proofs.TextsRead.{Read, either_way, read_somehow, then_too, t
 use Rattle.vtl_files.specs.Outside.{bytes_at}
 use Rattle.sql_back.specs.TypingStatements.{script_fault, script_settings}
 use Rattle.vtl_top.specs.SqlInputs.{input_structures, rows_by_name}
-use Rattle.sql_back.specs.Windows.{script_has_window}
 use Rattle.sql_back.specs.EngineScripts.{script_value}
 use Rattle.sql_tree.specs.Texts as texts
 use Rattle.sql_tree.specs.Trees.{ScriptTree as SqlTree}
-use Rattle.vtl_top.specs.SqlRun.{engine_step, exports_of, present, read_whole, sql_checked_step, sql_of, sql_step, sql_typing, sql_unbuilt}
-use Rattle.vtl_top.proofs.SqlSteps.{after_checked, after_sql, after_windows}
+use Rattle.vtl_top.specs.SqlRun.{engine_step, exports_of, present, read_whole, sql_checked_step, sql_of, sql_step, sql_typing}
+use Rattle.vtl_top.proofs.SqlSteps.{after_checked, after_sql}
 use Rattle.vtl_top.proofs.SqlTexts.{sql_read_somehow}
 
 -- nothing refutes each outcome of a step
@@ -110,10 +109,9 @@ whole_total path held = there_is (present path (bytes_at path held), refl)
 
 sql_checked_total : (path : List ℕ) (held : Held) → Total (sql_checked_step path) held
 sql_checked_total path held =
-    onward_total (sql_step path) (after_sql path) held (onward_total (read_whole path) (sql_of path) held (whole_total path held) (λ bytes. sql_total path bytes held)) (λ tree.
-    onward_total (refused_if (script_has_window tree) (sql_unbuilt path)) (λ plain. after_windows tree) held (refused_total (script_has_window tree) (sql_unbuilt path) held) (λ plain.
+    onward_total (sql_step path) after_sql held (onward_total (read_whole path) (sql_of path) held (whole_total path held) (λ bytes. sql_total path bytes held)) (λ tree.
     onward_total (settled (sql_typing (script_fault tree))) (λ typed. settled (Ok tree)) held (settled_total (sql_typing (script_fault tree)) held) (λ typed.
-    settled_total (Ok tree) held)))
+    settled_total (Ok tree) held))
 
 engine_total : (e : Engine) (held : Held) → Total (engine_step e) held
 engine_total e held =

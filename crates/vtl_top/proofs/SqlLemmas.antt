@@ -1,5 +1,5 @@
 -- The steps of an engine, by what its parts answer.
-use Rattle.std.proofs.Common.{◌≡◌, inl, inr, ℕ, true, false, List, [], map, Option, Some, None, Result, Ok, Err, refl, sym, ap, subst, ◌∙◌, chars}
+use Rattle.std.proofs.Common.{◌≡◌, inl, inr, ℕ, List, [], map, Option, Some, None, Result, Ok, Err, refl, sym, ap, subst, ◌∙◌, chars}
 use Rattle.std.specs.Option.{option_map}
 use Rattle.vtl_files.specs.declared.files.Files.{Ghosts}
 use Rattle.vtl_cell.specs.Outcome.{DivZero, Fault as EvaluationFault, Range}
@@ -17,24 +17,23 @@ use Rattle.sql_back.specs.TypingStatements.{Fault, script_fault, script_settings
 use Rattle.sql_back.specs.EngineScripts.{Export, NamedFault, script_value}
 use Rattle.sql_back.specs.Exported.{shown}
 use Rattle.sql_back.specs.EngineRuns.{FaultIs, ShowsExports}
-use Rattle.sql_back.specs.Windows.{script_has_window}
 use Rattle.sql_back.specs.error.RunErr.{RunErr}
 use Rattle.sql_back.specs.error.RunErr.TheVariants as engine
 use Rattle.vtl_top.specs.Answered.{Came, Takes}
 use Rattle.vtl_top.specs.Expected.{fault_status, inputs_step}
 use Rattle.vtl_top.specs.Kinds.{refused, told_by}
-use Rattle.vtl_top.specs.Refusal.{IsOrMemory, IsSqlOf, SettlesBy, sql_faulted, sql_mistyped}
+use Rattle.vtl_top.specs.Refusal.{IsSqlOf, SettlesBy, sql_faulted, sql_mistyped}
 use Rattle.vtl_top.specs.ScriptFile.{faulty, no_text, whole}
 use Rattle.vtl_top.specs.SqlInputs.{input_structures, rows_by_name}
-use Rattle.vtl_top.specs.SqlRun.{engine_step, exports_of, sql_checked_step, sql_of, sql_step, sql_typing, sql_unbuilt, table_file}
-use Rattle.vtl_top.specs.Steps.{File, Path, refused_if, settled}
+use Rattle.vtl_top.specs.SqlRun.{engine_step, exports_of, sql_checked_step, sql_of, sql_step, sql_typing, table_file}
+use Rattle.vtl_top.specs.Steps.{File, Path, settled}
 use Rattle.vtl_top.specs.Words.{Engine}
 use Rattle.vtl_status.specs.declared.status.Status.{Status}
 use Rattle.vtl_status.specs.declared.status.Status.TheVariants as st
 use Rattle.std.proofs.lemmas.Simd.{map-map}
 use Rattle.vtl_top.proofs.ReadScripts.{if_some_all, settled_given}
-use Rattle.vtl_top.proofs.RunLemmas.{settled_ok, test_passes, test_refuses}
-use Rattle.vtl_top.proofs.SqlSteps.{after_checked, after_sql, after_windows}
+use Rattle.vtl_top.proofs.RunLemmas.{settled_ok}
+use Rattle.vtl_top.proofs.SqlSteps.{after_checked, after_sql}
 use Rattle.vtl_top.proofs.StepLemmas.{nothing_read, takes_onward, takes_stopped}
 
 -- ---- the bytes of an SQL file
@@ -73,14 +72,14 @@ abbrev pub checked_tree : CheckedScript → ScriptTree
 checked_tree c = script_tree c.script
 
 module _ {F : Type 0} (g : Ghosts F) (a : F) (script : SqlScript) where
-  pub sql_typed : (c : CheckedScript) → Checks script (Ok c) → Takes g a a (after_windows (script_tree script)) checked_tree (Ok c)
+  pub sql_typed : (c : CheckedScript) → Checks script (Ok c) → Takes g a a (after_sql (script_tree script)) checked_tree (Ok c)
   sql_typed c is =
       let fits = ap script_fault (ap script_tree is.0) ∙ refl in
       takes_onward g (settled (sql_typing (script_fault (script_tree script)))) (λ typed. settled (Ok (script_tree script))) a a a (λ (u : Unit {0}). u) checked_tree tt (Ok c)
       (settled_ok g a (λ (u : Unit {0}). u) tt (sql_typing (script_fault (script_tree script))) (sql_fits (script_fault (script_tree script)) is.1))
       (settled_ok g a checked_tree c (Ok (script_tree script)) (ap Ok (ap script_tree (sym is.0))))
 
-  pub sql_untyped : (error : SqlTypeErr) (status : Status) → Checks script (Err error) → status ≡ sql_mistyped error → Takes g a a (after_windows (script_tree script)) checked_tree (Err status)
+  pub sql_untyped : (error : SqlTypeErr) (status : Status) → Checks script (Err error) → status ≡ sql_mistyped error → Takes g a a (after_sql (script_tree script)) checked_tree (Err status)
   sql_untyped error status is e =
       takes_stopped g (settled (sql_typing (script_fault (script_tree script)))) (λ typed. settled (Ok (script_tree script))) a a (λ (u : Unit {0}). u) checked_tree status
       (settled_given g a (λ (u : Unit {0}). u) (sql_typing (script_fault (script_tree script))) (sql_refuses (script_fault (script_tree script))) (Err status) (by error is e))
@@ -92,20 +91,11 @@ module _ {F : Type 0} (g : Ghosts F) (a : F) (script : SqlScript) where
 -- ---- up to a script that is typed
 module _ {F X : Type 0} (g : Ghosts F) (path : Path) (view : X → ScriptTree) (a b : F) where
   pub sql_unread : (status : Status) → Takes g a b (sql_step path) script_tree (Err status) → Takes g a b (sql_checked_step path) view (Err status)
-  sql_unread status t = takes_stopped g (sql_step path) (after_sql path) a b script_tree view status t
+  sql_unread status t = takes_stopped g (sql_step path) after_sql a b script_tree view status t
 
   module _ (script : SqlScript) (t : Takes g a b (sql_step path) script_tree (Ok script)) where
-    pub windows_refused : (status : Status) → script_has_window (script_tree script) ≡ true → IsOrMemory (sql_unbuilt path) status → Takes g a b (sql_checked_step path) view (Err status)
-    windows_refused status has is =
-        takes_onward g (sql_step path) (after_sql path) a b b script_tree view script (Err status) t
-        (takes_stopped g (refused_if (script_has_window (script_tree script)) (sql_unbuilt path)) (λ plain. after_windows (script_tree script)) b b (λ (u : Unit {0}). u) view status
-        (test_refuses g b (λ (u : Unit {0}). u) path (script_has_window (script_tree script)) status has is))
-
-    pub then_checked : (result : Result X Status) → script_has_window (script_tree script) ≡ false → Takes g b b (after_windows (script_tree script)) view result → Takes g a b (sql_checked_step path) view result
-    then_checked result none rest =
-        takes_onward g (sql_step path) (after_sql path) a b b script_tree view script result t
-        (takes_onward g (refused_if (script_has_window (script_tree script)) (sql_unbuilt path)) (λ plain. after_windows (script_tree script)) b b b (λ (u : Unit {0}). u) view tt result
-        (test_passes g b (script_has_window (script_tree script)) (sql_unbuilt path) none) rest)
+    pub then_checked : (result : Result X Status) → Takes g b b (after_sql (script_tree script)) view result → Takes g a b (sql_checked_step path) view result
+    then_checked result rest = takes_onward g (sql_step path) after_sql a b b script_tree view script result t rest
 
 -- ---- the exports
 exports_refuse : (folder : Path) (p : Settings) (m : Result (List Export) NamedFault) (status : Status) → exports_of folder p m ≡ Err status → told_by status ≡ refused

@@ -10,19 +10,18 @@ use Rattle.sql_tree.specs.Trees.{ScriptTree}
 use Rattle.sql_back.specs.Rules.{number_of}
 use Rattle.sql_back.specs.TypingStatements.{Fault, script_fault, script_settings}
 use Rattle.sql_back.specs.EngineScripts.{Export, NamedFault, script_value}
-use Rattle.sql_back.specs.Windows.{script_has_window}
 use Rattle.vtl_top.specs.Expected.{fault_status, inputs_step}
 use Rattle.vtl_top.specs.ScriptFile.{IsSqlParsed, Parsed, faulty, no_text, whole}
 use Rattle.vtl_top.specs.SqlInputs.{input_structures, rows_by_name}
 use Rattle.vtl_top.specs.SqlMeant.{IsExported, IsSqlFaulted, IsSqlMistyped, IsSqlRead, IsSqlReady}
-use Rattle.vtl_top.specs.SqlRun.{engine_step, export_file, exports_of, present, read_whole, sql_checked_step, sql_in, sql_of, sql_step, sql_typing, sql_unbuilt}
-use Rattle.vtl_top.specs.Steps.{File, Held, Path, refused_if, settled}
+use Rattle.vtl_top.specs.SqlRun.{engine_step, export_file, exports_of, present, read_whole, sql_checked_step, sql_in, sql_of, sql_step, sql_typing}
+use Rattle.vtl_top.specs.Steps.{File, Held, Path, settled}
 use Rattle.vtl_top.specs.Words.{Engine}
 use Rattle.vtl_status.specs.declared.status.Status.{Status}
 use Rattle.vtl_status.specs.declared.status.Status.TheVariants as st
-use Rattle.vtl_top.proofs.MeantLemmas.{passed, passes, went_on}
-use Rattle.vtl_top.proofs.RefusedLemmas.{never_inputs, never_onward, never_refused, other, own_values, refused_at}
-use Rattle.vtl_top.proofs.SqlSteps.{after_checked, after_sql, after_windows}
+use Rattle.vtl_top.proofs.MeantLemmas.{went_on}
+use Rattle.vtl_top.proofs.RefusedLemmas.{never_inputs, never_onward, other, own_values, refused_at}
+use Rattle.vtl_top.proofs.SqlSteps.{after_checked, after_sql}
 
 -- ---- the script
 record IsSqlTextOf (text : List ℕ) (tree : ScriptTree) : Type 0 where
@@ -38,11 +37,11 @@ there_from : (path : Path) (o : Option (List ℕ)) (text : List ℕ) → Ok text
 there_from path None text e = cc
 there_from path (Some bytes) text e = cc
 
-sql_read_from : (e : Engine) (held : Held) (tree : ScriptTree) (u : Unit {0}) → (sql_step e.sql).gives held (Ok tree) → (refused_if (script_has_window tree) (sql_unbuilt e.sql)).gives held (Ok u) → IsSqlRead e held tree
-sql_read_from e held tree u is plain =
+sql_read_from : (e : Engine) (held : Held) (tree : ScriptTree) → (sql_step e.sql).gives held (Ok tree) → IsSqlRead e held tree
+sql_read_from e held tree is =
     let x = went_on (read_whole e.sql) (sql_of e.sql) held tree is in
     let script = sql_from e.sql x.0 x.2.0 tree x.2.1 x.2.2 in
-    record { text = x.0; file = there_from e.sql (bytes_at e.sql held) x.0 x.1; utf8 = script.utf8; parsed = script.parsed; plain = passed (script_has_window tree) (sql_unbuilt e.sql) u plain }
+    record { text = x.0; file = there_from e.sql (bytes_at e.sql held) x.0 x.1; utf8 = script.utf8; parsed = script.parsed }
 
 sql_there : (e : Engine) (held : Held) (tree : ScriptTree) → IsSqlRead e held tree → (sql_step e.sql).gives held (Ok tree)
 sql_there e held tree is = (Ok is.text, sym (ap (present e.sql) is.file), (whole tree, (is.utf8, is.parsed), refl))
@@ -57,15 +56,14 @@ record IsSqlAccepted (e : Engine) (held : Held) (tree : ScriptTree) : Type 0 whe
 
 sql_accepted_only : (e : Engine) (held : Held) (tree : ScriptTree) → (sql_checked_step e.sql).gives held (Ok tree) → IsSqlAccepted e held tree
 sql_accepted_only e held tree g =
-    let a = went_on (sql_step e.sql) (after_sql e.sql) held tree g in
-    let b = went_on (refused_if (script_has_window a.0) (sql_unbuilt e.sql)) (λ plain. after_windows a.0) held tree a.2 in
-    let c = went_on (settled (sql_typing (script_fault a.0))) (λ typed. settled (Ok a.0)) held tree b.2 in
-    let same : a.0 ≡ tree = cc (c.2) in
-    subst (IsSqlAccepted e held) same (record { source = sql_read_from e held a.0 b.0 a.1 b.1; typed = typed_from (script_fault a.0) c.0 c.1 })
+    let a = went_on (sql_step e.sql) after_sql held tree g in
+    let b = went_on (settled (sql_typing (script_fault a.0))) (λ typed. settled (Ok a.0)) held tree a.2 in
+    let same : a.0 ≡ tree = cc (b.2) in
+    subst (IsSqlAccepted e held) same (record { source = sql_read_from e held a.0 a.1; typed = typed_from (script_fault a.0) b.0 b.1 })
 
 sql_accepted_always : (e : Engine) (held : Held) (tree : ScriptTree) → IsSqlRead e held tree → script_fault tree ≡ None → (sql_checked_step e.sql).gives held (Ok tree)
 sql_accepted_always e held tree source typed =
-    (Ok tree, sql_there e held tree source, (Ok tt, passes (script_has_window tree) (sql_unbuilt e.sql) source.plain, (Ok tt, sym (ap sql_typing typed), refl)))
+    (Ok tree, sql_there e held tree source, (Ok tt, sym (ap sql_typing typed), refl))
 
 -- ---- its exports
 exports_from : (folder : Path) (p : Settings) (m : Result (List Export) NamedFault) (files : List File) → Ok files ≡ exports_of folder p m → (exports : List Export) × (m ≡ Ok exports) × (files ≡ map (export_file folder p) exports)
@@ -94,7 +92,7 @@ pub sql_mistyped_always : (e : Engine) (held : Held) (fault : Fault) → IsSqlMi
 sql_mistyped_always e held fault is =
     let typing = sym (ap sql_typing is.fault) in
     let checked : (sql_checked_step e.sql).gives held (Err (st.SqlType fault.0 (number_of fault.1))) =
-    (Ok is.script, sql_there e held is.script is.source, (Ok tt, passes (script_has_window is.script) (sql_unbuilt e.sql) is.source.plain, (Err (st.SqlType fault.0 (number_of fault.1)), typing, refl))) in
+    (Ok is.script, sql_there e held is.script is.source, (Err (st.SqlType fault.0 (number_of fault.1)), typing, refl)) in
     (Err (st.SqlType fault.0 (number_of fault.1)), checked, refl)
 
 -- a fault of a meaning comes from the meaning alone
@@ -130,10 +128,9 @@ module _ (f : EvaluationFault) (name : List ℕ) (held : Held) where
 
   never_checked : (path : Path) → (sql_checked_step path).gives held (Err status) → ⊥
   never_checked path =
-      never_onward status (own_values f name) held (sql_step path) (after_sql path)
+      never_onward status (own_values f name) held (sql_step path) after_sql
       (never_onward status (own_values f name) held (read_whole path) (sql_of path) (never_present path (bytes_at path held)) (never_sql path)) (λ tree.
-      never_onward status (own_values f name) held (refused_if (script_has_window tree) (sql_unbuilt path)) (λ plain. after_windows tree) (never_refused status (own_values f name) held (script_has_window tree) (sql_unbuilt path) refl) (λ plain.
-      never_onward status (own_values f name) held (settled (sql_typing (script_fault tree))) (λ typed. settled (Ok tree)) (never_typing (script_fault tree)) (λ typed q. cc)))
+      never_onward status (own_values f name) held (settled (sql_typing (script_fault tree))) (λ typed. settled (Ok tree)) (never_typing (script_fault tree)) (λ typed q. cc))
 
   pub sql_faulted_only : (e : Engine) → (engine_step e).gives held (Err status) → IsSqlFaulted e held f name
   sql_faulted_only e gives = at_checked (refused_at (sql_checked_step e.sql) (after_checked e) held status gives)

@@ -5,23 +5,19 @@ use Rattle.sql_tree.specs.Trees.{ScriptTree}
 use Rattle.sql_back.specs.TypingStatements.{script_fault, script_settings}
 use Rattle.sql_back.specs.EngineScripts.{script_value}
 use Rattle.vtl_top.specs.SqlInputs.{input_structures, rows_by_name}
-use Rattle.sql_back.specs.Windows.{script_has_window}
 use Rattle.sql_back.proofs.Texts.{not_both, one_fault, one_script}
 use Rattle.vtl_top.specs.Expected.{inputs_step}
 use Rattle.vtl_top.specs.ScriptFile.{IsSqlParsed, Parsed}
-use Rattle.vtl_top.specs.SqlRun.{exports_of, sql_typing, sql_unbuilt}
-use Rattle.vtl_top.specs.Steps.{File, Path, Step, ◌>>=◌, refused_if, settled}
+use Rattle.vtl_top.specs.SqlRun.{exports_of, sql_typing}
+use Rattle.vtl_top.specs.Steps.{File, Step, ◌>>=◌, settled}
 use Rattle.vtl_top.specs.Words.{Engine}
 use Rattle.vtl_top.proofs.ReadScripts.{read_once_by}
 
 pub sql_parsed_once : (bytes : List ℕ) (a b : Parsed ScriptTree) → IsSqlParsed bytes a → IsSqlParsed bytes b → a ≡ b
 sql_parsed_once = read_once_by IsScript IsFaulty one_script not_both one_fault
 
-abbrev pub after_windows : ScriptTree → Step ScriptTree
-after_windows tree = settled (sql_typing (script_fault tree)) >>= λ typed. settled (Ok tree)
-
-abbrev pub after_sql : Path → ScriptTree → Step ScriptTree
-after_sql path tree = refused_if (script_has_window tree) (sql_unbuilt path) >>= λ plain. after_windows tree
+abbrev pub after_sql : ScriptTree → Step ScriptTree
+after_sql tree = settled (sql_typing (script_fault tree)) >>= λ typed. settled (Ok tree)
 
 abbrev pub after_checked : Engine → ScriptTree → Step (List File)
 after_checked e tree = inputs_step e.input (script_settings tree) [] (input_structures tree) >>= λ env. settled (exports_of e.output (script_settings tree) (script_value tree (rows_by_name env)))

@@ -1,5 +1,5 @@
 -- The exports of an engine in the words of the dialect: what the SQL script means over its inputs.
-use Rattle.std.specs.Prelude.{◌≡◌, false, List, [], map, Err, Ok, Some, IsUtf8}
+use Rattle.std.specs.Prelude.{◌≡◌, List, [], map, Err, Ok, Some, IsUtf8}
 use Rattle.vtl_files.specs.Outside.{bytes_at}
 use Rattle.vtl_tree.specs.Environment.{Environment}
 use Rattle.vtl_cell.specs.Outcome.{Fault}
@@ -7,20 +7,18 @@ use Rattle.sql_tree.specs.Texts.{IsScript}
 use Rattle.sql_tree.specs.Trees.{ScriptTree}
 use Rattle.sql_back.specs.TypingStatements.{Fault as Breach, IsTypedScript, script_fault, script_settings}
 use Rattle.sql_back.specs.EngineScripts.{Export, script_value}
-use Rattle.sql_back.specs.Windows.{script_has_window}
 use Rattle.vtl_top.specs.Expected.{inputs_step}
 use Rattle.vtl_top.specs.SqlInputs.{input_structures, rows_by_name}
 use Rattle.vtl_top.specs.SqlRun.{export_file}
 use Rattle.vtl_top.specs.Steps.{File, Held, Name, Text}
 use Rattle.vtl_top.specs.Words.{Engine}
 
--- The script is that of the file's text, and holds no window.
+-- The script is that of the file's text.
 pub record IsSqlRead (e : Engine) (held : Held) (script : ScriptTree) : Type 0 where
   pub text : Text
   pub file : bytes_at e.sql held ≡ Some text
   pub utf8 : IsUtf8 text
   pub parsed : IsScript text script
-  pub plain : script_has_window script ≡ false
 
 -- It breaks no rule, and these are the data sets of its INPUTs.
 pub record IsSqlReady (e : Engine) (held : Held) (script : ScriptTree) (inputs : Environment) : Type 0 where

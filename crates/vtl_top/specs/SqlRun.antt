@@ -9,11 +9,10 @@ use Rattle.sql_back.specs.Rules.{number_of}
 use Rattle.sql_back.specs.TypingStatements.{Fault, script_fault, script_settings}
 use Rattle.sql_back.specs.EngineScripts.{Export, NamedFault, script_value}
 use Rattle.sql_back.specs.Exported.{shown}
-use Rattle.sql_back.specs.Windows.{script_has_window}
 use Rattle.vtl_top.specs.SqlInputs.{input_structures, rows_by_name}
 use Rattle.vtl_top.specs.Expected.{fault_status, file_in, inputs_step}
 use Rattle.vtl_top.specs.ScriptFile.{IsSqlParsed, Parsed, faulty, no_text, whole}
-use Rattle.vtl_top.specs.Steps.{File, Name, Path, Step, Text, ◌>>=◌, refused_if, settled}
+use Rattle.vtl_top.specs.Steps.{File, Name, Path, Step, Text, ◌>>=◌, settled}
 use Rattle.vtl_top.specs.Words.{Engine}
 use Rattle.vtl_status.specs.declared.status.Status.{Status}
 use Rattle.vtl_status.specs.declared.status.Status.TheVariants as st
@@ -58,15 +57,10 @@ exports_of folder p (Ok exports) = Ok (map (export_file folder p) exports)
 exports_of folder p (Err fault) = Err (fault_status fault.0 fault.1)
 
 -- ---- the whole
--- the status of a script with a form that is not evaluated yet
-abbrev pub sql_unbuilt : Path → Status
-sql_unbuilt path = st.Unbuilt (chars path)
-
--- a script of an SQL file that is typed, and has no window
+-- a script of an SQL file that is typed
 abbrev pub sql_checked_step : Path → Step ScriptTree
 sql_checked_step path =
     sql_step path >>= λ tree.
-    refused_if (script_has_window tree) (sql_unbuilt path) >>= λ plain.
     settled (sql_typing (script_fault tree)) >>= λ typed.
     settled (Ok tree)
 

@@ -1,5 +1,5 @@
 // The run of an SQL file, from the paths of its files to the texts of its exports.
-ghost use Rattle.std.specs.Prelude.{◌≡◌, ◌<◌, [], false, length, map, IfOk, slice_index_or};
+ghost use Rattle.std.specs.Prelude.{◌≡◌, ◌<◌, [], length, map, IfOk, slice_index_or};
 ghost use Rattle.std.specs.List.{AllByRecursion};
 ghost use Rattle.vtl_rows.specs.Named.{NamedTables};
 ghost use Rattle.sql_tree.specs.Formed.{FormedScript};
@@ -7,7 +7,6 @@ ghost use Rattle.sql_tree.specs.View.{script_tree};
 ghost use Rattle.sql_back.specs.TypingStatements.{script_settings};
 ghost use Rattle.sql_back.specs.InputTables.{AreInputsInRange, HaveInputTables, rows_given};
 ghost use Rattle.sql_back.specs.EngineRuns.{Runs};
-ghost use Rattle.sql_back.specs.Windows.{script_has_window};
 ghost use Rattle.sql_back.specs.EngineScripts.{script_value};
 ghost use Rattle.vtl_top.specs.Answered.{Takes};
 ghost use Rattle.vtl_top.specs.OutputView.{NamesPath, output_view, outputs_view};
@@ -17,10 +16,10 @@ ghost use Rattle.vtl_top.specs.SqlRun.{engine_step, exports_of, read_whole, sql_
 
 use crate::output::Output;
 use crate::reading::{file_in, read_whole_file};
-use crate::refusal::{not_text, unbuilt};
+use crate::refusal::not_text;
 use crate::sql_inputs::read_sql_inputs;
 use crate::words::Engine;
-use sql_back::{RunErr, SqlChecked, SqlErr, SqlTypeErr, Steps, check, has_window, parse, run};
+use sql_back::{RunErr, SqlChecked, SqlErr, SqlTypeErr, Steps, check, parse, run};
 use sql_tree::SqlScript;
 use std::alloc::{AllocError, Global};
 use std::marker::Brand;
@@ -84,16 +83,12 @@ fn mistyped(error: SqlTypeErr) -> Status
     }
 }
 
-// The script of an SQL file, without windows and typed.
+// The script of an SQL file, typed.
 fn read_checked<F: Files>(alloc: Global, files: &mut F, path: &str) -> Result<SqlChecked, Status>
     ensures takes { Takes F.Files files.old files.new (sql_checked_step path.now) (λ c. script_tree c.script) result }
     ensures settings { IfOk result (λ c. c.settings ≡ script_settings (script_tree c.script)) }
-    ensures plain { IfOk result (λ c. script_has_window (script_tree c.script) ≡ false) }
 {
     let script = read_sql(alloc, files, path)?;
-    if has_window(&script) {
-        return Err(unbuilt(alloc, path));
-    }
     match check(alloc, script) {
         Ok(checked) => Ok(checked),
         Err(error) => Err(mistyped(error)),
@@ -171,7 +166,6 @@ fn run_uncounted<L: Ledger>(
     requires name { blank.name ≡ L.name }
     requires parts { blank.parts ≡ L.parts }
     requires some { 0 < L.parts }
-    requires plain { script_has_window (script_tree checked.now.script) ≡ false }
     requires inputs { HaveInputTables inputs.now (script_tree checked.now.script) }
     requires ranges { AreInputsInRange checked.now.settings inputs.now (script_tree checked.now.script) }
     requires none { tables.old ≡ [] }
@@ -189,7 +183,6 @@ fn exports(
     checked: &SqlChecked,
     inputs: Tables,
 ) -> Result<Vec<Output>, Status>
-    requires plain { script_has_window (script_tree checked.now.script) ≡ false }
     requires tables { HaveInputTables inputs (script_tree checked.now.script) }
     requires ranges { AreInputsInRange checked.now.settings inputs (script_tree checked.now.script) }
     ensures view { SettlesBy outputs_view (exports_of folder.now checked.now.settings (script_value (script_tree checked.now.script) (rows_given inputs))) result }

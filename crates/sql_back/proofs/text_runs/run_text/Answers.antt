@@ -1,21 +1,15 @@
-use Rattle.std.proofs.Common.{◌≡◌, false, Err, ap, sym, subst, ◌∙◌}
+use Rattle.std.proofs.Common.{◌≡◌, Err, ap, sym, subst, ◌∙◌}
 use Rattle.sql_tree.specs.View.{script_tree}
 use Rattle.sql_engine.specs.InputTables.{AreInputsInRange, HaveInputTables, rows_given}
 use Rattle.sql_engine.specs.Runs.{FaultIs, ShowsExports}
 use Rattle.sql_engine.specs.Scripts.{script_value}
 use Rattle.sql_engine.specs.TypingStatements.{IsTypedScript, script_settings}
-use Rattle.sql_engine.specs.Windows.{script_has_window}
 use Rattle.sql_back.specs.TextRuns.{TellsText}
 use Rattle.sql_back.proofs.EngineRuns.{exports_shown, fault_told}
 use Rattle.sql_back.proofs.text_runs.run_text.Goals as goal
 
 pub of-checked-requires-clause-typed : goal.of-checked-requires-clause-typed
 of-checked-requires-clause-typed c = subst IsTypedScript (sym (c.in_ok-script.ensures.script c.requires.script c.requires.spelled)) c.requires.typed
-
-pub run_uncounted-requires-clause-plain : goal.run_uncounted-requires-clause-plain
-run_uncounted-requires-clause-plain c =
-    let same = ap script_tree c.of-checked.ensures.script ∙ c.in_ok-script.ensures.script c.requires.script c.requires.spelled in
-    subst (λ s. script_has_window s ≡ false) (sym same) c.requires.plain
 
 pub run_uncounted-requires-clause-there : goal.run_uncounted-requires-clause-there
 run_uncounted-requires-clause-there c =
