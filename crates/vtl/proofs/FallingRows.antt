@@ -1,5 +1,5 @@
 -- Tables whose rows fall are those of the same exports.
-use Rattle.std.proofs.Common.{◌≡◌, ℕ, Bool, true, false, cond, List, [], ◌∷◌, Result, Ok, Err, refl}
+use Rattle.std.proofs.Common.{Bool, true, false, cond, List, [], ◌∷◌, Result, Ok, Err, refl}
 use Rattle.vtl_top.specs.EngineScripts.{Export, NamedFault}
 use Rattle.vtl_top.specs.Perm.{Perm, empty, keep, cross, chain}
 use Rattle.vtl_top.specs.RowNames.{NamedTables}

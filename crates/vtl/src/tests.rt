@@ -7,7 +7,8 @@ use vtl_top::{Status, vtl};
 
 const SCRIPT: &str = "DS_r <- DS_1 [filter Me_1 > 5];";
 
-const STRUCTURES: &str = "dataset,component,role,type,codes\nDS_1,Id_1,identifier,string,\nDS_1,Me_1,measure,integer,\n";
+const STRUCTURES: &str =
+    "dataset,component,role,type,codes\nDS_1,Id_1,identifier,string,\nDS_1,Me_1,measure,integer,\n";
 
 const LINES: &str = "Id_1,Me_1\nb,7\na,9\nc,3\n";
 

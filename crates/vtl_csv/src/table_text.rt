@@ -61,6 +61,9 @@ pub fn write_rows(alloc: Global, table: &Table, profile: &Profile) -> Result<Vec
 {
     let mut text = header_text(alloc, table.columns())?;
     for place in 0..table.len() {
+        if place % AHEAD == 0 {
+            text.reserve(bytes_from(table, place))?;
+        }
         push_record(&mut text, row_at(table, place), profile)?;
     }
     Ok(text)
@@ -154,6 +157,15 @@ fn bytes_ahead(table: &Table, places: &[usize]) -> usize
     let mut bytes = 0usize;
     for place in &places[..places.len().min(AHEAD)] {
         bytes = bytes.saturating_add(text_bytes(row_at(table, *place)));
+    }
+    bytes
+}
+
+// The same of the rows that lie from a place on.
+fn bytes_from(table: &Table, place: usize) -> usize {
+    let mut bytes = 0usize;
+    for i in place..table.len().min(place.saturating_add(AHEAD)) {
+        bytes = bytes.saturating_add(text_bytes(row_at(table, i)));
     }
     bytes
 }
