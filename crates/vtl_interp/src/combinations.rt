@@ -79,7 +79,7 @@ pub fn union<'a>(
 {
     let made = share_structure(alloc, made)?;
     let sets = lent(alloc, values)?;
-    Ok(Value::Made(vtl_group::union_all(alloc, &sets, made)?))
+    Ok(Value::Made(vtl_window::union_all(alloc, &sets, made)?))
 }
 
 /// `intersect`
@@ -93,7 +93,7 @@ pub fn intersect<'a>(
 {
     let made = share_structure(alloc, made)?;
     let sets = lent(alloc, values)?;
-    Ok(Value::Made(vtl_group::intersect_all(alloc, &sets, made)?))
+    Ok(Value::Made(vtl_window::intersect_all(alloc, &sets, made)?))
 }
 
 /// `setdiff`
@@ -107,7 +107,7 @@ pub fn set_diff<'a>(
     ensures { AnswersBy value_view result (Ok (data_set made.now (difference_of (value_view a.entry) (value_view b.entry) made.now))) }
 {
     let made = share_structure(alloc, made)?;
-    Ok(Value::Made(vtl_group::setdiff(alloc, a.data(), b.data(), made)?))
+    Ok(Value::Made(vtl_window::setdiff(alloc, a.data(), b.data(), made)?))
 }
 
 /// `symdiff`
@@ -121,7 +121,7 @@ pub fn sym_diff<'a>(
     ensures { AnswersBy value_view result (Ok (data_set made.now (symmetric_difference_of (value_view a.entry) (value_view b.entry) made.now))) }
 {
     let made = share_structure(alloc, made)?;
-    Ok(Value::Made(vtl_group::symdiff(alloc, a.data(), b.data(), made)?))
+    Ok(Value::Made(vtl_window::symdiff(alloc, a.data(), b.data(), made)?))
 }
 
 /// `exists_in`
@@ -136,7 +136,7 @@ pub fn exists_in<'a>(
     ensures { AnswersBy value_view result (Ok (data_set made.now (existence_of (value_view a.entry) (value_view b.entry) retain))) }
 {
     let made = share_structure(alloc, made)?;
-    Ok(Value::Made(vtl_group::exists_in(alloc, a.data(), b.data(), retain, made)?))
+    Ok(Value::Made(vtl_window::exists_in(alloc, a.data(), b.data(), retain, made)?))
 }
 
 /// `pivot`
@@ -151,7 +151,7 @@ pub fn pivot<'a>(
     ensures { AnswersBy value_view result (Ok (data_set made.now (pivot_of (value_view a.entry) id.now m.now))) }
 {
     let made = share_structure(alloc, made)?;
-    Ok(Value::Made(vtl_group::pivot(alloc, a.data(), id, m, made)?))
+    Ok(Value::Made(vtl_window::pivot(alloc, a.data(), id, m, made)?))
 }
 
 /// `unpivot`
@@ -160,5 +160,5 @@ pub fn unpivot<'a>(alloc: Global, a: Value<'a>, made: &Structure) -> Result<Valu
     ensures { AnswersBy value_view result (Ok (data_set made.now (unpivot_of (value_view a.entry)))) }
 {
     let made = share_structure(alloc, made)?;
-    Ok(Value::Made(vtl_group::unpivot(alloc, a.data(), made)?))
+    Ok(Value::Made(vtl_window::unpivot(alloc, a.data(), made)?))
 }

@@ -31,7 +31,7 @@ pub fn measures<'a>(
     ensures { AnswersBy value_view result (with_structure made.now (measured_of p.now (measure_tree op.now) (value_view a.entry) made.now)) }
 {
     let made = share_structure(alloc, made)?;
-    Ok(Value::Made(vtl_group::map_measures(alloc, op, a.data(), made, p)?))
+    Ok(Value::Made(vtl_window::map_measures(alloc, op, a.data(), made, p)?))
 }
 
 /// An operator on the measures of two data sets.
@@ -47,7 +47,7 @@ pub fn pair<'a>(
     ensures { AnswersBy value_view result (with_structure made.now (pair_of p.now op (value_view a.entry) (value_view b.entry) made.now)) }
 {
     let made = share_structure(alloc, made)?;
-    Ok(Value::Made(vtl_group::pair_measures(alloc, op, a.data(), b.data(), made, p)?))
+    Ok(Value::Made(vtl_window::pair_measures(alloc, op, a.data(), b.data(), made, p)?))
 }
 
 /// `if`
@@ -62,7 +62,7 @@ pub fn choose<'a>(
     ensures { AnswersBy value_view result (Ok (data_set made.now (choice_of (value_view condition.entry) (value_view a.entry) (value_view b.entry) made.now))) }
 {
     let made = share_structure(alloc, made)?;
-    Ok(Value::Made(vtl_group::choose(alloc, condition.data(), a.data(), b.data(), made)?))
+    Ok(Value::Made(vtl_window::choose(alloc, condition.data(), a.data(), b.data(), made)?))
 }
 
 /// Some of the columns: `keep`, `drop` and `a#m`.
@@ -71,7 +71,7 @@ pub fn columns<'a>(alloc: Global, a: Value<'a>, made: &Structure) -> Result<Valu
     ensures { AnswersBy value_view result (Ok (data_set made.now (left_of (value_view a.entry) made.now))) }
 {
     let made = share_structure(alloc, made)?;
-    Ok(Value::Made(vtl_group::keep_columns(alloc, a.data(), made)?))
+    Ok(Value::Made(vtl_window::keep_columns(alloc, a.data(), made)?))
 }
 
 /// `filter`
@@ -86,7 +86,7 @@ pub fn filter<'a>(
     ensures { AnswersBy value_view result (with_structure made.now (filter_of p.now (comp_exp_of condition.now) (value_view a.entry).points)) }
 {
     let made = share_structure(alloc, made)?;
-    Ok(Value::Made(vtl_group::filter(alloc, a.data(), condition, made, p)?))
+    Ok(Value::Made(vtl_window::filter(alloc, a.data(), condition, made, p)?))
 }
 
 /// `calc`
@@ -101,7 +101,7 @@ pub fn calc<'a>(
     ensures { AnswersBy value_view result (with_structure made.now (calculated_of p.now (map item_tree items.now) (value_view a.entry) made.now)) }
 {
     let made = share_structure(alloc, made)?;
-    Ok(Value::Made(vtl_group::calc(alloc, a.data(), items, made, p)?))
+    Ok(Value::Made(vtl_window::calc(alloc, a.data(), items, made, p)?))
 }
 
 /// `rename`
@@ -110,7 +110,7 @@ pub fn rename<'a>(alloc: Global, a: Value<'a>, made: &Structure) -> Result<Value
     ensures { AnswersBy value_view result (Ok (data_set made.now (value_view a.entry).points)) }
 {
     let made = share_structure(alloc, made)?;
-    Ok(Value::Made(vtl_group::rename(alloc, a.data(), made)?))
+    Ok(Value::Made(vtl_window::rename(alloc, a.data(), made)?))
 }
 
 /// `sub`
@@ -124,7 +124,7 @@ pub fn sub<'a>(
     ensures { AnswersBy value_view result (Ok (data_set made.now (sub_of items.now (value_view a.entry) made.now))) }
 {
     let made = share_structure(alloc, made)?;
-    Ok(Value::Made(vtl_group::sub(alloc, a.data(), items, made)?))
+    Ok(Value::Made(vtl_window::sub(alloc, a.data(), items, made)?))
 }
 
 /// An aggregate of each measure, and `aggr`
@@ -139,7 +139,7 @@ pub fn aggregate<'a>(
     ensures { AnswersBy value_view result (with_structure made.now (aggregate_of p.now (agg_tree spec.now) (value_view a.entry) made.now)) }
 {
     let made = share_structure(alloc, made)?;
-    Ok(Value::Made(vtl_group::aggregate(alloc, a.data(), spec, made, p)?))
+    Ok(Value::Made(vtl_window::aggregate(alloc, a.data(), spec, made, p)?))
 }
 
 /// An analytic operator on each measure, and `calc` with an analytic call
