@@ -21,6 +21,7 @@ mod outer_row;
 mod pairing;
 mod pairs;
 mod partner_index;
+mod partnered_row;
 mod partners;
 mod seen;
 mod selects;
@@ -33,6 +34,7 @@ mod tuples;
 
 pub use existence::has_partner;
 pub use outer_row::OuterRow;
+pub use partnered_row::PartneredRow;
 pub use partners::Partners;
 pub use seen::Seen;
 pub use selects::{ExecErr, source_rows, source_tuples};
