@@ -101,8 +101,9 @@ fn add_select(
 fn indexed_joins(alloc: Global, plan: &Plan, select: usize) -> Result<Vec<usize>, AllocError>
     ensures { IfOk result (λ v. v.items ≡ map (λ i. i.join) (filter (λ i. i.select == select) plan.now.ways.indexed)) }
 {
+    let indexed = plan.indexed();
     let mut joins = Vec::new(alloc);
-    for entry in plan.indexed() {
+    for entry in indexed {
         if entry.select == select {
             joins.push(entry.join)?;
         }
