@@ -75,7 +75,9 @@ impl<'a> PartnerIndex<'a> {
         ensures ties { result ≡ true → self.now.ties.items ≡ test.now.ties.items }
         ensures p { result ≡ true → self.now.p ≡ p.now }
     {
-        self.table == test.table && are_same_ties(&self.ties, &test.ties) && is_same_profile(&self.p, p)
+        self.table == test.table
+            && are_same_ties(&self.ties, &test.ties)
+            && is_same_profile(&self.p, p)
     }
 
     /// Whether a row of the table is found for a tuple. It takes no memory.

@@ -19,6 +19,14 @@ pub struct PartneredRow<'a> {
 }
 
 impl<'a> PartneredRow<'a> {
+    /// A row, with look-ups over its sources.
+    pub fn at(row: TupleRow<'a>, partners: &'a Partners<'a>) -> PartneredRow<'a>
+        requires { row.sources.now ≡ partners.now }
+        ensures { result.row ≡ row.entry }
+    {
+        PartneredRow { row, partners }
+    }
+
     /// The row of a tuple, whose last number is given apart.
     pub fn of(partners: &'a Partners<'a>, front: &'a [usize], last: usize) -> PartneredRow<'a>
         requires { length front.now + 1 ≡ length partners.now.sources }

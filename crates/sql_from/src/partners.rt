@@ -109,12 +109,7 @@ impl<'a> Partners<'a> {
 
     /// With look-ups for the EXISTS of an expression: one for each whose equalities each tie a column of its table and
     /// one of a source, which is the same for all of them. It fails only if memory runs out.
-    pub fn with(
-        self,
-        alloc: Global,
-        e: &Resolved,
-        p: &Profile,
-    ) -> Result<Partners<'a>, AllocError>
+    pub fn with(self, alloc: Global, e: &Resolved, p: &Profile) -> Result<Partners<'a>, AllocError>
         requires { IsLawful (base_held p.now self.held) }
         ensures { IfOk result (λ x. x ≡ self.entry) }
     {

@@ -370,7 +370,12 @@ pub fn source_tuples<'a>(
     ensures scope { IfOk result (λ r. scope_held r.sources.sources ≡ scope_of (tables_held tables.now) (select_tree select.now)) }
     ensures rows { AnswersBy (λ r. rows_for r.sources r.tuples) result (source_rows (base_held p.now tables.now) (select_tree select.now)) }
 {
-    joined(alloc, select, tables, by_index, p)?.finish(alloc, &select.condition, by_index.is_some(), p)
+    joined(alloc, select, tables, by_index, p)?.finish(
+        alloc,
+        &select.condition,
+        by_index.is_some(),
+        p,
+    )
 }
 
 /// The table of the rows that FROM gives and WHERE keeps: the columns of the sources in order, each named by the alias, a

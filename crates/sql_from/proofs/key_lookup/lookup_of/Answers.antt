@@ -1,4 +1,4 @@
-use Rattle.std.proofs.Common.{◌≡◌, ◌∙◌, ◌-◌, ◌<◌, length, List, arith, ap, subst, sym}
+use Rattle.std.proofs.Common.{◌∙◌, ◌-◌, List, arith, ap, subst, sym}
 use Rattle.std.specs.Prelude.{slice_get}
 use Rattle.sql_tree.specs.View.{expr_tree}
 use Rattle.sql_from.specs.Keys.{ArePaired}

@@ -1,6 +1,5 @@
-use Rattle.std.proofs.Common.{◌≡◌, ◌∙◌, IfSome, List, Option, Some, ap, refl, subst, sym}
+use Rattle.std.proofs.Common.{◌≡◌, ◌∙◌, IfSome, List, Some, ap, refl, subst, sym}
 use Rattle.std.specs.Option.{option_copied}
-use Rattle.std.specs.declared.vec.Vec.{Vec}
 use Rattle.vtl_rows.specs.Named.{table_of}
 use Rattle.sql_eval.specs.declared.resolved.Tie.{Tie}
 use Rattle.sql_from.specs.Lookups.{IsKeyed}
