@@ -64,7 +64,7 @@ fn add_rows(
     let partners = item_partners(alloc, &rows.sources, &resolved, p)?;
     out.table.reserve_rows(rows.len())?;
     for number in 0..rows.len() {
-        out.add_row(alloc, &resolved, &rows.partnered(number, &partners), p)?;
+        out.add_row(alloc, &resolved, &(&*rows).partnered(number, &partners), p)?;
     }
     Ok(())
 }
