@@ -1,5 +1,5 @@
 -- The selects of a typed query without windows.
-use Rattle.std.proofs.Common.{◌≡◌, ℕ, suc, List, [], ◌∷◌, Bool, true, false, length, cond, None, Some, Ok, refl, sym, ap, ◌∙◌, subst}
+use Rattle.std.proofs.Common.{◌≡◌, suc, List, [], ◌∷◌, Bool, true, false, length, cond, None, Some, Ok, refl, sym, ap, ◌∙◌, subst}
 use Rattle.std.specs.Prelude.{zip}
 use Rattle.std.specs.List.{AllByRecursion}
 use Rattle.std.proofs.lemmas.List.{length-map}
@@ -11,8 +11,6 @@ use Rattle.sql_groups.specs.Queries as typing
 use Rattle.sql_groups.specs.Queries.{is_grouped, item_kind, query_columns, scope_of}
 use Rattle.sql_groups.specs.Scopes.{Scope, grouping_of}
 use Rattle.sql_groups.specs.TypedSelects.{IsItemTyped, IsQueryTyped, IsSelectTyped}
-use Rattle.sql_groups.specs.Profiles.{IsLawful}
-use Rattle.sql_groups.specs.Standing.{MayLookUp}
 use Rattle.sql_groups.specs.Selects.{Wanted, grouped_rows, plain_rows, second_phase}
 use Rattle.sql_groups.specs.Tables.{Base, RowsFit, kinds_of}
 use Rattle.sql_groups.specs.Values.{View, at_rows}
@@ -83,8 +81,3 @@ module _ (b : Base) where
   pub all_plain : (q : QueryTree) → AllByRecursion (IsSelectTyped b.settings b.tables) q → query_has_window q ≡ false → AllByRecursion (IsPlain b.settings b.tables) q
   all_plain [] h n = tt
   all_plain (s ∷ ss) h n = let both = neither (select_has_window s) (query_has_window ss) n in (record { typed = h.0; plain = both.0 }, all_plain ss h.1 both.1)
-
--- ---- look-ups
-pub may_look_up : (b : Base) → IsLawful b → (joins : List ℕ) → MayLookUp b joins
-may_look_up b lawful [] = tt
-may_look_up b lawful (j ∷ joins) = (lawful, may_look_up b lawful joins)

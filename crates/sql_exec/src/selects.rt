@@ -15,15 +15,32 @@ ghost use Rattle.sql_exec.specs.Outputs.{Adds};
 ghost use Rattle.sql_exec.specs.Parts.{IsPart, MakesKinds};
 ghost use Rattle.sql_exec.specs.Plain.{is_window_item};
 
-use crate::items::row_items;
+use crate::items::{RowItem, row_items};
 use crate::output::Output;
 use sql_check_queries::is_grouped;
-use sql_groups::{Plan, TupleRows, push_grouped, source_tuples};
+use sql_groups::{Partners, Plan, Sources, TupleRows, push_grouped, source_tuples};
 use sql_tree::{Item, Select};
 use std::alloc::{AllocError, Global};
 use vtl_cell::{Kind, Profile};
 use vtl_rows::Tables;
 use vtl_scalar::ScalarErr;
+
+// The look-ups for the EXISTS of items.
+fn item_partners<'a>(
+    alloc: Global,
+    sources: &'a Sources<'a>,
+    items: &[RowItem],
+    p: &Profile,
+) -> Result<Partners<'a>, AllocError>
+    requires { IsLawful (base_held p.now sources.now.held) }
+    ensures { IfOk result (λ x. x ≡ sources.now) }
+{
+    let mut partners = Partners::none(alloc, sources);
+    for item in items {
+        partners = partners.with(alloc, &item.exp, p)?;
+    }
+    Ok(partners)
+}
 
 // Adds a row of the items for each row of FROM.
 fn add_rows(
@@ -34,6 +51,7 @@ fn add_rows(
     kinds: &[Kind],
     p: &Profile,
 ) -> Result<(), ScalarErr>
+    requires lawful { IsLawful (base_held p.now rows.now.sources.held) }
     requires plain { list_any is_window_item (map item_tree items.now) ≡ false }
     requires many { length kinds.now ≡ length items.now }
     requires columns { column_kinds out.old.table.columns ≡ kinds.now }
@@ -43,9 +61,10 @@ fn add_rows(
     ensures err { IfErr result (λ e. e ≡ ScalarErr.OutOfMemory) }
 {
     let resolved = row_items(alloc, p, &rows.sources, items, kinds)?;
+    let partners = item_partners(alloc, &rows.sources, &resolved, p)?;
     out.table.reserve_rows(rows.len())?;
     for number in 0..rows.len() {
-        out.add_row(alloc, &resolved, &rows.row(number), p)?;
+        out.add_row(alloc, &resolved, &(&*rows).partnered(number, &partners), p)?;
     }
     Ok(())
 }
@@ -59,6 +78,7 @@ fn add_phase(
     kinds: &[Kind],
     p: &Profile,
 ) -> Result<(), ScalarErr>
+    requires lawful { IsLawful (base_held p.now rows.now.sources.held) }
     requires scope { scope_held rows.now.sources.sources ≡ scope_of (tables_held rows.now.sources.held) (select_tree select.now) }
     requires part { IsPart (base_held p.now rows.now.sources.held) kinds.now (select_tree select.now) }
     requires columns { column_kinds out.old.table.columns ≡ kinds.now }
@@ -91,7 +111,7 @@ fn add_select(
     ensures adds { OnOk result (Adds (select_value (base_held p.now tables.now) kinds.now (select_tree select.now)) out.old out.new) }
     ensures err { IfErr result (λ e. e ≡ ScalarErr.OutOfMemory) }
 {
-    match source_tuples(alloc, select, tables, by_index, p) {
+    match source_tuples(alloc, select, tables, Some(by_index), p) {
         Ok(rows) => add_phase(alloc, out, select, &rows, kinds, p),
         Err(error) => out.see(error),
     }

@@ -89,7 +89,7 @@ conjunction_paired s lead a b first mid all h g p front last whole =
           ∙ two.same;
     }
 
-last_and : (b : Bool) → b ≡ (b && true)
+pub last_and : (b : Bool) → b ≡ (b && true)
 last_and true = refl
 last_and false = refl
 

@@ -20,3 +20,4 @@ pub mod Equalities
 pub mod Conjunctions
 pub mod Found
 pub mod Spots
+pub mod Tied

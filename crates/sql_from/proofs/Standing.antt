@@ -1,6 +1,6 @@
 -- What one source more stands for.
-use Rattle.std.proofs.Common.{◌≡◌, ℕ, ◌+◌, ◌-◌, List, [], ◌∷◌, ◌++◌, map, length, Bool, true, true≢false, Option, Some, None, Ok, Err, IfOk, Result, refl, sym, ap, ◌∙◌, subst, length-append, arith}
-use Rattle.std.specs.List.{AllByRecursion, filter, list_any}
+use Rattle.std.proofs.Common.{◌≡◌, ℕ, ◌+◌, ◌-◌, List, [], ◌∷◌, ◌++◌, map, length, Option, Some, None, Ok, Err, IfOk, IsSome, Result, refl, sym, ap, ◌∙◌, subst, length-append, arith}
+use Rattle.std.specs.List.{AllByRecursion, filter}
 use Rattle.std.specs.Prelude.{fold}
 use Rattle.std.specs.Option.{option_map}
 use Rattle.std.proofs.lemmas.List.{length-map, map-append}
@@ -23,6 +23,7 @@ use Rattle.sql_tree.specs.declared.word_groups.JoinKind.{JoinKind}
 use Rattle.sql_eval.specs.Queries.{join_source, joined_scope}
 use Rattle.sql_eval.specs.Scopes.{Columns, or_nothing as columns_or_nothing, row_of, with_source}
 use Rattle.sql_eval.specs.TypedSelects.{AreJoinsTyped, IsSourceTyped}
+use Rattle.sql_eval.specs.Profiles.{IsLawful}
 use Rattle.sql_eval.specs.From.{Joined, first_of, joined, joined_rows, kept_of, pairs, with_join}
 use Rattle.sql_eval.specs.Tables.{Base, column_entry, columns_named, rows_of}
 use Rattle.sql_eval.specs.Values.{at_rows, value}
@@ -34,7 +35,7 @@ use Rattle.sql_from.specs.Keys.{last_of as last_source}
 use Rattle.sql_from.specs.Rows.{combined, width_of}
 use Rattle.sql_from.specs.Seen.{answer_of}
 use Rattle.sql_from.specs.Sources.{IsWide, Sourced, or_nothing, parts_of, scope_held, table_named}
-use Rattle.sql_from.specs.Standing.{StandsFor, condition_at, rows_for, sight_of}
+use Rattle.sql_from.specs.Standing.{MayLookUp, StandsFor, condition_at, rows_for, sight_of}
 use Rattle.sql_from.specs.Tuples.{Numbered}
 use Rattle.sql_from.proofs.Means.{cross_means, crossed_wide, faults_through, joined_wide, kept_means, marks_many, single_rows, singles_wide, step_faults, step_means}
 use Rattle.sql_from.proofs.Parted.{get_behind}
@@ -215,10 +216,10 @@ left_less b s j js sources sources' t t' seen seen' left stands = record {
   all = left.all;
 }
 
--- ---- joins that are listed
-pub listed : {A B : Type 0} (t : A → Bool) (xs : List A) → list_any t xs ≡ true → AllByRecursion (λ x. B) xs → B
-listed t [] e all = absurd (true≢false (sym e))
-listed t (x ∷ xs) e all = all.0
+-- ---- look-ups that are wanted
+pub allowed : {A : Type 0} (b : Base) (o : Option A) → IsSome o → MayLookUp b o → IsLawful b
+allowed b None e may = cc
+allowed b (Some x) e may = may
 
 -- ---- answers
 

@@ -19,4 +19,5 @@ pub mod Joins
 pub mod Standing
 pub mod Keys
 pub mod Lookups
+pub mod Partners
 pub mod Columns

@@ -1,14 +1,11 @@
 // Rows of the last source, found by the cells of a row of another one.
 ghost use Rattle.std.specs.Prelude.{◌≡◌, ◌+◌, ◌<◌, IfOk, IfSome, length, slice_index};
-ghost use Rattle.vtl_rows.specs.Gathered.{part_at};
 ghost use Rattle.vtl_rows.specs.Places.{row_at};
-ghost use Rattle.vtl_index.specs.declared.row_keys.NullKeys.TheVariants.{NotFound};
 ghost use Rattle.sql_tree.specs.View.{expr_tree};
 ghost use Rattle.sql_eval.specs.Profiles.{IsLawful};
-ghost use Rattle.sql_from.specs.Held.{IsHeld, base_held};
-ghost use Rattle.sql_from.specs.Keys.{asked_columns, last_of, own_columns};
-ghost use Rattle.sql_from.specs.Lookups.{Finds, found_by};
-ghost use Rattle.sql_from.specs.Sources.{parts_of};
+ghost use Rattle.sql_from.specs.Held.{base_held};
+ghost use Rattle.sql_from.specs.Keys.{last_of};
+ghost use Rattle.sql_from.specs.Lookups.{Finds, IsKeyed, found_by};
 ghost use Rattle.sql_from.specs.Standing.{condition_at};
 
 use crate::Sources;
@@ -59,12 +56,18 @@ impl KeyLookup<'_> {
         requires { self.now.lead < length front.now }
         ensures { result.now ≡ found_by self.now (slice_index front.now self.now.lead) }
     {
-        let blank = Blank::new(1);
-        self.found_by::<Brand>(front[self.lead], blank)
+        self.found_at(front[self.lead])
     }
 
-    // The rows that are found for a row of the source that leads.
-    fn found_by<L: Ledger>(&self, number: usize, blank: Blank) -> &[usize]
+    /// The rows that are found for a row of the source that leads, rising. It takes no memory.
+    pub(crate) fn found_at(&self, number: usize) -> &[usize]
+        ensures { result.now ≡ found_by self.now number }
+    {
+        let blank = Blank::new(1);
+        self.probed::<Brand>(number, blank)
+    }
+
+    fn probed<L: Ledger>(&self, number: usize, blank: Blank) -> &[usize]
         requires name { blank.name ≡ L.name }
         requires parts { blank.parts ≡ L.parts }
         requires some { 0 < L.parts }
@@ -76,11 +79,12 @@ impl KeyLookup<'_> {
     }
 }
 
-// The look-up of rows by these columns.
-fn lookup_by<'a, L: Ledger>(
+// The look-up of the rows of a table by these columns, asked with the rows of a table that leads.
+fn keyed_by<'a, L: Ledger>(
     alloc: Global,
-    sources: &Sources<'a>,
+    own: &'a Table,
     lead: usize,
+    table: &'a Table,
     keys: &[KeyPair],
     p: &Profile,
     blank: Blank,
@@ -88,23 +92,32 @@ fn lookup_by<'a, L: Ledger>(
     requires name { blank.name ≡ L.name }
     requires parts { blank.parts ≡ L.parts }
     requires some { 0 < L.parts }
-    requires lead { lead + 1 < length sources.now.sources }
-    ensures lead { IfOk result (λ l. l.lead ≡ lead) }
-    ensures table { IfOk result (λ l. l.table.now ≡ part_at (parts_of sources.now.sources) lead) }
-    ensures lead_held { IfOk result (λ l. IsHeld sources.now.held l.table.now) }
-    ensures last_held { IfOk result (λ _. IsHeld sources.now.held (last_of sources.now)) }
-    ensures asked { IfOk result (λ l. l.asked.items ≡ asked_columns keys.now) }
-    ensures index { IfOk result (λ l. l.index ≡ record { rows = (last_of sources.now).rows; key = own_columns keys.now; nulls = NotFound; p = p.now }) }
+    ensures { IfOk result (IsKeyed own.now lead table.now keys.now p.now) }
 {
     let mut steps: Steps<L> = Steps::new(blank);
-    let own = own_columns(alloc, keys)?;
-    let table = sources.table(sources.len() - 1);
+    let columns = own_columns(alloc, keys)?;
     Ok(KeyLookup {
         lead,
-        table: sources.table(lead),
+        table,
         asked: asked_columns(alloc, keys)?,
-        index: RowIndex::of(alloc, table, own, NullKeys::NotFound, p, &mut steps)?,
+        index: RowIndex::of(alloc, own, columns, NullKeys::NotFound, p, &mut steps)?,
     })
+}
+
+/// The look-up of the rows of a table by columns of its own, asked with the rows of a source that leads, which has this
+/// place and this table. It fails only if memory runs out.
+pub(crate) fn keyed<'a>(
+    alloc: Global,
+    own: &'a Table,
+    lead: usize,
+    table: &'a Table,
+    keys: &[KeyPair],
+    p: &Profile,
+) -> Result<KeyLookup<'a>, AllocError>
+    ensures { IfOk result (IsKeyed own.now lead table.now keys.now p.now) }
+{
+    let blank = Blank::new(1);
+    keyed_by::<Brand>(alloc, own, lead, table, keys, p, blank)
 }
 
 /// The look-up of the rows of the last source with which a condition is true, where this is a conjunction of equalities
@@ -130,6 +143,7 @@ pub(crate) fn lookup_of<'a>(
     if !push_pairs(&mut keys, sources, lead, condition)? {
         return Ok(None);
     }
-    let blank = Blank::new(1);
-    Ok(Some(lookup_by::<Brand>(alloc, sources, lead, &keys, p, blank)?))
+    let own = sources.table(count - 1);
+    let table = sources.table(lead);
+    Ok(Some(keyed(alloc, own, lead, table, &keys, p)?))
 }

@@ -1,7 +1,6 @@
 // FROM and WHERE of a select.
-ghost use Rattle.std.specs.List.{list_any};
 ghost use Rattle.std.specs.Option.{option_map};
-ghost use Rattle.std.specs.Prelude.{◌≡◌, ◌==◌, ◌+◌, ◌<◌, ◌^◌, ◌++◌, ◌∷◌, [], length, true, IfErr, IfOk, IfSome};
+ghost use Rattle.std.specs.Prelude.{◌≡◌, ◌+◌, ◌<◌, ◌^◌, ◌++◌, ◌∷◌, [], length, true, IfErr, IfOk, IfSome, IsSome};
 ghost use Rattle.vtl_cell.specs.Outcome.{join, unless};
 ghost use Rattle.vtl_cell.specs.Settings.{Settings};
 ghost use Rattle.vtl_scalar.specs.Answers.{Answers, AnswersBy};
@@ -24,8 +23,8 @@ use crate::joining::{cross_step, join_each, join_found, keep, singles};
 use crate::key_lookup::{KeyLookup, lookup_of};
 use crate::pairs::Walked;
 use crate::source_condition::SourceCondition;
-use crate::{Seen, Sources, TupleRows};
-use sql_eval::{Level, resolve};
+use crate::{Partners, Seen, Sources, TupleRows};
+use sql_eval::{Level, Resolved, resolve};
 use sql_tree::{Join, JoinKind, Select, Source, SqlExpr};
 use std::alloc::{AllocError, Global};
 use vtl_cell::Profile;
@@ -75,8 +74,9 @@ fn found_on(
     ensures err { IfErr result (λ e. e ≡ ScalarErr.OutOfMemory) }
 {
     let resolved = resolve(alloc, p, sources, &Level::Rows, condition)?;
+    let partners = Partners::none(alloc, sources);
     let condition = SourceCondition {
-        sources,
+        partners: &partners,
         expression: &resolved.exp,
         profile: p,
     };
@@ -102,8 +102,9 @@ fn each_on(
     ensures err { IfErr result (λ e. e ≡ ScalarErr.OutOfMemory) }
 {
     let resolved = resolve(alloc, p, sources, &Level::Rows, condition)?;
+    let partners = Partners::none(alloc, sources);
     let condition = SourceCondition {
-        sources,
+        partners: &partners,
         expression: &resolved.exp,
         profile: p,
     };
@@ -138,23 +139,45 @@ fn joined_on(
     }
 }
 
-// The tuples at which WHERE is true.
+// The look-ups for the EXISTS of a condition, where they are wanted.
+fn wanted_partners<'a>(
+    alloc: Global,
+    by_index: bool,
+    sources: &'a Sources<'a>,
+    condition: &Resolved,
+    p: &Profile,
+) -> Result<Partners<'a>, AllocError>
+    requires { by_index ≡ true → IsLawful (base_held p.now sources.now.held) }
+    ensures { IfOk result (λ x. x ≡ sources.now) }
+{
+    let none = Partners::none(alloc, sources);
+    if by_index {
+        none.with(alloc, condition, p)
+    } else {
+        Ok(none)
+    }
+}
+
+// The tuples at which WHERE is true. EXISTS is asked by look-ups where that is wanted.
 fn kept(
     alloc: Global,
     condition: &SqlExpr,
+    by_index: bool,
     sources: &Sources<'_>,
     from: &Walked,
     p: &Profile,
 ) -> Result<Walked, ScalarErr>
-    requires { length sources.now.sources ≡ from.now.rows.width }
+    requires width { length sources.now.sources ≡ from.now.rows.width }
+    requires lawful { by_index ≡ true → IsLawful (base_held p.now sources.now.held) }
     ensures width { IfOk result (λ w. w.rows.width ≡ from.now.rows.width) }
     ensures rows { IfOk result (λ w. w.rows.tuples ≡ kept_tuples (condition_at p.now sources.now (expr_tree condition.now)) from.now.rows.tuples) }
     ensures seen { IfOk result (λ w. seen_of w.seen ≡ join (seen_of from.now.seen) (kept_fault (condition_at p.now sources.now (expr_tree condition.now)) from.now.rows.tuples)) }
     ensures err { IfErr result (λ e. e ≡ ScalarErr.OutOfMemory) }
 {
     let resolved = resolve(alloc, p, sources, &Level::Rows, condition)?;
+    let partners = wanted_partners(alloc, by_index, sources, &resolved.exp, p)?;
     let condition = SourceCondition {
-        sources,
+        partners: &partners,
         expression: &resolved.exp,
         profile: p,
     };
@@ -165,17 +188,19 @@ fn kept(
 fn kept_where(
     alloc: Global,
     condition: &Option<SqlExpr>,
+    by_index: bool,
     sources: &Sources<'_>,
     walked: Walked,
     p: &Profile,
 ) -> Result<Walked, ScalarErr>
-    requires { length sources.now.sources ≡ walked.rows.width }
+    requires width { length sources.now.sources ≡ walked.rows.width }
+    requires lawful { by_index ≡ true → IsLawful (base_held p.now sources.now.held) }
     ensures width { IfOk result (λ w. w.rows.width ≡ walked.rows.width) }
     ensures kept { IfOk result (λ w. (f : Joined) → StandsFor f sources.now walked.rows (seen_of walked.seen) → unless (seen_of w.seen) (rows_for sources.now w.rows) ≡ kept_of (base_held p.now sources.now.held) (option_map expr_tree condition.now) f) }
     ensures err { IfErr result (λ e. e ≡ ScalarErr.OutOfMemory) }
 {
     match condition {
-        Some(condition) => kept(alloc, condition, sources, &walked, p),
+        Some(condition) => kept(alloc, condition, by_index, sources, &walked, p),
         None => Ok(walked),
     }
 }
@@ -273,14 +298,16 @@ impl<'a> Joining<'a> {
         self,
         alloc: Global,
         condition: &Option<SqlExpr>,
+        by_index: bool,
         p: &Profile,
     ) -> Result<TupleRows<'a>, ScalarErr>
-        requires { self.walked.rows.width ≡ length self.sources.sources }
+        requires whole { self.walked.rows.width ≡ length self.sources.sources }
+        requires lawful { by_index ≡ true → IsLawful (base_held p.now self.sources.held) }
         ensures sources { IfOk result (λ r. r.sources ≡ self.entry.sources) }
         ensures rows { (f : Joined) → StandsFor f self.entry.sources self.entry.walked.rows (seen_of self.entry.walked.seen) → AnswersBy (λ r. rows_for r.sources r.tuples) result (kept_of (base_held p.now self.entry.sources.held) (option_map expr_tree condition.now) f) }
     {
         let Joining { sources, walked } = self;
-        let kept = kept_where(alloc, condition, &sources, walked, p)?;
+        let kept = kept_where(alloc, condition, by_index, &sources, walked, p)?;
         Ok(TupleRows {
             tuples: kept.finish()?,
             sources,
@@ -289,10 +316,13 @@ impl<'a> Joining<'a> {
 }
 
 // Whether a join is listed.
-fn is_listed(joins: &[usize], place: usize) -> bool
-    ensures { result ≡ list_any (λ j. j == place) joins.now }
+fn is_listed(by_index: Option<&[usize]>, place: usize) -> bool
+    ensures { result ≡ true → IsSome by_index.entry }
 {
-    joins.contains(&place)
+    match by_index {
+        Some(joins) => joins.contains(&place),
+        None => false,
+    }
 }
 
 // The sources of a select and the tuples of FROM, with the fault of every ON. Of the joins that are listed rows are looked
@@ -301,11 +331,11 @@ fn joined<'a>(
     alloc: Global,
     select: &Select,
     tables: &'a Tables,
-    by_index: &[usize],
+    by_index: Option<&[usize]>,
     p: &Profile,
 ) -> Result<Joining<'a>, ScalarErr>
     requires typed { IsSelectTyped p.now (tables_held tables.now) (select_tree select.now) }
-    requires lawful { MayLookUp (base_held p.now tables.now) by_index.now }
+    requires lawful { MayLookUp (base_held p.now tables.now) by_index }
     ensures held { IfOk result (λ j. j.sources.held ≡ tables.now) }
     ensures stands { IfOk result (λ j. StandsFor (joined (base_held p.now tables.now) (select_tree select.now)) j.sources j.walked.rows (seen_of j.walked.seen)) }
     ensures err { IfErr result (λ e. e ≡ ScalarErr.OutOfMemory) }
@@ -323,23 +353,29 @@ fn joined<'a>(
 /// each pair that it is tried on, and of WHERE, at each row of FROM: a division by zero, wherever it comes, and then
 /// what is out of range. It takes memory for the tuples, and copies no cell.
 ///
-/// Of the joins at the places that are listed, those whose ON is a conjunction of equalities of a column of its own
-/// source and one of one other source go by a look-up, in time for the rows of both and the pairs that are found; every
-/// other join tries each pair.
+/// Where joins are listed, by their places, those of them whose ON is a conjunction of equalities of a column of its own
+/// source and one of one other source go by a look-up, in time for the rows of both and the pairs that are found, and so
+/// does an EXISTS of WHERE whose equalities each tie a column of its table and one of a source, the same for all. Every
+/// other join tries each pair, and every other EXISTS walks over its table; so do all of them where no list is given.
 pub fn source_tuples<'a>(
     alloc: Global,
     select: &Select,
     tables: &'a Tables,
-    by_index: &[usize],
+    by_index: Option<&[usize]>,
     p: &Profile,
 ) -> Result<TupleRows<'a>, ExecErr>
     requires typed { IsSelectTyped p.now (tables_held tables.now) (select_tree select.now) }
-    requires lawful { MayLookUp (base_held p.now tables.now) by_index.now }
+    requires lawful { MayLookUp (base_held p.now tables.now) by_index }
     ensures held { IfOk result (λ r. r.sources.held ≡ tables.now) }
     ensures scope { IfOk result (λ r. scope_held r.sources.sources ≡ scope_of (tables_held tables.now) (select_tree select.now)) }
     ensures rows { AnswersBy (λ r. rows_for r.sources r.tuples) result (source_rows (base_held p.now tables.now) (select_tree select.now)) }
 {
-    joined(alloc, select, tables, by_index, p)?.finish(alloc, &select.condition, p)
+    joined(alloc, select, tables, by_index, p)?.finish(
+        alloc,
+        &select.condition,
+        by_index.is_some(),
+        p,
+    )
 }
 
 /// The table of the rows that FROM gives and WHERE keeps: the columns of the sources in order, each named by the alias, a
@@ -355,5 +391,5 @@ pub fn source_rows(
     ensures columns { IfOk result (λ t. t.columns ≡ source_columns (scope_of (tables_held tables.now) (select_tree select.now))) }
     ensures rows { AnswersBy (λ t. t.rows) result (source_rows (base_held p.now tables.now) (select_tree select.now)) }
 {
-    Ok(source_tuples(alloc, select, tables, &[], p)?.table(alloc)?)
+    Ok(source_tuples(alloc, select, tables, None, p)?.table(alloc)?)
 }

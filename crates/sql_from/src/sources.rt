@@ -12,6 +12,7 @@ ghost use Rattle.sql_from.specs.Columns.{columns_below, line_feed, source_column
 ghost use Rattle.sql_from.specs.Held.{IsHeld, rows_held, tables_held};
 ghost use Rattle.sql_from.specs.Joins.{marks_of};
 ghost use Rattle.sql_from.specs.Keys.{IsSpot, last_of};
+ghost use Rattle.sql_from.specs.Partners.{IsPickOf};
 ghost use Rattle.sql_from.specs.Rows.{combined, picks_at, picks_from, width_of};
 ghost use Rattle.sql_from.specs.Sources.{IsWide, parts_of, scope_held, table_named};
 
@@ -247,6 +248,13 @@ impl<'a> Sources<'a> {
         ensures { IfSome result (IsSpot self.now column.now) }
     {
         self.picks.get(self.place(column)).copied()
+    }
+
+    // Where the cell at a place of a row of FROM stands.
+    pub(crate) fn pick(&self, place: usize) -> Option<Pick>
+        ensures { IfSome result (IsPickOf self.now place) }
+    {
+        self.picks.get(place).copied()
     }
 
     /// The cell at a place of the row that a tuple of row numbers stands for, whose last number is given apart; past the

@@ -3,6 +3,8 @@ use Rattle.std.specs.Prelude.{OnOk, zip}
 use Rattle.vtl_cell.specs.Outcome.{Outcome, after}
 use Rattle.vtl_cell.specs.Row.{Row}
 use Rattle.sql_tree.specs.View.{select_tree}
+use Rattle.vtl_rows.specs.Named.{NamedTables}
+use Rattle.sql_groups.specs.Profiles.{IsLawful}
 use Rattle.sql_groups.specs.Queries.{scope_of}
 use Rattle.sql_groups.specs.Scopes.{Scope, row_of}
 use Rattle.sql_groups.specs.Selects.{second_phase, select_value}
@@ -12,7 +14,6 @@ use Rattle.sql_groups.proofs.SourceKinds.{source_rows_fit}
 use Rattle.sql_groups.specs.Held.{base_held}
 use Rattle.sql_groups.specs.Standing.{rows_for, sight_of}
 use Rattle.sql_exec.specs.Outputs.{Adds}
-use Rattle.sql_exec.proofs.QueryParts.{may_look_up}
 use Rattle.sql_exec.proofs.selects.add_select.Goals as goal
 
 pub add_phase-requires-clause-fit : goal.add_phase-requires-clause-fit
@@ -33,5 +34,5 @@ returns-in-Ok-clause-adds c =
     (λ i. second_phase (at_rows (base_held p (c.in-Ok.ensures.held i)) (c.in-Ok.ensures.scope i)) wanted s rows) ∙ sym (ap (λ (m : Outcome (List Row)). after m (second_phase (at_rows b (scope_of b.tables s)) wanted s)) c.in-Ok.ensures.rows) in
     subst (λ (m : Outcome (List Row)). OnOk c.add_phase.result (Adds m c.args.out.now c.add_phase.new.out)) same c.add_phase.ensures.adds
 
-pub source_tuples-requires-clause-lawful : goal.source_tuples-requires-clause-lawful
-source_tuples-requires-clause-lawful c = may_look_up (base_held c.args.p.now c.args.tables.now) c.requires.lawful c.args.by_index.now
+pub add_phase-requires-clause-lawful : goal.add_phase-requires-clause-lawful
+add_phase-requires-clause-lawful c = subst (λ (h : NamedTables). IsLawful (base_held c.args.p.now h)) (sym c.in-Ok.ensures.held) c.requires.lawful

@@ -4,13 +4,12 @@ use Rattle.vtl_rows.specs.Named.{NamedTables}
 use Rattle.sql_tree.specs.Trees.{JoinTree}
 use Rattle.sql_tree.specs.declared.statements.Join.{Join}
 use Rattle.sql_tree.specs.View.{join_tree, select_tree}
-use Rattle.std.specs.Prelude.{◌==◌}
 use Rattle.sql_eval.specs.Profiles.{IsLawful}
 use Rattle.sql_eval.specs.From.{first_of, with_join}
 use Rattle.sql_from.specs.Held.{base_held}
 use Rattle.sql_from.specs.Seen.{seen_of}
 use Rattle.sql_from.specs.Standing.{StandsFor}
-use Rattle.sql_from.proofs.Standing.{Left, left_less, listed}
+use Rattle.sql_from.proofs.Standing.{Left, left_less, allowed}
 use Rattle.sql_from.proofs.selects.joined.Goals as goal
 
 pub loop-place-init : goal.loop-place-init
@@ -51,5 +50,4 @@ loop-place-preserved c =
 
 pub with_join-requires-clause-lawful : goal.with_join-requires-clause-lawful
 with_join-requires-clause-lawful c e =
-    let b = base_held c.args.p.now c.args.tables.now in
-    subst (λ (h : NamedTables). IsLawful (base_held c.args.p.now h)) (sym c.loop-place.invariant.held) (listed (λ j. j == c.loop-place.place) c.args.by_index.now (sym c.is_listed.ensures ∙ e) c.requires.lawful)
+    subst (λ (h : NamedTables). IsLawful (base_held c.args.p.now h)) (sym c.loop-place.invariant.held) (allowed (base_held c.args.p.now c.args.tables.now) c.args.by_index (c.is_listed.ensures e) c.requires.lawful)
