@@ -3,7 +3,7 @@ use Rattle.std.proofs.Common.{ℕ, Bool, true, false, cond, ◌&&◌, not, List,
 use Rattle.std.specs.List.{AllByRecursion}
 use Rattle.std.specs.Map.{lookup}
 use Rattle.std.specs.Option.{IfSome, is_some}
-use Rattle.std.proofs.lemmas.Bool.{and_parts, false≢true}
+use Rattle.std.proofs.lemmas.Bool.{and_parts}
 use Rattle.vtl_cell.specs.Results.{◌>>=◌}
 use Rattle.vtl_cell.specs.ScalarArithmetic.{number}
 use Rattle.vtl_cell.specs.Settings.{Settings}

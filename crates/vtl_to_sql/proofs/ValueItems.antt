@@ -3,10 +3,9 @@ use Rattle.std.proofs.Common.{◌≡◌, ◌≤◌, ℕ, false, not, ◌||◌, c
 use Rattle.std.specs.Prelude.{zip}
 use Rattle.std.specs.List.{AllByRecursion, list_any}
 use Rattle.grammar_forms.specs.Written.{Each}
-use Rattle.vtl_cell.specs.Outcome.{Outcome, after, fault_in, faults_by, join, unless}
+use Rattle.vtl_cell.specs.Outcome.{after, fault_in, faults_by, join, unless}
 use Rattle.vtl_cell.specs.Row.{Row}
 use Rattle.vtl_cell.specs.Settings.{Settings}
-use Rattle.vtl_cell.specs.declared.kind.Kind.{Kind}
 use Rattle.vtl_tree.specs.Structure.{columns_of, names_of}
 use Rattle.vtl_tree.specs.declared.structure.Component.{Component}
 use Rattle.vtl_tree.specs.declared.structure.Structure.{Structure}
