@@ -55,6 +55,9 @@ pub mod Pivots
 pub mod Aggregated
 pub mod WindowOrders
 pub mod WindowCalls
+pub mod ValueItems
+pub mod TargetKinds
+pub mod Windowed
 pub mod Nodes
 pub mod Statements
 pub mod WholeScript

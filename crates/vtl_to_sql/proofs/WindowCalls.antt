@@ -240,7 +240,7 @@ module _ (p : Settings) (low : p.scale ≤ 9) (before : Data) (scope : Scope) (a
     in_frame : {X : Type 0} (f : List Cell → X) (i : ℕ) (rows : List Row) → f (framed p (Some (frame_to_sql (frame_in w))) i (cells_of v x rows)) ≡ f (points.framed w i (map at rows))
     in_frame f i rows = ap (λ l. f (framed p (Some (frame_to_sql (frame_in w))) i l)) (cells rows) ∙ ap f (same_frame p low w near i (map at rows))
 
-    call_of : (o : AnalyticOp) → takes o kind ≡ true → is_near_operator o ≡ true → IsDefaultHeld p low (default_in o) → keys_of v (over_to_sql a op.Rank w) ≡ keys_in (columns_of a) w → IsCallOf p before scope a w o x at (given_kind o kind)
+    pub call_of : (o : AnalyticOp) → takes o kind ≡ true → is_near_operator o ≡ true → IsDefaultHeld p low (default_in o) → keys_of v (over_to_sql a op.Rank w) ≡ keys_in (columns_of a) w → IsCallOf p before scope a w o x at (given_kind o kind)
     call_of op.Sum t n d keys = record { argument = (seen, tt); kind = ap (λ q. sum_kind (or_null q)) known ∙ sum_gives kind t; fits = refl; formed = (refl, column); value_is = λ r i rows. in_frame (group_value p agg.Sum) i rows }
     call_of op.Avg t n d keys = record { argument = (seen, tt); kind = ap (λ q. number_of (or_null q)) known ∙ number_gives kind t; fits = refl; formed = (refl, column); value_is = λ r i rows. in_frame (group_value p agg.Avg) i rows }
     call_of op.Count t n d keys = record { argument = (seen, tt); kind = refl; fits = refl; formed = (refl, column); value_is = λ r i rows. in_frame (group_value p agg.Count) i rows }

@@ -32,7 +32,7 @@ use Rattle.rules_to_sql.specs.PointWindows.{identifier_places, key_in, keys_in, 
 use Rattle.rules_to_sql.specs.calls.OrderKey.{OrderKey}
 use Rattle.rules_to_sql.specs.calls.Window.{Window}
 use Rattle.rules_to_sql.specs.Windows.{place_within, told_apart}
-use Rattle.rules_to_sql.proofs.Places.{all_filtered, all_more, key_cells, key_within, same_name-is}
+use Rattle.rules_to_sql.proofs.Places.{all_filtered, key_cells, key_within, same_name-is}
 use Rattle.vtl_to_sql.specs.Windowed.{is_listed, key_names}
 
 -- ---- comparisons
