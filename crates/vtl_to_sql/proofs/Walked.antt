@@ -13,7 +13,7 @@ use Rattle.vtl_tree.specs.declared.structure.Structure.{Structure}
 use Rattle.check_shapes.specs.declared.renaming.Renaming.{Renaming}
 use Rattle.vtl_nodes.specs.Trees as nodes
 use Rattle.vtl_nodes.specs.Trees.{FormTree, NodeTree}
-use Rattle.vtl_nodes.specs.View.{agg_tree, form_tree, item_tree, measure_tree, node_tree}
+use Rattle.vtl_nodes.specs.View.{agg_tree, analytic_tree, form_tree, item_tree, measure_tree, node_tree}
 use Rattle.vtl_nodes.specs.declared.clauses.CalcItem.{CalcItem}
 use Rattle.vtl_nodes.specs.declared.clauses.SubItem.{SubItem}
 use Rattle.vtl_nodes.specs.declared.nodes.MeasureOp.{MeasureOp}
@@ -22,6 +22,7 @@ use Rattle.vtl_nodes.specs.declared.nodes.NodeForm as forms
 use Rattle.vtl_nodes.specs.declared.nodes.NodeForm.{NodeForm}
 use Rattle.vtl_nodes.specs.declared.nodes.NodeForm.TheVariants as form
 use Rattle.vtl_nodes.specs.declared.specifications.AggSpec.{AggSpec}
+use Rattle.vtl_nodes.specs.declared.specifications.AnalyticSpec.{AnalyticSpec}
 use Rattle.sql_tree.specs.Trees.{StatementTree, Text}
 use Rattle.vtl_to_sql.specs.Scripts.{create_for}
 use Rattle.vtl_to_sql.specs.FormQueries.{query_of_one, query_of_two}
@@ -40,6 +41,9 @@ tree_of_sub f a values e = ap form_tree e ∙ search (rules, forms.the_lemmas)
 
 pub tree_of_aggregate : (f : NodeForm) (a : Box Node Global) (spec : AggSpec) → f ≡ form.Aggregate a spec → form_tree f ≡ nodes.aggregate (node_tree a.value) (agg_tree spec)
 tree_of_aggregate f a spec e = ap form_tree e ∙ search (rules, forms.the_lemmas)
+
+pub tree_of_analytic : (f : NodeForm) (a : Box Node Global) (spec : AnalyticSpec) → f ≡ form.Analytic a spec → form_tree f ≡ nodes.analytic_of (node_tree a.value) (analytic_tree spec)
+tree_of_analytic f a spec e = ap form_tree e ∙ search (rules, forms.the_lemmas)
 
 pub tree_of_measures : (f : NodeForm) (op : MeasureOp) (a : Box Node Global) → f ≡ form.Measures op a → form_tree f ≡ nodes.measures (measure_tree op) (node_tree a.value)
 tree_of_measures f op a e = ap form_tree e ∙ search (rules, forms.the_lemmas)
@@ -90,6 +94,7 @@ IsOf f a =
     ⊎ ((values : List SubItem) × f ≡ form.Sub a values)
     ⊎ ((id : Txt) × (m : Txt) × f ≡ form.Pivot a id m)
     ⊎ ((spec : AggSpec) × f ≡ form.Aggregate a spec)
+    ⊎ ((spec : AnalyticSpec) × f ≡ form.Analytic a spec)
     ⊎ ((id : Txt) × (m : Txt) × f ≡ form.Unpivot a id m)
     ⊎ ((m : Txt) × f ≡ form.Member a m)
     ⊎ ((names : List Txt) × f ≡ form.Keep a names)
@@ -107,10 +112,11 @@ one_made p r s f a n (inr (inr (inr (inl (pairs, e))))) = let b = node_tree a.va
 one_made p r s f a n (inr (inr (inr (inr (inl (values, e)))))) = let b = node_tree a.value in one_at p r s b n (form_tree f) (nodes.sub b values) (tree_of_sub f a values e) refl
 one_made p r s f a n (inr (inr (inr (inr (inr (inl (id, m, e))))))) = let b = node_tree a.value in one_at p r s b n (form_tree f) (nodes.pivot b id m) (tree_of_pivot f a id m e) refl
 one_made p r s f a n (inr (inr (inr (inr (inr (inr (inl (spec, e)))))))) = let b = node_tree a.value in one_at p r s b n (form_tree f) (nodes.aggregate b (agg_tree spec)) (tree_of_aggregate f a spec e) refl
-one_made p r s f a n (inr (inr (inr (inr (inr (inr (inr (inl (id, m, e))))))))) = let b = node_tree a.value in one_at p r s b n (form_tree f) (nodes.unpivot b id m) (tree_of_unpivot f a id m e) refl
-one_made p r s f a n (inr (inr (inr (inr (inr (inr (inr (inr (inl (m, e)))))))))) = let b = node_tree a.value in one_at p r s b n (form_tree f) (nodes.member b m) (tree_of_member f a m e) refl
-one_made p r s f a n (inr (inr (inr (inr (inr (inr (inr (inr (inr (inl (names, e))))))))))) = let b = node_tree a.value in one_at p r s b n (form_tree f) (nodes.keep b names) (tree_of_keep f a names e) refl
-one_made p r s f a n (inr (inr (inr (inr (inr (inr (inr (inr (inr (inr (names, e))))))))))) = let b = node_tree a.value in one_at p r s b n (form_tree f) (nodes.drop_named b names) (tree_of_drop f a names e) refl
+one_made p r s f a n (inr (inr (inr (inr (inr (inr (inr (inl (spec, e))))))))) = let b = node_tree a.value in one_at p r s b n (form_tree f) (nodes.analytic_of b (analytic_tree spec)) (tree_of_analytic f a spec e) refl
+one_made p r s f a n (inr (inr (inr (inr (inr (inr (inr (inr (inl (id, m, e)))))))))) = let b = node_tree a.value in one_at p r s b n (form_tree f) (nodes.unpivot b id m) (tree_of_unpivot f a id m e) refl
+one_made p r s f a n (inr (inr (inr (inr (inr (inr (inr (inr (inr (inl (m, e))))))))))) = let b = node_tree a.value in one_at p r s b n (form_tree f) (nodes.member b m) (tree_of_member f a m e) refl
+one_made p r s f a n (inr (inr (inr (inr (inr (inr (inr (inr (inr (inr (inl (names, e)))))))))))) = let b = node_tree a.value in one_at p r s b n (form_tree f) (nodes.keep b names) (tree_of_keep f a names e) refl
+one_made p r s f a n (inr (inr (inr (inr (inr (inr (inr (inr (inr (inr (inr (names, e)))))))))))) = let b = node_tree a.value in one_at p r s b n (form_tree f) (nodes.drop_named b names) (tree_of_drop f a names e) refl
 
 abbrev AreOf : NodeForm → (a b : Box Node Global) → Type 0
 AreOf f a b =
