@@ -40,6 +40,7 @@ pub use Rattle.vtl_meaning.specs.Operators
 pub use Rattle.vtl_meaning.specs.Orders
 pub use Rattle.vtl_meaning.specs.Points
 pub use Rattle.vtl_meaning.specs.Profiles
+pub use Rattle.vtl_meaning.specs.Reaches
 pub use Rattle.vtl_meaning.specs.Sets
 pub use Rattle.vtl_meaning.specs.Shapes
 pub use Rattle.vtl_meaning.specs.Trees

@@ -4,6 +4,7 @@ pub use Rattle.sql_check_parts.specs.Kinds
 pub use Rattle.sql_check_parts.specs.Queries
 pub use Rattle.sql_check_parts.specs.Scopes
 pub use Rattle.sql_check_parts.specs.Statements as TypingStatements
+pub use Rattle.sql_check_parts.specs.Windows as CheckedWindows
 pub use Rattle.sql_meaning.specs.Fits
 pub use Rattle.sql_meaning.specs.From
 pub use Rattle.sql_meaning.specs.Groups as MeantGroups
@@ -50,6 +51,7 @@ pub use Rattle.vtl_backend.specs.Orders
 pub use Rattle.vtl_backend.specs.Places
 pub use Rattle.vtl_backend.specs.Points
 pub use Rattle.vtl_backend.specs.Profiles
+pub use Rattle.vtl_backend.specs.Reaches
 pub use Rattle.vtl_backend.specs.Runs
 pub use Rattle.vtl_backend.specs.Script
 pub use Rattle.vtl_backend.specs.Scripts as LawsScripts

@@ -32,6 +32,7 @@ pub use Rattle.check_laws.specs.Orders
 pub use Rattle.check_laws.specs.Places
 pub use Rattle.check_laws.specs.Points
 pub use Rattle.check_laws.specs.Profiles
+pub use Rattle.check_laws.specs.Reaches
 pub use Rattle.check_laws.specs.Script
 pub use Rattle.check_laws.specs.Scripts
 pub use Rattle.check_laws.specs.Sets

@@ -67,6 +67,7 @@ module _ (p : Settings) where
     form_words b s (nodes.pivot a id m) t w = names_words false a t w.0
     form_words b s (nodes.unpivot a id m) t w = names_words false a t w.0
     form_words b s (nodes.aggregate a spec) t w = names_words b a t w.0
+    form_words b s (nodes.analytic_of a spec) t w = names_words b a t w.0
     form_words b s (nodes.union ns) t w = all_words ns t w
     form_words b s (nodes.intersect ns) t w = all_words ns t w
     form_words b s (nodes.set_diff a c) t w = let both = and_parts (is_built a) (is_built c) t in two_words (nodes_in a) (nodes_in c) (names_words false a both.0 w.0) (names_words false c both.1 w.1)

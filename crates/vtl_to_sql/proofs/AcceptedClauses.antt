@@ -116,7 +116,7 @@ module _ (p : Settings) (b : Bool) (rs : List Renaming) where
       r = calc_form (map (target_of (components_in n)) items) (components_in n)
 
       go : (q : Bool) → Gives (IsAt p b rs) (r >>= clauses.made_of (cond q (nodes.analytic_of n (nodes.of_items items)) (nodes.calc n items)))
-      go true = clause_at (nodes.analytic_of n (nodes.of_items items)) r (λ t. absurd (false≢true t))
+      go true = clause_at (nodes.analytic_of n (nodes.of_items items)) r (λ t. (((h t).0, named), (h t).1))
       go false = clause_at (nodes.calc n items) r (λ t. (((h t).0, named), (h t).1))
 
   -- each target has a name; of its value nothing is asked

@@ -18,8 +18,11 @@ use Rattle.vtl_tree.specs.declared.structure.Role.TheVariants as role
 use Rattle.vtl_tree.specs.declared.structure.Structure.{Structure}
 use Rattle.rules_to_sql.specs.AggregateShapes as aggregates
 use Rattle.rules_to_sql.specs.AggregateShapes.{made_components}
+use Rattle.rules_to_sql.specs.AnalyticShapes.{analyzed_components, of_measure, target_of}
 use Rattle.rules_to_sql.specs.Columns.{identifiers_of, kind_named}
 use Rattle.rules_to_sql.specs.Shapes.{calculated_components}
+use Rattle.rules_to_sql.specs.Trees as nodes
+use Rattle.rules_to_sql.specs.Trees.{AnalyticTree}
 use Rattle.rules_to_sql.specs.Turned.{codes_of}
 use Rattle.rules_to_sql.specs.specifications.AggItems.{AggItems}
 use Rattle.rules_to_sql.specs.specifications.AggItems.TheVariants as items
@@ -39,7 +42,7 @@ use Rattle.rules_to_sql.proofs.Columns.{at-found, found-filter, kind-found, of-c
 use Rattle.rules_to_sql.proofs.Lists as lists
 use Rattle.sql_tree.specs.Formed.{IsName}
 use Rattle.vtl_to_sql.specs.Conditions.{HaveNames}
-use Rattle.vtl_to_sql.proofs.AcceptedWords.{AreRenamings, HasCodes, IsColumnName, TargetsHaveNames}
+use Rattle.vtl_to_sql.proofs.AcceptedWords.{AreRenamings, CallsHaveNames, HasCodes, IsColumnName, TargetsHaveNames}
 use Rattle.vtl_to_sql.proofs.Names.{component_is_name}
 
 -- ---- components
@@ -180,6 +183,11 @@ module _ (rs : List Renaming) where
   made_named (items.Targets ts) xs named h =
       lists.mapped (IsPlain rs) (aggregates.target_component xs) ts
       (lists.weaker (λ t. IsColumnName t.target) (λ t. IsPlain rs (aggregates.target_component xs t)) ts (λ t name. plain rs (aggregates.target_component xs t) name tt) named)
+
+  -- what an analytic operator makes
+  pub analyzed_named : (spec : AnalyticTree) (xs : List Component) → CallsHaveNames spec → ArePlain rs xs → ArePlain rs (analyzed_components spec xs)
+  analyzed_named (nodes.of_measures o w) xs named h = lists.appended (IsPlain rs) (chosen choice.Except [] xs) (given_measures outcome.All (of_measure o) None xs) (chosen_named rs choice.Except [] xs h) (given_named outcome.All (of_measure o) None xs h)
+  analyzed_named (nodes.of_items items) xs named h = calculated_named rs (map (target_of xs) items) xs (lists.mapped (λ t. IsColumnName t.name) (target_of xs) items named) h
 
 pub pair_named : (a b : Structure) → ArePlain [] a.components → ArePlain [] b.components → ArePlain [] (pair_identifiers a b)
 pair_named a b ha hb = go (contains a b)

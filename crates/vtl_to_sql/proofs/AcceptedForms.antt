@@ -27,6 +27,7 @@ mutual
   form_evaluated (nodes.pivot a id m) = evaluated a
   form_evaluated (nodes.unpivot a id m) = evaluated a
   form_evaluated (nodes.aggregate a spec) = evaluated a
+  form_evaluated (nodes.analytic_of a spec) = evaluated a
   form_evaluated (nodes.join os spec) = operands_evaluated os
   form_evaluated (nodes.union ns) = all_evaluated ns
   form_evaluated (nodes.intersect ns) = all_evaluated ns

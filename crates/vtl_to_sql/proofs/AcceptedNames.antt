@@ -24,7 +24,7 @@ use Rattle.check_shapes.specs.Pairs.{pair_identifiers}
 use Rattle.check_shapes.specs.declared.choices.Choice.TheVariants as choice
 use Rattle.check_shapes.specs.declared.renaming.Renaming.{Renaming}
 use Rattle.rules_to_sql.proofs.Lists as lists
-use Rattle.vtl_to_sql.proofs.AcceptedComponents.{AreKnownNamed, ArePlain, Fits, IsPlain, agreed_named, all_weaker, bool_var_named, calculated_named, chosen_named, found_named, given_named, made_named, pair_named, pivot_named, plain, renamed_named, role_named}
+use Rattle.vtl_to_sql.proofs.AcceptedComponents.{AreKnownNamed, ArePlain, Fits, IsPlain, agreed_named, all_weaker, analyzed_named, bool_var_named, calculated_named, chosen_named, found_named, given_named, made_named, pair_named, pivot_named, plain, renamed_named, role_named}
 use Rattle.vtl_to_sql.proofs.AcceptedMarks.{IsOperandPlain, given_back_named, joined_named, last_named}
 use Rattle.vtl_to_sql.proofs.AcceptedWords.{AreRenamings, FormHasWords, HasWords, HaveWords, IsColumnName, OperandsHaveWords, form_renamings, renamings_below}
 
@@ -103,6 +103,10 @@ module _ (p : Settings) (known : Named) (all : AreKnownNamed known) where
         let rs = marks b (nodes.aggregate a spec) in
         let h = components_named b a m.0 t w.0 in
         (by_shape rs s _ m.1.aggregated.shape (lists.appended (IsPlain rs) (chosen choice.By spec.grouping (structure_of a).components) (made_components spec.items (structure_of a).components) (chosen_named rs choice.By spec.grouping (structure_of a).components h.0) (made_named rs spec.items (structure_of a).components w.1 h.0)), h.1)
+    form_named b s (nodes.analytic_of a spec) m t w =
+        let rs = marks b (nodes.analytic_of a spec) in
+        let h = components_named b a m.0 t w.0 in
+        (by_shape rs s _ m.1.analyzed.shape (analyzed_named rs spec (structure_of a).components w.1 h.0), h.1)
     form_named true s (nodes.join os spec) m t w =
         let h = operands_named os m.0 t w in
         (by_shape (form_renamings (nodes.join os spec)) s _ m.2 (joined_named spec.kind (operands_in os) h), given_back_named spec.kind (held_names spec.kind (operands_in os)) (operands_in os) h)

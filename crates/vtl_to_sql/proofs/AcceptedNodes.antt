@@ -4,7 +4,7 @@ use Rattle.std.proofs.Common.{inl, inr, ◌≡◌, ◌≤◌, ℕ, zero, suc, Bo
 use Rattle.std.proofs.lemmas.Bool.{and_parts, false≢true}
 use Rattle.std.proofs.lemmas.List.{length-map}
 use Rattle.std.proofs.lemmas.List.Filters.{length-filter_both}
-use Rattle.std.specs.List.{AllByRecursion, filter, list_any}
+use Rattle.std.specs.List.{AllByRecursion, filter, flat_map, list_any}
 use Rattle.std.specs.Option.{IfSome}
 use Rattle.std.specs.Prelude.{option_to_list}
 use Rattle.vtl_cell.specs.Apart.{all_apart}
@@ -26,15 +26,15 @@ use Rattle.rules_to_sql.specs.Nodes.{all_nodes, form_nodes, nodes_in, operand_no
 use Rattle.rules_to_sql.specs.Operators.{calculated_exps, measured_exps, pair_exps}
 use Rattle.rules_to_sql.specs.Shapes.{IsShaped}
 use Rattle.rules_to_sql.specs.Trees as nodes
-use Rattle.rules_to_sql.specs.Trees.{FormTree, NodeTree, NodeTrees, OperandTrees, structure_of}
+use Rattle.rules_to_sql.specs.Trees.{AnalyticTree, FormTree, ItemTree, NodeTree, NodeTrees, OperandTrees, ValueTree, structure_of}
 use Rattle.rules_to_sql.specs.clauses.SubItem.{SubItem}
-use Rattle.rules_to_sql.specs.Depths.{exps_in, held_exps, made_exps}
+use Rattle.rules_to_sql.specs.Depths.{analytic_exps, exps_in, held_exps, item_exps, made_exps, value_exps}
 use Rattle.rules_to_sql.proofs.DepthBounds.{AreNodesUpTo, AreUpTo, IsUpTo}
 use Rattle.rules_to_sql.proofs.Inner.{made-shaped}
 use Rattle.rules_to_sql.proofs.Lists as lists
 use Rattle.rules_to_sql.specs.Held.{HoldsValues}
-use Rattle.vtl_to_sql.specs.Accepted.{AllHoldValues, FormHoldsParts, HoldsParts, NodesHoldParts, OperandsHoldParts, are_nodes_translated, are_operands_translated, is_form_translated, is_translated}
-use Rattle.vtl_to_sql.specs.Conditions.{AllCanBeWritten, AreNodesTranslated, AreOperandsTranslated, CanBeWritten, HasValue, IsFormTranslated, IsTranslated}
+use Rattle.vtl_to_sql.specs.Accepted.{AllHoldValues, AnalyticHoldsValues, FormHoldsParts, HoldsParts, MadeHoldsValues, NodesHoldParts, OperandsHoldParts, are_nodes_translated, are_operands_translated, is_form_translated, is_translated}
+use Rattle.vtl_to_sql.specs.Conditions.{AllCanBeWritten, AreNodesTranslated, AreOperandsTranslated, CallsCanBeWritten, CanBeWritten, HasValue, IsFormTranslated, IsTranslated, ValueCanBeWritten}
 use Rattle.vtl_to_sql.proofs.AcceptedComponents.{AreKnownNamed, codes_are_texts, columns_named}
 use Rattle.vtl_to_sql.proofs.AcceptedForms.{evaluated, form_evaluated}
 use Rattle.vtl_to_sql.proofs.AcceptedNames.{components_named, form_named, marks}
@@ -50,6 +50,18 @@ all_written es h d = lists.joined HoldsValues (IsUpTo depth_limit) CanBeWritten 
 maybe_written : (o : Option CompExp) (others : List CompExp) → IfSome o HoldsValues → AreUpTo depth_limit (option_to_list o ++ others) → IfSome o CanBeWritten
 maybe_written None others h d = tt
 maybe_written (Some e) others h d = written e h d.0
+
+calls_written : (spec : AnalyticTree) (others : List CompExp) → AnalyticHoldsValues spec → AreUpTo depth_limit (analytic_exps spec ++ others) → CallsCanBeWritten spec
+calls_written (nodes.of_measures o w) others h d = h
+calls_written (nodes.of_items items) others h d = each items h (lists.front (IsUpTo depth_limit) (flat_map item_exps items) others d)
+  where
+    one : (v : ValueTree) → MadeHoldsValues v → AreUpTo depth_limit (value_exps v) → ValueCanBeWritten v
+    one (nodes.scalar e) h d = written e h d.0
+    one (nodes.analytic x) h d = h
+
+    each : (us : List ItemTree) → AllByRecursion (λ i. MadeHoldsValues i.value) us → AreUpTo depth_limit (flat_map item_exps us) → AllByRecursion (λ i. ValueCanBeWritten i.value) us
+    each [] h d = tt
+    each (u ∷ us) h d = (one u.value h.0 (lists.front (IsUpTo depth_limit) (value_exps u.value) (flat_map item_exps us) d), each us h.1 (lists.back (IsUpTo depth_limit) (value_exps u.value) (flat_map item_exps us) d))
 
 -- ---- no more texts that are apart than there are texts that they are among
 IsAmong : List (List ℕ) → List ℕ → Type 0
@@ -145,6 +157,7 @@ module _ (p : Settings) (known : Named) (all : AreKnownNamed known) where
     form_translated b s (nodes.pivot a id x) m t w h own d = (node_translated false a m.0 t w.0 h d, codes_are_texts id (structure_of a) (components_named p known all false a m.0 (sym (evaluated a) ∙ t) w.0).0 w.1)
     form_translated b s (nodes.unpivot a id x) m t w h own d = node_translated false a m.0 t w.0 h d
     form_translated b s (nodes.aggregate a spec) m t w h own d = (node_translated b a m.0 t w.0 h.0 d, maybe_written spec.having (made_exps s (nodes.aggregate a spec)) h.1 own)
+    form_translated b s (nodes.analytic_of a spec) m t w h own d = (node_translated b a m.0 t w.0 h.0 d, calls_written spec (made_exps s (nodes.analytic_of a spec)) h.1 own)
     form_translated b s (nodes.union ns) m t w h own d = nodes_translated ns m.0 t w h d
     form_translated b s (nodes.intersect ns) m t w h own d = nodes_translated ns m.0 t w h d
     form_translated b s (nodes.set_diff a c) m t w h own d =

@@ -3,7 +3,7 @@ use Rattle.std.proofs.Common.{ℕ, Bool, true, false, cond, ◌&&◌, not, List,
 use Rattle.std.specs.List.{AllByRecursion}
 use Rattle.std.specs.Map.{lookup}
 use Rattle.std.specs.Option.{IfSome, is_some}
-use Rattle.std.proofs.lemmas.Bool.{and_parts, false≢true}
+use Rattle.std.proofs.lemmas.Bool.{and_parts}
 use Rattle.vtl_cell.specs.Results.{◌>>=◌}
 use Rattle.vtl_cell.specs.ScalarArithmetic.{number}
 use Rattle.vtl_cell.specs.Settings.{Settings}
@@ -202,19 +202,19 @@ module _ (p : Settings) where
   grouped_worded at f e g grouped having (Some (value v)) h = after (IsTreeWorded p) (own_groups at g having) (λ u. aggregate_value at f grouped e v) (λ u. value_call_worded at f grouped e v)
   grouped_worded at f e g grouped having None h = after (IsTreeWorded p) (own_groups at g having) (λ u. count_call at f grouped) (λ u. count_worded at f grouped)
 
-  over_node_worded : (e : Exp) (call : Call) (w : Window) (a : NodeTree) → Gives (IsTreeWorded p) (over_node e call w a)
+  over_node_worded : (e : Exp) (call : Call) (w : Window) (a : NodeTree) → IsWorded p a → Gives (IsTreeWorded p) (over_node e call w a)
   unfolding over_node
-  over_node_worded e call w a = dataset_worded (nodes.analytic_of a (nodes.of_measures (or_count call.op) w)) _ (λ t. absurd (false≢true t))
+  over_node_worded e call w a h = dataset_worded (nodes.analytic_of a (nodes.of_measures (or_count call.op) w)) _ (λ t. (h t, tt))
 
-  over_dataset_worded : (at : Place) (e : Exp) (n : NodeTree) (call : Call) (w : Window) → Gives (IsTreeWorded p) (over_dataset at e n call w)
-  over_dataset_worded place.Outside e n call w = over_node_worded e call w n
-  over_dataset_worded (place.Inside i) e n call w = after (IsTreeWorded p) (given_structure e (components_in n)) (λ s. Err rule.DatasetOrValue) (λ s. tt)
+  over_dataset_worded : (at : Place) (e : Exp) (n : NodeTree) (call : Call) (w : Window) → IsWorded p n → Gives (IsTreeWorded p) (over_dataset at e n call w)
+  over_dataset_worded place.Outside e n call w h = over_node_worded e call w n h
+  over_dataset_worded (place.Inside i) e n call w h = after (IsTreeWorded p) (given_structure e (components_in n)) (λ s. Err rule.DatasetOrValue) (λ s. tt)
 
-  pub over_worded : (q : Settings) (at : Place) (e : Exp) (x : Option TypedTree) → Gives (IsTreeWorded p) (over_typed q at e x)
+  pub over_worded : (q : Settings) (at : Place) (e : Exp) (x : Option TypedTree) → IfSome x (IsTreeWorded p) → Gives (IsTreeWorded p) (over_typed q at e x)
   unfolding over_typed
-  over_worded q at e x = after (IsTreeWorded p) _ _ (λ parts. go x parts.0 parts.1)
+  over_worded q at e x h = after (IsTreeWorded p) _ _ (λ parts. go x h parts.0 parts.1)
     where
-      go : (x : Option TypedTree) (call : Call) (w : Window) → Gives (IsTreeWorded p) (over_form at e x call w)
-      go (Some (dataset n)) call w = over_dataset_worded at e n call w
-      go (Some (value v)) call w = tt
-      go None call w = tt
+      go : (x : Option TypedTree) → IfSome x (IsTreeWorded p) → (call : Call) (w : Window) → Gives (IsTreeWorded p) (over_form at e x call w)
+      go (Some (dataset n)) h call w = over_dataset_worded at e n call w h
+      go (Some (value v)) h call w = tt
+      go None h call w = tt

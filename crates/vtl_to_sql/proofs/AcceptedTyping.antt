@@ -68,10 +68,13 @@ mutual
   worded env at (tree.aggregate f e g h) w =
       then (λ x. IfSome x (IsTreeWorded env.settings)) (IsTreeWorded env.settings) (maybe_typed env (in_aggregate at) e) (grouped_of at f e g (is_some g || has_exp h) (λ groups. having_typed env groups h)) (maybe_worded env (in_aggregate at) e w.0)
       (λ x k. grouped_worded env.settings at f e g (is_some g || has_exp h) (λ groups. having_typed env groups h) x k)
-  worded env at (tree.aggregate_over f e o) w = after (IsTreeWorded env.settings) (maybe_typed env at e) (over_typed env.settings at (tree.aggregate_over f e o)) (over_worded env.settings env.settings at (tree.aggregate_over f e o))
-  worded env at (tree.value_window f e o) w = after (IsTreeWorded env.settings) (typed env at e) (λ x. over_typed env.settings at (tree.value_window f e o) (Some x)) (λ x. over_worded env.settings env.settings at (tree.value_window f e o) (Some x))
-  worded env at (tree.shift f e n l o) w = after (IsTreeWorded env.settings) (typed env at e) (λ x. over_typed env.settings at (tree.shift f e n l o) (Some x)) (λ x. over_worded env.settings env.settings at (tree.shift f e n l o) (Some x))
-  worded env at (tree.rank o) w = over_worded env.settings env.settings at (tree.rank o) None
+  worded env at (tree.aggregate_over f e o) w =
+      then (λ x. IfSome x (IsTreeWorded env.settings)) (IsTreeWorded env.settings) (maybe_typed env at e) (over_typed env.settings at (tree.aggregate_over f e o)) (maybe_worded env at e w.0) (over_worded env.settings env.settings at (tree.aggregate_over f e o))
+  worded env at (tree.value_window f e o) w =
+      then (IsTreeWorded env.settings) (IsTreeWorded env.settings) (typed env at e) (λ x. over_typed env.settings at (tree.value_window f e o) (Some x)) (worded env at e w.0) (λ x. over_worded env.settings env.settings at (tree.value_window f e o) (Some x))
+  worded env at (tree.shift f e n l o) w =
+      then (IsTreeWorded env.settings) (IsTreeWorded env.settings) (typed env at e) (λ x. over_typed env.settings at (tree.shift f e n l o) (Some x)) (worded env at e w.0) (λ x. over_worded env.settings env.settings at (tree.shift f e n l o) (Some x))
+  worded env at (tree.rank o) w = over_worded env.settings env.settings at (tree.rank o) None tt
   worded env at (tree.set_op f es) w = then (AllByRecursion (IsTreeWorded env.settings)) (IsTreeWorded env.settings) (operands_typed env place.Outside [] es) (sets_form f) (operands_worded env place.Outside [] es tt (more_exps es w)) (sets_worded env.settings f)
   worded env at (tree.difference f a b) w =
       then (IsTreeWorded env.settings) (IsTreeWorded env.settings) (typed env place.Outside a) (λ x. typed env place.Outside b >>= difference_form f x) (worded env place.Outside a w.0)

@@ -19,7 +19,7 @@ use Rattle.vtl_syntax.specs.declared.parts.Comp.TheVariants as comp
 use Rattle.rules_to_sql.specs.Made.{operands_in}
 use Rattle.rules_to_sql.specs.Meaning.{is_built, is_built_form}
 use Rattle.rules_to_sql.specs.Trees as nodes
-use Rattle.rules_to_sql.specs.Trees.{FormTree, NodeTree, NodeTrees, OperandTrees, structure_of}
+use Rattle.rules_to_sql.specs.Trees.{AnalyticTree, FormTree, NodeTree, NodeTrees, OperandTrees, structure_of}
 use Rattle.rules_to_sql.specs.clauses.SubItem.{SubItem}
 use Rattle.rules_to_sql.specs.specifications.AggItems.{AggItems}
 use Rattle.rules_to_sql.specs.specifications.AggItems.TheVariants as items
@@ -76,6 +76,7 @@ abbrev mutual
   form_renamings (nodes.drop_named a names) = renamings_below a
   form_renamings (nodes.rename a pairs) = renamings_below a
   form_renamings (nodes.aggregate a spec) = renamings_below a
+  form_renamings (nodes.analytic_of a spec) = renamings_below a
   form_renamings other = []
 
 -- ---- the words of an expression on data sets and of its operands
@@ -104,6 +105,11 @@ abbrev pub TargetsHaveNames : AggItems → Type 0
 TargetsHaveNames (items.Measures f) = Unit {0}
 TargetsHaveNames (items.Targets ts) = AllByRecursion (λ t. IsColumnName t.target) ts
 
+-- the targets of a `calc` in which an analytic call stands
+abbrev pub CallsHaveNames : AnalyticTree → Type 0
+CallsHaveNames (nodes.of_measures o w) = Unit {0}
+CallsHaveNames (nodes.of_items items) = AllByRecursion (λ i. IsColumnName i.target) items
+
 -- the renamings at the end of a join's body, of the names that are left
 abbrev pub AreLast : NodeTree → List Renaming → Type 0
 AreLast a pairs = pairs ≡ filter (is_left (components_in a)) (renamings_below a)
@@ -128,6 +134,7 @@ abbrev mutual
   FormHasWords p b (nodes.pivot a id m) = HasWords p false a × HasCodes id (structure_of a)
   FormHasWords p b (nodes.unpivot a id m) = HasWords p false a × IsColumnName id × IsColumnName m
   FormHasWords p b (nodes.aggregate a spec) = HasWords p b a × TargetsHaveNames spec.items
+  FormHasWords p b (nodes.analytic_of a spec) = HasWords p b a × CallsHaveNames spec
   FormHasWords p true (nodes.join os spec) = OperandsHaveWords p os
   FormHasWords p false (nodes.join os spec) = ⊥
   FormHasWords p b (nodes.union ns) = HaveWords p ns

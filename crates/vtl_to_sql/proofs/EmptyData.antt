@@ -15,6 +15,7 @@ use Rattle.vtl_tree.specs.declared.structure.Structure.{Structure}
 use Rattle.vtl_tuples.specs.Keys.{each_once}
 use Rattle.check_shapes.specs.Pairs.{contains}
 use Rattle.rules_to_sql.specs.AggregatePoints.{aggregate_of}
+use Rattle.rules_to_sql.specs.AnalyticPoints.{analytic_of}
 use Rattle.rules_to_sql.specs.Joined.{join_of}
 use Rattle.rules_to_sql.specs.Meaning.{AreDataSets, operands_value, Outputs, Statement, form_value, kept_output, known_in, meaning, node_value, nodes_value, points_named, stated, with_first, with_operand}
 use Rattle.rules_to_sql.specs.Operators.{calculated_of, choice_of, left_of, measured_of, pair_exps, pair_of, sub_of}
@@ -121,6 +122,7 @@ module _ (p : Settings) (env : Environment) (h : AreEmpty env) where
     form_empty s (nodes.pivot a id m) c = ap (λ v. with_operand a v (λ d. Ok (pivot_of d id m))) (node_empty a c.0)
     form_empty s (nodes.unpivot a id m) c = ap (λ v. with_operand a v (λ d. Ok (unpivot_of d))) (node_empty a c)
     form_empty s (nodes.aggregate a spec) c = ap (λ v. with_operand a v (λ d. aggregate_of p spec d s)) (node_empty a c.0)
+    form_empty s (nodes.analytic_of a spec) c = ap (λ v. with_operand a v (λ d. analytic_of p spec d s)) (node_empty a c.0)
     form_empty s other c = absurd c
 
     nodes_empty : (ns : NodeTrees) → AreNodesTranslated p ns → nodes_value p env ns ≡ Ok (empty_operands ns)

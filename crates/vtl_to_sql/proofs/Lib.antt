@@ -53,6 +53,11 @@ pub mod Coded
 pub mod GroupKeys
 pub mod Pivots
 pub mod Aggregated
+pub mod WindowOrders
+pub mod WindowCalls
+pub mod ValueItems
+pub mod TargetKinds
+pub mod Windowed
 pub mod Nodes
 pub mod Statements
 pub mod WholeScript

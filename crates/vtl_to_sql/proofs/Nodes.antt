@@ -28,6 +28,7 @@ use Rattle.rules_to_sql.specs.Shapes.{IsShaped}
 use Rattle.rules_to_sql.specs.Trees as nodes
 use Rattle.rules_to_sql.specs.Trees.{FormTree, NodeTree, NodeTrees, OperandTrees, structure_of}
 use Rattle.rules_to_sql.specs.AggregatePoints.{aggregate_of}
+use Rattle.rules_to_sql.specs.AnalyticPoints.{analytic_of}
 use Rattle.rules_to_sql.specs.Turned.{pivot_of, unpivot_of}
 use Rattle.rules_to_sql.proofs.Orders.{choice_respects, each_respects, filtered_respects, pair_respects, shown_respects, sub_respects}
 use Rattle.rules_to_sql.proofs.OwnColumns.{own_identifiers, own_measures}
@@ -42,9 +43,11 @@ use Rattle.vtl_to_sql.specs.Means.{AreEarlier, Means, NodeGives, SourcesGive, St
 use Rattle.vtl_to_sql.specs.Queries.{calc_query, choose_query, copy_query, filter_query, left_query, measures_query, pair_query, rename_query, shown_query, sub_query, union_query, intersection_query, difference_query, symmetric_difference_query, existence_query}
 use Rattle.vtl_to_sql.specs.Tables.{Sources, and_then, combined_of, made_of, made_of_form, numbered, operands_of, over, source_of, sources_of, table_of, with_one, with_two, stored}
 use Rattle.rules_to_sql.proofs.TurnedOrders.{pivot_order, unpivot_order}
+use Rattle.rules_to_sql.proofs.AnalyticOrders.{analytics_respect}
 use Rattle.rules_to_sql.proofs.GroupOrders.{aggregates_respect}
 use Rattle.vtl_to_sql.specs.Grouped.{aggregate_query}
 use Rattle.vtl_to_sql.specs.Turned.{pivot_query, unpivot_query}
+use Rattle.vtl_to_sql.specs.Windowed.{analytic_query}
 use Rattle.vtl_to_sql.proofs.Aggregated.{aggregate_means}
 use Rattle.vtl_to_sql.proofs.Choices.{choose_means}
 use Rattle.vtl_to_sql.proofs.Composition.{all_earlier, all_stand_still, alone, beside_gives, no_tables, one_gives, stored_gives, three_gives, together, two_gives}
@@ -59,6 +62,7 @@ use Rattle.vtl_to_sql.proofs.Pivots.{pivot_means}
 use Rattle.vtl_to_sql.proofs.Subs.{sub_means}
 use Rattle.vtl_to_sql.proofs.TwoOperands.{pair_means}
 use Rattle.vtl_to_sql.proofs.Unpivots.{unpivot_means}
+use Rattle.vtl_to_sql.proofs.Windowed.{analytic_means}
 
 -- ---- what is translated is evaluated, and its columns have names
 
@@ -90,6 +94,7 @@ mutual
   form_built p s (nodes.pivot a id q) c = translated_built p a c.0
   form_built p s (nodes.unpivot a id q) c = translated_built p a c
   form_built p s (nodes.aggregate a spec) c = translated_built p a c.0
+  form_built p s (nodes.analytic_of a spec) c = translated_built p a c.0
   form_built p s other c = absurd c
 
   nodes_built : (p : Settings) (ns : NodeTrees) → AreNodesTranslated p ns → are_nodes_built ns ≡ true
@@ -346,6 +351,12 @@ module _ (p : Settings) (law : Translates p) (r : Text) (word : is_word r ≡ tr
         means_by p now (aggregate_query p spec (structure_of a) s x) s (aggregate_of p spec (with_points (structure_of a) st.rows) s) (aggregate_of p spec (with_points (structure_of a) d) s)
         (aggregates_respect p spec (with_points (structure_of a) st.rows) (with_points (structure_of a) d) s refl st.same)
         (aggregate_means p law now x (structure_of a) s st.rows st.table st.named (names_in p a c.0) (set_of a now x d c.0 i.0 is st) spec i.1 c.1 (columns_given s w n)))
+    form_gives s (nodes.analytic_of a spec) m before stands apart w i n c few =
+        one_gives p r word before m (sources_of p r a m) (analytic_query p spec (structure_of a) s) (structure_of a) s (node_value p env a) (λ d. analytic_of p spec (with_points (structure_of a) d) s) (operand_gives a m before stands apart i.0 c.0 few)
+        (λ now x d is st.
+        means_by p now (analytic_query p spec (structure_of a) s x) s (analytic_of p spec (with_points (structure_of a) st.rows) s) (analytic_of p spec (with_points (structure_of a) d) s)
+        (analytics_respect p spec (with_points (structure_of a) st.rows) (with_points (structure_of a) d) s refl st.same)
+        (analytic_means p law now x (structure_of a) s st.rows st.table st.named (names_in p a c.0) (set_of a now x d c.0 i.0 is st) spec i.1 i.2 c.1 (columns_given s w n)))
     form_gives s (nodes.join os spec) m before stands apart w i n c few =
         let ss = joins.structures_of (operands_in os) in
         let sources = operands_of p r os m in

@@ -14,12 +14,13 @@ use Rattle.vtl_tree.specs.Structure.{columns_of, most_components}
 use Rattle.vtl_tree.specs.Structures.{AreStructures, Named, has_name}
 use Rattle.vtl_tree.specs.declared.structure.Component.{Component}
 use Rattle.vtl_tree.specs.declared.structure.Structure.{Structure}
+use Rattle.rules_to_sql.specs.AnalyticShapes.{default_in}
 use Rattle.rules_to_sql.specs.Columns.{identifiers_of, kind_named}
 use Rattle.rules_to_sql.specs.Made.{IsMade, operands_in}
 use Rattle.rules_to_sql.specs.Meaning.{Statement}
 use Rattle.rules_to_sql.specs.Operators.{calculated_exps, measured_exps, pair_exps}
 use Rattle.rules_to_sql.specs.Trees as nodes
-use Rattle.rules_to_sql.specs.Trees.{FormTree, NodeTree, NodeTrees, OperandTrees, structure_of}
+use Rattle.rules_to_sql.specs.Trees.{AnalyticTree, FormTree, NodeTree, NodeTrees, OperandTrees, ValueTree, structure_of}
 use Rattle.rules_to_sql.specs.clauses.SubItem.{SubItem}
 use Rattle.sql_tree.specs.Formed.{IsName}
 use Rattle.rules_to_sql.specs.Depths.{comp_depth}
@@ -48,6 +49,15 @@ pub record HasValue (p : Settings) (i : SubItem) : Type 0 where
   pub held : IsHeld i.value
   pub ranged : IsOfProfile p i.value
   pub filled : is_null i.value ≡ false
+
+-- a target can be written, and the default of `lag` and `lead`
+abbrev pub ValueCanBeWritten : ValueTree → Type 0
+ValueCanBeWritten (nodes.scalar e) = CanBeWritten e
+ValueCanBeWritten (nodes.analytic x) = IsHeld (default_in x.op)
+
+abbrev pub CallsCanBeWritten : AnalyticTree → Type 0
+CallsCanBeWritten (nodes.of_measures o w) = IsHeld (default_in o)
+CallsCanBeWritten (nodes.of_items items) = AllByRecursion (λ i. ValueCanBeWritten i.value) items
 
 -- ---- expressions on data sets
 
@@ -78,6 +88,7 @@ abbrev mutual
   IsFormTranslated p s (nodes.pivot a id m) = IsTranslated p a × (kind_named id (identifiers_of (structure_of a)) ≡ k.Text)
   IsFormTranslated p s (nodes.unpivot a id m) = IsTranslated p a
   IsFormTranslated p s (nodes.aggregate a spec) = IsTranslated p a × IfSome spec.having CanBeWritten
+  IsFormTranslated p s (nodes.analytic_of a spec) = IsTranslated p a × CallsCanBeWritten spec
   -- the other forms have no meaning yet
   IsFormTranslated p s other = ⊥
 
