@@ -64,7 +64,7 @@ tree_of_join f os spec e = ap form_tree e ∙ search (rules, forms.the_lemmas)
 
 -- of a form of the program
 pub join_of_form : (p : Settings) (r : Text) (s : Structure) (f : NodeForm) (os : Vec JoinOperand Global) (all : List JoinOperand) (spec : JoinSpec) (n : ℕ) → f ≡ form.Join os spec → all ≡ os.items
-    → (let trees = nodes.operands_of (map operand_tree all) in join_made p r spec.kind (structures_of (operands_in trees)) s (operands_of p r trees n)) ≡ made_of_form p r s (form_tree f) n
+    → made_of_form p r s (nodes.join (nodes.operands_of (map operand_tree all)) spec) n ≡ made_of_form p r s (form_tree f) n
 join_of_form p r s f os all spec n is same =
     ap (λ (l : List JoinOperand). made_of_form p r s (nodes.join (nodes.operands_of (map operand_tree l)) spec) n) same ∙ sym (ap (λ (g : FormTree). made_of_form p r s g n) (tree_of_join f os spec is))
 
@@ -72,16 +72,13 @@ abbrev trees_of : List JoinOperand → OperandTrees
 trees_of os = nodes.operands_of (map operand_tree os)
 
 -- the join of structures and tables as the program has them
-pub join_gives : (p : Settings) (r : Text) (s : Structure) (f : NodeForm) (os : Vec JoinOperand Global) (one two : List JoinOperand) (spec : JoinSpec) (n m : ℕ) (bs : List Structure) (xs : List Text) (old done : List StatementTree)
-    → f ≡ form.Join os spec → one ≡ os.items → two ≡ os.items → bs ≡ structures_of (operands_in (trees_of one))
-    → xs ≡ (operands_of p r (trees_of two) n).names → done ≡ old ++ map create_for (operands_of p r (trees_of two) n).tables → m ≡ (operands_of p r (trees_of two) n).next
-    → GivesRest (made_of_form p r s (form_tree f) n) old done (join_made p r spec.kind bs s (by_names xs m))
-join_gives p r s f os one two spec n m bs xs old done is first second structures names made next =
-    let given = operands_of p r (trees_of two) n in
-    let ss = structures_of (operands_in (trees_of two)) in
-    let same : bs ≡ ss = structures ∙ ap (λ (l : List JoinOperand). structures_of (operands_in (trees_of l))) (first ∙ sym second) in
-    subst (λ (w : Made). GivesRest w old done (join_made p r spec.kind bs s (by_names xs m))) (join_of_form p r s f os two spec n is second)
-    (subst (λ (l : List Structure). GivesRest (join_made p r spec.kind ss s given) old done (join_made p r spec.kind l s (by_names xs m))) (sym same) (rest_given p r spec.kind ss s given xs m old done names next made))
+pub join_gives : (p : Settings) (r : Text) (s : Structure) (os : List JoinOperand) (spec : JoinSpec) (n m : ℕ) (bs : List Structure) (xs : List Text) (old done : List StatementTree)
+    → bs ≡ structures_of (operands_in (trees_of os)) → xs ≡ (operands_of p r (trees_of os) n).names → done ≡ old ++ map create_for (operands_of p r (trees_of os) n).tables → m ≡ (operands_of p r (trees_of os) n).next
+    → GivesRest (made_of_form p r s (nodes.join (trees_of os) spec) n) old done (join_made p r spec.kind bs s (by_names xs m))
+join_gives p r s os spec n m bs xs old done structures names made next =
+    let given = operands_of p r (trees_of os) n in
+    let ss = structures_of (operands_in (trees_of os)) in
+    subst (λ (l : List Structure). GivesRest (join_made p r spec.kind ss s given) old done (join_made p r spec.kind l s (by_names xs m))) (sym structures) (rest_given p r spec.kind ss s given xs m old done names next made)
 
 -- ---- a full join
 

@@ -1,23 +1,32 @@
 -- Expressions as trees, and the tables of several operands one behind the other.
-use Rattle.std.proofs.Common.{◌≡◌, ℕ, List, [], ◌∷◌, ◌++◌, map, append_assoc, rules, sym, ap, ◌∙◌}
+use Rattle.std.proofs.Common.{◌≡◌, ◌⊎◌, inl, inr, ℕ, List, [], ◌∷◌, ◌++◌, map, append_assoc, refl, rules, sym, ap, subst, ◌∙◌}
 use Rattle.std.specs.Prelude.{Box}
 use Rattle.std.specs.declared.alloc.Global.{Global}
 use Rattle.std.proofs.lemmas.List.{map-append}
+use Rattle.vtl_cell.specs.Settings.{Settings}
 use Rattle.vtl_cell.specs.declared.operator.ScalarOp.{ScalarOp}
 use Rattle.vtl_syntax.specs.declared.word_groups.Retain.{Retain}
 use Rattle.vtl_text.specs.declared.shared_text.Txt.{Txt}
+use Rattle.vtl_tree.specs.View.{comp_exp_of}
+use Rattle.vtl_tree.specs.declared.expression.CompExpr.{CompExpr}
+use Rattle.vtl_tree.specs.declared.structure.Structure.{Structure}
+use Rattle.check_shapes.specs.declared.renaming.Renaming.{Renaming}
 use Rattle.vtl_nodes.specs.Trees as nodes
-use Rattle.vtl_nodes.specs.View.{agg_tree, form_tree, item_tree, node_tree}
+use Rattle.vtl_nodes.specs.Trees.{FormTree, NodeTree}
+use Rattle.vtl_nodes.specs.View.{agg_tree, analytic_tree, form_tree, item_tree, measure_tree, node_tree}
 use Rattle.vtl_nodes.specs.declared.clauses.CalcItem.{CalcItem}
 use Rattle.vtl_nodes.specs.declared.clauses.SubItem.{SubItem}
+use Rattle.vtl_nodes.specs.declared.nodes.MeasureOp.{MeasureOp}
 use Rattle.vtl_nodes.specs.declared.nodes.Node.{Node}
 use Rattle.vtl_nodes.specs.declared.nodes.NodeForm as forms
 use Rattle.vtl_nodes.specs.declared.nodes.NodeForm.{NodeForm}
 use Rattle.vtl_nodes.specs.declared.nodes.NodeForm.TheVariants as form
 use Rattle.vtl_nodes.specs.declared.specifications.AggSpec.{AggSpec}
+use Rattle.vtl_nodes.specs.declared.specifications.AnalyticSpec.{AnalyticSpec}
 use Rattle.sql_tree.specs.Trees.{StatementTree, Text}
 use Rattle.vtl_to_sql.specs.Scripts.{create_for}
-use Rattle.vtl_to_sql.specs.Tables.{Sources, and_then}
+use Rattle.vtl_to_sql.specs.FormQueries.{query_of_one, query_of_two}
+use Rattle.vtl_to_sql.specs.Tables.{Sources, and_then, made_of_form, over, sources_of, with_one, with_two}
 
 -- ---- trees of forms
 
@@ -33,6 +42,33 @@ tree_of_sub f a values e = ap form_tree e ∙ search (rules, forms.the_lemmas)
 pub tree_of_aggregate : (f : NodeForm) (a : Box Node Global) (spec : AggSpec) → f ≡ form.Aggregate a spec → form_tree f ≡ nodes.aggregate (node_tree a.value) (agg_tree spec)
 tree_of_aggregate f a spec e = ap form_tree e ∙ search (rules, forms.the_lemmas)
 
+pub tree_of_analytic : (f : NodeForm) (a : Box Node Global) (spec : AnalyticSpec) → f ≡ form.Analytic a spec → form_tree f ≡ nodes.analytic_of (node_tree a.value) (analytic_tree spec)
+tree_of_analytic f a spec e = ap form_tree e ∙ search (rules, forms.the_lemmas)
+
+pub tree_of_measures : (f : NodeForm) (op : MeasureOp) (a : Box Node Global) → f ≡ form.Measures op a → form_tree f ≡ nodes.measures (measure_tree op) (node_tree a.value)
+tree_of_measures f op a e = ap form_tree e ∙ search (rules, forms.the_lemmas)
+
+pub tree_of_filter : (f : NodeForm) (a : Box Node Global) (c : CompExpr) → f ≡ form.Filter a c → form_tree f ≡ nodes.filter (node_tree a.value) (comp_exp_of c)
+tree_of_filter f a c e = ap form_tree e ∙ search (rules, forms.the_lemmas)
+
+pub tree_of_rename : (f : NodeForm) (a : Box Node Global) (pairs : List Renaming) → f ≡ form.Rename a pairs → form_tree f ≡ nodes.rename (node_tree a.value) pairs
+tree_of_rename f a pairs e = ap form_tree e ∙ search (rules, forms.the_lemmas)
+
+pub tree_of_pivot : (f : NodeForm) (a : Box Node Global) (id m : Txt) → f ≡ form.Pivot a id m → form_tree f ≡ nodes.pivot (node_tree a.value) id m
+tree_of_pivot f a id m e = ap form_tree e ∙ search (rules, forms.the_lemmas)
+
+pub tree_of_unpivot : (f : NodeForm) (a : Box Node Global) (id m : Txt) → f ≡ form.Unpivot a id m → form_tree f ≡ nodes.unpivot (node_tree a.value) id m
+tree_of_unpivot f a id m e = ap form_tree e ∙ search (rules, forms.the_lemmas)
+
+pub tree_of_member : (f : NodeForm) (a : Box Node Global) (m : Txt) → f ≡ form.Member a m → form_tree f ≡ nodes.member (node_tree a.value) m
+tree_of_member f a m e = ap form_tree e ∙ search (rules, forms.the_lemmas)
+
+pub tree_of_keep : (f : NodeForm) (a : Box Node Global) (names : List Txt) → f ≡ form.Keep a names → form_tree f ≡ nodes.keep (node_tree a.value) names
+tree_of_keep f a names e = ap form_tree e ∙ search (rules, forms.the_lemmas)
+
+pub tree_of_drop : (f : NodeForm) (a : Box Node Global) (names : List Txt) → f ≡ form.DropNamed a names → form_tree f ≡ nodes.drop_named (node_tree a.value) names
+tree_of_drop f a names e = ap form_tree e ∙ search (rules, forms.the_lemmas)
+
 pub tree_of_pair : (f : NodeForm) (o : ScalarOp) (a b : Box Node Global) → f ≡ form.Pair o a b → form_tree f ≡ nodes.pair o (node_tree a.value) (node_tree b.value)
 tree_of_pair f o a b e = ap form_tree e ∙ search (rules, forms.the_lemmas)
 
@@ -47,6 +83,58 @@ tree_of_symmetric_difference f a b e = ap form_tree e ∙ search (rules, forms.t
 
 pub tree_of_existence : (f : NodeForm) (a b : Box Node Global) (kept : Retain) → f ≡ form.ExistsIn a b kept → form_tree f ≡ nodes.exists_in (node_tree a.value) (node_tree b.value) kept
 tree_of_existence f a b kept e = ap form_tree e ∙ search (rules, forms.the_lemmas)
+
+-- ---- forms of one operand, and of two that are no list
+abbrev IsOf : NodeForm → Box Node Global → Type 0
+IsOf f a =
+    ((op : MeasureOp) × f ≡ form.Measures op a)
+    ⊎ ((c : CompExpr) × f ≡ form.Filter a c)
+    ⊎ ((items : List CalcItem) × f ≡ form.Calc a items)
+    ⊎ ((pairs : List Renaming) × f ≡ form.Rename a pairs)
+    ⊎ ((values : List SubItem) × f ≡ form.Sub a values)
+    ⊎ ((id : Txt) × (m : Txt) × f ≡ form.Pivot a id m)
+    ⊎ ((spec : AggSpec) × f ≡ form.Aggregate a spec)
+    ⊎ ((spec : AnalyticSpec) × f ≡ form.Analytic a spec)
+    ⊎ ((id : Txt) × (m : Txt) × f ≡ form.Unpivot a id m)
+    ⊎ ((m : Txt) × f ≡ form.Member a m)
+    ⊎ ((names : List Txt) × f ≡ form.Keep a names)
+    ⊎ ((names : List Txt) × f ≡ form.DropNamed a names)
+
+one_at : (p : Settings) (r : Text) (s : Structure) (b : NodeTree) (n : ℕ) (f t : FormTree) → f ≡ t → made_of_form p r s t n ≡ over (sources_of p r b n) (with_one (query_of_one p t s))
+    → made_of_form p r s f n ≡ over (sources_of p r b n) (with_one (query_of_one p f s))
+one_at p r s b n f t is made = subst (λ (u : FormTree). made_of_form p r s u n ≡ over (sources_of p r b n) (with_one (query_of_one p u s))) (sym is) made
+
+pub one_made : (p : Settings) (r : Text) (s : Structure) (f : NodeForm) (a : Box Node Global) (n : ℕ) → IsOf f a → made_of_form p r s (form_tree f) n ≡ over (sources_of p r (node_tree a.value) n) (with_one (query_of_one p (form_tree f) s))
+one_made p r s f a n (inl (op, e)) = let b = node_tree a.value in one_at p r s b n (form_tree f) (nodes.measures (measure_tree op) b) (tree_of_measures f op a e) refl
+one_made p r s f a n (inr (inl (c, e))) = let b = node_tree a.value in one_at p r s b n (form_tree f) (nodes.filter b (comp_exp_of c)) (tree_of_filter f a c e) refl
+one_made p r s f a n (inr (inr (inl (items, e)))) = let b = node_tree a.value in one_at p r s b n (form_tree f) (nodes.calc b (map item_tree items)) (tree_of_calc f a items e) refl
+one_made p r s f a n (inr (inr (inr (inl (pairs, e))))) = let b = node_tree a.value in one_at p r s b n (form_tree f) (nodes.rename b pairs) (tree_of_rename f a pairs e) refl
+one_made p r s f a n (inr (inr (inr (inr (inl (values, e)))))) = let b = node_tree a.value in one_at p r s b n (form_tree f) (nodes.sub b values) (tree_of_sub f a values e) refl
+one_made p r s f a n (inr (inr (inr (inr (inr (inl (id, m, e))))))) = let b = node_tree a.value in one_at p r s b n (form_tree f) (nodes.pivot b id m) (tree_of_pivot f a id m e) refl
+one_made p r s f a n (inr (inr (inr (inr (inr (inr (inl (spec, e)))))))) = let b = node_tree a.value in one_at p r s b n (form_tree f) (nodes.aggregate b (agg_tree spec)) (tree_of_aggregate f a spec e) refl
+one_made p r s f a n (inr (inr (inr (inr (inr (inr (inr (inl (spec, e))))))))) = let b = node_tree a.value in one_at p r s b n (form_tree f) (nodes.analytic_of b (analytic_tree spec)) (tree_of_analytic f a spec e) refl
+one_made p r s f a n (inr (inr (inr (inr (inr (inr (inr (inr (inl (id, m, e)))))))))) = let b = node_tree a.value in one_at p r s b n (form_tree f) (nodes.unpivot b id m) (tree_of_unpivot f a id m e) refl
+one_made p r s f a n (inr (inr (inr (inr (inr (inr (inr (inr (inr (inl (m, e))))))))))) = let b = node_tree a.value in one_at p r s b n (form_tree f) (nodes.member b m) (tree_of_member f a m e) refl
+one_made p r s f a n (inr (inr (inr (inr (inr (inr (inr (inr (inr (inr (inl (names, e)))))))))))) = let b = node_tree a.value in one_at p r s b n (form_tree f) (nodes.keep b names) (tree_of_keep f a names e) refl
+one_made p r s f a n (inr (inr (inr (inr (inr (inr (inr (inr (inr (inr (inr (names, e)))))))))))) = let b = node_tree a.value in one_at p r s b n (form_tree f) (nodes.drop_named b names) (tree_of_drop f a names e) refl
+
+abbrev AreOf : NodeForm → (a b : Box Node Global) → Type 0
+AreOf f a b =
+    ((o : ScalarOp) × f ≡ form.Pair o a b)
+    ⊎ f ≡ form.SetDiff a b
+    ⊎ f ≡ form.SymDiff a b
+    ⊎ ((kept : Retain) × f ≡ form.ExistsIn a b kept)
+
+two_at : (p : Settings) (r : Text) (s : Structure) (c d : NodeTree) (n : ℕ) (f t : FormTree) → f ≡ t → made_of_form p r s t n ≡ over (and_then (sources_of p r c n) (sources_of p r d)) (with_two (query_of_two p t s))
+    → made_of_form p r s f n ≡ over (and_then (sources_of p r c n) (sources_of p r d)) (with_two (query_of_two p f s))
+two_at p r s c d n f t is made = subst (λ (u : FormTree). made_of_form p r s u n ≡ over (and_then (sources_of p r c n) (sources_of p r d)) (with_two (query_of_two p u s))) (sym is) made
+
+pub two_made : (p : Settings) (r : Text) (s : Structure) (f : NodeForm) (a b : Box Node Global) (n : ℕ) → AreOf f a b
+    → made_of_form p r s (form_tree f) n ≡ over (and_then (sources_of p r (node_tree a.value) n) (sources_of p r (node_tree b.value))) (with_two (query_of_two p (form_tree f) s))
+two_made p r s f a b n (inl (o, e)) = let c = node_tree a.value in let d = node_tree b.value in two_at p r s c d n (form_tree f) (nodes.pair o c d) (tree_of_pair f o a b e) refl
+two_made p r s f a b n (inr (inl e)) = let c = node_tree a.value in let d = node_tree b.value in two_at p r s c d n (form_tree f) (nodes.set_diff c d) (tree_of_difference f a b e) refl
+two_made p r s f a b n (inr (inr (inl e))) = let c = node_tree a.value in let d = node_tree b.value in two_at p r s c d n (form_tree f) (nodes.sym_diff c d) (tree_of_symmetric_difference f a b e) refl
+two_made p r s f a b n (inr (inr (inr (kept, e)))) = let c = node_tree a.value in let d = node_tree b.value in two_at p r s c d n (form_tree f) (nodes.exists_in c d kept) (tree_of_existence f a b kept e) refl
 
 -- ---- tables
 

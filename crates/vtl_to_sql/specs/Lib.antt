@@ -27,6 +27,7 @@ pub mod Joins
 pub mod Turned
 pub mod Grouped
 pub mod Windowed
+pub mod FormQueries
 pub mod FullJoins
 pub mod Tables
 pub mod Scripts

@@ -15,6 +15,7 @@ mod conditions;
 mod constants;
 mod draft;
 mod existence_queries;
+mod form_queries;
 mod full_joins;
 mod grouped_queries;
 mod groups;

@@ -3,33 +3,25 @@ ghost use Rattle.std.specs.Prelude.{◌≡◌, ◌++◌, ◌∷◌, [], length, 
 ghost use Rattle.vtl_nodes.specs.View.{form_tree, node_tree, operand_tree};
 ghost use Rattle.sql_tree.specs.View.{query_tree, statement_tree};
 ghost use Rattle.vtl_to_sql.specs.Scripts.{create_for};
-ghost use Rattle.vtl_nodes.specs.Trees.{nodes_of, operands_of, structure_of};
+ghost use Rattle.vtl_nodes.specs.Trees.{join, nodes_of, operands_of};
 ghost use Rattle.vtl_tree.specs.Shown.{shown};
 ghost use Rattle.rules_to_sql.specs.Joins.{structures_of};
 ghost use Rattle.rules_to_sql.specs.Made.{operands_in};
 ghost use Rattle.vtl_to_sql.specs.Combined.{combined_made};
-ghost use Rattle.vtl_to_sql.specs.Queries.{left_query};
-ghost use Rattle.vtl_to_sql.specs.Tables.{made_of_form, operands_of as joined_sources, over, sources_of, with_one};
+ghost use Rattle.vtl_to_sql.specs.Tables.{made_of_form, operands_of as joined_sources, sources_of};
 ghost use Rattle.vtl_to_sql.specs.Accepted.{are_nodes_translated, are_operands_translated, is_form_translated, is_translated};
 
 use crate::all_joins::join_query;
 use crate::draft::Draft;
-use crate::existence_queries::existence_query;
-use crate::grouped_queries::aggregate_query;
-use crate::pair_queries::{Operand, choose_query, pair_query};
-use crate::pivot_queries::pivot_query;
-use crate::queries::{
-    calc_query, filter_query, left_query, measures_query, no_query, rename_query, sub_query,
-};
+use crate::form_queries::{query_of_one, query_of_three, query_of_two};
+use crate::queries::{left_query, no_query};
 use crate::set_operators::SetOperator;
 use crate::set_queries::set_query;
-use crate::unpivot_queries::unpivot_query;
-use crate::windowed_queries::analytic_query;
 use crate::writer::Writer;
 use sql_tree::Query;
 use std::alloc::{AllocError, Global};
 use vtl_cell::Txt;
-use vtl_nodes::{JoinOperand, Node, NodeForm};
+use vtl_nodes::{JoinOperand, JoinSpec, Node, NodeForm};
 use vtl_tree::Structure;
 
 /// The name of a table that stands for an operand, for which tables are made first where it is more than a name.
@@ -53,36 +45,6 @@ pub(crate) fn source(
             draft.store(alloc, target, query)
         }
     }
-}
-
-// An operand with the table that stands for it.
-fn operand<'a>(node: &'a Node, table: &'a Txt) -> Operand<'a>
-    ensures structure { result.structure.now ≡ structure_of (node_tree node.now) }
-    ensures table { result.table.now ≡ table.now }
-{
-    Operand {
-        structure: &node.structure,
-        table,
-    }
-}
-
-// The columns of an operand that are left.
-#[cycle(made)]
-fn left(
-    alloc: Global,
-    writer: &Writer,
-    a: &Node,
-    s: &Structure,
-    target: &Txt,
-    draft: &mut Draft,
-) -> Result<Query, AllocError>
-    requires { is_translated (node_tree a.now) ≡ true }
-    ensures query { IfOk result (λ q. query_tree q ≡ (over (sources_of writer.now target.now (node_tree a.now) draft.old.next) (with_one (left_query writer.now (structure_of (node_tree a.now)) s.now))).query) }
-    ensures tables { OnOk result (map statement_tree draft.new.statements.items ≡ map statement_tree draft.old.statements.items ++ map create_for (sources_of writer.now target.now (node_tree a.now) draft.old.next).tables) }
-    ensures next { OnOk result (draft.new.next ≡ (sources_of writer.now target.now (node_tree a.now) draft.old.next).next) }
-{
-    let table = source(alloc, writer, a, target, draft)?;
-    left_query(alloc, writer, s, &table)
 }
 
 // The structures of the operands of a join.
@@ -151,6 +113,36 @@ fn combined(
     set_query(alloc, writer, operator, s, &so_far, &other)
 }
 
+// A join. The tables that stand for its operands are made first.
+#[cycle(made)]
+fn join(
+    alloc: Global,
+    writer: &Writer,
+    operands: &[JoinOperand],
+    spec: &JoinSpec,
+    s: &Structure,
+    target: &Txt,
+    draft: &mut Draft,
+) -> Result<Query, AllocError>
+    requires { are_operands_translated (operands_of (map operand_tree operands.now)) ≡ true }
+    ensures query { IfOk result (λ q. query_tree q ≡ (made_of_form writer.now target.now s.now (join (operands_of (map operand_tree operands.now)) spec.now) draft.old.next).query) }
+    ensures tables { OnOk result (map statement_tree draft.new.statements.items ≡ map statement_tree draft.old.statements.items ++ map create_for (made_of_form writer.now target.now s.now (join (operands_of (map operand_tree operands.now)) spec.now) draft.old.next).tables) }
+    ensures next { OnOk result (draft.new.next ≡ (made_of_form writer.now target.now s.now (join (operands_of (map operand_tree operands.now)) spec.now) draft.old.next).next) }
+{
+    let structures = joined_structures(alloc, operands)?;
+    let tables = joined_sources(alloc, writer, operands, target, draft)?;
+    join_query(
+        alloc,
+        writer,
+        spec.kind,
+        &structures,
+        &tables,
+        s,
+        target,
+        draft,
+    )
+}
+
 /// The query of an expression of a structure. The tables that stand for its operands are made first.
 #[cycle(made)]
 pub(crate) fn query(
@@ -168,108 +160,42 @@ pub(crate) fn query(
 {
     match form {
         NodeForm::Named(name) => left_query(alloc, writer, s, name),
-        NodeForm::Measures { op, a } => {
+        NodeForm::Measures { a, .. }
+        | NodeForm::Filter { a, .. }
+        | NodeForm::Calc { a, .. }
+        | NodeForm::Rename { a, .. }
+        | NodeForm::Sub { a, .. }
+        | NodeForm::Pivot { a, .. }
+        | NodeForm::Aggregate { a, .. }
+        | NodeForm::Analytic { a, .. }
+        | NodeForm::Unpivot { a, .. }
+        | NodeForm::Member { a, .. }
+        | NodeForm::Keep { a, .. }
+        | NodeForm::DropNamed { a, .. } => {
             let table = source(alloc, writer, a, target, draft)?;
-            measures_query(alloc, writer, op, &a.structure, s, &table)
+            query_of_one(alloc, writer, form, s, &table)
         }
-        NodeForm::Filter { a, c } => {
-            let table = source(alloc, writer, a, target, draft)?;
-            filter_query(alloc, writer, c, s, &table)
-        }
-        NodeForm::Calc { a, items } => {
-            let table = source(alloc, writer, a, target, draft)?;
-            calc_query(alloc, writer, items.as_slice(), s, &table)
-        }
-        NodeForm::Rename { a, .. } => {
-            let table = source(alloc, writer, a, target, draft)?;
-            rename_query(alloc, writer, &a.structure, s, &table)
-        }
-        NodeForm::Sub { a, values } => {
-            let table = source(alloc, writer, a, target, draft)?;
-            sub_query(alloc, writer, values.as_slice(), s, &table)
-        }
-        NodeForm::Pivot { a, id, m } => {
-            let table = source(alloc, writer, a, target, draft)?;
-            pivot_query(alloc, writer, id, m, &a.structure, s, &table)
-        }
-        NodeForm::Unpivot { a, .. } => {
-            let table = source(alloc, writer, a, target, draft)?;
-            unpivot_query(alloc, writer, &a.structure, s, &table)
-        }
-        NodeForm::Aggregate { a, spec } => {
-            let table = source(alloc, writer, a, target, draft)?;
-            aggregate_query(alloc, writer, spec, s, &table)
-        }
-        NodeForm::Analytic { a, spec } => {
-            let table = source(alloc, writer, a, target, draft)?;
-            analytic_query(alloc, writer, spec, &a.structure, s, &table)
-        }
-        NodeForm::Member { a, .. } => left(alloc, writer, a, s, target, draft),
-        NodeForm::Keep { a, .. } => left(alloc, writer, a, s, target, draft),
-        NodeForm::DropNamed { a, .. } => left(alloc, writer, a, s, target, draft),
-        NodeForm::Pair { op, a, b } => {
+        NodeForm::Pair { a, b, .. }
+        | NodeForm::SetDiff { a, b }
+        | NodeForm::SymDiff { a, b }
+        | NodeForm::ExistsIn { a, b, .. } => {
             let first = source(alloc, writer, a, target, draft)?;
             let second = source(alloc, writer, b, target, draft)?;
-            let (first, second) = (operand(a, &first), operand(b, &second));
-            pair_query(alloc, writer, *op, &first, &second, s)
+            query_of_two(alloc, writer, form, s, &first, &second)
         }
         NodeForm::Choose { c, a, b } => {
-            let tested = source(alloc, writer, c, target, draft)?;
-            let first = source(alloc, writer, a, target, draft)?;
-            let second = source(alloc, writer, b, target, draft)?;
-            let (first, second) = (operand(a, &first), operand(b, &second));
-            choose_query(alloc, writer, &operand(c, &tested), &first, &second, s)
+            let first = source(alloc, writer, c, target, draft)?;
+            let second = source(alloc, writer, a, target, draft)?;
+            let third = source(alloc, writer, b, target, draft)?;
+            query_of_three(alloc, writer, form, s, &first, &second, &third)
         }
-        NodeForm::SetDiff { a, b } => {
-            let first = source(alloc, writer, a, target, draft)?;
-            let second = source(alloc, writer, b, target, draft)?;
-            set_query(alloc, writer, SetOperator::Difference, s, &first, &second)
-        }
-        NodeForm::SymDiff { a, b } => {
-            let first = source(alloc, writer, a, target, draft)?;
-            let second = source(alloc, writer, b, target, draft)?;
-            set_query(
-                alloc,
-                writer,
-                SetOperator::SymmetricDifference,
-                s,
-                &first,
-                &second,
-            )
-        }
-        NodeForm::ExistsIn { a, b, retain } => {
-            let first = source(alloc, writer, a, target, draft)?;
-            let second = source(alloc, writer, b, target, draft)?;
-            let (first, second) = (operand(a, &first), operand(b, &second));
-            existence_query(alloc, writer, *retain, &first, &second, s)
-        }
-        NodeForm::Join { operands, spec } => {
-            let structures = joined_structures(alloc, operands)?;
-            let tables = joined_sources(alloc, writer, operands, target, draft)?;
-            join_query(
-                alloc,
-                writer,
-                spec.kind,
-                &structures,
-                &tables,
-                s,
-                target,
-                draft,
-            )
-        }
+        NodeForm::Join { operands, spec } => join(alloc, writer, operands, spec, s, target, draft),
         NodeForm::Union(nodes) => {
             combined(alloc, writer, SetOperator::Union, nodes, s, target, draft)
         }
         NodeForm::Intersect(nodes) => {
-            combined(
-                alloc,
-                writer,
-                SetOperator::Intersection,
-                nodes,
-                s,
-                target,
-                draft,
-            )
+            let operator = SetOperator::Intersection;
+            combined(alloc, writer, operator, nodes, s, target, draft)
         }
         _ => unreachable!(),
     }
