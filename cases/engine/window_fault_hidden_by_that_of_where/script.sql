@@ -1,0 +1,7 @@
+SET SCALE 2 ROUNDING HALF_UP;
+INPUT "T" ("id" INTEGER, "k" INTEGER, "v" INTEGER) KEY ("id");
+CREATE TABLE "U" AS
+  SELECT RATIO_TO_REPORT("t"."v") OVER () AS "q"
+  FROM "T" AS "t"
+  WHERE "t"."k" * "t"."k" > 0;
+EXPORT "U";

@@ -1,0 +1,13 @@
+SET SCALE 2 ROUNDING HALF_UP;
+INPUT "T" ("id" INTEGER, "k" TEXT, "v" INTEGER) KEY ("id");
+CREATE TABLE "B" AS
+  SELECT "t"."k" AS "k", "t"."v" AS "v"
+  FROM "T" AS "t";
+CREATE TABLE "U" AS
+  SELECT "b"."k" AS "k", "b"."v" AS "v",
+    COUNT("b"."k") OVER (ORDER BY "b"."v" ROWS BETWEEN UNBOUNDED PRECEDING AND CURRENT ROW) AS "up",
+    COUNT("b"."k") OVER (ORDER BY "b"."v" DESC ROWS BETWEEN UNBOUNDED PRECEDING AND CURRENT ROW) AS "down",
+    SUM("b"."v") OVER (ORDER BY "b"."v" ROWS BETWEEN UNBOUNDED PRECEDING AND CURRENT ROW) AS "s",
+    RANK() OVER (ORDER BY "b"."v") AS "r"
+  FROM "B" AS "b";
+EXPORT "U" ORDER BY "k", "v", "up";

@@ -1,0 +1,8 @@
+SET SCALE 2 ROUNDING HALF_UP;
+INPUT "T" ("id" INTEGER, "k" TEXT, "v" INTEGER) KEY ("id");
+CREATE TABLE "U" AS
+  SELECT "t"."id" AS "id",
+    COUNT("t"."id") OVER (ORDER BY "t"."k" DESC, "t"."v" ASC ROWS BETWEEN UNBOUNDED PRECEDING AND CURRENT ROW) AS "w1",
+    RANK() OVER (ORDER BY "t"."k", "t"."v") AS "w2"
+  FROM "T" AS "t";
+EXPORT "U" ORDER BY "id";

@@ -1,0 +1,6 @@
+SET SCALE 2 ROUNDING HALF_UP;
+INPUT "T" ("id" INTEGER, "k" INTEGER, "v" INTEGER) KEY ("id");
+CREATE TABLE "U" AS
+  SELECT "t"."id" AS "id", RATIO_TO_REPORT("t"."v") OVER (PARTITION BY "t"."k") AS "q"
+  FROM "T" AS "t";
+EXPORT "U" ORDER BY "id";

@@ -1,0 +1,5 @@
+SET SCALE 2 ROUNDING HALF_UP;
+INPUT "T" ("id" INTEGER, "k" TEXT, "v" INTEGER) KEY ("id");
+CREATE TABLE "U" AS
+  SELECT SUM("t"."v") OVER (ORDER BY "t"."id") AS "w"
+  FROM "T" AS "t";
