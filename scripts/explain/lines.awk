@@ -293,11 +293,6 @@ function earlier_point(path, dataset, number,    i, key, same) {
 
 # `error: unbuilt: PATH`: the first word of a form that the README's table says is not run.
 function unbuilt_line(    token, number) {
-    if (of_engine) {
-        tell_window()
-        tell_status("Unbuilt")
-        return
-    }
     take_script()
     read_unbuilt(top "/README.md")
     for (number = 1; number <= statements; number++) {

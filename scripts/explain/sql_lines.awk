@@ -192,19 +192,6 @@ function tell_tables(name,    number, table, front, found, names) {
     }
 }
 
-# The first window of a text.
-function tell_window(    number, token) {
-    take_sql()
-    for (number = 1; number <= statements; number++) {
-        for (token = first_token[number]; token <= last_token[number]; token++) {
-            if (symbol[token] != "OVER") continue
-            tell_sql_statement(number)
-            tell("here", code("OVER") " at " place_of_token(token) " makes a window, which is not run yet")
-            return
-        }
-    }
-}
-
 # The first word after `engine` that has no place.
 function engine_words_fact(    i) {
     for (i = 1; i < ARGC; i++) if (!is_text(ARGV[i])) return "a word is not UTF-8"
