@@ -21,7 +21,10 @@ use Rattle.vtl_syntax.specs.declared.word_groups.Retain.TheVariants as retain
 use Rattle.rules_to_sql.specs.Columns.{column_named}
 use Rattle.rules_to_sql.specs.Meaning.{Statement}
 use Rattle.rules_to_sql.specs.Trees as nodes
-use Rattle.rules_to_sql.specs.Trees.{AggTree, NodeTree}
+use Rattle.rules_to_sql.specs.Trees.{AggTree, AnalyticTree, NodeTree}
+use Rattle.rules_to_sql.specs.calls.AnalyticOp.TheVariants as window
+use Rattle.rules_to_sql.specs.calls.OrderKey.{OrderKey}
+use Rattle.rules_to_sql.specs.calls.Window.{Window}
 use Rattle.rules_to_sql.specs.specifications.AggItems.TheVariants as items
 use Rattle.sql_lexer.specs.Spelling.{spelled}
 use Rattle.sql_tree.specs.Printing.{written_query, written_statement}
@@ -33,6 +36,7 @@ use Rattle.vtl_to_sql.specs.Joins.{cross_query, reference_query}
 use Rattle.vtl_to_sql.specs.Queries as q
 use Rattle.vtl_to_sql.specs.Turned as turned
 use Rattle.vtl_to_sql.specs.Scripts.{statements_for}
+use Rattle.vtl_to_sql.specs.Windowed.{analytic_query}
 
 abbrev scale_six : Settings
 scale_six = record { scale = 6; rounding = HalfUp }
@@ -145,6 +149,35 @@ aggregated =
 
 aggregated_are : map (λ e. shown e.0) aggregated ≡ map (λ e. e.1) aggregated
 aggregated_are = refl
+
+-- ---- analytic operators: the frame is always written, and identifiers that are not listed stand behind the keys where the order is seen
+
+abbrev over : (partition : List (List ℕ)) → List OrderKey → Window
+over partition order = record { partition = partition; order = order; frame = None }
+
+abbrev latest_first : OrderKey
+latest_first = record { component = codes "year"; falling = true }
+
+abbrev most_first : OrderKey
+most_first = record { component = codes "people"; falling = true }
+
+abbrev place : Component
+place = made (codes "place") role.Measure k.Int
+
+-- `calc place := rank(over (order by people desc))`
+abbrev ranked : AnalyticTree
+ranked = nodes.of_items (record { role = None; target = codes "place"; value = nodes.analytic (record { op = window.Rank; component = None; window = over [] (most_first ∷ []) }) } ∷ [])
+
+abbrev windowed : List (QueryTree × List ℕ)
+windowed =
+    (analytic_query scale_six (nodes.of_measures window.Sum (over (codes "area" ∷ []) (latest_first ∷ []))) by_year by_year table, codes " SELECT \"a\" . \"area\" AS \"area\" , \"a\" . \"year\" AS \"year\" , SUM ( \"a\" . \"people\" ) OVER ( PARTITION BY \"a\" . \"area\" ORDER BY \"a\" . \"year\" DESC ROWS BETWEEN UNBOUNDED PRECEDING AND CURRENT ROW ) AS \"people\" FROM \"A\" AS \"a\"")
+    ∷ (analytic_query scale_six (nodes.of_measures window.LastValue (over (codes "area" ∷ []) [])) by_year by_year table, codes " SELECT \"a\" . \"area\" AS \"area\" , \"a\" . \"year\" AS \"year\" , LAST_VALUE ( \"a\" . \"people\" ) OVER ( PARTITION BY \"a\" . \"area\" ORDER BY \"a\" . \"year\" ROWS BETWEEN UNBOUNDED PRECEDING AND UNBOUNDED FOLLOWING ) AS \"people\" FROM \"A\" AS \"a\"")
+    ∷ (analytic_query scale_six (nodes.of_measures window.RatioToReport (over (codes "area" ∷ []) [])) by_year (of_components (area ∷ year ∷ made (codes "people") role.Measure k.Num ∷ [])) table, codes " SELECT \"a\" . \"area\" AS \"area\" , \"a\" . \"year\" AS \"year\" , RATIO_TO_REPORT ( \"a\" . \"people\" ) OVER ( PARTITION BY \"a\" . \"area\" ) AS \"people\" FROM \"A\" AS \"a\"")
+    ∷ (analytic_query scale_six ranked by_year (of_components (area ∷ year ∷ people ∷ place ∷ [])) table, codes " SELECT \"a\" . \"area\" AS \"area\" , \"a\" . \"year\" AS \"year\" , \"a\" . \"people\" AS \"people\" , RANK ( ) OVER ( ORDER BY \"a\" . \"people\" DESC ) AS \"place\" FROM \"A\" AS \"a\"")
+    ∷ []
+
+windowed_are : map (λ e. shown e.0) windowed ≡ map (λ e. e.1) windowed
+windowed_are = refl
 
 -- ---- two and three operands; of a pair the operand with all identifiers stands first
 

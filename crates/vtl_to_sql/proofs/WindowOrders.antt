@@ -32,6 +32,7 @@ use Rattle.rules_to_sql.specs.PointWindows.{identifier_places, key_in, keys_in, 
 use Rattle.rules_to_sql.specs.calls.OrderKey.{OrderKey}
 use Rattle.rules_to_sql.specs.calls.Window.{Window}
 use Rattle.rules_to_sql.specs.Windows.{place_within, told_apart}
+use Rattle.rules_to_sql.proofs.Lists as lists
 use Rattle.rules_to_sql.proofs.Places.{all_filtered, key_cells, key_within, same_name-is}
 use Rattle.vtl_to_sql.specs.Windowed.{is_listed, key_names}
 
@@ -296,11 +297,8 @@ module _ (a : Structure) (formed : IsStructure a) (w : Window) (sees : Bool) whe
   pub members : (d : List Row) (r : Row) → AllByRecursion (λ q. is_point xs q ≡ true) d → AllByRecursion (IsMember r) (partition_in d r)
   members d r all =
       let test : Row → Bool = λ q. same_row (cells_at agreed q) (cells_at agreed r) in
-      both (partition_in d r) (AllByRecursion-filter (λ q. is_point xs q ≡ true) test d all) (all_filtered test d)
-    where
-      both : (qs : List Row) → AllByRecursion (λ q. is_point (columns_of a) q ≡ true) qs → AllByRecursion (λ q. same_row (cells_at agreed q) (cells_at agreed r) ≡ true) qs → AllByRecursion (IsMember r) qs
-      both [] h i = tt
-      both (q ∷ qs) h i = ((h.0, same_row-is (cells_at agreed q) (cells_at agreed r) i.0), both qs h.1 i.1)
+      lists.joined (λ q. is_point xs q ≡ true) (λ q. test q ≡ true) (IsMember r) (partition_in d r) (λ q h i. (h, same_row-is (cells_at agreed q) (cells_at agreed r) i))
+      (AllByRecursion-filter (λ q. is_point xs q ≡ true) test d all) (all_filtered test d)
 
   pub same_place : (d : List Row) (x : Row × ℕ) → AllByRecursion (λ q. is_point xs q ≡ true) d → is_point xs x.0 ≡ true → IsAlone d x → place_within keys_seen (partition_in d x.0) x ≡ count_by (λ q. is_lt (point_cmp a w q x.0)) (partition_in d x.0)
   same_place d x all h alone =

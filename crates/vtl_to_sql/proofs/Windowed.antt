@@ -47,6 +47,7 @@ use Rattle.rules_to_sql.specs.calls.AnalyticCall.{AnalyticCall}
 use Rattle.rules_to_sql.specs.calls.AnalyticOp.{AnalyticOp}
 use Rattle.rules_to_sql.specs.calls.AnalyticOp.TheVariants as op
 use Rattle.rules_to_sql.proofs.Columns.{at-place, in-columns, of-columns}
+use Rattle.rules_to_sql.proofs.Lists as lists
 use Rattle.rules_to_sql.proofs.OwnColumns.{columns_apart}
 use Rattle.rules_to_sql.proofs.Places.{all_append, all_front, all_more, columns_split, each}
 use Rattle.rules_to_sql.proofs.ValueKinds.{cell_is_of, value_is_of}
@@ -85,10 +86,6 @@ find_passes P name (j ∷ items) h i e = go (same_name j.target name) e (find_pa
     go : (b : Bool) → cond b (Some j) (item_named items name) ≡ Some i → (item_named items name ≡ Some i → P i) → P i
     go true t ih = let s : j ≡ i = cc in subst P s h.0
     go false t ih = ih t
-
-both_then : {A : Type 0} (P Q R : A → Type 0) → ((x : A) → P x → Q x → R x) → (ys : List A) → AllByRecursion P ys → AllByRecursion Q ys → AllByRecursion R ys
-both_then P Q R f [] h i = tt
-both_then P Q R f (y ∷ ys) h i = (f y h.0 i.0, both_then P Q R f ys h.1 i.1)
 
 then_some : {A B : Type 0} (o : Option A) (f : A → Option B) (y : B) → option_and_then f o ≡ Some y → (x : A) × (o ≡ Some x) × (f x ≡ Some y)
 then_some None f y e = cc
@@ -250,7 +247,7 @@ module _ (p : Settings) (law : Translates p) (before : Data) (name : Text) (a s 
       all_front (λ y. component_of y.name xs ≡ Some y) (identifiers_of a) (others_of a) (subst (AllByRecursion (λ y. component_of y.name xs ≡ Some y)) (columns_split a) (of-columns (λ y. component_of y.name xs ≡ Some y) a (in-columns a set.well_formed))) in
       subst (AllByRecursion P) (sym (columns_split s))
       (all_append P (identifiers_of s) (others_of s)
-      (both_then (λ y. value_for spec y ≡ None) (λ y. component_of y.name xs ≡ Some y) P (λ y e found. subst (IsMadeOrStays p (columns_of a) y) (sym e) found) (identifiers_of s) i.analyzed.free (subst (AllByRecursion (λ y. component_of y.name xs ≡ Some y)) (sym i.analyzed.identifiers) own))
+      (lists.joined (λ y. value_for spec y ≡ None) (λ y. component_of y.name xs ≡ Some y) P (identifiers_of s) (λ y e found. subst (IsMadeOrStays p (columns_of a) y) (sym e) found) i.analyzed.free (subst (AllByRecursion (λ y. component_of y.name xs ≡ Some y)) (sym i.analyzed.identifiers) own))
       i.analyzed.columns)
 
   items : AreValueItems b scope d IsRow (made_of p spec operand) (analytic_item p spec a) (columns_of s)
@@ -261,7 +258,7 @@ module _ (p : Settings) (law : Translates p) (before : Data) (name : Text) (a s 
       go (y ∷ ys) n m h = (item_for y n.0 m.0 h.0, go ys n.1 m.1 h.1)
 
   told : AllByRecursion IsRow (told_apart d)
-  told = both_then (λ x. is_point xs x.0 ≡ true) (IsAlone d) IsRow (λ x h alone. (h, alone)) (told_apart d) (told_all (λ r. is_point xs r ≡ true) d set.typed) (told_alone d (rows_apart (key_width a) d set.distinct))
+  told = lists.both (λ x. is_point xs x.0 ≡ true) (IsAlone d) (told_apart d) (told_all (λ r. is_point xs r ≡ true) d set.typed) (told_alone d (rows_apart (key_width a) d set.distinct))
 
   pub analytic_means : IsExactly p before (analytic_query p spec a s name) s (analytic_of p spec operand s)
   analytic_means =
