@@ -5,7 +5,7 @@ ghost use Rattle.std.specs.List.{AllByRecursion};
 ghost use Rattle.vtl_cell.specs.Conversion.{as_kind};
 ghost use Rattle.vtl_cell.specs.Outcome.{Outcome, after, fault_in, join, unless};
 ghost use Rattle.vtl_cell.specs.Row.{column_of};
-ghost use Rattle.vtl_cell.specs.declared.cell.Cell as cells;
+ghost use Rattle.vtl_cell.specs.declared.cell.Cell as cell;
 ghost use Rattle.vtl_scalar.specs.Answers.{Answers, AnswersBy};
 ghost use Rattle.vtl_tree.specs.Shown.{shown};
 ghost use Rattle.vtl_tree.specs.Structure.{columns_of};
@@ -38,8 +38,8 @@ fn push_answer(
     seen: Seen,
     answer: Result<Cell, ScalarErr>,
 ) -> Result<Seen, ScalarErr>
-    ensures cells { (m : Outcome cells.Cell) → Answers answer m → IfOk result (λ _. cells.new.items ≡ cells.old.items ++ cell_or_null m ∷ []) }
-    ensures seen { (m : Outcome cells.Cell) → Answers answer m → IfOk result (λ s. seen_of s ≡ join (seen_of seen) (fault_in m)) }
+    ensures cells { IfOk result (λ _. (m : Outcome cell.Cell) → Answers answer m → cells.new.items ≡ cells.old.items ++ cell_or_null m ∷ []) }
+    ensures seen { IfOk result (λ s. (m : Outcome cell.Cell) → Answers answer m → seen_of s ≡ join (seen_of seen) (fault_in m)) }
     ensures err { IfErr result (λ e. e ≡ ScalarErr.OutOfMemory) }
 {
     match answer {
@@ -159,8 +159,8 @@ fn push_called(
     p: &Profile,
 ) -> Result<Seen, ScalarErr>
     requires { IsMakeable (columns_of a.now.structure) (analytic (lent call)) }
-    ensures cells { IfOk result (λ _. cells.new.items ≡ cells.old.items ++ cells_by (tree_value p.now a.now kind (analytic (lent call))) a.now.points) }
-    ensures seen { IfOk result (λ s. seen_of s ≡ join (seen_of seen) (faults_of (tree_value p.now a.now kind (analytic (lent call))) a.now.points)) }
+    ensures cells { IfOk result (λ _. cells.new.items ≡ cells.old.items ++ cells_by (tree_value p.now a.now kind (analytic (lent call.entry))) a.now.points) }
+    ensures seen { IfOk result (λ s. seen_of s ≡ join (seen_of seen) (faults_of (tree_value p.now a.now kind (analytic (lent call.entry))) a.now.points)) }
     ensures err { IfErr result (λ e. e ≡ ScalarErr.OutOfMemory) }
 {
     let values = call_values(alloc, a, call, p)?;
