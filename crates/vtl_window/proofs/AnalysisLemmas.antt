@@ -1,10 +1,10 @@
 -- Columns that are made, cell by cell.
 use Rattle.std.proofs.Common.{◌≡◌, ℕ, zero, suc, ◌+◌, ◌<◌, List, [], ◌∷◌, ◌++◌, length, map, take, get_or, Option, Some, None, Ok, Err, Result, refl, sym, ap, ◌∙◌, subst, arith}
 use Rattle.std.specs.Borrow.{Bor}
-use Rattle.std.specs.Prelude.{IfOk, slice_index_or}
+use Rattle.std.specs.Prelude.{IfOk}
 use Rattle.std.specs.List.{AllByRecursion}
 use Rattle.std.specs.Option.{option_map_or}
-use Rattle.std.proofs.lemmas.List.{map-append, map_more, take_more}
+use Rattle.std.proofs.lemmas.List.{map-append, map_more}
 use Rattle.vtl_cell.specs.Outcome.{DivZero, Fault, Outcome, Range, fault_in, faults_by, join, unless}
 use Rattle.vtl_cell.specs.Row.{Row, column_of}
 use Rattle.vtl_cell.specs.Settings.{Settings}
@@ -13,7 +13,7 @@ use Rattle.vtl_tree.specs.Environment.{DataSet}
 use Rattle.vtl_tree.specs.Shown.{shown}
 use Rattle.vtl_tree.specs.Structure.{columns_of}
 use Rattle.vtl_tree.specs.declared.structure.Component.{Component}
-use Rattle.vtl_tree.proofs.Faults.{faults_by_more, join_assoc, join_none}
+use Rattle.vtl_tree.proofs.Faults.{faults_by-append, join_assoc, join_none}
 use Rattle.vtl_expr.specs.AggregatePoints.{Made, cell_or_null}
 use Rattle.vtl_expr.specs.Seen.{seen_of}
 use Rattle.vtl_expr.specs.declared.seen.Seen.{Seen}
@@ -49,7 +49,7 @@ ok_seen r before f g e h = subst (λ q. IfOk r (λ s. seen_of s ≡ join before 
 
 -- ---- what makes a column
 module _ (p : Settings) (spec : AnalyticTree) (d : DataSet) (y : Component) where
-  abbrev made_by : Option ValueTree → Row → Outcome Cell
+  abbrev pub made_by : Option ValueTree → Row → Outcome Cell
   made_by o r = option_map_or (λ v. tree_value p d y.kind v r) o (Ok (column_of (place_of y.name (columns_of d.structure)) r))
 
   pub made_as : (v : ValueTree) → value_for spec y ≡ Some v → tree_value p d y.kind v ≡ made_of p spec d y
@@ -104,3 +104,13 @@ faults_turned made [] points = sym (no_faults points)
 faults_turned made (y ∷ ys) points =
     ap (join (faults_of (made y) points)) (faults_turned made ys points)
     ∙ one_before (λ r. fault_in (made y r)) (λ r. faults_by (λ x. fault_in (made x r)) ys) points
+
+-- ---- one more column
+pub cells_more_columns : (made : Made) (points : List Row) (ys : List Component) (y : Component) (now : List (List Cell)) (cells : List Cell) → now ≡ made_cells made ys points → cells ≡ cells_by (made y) points → now ++ cells ∷ [] ≡ made_cells made (ys ++ y ∷ []) points
+cells_more_columns made points ys y now cells n e =
+    ap (λ l. l ++ cells ∷ []) n ∙ ap (λ x. made_cells made ys points ++ x ∷ []) e ∙ sym (map-append (λ x. cells_by (made x) points) ys (y ∷ []))
+
+pub faults_more_columns : (made : Made) (points : List Row) (ys : List Component) (y : Component) → join (made_faults made ys points) (faults_of (made y) points) ≡ made_faults made (ys ++ y ∷ []) points
+faults_more_columns made points ys y =
+    let f : Component → Option Fault = λ x. faults_of (made x) points in
+    ap (join (made_faults made ys points)) (sym (join_none (f y))) ∙ sym (faults_by-append f ys (y ∷ []))

@@ -4,7 +4,8 @@ ghost use Rattle.std.specs.Prelude.{◌≡◌, ◌++◌, ◌∷◌, [], IfErr, I
 ghost use Rattle.std.specs.List.{AllByRecursion};
 ghost use Rattle.vtl_cell.specs.Conversion.{as_kind};
 ghost use Rattle.vtl_cell.specs.Outcome.{Outcome, after, fault_in, join, unless};
-ghost use Rattle.vtl_cell.specs.Row.{column_of};
+ghost use Rattle.vtl_cell.specs.Row.{Row, column_of};
+ghost use Rattle.vtl_cell.specs.Settings.{Settings};
 ghost use Rattle.vtl_cell.specs.declared.cell.Cell as cell;
 ghost use Rattle.vtl_scalar.specs.Answers.{Answers, AnswersBy};
 ghost use Rattle.vtl_tree.specs.Shown.{shown};
@@ -101,6 +102,13 @@ fn push_scalars(
     push_computed(alloc, cells, seen, &prepared, a.table(), p)
 }
 
+// The cell at a place of a point, as an expression.
+fn own_cell(place: usize) -> Prepared
+    ensures { (p : Settings) (r : Row) → value p (prepared_exp result) r ≡ Ok (column_of place r) }
+{
+    Prepared::Column(place)
+}
+
 // Puts the cells of the column of a name behind others.
 fn push_own(
     alloc: Global,
@@ -115,7 +123,7 @@ fn push_own(
     ensures err { IfErr result (λ e. e ≡ ScalarErr.OutOfMemory) }
 {
     let columns = a.structure().columns(alloc)?;
-    let own = Prepared::Column(place_of(&columns, name));
+    let own = own_cell(place_of(&columns, name));
     push_computed(alloc, cells, seen, &own, a.table(), p)
 }
 
