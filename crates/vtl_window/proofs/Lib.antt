@@ -1,0 +1,2 @@
+pub mod AnalysisLemmas
+pub mod Windowed

@@ -10,6 +10,7 @@
 
 mod analysis;
 mod call;
+mod columns;
 mod values;
 
 pub use analysis::analytic;
