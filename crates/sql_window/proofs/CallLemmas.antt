@@ -1,9 +1,8 @@
 -- The values over a column's cells are those of a call over a partition.
-use Rattle.std.proofs.Common.{◌≡◌, ℕ, zero, suc, ◌+◌, ◌<◌, ◌≤◌, List, [], ◌∷◌, length, get_or, map, Ok, refl, sym, ap, ◌∙◌, arith}
+use Rattle.std.proofs.Common.{◌≡◌, ℕ, zero, suc, ◌+◌, ◌<◌, ◌≤◌, List, [], ◌∷◌, length, get_or, map, Ok, refl, ap, ◌∙◌, arith}
 use Rattle.std.specs.List.{range_with_len}
 use Rattle.std.proofs.lemmas.List.{get_or-map, length-map}
 use Rattle.vtl_cell.specs.Groups.{group_value}
-use Rattle.vtl_cell.specs.Outcome.{Outcome}
 use Rattle.vtl_cell.specs.Row.{Row, column_of}
 use Rattle.vtl_cell.specs.declared.cell.Cell.{Cell}
 use Rattle.vtl_cell.specs.declared.cell.Cell.TheVariants as c
@@ -12,7 +11,6 @@ use Rattle.vtl_frames.specs.Framed as frames
 use Rattle.vtl_frames.specs.Framed.{at_each}
 use Rattle.vtl_frames.specs.Picks as picks
 use Rattle.vtl_frames.specs.declared.bounds.Frame.{Frame}
-use Rattle.vtl_frames.specs.declared.picks.End.TheVariants as ends
 use Rattle.vtl_frames.specs.declared.picks.End.{End}
 use Rattle.vtl_cell.specs.Settings.{Settings}
 use Rattle.sql_tree.specs.declared.windows.Frame.{Frame as SqlFrame}
@@ -26,7 +24,6 @@ use Rattle.sql_tree.specs.declared.windows.Over.{Over}
 use Rattle.sql_tree.specs.declared.windows.WindowCall.TheVariants as call
 use Rattle.sql_tree.specs.declared.word_groups.ShiftFunction.{ShiftFunction}
 use Rattle.sql_tree.specs.declared.word_groups.ShiftFunction.TheVariants as shift
-use Rattle.sql_tree.specs.declared.word_groups.ValueFunction.TheVariants as value
 use Rattle.sql_eval.specs.Values.{View, cell_at}
 use Rattle.sql_eval.specs.Windows.{cells_of, count_of, default_cell, framed, shifted, value_in}
 use Rattle.sql_window.specs.Runs.{lane_cells, run_values, shift_in}

@@ -1,5 +1,5 @@
 -- Over a partition in order a call has at each place the value of the window at the row there.
-use Rattle.std.proofs.Common.{◌≡◌, ℕ, zero, suc, ◌+◌, ◌-◌, ◌<◌, inl, inr, List, [], ◌∷◌, length, get_or, map, Bool, true, false, not, cond, refl, sym, ap, ◌∙◌, arith, true≢false, subst}
+use Rattle.std.proofs.Common.{◌≡◌, ℕ, zero, suc, ◌+◌, ◌<◌, inl, inr, List, [], ◌∷◌, length, get_or, map, Bool, true, false, cond, refl, sym, ap, ◌∙◌, arith, true≢false}
 use Rattle.std.specs.Prelude.{count_by}
 use Rattle.std.specs.List.{AllByRecursion, range_with_len}
 use Rattle.std.proofs.lemmas.List.{get_or-map, length-map}
@@ -15,10 +15,9 @@ use Rattle.vtl_cell.proofs.Perms.{Perm-sym}
 use Rattle.vtl_cell.proofs.Rows.{same_row-is, same_row-refl}
 use Rattle.vtl_cell.proofs.Sorts.{Rises-map, sorted_is}
 use Rattle.vtl_rows.specs.Places.{row_at}
-use Rattle.sql_tree.specs.declared.windows.Over.{Over}
 use Rattle.sql_tree.specs.declared.windows.Window.{Window}
 use Rattle.sql_eval.specs.Values.{View}
-use Rattle.sql_eval.specs.Windows.{Stand, call_value, keys_of, partition_of, partition_places, place_within, stand_in}
+use Rattle.sql_eval.specs.Windows.{call_value, keys_of, partition_of, partition_places, place_within, stand_in}
 use Rattle.sql_window.specs.Runs.{IsPartition, IsTold, behind, run_values, stand_at, window_at}
 use Rattle.sql_window.proofs.CallLemmas.{map_same}
 use Rattle.sql_window.proofs.RankLemmas.{count_cons, count_map}

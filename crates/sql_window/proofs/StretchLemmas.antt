@@ -1,32 +1,26 @@
 -- A stretch of rows that tie by the columns of a partition is a partition.
-use Rattle.std.proofs.Common.{◌≡◌, ℕ, zero, suc, ◌+◌, ◌-◌, ◌<◌, ◌≤◌, inl, inr, List, [], ◌∷◌, ◌++◌, length, drop, take, get_or, map, Bool, true, false, not, cond, refl, sym, ap, ◌∙◌, arith, true≢false, subst}
+use Rattle.std.proofs.Common.{◌≡◌, ℕ, zero, suc, ◌+◌, ◌-◌, ◌<◌, ◌≤◌, List, [], ◌∷◌, length, drop, take, get_or, map, Bool, true, false, cond, refl, sym, ap, ◌∙◌, arith, true≢false, subst}
 use Rattle.std.specs.Prelude.{count_by, filter}
-use Rattle.std.specs.Cmp.{IsTotalOrder}
-use Rattle.std.specs.List.{AllByRecursion, range_with_len}
-use Rattle.std.specs.Ordering.{is_eq, is_lt, nat_cmp, on, ordering_then, then_cmp}
-use Rattle.std.specs.declared.cmp.Ordering.{Ordering}
-use Rattle.std.specs.declared.cmp.Ordering.TheVariants.{Less, Equal, Greater}
+use Rattle.std.specs.List.{AllByRecursion}
+use Rattle.std.specs.Ordering.{is_eq}
 use Rattle.std.proofs.lemmas.List.{take-append-drop}
 use Rattle.std.proofs.lemmas.List.Sums.{sum_by-append}
-use Rattle.vtl_cell.specs.Perm.{Perm}
 use Rattle.vtl_cell.specs.Row.{Row, same_row}
 use Rattle.vtl_cell.specs.Sorted.{by_keys}
-use Rattle.vtl_cell.specs.Sorting.{Rises, le_by}
-use Rattle.vtl_cell.proofs.Perms.{Perm-filter, Perm-map}
+use Rattle.vtl_cell.specs.Sorting.{Rises}
 use Rattle.vtl_cell.proofs.Rows.{same_row-is, same_row-refl}
 use Rattle.vtl_rows.specs.Keys.{agree, key_of}
 use Rattle.vtl_rows.specs.Places.{row_at}
 use Rattle.vtl_rows.specs.Runs.{is_start}
 use Rattle.vtl_rows.specs.Tables.{cells_at}
 use Rattle.vtl_rows.specs.declared.column.SortKey.{SortKey}
-use Rattle.vtl_rows.proofs.Placed.{all_places}
 use Rattle.vtl_rows.proofs.Ties.{ties_agree, ties_between}
 use Rattle.vtl_cell.specs.Sorted.{rising}
-use Rattle.sql_window.specs.Runs.{AreInOrder, IsTold, behind}
-use Rattle.sql_window.proofs.RankLemmas.{R, at, below_or_not, count_cons, le_at, starts_apart, tied_with_last, total}
+use Rattle.sql_window.specs.Runs.{AreInOrder, IsTold}
+use Rattle.sql_window.proofs.RankLemmas.{count_cons, le_at, starts_apart, tied_with_last, total}
 
 -- ---- cuts
-filter_cut : {X : Type 0} (q : X → Bool) (xs : List X) (s e : ℕ) (d : X) → s ≤ e → e ≤ length xs → ((k : ℕ) → k < s → q (get_or xs k d) ≡ false) → ((k : ℕ) → s ≤ k → k < e → q (get_or xs k d) ≡ true) → ((k : ℕ) → e ≤ k → k < length xs → q (get_or xs k d) ≡ false)
+pub filter_cut : {X : Type 0} (q : X → Bool) (xs : List X) (s e : ℕ) (d : X) → s ≤ e → e ≤ length xs → ((k : ℕ) → k < s → q (get_or xs k d) ≡ false) → ((k : ℕ) → s ≤ k → k < e → q (get_or xs k d) ≡ true) → ((k : ℕ) → e ≤ k → k < length xs → q (get_or xs k d) ≡ false)
     → filter q xs ≡ take (e - s) (drop s xs)
 filter_cut q [] zero zero d h l before inside behind' = refl
 filter_cut q [] zero (suc e) d h l before inside behind' = absurd (omega (arith, l))
@@ -46,11 +40,11 @@ filter_cut q (x ∷ xs) (suc s) (suc e) d h l before inside behind' =
     ∙ filter_cut q xs s e d (omega (arith, h)) (omega (arith, l)) (λ k m. before (suc k) (omega (arith, m))) (λ k m n. inside (suc k) (omega (arith, m)) (omega (arith, n))) (λ k m n. behind' (suc k) (omega (arith, m)) (omega (arith, n)))
     ∙ ap (λ n. take n (drop s xs)) same
 
-all_from_get : {X : Type 0} (P : X → Type 0) (xs : List X) (d : X) → ((k : ℕ) → k < length xs → P (get_or xs k d)) → AllByRecursion P xs
+pub all_from_get : {X : Type 0} (P : X → Type 0) (xs : List X) (d : X) → ((k : ℕ) → k < length xs → P (get_or xs k d)) → AllByRecursion P xs
 all_from_get P [] d h = tt
 all_from_get P (x ∷ xs) d h = (h 0 (omega arith), all_from_get P xs d (λ k l. h (suc k) (omega (arith, l))))
 
-rises_drop : {X : Type 0} (le : X → X → Bool) (s : ℕ) (xs : List X) → Rises le xs → Rises le (drop s xs)
+pub rises_drop : {X : Type 0} (le : X → X → Bool) (s : ℕ) (xs : List X) → Rises le xs → Rises le (drop s xs)
 rises_drop le zero xs r = r
 rises_drop le (suc s) [] r = r
 rises_drop le (suc s) (x ∷ xs) r = rises_drop le s xs r.1
@@ -60,7 +54,7 @@ all_take P zero xs all = tt
 all_take P (suc m) [] all = tt
 all_take P (suc m) (x ∷ xs) all = (all.0, all_take P m xs all.1)
 
-rises_take : {X : Type 0} (le : X → X → Bool) (m : ℕ) (xs : List X) → Rises le xs → Rises le (take m xs)
+pub rises_take : {X : Type 0} (le : X → X → Bool) (m : ℕ) (xs : List X) → Rises le xs → Rises le (take m xs)
 rises_take le zero xs r = tt
 rises_take le (suc m) [] r = tt
 rises_take le (suc m) (x ∷ xs) r = (all_take (λ y. le x y ≡ true) m xs r.0, rises_take le m xs r.1)
@@ -86,12 +80,12 @@ module _ (rows : List Row) (A : Row → Bool) where
       other true h = absurd (true≢false (sym e ∙ ap A (same_row-is (row_at rows j) (row_at rows k) h) ∙ all.0))
       other false h = refl
 
-  told_drop : (s : ℕ) (ks : List ℕ) → IsTold rows ks → IsTold rows (drop s ks)
+  pub told_drop : (s : ℕ) (ks : List ℕ) → IsTold rows ks → IsTold rows (drop s ks)
   told_drop zero ks told = told
   told_drop (suc s) [] told = told
   told_drop (suc s) (k ∷ ks) told = told_drop s ks told.1
 
-  told_take : (m : ℕ) (ks : List ℕ) → AllByRecursion (λ k. A (row_at rows k) ≡ true) (take m ks) → AllByRecursion (λ k. A (row_at rows k) ≡ false) (drop m ks) → IsTold rows ks → IsTold rows (take m ks)
+  pub told_take : (m : ℕ) (ks : List ℕ) → AllByRecursion (λ k. A (row_at rows k) ≡ true) (take m ks) → AllByRecursion (λ k. A (row_at rows k) ≡ false) (drop m ks) → IsTold rows ks → IsTold rows (take m ks)
   told_take zero ks all none told = tt
   told_take (suc m) [] all none told = tt
   told_take (suc m) (j ∷ ks) all none told =
@@ -136,7 +130,7 @@ module _ (pl : List ℕ) (keys : List SortKey) (named : map key_of keys ≡ map 
       let there : s + (k - s) ≡ k = omega (arith, l) in
       subst (λ j. cells_at pl (x j) ≡ cells_at pl (x s)) there (inside_from (k - s) (omega (arith, there, m)))
 
-  no_tie : (q r : Row) → (agree pl q r ≡ true → ⊥) → agree pl q r ≡ false
+  pub no_tie : (q r : Row) → (agree pl q r ≡ true → ⊥) → agree pl q r ≡ false
   no_tie q r none = go (agree pl q r) refl
     where
       go : (b : Bool) → agree pl q r ≡ b → b ≡ false
@@ -154,7 +148,7 @@ module _ (pl : List ℕ) (keys : List SortKey) (named : map key_of keys ≡ map 
       let cells = same_cells (x k) (x t) (sym (tie_is (x k) (x t)) ∙ between) in
       apart_at t (ap (is_start keys rows places) one ∙ h.start) (sym cells ∙ same ∙ ap (λ j. cells_at pl (x j)) (sym one))
 
-  behind_at : (t k : ℕ) → t ≡ e → t ≤ k → k < length places → cells_at pl (x k) ≡ cells_at pl (x s) → ⊥
+  pub behind_at : (t k : ℕ) → t ≡ e → t ≤ k → k < length places → cells_at pl (x k) ≡ cells_at pl (x s) → ⊥
   behind_at zero k one l m same = omega (arith, one, h.some)
   behind_at (suc t) k one l m same =
       let last = inside t (omega (arith, one, h.some)) (omega (arith, one)) in

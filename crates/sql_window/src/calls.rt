@@ -23,7 +23,7 @@ use vtl_frames::{End, Shift, push_aggregates, push_ends, push_ratios, push_shift
 use vtl_rows::{SortKey, Table, ranks};
 
 // The values so far, each an outcome.
-type Outcomes = Vec<Result<Cell, Fault>>;
+pub(crate) type Outcomes = Vec<Result<Cell, Fault>>;
 
 // An aggregate over frames.
 fn push_aggregate(
@@ -146,7 +146,12 @@ pub(crate) fn push_call(
             let lane = Lane::of(table, run, sources.place(column), &null);
             push_value(out, &lane, &over.frame, *function, p)
         }
-        WindowCall::Shift { function, column, rows, default } => {
+        WindowCall::Shift {
+            function,
+            column,
+            rows,
+            default,
+        } => {
             let null = Cell::Null;
             let lane = Lane::of(table, run, sources.place(column), &null);
             push_shift(alloc, out, &lane, *function, rows, default, p)

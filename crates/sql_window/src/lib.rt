@@ -10,5 +10,8 @@
 
 mod calls;
 mod frames;
+mod keys;
 mod lane;
+mod windows;
 
+pub use windows::window_values;

@@ -1,4 +1,4 @@
-use Rattle.std.proofs.Common.{Some, None, sym, ap, ◌∙◌}
+use Rattle.std.proofs.Common.{sym, ap, ◌∙◌}
 use Rattle.vtl_frames.specs.Framed as places
 use Rattle.sql_eval.specs.Windows.{framed}
 use Rattle.sql_window.specs.Frames.{bound_in}
