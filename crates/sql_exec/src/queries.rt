@@ -26,7 +26,8 @@ use vtl_cell::Profile;
 use vtl_index::Steps;
 use vtl_rows::{Table, Tables};
 
-/// The table of a query: its columns with their names and kinds, and its rows, each as often, in any order.
+/// The table of a query: its columns with their names and kinds, and its rows, each as often, in any order. Joins that
+/// its plan lists go by an index; every other join tries each pair.
 ///
 /// # Errors
 ///
@@ -49,7 +50,7 @@ pub fn exec<L: Ledger>(
     let kinds = query_kinds(alloc, p, tables, selects)?;
     let columns = named_columns(alloc, selects[0].items.as_slice(), &kinds)?;
     let mut out = Output::new(alloc, columns);
-    add_selects(alloc, &mut out, selects, &kinds, tables, p)?;
+    add_selects(alloc, &mut out, plan, selects, &kinds, tables, p)?;
     out.finish()
 }
 

@@ -1,12 +1,13 @@
 // Selects: FROM and WHERE first, and then items or groups.
 ghost use Rattle.std.specs.List.{AllByRecursion, list_any};
-ghost use Rattle.std.specs.Prelude.{◌≡◌, false, length, map, zip, IfErr, OnOk};
+ghost use Rattle.std.specs.Prelude.{◌≡◌, ◌==◌, false, filter, length, map, zip, IfErr, IfOk, OnOk};
 ghost use Rattle.vtl_rows.specs.Tables.{column_kinds};
 ghost use Rattle.sql_tree.specs.View.{item_tree, select_tree};
 ghost use Rattle.sql_groups.specs.Queries.{scope_of};
 ghost use Rattle.sql_groups.specs.Scopes.{row_of};
 ghost use Rattle.sql_groups.specs.Selects.{appended, plain_rows, second_phase, select_value};
-ghost use Rattle.sql_groups.specs.Tables.{RowsFit, TablesFit};
+ghost use Rattle.sql_groups.specs.Profiles.{IsLawful};
+ghost use Rattle.sql_groups.specs.Tables.{RowsFit};
 ghost use Rattle.sql_groups.specs.Held.{base_held, tables_held};
 ghost use Rattle.sql_groups.specs.Sources.{scope_held};
 ghost use Rattle.sql_groups.specs.Standing.{rows_for, sight_of};
@@ -14,15 +15,32 @@ ghost use Rattle.sql_exec.specs.Outputs.{Adds};
 ghost use Rattle.sql_exec.specs.Parts.{IsPart, MakesKinds};
 ghost use Rattle.sql_exec.specs.Plain.{is_window_item};
 
-use crate::items::row_items;
+use crate::items::{RowItem, row_items};
 use crate::output::Output;
 use sql_check_queries::is_grouped;
-use sql_groups::{TupleRows, push_grouped, source_tuples};
+use sql_groups::{Partners, Plan, Sources, TupleRows, push_grouped, source_tuples};
 use sql_tree::{Item, Select};
-use std::alloc::Global;
+use std::alloc::{AllocError, Global};
 use vtl_cell::{Kind, Profile};
 use vtl_rows::Tables;
 use vtl_scalar::ScalarErr;
+
+// The look-ups for the EXISTS of items.
+fn item_partners<'a>(
+    alloc: Global,
+    sources: &'a Sources<'a>,
+    items: &[RowItem],
+    p: &Profile,
+) -> Result<Partners<'a>, AllocError>
+    requires { IsLawful (base_held p.now sources.now.held) }
+    ensures { IfOk result (λ x. x ≡ sources.now) }
+{
+    let mut partners = Partners::none(alloc, sources);
+    for item in items {
+        partners = partners.with(alloc, &item.exp, p)?;
+    }
+    Ok(partners)
+}
 
 // Adds a row of the items for each row of FROM.
 fn add_rows(
@@ -33,6 +51,7 @@ fn add_rows(
     kinds: &[Kind],
     p: &Profile,
 ) -> Result<(), ScalarErr>
+    requires lawful { IsLawful (base_held p.now rows.now.sources.held) }
     requires plain { list_any is_window_item (map item_tree items.now) ≡ false }
     requires many { length kinds.now ≡ length items.now }
     requires columns { column_kinds out.old.table.columns ≡ kinds.now }
@@ -42,9 +61,10 @@ fn add_rows(
     ensures err { IfErr result (λ e. e ≡ ScalarErr.OutOfMemory) }
 {
     let resolved = row_items(alloc, p, &rows.sources, items, kinds)?;
+    let partners = item_partners(alloc, &rows.sources, &resolved, p)?;
     out.table.reserve_rows(rows.len())?;
     for number in 0..rows.len() {
-        out.add_row(alloc, &resolved, &rows.row(number), p)?;
+        out.add_row(alloc, &resolved, &(&*rows).partnered(number, &partners), p)?;
     }
     Ok(())
 }
@@ -58,6 +78,7 @@ fn add_phase(
     kinds: &[Kind],
     p: &Profile,
 ) -> Result<(), ScalarErr>
+    requires lawful { IsLawful (base_held p.now rows.now.sources.held) }
     requires scope { scope_held rows.now.sources.sources ≡ scope_of (tables_held rows.now.sources.held) (select_tree select.now) }
     requires part { IsPart (base_held p.now rows.now.sources.held) kinds.now (select_tree select.now) }
     requires columns { column_kinds out.old.table.columns ≡ kinds.now }
@@ -74,45 +95,62 @@ fn add_phase(
     }
 }
 
-// Adds the rows of a select, or its fault.
+// Adds the rows of a select, or its fault. Its joins that are listed go by a look-up.
 fn add_select(
     alloc: Global,
     out: &mut Output,
     select: &Select,
+    by_index: &[usize],
     kinds: &[Kind],
     tables: &Tables,
     p: &Profile,
 ) -> Result<(), ScalarErr>
     requires part { IsPart (base_held p.now tables.now) kinds.now (select_tree select.now) }
-    requires tables { TablesFit (base_held p.now tables.now) }
+    requires lawful { IsLawful (base_held p.now tables.now) }
     requires columns { column_kinds out.old.table.columns ≡ kinds.now }
     ensures adds { OnOk result (Adds (select_value (base_held p.now tables.now) kinds.now (select_tree select.now)) out.old out.new) }
     ensures err { IfErr result (λ e. e ≡ ScalarErr.OutOfMemory) }
 {
-    match source_tuples(alloc, select, tables, p) {
+    match source_tuples(alloc, select, tables, Some(by_index), p) {
         Ok(rows) => add_phase(alloc, out, select, &rows, kinds, p),
         Err(error) => out.see(error),
     }
 }
 
+// The joins of the select at a place that go by an index.
+fn indexed_joins(alloc: Global, plan: &Plan, select: usize) -> Result<Vec<usize>, AllocError>
+    ensures { IfOk result (λ v. v.items ≡ map (λ i. i.join) (filter (λ i. i.select == select) plan.now.ways.indexed)) }
+{
+    let indexed = plan.indexed();
+    let mut joins = Vec::new(alloc);
+    for entry in indexed {
+        if entry.select == select {
+            joins.push(entry.join)?;
+        }
+    }
+    Ok(joins)
+}
+
 /// Adds the rows of all selects, or the worst of their faults: each select is carried out, whatever those before it
-/// give.
+/// give, with the joins by an index that the plan of the query has for it.
 pub(crate) fn add_selects(
     alloc: Global,
     out: &mut Output,
+    plan: &Plan,
     selects: &[Select],
     kinds: &[Kind],
     tables: &Tables,
     p: &Profile,
 ) -> Result<(), ScalarErr>
     requires parts { AllByRecursion (IsPart (base_held p.now tables.now) kinds.now) (map select_tree selects.now) }
-    requires tables { TablesFit (base_held p.now tables.now) }
+    requires lawful { IsLawful (base_held p.now tables.now) }
     requires columns { column_kinds out.old.table.columns ≡ kinds.now }
     ensures adds { OnOk result (Adds (appended (map (select_value (base_held p.now tables.now) kinds.now) (map select_tree selects.now))) out.old out.new) }
     ensures err { IfErr result (λ e. e ≡ ScalarErr.OutOfMemory) }
 {
-    for select in selects {
-        add_select(alloc, out, select, kinds, tables, p)?;
+    for place in 0..selects.len() {
+        let by_index = indexed_joins(alloc, plan, place)?;
+        add_select(alloc, out, &selects[place], &by_index, kinds, tables, p)?;
     }
     Ok(())
 }

@@ -1,6 +1,7 @@
 pub use Rattle.sql_eval.proofs.ExpressionKinds
 pub use Rattle.sql_eval.proofs.Lists
 pub use Rattle.sql_eval.proofs.OperatorKinds
+pub use Rattle.sql_eval.proofs.Profiled
 pub use Rattle.sql_eval.proofs.SharedKinds
 pub use Rattle.sql_eval.proofs.SourceKinds
 pub use Rattle.sql_eval.proofs.UpToOrder
@@ -15,3 +16,8 @@ pub mod Walks
 pub mod Means
 pub mod Standing
 pub mod Tabled
+pub mod Equalities
+pub mod Conjunctions
+pub mod Found
+pub mod Spots
+pub mod Tied

@@ -112,11 +112,15 @@ module _ (ts : List Listed) (picks : List Pick) (are : picks ≡ picks_from 0 ts
     pub pick_within : pick.part < length ts
     pick_within = pick_among ts picks are place pick got
 
+    pub cell_picked : column_of place (combined ts (front ++ last ∷ [])) ≡ picked_cell ts (front ++ last ∷ []) pick
+    cell_picked =
+        sym (got_mapped (picked_cell ts (front ++ last ∷ [])) (picks_from 0 ts) place pick (ap (λ l. slice_get l place) (sym are) ∙ got)
+        ∙ ap (column_of place) (picked_all ts (front ++ last ∷ []) wide))
+
     pub cell_there : (t : Listed) (number : ℕ) → slice_get ts pick.part ≡ Some t → number ≡ slice_index (front ++ last ∷ []) pick.part → column_of pick.column (row_at t.rows number) ≡ column_of place (combined ts (front ++ last ∷ []))
     cell_there t number there n =
         (λ i. column_of pick.column (row_at (part_there ts pick.part there i).rows (n i)))
-        ∙ got_mapped (picked_cell ts (front ++ last ∷ [])) (picks_from 0 ts) place pick (ap (λ l. slice_get l place) (sym are) ∙ got)
-        ∙ ap (column_of place) (picked_all ts (front ++ last ∷ []) wide)
+        ∙ sym cell_picked
       where
         part_there : (us : List Listed) (k : ℕ) → slice_get us k ≡ Some t → t ≡ part_at us k
         part_there [] k e = cc

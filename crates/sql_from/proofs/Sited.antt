@@ -54,6 +54,11 @@ pub all_last : {X : Type 0} (P : X → Type 0) (xs : List X) (x : X) → AllByRe
 all_last P [] x all h = (h, tt)
 all_last P (y ∷ xs) x all h = (all.0, all_last P xs x all.1 h)
 
+pub one_of : {X : Type 0} (P : X → Type 0) (xs : List X) (i : ℕ) (x : X) → AllByRecursion P xs → slice_get xs i ≡ Some x → P x
+one_of P [] i x all e = cc
+one_of P (y ∷ xs) zero x all e = let s : y ≡ x = cc in subst P s all.0
+one_of P (y ∷ xs) (suc i) x all e = one_of P xs i x all.1 e
+
 -- ---- look-ups
 
 -- what is known of a column

@@ -1,5 +1,5 @@
 -- What one source more stands for.
-use Rattle.std.proofs.Common.{◌≡◌, ℕ, ◌+◌, List, [], ◌∷◌, ◌++◌, map, length, Option, Some, None, Ok, Err, IfOk, Result, refl, sym, ap, ◌∙◌, subst, length-append}
+use Rattle.std.proofs.Common.{◌≡◌, ℕ, ◌+◌, ◌-◌, List, [], ◌∷◌, ◌++◌, map, length, Option, Some, None, Ok, Err, IfOk, IsSome, Result, refl, sym, ap, ◌∙◌, subst, length-append, arith}
 use Rattle.std.specs.List.{AllByRecursion, filter}
 use Rattle.std.specs.Prelude.{fold}
 use Rattle.std.specs.Option.{option_map}
@@ -11,6 +11,7 @@ use Rattle.vtl_cell.specs.Settings.{Settings}
 use Rattle.vtl_cell.specs.declared.cell.Cell.{Cell}
 use Rattle.vtl_cell.specs.declared.cell.Cell.TheVariants.{Null}
 use Rattle.vtl_rows.specs.Named.{NamedTables, table_of}
+use Rattle.vtl_rows.specs.Gathered.{part_at}
 use Rattle.vtl_rows.specs.Tables.{Listed}
 use Rattle.vtl_scalar.specs.Answers.{AnswersBy}
 use Rattle.vtl_scalar.specs.declared.error.ScalarErr.{ScalarErr}
@@ -22,6 +23,7 @@ use Rattle.sql_tree.specs.declared.word_groups.JoinKind.{JoinKind}
 use Rattle.sql_eval.specs.Queries.{join_source, joined_scope}
 use Rattle.sql_eval.specs.Scopes.{Columns, or_nothing as columns_or_nothing, row_of, with_source}
 use Rattle.sql_eval.specs.TypedSelects.{AreJoinsTyped, IsSourceTyped}
+use Rattle.sql_eval.specs.Profiles.{IsLawful}
 use Rattle.sql_eval.specs.From.{Joined, first_of, joined, joined_rows, kept_of, pairs, with_join}
 use Rattle.sql_eval.specs.Tables.{Base, column_entry, columns_named, rows_of}
 use Rattle.sql_eval.specs.Values.{at_rows, value}
@@ -29,12 +31,14 @@ use Rattle.sql_eval.proofs.SourceKinds.{source_added}
 use Rattle.sql_eval.proofs.UpToOrder.{join_none}
 use Rattle.sql_from.specs.Held.{base_held, columns_held, rows_held, tables_held}
 use Rattle.sql_from.specs.Joins.{crossed_tuples, joined_tuples, kept_fault, kept_tuples, marks_of, numbers_to, pairs_fault, singles}
+use Rattle.sql_from.specs.Keys.{last_of as last_source}
 use Rattle.sql_from.specs.Rows.{combined, width_of}
 use Rattle.sql_from.specs.Seen.{answer_of}
 use Rattle.sql_from.specs.Sources.{IsWide, Sourced, or_nothing, parts_of, scope_held, table_named}
-use Rattle.sql_from.specs.Standing.{StandsFor, condition_at, rows_for, sight_of}
+use Rattle.sql_from.specs.Standing.{MayLookUp, StandsFor, condition_at, rows_for, sight_of}
 use Rattle.sql_from.specs.Tuples.{Numbered}
 use Rattle.sql_from.proofs.Means.{cross_means, crossed_wide, faults_through, joined_wide, kept_means, marks_many, single_rows, singles_wide, step_faults, step_means}
+use Rattle.sql_from.proofs.Parted.{get_behind}
 use Rattle.sql_from.proofs.Sited.{columns_are, row_wide, table_there}
 
 last_of : {X : Type 0} (P : X → Type 0) (xs : List X) (x : X) → AllByRecursion P (xs ++ x ∷ []) → P x
@@ -62,6 +66,16 @@ module _ (s : Sourced) (source : Source) (typed : IsSourceTyped (tables_held s.h
 
   pub parts_more : parts_of next.sources ≡ parts_of s.sources ++ table ∷ []
   parts_more = map-append (λ u. u.1) s.sources ((source.alias, table) ∷ [])
+
+  last_table : last_source next ≡ table
+  last_table =
+      let many = length-map s.sources (λ u. u.1) in
+      let one = length-append s.sources ((source.alias, table) ∷ []) in
+      let n : length next.sources - 1 ≡ length (parts_of s.sources) = omega (arith, many, one) in
+      (λ i. part_at (parts_more i) (n i)) ∙ get_behind (parts_of s.sources) table [] (record { columns = []; rows = [] })
+
+  pub last_counted : length (last_source next).rows ≡ length (rows_held s.held source.table)
+  last_counted = ap (λ t. length t.rows) last_table ∙ ap length (sym (named_rows s.held source.table))
 
   columns_found : columns_named (tables_held s.held) source.table ≡ columns_held table
   columns_found = ap columns_or_nothing (columns_are s.held source.table ∙ ap (option_map columns_held) (table_there s.held source.table typed.0))
@@ -201,6 +215,11 @@ left_less b s j js sources sources' t t' seen seen' left stands = record {
   typed = subst (λ scope. AreJoinsTyped b.settings b.tables scope js) (sym (scope_behind b left.so_far j)) left.typed.2;
   all = left.all;
 }
+
+-- ---- look-ups that are wanted
+pub allowed : {A : Type 0} (b : Base) (o : Option A) → IsSome o → MayLookUp b o → IsLawful b
+allowed b None e may = cc
+allowed b (Some x) e may = may
 
 -- ---- answers
 

@@ -1,5 +1,5 @@
 -- The tables that the program holds, as typing and the meaning know them.
-use Rattle.std.specs.Prelude.{List, map}
+use Rattle.std.specs.Prelude.{◌≡◌, List, map}
 use Rattle.vtl_cell.specs.Row.{Row}
 use Rattle.vtl_cell.specs.Settings.{Settings}
 use Rattle.vtl_rows.specs.Named.{NamedTables, table_of}
@@ -18,6 +18,10 @@ tables_held held = map (λ t. (t.0, columns_held t.1)) held
 -- the rows of the table of a name; none where there is no such table
 abbrev pub rows_held : NamedTables → Text → List Row
 rows_held held name = rows_of (table_of name held)
+
+-- a table has the rows of one that the program holds
+abbrev pub IsHeld : NamedTables → Listed → Type 0
+IsHeld held t = (name : Text) × (t.rows ≡ rows_held held name)
 
 -- what a query rests on over the tables that the program holds
 abbrev pub base_held : Settings → NamedTables → Base

@@ -3,6 +3,7 @@ pub use Rattle.sql_eval.specs.Fits
 pub use Rattle.sql_eval.specs.From
 pub use Rattle.sql_eval.specs.Groups
 pub use Rattle.sql_eval.specs.Outcomes
+pub use Rattle.sql_eval.specs.Profiles
 pub use Rattle.sql_eval.specs.Queries
 pub use Rattle.sql_eval.specs.Scopes
 pub use Rattle.sql_eval.specs.Selects
@@ -16,4 +17,7 @@ pub mod Sources
 pub mod Seen
 pub mod Joins
 pub mod Standing
+pub mod Keys
+pub mod Lookups
+pub mod Partners
 pub mod Columns

@@ -9,7 +9,7 @@ use Rattle.vtl_rows.specs.Tables.{Listed}
 use Rattle.vtl_rows.specs.declared.gather.Pick.{Pick}
 use Rattle.sql_tree.specs.Trees.{Text}
 use Rattle.sql_eval.specs.Scopes.{Columns, Named, Scope, numbered, value_among}
-use Rattle.sql_from.specs.Held.{columns_held, tables_held}
+use Rattle.sql_from.specs.Held.{IsHeld, columns_held, tables_held}
 use Rattle.sql_from.specs.Rows.{picks_from}
 use Rattle.sql_from.specs.declared.columns.ColumnAt.{ColumnAt}
 use Rattle.sql_from.specs.declared.sources.SourceTable.{SourceTable}
@@ -55,8 +55,9 @@ abbrev pub IsWide : Listed → Type 0
 IsWide t = All (λ r. length r ≡ length t.columns) t.rows
 
 -- what the sources know of themselves
-pub record AreSources (sources : Named SourceTable) (picks : List Pick) (absent : Cell) : Type 0 where
+pub record AreSources (held : NamedTables) (sources : Named SourceTable) (picks : List Pick) (absent : Cell) : Type 0 where
   pub sited : AreSited 0 sources
   pub picked : picks ≡ picks_from 0 (parts_of (map source_of sources))
   pub wide : AllByRecursion IsWide (parts_of (map source_of sources))
+  pub among : AllByRecursion (IsHeld held) (parts_of (map source_of sources))
   pub null : absent ≡ Null

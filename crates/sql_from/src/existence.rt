@@ -69,7 +69,8 @@ fn all_tied<R: OuterRow>(
     Ok(true)
 }
 
-/// Whether some row of the table of EXISTS makes every equality with a row true. It fails only if memory runs out.
+/// Whether some row of the table of EXISTS makes every equality with a row true, by a walk over its rows. It fails only if
+/// memory runs out.
 pub fn has_partner<R: OuterRow>(
     alloc: Global,
     tables: &Tables,

@@ -3,11 +3,15 @@ ghost use Rattle.std.specs.List.{list_any};
 ghost use Rattle.std.specs.Prelude.{◌≡◌, ◌+◌, ◌<◌, ◌^◌, ◌++◌, length, map, slice_index_or, ℕ, false, IfErr, IfOk, OnOk};
 ghost use Rattle.vtl_cell.specs.Outcome.{join};
 ghost use Rattle.sql_from.specs.Joins.{added, crossed_tuples, ends_with, joined_tuples, keeps_left, keeps_right, kept_fault, kept_tuples, numbers_to, pairs_fault, singles, with_number};
+ghost use Rattle.sql_from.specs.Lookups.{Finds};
 ghost use Rattle.sql_from.specs.Seen.{seen_of};
 
 use crate::Tuples;
 use crate::condition::Condition;
-use crate::pairs::{Walked, left_rows, try_tuple};
+use crate::key_lookup::KeyLookup;
+use crate::lookup::Lookup;
+use crate::pairing::Pairing;
+use crate::pairs::{EachRow, Walked, left_rows, try_tuple};
 use sql_tree::JoinKind;
 use std::alloc::{AllocError, Global};
 use vtl_scalar::ScalarErr;
@@ -72,9 +76,33 @@ fn keeps_right(kind: JoinKind) -> bool
     matches!(kind, JoinKind::Full)
 }
 
-// The tuples behind a join with a source of so many rows, and the fault of its condition over all pairs beside the one
-// that was seen before.
-pub(crate) fn join_step<C: Condition>(
+// The tuples behind a join with the rows of a source, and the fault of its condition over all pairs beside the one that
+// was seen before.
+pub(crate) fn join_step<P: Pairing>(
+    alloc: Global,
+    kind: JoinKind,
+    pairing: &P,
+    left: &Walked,
+    marks: &[usize],
+) -> Result<Walked, ScalarErr>
+    requires sound { P.is_sound pairing.now }
+    requires width { P.width pairing.now ≡ left.now.rows.width + 1 }
+    requires marks { length marks.now ≡ left.now.rows.width }
+    ensures width { IfOk result (λ w. w.rows.width ≡ left.now.rows.width + 1) }
+    ensures rows { IfOk result (λ w. w.rows.tuples ≡ joined_tuples kind (P.value pairing.now) marks.now (P.count pairing.now) left.now.rows.tuples) }
+    ensures seen { IfOk result (λ w. seen_of w.seen ≡ join (seen_of left.now.seen) (pairs_fault (P.value pairing.now) (P.count pairing.now) left.now.rows.tuples)) }
+    ensures err { IfErr result (λ e. e ≡ ScalarErr.OutOfMemory) }
+{
+    let mut so_far = left_rows(alloc, keeps_left(kind), pairing, left)?;
+    if keeps_right(kind) {
+        add_unmet(alloc, marks, pairing.count(), &mut so_far.rows)?;
+    }
+    Ok(so_far)
+}
+
+// The tuples behind a join with so many rows, of which each is tried, and the fault of the condition over all pairs beside
+// the one that was seen before.
+pub(crate) fn join_each<C: Condition>(
     alloc: Global,
     kind: JoinKind,
     condition: &C,
@@ -89,11 +117,29 @@ pub(crate) fn join_step<C: Condition>(
     ensures seen { IfOk result (λ w. seen_of w.seen ≡ join (seen_of left.now.seen) (pairs_fault (C.value condition.now) count left.now.rows.tuples)) }
     ensures err { IfErr result (λ e. e ≡ ScalarErr.OutOfMemory) }
 {
-    let mut so_far = left_rows(alloc, keeps_left(kind), condition, left, count)?;
-    if keeps_right(kind) {
-        add_unmet(alloc, marks, count, &mut so_far.rows)?;
-    }
-    Ok(so_far)
+    let each = EachRow { condition, count };
+    join_step(alloc, kind, &each, left, marks)
+}
+
+// The tuples behind a join with rows that are looked up, with which the condition has no fault.
+pub(crate) fn join_found<C: Condition>(
+    alloc: Global,
+    kind: JoinKind,
+    condition: &C,
+    keys: &KeyLookup<'_>,
+    left: &Walked,
+    marks: &[usize],
+) -> Result<Walked, ScalarErr>
+    requires finds { Finds (C.width condition.now) (C.value condition.now) keys.now }
+    requires width { C.width condition.now ≡ left.now.rows.width + 1 }
+    requires marks { length marks.now ≡ left.now.rows.width }
+    ensures width { IfOk result (λ w. w.rows.width ≡ left.now.rows.width + 1) }
+    ensures rows { IfOk result (λ w. w.rows.tuples ≡ joined_tuples kind (C.value condition.now) marks.now (length keys.now.index.rows) left.now.rows.tuples) }
+    ensures seen { IfOk result (λ w. seen_of w.seen ≡ join (seen_of left.now.seen) (pairs_fault (C.value condition.now) (length keys.now.index.rows) left.now.rows.tuples)) }
+    ensures err { IfErr result (λ e. e ≡ ScalarErr.OutOfMemory) }
+{
+    let found = Lookup { condition, keys };
+    join_step(alloc, kind, &found, left, marks)
 }
 
 // Puts one tuple with each of so many numbers behind the tuples.

@@ -2,26 +2,40 @@
 //!
 //! A row of FROM is kept as a tuple of row numbers, one for each source, and no cell of it is copied: `TupleRow` lends
 //! the cells to the evaluator (`sql_eval`), and `Sources` says where those of each column stand, worked out once for a
-//! select. Joins go by nested loops, each pair tried by one function, and the fault is that of every ON and of WHERE.
+//! select. How the rows are found that go together with a tuple is left to the trait `Pairing`: each row is tried, or, for
+//! joins that the caller lists, rows are looked up by the cells that ON equates. `Partners` holds look-ups for the EXISTS
+//! of a select, made once for all its rows, and `PartneredRow` asks them. The fault is that of every ON and of WHERE.
 //! It knows no groups, items or windows, no statement, no plan, and nothing of VTL.
-//! Begin with specs/Rows.antt and specs/Sources.antt, then `sources.rt`, `tuple_row.rt` and `tuples.rt`.
+//! Begin with specs/Rows.antt and specs/Sources.antt, then `sources.rt`, `tuple_row.rt` and `tuples.rt`; for look-ups with
+//! specs/Keys.antt, then `key_pairs.rt` and `key_lookup.rt`; for EXISTS with specs/Partners.antt, then `partners.rt`.
 #![tactic(auto)]
 
 mod columns;
 mod condition;
 mod existence;
 mod joining;
+mod key_lookup;
+mod key_pairs;
+mod lookup;
 mod outer_row;
+mod pairing;
 mod pairs;
+mod partner_index;
+mod partnered_row;
+mod partners;
 mod seen;
 mod selects;
+mod source_condition;
 mod sources;
+mod ties;
 mod tuple_row;
 mod tuple_rows;
 mod tuples;
 
 pub use existence::has_partner;
 pub use outer_row::OuterRow;
+pub use partnered_row::PartneredRow;
+pub use partners::Partners;
 pub use seen::Seen;
 pub use selects::{ExecErr, source_rows, source_tuples};
 pub use sources::Sources;

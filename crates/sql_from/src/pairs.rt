@@ -1,11 +1,12 @@
-// Pairs of a tuple and a row: nested loops.
+// Pairs of a tuple and a row, and nested loops.
 ghost use Rattle.std.specs.List.{flat_map, list_any};
-ghost use Rattle.std.specs.Prelude.{◌≡◌, ◌+◌, ◌<◌, ◌^◌, ◌++◌, ◌∷◌, [], length, IfErr, IfOk, OnOk, if◌then◌else◌};
+ghost use Rattle.std.specs.Prelude.{◌≡◌, ◌+◌, ◌<◌, ◌^◌, ◌++◌, ◌∷◌, [], length, IfErr, IfOk, OnOk, if◌then◌else◌, ⊤};
 ghost use Rattle.vtl_cell.specs.Outcome.{faults_by, join, unless};
 ghost use Rattle.sql_from.specs.Joins.{fault_of, from_left, numbers_to, pairs_fault, pairs_with, passes};
 ghost use Rattle.sql_from.specs.Seen.{answer_of, seen_of};
 
 use crate::condition::Condition;
+use crate::pairing::Pairing;
 use crate::{Seen, Tuples};
 use std::alloc::Global;
 use vtl_scalar::ScalarErr;
@@ -65,8 +66,7 @@ pub(crate) fn try_tuple<C: Condition>(
     }
 }
 
-// Puts the pairs of one tuple with so many rows behind the tuples, and tells whether there is one. Pairs are found here
-// and nowhere else.
+// Puts the pairs of one tuple with so many rows behind the tuples, and tells whether there is one.
 fn pairs_of<C: Condition>(
     alloc: Global,
     condition: &C,
@@ -90,23 +90,58 @@ fn pairs_of<C: Condition>(
     Ok(met)
 }
 
+/// The rows of a source, each of which is tried.
+#[derive(Drop)]
+pub(crate) struct EachRow<'c, C> {
+    pub(crate) condition: &'c C,
+    pub(crate) count: usize,
+}
+
+impl<'c, C: Condition> Pairing for EachRow<'c, C> {
+    ghost width = { λ e. C.width e.condition.now };
+
+    ghost count = { λ e. e.count };
+
+    ghost value = { λ e. C.value e.condition.now };
+
+    ghost is_sound = { λ _. ⊤ };
+
+    fn width(&self) -> usize {
+        self.condition.width()
+    }
+
+    fn count(&self) -> usize {
+        self.count
+    }
+
+    fn add_pairs(
+        &self,
+        alloc: Global,
+        front: &[usize],
+        so_far: &mut Walked,
+    ) -> Result<bool, ScalarErr> {
+        pairs_of(alloc, self.condition, front, self.count, so_far)
+    }
+}
+
 // Puts what becomes of one left tuple behind the tuples.
-fn left_row<C: Condition>(
+fn left_row<P: Pairing>(
     alloc: Global,
     keeps: bool,
-    condition: &C,
+    pairing: &P,
     front: &[usize],
-    count: usize,
     so_far: &mut Walked,
 ) -> Result<(), ScalarErr>
+    requires sound { P.is_sound pairing.now }
     requires front { length front.now + 1 ≡ so_far.old.rows.width }
-    requires width { C.width condition.now ≡ so_far.old.rows.width }
+    requires width { P.width pairing.now ≡ so_far.old.rows.width }
     ensures width { so_far.new.rows.width ≡ so_far.old.rows.width }
-    ensures rows { OnOk result (so_far.new.rows.tuples ≡ so_far.old.rows.tuples ++ from_left keeps (C.value condition.now) count front.now) }
-    ensures seen { OnOk result (seen_of so_far.new.seen ≡ join (seen_of so_far.old.seen) (faults_by (fault_of (C.value condition.now) front.now) (numbers_to count))) }
+    ensures rows { OnOk result (so_far.new.rows.tuples ≡ so_far.old.rows.tuples ++ from_left keeps (P.value pairing.now) (P.count pairing.now) front.now) }
+    ensures seen { OnOk result (seen_of so_far.new.seen ≡ join (seen_of so_far.old.seen) (faults_by (fault_of (P.value pairing.now) front.now) (numbers_to (P.count pairing.now)))) }
     ensures err { IfErr result (λ e. e ≡ ScalarErr.OutOfMemory) }
 {
-    let met = pairs_of(alloc, condition, front, count, so_far)?;
+    let count = pairing.count();
+    let met = pairing.add_pairs(alloc, front, so_far)?;
     if keeps && !met {
         so_far.rows.push(front, count)?;
     }
@@ -114,32 +149,25 @@ fn left_row<C: Condition>(
 }
 
 // What becomes of all left tuples, and the fault beside the one that was seen before.
-pub(crate) fn left_rows<C: Condition>(
+pub(crate) fn left_rows<P: Pairing>(
     alloc: Global,
     keeps: bool,
-    condition: &C,
+    pairing: &P,
     left: &Walked,
-    count: usize,
 ) -> Result<Walked, ScalarErr>
-    requires { C.width condition.now ≡ left.now.rows.width + 1 }
+    requires sound { P.is_sound pairing.now }
+    requires width { P.width pairing.now ≡ left.now.rows.width + 1 }
     ensures width { IfOk result (λ w. w.rows.width ≡ left.now.rows.width + 1) }
-    ensures rows { IfOk result (λ w. w.rows.tuples ≡ flat_map (from_left keeps (C.value condition.now) count) left.now.rows.tuples) }
-    ensures seen { IfOk result (λ w. seen_of w.seen ≡ join (seen_of left.now.seen) (pairs_fault (C.value condition.now) count left.now.rows.tuples)) }
+    ensures rows { IfOk result (λ w. w.rows.tuples ≡ flat_map (from_left keeps (P.value pairing.now) (P.count pairing.now)) left.now.rows.tuples) }
+    ensures seen { IfOk result (λ w. seen_of w.seen ≡ join (seen_of left.now.seen) (pairs_fault (P.value pairing.now) (P.count pairing.now) left.now.rows.tuples)) }
     ensures err { IfErr result (λ e. e ≡ ScalarErr.OutOfMemory) }
 {
     let mut so_far = Walked {
-        rows: Tuples::new(alloc, condition.width()),
+        rows: Tuples::new(alloc, pairing.width()),
         seen: left.seen,
     };
     for i in 0..left.rows.len() {
-        left_row(
-            alloc,
-            keeps,
-            condition,
-            left.rows.tuple(i),
-            count,
-            &mut so_far,
-        )?;
+        left_row(alloc, keeps, pairing, left.rows.tuple(i), &mut so_far)?;
     }
     Ok(so_far)
 }

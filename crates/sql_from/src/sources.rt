@@ -1,7 +1,7 @@
 // The sources of a select.
 ghost use Rattle.std.specs.List.{AllByRecursion};
 ghost use Rattle.std.specs.Option.{option_map};
-ghost use Rattle.std.specs.Prelude.{◌≡◌, ◌+◌, ◌<◌, ◌≤◌, ◌^◌, ◌++◌, ◌∷◌, [], length, map, slice_get, Some, IfOk, OnOk};
+ghost use Rattle.std.specs.Prelude.{◌≡◌, ◌+◌, ◌<◌, ◌≤◌, ◌^◌, ◌++◌, ◌∷◌, [], length, map, slice_get, Some, IfOk, IfSome, OnOk};
 ghost use Rattle.vtl_cell.specs.Row.{column_of};
 ghost use Rattle.vtl_cell.specs.declared.cell.Cell.TheVariants.{Null};
 ghost use Rattle.vtl_rows.specs.Places.{row_at};
@@ -9,8 +9,10 @@ ghost use Rattle.sql_eval.specs.Scopes.{found, placed};
 ghost use Rattle.sql_eval.specs.TypedSelects.{IsSourceTyped};
 ghost use Rattle.sql_eval.specs.Tables.{column_entry};
 ghost use Rattle.sql_from.specs.Columns.{columns_below, line_feed, source_columns};
-ghost use Rattle.sql_from.specs.Held.{rows_held, tables_held};
+ghost use Rattle.sql_from.specs.Held.{IsHeld, rows_held, tables_held};
 ghost use Rattle.sql_from.specs.Joins.{marks_of};
+ghost use Rattle.sql_from.specs.Keys.{IsSpot, last_of};
+ghost use Rattle.sql_from.specs.Partners.{IsPickOf};
 ghost use Rattle.sql_from.specs.Rows.{combined, picks_at, picks_from, width_of};
 ghost use Rattle.sql_from.specs.Sources.{IsWide, parts_of, scope_held, table_named};
 
@@ -69,7 +71,7 @@ impl<'a> Model for Sources<'a> {
 
     ghost view = { λ s. record { held = s.held.now; sources = map source_of s.sources } };
 
-    ghost invariant = { λ s. AreSources s.sources s.picks.items s.null };
+    ghost invariant = { λ s. AreSources s.held.now s.sources s.picks.items s.null };
 }
 
 // Puts the places of the columns of a source behind others.
@@ -162,10 +164,11 @@ impl<'a> Sources<'a> {
         self.sources.len()
     }
 
-    /// The table of the source at a place.
+    /// The table of the source at a place, which is one of the tables that the program holds.
     pub fn table(&self, i: usize) -> &'a Table
         requires { i < length self.now.sources }
-        ensures { slice_get (parts_of self.now.sources) i ≡ Some result.now }
+        ensures source { slice_get (parts_of self.now.sources) i ≡ Some result.now }
+        ensures held { IsHeld self.now.held result.now }
     {
         let (_, source) = self.sources.at(i);
         source.table
@@ -179,6 +182,14 @@ impl<'a> Sources<'a> {
             Some(table) => table.len(),
             None => 0,
         }
+    }
+
+    // How many rows the table of the last source has.
+    pub(crate) fn last_count(&self) -> usize
+        requires { 0 < length self.now.sources }
+        ensures { result ≡ length (last_of self.now).rows }
+    {
+        self.table(self.len() - 1).len()
     }
 
     // The numbers of missing parts, one for each source.
@@ -230,6 +241,20 @@ impl<'a> Sources<'a> {
     {
         let source = self.sources.get(&column.source)?;
         source.columns.get(&column.name).copied()
+    }
+
+    // Where the cell of a column stands: the place of its source, and that of the column in its table.
+    pub(crate) fn spot(&self, column: &Column) -> Option<Pick>
+        ensures { IfSome result (IsSpot self.now column.now) }
+    {
+        self.picks.get(self.place(column)).copied()
+    }
+
+    // Where the cell at a place of a row of FROM stands.
+    pub(crate) fn pick(&self, place: usize) -> Option<Pick>
+        ensures { IfSome result (IsPickOf self.now place) }
+    {
+        self.picks.get(place).copied()
     }
 
     /// The cell at a place of the row that a tuple of row numbers stands for, whose last number is given apart; past the

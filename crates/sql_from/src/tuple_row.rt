@@ -14,9 +14,9 @@ use vtl_scalar::ScalarErr;
 /// The row of FROM of a tuple of row numbers, one for each source. Its cells are lent, and none is copied.
 #[derive(Clone, Copy)]
 pub struct TupleRow<'a> {
-    sources: &'a Sources<'a>,
-    front: &'a [usize],
-    last: usize,
+    pub(crate) sources: &'a Sources<'a>,
+    pub(crate) front: &'a [usize],
+    pub(crate) last: usize,
     ghost is_whole: { length front.now + 1 ≡ length sources.now.sources },
 }
 

@@ -5,7 +5,7 @@ ghost use Rattle.sql_from.specs.Rows.{combined};
 ghost use Rattle.sql_from.specs.Sources.{parts_of, scope_held};
 ghost use Rattle.sql_from.specs.Standing.{rows_for};
 
-use crate::{Sources, TupleRow, Tuples};
+use crate::{PartneredRow, Partners, Sources, TupleRow, Tuples};
 use std::alloc::{AllocError, Global};
 use vtl_rows::{Table, gather_beside};
 
@@ -45,6 +45,16 @@ impl<'a> TupleRows<'a> {
         ensures row { combined (parts_of result.sources.now.sources) (result.front.now ++ result.last ∷ []) ≡ slice_index_or (rows_for self.now.sources self.now.tuples) i [] }
     {
         TupleRow::whole(&self.sources, self.tuples.tuple(i))
+    }
+
+    /// The row at a place, with look-ups for the EXISTS that are asked at it.
+    pub fn partnered<'p>(&'p self, i: usize, partners: &'p Partners<'p>) -> PartneredRow<'p>
+        requires place { i < length self.now.tuples.tuples }
+        requires same { partners.now ≡ self.now.sources }
+        ensures sources { result.row.sources.now ≡ self.now.sources }
+        ensures row { combined (parts_of result.row.sources.now.sources) (result.row.front.now ++ result.row.last ∷ []) ≡ slice_index_or (rows_for self.now.sources self.now.tuples) i [] }
+    {
+        PartneredRow::at(self.row(i), partners)
     }
 
     /// A table of these rows: the columns of the sources in order, each named by the alias, a line feed and its name.

@@ -21,4 +21,4 @@ mod totals;
 pub use laws::items_are_lifted_to_columns;
 pub use select::push_grouped;
 pub use sql_eval::Plan;
-pub use sql_from::{ExecErr, Seen, Sources, TupleRows, source_rows, source_tuples};
+pub use sql_from::{ExecErr, Partners, Seen, Sources, TupleRows, source_rows, source_tuples};

@@ -29,7 +29,7 @@ add_row-requires-clause-fits c =
     let r = get_or rows i [] in
     let h : i < length rows = omega (arith, c.len-number-end.ensures.rows, c.loop-number-test.true) in
     let fit = holds_at (λ x. fits_kinds (row_of (scope_held s.sources)) x ≡ true) rows i r c.requires.fit h (get_or_default rows i [] r h) in
-    made_fits p s (map item_tree c.args.items.now) c.args.kinds.now c.deref.result.now c.in_ok-resolved.resolved.items c.deref.ensures.value c.in_ok-resolved.ensures c.row.result.sources.now c.row.ensures.sources _ r c.row.ensures.row
+    made_fits p s (map item_tree c.args.items.now) c.args.kinds.now c.deref-in-loop-number.result.now c.in_ok-resolved.resolved.items c.deref-in-loop-number.ensures.value c.in_ok-resolved.ensures c.partnered.result.row.sources.now c.partnered.ensures.sources _ r c.partnered.ensures.row
     c.loop-number.out.table.columns (ap column_kinds c.loop-number.invariant.columns ∙ c.requires.columns) c.requires.plain fit c.requires.fitting
 
 pub loop-number-preserved : goal.loop-number-preserved
@@ -42,7 +42,7 @@ loop-number-preserved c =
     let h : i < length rows = omega (arith, c.len-number-end.ensures.rows, c.loop-number-test.true) in
     let wanted = zip (map item_tree c.args.items.now) c.args.kinds.now in
     let m = one_row (row_fault (item_at_row (sight_of p s)) wanted) (row_at (item_at_row (sight_of p s)) wanted) in
-    let one = made_row p s (map item_tree c.args.items.now) c.args.kinds.now c.deref.result.now c.in_ok-resolved.resolved.items c.deref.ensures.value c.in_ok-resolved.ensures c.row.result.sources.now c.row.ensures.sources _ r c.row.ensures.row in
+    let one = made_row p s (map item_tree c.args.items.now) c.args.kinds.now c.deref-in-loop-number.result.now c.in_ok-resolved.resolved.items c.deref-in-loop-number.ensures.value c.in_ok-resolved.ensures c.partnered.result.row.sources.now c.partnered.ensures.sources _ r c.partnered.ensures.row in
     added_more m rows i r h (get_or_default rows i [] r h) c.args.out.now c.loop-number.out c.add_row.new.self c.loop-number.invariant
     (subst (λ (n : Outcome (List Row)). Adds n c.loop-number.out c.add_row.new.self) one c.in_ok-add_row.ensures.adds)
 

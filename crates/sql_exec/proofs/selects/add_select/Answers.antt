@@ -3,6 +3,8 @@ use Rattle.std.specs.Prelude.{OnOk, zip}
 use Rattle.vtl_cell.specs.Outcome.{Outcome, after}
 use Rattle.vtl_cell.specs.Row.{Row}
 use Rattle.sql_tree.specs.View.{select_tree}
+use Rattle.vtl_rows.specs.Named.{NamedTables}
+use Rattle.sql_groups.specs.Profiles.{IsLawful}
 use Rattle.sql_groups.specs.Queries.{scope_of}
 use Rattle.sql_groups.specs.Scopes.{Scope, row_of}
 use Rattle.sql_groups.specs.Selects.{second_phase, select_value}
@@ -18,7 +20,7 @@ pub add_phase-requires-clause-fit : goal.add_phase-requires-clause-fit
 add_phase-requires-clause-fit c =
     let rows = rows_for c.in-Ok.rows.sources c.in-Ok.rows.tuples in
     subst (λ (scope : Scope). RowsFit (row_of scope) rows) (sym c.in-Ok.ensures.scope)
-    (source_rows_fit (base_held c.args.p.now c.args.tables.now) c.requires.tables (select_tree c.args.select.now) rows c.requires.part.known.typed c.in-Ok.ensures.rows)
+    (source_rows_fit (base_held c.args.p.now c.args.tables.now) c.requires.lawful.fit (select_tree c.args.select.now) rows c.requires.part.known.typed c.in-Ok.ensures.rows)
 
 pub returns-in-Ok-clause-adds : goal.returns-in-Ok-clause-adds
 returns-in-Ok-clause-adds c =
@@ -31,3 +33,6 @@ returns-in-Ok-clause-adds c =
     let same : second_phase (sight_of p sources) wanted s rows ≡ select_value b c.args.kinds.now s =
     (λ i. second_phase (at_rows (base_held p (c.in-Ok.ensures.held i)) (c.in-Ok.ensures.scope i)) wanted s rows) ∙ sym (ap (λ (m : Outcome (List Row)). after m (second_phase (at_rows b (scope_of b.tables s)) wanted s)) c.in-Ok.ensures.rows) in
     subst (λ (m : Outcome (List Row)). OnOk c.add_phase.result (Adds m c.args.out.now c.add_phase.new.out)) same c.add_phase.ensures.adds
+
+pub add_phase-requires-clause-lawful : goal.add_phase-requires-clause-lawful
+add_phase-requires-clause-lawful c = subst (λ (h : NamedTables). IsLawful (base_held c.args.p.now h)) (sym c.in-Ok.ensures.held) c.requires.lawful

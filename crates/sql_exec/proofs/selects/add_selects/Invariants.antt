@@ -5,5 +5,5 @@ use Rattle.sql_groups.specs.Held.{base_held}
 use Rattle.sql_exec.specs.Outputs.{Adds}
 use Rattle.sql_exec.proofs.selects.add_selects.Given as goal
 
-abbrev pub invariant-loop-select : goal.invariant-loop-select
-invariant-loop-select l = Adds (appended (map (λ s. select_value (base_held l.p l.tables) l.kinds (select_tree s)) (take l.select-index l.selects))) l.fn.out l.out
+abbrev pub invariant-loop-place : goal.invariant-loop-place
+invariant-loop-place l = Adds (appended (map (λ s. select_value (base_held l.p l.tables) l.kinds (select_tree s)) (take l.place l.selects))) l.fn.out l.out

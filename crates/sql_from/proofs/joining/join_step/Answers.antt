@@ -18,16 +18,17 @@ without_unmet kind marks count made now then e is k = is ∙ e ∙ sym (append-n
 
 pub returns-clause-rows : goal.returns-clause-rows
 returns-clause-rows g c =
-    let f = g.C.Condition.value c.args.condition.now in
+    let f = g.P.Pairing.value c.args.pairing.now in
+    let n = g.P.Pairing.count c.args.pairing.now in
     let kind = c.args.kind in
     let tuples = c.args.left.now.rows.tuples in
-    let made = flat_map (from_left (keeps_left kind) f c.args.count) tuples in
-    let is : c.in_ok-so_far.so_far.rows.tuples ≡ made = made_by f c.args.count tuples c.keeps_left.result (keeps_left kind) c.in_ok-so_far.so_far.rows.tuples c.in_ok-so_far.ensures.rows c.keeps_left.ensures in
-    let all : c.if-keeps_right.so_far.rows.tuples ≡ made ++ cond (keeps_right kind) (added c.args.marks.now c.args.count made) [] =
+    let made = flat_map (from_left (keeps_left kind) f n) tuples in
+    let is : c.in_ok-so_far.so_far.rows.tuples ≡ made = made_by f n tuples c.keeps_left.result (keeps_left kind) c.in_ok-so_far.so_far.rows.tuples c.in_ok-so_far.ensures.rows c.keeps_left.ensures in
+    let all : c.if-keeps_right.so_far.rows.tuples ≡ made ++ cond (keeps_right kind) (added c.args.marks.now n made) [] =
     elim c.if-keeps_right.branch [
-      | then-keeps_right+in_ok-add_unmet w ↦ with_unmet kind c.args.marks.now c.args.count made c.in_ok-so_far.so_far.rows.tuples c.if-keeps_right.so_far.rows.tuples is
-          (ap (λ t. t.rows.tuples) w.so_far-is ∙ w.in_ok-add_unmet.ensures.rows) (sym c.keeps_right.ensures ∙ w.if-keeps_right.true)
-      | else-keeps_right w ↦ without_unmet kind c.args.marks.now c.args.count made c.in_ok-so_far.so_far.rows.tuples c.if-keeps_right.so_far.rows.tuples is
+      | then-keeps_right+in_ok-add_unmet w ↦ with_unmet kind c.args.marks.now n made c.in_ok-so_far.so_far.rows.tuples c.if-keeps_right.so_far.rows.tuples is
+          (ap (λ t. t.rows.tuples) w.so_far-is ∙ w.in_ok-add_unmet.ensures.rows ∙ ap (λ m. c.in_ok-so_far.so_far.rows.tuples ++ added c.args.marks.now m c.in_ok-so_far.so_far.rows.tuples) w.count.ensures) (sym c.keeps_right.ensures ∙ w.if-keeps_right.true)
+      | else-keeps_right w ↦ without_unmet kind c.args.marks.now n made c.in_ok-so_far.so_far.rows.tuples c.if-keeps_right.so_far.rows.tuples is
           (ap (λ t. t.rows.tuples) w.so_far-is) (sym c.keeps_right.ensures ∙ w.if-keeps_right.false)
     ] in
-    all ∙ sym (joined_is kind f c.args.marks.now c.args.count tuples)
+    all ∙ sym (joined_is kind f c.args.marks.now n tuples)

@@ -8,6 +8,6 @@ use Rattle.sql_from.proofs.pairs.left_rows.Given as goal
 abbrev pub invariant-loop-i : goal.invariant-loop-i
 invariant-loop-i g l = record {
   width : l.so_far.rows.width ≡ l.left.rows.width + 1;
-  rows : l.so_far.rows.tuples ≡ flat_map (from_left l.keeps (g.C.Condition.value l.condition) l.count) (take l.i l.left.rows.tuples);
-  seen : seen_of l.so_far.seen ≡ join (seen_of l.left.seen) (pairs_fault (g.C.Condition.value l.condition) l.count (take l.i l.left.rows.tuples));
+  rows : l.so_far.rows.tuples ≡ flat_map (from_left l.keeps (g.P.Pairing.value l.pairing) (g.P.Pairing.count l.pairing)) (take l.i l.left.rows.tuples);
+  seen : seen_of l.so_far.seen ≡ join (seen_of l.left.seen) (pairs_fault (g.P.Pairing.value l.pairing) (g.P.Pairing.count l.pairing) (take l.i l.left.rows.tuples));
 }

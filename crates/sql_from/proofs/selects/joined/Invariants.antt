@@ -5,8 +5,8 @@ use Rattle.sql_from.specs.Seen.{seen_of}
 use Rattle.sql_from.proofs.Standing.{Left}
 use Rattle.sql_from.proofs.selects.joined.Given as goal
 
-abbrev pub invariant-loop-join : goal.invariant-loop-join
-invariant-loop-join l = record {
+abbrev pub invariant-loop-place : goal.invariant-loop-place
+invariant-loop-place l = record {
   held : l.so_far.sources.held ≡ l.tables;
-  left : Left (base_held l.p l.tables) (select_tree l.select) (map join_tree (drop l.join-index l.select.joins)) l.so_far.sources l.so_far.walked.rows (seen_of l.so_far.walked.seen);
+  left : Left (base_held l.p l.tables) (select_tree l.select) (map join_tree (drop l.place l.select.joins)) l.so_far.sources l.so_far.walked.rows (seen_of l.so_far.walked.seen);
 }

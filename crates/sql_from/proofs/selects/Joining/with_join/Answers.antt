@@ -1,18 +1,21 @@
-use Rattle.std.proofs.Common.{◌≡◌, ◌∙◌, ap, subst, sym}
+use Rattle.std.proofs.Common.{◌≡◌, ◌∙◌, ap, length, subst, sym}
 use Rattle.std.specs.List.{AllByRecursion}
 use Rattle.vtl_cell.specs.Outcome.{join}
 use Rattle.sql_tree.specs.Trees as tree
 use Rattle.sql_tree.specs.Trees.{JoinTree}
 use Rattle.sql_tree.specs.View.{expr_tree, join_tree}
+use Rattle.vtl_rows.specs.Named.{NamedTables}
+use Rattle.sql_eval.specs.Profiles.{IsLawful}
 use Rattle.sql_eval.specs.Queries.{join_source}
 use Rattle.sql_eval.specs.TypedSelects.{IsSourceTyped}
 use Rattle.sql_eval.specs.From.{with_join}
 use Rattle.sql_from.specs.Held.{base_held, tables_held}
 use Rattle.sql_from.specs.Joins.{joined_tuples, pairs_fault}
+use Rattle.sql_from.specs.Keys.{last_of}
 use Rattle.sql_from.specs.Seen.{seen_of}
 use Rattle.sql_from.specs.Sources.{IsWide, Sourced, parts_of, scope_held}
 use Rattle.sql_from.specs.Standing.{StandsFor, condition_at}
-use Rattle.sql_from.proofs.Standing.{cross_stands, on_stands, with_table}
+use Rattle.sql_from.proofs.Standing.{cross_stands, last_counted, on_stands, with_table}
 use Rattle.sql_from.proofs.selects.Joining.with_join.Goals as goal
 
 pub returns-in-On-clause-stands : goal.returns-in-On-clause-stands
@@ -32,10 +35,10 @@ returns-in-On-clause-stands c =
     λ f before.
     subst (λ (j : JoinTree). StandsFor (with_join (base_held p s.held) f j) new walked.rows (seen_of walked.seen)) (sym joining)
     (subst (λ (z : Sourced). StandsFor (with_join (base_held p s.held) f (tree.on c.in-On.kind source e)) z walked.rows (seen_of walked.seen)) (sym is)
-    (on_stands s source typed p t (seen_of c.args.self.walked.seen) f before wide c.count_of-count.result c.count_of-count.ensures c.in-On.kind e c.deref.result.now walked.rows (seen_of walked.seen) marks
+    (on_stands s source typed p t (seen_of c.args.self.walked.seen) f before wide (length (last_of (with_table s source)).rows) (last_counted s source typed) c.in-On.kind e c.deref.result.now walked.rows (seen_of walked.seen) marks
     c.in_ok-walked-in-On.ensures.width
-    (c.in_ok-walked-in-On.ensures.rows ∙ ap (λ (z : Sourced). joined_tuples c.in-On.kind (condition_at p z e) c.deref.result.now c.count_of-count.result t.tuples) is)
-    (c.in_ok-walked-in-On.ensures.seen ∙ ap (λ (z : Sourced). join (seen_of c.args.self.walked.seen) (pairs_fault (condition_at p z e) c.count_of-count.result t.tuples)) is)))
+    (c.in_ok-walked-in-On.ensures.rows ∙ ap (λ (z : Sourced). joined_tuples c.in-On.kind (condition_at p z e) c.deref.result.now (length (last_of z).rows) t.tuples) is)
+    (c.in_ok-walked-in-On.ensures.seen ∙ ap (λ (z : Sourced). join (seen_of c.args.self.walked.seen) (pairs_fault (condition_at p z e) (length (last_of z).rows) t.tuples)) is)))
 
 pub returns-clause-stands : goal.returns-clause-stands
 returns-clause-stands c =
@@ -52,5 +55,8 @@ returns-clause-stands c =
     λ f before.
     subst (λ (j : JoinTree). StandsFor (with_join (base_held p s.held) f j) new walked.rows (seen_of walked.seen)) (sym joining)
     (subst (λ (z : Sourced). StandsFor (with_join (base_held p s.held) f (tree.cross source)) z walked.rows (seen_of walked.seen)) (sym is)
-    (cross_stands s source typed p t (seen_of c.args.self.walked.seen) f before wide c.count_of-count-in-Cross.result c.count_of-count-in-Cross.ensures walked.rows (seen_of walked.seen)
+    (cross_stands s source typed p t (seen_of c.args.self.walked.seen) f before wide c.count_of-count.result c.count_of-count.ensures walked.rows (seen_of walked.seen)
     c.in_ok-walked-in-Cross.ensures.width c.in_ok-walked-in-Cross.ensures.rows c.in_ok-walked-in-Cross.ensures.seen))
+
+pub joined_on-requires-clause-lawful : goal.joined_on-requires-clause-lawful
+joined_on-requires-clause-lawful c e = subst (λ (h : NamedTables). IsLawful (base_held c.args.p.now h)) (sym c.in_ok-sources-in-On.ensures.held) (c.requires.lawful e)

@@ -45,4 +45,4 @@ returns-after-pick-front c =
       | then-pick-front w ↦ w.number-is ∙ front_number x last pick.part w.if-pick-front.true
       | else-pick-front w ↦ w.number-is ∙ last_number x last pick.part w.if-pick-front.false (omega (arith, h, whole))
     ] in
-    c.cell_of.ensures ∙ cell_there (parts_of ss) picks are x last c.args.place whole pick got c.table.result.now c.if-pick-front.number c.table.ensures n
+    c.cell_of.ensures ∙ cell_there (parts_of ss) picks are x last c.args.place whole pick got c.table.result.now c.if-pick-front.number c.table.ensures.source n

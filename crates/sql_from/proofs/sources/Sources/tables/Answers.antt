@@ -10,4 +10,4 @@ loop-i-preserved c =
     let i = c.loop-i.i in
     let t = c.table.result in
     ap (map (λ u. u.now)) c.in_ok-push.ensures.items ∙ map-append (λ u. u.now) c.loop-i.tables.items (t ∷ []) ∙ ap (λ l. l ++ t.now ∷ []) c.loop-i.invariant
-    ∙ sym (take_got parts i t.now c.table.ensures)
+    ∙ sym (take_got parts i t.now c.table.ensures.source)

@@ -8,8 +8,8 @@ use Rattle.vtl_cell.specs.Texts.{same_text}
 use Rattle.vtl_rows.specs.Named.{table_of}
 use Rattle.vtl_rows.specs.declared.gather.Pick.{Pick}
 use Rattle.vtl_rows.specs.declared.column.Column.{Column}
-use Rattle.sql_eval.specs.Tables.{column_entry}
-use Rattle.sql_from.specs.Held.{columns_held}
+use Rattle.sql_eval.specs.Tables.{column_entry, rows_of}
+use Rattle.sql_from.specs.Held.{IsHeld, columns_held}
 use Rattle.sql_from.specs.Rows.{picks_from, picks_at, width_of}
 use Rattle.sql_from.specs.Sources.{AreFound, AreSited, IsWide, parts_of, scope_held, source_of, table_named}
 use Rattle.sql_from.specs.declared.sources.SourceTable.{SourceTable}
@@ -36,6 +36,8 @@ invariant_of-result c =
     let ss = c.self.inside.sources in
     let table = c.unwrap-table.result in
     let alias = c.in_ok-share.field-0 in
+    let held = c.self.inside.held.now in
+    let there : Some table.now ≡ table_of c.args.source.now.table held = ap option_copied (sym c.unwrap-table.ensures) ∙ c.get.ensures in
     let now : SourceTable = record { table = table; columns = c.in_ok-columns.columns } in
     let parts = parts_of (map source_of ss) in
     let made : c.put.new.self ≡ ss ++ (alias, now) ∷ [] = c.in_ok-put.ensures.put in
@@ -54,5 +56,6 @@ invariant_of-result c =
       sited = subst (AreSited 0) (sym made) sited;
       picked = picked ∙ ap (picks_from 0) (sym shown) ∙ ap (λ l. picks_from 0 (parts_of (map source_of l))) (sym made);
       wide = subst (λ l. AllByRecursion IsWide (parts_of (map source_of l))) (sym made) (subst (AllByRecursion IsWide) (sym shown) rows);
+      among = subst (λ l. AllByRecursion (IsHeld held) (parts_of (map source_of l))) (sym made) (subst (AllByRecursion (IsHeld held)) (sym shown) (all_last (IsHeld held) parts table.now c.self.invariant.among (c.args.source.now.table, ap rows_of there)));
       null = c.self.invariant.null;
     }

@@ -1,0 +1,8 @@
+use Rattle.std.proofs.Common.{subst, sym}
+use Rattle.sql_groups.specs.Held.{base_held}
+use Rattle.sql_groups.specs.Profiles.{IsLawful}
+use Rattle.sql_groups.specs.Sources.{Sourced}
+use Rattle.sql_exec.proofs.selects.item_partners.Goals as goal
+
+pub with-requires : goal.with-requires
+with-requires c = subst (λ (s : Sourced). IsLawful (base_held c.args.p.now s.held)) (sym c.loop-item.invariant) c.requires

@@ -1,0 +1,6 @@
+use Rattle.std.proofs.Common.{◌≡◌, take}
+use Rattle.sql_from.specs.Keys.{own_columns}
+use Rattle.sql_from.proofs.key_pairs.own_columns.Given as goal
+
+abbrev pub invariant-loop-key : goal.invariant-loop-key
+invariant-loop-key l = l.columns.items ≡ own_columns (take l.key-index l.keys)

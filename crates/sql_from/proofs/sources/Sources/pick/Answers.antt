@@ -1,0 +1,12 @@
+use Rattle.std.proofs.Common.{◌≡◌, ◌∙◌, ap}
+use Rattle.sql_from.specs.Rows.{picks_from}
+use Rattle.sql_from.specs.Sources.{parts_of}
+use Rattle.sql_from.proofs.Spots.{got_copied, pick_is}
+use Rattle.sql_from.proofs.sources.Sources.pick.Goals as goal
+
+pub returns : goal.returns
+returns c =
+    let picks = c.deref.result.now in
+    let are : picks ≡ picks_from 0 (parts_of c.args.self.now.sources) = c.deref.ensures.value ∙ c.self.invariant.picked ∙ ap (λ s. picks_from 0 (parts_of s.sources)) c.self.view_is in
+    let h = c.get.ensures.lookup in
+    pick_is c.args.self.now picks c.args.place c.copied.result are (c.copied.ensures ∙ got_copied c.get.result picks c.args.place h.1 h.3)

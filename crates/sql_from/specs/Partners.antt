@@ -1,0 +1,36 @@
+-- EXISTS by a look-up, which is made once for a select.
+use Rattle.std.specs.Prelude.{◌≡◌, ℕ, ◌+◌, ◌<◌, ◌==◌, not, List, length, slice_index}
+use Rattle.std.specs.List.{list_all}
+use Rattle.vtl_cell.specs.Row.{Row, column_of}
+use Rattle.vtl_cell.specs.Settings.{Settings}
+use Rattle.vtl_rows.specs.Gathered.{picked_cell}
+use Rattle.vtl_rows.specs.declared.gather.Pick.{Pick}
+use Rattle.sql_eval.specs.Placed.{has_partner, is_tied}
+use Rattle.sql_eval.specs.declared.resolved.Tie.{Tie}
+use Rattle.sql_from.specs.Held.{rows_held}
+use Rattle.sql_from.specs.Joins.{with_number}
+use Rattle.sql_from.specs.Keys.{all_paired, is_paired, row_in}
+use Rattle.sql_from.specs.Lookups.{found_by}
+use Rattle.sql_from.specs.Rows.{combined}
+use Rattle.sql_from.specs.Sources.{Sourced, parts_of}
+use Rattle.sql_from.specs.declared.key_pairs.KeyPair.{KeyPair}
+use Rattle.sql_from.specs.declared.partner_index.PartnerIndex.{PartnerIndex}
+
+-- The column of a source at a place whose cell stands at a place of each row of FROM.
+pub record IsPickOf (s : Sourced) (place : ℕ) (pick : Pick) : Type 0 where
+  pub within : pick.part < length s.sources
+  pub cell : (front : List ℕ) (last : ℕ) → length front + 1 ≡ length s.sources → column_of place (combined (parts_of s.sources) (with_number front last)) ≡ picked_cell (parts_of s.sources) (with_number front last) pick
+
+-- an equality of EXISTS is that of a pair of columns
+pub record IsTiedBy (s : Sourced) (lead : ℕ) (tie : Tie) (k : KeyPair) : Type 0 where
+  pub same : (p : Settings) (inner : Row) (front : List ℕ) (last : ℕ) → length front + 1 ≡ length s.sources → is_tied p (combined (parts_of s.sources) (with_number front last)) inner tie ≡ is_paired p inner (row_in s lead (with_number front last)) k
+
+abbrev pub AreTiedBy : Sourced → ℕ → List Tie → List KeyPair → Type 0
+AreTiedBy s lead ties keys = (p : Settings) (inner : Row) (front : List ℕ) (last : ℕ) → length front + 1 ≡ length s.sources
+    → list_all (is_tied p (combined (parts_of s.sources) (with_number front last)) inner) ties ≡ all_paired p inner (row_in s lead (with_number front last)) keys
+
+-- at each row of FROM a look-up finds whether EXISTS is true
+pub record Answers (s : Sourced) (x : PartnerIndex) : Type 0 where
+  pub lead : x.keys.lead < length s.sources
+  pub has : (front : List ℕ) (last : ℕ) → length front + 1 ≡ length s.sources
+      → has_partner x.p (rows_held s.held) x.table x.ties.items (combined (parts_of s.sources) (with_number front last)) ≡ not (length (found_by x.keys (slice_index (with_number front last) x.keys.lead)) == 0)

@@ -1,0 +1,151 @@
+// The columns of two sources that a condition equates.
+ghost use Rattle.std.specs.Prelude.{◌≡◌, ◌+◌, ◌<◌, true, IfOk, IfSome, length, map};
+ghost use Rattle.vtl_cell.specs.declared.operator.ScalarOp.TheVariants as op;
+ghost use Rattle.sql_tree.specs.Trees as tree;
+ghost use Rattle.sql_tree.specs.View.{expr_tree};
+ghost use Rattle.sql_from.specs.Keys.{ArePaired, IsPairOf, asked_columns, own_columns};
+
+use crate::Sources;
+use sql_tree::{Column, SqlExpr};
+use std::alloc::{AllocError, Global};
+use vtl_cell::ScalarOp;
+use vtl_index::{KeyColumn, KeyForm};
+
+/// A column of the last source and one of the source that leads, whose cells are equated.
+#[derive(Clone, Copy)]
+pub(crate) struct KeyPair {
+    pub(crate) own: usize,
+    pub(crate) asked: usize,
+}
+
+// The pair that an equality of two columns makes, if these are of the last source and of the one that leads.
+fn key_pair(sources: &Sources<'_>, lead: usize, x: &Column, y: &Column) -> Option<KeyPair>
+    requires { lead + 1 < length sources.now.sources }
+    ensures { IfSome result (IsPairOf sources.now lead x.now y.now) }
+{
+    let a = sources.spot(x)?;
+    let b = sources.spot(y)?;
+    let last = sources.len() - 1;
+    if a.part == last && b.part == lead {
+        Some(KeyPair {
+            own: a.column,
+            asked: b.column,
+        })
+    } else if b.part == last && a.part == lead {
+        Some(KeyPair {
+            own: b.column,
+            asked: a.column,
+        })
+    } else {
+        None
+    }
+}
+
+// Puts the pair of an equality of two columns behind others, and tells whether it is such a one.
+fn push_pair(
+    keys: &mut Vec<KeyPair>,
+    sources: &Sources<'_>,
+    lead: usize,
+    left: &SqlExpr,
+    right: &SqlExpr,
+) -> Result<bool, AllocError>
+    requires { lead + 1 < length sources.now.sources }
+    ensures { IfOk result (λ b. b ≡ true → ArePaired sources.now lead (tree.binary (expr_tree left.now) op.Equal (expr_tree right.now)) keys.old.items keys.new.items) }
+{
+    match (left, right) {
+        (SqlExpr::Column(x), SqlExpr::Column(y)) => match key_pair(sources, lead, x, y) {
+            Some(pair) => {
+                keys.push(pair)?;
+                Ok(true)
+            }
+            None => Ok(false),
+        },
+        _ => Ok(false),
+    }
+}
+
+/// Puts the pairs of columns that a condition equates behind others, and tells whether it is a conjunction of such
+/// equalities alone. It fails only if memory runs out.
+#[cycle(paired)]
+pub(crate) fn push_pairs(
+    keys: &mut Vec<KeyPair>,
+    sources: &Sources<'_>,
+    lead: usize,
+    condition: &SqlExpr,
+) -> Result<bool, AllocError>
+    requires { lead + 1 < length sources.now.sources }
+    ensures { IfOk result (λ b. b ≡ true → ArePaired sources.now lead (expr_tree condition.now) keys.old.items keys.new.items) }
+{
+    match condition {
+        SqlExpr::Binary { left, op, right } => match op {
+            ScalarOp::And => Ok(
+                push_pairs(keys, sources, lead, left)? && push_pairs(keys, sources, lead, right)?,
+            ),
+            ScalarOp::Equal => push_pair(keys, sources, lead, left, right),
+            _ => Ok(false),
+        },
+        _ => Ok(false),
+    }
+}
+
+// The lesser of the places of the sources of two columns.
+fn first_source(sources: &Sources<'_>, left: &SqlExpr, right: &SqlExpr) -> Option<usize>
+    ensures { IfSome result (λ n. n < length sources.now.sources) }
+{
+    match (left, right) {
+        (SqlExpr::Column(x), SqlExpr::Column(y)) => {
+            let a = sources.spot(x)?;
+            let b = sources.spot(y)?;
+            Some(a.part.min(b.part))
+        }
+        _ => None,
+    }
+}
+
+/// The source that the first equality of a conjunction asks for a cell, if there is one.
+#[cycle(leads)]
+pub(crate) fn lead_of(sources: &Sources<'_>, condition: &SqlExpr) -> Option<usize>
+    ensures { IfSome result (λ n. n < length sources.now.sources) }
+{
+    match condition {
+        SqlExpr::Binary {
+            left,
+            op: ScalarOp::And,
+            ..
+        } => lead_of(sources, left),
+        SqlExpr::Binary {
+            left,
+            op: ScalarOp::Equal,
+            right,
+        } => first_source(sources, left, right),
+        _ => None,
+    }
+}
+
+/// The columns of the last source, for an index. It fails only if memory runs out.
+pub(crate) fn own_columns(alloc: Global, keys: &[KeyPair]) -> Result<Vec<KeyColumn>, AllocError>
+    ensures { IfOk result (λ v. v.items ≡ own_columns keys.now) }
+{
+    let mut columns = Vec::with_capacity(alloc, keys.len())?;
+    for key in keys {
+        columns.push(KeyColumn {
+            column: key.own,
+            form: KeyForm::AsNumber,
+        })?;
+    }
+    Ok(columns)
+}
+
+/// The columns of the source that leads, for what an index is asked. It fails only if memory runs out.
+pub(crate) fn asked_columns(alloc: Global, keys: &[KeyPair]) -> Result<Vec<KeyColumn>, AllocError>
+    ensures { IfOk result (λ v. v.items ≡ asked_columns keys.now) }
+{
+    let mut columns = Vec::with_capacity(alloc, keys.len())?;
+    for key in keys {
+        columns.push(KeyColumn {
+            column: key.asked,
+            form: KeyForm::AsNumber,
+        })?;
+    }
+    Ok(columns)
+}

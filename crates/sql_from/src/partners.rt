@@ -1,0 +1,149 @@
+// The EXISTS of a select, asked by look-ups that are made once.
+ghost use Rattle.std.specs.List.{AllByRecursion};
+ghost use Rattle.std.specs.Prelude.{◌≡◌, ◌+◌, ◌<◌, ◌++◌, ◌∷◌, [], IfOk, IfSome, length, OnOk};
+ghost use Rattle.sql_eval.specs.Placed.{has_partner};
+ghost use Rattle.sql_eval.specs.Profiles.{IsLawful};
+ghost use Rattle.sql_from.specs.Held.{base_held, rows_held};
+ghost use Rattle.sql_from.specs.Joins.{with_number};
+ghost use Rattle.sql_from.specs.Partners.{Answers};
+ghost use Rattle.sql_from.specs.Rows.{combined};
+ghost use Rattle.sql_from.specs.Sources.{parts_of};
+
+use crate::Sources;
+use crate::partner_index::PartnerIndex;
+use sql_eval::{Existence, Resolved};
+use std::alloc::{AllocError, Global};
+use std::marker::Model;
+use vtl_cell::Profile;
+
+/// The sources of a select, and look-ups for the EXISTS of its expressions, made once for all rows. A contract sees the
+/// sources.
+pub struct Partners<'a> {
+    sources: &'a Sources<'a>,
+    indexes: Vec<PartnerIndex<'a>>,
+}
+
+// Written out, so that a proof above sees one call and not the drop of each part.
+impl Drop for Partners<'_> {
+    fn drop(self) {
+        let Partners {
+            sources: _,
+            indexes: _indexes,
+        } = self;
+    }
+}
+
+impl<'a> Model for Partners<'a> {
+    ghost use Rattle.std.specs.List.{AllByRecursion};
+    ghost use Rattle.sql_from.specs.Partners.{Answers};
+    ghost use Rattle.sql_from.specs.Sources.{Sourced};
+
+    ghost Value = { Sourced };
+
+    ghost view = { λ x. x.sources.now };
+
+    ghost invariant = { λ x. AllByRecursion (Answers x.sources.now) x.indexes.items };
+}
+
+// Puts the look-up for an EXISTS behind others, where there can be one.
+fn push_index<'a>(
+    alloc: Global,
+    indexes: &mut Vec<PartnerIndex<'a>>,
+    sources: &Sources<'a>,
+    test: &Existence,
+    p: &Profile,
+) -> Result<(), AllocError>
+    requires lawful { IsLawful (base_held p.now sources.now.held) }
+    requires before { AllByRecursion (Answers sources.now) indexes.old.items }
+    ensures { OnOk result (AllByRecursion (Answers sources.now) indexes.new.items) }
+{
+    if let Some(index) = PartnerIndex::of(alloc, sources, test, p)? {
+        indexes.push(index)?;
+    }
+    Ok(())
+}
+
+// Puts the look-ups for the EXISTS of an expression behind others.
+#[cycle(indexed)]
+fn push_indexes<'a>(
+    alloc: Global,
+    indexes: &mut Vec<PartnerIndex<'a>>,
+    sources: &Sources<'a>,
+    e: &Resolved,
+    p: &Profile,
+) -> Result<(), AllocError>
+    requires lawful { IsLawful (base_held p.now sources.now.held) }
+    requires before { AllByRecursion (Answers sources.now) indexes.old.items }
+    ensures { OnOk result (AllByRecursion (Answers sources.now) indexes.new.items) }
+{
+    match e {
+        Resolved::Exists(test) => push_index(alloc, indexes, sources, test, p),
+        Resolved::Membership { operand, .. } => push_indexes(alloc, indexes, sources, operand, p),
+        Resolved::Apply { args, .. } => {
+            for arg in args {
+                push_indexes(alloc, indexes, sources, arg, p)?;
+            }
+            Ok(())
+        }
+        Resolved::Choose { branches, .. } => {
+            for branch in branches {
+                push_indexes(alloc, indexes, sources, &branch.condition, p)?;
+                push_indexes(alloc, indexes, sources, &branch.value, p)?;
+            }
+            Ok(())
+        }
+        _ => Ok(()),
+    }
+}
+
+impl<'a> Partners<'a> {
+    /// No look-ups over the sources of a select.
+    pub fn none(alloc: Global, sources: &'a Sources<'a>) -> Partners<'a>
+        ensures { result ≡ sources.now }
+    {
+        Partners {
+            sources,
+            indexes: Vec::new(alloc),
+        }
+    }
+
+    /// With look-ups for the EXISTS of an expression: one for each whose equalities each tie a column of its table and
+    /// one of a source, which is the same for all of them. It fails only if memory runs out.
+    pub fn with(self, alloc: Global, e: &Resolved, p: &Profile) -> Result<Partners<'a>, AllocError>
+        requires { IsLawful (base_held p.now self.held) }
+        ensures { IfOk result (λ x. x ≡ self.entry) }
+    {
+        let Partners { sources, indexes } = self;
+        let mut indexes = indexes;
+        push_indexes(alloc, &mut indexes, sources, e, p)?;
+        Ok(Partners { sources, indexes })
+    }
+
+    /// The sources.
+    pub fn sources(&self) -> &'a Sources<'a>
+        ensures { result.now ≡ self.now }
+    {
+        self.sources
+    }
+
+    /// Whether a row of the table of EXISTS makes each of its equalities true, at the row of FROM of a tuple whose last
+    /// number is given apart; none where there is no look-up for it. It takes no memory.
+    pub(crate) fn answer(
+        &self,
+        test: &Existence,
+        front: &[usize],
+        last: usize,
+        p: &Profile,
+    ) -> Option<bool>
+        requires { length front.now + 1 ≡ length self.now.sources }
+        ensures { IfSome result (λ b. b ≡ has_partner p.now (rows_held self.now.held) test.now.table test.now.ties.items (combined (parts_of self.now.sources) (with_number front.now last))) }
+    {
+        for i in 0..self.indexes.len() {
+            let index = &self.indexes[i];
+            if index.is_for(test, p) {
+                return Some(index.has(front, last));
+            }
+        }
+        None
+    }
+}
