@@ -1,0 +1,8 @@
+pub mod CallLemmas
+pub mod FrameLemmas
+pub mod OrderLemmas
+pub mod PartitionLemmas
+pub mod PutLemmas
+pub mod RankLemmas
+pub mod StandLemmas
+pub mod StretchLemmas
