@@ -10,6 +10,11 @@
 
 mod analysis;
 mod call;
+mod frames;
+mod keys;
+mod lane;
+mod partition;
+mod putting_back;
 mod values;
 
 pub use analysis::analytic;
