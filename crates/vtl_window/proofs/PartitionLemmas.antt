@@ -86,8 +86,11 @@ point_wide [] (v ∷ r) h = cc
 point_wide (x ∷ xs) [] h = cc
 point_wide (x ∷ xs) (v ∷ r) h = ap suc (point_wide xs r (and_parts (is_of x.kind v && not (same_role x.role role.Identifier && is_null v)) (is_point xs r) h).1)
 
-pub points_wide : (d : DataSet) → IsDataSet d.structure d.points → All (λ r. length r ≡ length (columns_of d.structure)) d.points
-points_wide d h = All-from_recursion d.points (all_more (λ r. is_point (columns_of d.structure) r ≡ true) (λ r. length r ≡ length (columns_of d.structure)) (λ r. point_wide (columns_of d.structure) r) d.points h.typed)
+pub points_wide_each : (d : DataSet) → IsDataSet d.structure d.points → AllByRecursion (λ r. length r ≡ length (columns_of d.structure)) d.points
+points_wide_each d h = all_more (λ r. is_point (columns_of d.structure) r ≡ true) (λ r. length r ≡ length (columns_of d.structure)) (λ r. point_wide (columns_of d.structure) r) d.points h.typed
+
+points_wide : (d : DataSet) → IsDataSet d.structure d.points → All (λ r. length r ≡ length (columns_of d.structure)) d.points
+points_wide d h = All-from_recursion (λ r. length r ≡ length (columns_of d.structure)) d.points (points_wide_each d h)
 
 -- ---- orders
 not_false : (b : Bool) → not b ≡ true → b ≡ false

@@ -26,6 +26,10 @@ last_of : {X : Type 0} (xs : List X) (x d : X) → get_or (xs ++ x ∷ []) (leng
 last_of [] x d = refl
 last_of (y ∷ xs) x d = last_of xs x d
 
+pub none_left : {X : Type 0} (xs : List X) → length xs ≡ 0 → xs ≡ []
+none_left [] h = refl
+none_left (x ∷ xs) h = absurd (omega (arith, h))
+
 first_take : {X : Type 0} (n : ℕ) (xs : List X) → take n (take (suc n) xs) ≡ take n xs
 first_take zero xs = refl
 first_take (suc n) [] = refl
@@ -113,3 +117,8 @@ module _ (sorted : List (Outcome Cell)) (places : List ℕ) (all : IsPermutation
     where
       number : (k : ℕ) → k < length sorted → get_or (range_with_len 0 (length sorted)) k 0 ≡ k
       number k l = get_or-range_with_len 0 (length sorted) k 0 l ∙ omega arith
+
+-- ---- as many values as points
+pub values_many : (n : ℕ) (places : List ℕ) (sorted : List (Outcome Cell)) (f : ℕ → Outcome Cell) → IsPermutation (range_with_len 0 n) places → sorted ≡ map f places → length sorted ≡ n
+values_many n places sorted f all e =
+    ap length e ∙ length-map places f ∙ sym (length-Perm (Perm-from_IsPermutation (range_with_len 0 n) places all)) ∙ length-range_with_len 0 n

@@ -1,5 +1,5 @@
 -- Where stretches begin and end, by the list of their starts.
-use Rattle.std.proofs.Common.{◌≡◌, ℕ, zero, suc, ◌+◌, ◌<◌, ◌≤◌, ◌⊎◌, inl, inr, List, [], ◌∷◌, length, get_or, Bool, true, false, cond, refl, sym, ap, ◌∙◌, arith, true≢false, subst}
+use Rattle.std.proofs.Common.{◌≡◌, ℕ, zero, suc, ◌+◌, ◌<◌, ◌≤◌, ◌⊎◌, inl, inr, List, [], ◌∷◌, length, get_or, take, drop, ◌++◌, ◌-◌, Bool, true, false, cond, refl, sym, ap, ◌∙◌, arith, true≢false, subst}
 use Rattle.std.specs.Prelude.{filter}
 use Rattle.std.specs.List.{range_with_len}
 use Rattle.vtl_rows.specs.Runs.{is_start}
@@ -78,6 +78,24 @@ module _ (p : ℕ → Bool) where
       go true f (suc j) k ih = ih j (omega (arith, k))
       go false f j k ih = ih j k
 
+abbrev nothing : (X : Type 0) → List X
+nothing X = []
+
+take_nothing : {X : Type 0} (n : ℕ) → take n (nothing X) ≡ nothing X
+take_nothing zero = refl
+take_nothing (suc n) = refl
+
+-- a front and a part behind it are a front
+pub cut_take : {X : Type 0} (s e : ℕ) (xs : List X) → s ≤ e → take s xs ++ take (e - s) (drop s xs) ≡ take e xs
+cut_take zero e xs h =
+    let all : e - 0 ≡ e = omega arith in
+    ap (λ n. take n xs) all
+cut_take (suc s) zero xs h = absurd (omega (arith, h))
+cut_take (suc s) (suc e) [] h = take_nothing (suc e - suc s)
+cut_take (suc s) (suc e) (x ∷ xs) h =
+    let same : suc e - suc s ≡ e - s = omega arith in
+    ap (λ n. x ∷ (take s xs ++ take n (drop s xs))) same ∙ ap (λ l. x ∷ l) (cut_take s e xs (omega (arith, h)))
+
 pub past_end : {X : Type 0} (xs : List X) (i : ℕ) (d : X) → length xs ≤ i → get_or xs i d ≡ d
 past_end [] i d h = refl
 past_end (x ∷ xs) zero d h = absurd (omega (arith, h))
@@ -105,3 +123,9 @@ module _ (keys : List SortKey) (rows : List Row) (places : List ℕ) where
       let next : suc i ≡ i + 1 = omega arith in
       subst (λ j. IsStretch keys rows places (start_at starts (length places) i) (start_at starts (length places) j)) next
       (record { some = x.some; within = x.within; start = x.start; inner = x.inner; end = x.end })
+
+  pub stretch_between : (found : List ℕ) (i s e : ℕ) → found ≡ starts → i < length found → s ≡ start_at found (length places) i → e ≡ start_at found (length places) (i + 1) → IsStretch keys rows places s e
+  stretch_between found i s e same inside first last =
+      let h = stretch_at i (subst (λ l. i < length l) same inside) in
+      subst (λ a. IsStretch keys rows places a e) (sym (first ∙ ap (λ l. start_at l (length places) i) same))
+      (subst (IsStretch keys rows places (start_at starts (length places) i)) (sym (last ∙ ap (λ l. start_at l (length places) (i + 1)) same)) h)

@@ -104,7 +104,7 @@ pub keys_within : (a : Structure) (w : Window) → AllByRecursion (IsNamedColumn
 keys_within a w h k =
     let xs = columns_of a in
     let P = IsWithin (length xs) in
-    All-from_recursion (sort_keys xs (identifiers_of a) w (length xs))
+    All-from_recursion P (sort_keys xs (identifiers_of a) w (length xs))
     (all_append P ((partition_keys xs w ++ order_keys xs w) ++ identifier_keys xs (identifiers_of a)) (map rising_key (range_with_len 0 (length xs)))
     (all_append P (partition_keys xs w ++ order_keys xs w) (identifier_keys xs (identifiers_of a))
     (all_append P (partition_keys xs w) (order_keys xs w) (names_within xs w w.partition h) (orders_within xs w w.order k))

@@ -1,12 +1,13 @@
 // Values of sorted points, put back at the points.
 ghost use Rattle.std.specs.List.{range_with_len};
-ghost use Rattle.std.specs.Prelude.{◌≡◌, ◌<◌, ℕ, All, IfOk, IsPermutation, length, map};
+ghost use Rattle.std.specs.Prelude.{◌≡◌, ◌<◌, ℕ, All, IfOk, IsPermutation, length, map, slice_set};
 ghost use Rattle.vtl_cell.specs.Outcome.{Outcome};
 ghost use Rattle.vtl_cell.specs.declared.cell.Cell as cells;
 
 use crate::partition::Outcomes;
 use std::alloc::{AllocError, Global};
 use vtl_cell::Cell;
+use vtl_decimal::Fault;
 
 // So many nulls.
 fn nulls(alloc: Global, count: usize) -> Result<Outcomes, AllocError>
@@ -17,6 +18,14 @@ fn nulls(alloc: Global, count: usize) -> Result<Outcomes, AllocError>
         values.push(Ok(Cell::Null))?;
     }
     Ok(values)
+}
+
+// Puts a value at a place.
+fn put(values: &mut Outcomes, place: usize, value: Result<Cell, Fault>)
+    requires { place < length values.old.items }
+    ensures { values.new.items ≡ slice_set values.old.items place value }
+{
+    values[place] = value;
 }
 
 /// The values in the order of their points, where the sorted ones are those of the points with these numbers. It fails
@@ -33,7 +42,7 @@ pub(crate) fn put_back(
     let mut rest = sorted;
     let mut values = nulls(alloc, rest.len())?;
     while let Some(value) = rest.pop() {
-        values[places[rest.len()]] = value;
+        put(&mut values, places[rest.len()], value);
     }
     Ok(values)
 }

@@ -1,5 +1,6 @@
 // The value of a call at each point.
-ghost use Rattle.std.specs.Prelude.{◌≡◌, ℕ, IfOk, length, map, option_map};
+ghost use Rattle.std.specs.List.{AllByRecursion};
+ghost use Rattle.std.specs.Prelude.{◌≡◌, ◌<◌, ◌≤◌, ◌-◌, ℕ, All, IfOk, drop, length, map, option_map, take};
 ghost use Rattle.std.specs.Option.{option_map_or};
 ghost use Rattle.vtl_cell.specs.Row.{column_of};
 ghost use Rattle.vtl_rows.specs.Keys.{key_of};
@@ -7,7 +8,7 @@ ghost use Rattle.vtl_rows.specs.Places.{IsOrderOf, row_at};
 ghost use Rattle.vtl_tree.specs.Shown.{shown};
 ghost use Rattle.vtl_tree.specs.Structure.{columns_of};
 ghost use Rattle.vtl_expr.specs.Columns.{identifiers_of, place_of};
-ghost use Rattle.vtl_group.specs.Made.{IsWindowOver};
+ghost use Rattle.vtl_group.specs.Made.{IsNamedColumn, IsWindowOver};
 ghost use Rattle.vtl_group.specs.PointWindows.{argument, call_value};
 ghost use Rattle.vtl_window.specs.Calls.{lent, values_at};
 ghost use Rattle.vtl_window.specs.Runs.{start_at};
@@ -21,6 +22,7 @@ use std::alloc::{AllocError, Global};
 use vtl_cell::{Cell, Profile, Txt};
 use vtl_decimal::Fault;
 use vtl_expr::{DataSet, place_of};
+use vtl_nodes::Window;
 use vtl_rows::SortKey;
 use vtl_tree::Component;
 
@@ -44,6 +46,34 @@ fn start_at(starts: &[usize], count: usize, i: usize) -> usize
     }
 }
 
+// The numbers from one place up to another.
+fn stretch(places: &[usize], start: usize, end: usize) -> &[usize]
+    requires rises { start ≤ end }
+    requires within { end ≤ length places.now }
+    ensures { result.now ≡ take (end - start) (drop start places.now) }
+{
+    &places[start..end]
+}
+
+// The numbers of the points in the order of the sort.
+fn sorted_places(
+    alloc: Global,
+    a: &DataSet,
+    columns: &[&Component],
+    window: &Window,
+) -> Result<Vec<usize>, AllocError>
+    requires columns { shown columns.now ≡ columns_of a.now.structure }
+    requires partition { AllByRecursion (IsNamedColumn (columns_of a.now.structure)) window.now.partition }
+    requires order { AllByRecursion (λ key. IsNamedColumn (columns_of a.now.structure) key.component) window.now.order }
+    ensures within { IfOk result (λ v. All (λ i. i < length a.now.points) v.items) }
+    ensures order { IfOk result (λ v. IsOrderOf (sort_keys (columns_of a.now.structure) (identifiers_of a.now.structure) window.now (length (columns_of a.now.structure))) a.now.points v.items) }
+{
+    let identifiers = a.structure().identifiers(alloc)?;
+    let keys = sort_keys(alloc, columns, &identifiers, window, columns.len())?;
+    let places = a.table().places_by_columns(alloc, &keys)?;
+    Ok(places)
+}
+
 // The values of a call at the points with these numbers, which stand in the order of the sort.
 fn sorted_values(
     alloc: Global,
@@ -64,8 +94,10 @@ fn sorted_values(
     let starts = a.table().runs(alloc, places, partition)?;
     let mut out = Vec::with_capacity(alloc, places.len())?;
     for i in 0..starts.len() {
+        let start = start_at(&starts, places.len(), i);
         let end = start_at(&starts, places.len(), i + 1);
-        push_call(alloc, &mut out, a, &places[starts[i]..end], call, column, order, p)?;
+        let run = stretch(places, start, end);
+        push_call(alloc, &mut out, a, run, call, column, order, p)?;
     }
     Ok(out)
 }
@@ -84,9 +116,7 @@ pub(crate) fn call_values(
     ensures { IfOk result (λ v. v.items ≡ values_at p.now a.now (lent call.entry)) }
 {
     let columns = a.structure().columns(alloc)?;
-    let identifiers = a.structure().identifiers(alloc)?;
-    let keys = sort_keys(alloc, &columns, &identifiers, call.window, columns.len())?;
-    let places = a.table().places_by_columns(alloc, &keys)?;
+    let places = sorted_places(alloc, a, &columns, call.window)?;
     let partition = partition_keys(alloc, &columns, call.window)?;
     let order = order_keys(alloc, &columns, call.window)?;
     let column = argument_place(&columns, call.component);
