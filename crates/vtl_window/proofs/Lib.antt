@@ -1,3 +1,4 @@
+pub mod AnalysisLemmas
 pub mod CallLemmas
 pub mod PartitionLemmas
 pub mod PutLemmas
@@ -5,3 +6,4 @@ pub mod RankLemmas
 pub mod RunLemmas
 pub mod SortLemmas
 pub mod StretchLemmas
+pub mod Windowed

@@ -10,6 +10,7 @@
 
 mod analysis;
 mod call;
+mod columns;
 mod frames;
 mod keys;
 mod lane;

@@ -1,0 +1,84 @@
+// Analytic operators on data sets.
+ghost use Rattle.std.specs.Prelude.{◌≡◌, ◌++◌, ◌∷◌, [], IfOk, OnOk, map};
+ghost use Rattle.vtl_cell.specs.Row.{column_of};
+ghost use Rattle.vtl_scalar.specs.Answers.{Answers, AnswersBy};
+ghost use Rattle.vtl_group.specs.AnalyticPoints.{analytic_of};
+ghost use Rattle.vtl_group.specs.DataSets.{with_structure};
+ghost use Rattle.vtl_group.specs.Made.{IsWindowed};
+ghost use Rattle.vtl_group.specs.TableOf.{IsTableOf};
+ghost use Rattle.vtl_group.specs.View.{analytic_tree};
+ghost use Rattle.vtl_window.specs.Analyses.{across};
+
+use crate::columns::made_columns;
+use std::alloc::{AllocError, Global};
+use vtl_cell::{Cell, Profile, clone_cell};
+use vtl_expr::{DataSet, new_table};
+use vtl_nodes::AnalyticSpec;
+use vtl_rows::Table;
+use vtl_scalar::ScalarErr;
+use vtl_tree::Structure;
+
+// Puts the cell at a place of a column behind others, or null after its last one.
+fn push_cell_at(row: &mut Vec<Cell>, column: &[Cell], place: usize) -> Result<(), AllocError>
+    ensures { OnOk result (row.new.items ≡ row.old.items ++ column_of place column.now ∷ []) }
+{
+    match column.get(place) {
+        Some(cell) => row.push(clone_cell(cell)?)?,
+        None => row.push(Cell::Null)?,
+    }
+    Ok(())
+}
+
+// Puts the cells at a place of columns behind others.
+fn push_across(row: &mut Vec<Cell>, columns: &[Vec<Cell>], place: usize) -> Result<(), AllocError>
+    ensures { OnOk result (row.new.items ≡ row.old.items ++ across place (map (λ v. v.items) columns.now)) }
+{
+    for column in columns {
+        push_cell_at(row, column, place)?;
+    }
+    Ok(())
+}
+
+fn analyzed_table(
+    alloc: Global,
+    a: &DataSet,
+    spec: &AnalyticSpec,
+    made: &Structure,
+    p: &Profile,
+) -> Result<Table, ScalarErr>
+    requires { IsWindowed p.now (analytic_tree spec.now) a.now.structure made.now }
+    ensures table { IfOk result (IsTableOf made.now) }
+    ensures rows { AnswersBy (λ t. t.rows) result (analytic_of p.now (analytic_tree spec.now) a.now made.now) }
+{
+    let table = a.table();
+    let wanted = made.columns(alloc)?;
+    let columns = made_columns(alloc, spec, &wanted, a, p)?;
+    let mut points = new_table(alloc, made)?;
+    points.reserve_rows(table.len())?;
+    let mut row = Vec::with_capacity(alloc, columns.len())?;
+    for i in 0..table.len() {
+        push_across(&mut row, &columns, i)?;
+        points.push_cells(&mut row)?;
+    }
+    Ok(points)
+}
+
+/// The values of an analytic operator at each point, as a data set of the structure that typing gives: its points are
+/// those of the operand, in its order, with what is made in place of the columns of its names. All values see the points
+/// of the operand. It takes time that is that of a sort for each call, and twice the memory of the result.
+///
+/// DivZero where a value at some point divides by zero; otherwise Range where one is out of range; otherwise it fails
+/// only if memory runs out.
+pub fn analytic(
+    alloc: Global,
+    a: &DataSet,
+    spec: &AnalyticSpec,
+    made: Structure,
+    p: &Profile,
+) -> Result<DataSet, ScalarErr>
+    requires { IsWindowed p.now (analytic_tree spec.now) a.now.structure made }
+    ensures { Answers result (with_structure made (analytic_of p.now (analytic_tree spec.now) a.now made)) }
+{
+    let table = analyzed_table(alloc, a, spec, &made, p);
+    DataSet::answered(alloc, made, table)
+}
