@@ -1,11 +1,10 @@
 -- Columns that are made, cell by cell.
-use Rattle.std.proofs.Common.{◌≡◌, ℕ, zero, suc, ◌+◌, ◌<◌, List, [], ◌∷◌, ◌++◌, length, map, take, get_or, Option, Some, None, Ok, Err, Result, refl, sym, ap, ◌∙◌, subst, arith}
+use Rattle.std.proofs.Common.{◌≡◌, ℕ, zero, suc, ◌+◌, ◌<◌, List, [], ◌∷◌, ◌++◌, length, map, take, get_or, Option, Some, None, Ok, Result, refl, sym, ap, ◌∙◌, subst, arith}
 use Rattle.std.specs.Borrow.{Bor}
 use Rattle.std.specs.Prelude.{IfOk}
-use Rattle.std.specs.List.{AllByRecursion}
 use Rattle.std.specs.Option.{option_map_or}
 use Rattle.std.proofs.lemmas.List.{map-append, map_more}
-use Rattle.vtl_cell.specs.Outcome.{DivZero, Fault, Outcome, Range, fault_in, faults_by, join, unless}
+use Rattle.vtl_cell.specs.Outcome.{DivZero, Fault, Outcome, Range, fault_in, faults_by, join}
 use Rattle.vtl_cell.specs.Row.{Row, column_of}
 use Rattle.vtl_cell.specs.Settings.{Settings}
 use Rattle.vtl_cell.specs.declared.cell.Cell.{Cell}
@@ -59,11 +58,6 @@ module _ (p : Settings) (spec : AnalyticTree) (d : DataSet) (y : Component) wher
   kept_as e = ap made_by (sym e)
 
 -- ---- columns
-pub shown_at : {X : Type 0} (P : X → Type 0) (ws : List (Bor X)) (i : ℕ) (w : Bor X) → AllByRecursion P (shown ws) → i < length ws → w ≡ get_or ws i w → P w.now
-shown_at P [] i w all h e = absurd (omega arith)
-shown_at P (v ∷ vs) zero w all h e = subst (λ x. P x.now) (sym e) all.0
-shown_at P (v ∷ vs) (suc i) w all h e = shown_at P vs i w all.1 (omega arith) e
-
 pub shown_next : {X : Type 0} (ws : List (Bor X)) (i : ℕ) (w : Bor X) → i < length ws → w ≡ get_or ws i w → shown (take (i + 1) ws) ≡ shown (take i ws) ++ w.now ∷ []
 shown_next ws i w h e = map_more (λ r. r.now) ws i w h ∙ ap (λ v. shown (take i ws) ++ v.now ∷ []) (sym e)
 

@@ -1,8 +1,8 @@
 -- The result of an analytic operator whose columns are made one after the other.
 use Rattle.std.proofs.Common.{◌≡◌, ℕ, zero, suc, ◌<◌, Bool, true, false, cond, List, [], ◌∷◌, length, map, get_or, Option, Some, None, Ok, Err, refl, sym, ap, ◌∙◌, subst, arith}
-use Rattle.std.specs.Prelude.{IfOk, is_some, option_map}
+use Rattle.std.specs.Prelude.{IfOk}
 use Rattle.std.specs.List.{AllByRecursion, find}
-use Rattle.vtl_cell.specs.Outcome.{DivZero, Fault, Outcome, Range, faults_by, unless}
+use Rattle.vtl_cell.specs.Outcome.{DivZero, Fault, Range, faults_by, unless}
 use Rattle.vtl_cell.specs.Row.{Row}
 use Rattle.vtl_cell.specs.Settings.{Settings}
 use Rattle.vtl_cell.specs.declared.cell.Cell.{Cell}
@@ -12,30 +12,24 @@ use Rattle.vtl_scalar.specs.declared.error.ScalarErr.{ScalarErr}
 use Rattle.vtl_scalar.specs.declared.error.ScalarErr.TheVariants as err
 use Rattle.vtl_tree.specs.DataSet.{IsDataSet, is_point}
 use Rattle.vtl_tree.specs.Environment.{DataSet}
-use Rattle.vtl_tree.specs.Structure.{columns_of, same_name}
+use Rattle.vtl_tree.specs.Structure.{columns_of}
 use Rattle.vtl_tree.specs.declared.structure.Component.{Component}
 use Rattle.vtl_tree.specs.declared.structure.Structure.{Structure}
 use Rattle.vtl_expr.specs.AggregatePoints.{Made}
 use Rattle.vtl_expr.specs.AggregatePoints.{group_fault as point_fault}
-use Rattle.vtl_group.specs.AnalyticPoints.{analytic_of, item_named, made_of, measure_call, point_of, value_for}
-use Rattle.vtl_group.specs.AnalyticShapes.{IsMadeBy, IsMadeColumn, IsMadeOrStays}
-use Rattle.vtl_group.specs.Columns.{identifiers_of, others_of}
-use Rattle.vtl_group.specs.Made.{AreValuesOver, IsValueOver, IsWindowed}
+use Rattle.vtl_group.specs.AnalyticPoints.{analytic_of, made_of, point_of}
+use Rattle.vtl_group.specs.Made.{IsWindowed}
 use Rattle.vtl_group.specs.TableOf.{table_columns}
-use Rattle.vtl_group.specs.Trees as nodes
-use Rattle.vtl_group.specs.Trees.{AnalyticTree, ItemTree, ValueTree}
-use Rattle.vtl_group.specs.calls.AnalyticOp.{AnalyticOp}
-use Rattle.vtl_group.specs.calls.Window.{Window}
+use Rattle.vtl_group.specs.Trees.{AnalyticTree}
 use Rattle.vtl_group.proofs.AnalyticPoints.{result_is}
 use Rattle.vtl_group.proofs.Kept.{unless_ok}
-use Rattle.vtl_group.proofs.Places.{all_append, all_more, columns_split}
 use Rattle.vtl_group.proofs.TableLemmas.{point_fits}
-use Rattle.vtl_window.specs.Analyses.{IsMakeable, IsReady, across, made_cells, made_faults}
+use Rattle.vtl_window.specs.Analyses.{across, made_cells, made_faults}
 use Rattle.vtl_window.proofs.AnalysisLemmas.{across_columns, faults_turned}
 
 -- ---- lists
 -- one that is found is one of the list
-found_has : {X : Type 0} (P : X → Type 0) (p : X → Bool) (xs : List X) (o : Option X) → AllByRecursion P xs → find p xs ≡ o → (x : X) → o ≡ Some x → P x
+pub found_has : {X : Type 0} (P : X → Type 0) (p : X → Bool) (xs : List X) (o : Option X) → AllByRecursion P xs → find p xs ≡ o → (x : X) → o ≡ Some x → P x
 found_has P p [] o all e x is = cc
 found_has P p (y ∷ ys) o all e x is = go (p y) e (λ f. found_has P p ys o all.1 f x is)
   where
@@ -47,31 +41,6 @@ mapped_at : {X Y : Type 0} (P : Y → Type 0) (f : X → Y) (xs : List X) (i : �
 mapped_at P f [] i d h all = absurd (omega arith)
 mapped_at P f (x ∷ xs) zero d h all = all.0
 mapped_at P f (x ∷ xs) (suc i) d h all = mapped_at P f xs i d (omega arith) all.1
-
--- ---- what typing tells of each column
-makeable : (p : Settings) (xs : List Component) (y : Component) (v : ValueTree) → IsMadeBy p xs y.kind v → IsValueOver p xs v → IsMakeable xs v
-makeable p xs y (nodes.scalar e) made over = tt
-makeable p xs y (nodes.analytic call) made over = (over, ap is_some made.0)
-
-measure_ready : (p : Settings) (xs : List Component) (y : Component) (o : AnalyticOp) (w : Window) (b : Bool) → IsMadeOrStays p xs y (cond b (Some (measure_call o w y.name)) None) → AreValuesOver p xs (nodes.of_measures o w) → IsReady xs (cond b (Some (measure_call o w y.name)) None)
-measure_ready p xs y o w true made over = (over, ap is_some made.0)
-measure_ready p xs y o w false made over = tt
-
-item_ready : (p : Settings) (xs : List Component) (y : Component) (items : List ItemTree) (o : Option ItemTree) → item_named items y.name ≡ o → IsMadeOrStays p xs y (option_map (λ i. i.value) o) → AllByRecursion (λ i. IsValueOver p xs i.value) items → IsReady xs (option_map (λ i. i.value) o)
-item_ready p xs y items None e made over = tt
-item_ready p xs y items (Some i) e made over = makeable p xs y i.value made (found_has (λ j. IsValueOver p xs j.value) (λ j. same_name j.target y.name) items (Some i) over e i refl)
-
-column_ready : (p : Settings) (spec : AnalyticTree) (xs : List Component) (y : Component) → AreValuesOver p xs spec → IsMadeColumn p spec xs y → IsReady xs (value_for spec y)
-column_ready p (nodes.of_measures o w) xs y over made = measure_ready p xs y o w _ made over
-column_ready p (nodes.of_items items) xs y over made = item_ready p xs y items (item_named items y.name) refl made over
-
-pub all_ready : (p : Settings) (spec : AnalyticTree) (a s : Structure) → IsWindowed p spec a s → AllByRecursion (λ y. IsReady (columns_of a) (value_for spec y)) (columns_of s)
-all_ready p spec a s w =
-    let P : Component → Type 0 = λ y. IsReady (columns_of a) (value_for spec y) in
-    subst (AllByRecursion P) (sym (columns_split s))
-    (all_append P (identifiers_of s) (others_of s)
-    (all_more (λ y. value_for spec y ≡ None) P (λ y e. subst (IsReady (columns_of a)) (sym e) tt) (identifiers_of s) w.analyzed.free)
-    (all_more (IsMadeColumn p spec (columns_of a)) P (λ y e. column_ready p spec (columns_of a) y w.values e) (others_of s) w.analyzed.columns))
 
 -- ---- the fault of a column is that of the result
 pub fault_answered : {A B C D : Type 0} (view : A → B) (other : C → D) (e : ScalarErr) (f g : Option Fault) (x : B) (y : D) → f ≡ g → AnswersBy view (Err e) (unless f x) → AnswersBy other (Err e) (unless g y)

@@ -1,14 +1,10 @@
 -- Columns that are made, cell by cell.
-use Rattle.std.specs.Prelude.{◌≡◌, true, ℕ, List, map, Option, None, Some, is_some}
+use Rattle.std.specs.Prelude.{ℕ, List, map, Option}
 use Rattle.vtl_cell.specs.Outcome.{Fault, Outcome, fault_in, faults_by}
 use Rattle.vtl_cell.specs.Row.{Row, column_of}
 use Rattle.vtl_cell.specs.declared.cell.Cell.{Cell}
 use Rattle.vtl_tree.specs.declared.structure.Component.{Component}
 use Rattle.vtl_expr.specs.AggregatePoints.{Made, cell_or_null}
-use Rattle.vtl_group.specs.AnalyticShapes.{given_of}
-use Rattle.vtl_group.specs.Made.{IsWindowOver}
-use Rattle.vtl_group.specs.Trees as nodes
-use Rattle.vtl_group.specs.Trees.{ValueTree}
 
 -- ---- values, null where they have a fault, and their faults
 abbrev pub cells_by : {X : Type 0} → (X → Outcome Cell) → List X → List Cell
@@ -27,15 +23,3 @@ made_faults made ys points = faults_by (λ y. faults_of (made y) points) ys
 -- the cells at a place of columns
 abbrev pub across : ℕ → List (List Cell) → Row
 across i columns = map (column_of i) columns
-
--- ---- what can be made
-
--- a call has a window over these columns, and takes the values of its component
-abbrev pub IsMakeable : List Component → ValueTree → Type 0
-IsMakeable xs (nodes.scalar e) = Unit {0}
-IsMakeable xs (nodes.analytic call) = IsWindowOver xs call.op call.window × (is_some (given_of xs call.op call.component) ≡ true)
-
--- a column is made, or stays
-abbrev pub IsReady : List Component → Option ValueTree → Type 0
-IsReady xs None = Unit {0}
-IsReady xs (Some v) = IsMakeable xs v

@@ -1,7 +1,6 @@
 // The columns of the result, each with its cells from the first point to the last.
 ghost use Rattle.std.specs.Option.{option_map};
-ghost use Rattle.std.specs.Prelude.{◌≡◌, ◌++◌, ◌∷◌, [], IfErr, IfOk, List, Ok, map};
-ghost use Rattle.std.specs.List.{AllByRecursion};
+ghost use Rattle.std.specs.Prelude.{◌≡◌, ◌++◌, ◌∷◌, [], IfErr, IfOk, Ok, map};
 ghost use Rattle.vtl_cell.specs.Conversion.{as_kind};
 ghost use Rattle.vtl_cell.specs.Outcome.{Outcome, after, fault_in, join, unless};
 ghost use Rattle.vtl_cell.specs.Row.{Row, column_of};
@@ -15,11 +14,12 @@ ghost use Rattle.vtl_tree.specs.View.{comp_exp_of};
 ghost use Rattle.vtl_expr.specs.Prepared.{prepared_exp};
 ghost use Rattle.vtl_expr.specs.Seen.{seen_of};
 ghost use Rattle.vtl_expr.specs.AggregatePoints.{cell_or_null};
-ghost use Rattle.vtl_group.specs.AnalyticPoints.{item_named, made_of, tree_value, value_for};
+ghost use Rattle.vtl_group.specs.AnalyticPoints.{item_named, made_of, tree_value};
 ghost use Rattle.vtl_group.specs.Columns.{place_of};
+ghost use Rattle.vtl_group.specs.Made.{AreValuesOver, IsValueOver, IsWindowOver};
 ghost use Rattle.vtl_group.specs.Trees.{analytic};
 ghost use Rattle.vtl_group.specs.View.{analytic_tree, item_tree, value_tree};
-ghost use Rattle.vtl_window.specs.Analyses.{IsMakeable, IsReady, cells_by, faults_of, made_cells, made_faults};
+ghost use Rattle.vtl_window.specs.Analyses.{cells_by, faults_of, made_cells, made_faults};
 ghost use Rattle.vtl_window.specs.Calls.{lent};
 
 use crate::call::Call;
@@ -166,7 +166,7 @@ fn push_called(
     a: &DataSet,
     p: &Profile,
 ) -> Result<Seen, ScalarErr>
-    requires { IsMakeable (columns_of a.now.structure) (analytic (lent call)) }
+    requires { IsWindowOver (columns_of a.now.structure) call.op.now call.window.now }
     ensures cells { IfOk result (λ _. cells.new.items ≡ cells.old.items ++ cells_by (tree_value p.now a.now kind (analytic (lent call.entry))) a.now.points) }
     ensures seen { IfOk result (λ s. seen_of s ≡ join (seen_of seen) (faults_of (tree_value p.now a.now kind (analytic (lent call.entry))) a.now.points)) }
     ensures err { IfErr result (λ e. e ≡ ScalarErr.OutOfMemory) }
@@ -211,7 +211,7 @@ fn push_target(
     a: &DataSet,
     p: &Profile,
 ) -> Result<Seen, ScalarErr>
-    requires { IsMakeable (columns_of a.now.structure) (value_tree value.now) }
+    requires { IsValueOver p.now (columns_of a.now.structure) (value_tree value.now) }
     ensures cells { IfOk result (λ _. cells.new.items ≡ cells.old.items ++ cells_by (tree_value p.now a.now kind (value_tree value.now)) a.now.points) }
     ensures seen { IfOk result (λ s. seen_of s ≡ join (seen_of seen) (faults_of (tree_value p.now a.now kind (value_tree value.now)) a.now.points)) }
     ensures err { IfErr result (λ e. e ≡ ScalarErr.OutOfMemory) }
@@ -233,7 +233,7 @@ pub(crate) fn push_column(
     a: &DataSet,
     p: &Profile,
 ) -> Result<Seen, ScalarErr>
-    requires { IsReady (columns_of a.now.structure) (value_for (analytic_tree spec.now) column.now) }
+    requires { AreValuesOver p.now (columns_of a.now.structure) (analytic_tree spec.now) }
     ensures cells { IfOk result (λ _. cells.new.items ≡ cells.old.items ++ cells_by (made_of p.now (analytic_tree spec.now) a.now column.now) a.now.points) }
     ensures seen { IfOk result (λ s. seen_of s ≡ join (seen_of seen) (faults_of (made_of p.now (analytic_tree spec.now) a.now column.now) a.now.points)) }
     ensures err { IfErr result (λ e. e ≡ ScalarErr.OutOfMemory) }
@@ -268,7 +268,7 @@ pub(crate) fn made_columns(
     a: &DataSet,
     p: &Profile,
 ) -> Result<Vec<Vec<Cell>>, ScalarErr>
-    requires { AllByRecursion (λ y. IsReady (columns_of a.now.structure) (value_for (analytic_tree spec.now) y)) (shown wanted.now) }
+    requires { AreValuesOver p.now (columns_of a.now.structure) (analytic_tree spec.now) }
     ensures { AnswersBy (λ v. map (λ x. x.items) v.items) result (unless (made_faults (made_of p.now (analytic_tree spec.now) a.now) (shown wanted.now) a.now.points) (made_cells (made_of p.now (analytic_tree spec.now) a.now) (shown wanted.now) a.now.points)) }
 {
     let mut columns = Vec::with_capacity(alloc, wanted.len())?;

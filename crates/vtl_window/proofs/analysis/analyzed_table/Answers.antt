@@ -1,5 +1,4 @@
-use Rattle.std.proofs.Common.{◌≡◌, ℕ, ◌<◌, ◌≤◌, List, [], ◌∷◌, ◌++◌, Vec, Global, Ok, Err, length, map, take, ap, sym, subst, ◌∙◌, arith, rules, get_or}
-use Rattle.std.specs.List.{AllByRecursion}
+use Rattle.std.proofs.Common.{◌≡◌, ◌<◌, ◌≤◌, List, [], ◌∷◌, ◌++◌, Vec, Global, Ok, Err, length, map, take, ap, sym, subst, ◌∙◌, arith, rules}
 use Rattle.std.proofs.lemmas.List.{map_more, take_all}
 use Rattle.vtl_cell.specs.Outcome.{faults_by}
 use Rattle.vtl_cell.specs.Row.{Row}
@@ -9,20 +8,13 @@ use Rattle.vtl_scalar.specs.Answers.{AnswersBy}
 use Rattle.vtl_tree.specs.DataSet.{IsDataSet}
 use Rattle.vtl_tree.specs.Shown.{shown}
 use Rattle.vtl_tree.specs.Structure.{columns_of}
-use Rattle.vtl_tree.specs.declared.structure.Component.{Component}
 use Rattle.vtl_expr.specs.AggregatePoints.{group_fault as point_fault}
-use Rattle.vtl_group.specs.AnalyticPoints.{analytic_of, made_of, point_of, value_for}
+use Rattle.vtl_group.specs.AnalyticPoints.{analytic_of, made_of, point_of}
 use Rattle.vtl_group.specs.View.{analytic_tree}
-use Rattle.vtl_window.specs.Analyses.{IsReady, across, made_cells, made_faults}
+use Rattle.vtl_window.specs.Analyses.{across, made_cells, made_faults}
 use Rattle.vtl_window.proofs.AnalysisLemmas.{faults_turned}
-use Rattle.vtl_window.proofs.Windowed.{all_ready, fault_answered, is_result, result, row_fits, row_is}
+use Rattle.vtl_window.proofs.Windowed.{fault_answered, is_result, result, row_fits, row_is}
 use Rattle.vtl_window.proofs.analysis.analyzed_table.Goals as goal
-
-pub made_columns-requires : goal.made_columns-requires
-made_columns-requires c =
-    let spec = analytic_tree c.args.spec.now in
-    let a = c.args.a.now.structure in
-    subst (AllByRecursion (λ (y : Component). IsReady (columns_of a) (value_for spec y))) (sym (ap shown c.deref.ensures.value ∙ c.in_ok-wanted.ensures)) (all_ready c.args.p.now spec a c.args.made.now c.requires)
 
 pub returns-in_err-columns-clause-rows : goal.returns-in_err-columns-clause-rows
 returns-in_err-columns-clause-rows c =
@@ -53,7 +45,7 @@ push_cells-requires c =
     let many = ap (λ (l : List Row). length l) c.table-table.ensures.points in
     let within : i < length a.points = omega (arith, c.len-i-end.ensures.rows, c.loop-i-test.true, many) in
     let row : c.push_across.new.row.items ≡ across i columns =
-        c.in_ok-push_across.ensures ∙ ap (λ l. l ++ across i (items c.deref-in-loop-i.result.now)) c.loop-i.invariant.row ∙ ap (λ l. across i (items l)) c.deref-in-loop-i.ensures.value in
+    c.in_ok-push_across.ensures ∙ ap (λ l. l ++ across i (items c.deref-in-loop-i.result.now)) c.loop-i.invariant.row ∙ ap (λ l. across i (items l)) c.deref-in-loop-i.ensures.value in
     ap (fits c.loop-i.points.columns) row ∙ ap (λ cs. fits cs (across i columns)) c.loop-i.invariant.columns
     ∙ row_fits c.args.p.now spec a s c.requires own (shown c.deref.result.now) is columns c.in_ok-columns.ensures i [] within
 
@@ -72,7 +64,7 @@ loop-i-preserved c =
     let many = ap (λ (l : List Row). length l) c.table-table.ensures.points in
     let within : i < length a.points = omega (arith, c.len-i-end.ensures.rows, c.loop-i-test.true, many) in
     let row : c.push_across.new.row.items ≡ across i columns =
-        c.in_ok-push_across.ensures ∙ ap (λ l. l ++ across i (items c.deref-in-loop-i.result.now)) c.loop-i.invariant.row ∙ ap (λ l. across i (items l)) c.deref-in-loop-i.ensures.value in
+    c.in_ok-push_across.ensures ∙ ap (λ l. l ++ across i (items c.deref-in-loop-i.result.now)) c.loop-i.invariant.row ∙ ap (λ l. across i (items l)) c.deref-in-loop-i.ensures.value in
     let made = row ∙ row_is p spec a s c.requires own (shown c.deref.result.now) is columns c.in_ok-columns.ensures i [] within in
     record {
       columns = c.push_cells.ensures.columns ∙ c.loop-i.invariant.columns;

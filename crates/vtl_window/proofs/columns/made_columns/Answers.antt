@@ -1,20 +1,13 @@
-use Rattle.std.proofs.Common.{◌≡◌, List, [], ◌∷◌, ◌++◌, Vec, Global, map, take, ap, sym, ◌∙◌}
+use Rattle.std.proofs.Common.{List, [], ◌∷◌, ◌++◌, Vec, Global, map, take, ap, sym, ◌∙◌}
 use Rattle.std.proofs.lemmas.List.{map-append}
 use Rattle.vtl_cell.specs.Outcome.{join}
 use Rattle.vtl_cell.specs.declared.cell.Cell.{Cell}
 use Rattle.vtl_tree.specs.Shown.{shown}
-use Rattle.vtl_tree.specs.Structure.{columns_of}
-use Rattle.vtl_tree.specs.declared.structure.Component.{Component}
-use Rattle.vtl_expr.specs.Seen.{seen_of}
-use Rattle.vtl_group.specs.AnalyticPoints.{made_of, value_for}
+use Rattle.vtl_group.specs.AnalyticPoints.{made_of}
 use Rattle.vtl_group.specs.View.{analytic_tree}
-use Rattle.vtl_window.specs.Analyses.{IsReady, cells_by, faults_of, made_cells, made_faults}
-use Rattle.vtl_window.proofs.AnalysisLemmas.{cells_more_columns, faults_more_columns, shown_at, shown_next}
+use Rattle.vtl_window.specs.Analyses.{cells_by, faults_of, made_cells, made_faults}
+use Rattle.vtl_window.proofs.AnalysisLemmas.{cells_more_columns, faults_more_columns, shown_next}
 use Rattle.vtl_window.proofs.columns.made_columns.Goals as goal
-
-pub push_column-requires : goal.push_column-requires
-push_column-requires c =
-    shown_at (λ (y : Component). IsReady (columns_of c.args.a.now.structure) (value_for (analytic_tree c.args.spec.now) y)) c.args.wanted.now c.loop-column.column-index c.column-item.result c.requires c.loop-column-test.true c.column-item.is
 
 pub loop-column-preserved : goal.loop-column-preserved
 loop-column-preserved c =
