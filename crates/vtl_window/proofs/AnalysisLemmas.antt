@@ -1,10 +1,10 @@
 -- Columns that are made, cell by cell.
-use Rattle.std.proofs.Common.{◌≡◌, ℕ, zero, suc, ◌+◌, ◌<◌, List, [], ◌∷◌, ◌++◌, length, map, take, get_or, Option, Some, None, Ok, Err, Result, refl, sym, ap, ◌∙◌, subst, arith}
+use Rattle.std.proofs.Common.{◌≡◌, ℕ, zero, suc, ◌+◌, ◌<◌, List, [], ◌∷◌, ◌++◌, length, map, take, get_or, Option, Some, None, Ok, Result, refl, sym, ap, ◌∙◌, subst, arith}
 use Rattle.std.specs.Borrow.{Bor}
 use Rattle.std.specs.Prelude.{IfOk}
 use Rattle.std.specs.Option.{option_map_or}
 use Rattle.std.proofs.lemmas.List.{map-append, map_more}
-use Rattle.vtl_cell.specs.Outcome.{DivZero, Fault, Outcome, Range, fault_in, faults_by, join, unless}
+use Rattle.vtl_cell.specs.Outcome.{DivZero, Fault, Outcome, Range, fault_in, faults_by, join}
 use Rattle.vtl_cell.specs.Row.{Row, column_of}
 use Rattle.vtl_cell.specs.Settings.{Settings}
 use Rattle.vtl_cell.specs.declared.cell.Cell.{Cell}

@@ -1,9 +1,8 @@
-use Rattle.std.proofs.Common.{◌≡◌, List, [], ◌∷◌, ◌++◌, Vec, Global, map, take, ap, sym, ◌∙◌}
+use Rattle.std.proofs.Common.{List, [], ◌∷◌, ◌++◌, Vec, Global, map, take, ap, sym, ◌∙◌}
 use Rattle.std.proofs.lemmas.List.{map-append}
 use Rattle.vtl_cell.specs.Outcome.{join}
 use Rattle.vtl_cell.specs.declared.cell.Cell.{Cell}
 use Rattle.vtl_tree.specs.Shown.{shown}
-use Rattle.vtl_expr.specs.Seen.{seen_of}
 use Rattle.vtl_group.specs.AnalyticPoints.{made_of}
 use Rattle.vtl_group.specs.View.{analytic_tree}
 use Rattle.vtl_window.specs.Analyses.{cells_by, faults_of, made_cells, made_faults}
