@@ -11,6 +11,11 @@
 mod analysis;
 mod call;
 mod columns;
+mod frames;
+mod keys;
+mod lane;
+mod partition;
+mod putting_back;
 mod values;
 
 pub use analysis::analytic;

@@ -1,0 +1,231 @@
+-- A stretch of the points in the order of the sort is a partition in order, and a call has at each place of it the value at the point there.
+use Rattle.std.proofs.Common.{◌≡◌, ℕ, zero, suc, ◌+◌, ◌-◌, ◌<◌, ◌≤◌, Bool, true, false, not, cond, ◌&&◌, List, [], ◌∷◌, ◌++◌, length, drop, take, get_or, map, refl, sym, ap, ◌∙◌, arith, subst, All, true≢false, append_assoc}
+use Rattle.std.specs.Prelude.{filter}
+use Rattle.std.specs.List.{AllByRecursion, range_with_len}
+use Rattle.std.specs.Cmp.{Equal-is}
+use Rattle.std.specs.Ordering.{is_eq, is_lt, ordering_then}
+use Rattle.std.specs.declared.cmp.Ordering.{Ordering}
+use Rattle.std.specs.declared.cmp.Ordering.TheVariants.{Less, Equal, Greater}
+use Rattle.std.proofs.lemmas.Bool.{and_parts}
+use Rattle.std.proofs.lemmas.List.{get_or-map, length-map}
+use Rattle.std.proofs.lemmas.List.Elements.{All-from_recursion}
+use Rattle.std.proofs.lemmas.List.FromFn.{fill_by_all}
+use Rattle.vtl_cell.specs.Outcome.{Outcome}
+use Rattle.vtl_cell.specs.Perm.{Perm}
+use Rattle.vtl_cell.specs.Row.{Row, row_cmp, same_row}
+use Rattle.vtl_cell.specs.Settings.{Settings}
+use Rattle.vtl_cell.specs.Sorted.{Key, by_keys, in_order, rising, window_cmp}
+use Rattle.vtl_cell.specs.Sorting.{Rises, le_by}
+use Rattle.vtl_cell.specs.Kinds.{is_null, is_of}
+use Rattle.vtl_cell.specs.declared.cell.Cell.{Cell}
+use Rattle.vtl_cell.proofs.Keys.{window_order}
+use Rattle.vtl_cell.proofs.Perms.{Perm-filter, Perm-sym}
+use Rattle.vtl_cell.proofs.Rows.{same_row-is, same_row-refl}
+use Rattle.vtl_cell.proofs.Sorts.{Perm-sorted_by, Rises-map, Rises-sorted_by, sorted_is}
+use Rattle.vtl_rows.specs.Keys.{agree, key_of, ordered}
+use Rattle.vtl_rows.specs.Places.{IsOrderOf, row_at}
+use Rattle.vtl_rows.specs.Tables.{cells_at}
+use Rattle.vtl_rows.specs.declared.column.SortKey.{SortKey}
+use Rattle.vtl_rows.proofs.AllColumns.{all_columns_last, keys_append}
+use Rattle.vtl_rows.proofs.Stable.{first_not_less}
+use Rattle.vtl_rows.proofs.Ties.{ties_agree}
+use Rattle.vtl_tree.specs.DataSet.{IsDataSet, is_point}
+use Rattle.vtl_tree.specs.Environment.{DataSet}
+use Rattle.vtl_tree.specs.Structure.{columns_of, same_role}
+use Rattle.vtl_tree.specs.declared.structure.Component.{Component}
+use Rattle.vtl_tree.specs.declared.structure.Role.TheVariants as role
+use Rattle.vtl_expr.specs.Columns.{identifiers_of}
+use Rattle.vtl_expr.specs.Groups.{places_named}
+use Rattle.vtl_group.specs.PointWindows.{call_value, identifier_places, keys_in, partition_of, stand_of}
+use Rattle.vtl_group.specs.calls.AnalyticCall.{AnalyticCall}
+use Rattle.vtl_windows.proofs.Columns.{all_filtered}
+use Rattle.vtl_windows.proofs.Places.{places_are}
+use Rattle.vtl_window.specs.Runs.{AreInOrder, run_values, stand_at, value_at}
+use Rattle.vtl_window.specs.Sorted.{order_keys, partition_keys, sort_keys}
+use Rattle.vtl_window.proofs.CallLemmas.{map_same}
+use Rattle.vtl_window.proofs.SortLemmas.{order_is, partition_is, sort_is}
+use Rattle.vtl_window.proofs.StretchLemmas.{IsStretch, rises_drop, rises_take, rises_with, stretch_is}
+
+-- ---- lists
+filter-map : {X Y : Type 0} (f : X → Y) (p : Y → Bool) (xs : List X) → map f (filter (λ x. p (f x)) xs) ≡ filter p (map f xs)
+filter-map f p [] = refl
+filter-map f p (x ∷ xs) = go (p (f x)) (filter-map f p xs)
+  where
+    go : (b : Bool) → map f (filter (λ y. p (f y)) xs) ≡ filter p (map f xs) → map f (cond b (x ∷ filter (λ y. p (f y)) xs) (filter (λ y. p (f y)) xs)) ≡ cond b (f x ∷ filter p (map f xs)) (filter p (map f xs))
+    go true ih = ap (λ l. f x ∷ l) ih
+    go false ih = ih
+
+all_unmap : {X Y : Type 0} (f : X → Y) (P : Y → Type 0) (xs : List X) → AllByRecursion P (map f xs) → AllByRecursion (λ x. P (f x)) xs
+all_unmap f P [] all = tt
+all_unmap f P (x ∷ xs) all = (all.0, all_unmap f P xs all.1)
+
+rises_unmap : {X Y : Type 0} (f : X → Y) (le : Y → Y → Bool) (xs : List X) → Rises le (map f xs) → Rises (λ x y. le (f x) (f y)) xs
+rises_unmap f le [] r = tt
+rises_unmap f le (x ∷ xs) r = (all_unmap f (λ y. le (f x) y ≡ true) xs r.0, rises_unmap f le xs r.1)
+
+all_more : {X : Type 0} (P Q : X → Type 0) → ((x : X) → P x → Q x) → (xs : List X) → AllByRecursion P xs → AllByRecursion Q xs
+all_more P Q f [] all = tt
+all_more P Q f (x ∷ xs) all = (f x all.0, all_more P Q f xs all.1)
+
+all_true : {X : Type 0} (xs : List X) → AllByRecursion (λ x. Unit {0}) xs
+all_true [] = tt
+all_true (x ∷ xs) = (tt, all_true xs)
+
+all_get : {X : Type 0} (P : X → Type 0) (xs : List X) (k : ℕ) (d : X) → k < length xs → AllByRecursion P xs → P (get_or xs k d)
+all_get P [] k d h all = absurd (omega (arith, h))
+all_get P (x ∷ xs) zero d h all = all.0
+all_get P (x ∷ xs) (suc k) d h all = all_get P xs k d (omega (arith, h)) all.1
+
+pub listed : {X Y : Type 0} (f : X → Y) (xs : List X) (d : X) → map (λ i. f (get_or xs i d)) (range_with_len 0 (length xs)) ≡ map f xs
+listed f xs d = sym (fill_by_all (λ i. f (get_or xs i d)) (map f xs) (length xs) (f d) (length-map xs f) (λ k l. get_or-map f xs k d (f d) l))
+
+-- a point has a cell for each column
+point_wide : (xs : List Component) (r : Row) → is_point xs r ≡ true → length r ≡ length xs
+point_wide [] [] h = refl
+point_wide [] (v ∷ r) h = cc
+point_wide (x ∷ xs) [] h = cc
+point_wide (x ∷ xs) (v ∷ r) h = ap suc (point_wide xs r (and_parts (is_of x.kind v && not (same_role x.role role.Identifier && is_null v)) (is_point xs r) h).1)
+
+pub points_wide_each : (d : DataSet) → IsDataSet d.structure d.points → AllByRecursion (λ r. length r ≡ length (columns_of d.structure)) d.points
+points_wide_each d h = all_more (λ r. is_point (columns_of d.structure) r ≡ true) (λ r. length r ≡ length (columns_of d.structure)) (λ r. point_wide (columns_of d.structure) r) d.points h.typed
+
+points_wide : (d : DataSet) → IsDataSet d.structure d.points → All (λ r. length r ≡ length (columns_of d.structure)) d.points
+points_wide d h = All-from_recursion (λ r. length r ≡ length (columns_of d.structure)) d.points (points_wide_each d h)
+
+-- ---- orders
+not_false : (b : Bool) → not b ≡ true → b ≡ false
+not_false true e = sym e
+not_false false e = refl
+
+-- what is at most by two orders one after the other is so by the first
+first_le : (o q : Ordering) → not (is_lt (ordering_then o q)) ≡ true → not (is_lt o) ≡ true
+first_le o q h = ap not (first_not_less o q (not_false (is_lt (ordering_then o q)) h))
+
+by_first : (ks ls : List Key) (r s : Row) → le_by (by_keys (ks ++ ls)) r s ≡ true → le_by (by_keys ks) r s ≡ true
+by_first ks ls r s h = first_le (by_keys ks s r) (by_keys ls s r) (ap (λ o. not (is_lt o)) (sym (keys_append ks ls s r)) ∙ h)
+
+by_listed : (ks : List Key) (places : List ℕ) (r s : Row) → le_by (window_cmp ks places) r s ≡ true → le_by (by_keys ks) r s ≡ true
+by_listed ks places r s h = by_first ks (map rising places) r s (first_le (by_keys (ks ++ map rising places) s r) (row_cmp s r) h)
+
+-- where the first keys tie only the others count
+behind_ties : (ks ls : List Key) (places : List ℕ) (r s : Row) → is_eq (by_keys ks r s) ≡ true → window_cmp (ks ++ ls) places r s ≡ window_cmp ls places r s
+behind_ties ks ls places r s t =
+    ap (λ l. ordering_then (by_keys l r s) (row_cmp r s)) (append_assoc ks ls (map rising places))
+    ∙ ap (λ o. ordering_then o (row_cmp r s)) (keys_append ks (ls ++ map rising places) r s)
+    ∙ ap (λ o. ordering_then (ordering_then o (by_keys (ls ++ map rising places) r s)) (row_cmp r s)) ((Equal-is (by_keys ks r s)).0 t)
+
+module _ (d : DataSet) (own : IsDataSet d.structure d.points) (call : AnalyticCall) (places : List ℕ)
+  (order : IsOrderOf (sort_keys (columns_of d.structure) (identifiers_of d.structure) call.window (length (columns_of d.structure))) d.points places) where
+  abbrev xs : List Component
+  xs = columns_of d.structure
+
+  abbrev rows : List Row
+  rows = d.points
+
+  abbrev agreed : List ℕ
+  agreed = places_named call.window.partition xs
+
+  abbrev listed_keys : List Key
+  listed_keys = keys_in xs call.window
+
+  abbrev ids : List ℕ
+  ids = identifier_places d.structure
+
+  abbrev pub keys : List SortKey
+  keys = partition_keys xs call.window
+
+  -- all keys, of which those of the partition are the first
+  abbrev first_keys : List Key
+  first_keys = map rising agreed ++ listed_keys
+
+  abbrev sorted_rows : List Row
+  sorted_rows = map (row_at rows) places
+
+  sorted : sorted_rows ≡ in_order first_keys ids rows
+  sorted = order.sorted ∙ all_columns_last (sort_keys xs (identifiers_of d.structure) call.window (length xs)) first_keys ids (length xs) rows (sort_is xs (identifiers_of d.structure) call.window (length xs)) (points_wide d own)
+
+  sorted_perm : Perm sorted_rows rows
+  sorted_perm = subst (λ l. Perm l rows) (sym sorted) (Perm-sorted_by (window_order first_keys ids) rows)
+
+  abbrev le_all : ℕ → ℕ → Bool
+  le_all j k = le_by (window_cmp first_keys ids) (row_at rows j) (row_at rows k)
+
+  rises : Rises le_all places
+  rises = rises_unmap (row_at rows) (le_by (window_cmp first_keys ids)) places (subst (Rises (le_by (window_cmp first_keys ids))) (sym sorted) (Rises-sorted_by (window_order first_keys ids) rows))
+
+  named : map key_of keys ≡ map rising agreed
+  named = partition_is xs call.window
+
+  pub by_partition : AreInOrder keys rows places
+  by_partition =
+      rises_with (λ k. Unit {0}) le_all (λ j k. le_by (by_keys (map key_of keys)) (row_at rows j) (row_at rows k))
+      (λ j k a b h. ap (λ ks. le_by (by_keys ks) (row_at rows j) (row_at rows k)) named ∙ by_first (map rising agreed) listed_keys (row_at rows j) (row_at rows k) (by_listed first_keys ids (row_at rows j) (row_at rows k) h))
+      places (all_true places) rises
+
+  module _ (s e : ℕ) (h : IsStretch keys rows places s e) where
+    abbrev pub run : List ℕ
+    run = take (e - s) (drop s places)
+
+    abbrev start : Row
+    start = row_at rows (get_or places s 0)
+
+    abbrev IsMember : ℕ → Type 0
+    IsMember k = cells_at agreed (row_at rows k) ≡ cells_at agreed start
+
+    run_is : (r : Row) → cells_at agreed r ≡ cells_at agreed start → filter (λ k. agree agreed (row_at rows k) r) places ≡ run
+    run_is r = stretch_is agreed keys named rows places by_partition s e h r
+
+    members : AllByRecursion IsMember run
+    members =
+        all_more (λ k. agree agreed (row_at rows k) start ≡ true) IsMember (λ k. same_row-is (cells_at agreed (row_at rows k)) (cells_at agreed start)) run
+        (subst (AllByRecursion (λ k. agree agreed (row_at rows k) start ≡ true)) (run_is start refl) (all_filtered (λ k. agree agreed (row_at rows k) start) places))
+
+    abbrev le_window : ℕ → ℕ → Bool
+    le_window j k = le_by (window_cmp listed_keys ids) (row_at rows j) (row_at rows k)
+
+    tie : (j k : ℕ) → IsMember j → IsMember k → is_eq (by_keys (map rising agreed) (row_at rows k) (row_at rows j)) ≡ true
+    tie j k a b = ties_agree agreed (row_at rows k) (row_at rows j) ∙ same_cells (b ∙ sym a)
+      where
+        same_cells : cells_at agreed (row_at rows k) ≡ cells_at agreed (row_at rows j) → agree agreed (row_at rows k) (row_at rows j) ≡ true
+        same_cells t = ap (same_row (cells_at agreed (row_at rows k))) (sym t) ∙ same_row-refl (cells_at agreed (row_at rows k))
+
+    run_rises : Rises le_window run
+    run_rises =
+        rises_with IsMember le_all le_window
+        (λ j k a b t. ap (λ o. not (is_lt o)) (sym (behind_ties (map rising agreed) listed_keys ids (row_at rows k) (row_at rows j) (tie j k a b))) ∙ t)
+        run members (rises_take le_all (e - s) (drop s places) (rises_drop le_all s places rises))
+
+    pub by_order : AreInOrder (order_keys xs call.window) rows run
+    by_order =
+        rises_with (λ k. Unit {0}) le_window (λ j k. le_by (by_keys (map key_of (order_keys xs call.window))) (row_at rows j) (row_at rows k))
+        (λ j k a b t. ap (λ ks. le_by (by_keys ks) (row_at rows j) (row_at rows k)) (order_is xs call.window) ∙ by_listed listed_keys ids (row_at rows j) (row_at rows k) t)
+        run (all_true run) run_rises
+
+    partition_perm : (r : Row) → cells_at agreed r ≡ cells_at agreed start → Perm (partition_of d call.window r) (map (row_at rows) run)
+    partition_perm r one =
+        subst (Perm (partition_of d call.window r)) (sym (filter-map (row_at rows) (λ q. agree agreed q r) places) ∙ ap (map (row_at rows)) (run_is r one))
+        (Perm-sym (Perm-filter (λ q. agree agreed q r) sorted_perm))
+
+    ordered_is : (r : Row) → cells_at agreed r ≡ cells_at agreed start → map (row_at rows) run ≡ (stand_of d call.window r).ordered
+    ordered_is r one = sorted_is (window_order listed_keys ids) (partition_of d call.window r) (map (row_at rows) run) (partition_perm r one) (Rises-map (row_at rows) (le_by (window_cmp listed_keys ids)) run run_rises)
+
+    abbrev at : ℕ → Row
+    at i = row_at rows (get_or run i 0)
+
+    one_of : (i : ℕ) → i < length run → cells_at agreed (at i) ≡ cells_at agreed start
+    one_of i l = all_get IsMember run i 0 l members
+
+    place_is : (i : ℕ) → i < length run → i ≡ (stand_of d call.window (at i)).place
+    place_is i l =
+        let same = ordered_is (at i) (one_of i l) in
+        let many : length (stand_of d call.window (at i)).ordered ≡ length run = ap length (sym same) ∙ length-map run (row_at rows) in
+        let there : get_or (stand_of d call.window (at i)).ordered i [] ≡ at i = ap (λ l. get_or l i []) (sym same) ∙ get_or-map (row_at rows) run i 0 [] l in
+        sym (places_are d call.window (at i) i own (omega (arith, many, l))) ∙ ap (λ r. (stand_of d call.window r).place) there
+
+    stand_is : (i : ℕ) → i < length run → stand_at rows run i ≡ stand_of d call.window (at i)
+    stand_is i l = λ n. record { point = at i; place = place_is i l n; ordered = ordered_is (at i) (one_of i l) n }
+
+    pub partition_values : (p : Settings) → run_values p xs call rows run ≡ map (λ k. call_value p d call (row_at rows k)) run
+    partition_values p =
+        map_same (λ i. value_at p xs call (stand_at rows run i)) (λ i. call_value p d call (at i)) (length run) (length run) refl
+        (λ i l. ap (value_at p xs call) (stand_is i l)) ∙ listed (λ k. call_value p d call (row_at rows k)) run 0

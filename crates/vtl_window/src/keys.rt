@@ -1,0 +1,122 @@
+// The keys by which the points of a data set are sorted for a window.
+ghost use Rattle.std.specs.List.{range_with_len};
+ghost use Rattle.std.specs.Prelude.{◌≡◌, ◌++◌, IfOk, OnOk, map};
+ghost use Rattle.vtl_tree.specs.Shown.{shown};
+ghost use Rattle.vtl_expr.specs.Columns.{place_of};
+ghost use Rattle.vtl_window.specs.Sorted.{identifier_keys, order_keys, ordering_key, partition_keys, rising_key, sort_keys};
+
+use std::alloc::{AllocError, Global};
+use vtl_cell::Txt;
+use vtl_expr::place_of;
+use vtl_nodes::{OrderKey, Window};
+use vtl_rows::SortKey;
+use vtl_tree::Component;
+
+// A key that rises.
+fn rising(column: usize) -> SortKey
+    ensures { result ≡ rising_key column }
+{
+    SortKey {
+        column,
+        falling: false,
+    }
+}
+
+// Puts the columns of names behind other keys.
+fn push_names(
+    keys: &mut Vec<SortKey>,
+    columns: &[&Component],
+    names: &[Txt],
+) -> Result<(), AllocError>
+    ensures { OnOk result (keys.new.items ≡ keys.old.items ++ map (λ name. rising_key (place_of name (shown columns.now))) names.now) }
+{
+    for name in names {
+        keys.push(rising(place_of(columns, name)))?;
+    }
+    Ok(())
+}
+
+// Puts the listed order behind other keys.
+fn push_order(
+    keys: &mut Vec<SortKey>,
+    columns: &[&Component],
+    order: &[OrderKey],
+) -> Result<(), AllocError>
+    ensures { OnOk result (keys.new.items ≡ keys.old.items ++ map (ordering_key (shown columns.now)) order.now) }
+{
+    for key in order {
+        keys.push(SortKey {
+            column: place_of(columns, &key.component),
+            falling: key.falling,
+        })?;
+    }
+    Ok(())
+}
+
+// Puts identifiers behind other keys.
+fn push_identifiers(
+    keys: &mut Vec<SortKey>,
+    columns: &[&Component],
+    identifiers: &[&Component],
+) -> Result<(), AllocError>
+    ensures { OnOk result (keys.new.items ≡ keys.old.items ++ identifier_keys (shown columns.now) (shown identifiers.now)) }
+{
+    for identifier in identifiers {
+        keys.push(rising(place_of(columns, &identifier.name)))?;
+    }
+    Ok(())
+}
+
+// Puts so many columns from the first on behind other keys.
+fn push_all(keys: &mut Vec<SortKey>, count: usize) -> Result<(), AllocError>
+    ensures { OnOk result (keys.new.items ≡ keys.old.items ++ map rising_key (range_with_len 0 count)) }
+{
+    for column in 0..count {
+        keys.push(rising(column))?;
+    }
+    Ok(())
+}
+
+/// The keys of the partition. It fails only if memory runs out.
+pub(crate) fn partition_keys(
+    alloc: Global,
+    columns: &[&Component],
+    window: &Window,
+) -> Result<Vec<SortKey>, AllocError>
+    ensures { IfOk result (λ v. v.items ≡ partition_keys (shown columns.now) window.now) }
+{
+    let mut keys = Vec::new(alloc);
+    push_names(&mut keys, columns, window.partition.as_slice())?;
+    Ok(keys)
+}
+
+/// The keys of the listed order. It fails only if memory runs out.
+pub(crate) fn order_keys(
+    alloc: Global,
+    columns: &[&Component],
+    window: &Window,
+) -> Result<Vec<SortKey>, AllocError>
+    ensures { IfOk result (λ v. v.items ≡ order_keys (shown columns.now) window.now) }
+{
+    let mut keys = Vec::new(alloc);
+    push_order(&mut keys, columns, window.order.as_slice())?;
+    Ok(keys)
+}
+
+/// All keys of the sort, of which the last are all columns. It fails only if memory runs out.
+pub(crate) fn sort_keys(
+    alloc: Global,
+    columns: &[&Component],
+    identifiers: &[&Component],
+    window: &Window,
+    count: usize,
+) -> Result<Vec<SortKey>, AllocError>
+    ensures { IfOk result (λ v. v.items ≡ sort_keys (shown columns.now) (shown identifiers.now) window.now count) }
+{
+    let mut keys = Vec::new(alloc);
+    push_names(&mut keys, columns, window.partition.as_slice())?;
+    push_order(&mut keys, columns, window.order.as_slice())?;
+    push_identifiers(&mut keys, columns, identifiers)?;
+    push_all(&mut keys, count)?;
+    Ok(keys)
+}

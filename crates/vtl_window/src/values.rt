@@ -1,0 +1,125 @@
+// The value of a call at each point.
+ghost use Rattle.std.specs.List.{AllByRecursion};
+ghost use Rattle.std.specs.Prelude.{◌≡◌, ◌<◌, ◌≤◌, ◌-◌, ℕ, All, IfOk, drop, length, map, option_map, take};
+ghost use Rattle.std.specs.Option.{option_map_or};
+ghost use Rattle.vtl_cell.specs.Row.{column_of};
+ghost use Rattle.vtl_rows.specs.Keys.{key_of};
+ghost use Rattle.vtl_rows.specs.Places.{IsOrderOf, row_at};
+ghost use Rattle.vtl_tree.specs.Shown.{shown};
+ghost use Rattle.vtl_tree.specs.Structure.{columns_of};
+ghost use Rattle.vtl_expr.specs.Columns.{identifiers_of, place_of};
+ghost use Rattle.vtl_group.specs.Made.{IsNamedColumn, IsWindowOver};
+ghost use Rattle.vtl_group.specs.PointWindows.{argument, call_value};
+ghost use Rattle.vtl_window.specs.Calls.{lent, values_at};
+ghost use Rattle.vtl_window.specs.Runs.{start_at};
+ghost use Rattle.vtl_window.specs.Sorted.{order_keys, partition_keys, sort_keys};
+
+use crate::call::Call;
+use crate::keys::{order_keys, partition_keys, sort_keys};
+use crate::partition::{Outcomes, push_call};
+use crate::putting_back::put_back;
+use std::alloc::{AllocError, Global};
+use vtl_cell::{Cell, Profile, Txt};
+use vtl_decimal::Fault;
+use vtl_expr::{DataSet, place_of};
+use vtl_nodes::Window;
+use vtl_rows::SortKey;
+use vtl_tree::Component;
+
+// The place of the component of a call; past the last column where it has none.
+fn argument_place(columns: &[&Component], component: Option<&Txt>) -> usize
+    ensures { result ≡ option_map_or (λ name. place_of name.now (shown columns.now)) component.entry (length columns.now) }
+{
+    match component {
+        Some(name) => place_of(columns, name),
+        None => columns.len(),
+    }
+}
+
+// Where a stretch begins; past the last one the number of rows.
+fn start_at(starts: &[usize], count: usize, i: usize) -> usize
+    ensures { result ≡ start_at starts.now count i }
+{
+    match starts.get(i) {
+        Some(start) => *start,
+        None => count,
+    }
+}
+
+// The numbers from one place up to another.
+fn stretch(places: &[usize], start: usize, end: usize) -> &[usize]
+    requires rises { start ≤ end }
+    requires within { end ≤ length places.now }
+    ensures { result.now ≡ take (end - start) (drop start places.now) }
+{
+    &places[start..end]
+}
+
+// The numbers of the points in the order of the sort.
+fn sorted_places(
+    alloc: Global,
+    a: &DataSet,
+    columns: &[&Component],
+    window: &Window,
+) -> Result<Vec<usize>, AllocError>
+    requires columns { shown columns.now ≡ columns_of a.now.structure }
+    requires partition { AllByRecursion (IsNamedColumn (columns_of a.now.structure)) window.now.partition }
+    requires order { AllByRecursion (λ key. IsNamedColumn (columns_of a.now.structure) key.component) window.now.order }
+    ensures within { IfOk result (λ v. All (λ i. i < length a.now.points) v.items) }
+    ensures order { IfOk result (λ v. IsOrderOf (sort_keys (columns_of a.now.structure) (identifiers_of a.now.structure) window.now (length (columns_of a.now.structure))) a.now.points v.items) }
+{
+    let identifiers = a.structure().identifiers(alloc)?;
+    let keys = sort_keys(alloc, columns, &identifiers, window, columns.len())?;
+    let places = a.table().places_by_columns(alloc, &keys)?;
+    Ok(places)
+}
+
+// The values of a call at the points with these numbers, which stand in the order of the sort.
+fn sorted_values(
+    alloc: Global,
+    a: &DataSet,
+    places: &[usize],
+    call: Call<'_>,
+    column: usize,
+    partition: &[SortKey],
+    order: &[SortKey],
+    p: &Profile,
+) -> Result<Outcomes, AllocError>
+    requires column { (k : ℕ) → column_of column (row_at a.now.points k) ≡ argument (columns_of a.now.structure) (option_map (λ name. name.now) call.component) (row_at a.now.points k) }
+    requires partition { partition.now ≡ partition_keys (columns_of a.now.structure) call.window.now }
+    requires order { order.now ≡ order_keys (columns_of a.now.structure) call.window.now }
+    requires sorted { IsOrderOf (sort_keys (columns_of a.now.structure) (identifiers_of a.now.structure) call.window.now (length (columns_of a.now.structure))) a.now.points places.now }
+    ensures { IfOk result (λ v. v.items ≡ map (λ k. call_value p.now a.now (lent call.entry) (row_at a.now.points k)) places.now) }
+{
+    let starts = a.table().runs(alloc, places, partition)?;
+    let mut out = Vec::with_capacity(alloc, places.len())?;
+    for i in 0..starts.len() {
+        let start = start_at(&starts, places.len(), i);
+        let end = start_at(&starts, places.len(), i + 1);
+        let run = stretch(places, start, end);
+        push_call(alloc, &mut out, a, run, call, column, order, p)?;
+    }
+    Ok(out)
+}
+
+/// The value of a call at each point of a data set, a fault standing for a value, in the order of its points. It fails
+/// only if memory runs out.
+///
+/// The points are sorted once, and each partition is gone over once.
+pub(crate) fn call_values(
+    alloc: Global,
+    a: &DataSet,
+    call: Call<'_>,
+    p: &Profile,
+) -> Result<Vec<Result<Cell, Fault>>, AllocError>
+    requires window { IsWindowOver (columns_of a.now.structure) call.op.now call.window.now }
+    ensures { IfOk result (λ v. v.items ≡ values_at p.now a.now (lent call.entry)) }
+{
+    let columns = a.structure().columns(alloc)?;
+    let places = sorted_places(alloc, a, &columns, call.window)?;
+    let partition = partition_keys(alloc, &columns, call.window)?;
+    let order = order_keys(alloc, &columns, call.window)?;
+    let column = argument_place(&columns, call.component);
+    let sorted = sorted_values(alloc, a, &places, call, column, &partition, &order, p)?;
+    put_back(alloc, &places, sorted)
+}
