@@ -45,7 +45,7 @@ push_cells-requires c =
     let many = ap (λ (l : List Row). length l) c.table-table.ensures.points in
     let within : i < length a.points = omega (arith, c.len-i-end.ensures.rows, c.loop-i-test.true, many) in
     let row : c.push_across.new.row.items ≡ across i columns =
-        c.in_ok-push_across.ensures ∙ ap (λ l. l ++ across i (items c.deref-in-loop-i.result.now)) c.loop-i.invariant.row ∙ ap (λ l. across i (items l)) c.deref-in-loop-i.ensures.value in
+    c.in_ok-push_across.ensures ∙ ap (λ l. l ++ across i (items c.deref-in-loop-i.result.now)) c.loop-i.invariant.row ∙ ap (λ l. across i (items l)) c.deref-in-loop-i.ensures.value in
     ap (fits c.loop-i.points.columns) row ∙ ap (λ cs. fits cs (across i columns)) c.loop-i.invariant.columns
     ∙ row_fits c.args.p.now spec a s c.requires own (shown c.deref.result.now) is columns c.in_ok-columns.ensures i [] within
 
@@ -64,7 +64,7 @@ loop-i-preserved c =
     let many = ap (λ (l : List Row). length l) c.table-table.ensures.points in
     let within : i < length a.points = omega (arith, c.len-i-end.ensures.rows, c.loop-i-test.true, many) in
     let row : c.push_across.new.row.items ≡ across i columns =
-        c.in_ok-push_across.ensures ∙ ap (λ l. l ++ across i (items c.deref-in-loop-i.result.now)) c.loop-i.invariant.row ∙ ap (λ l. across i (items l)) c.deref-in-loop-i.ensures.value in
+    c.in_ok-push_across.ensures ∙ ap (λ l. l ++ across i (items c.deref-in-loop-i.result.now)) c.loop-i.invariant.row ∙ ap (λ l. across i (items l)) c.deref-in-loop-i.ensures.value in
     let made = row ∙ row_is p spec a s c.requires own (shown c.deref.result.now) is columns c.in_ok-columns.ensures i [] within in
     record {
       columns = c.push_cells.ensures.columns ∙ c.loop-i.invariant.columns;

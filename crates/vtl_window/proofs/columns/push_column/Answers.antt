@@ -56,7 +56,7 @@ push_target-requires c =
     let IsOver : ValueTree → Type 0 = IsValueOver c.args.p.now (columns_of c.args.a.now.structure) in
     let items = map item_tree c.as_slice.result.now in
     let over : AllByRecursion (λ (i : ItemTree). IsOver i.value) items =
-        subst (AreValuesOver c.args.p.now (columns_of c.args.a.now.structure)) (ap analytic_tree c.in-Calc.is ∙ ap (λ l. nodes.of_items (map item_tree l)) (sym c.as_slice.ensures)) c.requires in
+    subst (AreValuesOver c.args.p.now (columns_of c.args.a.now.structure)) (ap analytic_tree c.in-Calc.is ∙ ap (λ l. nodes.of_items (map item_tree l)) (sym c.as_slice.ensures)) c.requires in
     found_has (λ (i : ItemTree). IsOver i.value) (λ (i : ItemTree). same_name i.target y.name) items (Some item) over (sym c.item_named.ensures ∙ ap (option_map (λ i. item_tree i.now)) c.in-Some.is) item refl
 
 pub returns-in-Some-clause-seen : goal.returns-in-Some-clause-seen
@@ -68,10 +68,10 @@ returns-in-Some-clause-seen c =
     let v = value_tree c.in-Some.item.now.value in
     let made : Option ItemTree → Option ValueTree = λ o. option_map (λ (i : ItemTree). i.value) o in
     let is : value_for spec y ≡ Some v =
-        ap (λ s. value_for (analytic_tree s) y) c.in-Calc.is
-        ∙ ap (λ l. made (item_named (map item_tree l) y.name)) (sym c.as_slice.ensures)
-        ∙ ap made (sym c.item_named.ensures)
-        ∙ ap (λ o. made (option_map (λ i. item_tree i.now) o)) c.in-Some.is in
+    ap (λ s. value_for (analytic_tree s) y) c.in-Calc.is
+    ∙ ap (λ l. made (item_named (map item_tree l) y.name)) (sym c.as_slice.ensures)
+    ∙ ap made (sym c.item_named.ensures)
+    ∙ ap (λ o. made (option_map (λ i. item_tree i.now) o)) c.in-Some.is in
     ok_seen c.push_target.result (seen_of c.args.seen) (faults_of (tree_value p a y.kind v) a.points) (faults_of (made_of p spec a y) a.points)
     (ap (λ (g : Row → Outcome Cell). faults_of g a.points) (made_as p spec a y v is)) c.push_target.ensures.seen
 
@@ -83,9 +83,9 @@ returns-in-None-clause-seen c =
     let y = c.args.column.now in
     let made : Option ItemTree → Option ValueTree = λ o. option_map (λ (i : ItemTree). i.value) o in
     let is : value_for spec y ≡ None =
-        ap (λ s. value_for (analytic_tree s) y) c.in-Calc.is
-        ∙ ap (λ l. made (item_named (map item_tree l) y.name)) (sym c.as_slice.ensures)
-        ∙ ap made (sym c.item_named.ensures)
-        ∙ ap (λ o. made (option_map (λ i. item_tree i.now) o)) c.in-None.is in
+    ap (λ s. value_for (analytic_tree s) y) c.in-Calc.is
+    ∙ ap (λ l. made (item_named (map item_tree l) y.name)) (sym c.as_slice.ensures)
+    ∙ ap made (sym c.item_named.ensures)
+    ∙ ap (λ o. made (option_map (λ i. item_tree i.now) o)) c.in-None.is in
     ok_seen c.push_own-in-None.result (seen_of c.args.seen) (faults_of (made_by p spec a y None) a.points) (faults_of (made_of p spec a y) a.points)
     (ap (λ (g : Row → Outcome Cell). faults_of g a.points) (kept_as p spec a y is)) c.push_own-in-None.ensures.seen
