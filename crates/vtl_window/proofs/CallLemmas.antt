@@ -1,18 +1,16 @@
 -- The values over a column's cells are those of a call over a partition.
-use Rattle.std.proofs.Common.{◌≡◌, ℕ, zero, suc, ◌+◌, ◌<◌, ◌≤◌, List, [], ◌∷◌, length, get_or, map, Ok, Option, Some, None, refl, sym, ap, ◌∙◌, arith}
+use Rattle.std.proofs.Common.{◌≡◌, ℕ, zero, suc, ◌+◌, ◌<◌, ◌≤◌, List, [], ◌∷◌, length, get_or, map, Option, Some, None, refl, sym, ap, ◌∙◌, arith}
 use Rattle.std.specs.Borrow.{Bor}
 use Rattle.std.specs.Prelude.{option_map}
 use Rattle.std.specs.List.{AllByRecursion, range_with_len}
 use Rattle.std.specs.Option.{option_map_or}
 use Rattle.std.proofs.lemmas.List.{get_or-map, length-map}
-use Rattle.vtl_cell.specs.Frames.{frame_of, lag_of, lead_of}
-use Rattle.vtl_cell.specs.Groups.{group_value, ratio_of}
+use Rattle.vtl_cell.specs.Frames.{frame_of}
 use Rattle.vtl_cell.specs.Outcome.{Outcome}
 use Rattle.vtl_cell.specs.Row.{Row, column_of}
 use Rattle.vtl_cell.specs.Settings.{Settings}
 use Rattle.vtl_cell.specs.declared.cell.Cell.{Cell}
 use Rattle.vtl_cell.specs.declared.cell.Cell.TheVariants as c
-use Rattle.vtl_cell.specs.declared.operator.AggKind.{AggKind}
 use Rattle.vtl_cell.specs.declared.Txt.{Txt}
 use Rattle.vtl_expr.specs.Columns.{place_of}
 use Rattle.vtl_frames.specs.Framed as frames
@@ -53,7 +51,7 @@ frame_is w i xs =
 
 -- ---- calls over a column's cells
 module _ (p : Settings) (xs : List Component) (call : AnalyticCall) (rows : List Row) (run : List ℕ) (column : ℕ)
-  (at : (k : ℕ) → column_of column (row_at rows k) ≡ argument xs call.component (row_at rows k)) where
+    (at : (k : ℕ) → column_of column (row_at rows k) ≡ argument xs call.component (row_at rows k)) where
   abbrev arg : Row → Cell
   arg = argument xs call.component
 

@@ -1,28 +1,25 @@
 -- A stretch of the points in the order of the sort is a partition in order, and a call has at each place of it the value at the point there.
-use Rattle.std.proofs.Common.{◌≡◌, ℕ, zero, suc, ◌+◌, ◌-◌, ◌<◌, ◌≤◌, Bool, true, false, not, cond, ◌&&◌, List, [], ◌∷◌, ◌++◌, length, drop, take, get_or, map, refl, sym, ap, ◌∙◌, arith, subst, All, true≢false, append_assoc}
+use Rattle.std.proofs.Common.{◌≡◌, ℕ, zero, suc, ◌-◌, ◌<◌, Bool, true, false, not, cond, ◌&&◌, List, [], ◌∷◌, ◌++◌, length, drop, take, get_or, map, refl, sym, ap, ◌∙◌, arith, subst, All, append_assoc}
 use Rattle.std.specs.Prelude.{filter}
 use Rattle.std.specs.List.{AllByRecursion, range_with_len}
 use Rattle.std.specs.Cmp.{Equal-is}
 use Rattle.std.specs.Ordering.{is_eq, is_lt, ordering_then}
 use Rattle.std.specs.declared.cmp.Ordering.{Ordering}
-use Rattle.std.specs.declared.cmp.Ordering.TheVariants.{Less, Equal, Greater}
 use Rattle.std.proofs.lemmas.Bool.{and_parts}
 use Rattle.std.proofs.lemmas.List.{get_or-map, length-map}
 use Rattle.std.proofs.lemmas.List.Elements.{All-from_recursion}
 use Rattle.std.proofs.lemmas.List.FromFn.{fill_by_all}
-use Rattle.vtl_cell.specs.Outcome.{Outcome}
 use Rattle.vtl_cell.specs.Perm.{Perm}
 use Rattle.vtl_cell.specs.Row.{Row, row_cmp, same_row}
 use Rattle.vtl_cell.specs.Settings.{Settings}
 use Rattle.vtl_cell.specs.Sorted.{Key, by_keys, in_order, rising, window_cmp}
 use Rattle.vtl_cell.specs.Sorting.{Rises, le_by}
 use Rattle.vtl_cell.specs.Kinds.{is_null, is_of}
-use Rattle.vtl_cell.specs.declared.cell.Cell.{Cell}
 use Rattle.vtl_cell.proofs.Keys.{window_order}
 use Rattle.vtl_cell.proofs.Perms.{Perm-filter, Perm-sym}
 use Rattle.vtl_cell.proofs.Rows.{same_row-is, same_row-refl}
 use Rattle.vtl_cell.proofs.Sorts.{Perm-sorted_by, Rises-map, Rises-sorted_by, sorted_is}
-use Rattle.vtl_rows.specs.Keys.{agree, key_of, ordered}
+use Rattle.vtl_rows.specs.Keys.{agree, key_of}
 use Rattle.vtl_rows.specs.Places.{IsOrderOf, row_at}
 use Rattle.vtl_rows.specs.Tables.{cells_at}
 use Rattle.vtl_rows.specs.declared.column.SortKey.{SortKey}
@@ -115,7 +112,7 @@ behind_ties ks ls places r s t =
     ∙ ap (λ o. ordering_then (ordering_then o (by_keys (ls ++ map rising places) r s)) (row_cmp r s)) ((Equal-is (by_keys ks r s)).0 t)
 
 module _ (d : DataSet) (own : IsDataSet d.structure d.points) (call : AnalyticCall) (places : List ℕ)
-  (order : IsOrderOf (sort_keys (columns_of d.structure) (identifiers_of d.structure) call.window (length (columns_of d.structure))) d.points places) where
+    (order : IsOrderOf (sort_keys (columns_of d.structure) (identifiers_of d.structure) call.window (length (columns_of d.structure))) d.points places) where
   abbrev xs : List Component
   xs = columns_of d.structure
 

@@ -1,29 +1,21 @@
 -- A stretch of rows that tie by the columns of a partition is a partition.
-use Rattle.std.proofs.Common.{◌≡◌, ℕ, zero, suc, ◌+◌, ◌-◌, ◌<◌, ◌≤◌, inl, inr, List, [], ◌∷◌, ◌++◌, length, drop, take, get_or, map, Bool, true, false, not, cond, refl, sym, ap, ◌∙◌, arith, true≢false, subst}
-use Rattle.std.specs.Prelude.{count_by, filter}
-use Rattle.std.specs.Cmp.{IsTotalOrder}
-use Rattle.std.specs.List.{AllByRecursion, range_with_len}
-use Rattle.std.specs.Ordering.{is_eq, is_lt, nat_cmp, on, ordering_then, then_cmp}
-use Rattle.std.specs.declared.cmp.Ordering.{Ordering}
-use Rattle.std.specs.declared.cmp.Ordering.TheVariants.{Less, Equal, Greater}
-use Rattle.std.proofs.lemmas.List.{take-append-drop}
-use Rattle.std.proofs.lemmas.List.Sums.{sum_by-append}
-use Rattle.vtl_cell.specs.Perm.{Perm}
+use Rattle.std.proofs.Common.{◌≡◌, ℕ, zero, suc, ◌+◌, ◌-◌, ◌<◌, ◌≤◌, List, [], ◌∷◌, length, drop, take, get_or, map, Bool, true, false, cond, refl, sym, ap, ◌∙◌, arith, true≢false, subst}
+use Rattle.std.specs.Prelude.{filter}
+use Rattle.std.specs.List.{AllByRecursion}
+use Rattle.std.specs.Ordering.{is_eq}
 use Rattle.vtl_cell.specs.Row.{Row, same_row}
 use Rattle.vtl_cell.specs.Sorted.{by_keys}
-use Rattle.vtl_cell.specs.Sorting.{Rises, le_by}
-use Rattle.vtl_cell.proofs.Perms.{Perm-filter, Perm-map}
+use Rattle.vtl_cell.specs.Sorting.{Rises}
 use Rattle.vtl_cell.proofs.Rows.{same_row-is, same_row-refl}
 use Rattle.vtl_rows.specs.Keys.{agree, key_of}
 use Rattle.vtl_rows.specs.Places.{row_at}
 use Rattle.vtl_rows.specs.Runs.{is_start}
 use Rattle.vtl_rows.specs.Tables.{cells_at}
 use Rattle.vtl_rows.specs.declared.column.SortKey.{SortKey}
-use Rattle.vtl_rows.proofs.Placed.{all_places}
 use Rattle.vtl_rows.proofs.Ties.{ties_agree, ties_between}
 use Rattle.vtl_cell.specs.Sorted.{rising}
 use Rattle.vtl_window.specs.Runs.{AreInOrder}
-use Rattle.vtl_window.proofs.RankLemmas.{R, at, le_at, starts_apart, tied_with_last, total}
+use Rattle.vtl_window.proofs.RankLemmas.{le_at, starts_apart, tied_with_last, total}
 
 -- ---- cuts
 filter_cut : {X : Type 0} (q : X → Bool) (xs : List X) (s e : ℕ) (d : X) → s ≤ e → e ≤ length xs → ((k : ℕ) → k < s → q (get_or xs k d) ≡ false) → ((k : ℕ) → s ≤ k → k < e → q (get_or xs k d) ≡ true) → ((k : ℕ) → e ≤ k → k < length xs → q (get_or xs k d) ≡ false)

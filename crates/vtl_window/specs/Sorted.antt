@@ -1,6 +1,6 @@
 -- The keys by which the points of a data set are sorted for a window: its partition, its order, and then all identifiers and all columns,
 -- so that no two points tie.
-use Rattle.std.specs.Prelude.{ℕ, Bool, false, List, ◌++◌, map}
+use Rattle.std.specs.Prelude.{ℕ, false, List, ◌++◌, map}
 use Rattle.std.specs.List.{range_with_len}
 use Rattle.vtl_rows.specs.declared.column.SortKey.{SortKey}
 use Rattle.vtl_tree.specs.declared.structure.Component.{Component}

@@ -1,4 +1,4 @@
-use Rattle.std.proofs.Common.{◌≡◌, ◌++◌, map, take}
+use Rattle.std.proofs.Common.{◌≡◌, ◌++◌, take}
 use Rattle.vtl_tree.specs.Shown.{shown}
 use Rattle.vtl_window.specs.Sorted.{identifier_keys}
 use Rattle.vtl_window.proofs.keys.push_identifiers.Given as goal

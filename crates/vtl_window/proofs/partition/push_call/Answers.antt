@@ -1,12 +1,10 @@
-use Rattle.std.proofs.Common.{◌≡◌, ℕ, ◌<◌, ◌++◌, ◌∷◌, [], List, Ok, length, map, refl, ap, sym, ◌∙◌}
+use Rattle.std.proofs.Common.{◌≡◌, ◌++◌, ◌∷◌, [], Ok, length, map, refl, ap, sym, ◌∙◌}
 use Rattle.std.specs.Prelude.{filter}
 use Rattle.std.specs.List.{range_with_len}
 use Rattle.std.proofs.lemmas.Result.{on_ok_weaker}
 use Rattle.vtl_cell.specs.Frames.{first_cell, lag_of, last_cell, lead_of}
 use Rattle.vtl_cell.specs.Groups.{group_value, ratio_of}
-use Rattle.vtl_cell.specs.Row.{Row, column_of}
-use Rattle.vtl_cell.specs.declared.cell.Cell.{Cell}
-use Rattle.vtl_cell.specs.declared.operator.AggKind.{AggKind}
+use Rattle.vtl_cell.specs.Row.{column_of}
 use Rattle.vtl_cell.specs.declared.operator.AggKind.TheVariants as agg
 use Rattle.vtl_frames.specs.Framed as frames
 use Rattle.vtl_rows.specs.Runs.{is_start, rank_at}
@@ -15,7 +13,7 @@ use Rattle.vtl_group.specs.calls.AnalyticOp.TheVariants as op
 use Rattle.vtl_group.specs.PointWindows.{argument, keys_in, op_value}
 use Rattle.vtl_window.specs.Calls.{lent}
 use Rattle.vtl_window.specs.Lanes.{cells_in}
-use Rattle.vtl_window.specs.Runs.{count_in, lane_cells, run_values, stand_at}
+use Rattle.vtl_window.specs.Runs.{count_in, lane_cells, stand_at}
 use Rattle.vtl_window.proofs.CallLemmas.{frame_is, lent_cells, op_values, own_cell}
 use Rattle.vtl_window.proofs.RankLemmas.{rank_values}
 use Rattle.vtl_window.proofs.partition.push_call.Goals as goal

@@ -1,4 +1,4 @@
-use Rattle.std.proofs.Common.{◌≡◌, ◌<◌, ℕ, ◌+◌, List, [], ◌∷◌, ◌++◌, length, get_or, set, refl, sym, ap, ◌∙◌, subst, arith, length-append}
+use Rattle.std.proofs.Common.{◌≡◌, [], ◌∷◌, length, get_or, set, sym, ap, ◌∙◌, subst, arith, length-append}
 use Rattle.vtl_window.specs.PutBack.{IsPutBack}
 use Rattle.vtl_window.proofs.PutLemmas.{all_put, goes_on, many_places, none_left}
 use Rattle.vtl_window.proofs.putting_back.put_back.Goals as goal

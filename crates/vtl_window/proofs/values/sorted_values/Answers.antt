@@ -1,4 +1,4 @@
-use Rattle.std.proofs.Common.{◌≡◌, ◌<◌, ◌≤◌, ℕ, ◌+◌, ◌-◌, length, map, take, drop, List, [], ◌∷◌, ◌++◌, refl, sym, ap, ◌∙◌, subst, arith}
+use Rattle.std.proofs.Common.{◌≡◌, ◌<◌, ◌≤◌, ℕ, ◌+◌, ◌-◌, length, map, take, drop, List, ◌++◌, sym, ap, ◌∙◌, subst, arith}
 use Rattle.std.specs.Prelude.{filter}
 use Rattle.std.specs.List.{range_with_len}
 use Rattle.std.proofs.lemmas.List.{map-append, take_all}
@@ -15,7 +15,7 @@ use Rattle.vtl_window.specs.Calls.{lent}
 use Rattle.vtl_window.specs.Runs.{AreInOrder, run_values, start_at}
 use Rattle.vtl_window.specs.Sorted.{order_keys, partition_keys}
 use Rattle.vtl_window.proofs.PartitionLemmas.{by_order, partition_values}
-use Rattle.vtl_window.proofs.RunLemmas.{all_behind, cut_take, none_before, starts, stretch_between}
+use Rattle.vtl_window.proofs.RunLemmas.{all_behind, cut_take, starts, stretch_between}
 use Rattle.vtl_window.proofs.SortLemmas.{order_is}
 use Rattle.vtl_window.proofs.values.sorted_values.Goals as goal
 
