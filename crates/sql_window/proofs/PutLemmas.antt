@@ -22,7 +22,7 @@ use Rattle.sql_eval.specs.Tables.{Base}
 use Rattle.sql_eval.specs.Values.{at_rows, place_in}
 use Rattle.sql_eval.specs.Windows.{is_falling}
 use Rattle.sql_eval.specs.Windows.{key_of as window_key}
-use Rattle.sql_from.specs.Columns.{columns_below, line_feed, source_columns}
+use Rattle.sql_groups.specs.Columns.{columns_below, line_feed, source_columns}
 use Rattle.std.proofs.lemmas.List.{drop_more, map-append, take_all}
 use Rattle.std.proofs.Math.Seq.{take-nil}
 use Rattle.std.proofs.lemmas.List.FromFn.{length-range_with_len, map-range_with_len_more}

@@ -20,7 +20,7 @@ use Rattle.vtl_frames.specs.declared.picks.Shift as places
 use Rattle.vtl_frames.specs.declared.picks.Shift.TheVariants as place
 use Rattle.vtl_rows.specs.Keys.{key_of}
 use Rattle.vtl_rows.specs.declared.column.SortKey.{SortKey}
-use Rattle.sql_from.specs.Values.{View}
+use Rattle.sql_groups.specs.Values.{View}
 use Rattle.sql_eval.specs.Windows.{Stand, call_value, keys_of, partition_of, partition_places, window_value}
 
 -- the cells of a column at these rows

@@ -6,14 +6,14 @@ ghost use Rattle.vtl_cell.specs.declared.cell.Cell as cells;
 ghost use Rattle.sql_eval.specs.Scopes.{row_of};
 ghost use Rattle.sql_eval.specs.Values.{place_in};
 ghost use Rattle.sql_eval.specs.Windows.{told_apart, window_value};
-ghost use Rattle.sql_from.specs.Sources.{scope_held};
-ghost use Rattle.sql_from.specs.Standing.{rows_for, sight_of};
+ghost use Rattle.sql_groups.specs.Sources.{scope_held};
+ghost use Rattle.sql_groups.specs.Standing.{rows_for, sight_of};
 ghost use Rattle.sql_window.specs.Keys.{AreCut};
 ghost use Rattle.sql_window.specs.Runs.{window_at};
 
 use crate::calls::{Outcomes, push_call};
 use crate::keys::{all_keys, order_keys, partition_keys};
-use sql_from::{Sources, TupleRows};
+use sql_groups::{Sources, TupleRows};
 use sql_tree::Window;
 use std::alloc::{AllocError, Global};
 use vtl_cell::{Cell, Profile};

@@ -8,9 +8,9 @@ use Rattle.vtl_rows.specs.Places.{IsOrderOf}
 use Rattle.vtl_rows.specs.Runs.{is_start}
 use Rattle.sql_eval.specs.Values.{place_in}
 use Rattle.sql_eval.specs.Windows.{told_apart, window_value}
-use Rattle.sql_from.specs.Held.{base_held}
-use Rattle.sql_from.specs.Sources.{scope_held}
-use Rattle.sql_from.specs.Standing.{sight_of}
+use Rattle.sql_groups.specs.Held.{base_held}
+use Rattle.sql_groups.specs.Sources.{scope_held}
+use Rattle.sql_groups.specs.Standing.{sight_of}
 use Rattle.sql_window.specs.Keys.{AreCut, order_key, partition_key, rising_key}
 use Rattle.sql_window.specs.Runs.{window_at}
 use Rattle.sql_window.proofs.PutLemmas.{columns_many, keys_within, order_named, partition_named, told_rows}
