@@ -2,7 +2,7 @@
 //! memory.
 //!
 //! It holds data sets by name, lends them to the operators that read them, and releases each after the last statement
-//! that reads it. What an operator gives is computed by `vtl_clause`, `vtl_group`, `vtl_combine` and
+//! that reads it. What an operator gives is computed by `vtl_clause`, `vtl_combine`, `vtl_group`, `vtl_window` and
 //! `vtl_join`.
 //! It decides no type rule (the script is typed already), reads and writes no file, and knows no status.
 //! Begin with vtl_backend/specs/Runs.antt, which it meets, then src/statements.rt and src/evaluation.rt.
