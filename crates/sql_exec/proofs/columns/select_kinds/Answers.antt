@@ -1,12 +1,12 @@
 use Rattle.std.proofs.Common.{◌≡◌, ◌∙◌, ◌+◌, [], ◌∷◌, ◌++◌, List, ap, sym, subst, map, drop}
 use Rattle.sql_tree.specs.View.{join_tree, select_tree}
 use Rattle.sql_tree.specs.declared.statements.Join.{Join}
-use Rattle.sql_groups.specs.Queries.{first_scope, join_source, joined_scope}
-use Rattle.sql_groups.specs.Scopes.{Scope, with_source}
-use Rattle.sql_groups.specs.TypedSelects.{AreJoinsTyped, IsSourceTyped}
-use Rattle.sql_groups.specs.Held.{tables_held}
+use Rattle.sql_window.specs.Queries.{first_scope, join_source, joined_scope}
+use Rattle.sql_window.specs.Scopes.{Scope, with_source}
+use Rattle.sql_window.specs.TypedSelects.{AreJoinsTyped, IsSourceTyped}
+use Rattle.sql_window.specs.Held.{tables_held}
 use Rattle.sql_tree.specs.declared.parts.Source.{Source}
-use Rattle.sql_groups.specs.Sources.{scope_held, table_named}
+use Rattle.sql_window.specs.Sources.{scope_held, table_named}
 use Rattle.sql_exec.proofs.QueryColumns.{drop_read, scope_with}
 use Rattle.sql_exec.proofs.columns.select_kinds.Goals as goal
 
@@ -17,12 +17,12 @@ loop-join-init c =
     let before = c.over.result in
     let given : tables_held before.held ≡ tables = ap tables_held c.over.ensures.held in
     let none : scope_held before.sources ≡ [] = ap scope_held c.over.ensures.sources in
-    let typed : IsSourceTyped (tables_held before.held) (scope_held before.sources) s.source = subst (λ t. IsSourceTyped t (scope_held before.sources) s.source) (sym given) (subst (λ scope. IsSourceTyped tables scope s.source) (sym none) c.requires.typed.source) in
+    let typed : IsSourceTyped (tables_held before.held) (scope_held before.sources) s.source = subst (λ t. IsSourceTyped t (scope_held before.sources) s.source) (sym given) (subst (λ scope. IsSourceTyped tables scope s.source) (sym none) c.requires.source) in
     let first : scope_held c.in_ok-sources.sources.sources ≡ first_scope tables s =
     scope_with before c.in_ok-sources.sources s.source typed c.in_ok-sources.ensures.sources ∙ (λ i. with_source (given i) (none i) s.source) in
     record {
       held = c.in_ok-sources.ensures.held ∙ c.over.ensures.held;
-      typed = subst (λ scope. AreJoinsTyped c.args.p.now tables scope s.joins) (sym first) c.requires.typed.joins;
+      typed = subst (λ scope. AreJoinsTyped c.args.p.now tables scope s.joins) (sym first) c.requires.joins;
       scope = ap (λ scope. joined_scope tables scope s.joins) first;
     }
 

@@ -5,11 +5,12 @@ use Rattle.vtl_cell.specs.Outcome.{Outcome}
 use Rattle.vtl_cell.specs.Row.{Row}
 use Rattle.sql_tree.specs.View.{item_tree, select_tree}
 use Rattle.sql_tree.specs.declared.statements.Item.{Item}
-use Rattle.sql_groups.specs.Queries.{is_grouped}
-use Rattle.sql_groups.specs.Selects.{grouped_rows, plain_rows}
-use Rattle.sql_groups.specs.Held.{base_held}
-use Rattle.sql_groups.specs.Sources.{scope_held}
-use Rattle.sql_groups.specs.Standing.{rows_for, sight_of}
+use Rattle.sql_window.specs.Queries.{is_grouped}
+use Rattle.sql_window.specs.Outcomes.{row_at}
+use Rattle.sql_window.specs.Selects.{grouped_rows, item_value}
+use Rattle.sql_window.specs.Held.{base_held}
+use Rattle.sql_window.specs.Sources.{scope_held}
+use Rattle.sql_window.specs.Standing.{rows_for, sight_of}
 use Rattle.sql_exec.specs.Outputs.{Adds}
 use Rattle.sql_exec.specs.Parts.{MakesKinds}
 use Rattle.sql_exec.specs.declared.output.Output.{Output}
@@ -27,7 +28,7 @@ add_rows-requires-clause-fitting c =
     let s = c.args.rows.now.sources in
     let kinds = c.args.kinds.now in
     let plain : is_grouped (select_tree c.args.select.now) ≡ false = sym c.is_grouped.ensures ∙ c.if-not-is_grouped.true in
-    subst (λ (items : List Item). MakesKinds (scope_held s.sources) kinds (plain_rows (sight_of c.args.p.now s) (zip (map item_tree items) kinds))) (sym c.as_slice.ensures)
+    subst (λ (items : List Item). MakesKinds (scope_held s.sources) kinds (λ rows. row_at (item_value (sight_of c.args.p.now s) rows) (zip (map item_tree items) kinds))) (sym c.as_slice.ensures)
     (plain_makes (base_held c.args.p.now s.held) kinds (select_tree c.args.select.now) c.requires.part (scope_held s.sources) c.requires.scope plain)
 
 pub returns-in-Ok-clause-adds : goal.returns-in-Ok-clause-adds
