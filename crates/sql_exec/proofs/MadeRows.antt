@@ -1,5 +1,5 @@
 -- Rows of items with places, at the rows of FROM of some sources.
-use Rattle.std.proofs.Common.{◌≡◌, ℕ, ◌<◌, List, [], ◌∷◌, true, length, map, get_or, None, sym, ap, ◌∙◌}
+use Rattle.std.proofs.Common.{◌≡◌, ℕ, ◌<◌, List, [], ◌∷◌, true, length, get_or, ap, ◌∙◌}
 use Rattle.vtl_cell.specs.Outcome.{unless}
 use Rattle.vtl_cell.specs.Row.{Row}
 use Rattle.vtl_cell.specs.Settings.{Settings}

@@ -1,5 +1,5 @@
 -- The selects of a typed query.
-use Rattle.std.proofs.Common.{◌≡◌, ℕ, suc, List, [], ◌∷◌, Bool, true, false, ◌&&◌, length, map, cond, Option, None, Some, Ok, Err, refl, sym, ap, ◌∙◌, subst}
+use Rattle.std.proofs.Common.{◌≡◌, ℕ, suc, List, [], ◌∷◌, true, false, ◌&&◌, length, map, cond, Option, None, Some, Ok, Err, refl, sym, ap, ◌∙◌, subst}
 use Rattle.std.specs.Prelude.{IfOk, zip}
 use Rattle.std.specs.List.{AllByRecursion}
 use Rattle.std.proofs.lemmas.List.{length-map}
@@ -16,7 +16,7 @@ use Rattle.sql_tree.specs.Trees as tree
 use Rattle.sql_tree.specs.Trees.{ItemTree, QueryTree, SelectTree, ValueTree}
 use Rattle.sql_window.specs.Expressions.{Site, site}
 use Rattle.sql_window.specs.Queries as typing
-use Rattle.sql_window.specs.Queries.{groups_of, is_grouped, item_kind, query_columns, scope_of, value_kind}
+use Rattle.sql_window.specs.Queries.{is_grouped, item_kind, query_columns, scope_of, value_kind}
 use Rattle.sql_window.specs.Scopes.{Grouping, Scope, grouping_of, row_of}
 use Rattle.sql_window.specs.TypedSelects.{IsItemTyped, IsQueryTyped, IsSelectTyped, IsValueTyped}
 use Rattle.sql_window.specs.Selects.{Wanted, grouped_rows, item_value, plain_rows, row_value, second_phase}

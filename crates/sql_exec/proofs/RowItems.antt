@@ -15,7 +15,7 @@ use Rattle.sql_tree.specs.View.{item_tree, value_tree}
 use Rattle.sql_tree.specs.declared.statements.Item.{Item}
 use Rattle.sql_tree.specs.declared.windows.Window.{Window}
 use Rattle.sql_window.specs.Held.{rows_held, tables_held}
-use Rattle.sql_window.specs.Selects.{item_value}
+use Rattle.sql_window.specs.Selects.{Wanted, item_value}
 use Rattle.sql_window.specs.Sources.{Sourced, scope_held}
 use Rattle.sql_window.specs.Standing.{sight_of}
 use Rattle.sql_window.specs.Values.{View, value}
@@ -55,8 +55,8 @@ pub items_more : (v : View) (rows : List Row) (items : List Item) (kinds : List 
     → HaveValuesOf v rows (take i (zip (map item_tree items) kinds)) made → HasValuesOf v rows (value_tree item.value) x → made' ≡ made ++ record { values = x; kind = kind } ∷ [] → HaveValuesOf v rows (take (i + 1) (zip (map item_tree items) kinds)) made'
 items_more v rows items kinds i item kind x made made' h l e g before is new n here =
     let now : RowItem = record { values = x; kind = kind } in
-    let at = λ w. item_value v rows w (told_row rows n) in
-    let m = λ y. made_at_row v.base.settings v.base.rows y (numbered_row rows n) in
+    let at : Wanted → Outcome Cell = λ w. item_value v rows w (told_row rows n) in
+    let m : RowItem → Outcome Cell = λ y. made_at_row v.base.settings v.base.rows y (numbered_row rows n) in
     let first = take i (zip (map item_tree items) kinds) in
     let one : m now ≡ at (item_tree item, kind) = ap (λ o. after o (as_kind v.base.settings kind)) (is n here) in
     let all : take (i + 1) (zip (map item_tree items) kinds) ≡ first ++ (item_tree item, kind) ∷ [] = rw add-one (zipped_more item_tree items kinds i item kind h l e g) in
