@@ -6,6 +6,7 @@ pub use Rattle.sql_window.proofs.Orders
 pub use Rattle.sql_window.proofs.Profiled
 pub use Rattle.sql_window.proofs.QueryKinds
 pub mod Steps
+pub mod PlacedColumns
 pub mod RowItems
 pub mod Added
 pub mod PlainRows

@@ -85,12 +85,15 @@ module _ (b : Base) where
     part_many = lifted_many kinds (typing.kinds_of b.tables s) part.lifted ∙ length-map s.items (item_kind (scope_of b.tables s))
 
     -- over a scope that is that of the select
+    pub plain_typed : (scope : Scope) → scope ≡ scope_of b.tables s → is_grouped s ≡ false → AllByRecursion (IsItemTyped (site b.settings b.tables scope) None) s.items
+    plain_typed scope e g =
+        subst (λ z. AllByRecursion (IsItemTyped (site b.settings b.tables z) None) s.items) (sym e)
+        (subst (λ q. AllByRecursion (IsItemTyped (site b.settings b.tables (scope_of b.tables s)) (cond q (Some (grouping_of s.group)) None)) s.items) g part.typed.items)
+
     pub plain_makes : (scope : Scope) → scope ≡ scope_of b.tables s → is_grouped s ≡ false → MakesKinds scope kinds (λ rows. row_at (item_value (at_rows b scope) rows) (zip s.items kinds))
     plain_makes scope e g rows x all fit =
-        let typed : AllByRecursion (IsItemTyped (site b.settings b.tables (scope_of b.tables s)) None) s.items = subst (λ q. AllByRecursion (IsItemTyped (site b.settings b.tables (scope_of b.tables s)) (cond q (Some (grouping_of s.group)) None)) s.items) g part.typed.items in
-        let here : AllByRecursion (IsItemTyped (site b.settings b.tables scope) None) s.items = subst (λ z. AllByRecursion (IsItemTyped (site b.settings b.tables z) None) s.items) (sym e) typed in
         let up : AreLifted kinds (map (item_kind scope) s.items) = subst (λ z. AreLifted kinds (map (item_kind z) s.items)) (sym e) part.lifted in
-        row_fits b.settings scope (row_value (at_rows b scope) rows) x s.items kinds up (under (λ i h. value_fits scope rows all i.value x h fit) s.items here)
+        row_fits b.settings scope (row_value (at_rows b scope) rows) x s.items kinds up (under (λ i h. value_fits scope rows all i.value x h fit) s.items (plain_typed scope e g))
 
   parts_are : (kinds : List Kind) (q : QueryTree) → AllByRecursion (IsSelectTyped b.settings b.tables) q → AllByRecursion (λ s. AreLifted kinds (typing.kinds_of b.tables s)) q → AllByRecursion (IsPart b kinds) q
   parts_are kinds [] h up = tt

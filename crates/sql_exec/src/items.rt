@@ -1,21 +1,25 @@
 // Items of a select that is not grouped, with places in place of names.
-ghost use Rattle.std.specs.Prelude.{◌≡◌, ◌++◌, ◌∷◌, [], ℕ, get_or, map, length, zip, IfErr, IfOk, Ok};
-ghost use Rattle.vtl_cell.specs.Outcome.{fault_in, faults_by, join};
+ghost use Rattle.std.specs.Prelude.{◌≡◌, ◌++◌, ◌∷◌, [], map, length, zip, IfErr, IfOk, None};
+ghost use Rattle.std.specs.List.{AllByRecursion};
+ghost use Rattle.vtl_cell.specs.Outcome.{fault_in, join};
 ghost use Rattle.vtl_scalar.specs.Answers.{AnswersBy};
 ghost use Rattle.vtl_scalar.specs.Given.{given_cell};
 ghost use Rattle.sql_tree.specs.View.{item_tree, value_tree};
-ghost use Rattle.sql_window.specs.Held.{base_held};
+ghost use Rattle.sql_window.specs.Expressions.{site};
+ghost use Rattle.sql_window.specs.Held.{tables_held};
 ghost use Rattle.sql_window.specs.Outcomes.{cell_or_null, row_at, row_fault};
-ghost use Rattle.sql_window.specs.Profiles.{IsLawful};
 ghost use Rattle.sql_window.specs.Seen.{seen_of};
+ghost use Rattle.sql_window.specs.Sources.{scope_held};
 ghost use Rattle.sql_window.specs.Standing.{rows_for, sight_of};
+ghost use Rattle.sql_window.specs.TypedSelects.{IsItemTyped, IsValueTyped};
 ghost use Rattle.sql_exec.specs.Items.{HasValuesOf, HaveValuesOf, made_at_row, made_value};
 
 use sql_eval::{Cells, Level, Resolved, resolve, value_at};
 use sql_tree::{Item, ItemValue};
-use sql_window::{Fault, Seen, TupleRows, window_values};
+use sql_window::{Seen, TupleRows, window_values};
 use std::alloc::{AllocError, Global};
 use vtl_cell::{Cell, Kind, Profile};
+use vtl_decimal::Fault;
 use vtl_scalar::{Given, ScalarErr, given_of_kind};
 
 /// The values of an item at the rows of FROM.
@@ -91,7 +95,7 @@ fn item_values(
     rows: &TupleRows<'_>,
     value: &ItemValue,
 ) -> Result<ItemValues, AllocError>
-    requires { IsLawful (base_held p.now rows.now.sources.held) }
+    requires { IsValueTyped (site p.now (tables_held rows.now.sources.held) (scope_held rows.now.sources.sources)) None (value_tree value.now) }
     ensures { IfOk result (HasValuesOf (sight_of p.now rows.now.sources) (rows_for rows.now.sources rows.now.tuples) (value_tree value.now)) }
 {
     match value {
@@ -112,7 +116,7 @@ pub(crate) fn row_items(
     items: &[Item],
     kinds: &[Kind],
 ) -> Result<Vec<RowItem>, AllocError>
-    requires lawful { IsLawful (base_held p.now rows.now.sources.held) }
+    requires typed { AllByRecursion (IsItemTyped (site p.now (tables_held rows.now.sources.held) (scope_held rows.now.sources.sources)) None) (map item_tree items.now) }
     requires many { length kinds.now ≡ length items.now }
     ensures { IfOk result (λ v. HaveValuesOf (sight_of p.now rows.now.sources) (rows_for rows.now.sources rows.now.tuples) (zip (map item_tree items.now) kinds.now) v.items) }
 {

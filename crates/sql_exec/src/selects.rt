@@ -1,6 +1,6 @@
 // Selects: FROM and WHERE first, and then items or groups.
 ghost use Rattle.std.specs.List.{AllByRecursion};
-ghost use Rattle.std.specs.Prelude.{◌≡◌, ◌==◌, filter, length, map, zip, IfErr, IfOk, OnOk};
+ghost use Rattle.std.specs.Prelude.{◌≡◌, ◌==◌, filter, length, map, zip, None, IfErr, IfOk, OnOk};
 ghost use Rattle.vtl_rows.specs.Tables.{column_kinds};
 ghost use Rattle.sql_tree.specs.View.{item_tree, select_tree};
 ghost use Rattle.sql_window.specs.Queries.{scope_of};
@@ -12,6 +12,8 @@ ghost use Rattle.sql_window.specs.Tables.{RowsFit};
 ghost use Rattle.sql_window.specs.Held.{base_held, tables_held};
 ghost use Rattle.sql_window.specs.Sources.{scope_held};
 ghost use Rattle.sql_window.specs.Standing.{rows_for, sight_of};
+ghost use Rattle.sql_window.specs.Expressions.{site};
+ghost use Rattle.sql_window.specs.TypedSelects.{IsItemTyped};
 ghost use Rattle.sql_exec.specs.Outputs.{Adds};
 ghost use Rattle.sql_exec.specs.Parts.{IsPart, MakesKinds};
 
@@ -54,6 +56,7 @@ fn add_rows(
     p: &Profile,
 ) -> Result<(), ScalarErr>
     requires lawful { IsLawful (base_held p.now rows.now.sources.held) }
+    requires typed { AllByRecursion (IsItemTyped (site p.now (tables_held rows.now.sources.held) (scope_held rows.now.sources.sources)) None) (map item_tree items.now) }
     requires many { length kinds.now ≡ length items.now }
     requires columns { column_kinds out.old.table.columns ≡ kinds.now }
     requires fit { RowsFit (row_of (scope_held rows.now.sources.sources)) (rows_for rows.now.sources rows.now.tuples) }

@@ -1,10 +1,14 @@
-use Rattle.std.proofs.Common.{◌<◌, length, get_or, ap, subst, arith}
+use Rattle.std.proofs.Common.{◌<◌, None, length, get_or, ap, subst, arith}
 use Rattle.std.proofs.lemmas.List.{get_or_default}
 use Rattle.sql_tree.specs.View.{item_tree}
+use Rattle.sql_window.specs.Expressions.{site}
+use Rattle.sql_window.specs.Held.{tables_held}
+use Rattle.sql_window.specs.Sources.{scope_held}
+use Rattle.sql_window.specs.TypedSelects.{IsItemTyped}
 use Rattle.sql_window.specs.Standing.{rows_for, sight_of}
 use Rattle.sql_exec.specs.Items.{HaveValuesOf}
 use Rattle.sql_exec.proofs.RowItems.{items_more}
-use Rattle.sql_exec.proofs.Steps.{zipped_all}
+use Rattle.sql_exec.proofs.Steps.{holds_mapped, zipped_all}
 use Rattle.sql_exec.proofs.items.row_items.Goals as goal
 
 pub loop-i-preserved : goal.loop-i-preserved
@@ -21,3 +25,11 @@ returns c =
     let v = sight_of c.args.p.now c.args.rows.now.sources in
     let rows = rows_for c.args.rows.now.sources c.args.rows.now.tuples in
     subst (λ w. HaveValuesOf v rows w c.loop-i.row_items.items) (zipped_all item_tree c.args.items.now c.args.kinds.now c.loop-i.i (omega (arith, c.loop-i-test.false))) c.loop-i.invariant
+
+pub item_values-requires : goal.item_values-requires
+item_values-requires c =
+    let s = c.args.rows.now.sources in
+    let items = c.args.items.now in
+    let h : c.loop-i.i < length items = omega (arith, c.loop-i-test.true) in
+    let item = get_or items c.loop-i.i c.index-items-i.result in
+    holds_mapped (IsItemTyped (site c.args.p.now (tables_held s.held) (scope_held s.sources)) None) item_tree items c.loop-i.i item c.requires.typed h (ap (get_or items c.loop-i.i) c.index-items-i.is)

@@ -1,0 +1,86 @@
+use Rattle.std.proofs.Common.{All, ◌<◌, ◌++◌, length, map, sym, ap, subst, ◌∙◌}
+use Rattle.std.specs.Prelude.{filter, IsPermutation}
+use Rattle.std.specs.List.{AllByRecursion, range_with_len}
+use Rattle.std.proofs.lemmas.List.FromFn.{length-range_with_len}
+use Rattle.std.proofs.lemmas.Result.{IfOk-weaker}
+use Rattle.vtl_cell.proofs.Perms.{Perm-from_IsPermutation, length-Perm}
+use Rattle.vtl_rows.specs.Places.{IsOrderOf}
+use Rattle.vtl_rows.specs.Runs.{is_start}
+use Rattle.sql_eval.specs.Values.{place_in}
+use Rattle.sql_eval.specs.Windows.{told_apart, window_value}
+use Rattle.sql_groups.specs.Held.{base_held}
+use Rattle.sql_groups.specs.Sources.{scope_held}
+use Rattle.sql_groups.specs.Standing.{sight_of}
+use Rattle.sql_window.specs.Keys.{AreCut, order_key, partition_key, rising_key}
+use Rattle.sql_window.specs.Runs.{window_at}
+use Rattle.sql_window.proofs.PutLemmas.{columns_many, keys_within, order_named, partition_named, told_rows}
+use Rattle.sql_window.proofs.windows.window_values.Goals as goal
+
+pub places_by_columns-requires : goal.places_by_columns-requires
+places_by_columns-requires c =
+    let scope = scope_held c.args.rows.now.sources.sources in
+    let o = c.args.window.now.over in
+    let n = length c.in_ok-table.table.columns in
+    let many = ap length c.in_ok-table.ensures.columns ∙ columns_many scope in
+    let part = c.deref.ensures.value ∙ c.in_ok-partition.ensures ∙ ap (map (partition_key scope)) c.as_slice.ensures in
+    let ord = c.deref-2.ensures.value ∙ c.in_ok-order.ensures ∙ ap (map (order_key scope)) c.as_slice-2.ensures in
+    let keys = c.deref-3.ensures.value ∙ c.in_ok-keys.ensures ∙ ap (λ l. (l ++ c.deref-2.result.now) ++ map rising_key (range_with_len 0 (length c.columns.result.now))) part
+    ∙ ap (λ l. (map (partition_key scope) o.partition ++ l) ++ map rising_key (range_with_len 0 (length c.columns.result.now))) ord
+    ∙ ap (λ l. (map (partition_key scope) o.partition ++ map (order_key scope) o.order) ++ map rising_key (range_with_len 0 (length l))) c.columns.ensures.columns in
+    subst (All (λ k. k.column < n)) (sym keys)
+    (keys_within scope o n (subst (λ m. AllByRecursion (λ x. place_in scope x < m) o.partition) (sym many) c.requires.partition) (subst (λ m. AllByRecursion (λ k. place_in scope k.column < m) o.order) (sym many) c.requires.order))
+
+pub push_partitions-requires : goal.push_partitions-requires
+push_partitions-requires c =
+    let sources = c.args.rows.now.sources in
+    let scope = scope_held sources.sources in
+    let v = sight_of c.args.p.now sources in
+    let o = c.args.window.now.over in
+    let rows = c.in_ok-table.table.rows in
+    let n = length c.in_ok-table.table.columns in
+    let p0 = map (partition_key scope) o.partition in
+    let o0 = map (order_key scope) o.order in
+    let partition_is = c.in_ok-partition.ensures ∙ ap (map (partition_key scope)) c.as_slice.ensures in
+    let order_is = c.in_ok-order.ensures ∙ ap (map (order_key scope)) c.as_slice-2.ensures in
+    let keys = c.deref-3.ensures.value ∙ c.in_ok-keys.ensures ∙ ap (λ l. (l ++ c.deref-2.result.now) ++ map rising_key (range_with_len 0 (length c.columns.result.now))) (c.deref.ensures.value ∙ partition_is)
+    ∙ ap (λ l. (p0 ++ l) ++ map rising_key (range_with_len 0 (length c.columns.result.now))) (c.deref-2.ensures.value ∙ order_is)
+    ∙ ap (λ l. (p0 ++ o0) ++ map rising_key (range_with_len 0 (length l))) c.columns.ensures.columns in
+    let places = c.in_ok-places.places.items in
+    let starts = c.in_ok-starts.ensures.starts ∙ ap (λ l. filter (is_start l rows c.deref-4.result.now) (range_with_len 0 (length c.deref-4.result.now))) (c.deref-5.ensures.value ∙ partition_is)
+    ∙ ap (λ l. filter (is_start p0 rows l) (range_with_len 0 (length l))) c.deref-4.ensures.value in
+    let cut : AreCut v o o0 rows n places c.in_ok-starts.starts.items = (
+      p0,
+      record {
+        partition_is = partition_named v o.partition;
+        order_is = order_named (base_held c.args.p.now sources.held) scope o.order;
+        placed = subst (λ l. IsOrderOf l rows places) keys c.in_ok-places.ensures.order;
+        wide = c.columns.ensures.wide;
+      },
+      starts,
+    ) in
+    subst (λ l. AreCut v o l rows n c.deref-6.result.now c.deref-7.result.now) (sym (c.deref-8.ensures.value ∙ order_is))
+    (subst (λ l. AreCut v o o0 rows n l c.deref-7.result.now) (sym c.deref-6.ensures.value)
+    (subst (λ l. AreCut v o o0 rows n places l) (sym c.deref-7.ensures.value) cut))
+
+pub put_back-requires-clause-all : goal.put_back-requires-clause-all
+put_back-requires-clause-all c =
+    let rows = c.in_ok-table.table.rows in
+    let places = c.in_ok-places.places.items in
+    let all = c.in_ok-places.ensures.order.all in
+    let many = sym (length-range_with_len 0 (length rows)) ∙ length-Perm (Perm-from_IsPermutation (range_with_len 0 (length rows)) places all) in
+    subst (λ l. IsPermutation (range_with_len 0 (length l)) l) (sym c.deref-9.ensures.value) (subst (λ m. IsPermutation (range_with_len 0 m) places) many all)
+
+pub returns : goal.returns
+returns c =
+    let v = sight_of c.args.p.now c.args.rows.now.sources in
+    let w = c.args.window.now in
+    let rows = c.in_ok-table.table.rows in
+    let places = c.in_ok-places.places.items in
+    let all = c.in_ok-places.ensures.order.all in
+    let many = sym (length-Perm (Perm-from_IsPermutation (range_with_len 0 (length rows)) places all)) ∙ length-range_with_len 0 (length rows) in
+    let f = window_at v w rows in
+    let values = c.in_ok-push_partitions.ensures ∙ ap (λ l. l ++ map f c.deref-6.result.now) c.in_ok-values.ensures.items ∙ ap (map f) (c.deref-6.ensures.value ∙ sym c.deref-9.ensures.value) in
+    IfOk-weaker c.put_back.result _ _
+    (λ r e. e ∙ ap (λ l. map f (range_with_len 0 (length l))) c.deref-9.ensures.value ∙ ap (λ m. map f (range_with_len 0 m)) many ∙ told_rows v w rows
+    ∙ ap (λ l. map (window_value v w l) (told_apart l)) c.in_ok-table.ensures.rows)
+    (c.put_back.ensures f values)

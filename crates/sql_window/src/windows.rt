@@ -1,0 +1,130 @@
+// Windows over the rows of FROM that WHERE keeps.
+ghost use Rattle.std.specs.List.{AllByRecursion, range_with_len};
+ghost use Rattle.std.specs.Prelude.{◌≡◌, ◌-◌, ◌<◌, ◌≤◌, ◌++◌, ℕ, IfOk, IsPermutation, OnOk, drop, length, map, slice_index_or, take};
+ghost use Rattle.vtl_cell.specs.Outcome.{Outcome};
+ghost use Rattle.vtl_cell.specs.declared.cell.Cell as cells;
+ghost use Rattle.sql_eval.specs.Scopes.{row_of};
+ghost use Rattle.sql_eval.specs.Values.{place_in};
+ghost use Rattle.sql_eval.specs.Windows.{told_apart, window_value};
+ghost use Rattle.sql_groups.specs.Sources.{scope_held};
+ghost use Rattle.sql_groups.specs.Standing.{rows_for, sight_of};
+ghost use Rattle.sql_window.specs.Keys.{AreCut};
+ghost use Rattle.sql_window.specs.Runs.{window_at};
+
+use crate::calls::{Outcomes, push_call};
+use crate::keys::{all_keys, order_keys, partition_keys};
+use sql_groups::{Sources, TupleRows};
+use sql_tree::Window;
+use std::alloc::{AllocError, Global};
+use vtl_cell::{Cell, Profile};
+use vtl_decimal::Fault;
+use vtl_rows::{SortKey, Table};
+
+// The start of a number, or a count where there is none.
+fn start_at(starts: &[usize], number: usize, count: usize) -> usize
+    ensures { result ≡ slice_index_or starts.now number count }
+{
+    match starts.get(number) {
+        Some(start) => *start,
+        None => count,
+    }
+}
+
+// A part of row numbers.
+fn part(places: &[usize], start: usize, end: usize) -> &[usize]
+    requires order { start ≤ end }
+    requires within { end ≤ length places.now }
+    ensures { result.now ≡ take (end - start) (drop start places.now) }
+{
+    &places[start..end]
+}
+
+// Puts the values of a window at rows that stand in its order behind other values, partition by partition.
+fn push_partitions(
+    alloc: Global,
+    out: &mut Outcomes,
+    sources: &Sources<'_>,
+    table: &Table,
+    places: &[usize],
+    starts: &[usize],
+    window: &Window,
+    order: &[SortKey],
+    p: &Profile,
+) -> Result<(), AllocError>
+    requires { AreCut (sight_of p.now sources.now) window.now.over order.now table.now.rows (length table.now.columns) places.now starts.now }
+    ensures { OnOk result (out.new.items ≡ out.old.items ++ map (window_at (sight_of p.now sources.now) window.now table.now.rows) places.now) }
+{
+    let count = places.len();
+    for number in 0..starts.len() {
+        let start = start_at(starts, number, count);
+        let end = start_at(starts, number + 1, count);
+        let run = part(places, start, end);
+        push_call(alloc, out, sources, table, run, window, order, p)?;
+    }
+    Ok(())
+}
+
+// Null for each of so many rows.
+fn nulls(alloc: Global, count: usize) -> Result<Outcomes, AllocError>
+    ensures { IfOk result (λ v. length v.items ≡ count) }
+{
+    let mut nulls = Vec::with_capacity(alloc, count)?;
+    for _place in 0..count {
+        nulls.push(Ok(Cell::Null))?;
+    }
+    Ok(nulls)
+}
+
+// Puts values, which stand in an order of the rows, at their rows.
+pub(crate) fn put_back(
+    alloc: Global,
+    places: &[usize],
+    values: Outcomes,
+) -> Result<Outcomes, AllocError>
+    requires all { IsPermutation (range_with_len 0 (length places.now)) places.now }
+    requires many { length values.items ≡ length places.now }
+    ensures { (f : ℕ → Outcome cells.Cell) → values.items ≡ map f places.now → IfOk result (λ v. v.items ≡ map f (range_with_len 0 (length places.now))) }
+{
+    let mut back = nulls(alloc, places.len())?;
+    let mut values = values;
+    while let Some(value) = values.pop() {
+        back[places[values.len()]] = value;
+    }
+    Ok(back)
+}
+
+/// The values of a window at the rows of FROM that WHERE keeps, in the order of the rows; a fault stands for a value
+/// where there is one. It fails only if memory runs out.
+///
+/// It takes a table of the rows, whose texts are shared, and the time of a sort; what else it does grows with the rows
+/// alone, but for frames of a median, which no window has.
+pub fn window_values(
+    alloc: Global,
+    rows: &TupleRows<'_>,
+    window: &Window,
+    p: &Profile,
+) -> Result<Vec<Result<Cell, Fault>>, AllocError>
+    requires partition { AllByRecursion (λ x. place_in (scope_held rows.now.sources.sources) x < length (row_of (scope_held rows.now.sources.sources))) window.now.over.partition }
+    requires order { AllByRecursion (λ k. place_in (scope_held rows.now.sources.sources) k.column < length (row_of (scope_held rows.now.sources.sources))) window.now.over.order }
+    ensures { IfOk result (λ v. v.items ≡ map (window_value (sight_of p.now rows.now.sources) window.now (rows_for rows.now.sources rows.now.tuples)) (told_apart (rows_for rows.now.sources rows.now.tuples))) }
+{
+    let table = rows.table(alloc)?;
+    let partition = partition_keys(alloc, &rows.sources, window.over.partition.as_slice())?;
+    let order = order_keys(alloc, &rows.sources, window.over.order.as_slice())?;
+    let keys = all_keys(alloc, &partition, &order, table.columns().len())?;
+    let places = table.places_by_columns(alloc, &keys)?;
+    let starts = table.runs(alloc, &places, &partition)?;
+    let mut values = Vec::with_capacity(alloc, places.len())?;
+    push_partitions(
+        alloc,
+        &mut values,
+        &rows.sources,
+        &table,
+        &places,
+        &starts,
+        window,
+        &order,
+        p,
+    )?;
+    put_back(alloc, &places, values)
+}
