@@ -1,7 +1,6 @@
 -- A run, one statement after the other.
-use Rattle.std.proofs.Common.{◌≡◌, inl, inr, ◌≤◌, ◌+◌, ℕ, Bool, true, false, cond, ◌||◌, List, [], ◌∷◌, ◌++◌, map, Option, Some, None, Result, Ok, Err, refl, sym, ap, ◌∙◌, subst, arith}
+use Rattle.std.proofs.Common.{◌≡◌, inl, inr, ◌≤◌, ◌+◌, ℕ, Bool, true, false, cond, List, [], ◌∷◌, ◌++◌, map, Option, Some, None, Result, Ok, Err, refl, sym, ap, ◌∙◌, subst, arith}
 use Rattle.std.specs.Prelude.{IfOk, fold, nat_le, unwrap_or}
-use Rattle.std.specs.List.{list_any}
 use Rattle.std.specs.Map.{keys_of, lookup}
 use Rattle.std.proofs.lemmas.List.{map-append}
 use Rattle.vtl_lists.proofs.Perms.{AllByRecursion-Perm}
@@ -37,14 +36,12 @@ use Rattle.sql_exec.proofs.Lists.{under}
 use Rattle.sql_exec.proofs.Profiled.{query_are}
 use Rattle.sql_exec.proofs.QueryKinds.{query_fit}
 use Rattle.sql_exec.specs.Held.{base_held, tables_held}
-use Rattle.sql_exec.specs.Plain.{query_has_window}
 use Rattle.sql_engine.specs.Exported.{exports_in}
 use Rattle.sql_engine.specs.Held.{HaveMade, MayLetGo, StandFor, let_go}
 use Rattle.sql_engine.specs.InputTables.{AreInputsInRange, HaveInputTables, rows_given}
 use Rattle.sql_engine.specs.LastReads.{AreNoted, EachExported, IsReadFrom, LastPlaces, is_from, is_read_from}
 use Rattle.sql_engine.specs.Runs.{FaultIs}
 use Rattle.sql_engine.specs.Statements.{HasFault, HasRun, IsPut, MayRun}
-use Rattle.sql_engine.specs.Windows.{statement_has_window}
 use Rattle.sql_engine.specs.declared.error.RunErr.{RunErr}
 use Rattle.sql_engine.specs.declared.error.RunErr.TheVariants as run
 use Rattle.sql_engine.proofs.LettingGo.{keys_stay}
@@ -59,7 +56,6 @@ pub record Running (p : Settings) (inputs : NamedTables) (last : LastPlaces) (fi
   pub ends : fold after given rest ≡ final
   pub typed : AreTyped p given rest
   pub formed : Each (IsStatement most_levels) rest
-  pub plain : list_any statement_has_window rest ≡ false
   pub there : HaveInputTables inputs rest
   pub in_range : AreInputsInRange p inputs rest
   pub noted : AreNoted last place rest
@@ -80,10 +76,6 @@ rows_looked name (t ∷ inputs) = go (same_text name t.0) (rows_looked name inpu
     go : (b : Bool) → rows_read (rows_given inputs) name ≡ rows_of (table_of name inputs) → unwrap_or (cond b (Some t.1.rows) (lookup (same_text name) (rows_given inputs))) [] ≡ rows_of (cond b (Some t.1) (table_of name inputs))
     go true ih = refl
     go false ih = ih
-
-neither : (a b : Bool) → (a || b) ≡ false → (a ≡ false) × (b ≡ false)
-neither true b e = cc
-neither false b e = (refl, e)
 
 -- up to order, twice
 same_ok : (m n : Outcome (List Row)) (rows : List Row) → Same m n → Same n (Ok rows) → (made : List Row) × (m ≡ Ok made) × Perm made rows
@@ -126,7 +118,6 @@ module _ (p : Settings) (inputs : NamedTables) (last : LastPlaces) (final : Give
     record {
       formed = r.formed.0.1;
       typed = subst (λ (l : Tables). IsQueryTyped p l q) r.known r.typed.0.1.0;
-      plain = (neither (query_has_window q) (list_any statement_has_window rest) r.plain).0;
       lawful = lawful p (is_read_from place last) r.made.tables held r.stands scale;
     },
   )
@@ -167,7 +158,6 @@ module _ (p : Settings) (inputs : NamedTables) (last : LastPlaces) (final : Give
         ends = r.ends;
         typed = r.typed.1;
         formed = r.formed.1;
-        plain = r.plain;
         there = r.there.1;
         in_range = r.in_range.1;
         noted = r.noted.1;
@@ -195,7 +185,6 @@ module _ (p : Settings) (inputs : NamedTables) (last : LastPlaces) (final : Give
         ends = r.ends;
         typed = r.typed.1;
         formed = r.formed.1;
-        plain = (neither (query_has_window q) (list_any statement_has_window rest) r.plain).1;
         there = r.there.1;
         in_range = r.in_range.1;
         noted = r.noted.1;
@@ -221,7 +210,6 @@ module _ (p : Settings) (inputs : NamedTables) (last : LastPlaces) (final : Give
         ends = r.ends;
         typed = r.typed.1;
         formed = r.formed.1;
-        plain = r.plain;
         there = r.there.1;
         in_range = r.in_range.1;
         noted = r.noted.1;
@@ -268,7 +256,6 @@ let_go_running p inputs last final whole place rest held r =
       ends = r.ends;
       typed = r.typed;
       formed = r.formed;
-      plain = r.plain;
       there = r.there;
       in_range = r.in_range;
       noted = r.noted;
@@ -288,9 +275,9 @@ module _ (p : Settings) (inputs : NamedTables) (last : LastPlaces) (ss : List St
   abbrev pub Whole : Result Made NamedFault
   Whole = statements_made p (rows_given inputs) nothing_made ss
 
-  pub run_begins : (held : NamedTables) → held ≡ [] → AreTyped p nothing ss → Each (IsStatement most_levels) ss → list_any statement_has_window ss ≡ false → HaveInputTables inputs ss → AreInputsInRange p inputs ss → AreNoted last 0 ss
+  pub run_begins : (held : NamedTables) → held ≡ [] → AreTyped p nothing ss → Each (IsStatement most_levels) ss → HaveInputTables inputs ss → AreInputsInRange p inputs ss → AreNoted last 0 ss
       → Running p inputs last (fold after nothing ss) Whole 0 ss held
-  run_begins held e typed formed plain there in_range noted =
+  run_begins held e typed formed there in_range noted =
       record {
         made = nothing_made;
         given = nothing;
@@ -298,7 +285,6 @@ module _ (p : Settings) (inputs : NamedTables) (last : LastPlaces) (ss : List St
         ends = refl;
         typed = typed;
         formed = formed;
-        plain = plain;
         there = there;
         in_range = in_range;
         noted = noted;

@@ -14,4 +14,3 @@ pub mod Reads
 pub mod Runs
 pub mod Statements
 pub mod Structures
-pub mod Windows

@@ -1,5 +1,5 @@
 -- What carrying out one statement over the tables that are held gives.
-use Rattle.std.specs.Prelude.{◌≡◌, false, List, [], ◌∷◌, ◌++◌, map, None, Result, Ok, Err}
+use Rattle.std.specs.Prelude.{◌≡◌, List, [], ◌∷◌, ◌++◌, map, None, Result, Ok, Err}
 use Rattle.vtl_cell.specs.Outcome.{Outcome}
 use Rattle.vtl_cell.specs.Outcomes.{Same}
 use Rattle.vtl_cell.specs.Row.{Row}
@@ -19,7 +19,6 @@ use Rattle.sql_exec.specs.Scripts.{or_named}
 use Rattle.sql_exec.specs.Selects.{query_value}
 use Rattle.sql_exec.specs.Tables.{HasTable, column_entry, rows_of}
 use Rattle.sql_exec.specs.Held.{base_held, tables_held}
-use Rattle.sql_exec.specs.Plain.{query_has_window}
 use Rattle.sql_engine.specs.Runs.{FaultIs}
 use Rattle.sql_engine.specs.declared.error.RunErr.{RunErr}
 use Rattle.sql_engine.specs.declared.error.RunErr.TheVariants as run
@@ -28,7 +27,6 @@ use Rattle.sql_engine.specs.declared.error.RunErr.TheVariants as run
 pub record MayQuery (p : Settings) (q : QueryTree) (held : NamedTables) : Type 0 where
   pub formed : IsQuery most_levels q
   pub typed : IsQueryTyped p (tables_held held) q
-  pub plain : query_has_window q ≡ false
   pub lawful : IsLawful (base_held p held)
 
 abbrev pub MayRun : Settings → NamedTables → StatementTree → NamedTables → Type 0

@@ -1,10 +1,8 @@
 // A run of a script.
-ghost use Rattle.std.specs.Prelude.{◌≡◌, false};
 ghost use Rattle.sql_tree.specs.View.{script_tree};
 ghost use Rattle.sql_exec.specs.Scripts.{script_value};
 ghost use Rattle.sql_engine.specs.InputTables.{AreInputsInRange, HaveInputTables, rows_given};
 ghost use Rattle.sql_engine.specs.Runs.{Runs, TellsExports};
-ghost use Rattle.sql_engine.specs.Windows.{script_has_window};
 
 use crate::RunErr;
 use crate::exports::exported;
@@ -22,7 +20,6 @@ fn script_exports<L: Ledger>(
     inputs: &Inputs,
     steps: &mut Steps<L>,
 ) -> Result<Outputs, RunErr>
-    requires plain { script_has_window (script_tree script.now.script) ≡ false }
     requires there { HaveInputTables inputs.now (script_tree script.now.script) }
     requires in_range { AreInputsInRange script.now.settings inputs.now (script_tree script.now.script) }
     ensures { TellsExports (script_value (script_tree script.now.script) (rows_given inputs.now)) result }
@@ -47,7 +44,6 @@ pub fn run<L: Ledger>(
     out: &mut Outputs,
     steps: &mut Steps<L>,
 ) -> Result<(), RunErr>
-    requires plain { script_has_window (script_tree script.now.script) ≡ false }
     requires there { HaveInputTables inputs.now (script_tree script.now.script) }
     requires in_range { AreInputsInRange script.now.settings inputs.now (script_tree script.now.script) }
     ensures { Runs (script_tree script.now.script) inputs.now out.old out.new result }

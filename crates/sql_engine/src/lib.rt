@@ -20,11 +20,9 @@ mod orders;
 mod query_reads;
 mod statements;
 mod structures;
-mod windows;
 
 pub use engine::run;
 pub use error::RunErr;
 pub use laws::{inputs_are_data_sets, queries_depend_on_what_they_read};
 pub use sql_check::{SqlChecked, SqlTypeErr, check};
 pub use structures::structure_of;
-pub use windows::has_window;

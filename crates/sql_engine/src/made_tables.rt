@@ -1,6 +1,5 @@
 // The tables that the statements of a script make.
-ghost use Rattle.std.specs.Prelude.{◌≡◌, ◌≤◌, false, length, map};
-ghost use Rattle.std.specs.List.{list_any};
+ghost use Rattle.std.specs.Prelude.{◌≤◌, length, map};
 ghost use Rattle.grammar_forms.specs.Written.{Each};
 ghost use Rattle.sql_tree.specs.Formed.{IsStatement};
 ghost use Rattle.sql_tree.specs.Grammar.{most_levels};
@@ -10,7 +9,6 @@ ghost use Rattle.sql_exec.specs.Statements.{AreTyped};
 ghost use Rattle.sql_engine.specs.Held.{Make};
 ghost use Rattle.sql_engine.specs.InputTables.{AreInputsInRange, HaveInputTables};
 ghost use Rattle.sql_engine.specs.LastReads.{AreNoted, EachExported, IsReadFrom};
-ghost use Rattle.sql_engine.specs.Windows.{statement_has_window};
 
 use crate::RunErr;
 use crate::expression_reads::LastReads;
@@ -36,7 +34,6 @@ fn run_each<L: Ledger>(
     requires scale { p.now.scale ≤ 9 }
     requires formed { Each (IsStatement most_levels) (map statement_tree statements.now) }
     requires typed { AreTyped p.now nothing (map statement_tree statements.now) }
-    requires plain { list_any statement_has_window (map statement_tree statements.now) ≡ false }
     requires there { HaveInputTables inputs.now (map statement_tree statements.now) }
     requires in_range { AreInputsInRange p.now inputs.now (map statement_tree statements.now) }
     requires created { AreNoted last.now.entries 0 (map statement_tree statements.now) }
@@ -63,7 +60,6 @@ pub fn made_tables<L: Ledger>(
     requires scale { p.now.scale ≤ 9 }
     requires formed { Each (IsStatement most_levels) (map statement_tree statements.now) }
     requires typed { AreTyped p.now nothing (map statement_tree statements.now) }
-    requires plain { list_any statement_has_window (map statement_tree statements.now) ≡ false }
     requires there { HaveInputTables inputs.now (map statement_tree statements.now) }
     requires in_range { AreInputsInRange p.now inputs.now (map statement_tree statements.now) }
     ensures { Make p.now inputs.now (map statement_tree statements.now) result }

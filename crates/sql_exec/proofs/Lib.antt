@@ -1,11 +1,12 @@
 pub use Rattle.sql_eval.proofs.GivenColumns
 pub use Rattle.sql_eval.proofs.TypedStatements
-pub use Rattle.sql_groups.proofs.HeldTables
-pub use Rattle.sql_groups.proofs.Lists
-pub use Rattle.sql_groups.proofs.Orders
-pub use Rattle.sql_groups.proofs.Profiled
-pub use Rattle.sql_groups.proofs.QueryKinds
+pub use Rattle.sql_window.proofs.HeldTables
+pub use Rattle.sql_window.proofs.Lists
+pub use Rattle.sql_window.proofs.Orders
+pub use Rattle.sql_window.proofs.Profiled
+pub use Rattle.sql_window.proofs.QueryKinds
 pub mod Steps
+pub mod PlacedColumns
 pub mod RowItems
 pub mod Added
 pub mod PlainRows

@@ -1,37 +1,64 @@
 -- Items with places, beside those with names.
-use Rattle.std.proofs.Common.{◌≡◌, ℕ, ◌+◌, ◌<◌, List, [], ◌∷◌, ◌++◌, Bool, false, ◌||◌, map, length, get_or, take, refl, sym, ap, ◌∙◌, add-one}
-use Rattle.std.specs.List.{list_any}
+use Rattle.std.proofs.Common.{◌≡◌, ℕ, zero, suc, ◌+◌, ◌<◌, List, [], ◌∷◌, ◌++◌, map, length, get_or, take, Ok, refl, sym, ap, ◌∙◌, add-one, arith}
 use Rattle.std.specs.Prelude.{zip}
-use Rattle.std.proofs.lemmas.List.{map-append}
+use Rattle.std.proofs.lemmas.List.{get_or-map, map-append}
 use Rattle.vtl_cell.specs.Conversion.{as_kind}
-use Rattle.vtl_cell.specs.Outcome.{after}
+use Rattle.vtl_cell.specs.Outcome.{Outcome, after}
+use Rattle.vtl_cell.specs.Row.{Row}
+use Rattle.vtl_cell.specs.Settings.{Settings}
+use Rattle.vtl_cell.specs.declared.cell.Cell.{Cell}
+use Rattle.vtl_cell.specs.declared.cell.Cell.TheVariants as c
 use Rattle.vtl_cell.specs.declared.kind.Kind.{Kind}
+use Rattle.sql_tree.specs.Trees as tree
+use Rattle.sql_tree.specs.Trees.{Exp}
 use Rattle.sql_tree.specs.View.{item_tree, value_tree}
 use Rattle.sql_tree.specs.declared.statements.Item.{Item}
-use Rattle.sql_eval.specs.Resolves.{Sight, view_over}
+use Rattle.sql_tree.specs.declared.windows.Window.{Window}
+use Rattle.sql_window.specs.Held.{rows_held, tables_held}
+use Rattle.sql_window.specs.Selects.{Wanted, item_value}
+use Rattle.sql_window.specs.Sources.{Sourced, scope_held}
+use Rattle.sql_window.specs.Standing.{sight_of}
+use Rattle.sql_window.specs.Values.{View, value}
+use Rattle.sql_window.specs.Windows.{told_apart, window_value}
+use Rattle.sql_eval.specs.Resolves.{Resolves, sight}
 use Rattle.sql_eval.specs.declared.kinded.Kinded.{Kinded}
-use Rattle.sql_exec.specs.Items.{HaveValuesOf, ResolvesValue, item_at_row, made_at_row}
+use Rattle.sql_eval.specs.declared.names.Level.TheVariants as levels
+use Rattle.sql_exec.specs.Items.{HasValuesOf, HaveValuesOf, made_at_row, numbered_row, told_row}
+use Rattle.sql_exec.specs.declared.items.ItemValues.{ItemValues}
+use Rattle.sql_exec.specs.declared.items.ItemValues.TheVariants as values
 use Rattle.sql_exec.specs.declared.items.RowItem.{RowItem}
-use Rattle.sql_exec.specs.Plain.{is_window, is_window_item}
-use Rattle.sql_exec.proofs.Steps.{none_at, zipped_more}
+use Rattle.sql_exec.proofs.Steps.{zipped_more}
 
--- those that stand for the first ones, with one more
-pub items_more : (s : Sight) (items : List Item) (kinds : List Kind) (i : ℕ) (item : Item) (kind : Kind) (x : Kinded) (made made' : List RowItem) → i < length items → i < length kinds → item ≡ get_or items i item → kind ≡ get_or kinds i kind
-    → HaveValuesOf s (take i (zip (map item_tree items) kinds)) made → ResolvesValue s (value_tree item.value) x → made' ≡ made ++ record { exp = x.exp; kind = kind } ∷ [] → HaveValuesOf s (take (i + 1) (zip (map item_tree items) kinds)) made'
-items_more s items kinds i item kind x made made' h l e g before is new tables =
-    let now : RowItem = record { exp = x.exp; kind = kind } in
-    let at = item_at_row (view_over s tables) in
-    let m = made_at_row s.settings tables in
+-- ---- rows that are told apart
+
+pub told_long : (rows : List Row) → length (told_apart rows) ≡ length rows
+told_long [] = refl
+told_long (r ∷ rows) = ap suc (told_long rows)
+
+pub told_first : (rows : List Row) (i : ℕ) → i < length rows → (told_row rows i).0 ≡ get_or rows i []
+told_first [] i h = absurd (omega arith)
+told_first (r ∷ rows) zero h = refl
+told_first (r ∷ rows) (suc i) h = told_first rows i (omega arith)
+
+-- ---- the values of one item
+
+pub expression_has : (p : Settings) (s : Sourced) (rows : List Row) (e : Exp) (x : Kinded) → Resolves (sight p (tables_held s.held) (scope_held s.sources) levels.Rows) e x → HasValuesOf (sight_of p s) rows (tree.expression e) (values.Expression x.exp)
+expression_has p s rows e x is i h = is.value_is (rows_held s.held) (get_or rows i []) [] ∙ ap (λ r. value (sight_of p s) e r []) (sym (told_first rows i h))
+
+pub cells_have : (v : View) (rows : List Row) (w : Window) (cells : List (Outcome Cell)) → cells ≡ map (window_value v w rows) (told_apart rows) → (i : ℕ) → i < length rows → get_or cells i (Ok c.Null) ≡ window_value v w rows (told_row rows i)
+cells_have v rows w cells e i h =
+    ap (λ (l : List (Outcome Cell)). get_or l i (Ok c.Null)) e ∙ get_or-map (window_value v w rows) (told_apart rows) i ([], 0) (Ok c.Null) (let long = told_long rows in omega (arith, long))
+
+-- ---- those that stand for the first items, with one more
+
+pub items_more : (v : View) (rows : List Row) (items : List Item) (kinds : List Kind) (i : ℕ) (item : Item) (kind : Kind) (x : ItemValues) (made made' : List RowItem) → i < length items → i < length kinds → item ≡ get_or items i item → kind ≡ get_or kinds i kind
+    → HaveValuesOf v rows (take i (zip (map item_tree items) kinds)) made → HasValuesOf v rows (value_tree item.value) x → made' ≡ made ++ record { values = x; kind = kind } ∷ [] → HaveValuesOf v rows (take (i + 1) (zip (map item_tree items) kinds)) made'
+items_more v rows items kinds i item kind x made made' h l e g before is new n here =
+    let now : RowItem = record { values = x; kind = kind } in
+    let at : Wanted → Outcome Cell = λ w. item_value v rows w (told_row rows n) in
+    let m : RowItem → Outcome Cell = λ y. made_at_row v.base.settings v.base.rows y (numbered_row rows n) in
     let first = take i (zip (map item_tree items) kinds) in
-    let one : m now ≡ at (item_tree item, kind) = λ j r. after (is.value_is tables r j) (as_kind s.settings kind) in
+    let one : m now ≡ at (item_tree item, kind) = ap (λ o. after o (as_kind v.base.settings kind)) (is n here) in
     let all : take (i + 1) (zip (map item_tree items) kinds) ≡ first ++ (item_tree item, kind) ∷ [] = rw add-one (zipped_more item_tree items kinds i item kind h l e g) in
-    ap (map m) new ∙ map-append m made (now ∷ []) ∙ ap (λ k. k ++ m now ∷ []) (before tables) ∙ ap (λ k. map at first ++ k ∷ []) one
+    ap (map m) new ∙ map-append m made (now ∷ []) ∙ ap (λ k. k ++ m now ∷ []) (before n here) ∙ ap (λ k. map at first ++ k ∷ []) one
     ∙ sym (map-append at first ((item_tree item, kind) ∷ [])) ∙ ap (map at) (sym all)
-
--- none of them is a window
-pub plain_at : (items : List Item) (i : ℕ) (item : Item) → list_any is_window_item (map item_tree items) ≡ false → i < length items → item ≡ get_or items i item → is_window (value_tree item.value) ≡ false
-plain_at items i item n h e = none_at (λ x. is_window_item (item_tree x)) items i item (any_mapped is_window_item item_tree items ∙ n) h e
-  where
-    any_mapped : {X Y : Type 0} (t : Y → Bool) (f : X → Y) (xs : List X) → list_any (λ x. t (f x)) xs ≡ list_any t (map f xs)
-    any_mapped t f [] = refl
-    any_mapped t f (x ∷ xs) = ap (λ b. t (f x) || b) (any_mapped t f xs)

@@ -1,21 +1,12 @@
 -- Walks over lists, step by step.
-use Rattle.std.proofs.Common.{◌≡◌, ℕ, zero, suc, ◌+◌, ◌<◌, ◌≤◌, List, [], ◌∷◌, ◌++◌, Bool, true, false, ◌||◌, map, length, get_or, take, append_assoc, Option, refl, sym, ap, subst, ◌∙◌, arith}
+use Rattle.std.proofs.Common.{◌≡◌, ℕ, zero, suc, ◌+◌, ◌<◌, ◌≤◌, List, [], ◌∷◌, ◌++◌, map, length, get_or, take, append_assoc, Option, refl, sym, ap, subst, ◌∙◌, arith}
 use Rattle.std.specs.Prelude.{zip}
-use Rattle.std.specs.List.{AllByRecursion, list_any}
+use Rattle.std.specs.List.{AllByRecursion}
 use Rattle.std.proofs.lemmas.List.{map-append, take_more}
 use Rattle.vtl_cell.specs.Outcome.{Fault, faults_by, join}
-use Rattle.sql_groups.proofs.UpToOrder.{faults_by-append, join_assoc, join_none}
+use Rattle.sql_window.proofs.UpToOrder.{faults_by-append, join_assoc, join_none}
 
 -- ---- at one place
-
-pub neither : (a b : Bool) → (a || b) ≡ false → (a ≡ false) × (b ≡ false)
-neither true b e = cc
-neither false b e = (refl, e)
-
-pub none_at : {X : Type 0} (t : X → Bool) (xs : List X) (i : ℕ) (x : X) → list_any t xs ≡ false → i < length xs → x ≡ get_or xs i x → t x ≡ false
-none_at t [] i x n h e = absurd (omega arith)
-none_at t (y ∷ ys) zero x n h e = ap t e ∙ (neither (t y) (list_any t ys) n).0
-none_at t (y ∷ ys) (suc i) x n h e = none_at t ys i x ((neither (t y) (list_any t ys) n).1) (omega arith) e
 
 pub holds_at : {X : Type 0} (P : X → Type 0) (xs : List X) (i : ℕ) (x : X) → AllByRecursion P xs → i < length xs → x ≡ get_or xs i x → P x
 holds_at P [] i x all h e = absurd (omega arith)

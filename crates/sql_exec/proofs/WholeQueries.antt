@@ -17,13 +17,13 @@ use Rattle.sql_tree.specs.Trees.{QueryTree, Text}
 use Rattle.sql_tree.specs.View.{item_tree, select_tree}
 use Rattle.sql_tree.specs.declared.statements.Item.{Item}
 use Rattle.sql_tree.specs.declared.statements.Select.{Select}
-use Rattle.sql_groups.specs.Queries.{item_name, query_columns, query_names, shared_kinds}
-use Rattle.sql_groups.specs.Scopes.{Columns, Tables, or_null}
-use Rattle.sql_groups.proofs.TypingQueryKinds.{as_many}
-use Rattle.sql_groups.specs.Selects.{rows_in}
-use Rattle.sql_groups.specs.Tables.{column_entry, kinds_of}
-use Rattle.sql_groups.proofs.SharedKinds.{named_kinds}
-use Rattle.sql_groups.specs.Seen.{answer_of}
+use Rattle.sql_window.specs.Queries.{item_name, query_columns, query_names, shared_kinds}
+use Rattle.sql_window.specs.Scopes.{Columns, Tables, or_null}
+use Rattle.sql_window.proofs.TypingQueryKinds.{as_many}
+use Rattle.sql_window.specs.Selects.{rows_in}
+use Rattle.sql_window.specs.Tables.{column_entry, kinds_of}
+use Rattle.sql_window.proofs.SharedKinds.{named_kinds}
+use Rattle.sql_window.specs.Seen.{answer_of}
 use Rattle.sql_exec.specs.Answers.{Gives}
 use Rattle.sql_exec.specs.Outputs.{Adds, fault_seen}
 use Rattle.sql_exec.specs.declared.output.Output.{Output}

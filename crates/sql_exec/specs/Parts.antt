@@ -1,27 +1,20 @@
 -- The selects of a query.
-use Rattle.std.specs.Prelude.{◌≡◌, false, List, Ok}
-use Rattle.vtl_cell.specs.Outcome.{Outcome}
+use Rattle.std.specs.Prelude.{◌≡◌, ℕ, true, List}
 use Rattle.vtl_cell.specs.Row.{Row}
-use Rattle.vtl_cell.specs.Settings.{Settings}
 use Rattle.vtl_cell.specs.declared.kind.Kind.{Kind}
+use Rattle.vtl_rows.specs.Tables.{fits_kinds}
 use Rattle.sql_tree.specs.Trees.{SelectTree}
-use Rattle.sql_groups.specs.Queries.{kinds_of}
-use Rattle.sql_groups.specs.Scopes.{Scope, Tables, row_of}
-use Rattle.sql_groups.specs.TypedSelects.{IsSelectTyped}
-use Rattle.sql_groups.specs.Tables.{Base, RowsFit}
-use Rattle.sql_groups.specs.Resolved.{AreLifted}
-use Rattle.sql_exec.specs.Plain.{select_has_window}
+use Rattle.sql_window.specs.Queries.{kinds_of}
+use Rattle.sql_window.specs.Scopes.{Scope, row_of}
+use Rattle.sql_window.specs.TypedSelects.{IsSelectTyped}
+use Rattle.sql_window.specs.Tables.{Base, RowsFit}
+use Rattle.sql_window.specs.Resolved.{AreLifted}
 
--- a typed select without windows
-pub record IsPlain (p : Settings) (tables : Tables) (s : SelectTree) : Type 0 where
-  pub typed : IsSelectTyped p tables s
-  pub plain : select_has_window s ≡ false
-
--- what is made of rows of FROM that fit is of these kinds
-abbrev pub MakesKinds : Scope → List Kind → (List Row → Outcome (List Row)) → Type 0
-MakesKinds scope kinds made = (rows out : List Row) → RowsFit (row_of scope) rows → made rows ≡ Ok out → RowsFit kinds out
+-- what is made at each row of FROM, among rows that fit, is of these kinds
+abbrev pub MakesKinds : Scope → List Kind → (List Row → Row × ℕ → Row) → Type 0
+MakesKinds scope kinds made = (rows : List Row) (x : Row × ℕ) → RowsFit (row_of scope) rows → fits_kinds (row_of scope) x.0 ≡ true → fits_kinds kinds (made rows x) ≡ true
 
 -- a select of a query whose columns have these kinds, to which those of its items are lifted
 pub record IsPart (b : Base) (kinds : List Kind) (s : SelectTree) : Type 0 where
-  pub known : IsPlain b.settings b.tables s
+  pub typed : IsSelectTyped b.settings b.tables s
   pub lifted : AreLifted kinds (kinds_of b.tables s)

@@ -1,22 +1,38 @@
 // The columns of a query.
-ghost use Rattle.std.specs.List.{AllByRecursion, list_any};
-ghost use Rattle.std.specs.Prelude.{◌≡◌, false, fold, length, map, zip, IfOk, OnOk};
-ghost use Rattle.sql_tree.specs.View.{item_tree, select_tree};
-ghost use Rattle.sql_groups.specs.Queries.{beside, item_kind, kinds_of, shared_kinds};
-ghost use Rattle.sql_groups.specs.Scopes.{or_null};
-ghost use Rattle.sql_groups.specs.Tables.{column_entry};
-ghost use Rattle.sql_groups.specs.Held.{tables_held};
-ghost use Rattle.sql_exec.specs.Parts.{IsPlain};
-ghost use Rattle.sql_exec.specs.Plain.{is_window_item};
+ghost use Rattle.std.specs.List.{AllByRecursion};
+ghost use Rattle.std.specs.Prelude.{◌≡◌, fold, length, map, zip, IfOk, OnOk};
+ghost use Rattle.sql_tree.specs.View.{item_tree, select_tree, value_tree};
+ghost use Rattle.sql_window.specs.Queries.{beside, item_kind, kinds_of, shared_kinds, value_kind};
+ghost use Rattle.sql_window.specs.Scopes.{or_null};
+ghost use Rattle.sql_window.specs.Tables.{column_entry};
+ghost use Rattle.sql_window.specs.Held.{tables_held};
+ghost use Rattle.sql_window.specs.TypedSelects.{IsSelectTyped};
+ghost use Rattle.sql_exec.specs.Items.{HasCallKind, IsKindKnown};
 
-use crate::items::resolved;
+use crate::window_kinds::window_kind;
 use sql_check_queries::{all_some, join_source, share_kinds};
-use sql_eval::{Names, or_null};
-use sql_groups::Sources;
-use sql_tree::{Item, Select};
+use sql_eval::{Level, Names, or_null, resolve};
+use sql_window::Sources;
+use sql_tree::{Item, ItemValue, Select};
 use std::alloc::{AllocError, Global};
 use vtl_cell::{Kind, Profile};
 use vtl_rows::{Column, Tables};
+
+// The kind of an item.
+fn value_kind<N: Names>(
+    alloc: Global,
+    p: &Profile,
+    names: &N,
+    value: &ItemValue,
+) -> Result<Kind, AllocError>
+    requires { HasCallKind (N.scope names.now) (value_tree value.now) }
+    ensures { IfOk result (λ kind. kind ≡ value_kind (N.scope names.now) (value_tree value.now)) }
+{
+    match value {
+        ItemValue::Expr(e) => Ok(resolve(alloc, p, names, &Level::Rows, e)?.kind),
+        ItemValue::Window(window) => Ok(window_kind(names, window)),
+    }
+}
 
 // The kinds of items.
 fn item_kinds<N: Names>(
@@ -25,12 +41,12 @@ fn item_kinds<N: Names>(
     names: &N,
     items: &[Item],
 ) -> Result<Vec<Kind>, AllocError>
-    requires { list_any is_window_item (map item_tree items.now) ≡ false }
+    requires { AllByRecursion (IsKindKnown (N.scope names.now)) (map item_tree items.now) }
     ensures { IfOk result (λ v. v.items ≡ map (item_kind (N.scope names.now)) (map item_tree items.now)) }
 {
     let mut kinds = Vec::with_capacity(alloc, items.len())?;
     for item in items {
-        kinds.push(resolved(alloc, p, names, &item.value)?.kind)?;
+        kinds.push(value_kind(alloc, p, names, &item.value)?)?;
     }
     Ok(kinds)
 }
@@ -42,7 +58,7 @@ fn select_kinds(
     tables: &Tables,
     select: &Select,
 ) -> Result<Vec<Kind>, AllocError>
-    requires { IsPlain p.now (tables_held tables.now) (select_tree select.now) }
+    requires { IsSelectTyped p.now (tables_held tables.now) (select_tree select.now) }
     ensures { IfOk result (λ v. v.items ≡ kinds_of (tables_held tables.now) (select_tree select.now)) }
 {
     let mut sources = Sources::over(alloc, tables).with(alloc, &select.from)?;
@@ -60,7 +76,7 @@ fn share_others(
     shared: &mut [Option<Kind>],
     others: &[Select],
 ) -> Result<(), AllocError>
-    requires { AllByRecursion (IsPlain p.now (tables_held tables.now)) (map select_tree others.now) }
+    requires { AllByRecursion (IsSelectTyped p.now (tables_held tables.now)) (map select_tree others.now) }
     ensures { OnOk result (shared.new ≡ fold (λ kinds other. beside kinds (kinds_of (tables_held tables.now) other)) shared.old (map select_tree others.now)) }
 {
     for other in others {
@@ -89,7 +105,7 @@ pub(crate) fn query_kinds(
     tables: &Tables,
     selects: &[Select],
 ) -> Result<Vec<Kind>, AllocError>
-    requires { AllByRecursion (IsPlain p.now (tables_held tables.now)) (map select_tree selects.now) }
+    requires { AllByRecursion (IsSelectTyped p.now (tables_held tables.now)) (map select_tree selects.now) }
     ensures { IfOk result (λ v. v.items ≡ map or_null (shared_kinds (tables_held tables.now) (map select_tree selects.now))) }
 {
     let Some((first, others)) = selects.split_first() else {

@@ -1,25 +1,80 @@
 // Items of a select that is not grouped, with places in place of names.
-ghost use Rattle.std.specs.Prelude.{◌≡◌, ◌++◌, ◌∷◌, [], false, map, length, zip, IfErr, IfOk};
-ghost use Rattle.std.specs.List.{list_any};
-ghost use Rattle.vtl_cell.specs.Outcome.{fault_in, faults_by, join};
+ghost use Rattle.std.specs.Prelude.{◌≡◌, ◌++◌, ◌∷◌, [], map, length, zip, IfErr, IfOk, None};
+ghost use Rattle.std.specs.List.{AllByRecursion};
+ghost use Rattle.vtl_cell.specs.Outcome.{fault_in, join};
+ghost use Rattle.vtl_scalar.specs.Answers.{AnswersBy};
+ghost use Rattle.vtl_scalar.specs.Given.{given_cell};
 ghost use Rattle.sql_tree.specs.View.{item_tree, value_tree};
-ghost use Rattle.sql_groups.specs.Outcomes.{cell_or_null, row_at, row_fault};
-ghost use Rattle.sql_eval.specs.Resolves.{sight};
-ghost use Rattle.sql_eval.specs.declared.names.Level.TheVariants as levels;
-ghost use Rattle.sql_groups.specs.Seen.{seen_of};
-ghost use Rattle.sql_exec.specs.Items.{HaveValuesOf, ResolvesValue, made_at_row};
-ghost use Rattle.sql_exec.specs.Plain.{is_window, is_window_item};
+ghost use Rattle.sql_window.specs.Expressions.{site};
+ghost use Rattle.sql_window.specs.Held.{tables_held};
+ghost use Rattle.sql_window.specs.Outcomes.{cell_or_null, row_at, row_fault};
+ghost use Rattle.sql_window.specs.Seen.{seen_of};
+ghost use Rattle.sql_window.specs.Sources.{scope_held};
+ghost use Rattle.sql_window.specs.Standing.{rows_for, sight_of};
+ghost use Rattle.sql_window.specs.TypedSelects.{IsItemTyped, IsValueTyped};
+ghost use Rattle.sql_exec.specs.Items.{HasValuesOf, HaveValuesOf, made_at_row, made_value};
 
-use sql_eval::{Cells, Kinded, Level, Names, Resolved, resolve, value_at};
-use sql_groups::Seen;
+use sql_eval::{Cells, Level, Resolved, resolve, value_at};
 use sql_tree::{Item, ItemValue};
+use sql_window::{Seen, TupleRows, window_values};
 use std::alloc::{AllocError, Global};
 use vtl_cell::{Cell, Kind, Profile};
-use vtl_scalar::{ScalarErr, given_of_kind};
+use vtl_decimal::Fault;
+use vtl_scalar::{Given, ScalarErr, given_of_kind};
+
+/// The values of an item at the rows of FROM.
+pub(crate) enum ItemValues {
+    /// Those of an expression, with places.
+    Expression(Resolved),
+    /// Those of a window, by the numbers of the rows.
+    Window(Vec<Result<Cell, Fault>>),
+}
+
+// Written out, so that each owner sees one call and not the drop of each part.
+impl Drop for ItemValues {
+    fn drop(self) {
+        match self {
+            ItemValues::Expression(_e) => {}
+            ItemValues::Window(_cells) => {}
+        }
+    }
+}
+
+// The value of a window, which is lent.
+fn lent_value<'v>(value: &'v Result<Cell, Fault>) -> Result<Given<'v>, ScalarErr>
+    ensures { AnswersBy given_cell result value.now }
+{
+    match value {
+        Ok(cell) => Ok(Given::Lent(cell)),
+        Err(fault) => Err(ScalarErr::from(*fault)),
+    }
+}
+
+impl ItemValues {
+    /// The value at a row of FROM of this number.
+    pub(crate) fn at<'v, R: Cells>(
+        &'v self,
+        alloc: Global,
+        row: &'v R,
+        number: usize,
+        p: &Profile,
+    ) -> Result<Given<'v>, ScalarErr>
+        requires { R.group row.now ≡ [] }
+        ensures { AnswersBy given_cell result (made_value p.now (R.tables row.now) self.now (R.cells row.now, number)) }
+    {
+        match self {
+            ItemValues::Expression(e) => value_at(alloc, e, row, p),
+            ItemValues::Window(cells) => match cells.get(number) {
+                Some(value) => lent_value(value),
+                None => Ok(Given::Made(Cell::Null)),
+            },
+        }
+    }
+}
 
 /// An item, and the kind of its column.
 pub(crate) struct RowItem {
-    pub(crate) exp: Resolved,
+    pub(crate) values: ItemValues,
     pub(crate) kind: Kind,
 }
 
@@ -27,49 +82,52 @@ pub(crate) struct RowItem {
 impl Drop for RowItem {
     fn drop(self) {
         let RowItem {
-            exp: _exp,
+            values: _values,
             kind: _kind,
         } = self;
     }
 }
 
-/// The value of an item, resolved. It fails only if memory runs out.
-pub(crate) fn resolved<N: Names>(
+// The values of an item at the rows of FROM.
+fn item_values(
     alloc: Global,
     p: &Profile,
-    names: &N,
+    rows: &TupleRows<'_>,
     value: &ItemValue,
-) -> Result<Kinded, AllocError>
-    requires { is_window (value_tree value.now) ≡ false }
-    ensures { IfOk result (ResolvesValue (sight p.now (N.tables names.now) (N.scope names.now) levels.Rows) (value_tree value.now)) }
+) -> Result<ItemValues, AllocError>
+    requires { IsValueTyped (site p.now (tables_held rows.now.sources.held) (scope_held rows.now.sources.sources)) None (value_tree value.now) }
+    ensures { IfOk result (HasValuesOf (sight_of p.now rows.now.sources) (rows_for rows.now.sources rows.now.tuples) (value_tree value.now)) }
 {
     match value {
-        ItemValue::Expr(e) => resolve(alloc, p, names, &Level::Rows, e),
-        ItemValue::Window(_) => unreachable!(),
+        ItemValue::Expr(e) => {
+            let resolved = resolve(alloc, p, &rows.sources, &Level::Rows, e)?;
+            Ok(ItemValues::Expression(resolved.exp))
+        }
+        ItemValue::Window(window) => Ok(ItemValues::Window(window_values(alloc, rows, window, p)?)),
     }
 }
 
-/// The items of a select, each with the kind of its column. It fails only if memory runs out.
-pub(crate) fn row_items<N: Names>(
+/// The items of a select at the rows of FROM, each with the kind of its column: the values of windows are made here,
+/// once for all rows. It fails only if memory runs out.
+pub(crate) fn row_items(
     alloc: Global,
     p: &Profile,
-    names: &N,
+    rows: &TupleRows<'_>,
     items: &[Item],
     kinds: &[Kind],
 ) -> Result<Vec<RowItem>, AllocError>
-    requires plain { list_any is_window_item (map item_tree items.now) ≡ false }
+    requires typed { AllByRecursion (IsItemTyped (site p.now (tables_held rows.now.sources.held) (scope_held rows.now.sources.sources)) None) (map item_tree items.now) }
     requires many { length kinds.now ≡ length items.now }
-    ensures { IfOk result (λ v. HaveValuesOf (sight p.now (N.tables names.now) (N.scope names.now) levels.Rows) (zip (map item_tree items.now) kinds.now) v.items) }
+    ensures { IfOk result (λ v. HaveValuesOf (sight_of p.now rows.now.sources) (rows_for rows.now.sources rows.now.tuples) (zip (map item_tree items.now) kinds.now) v.items) }
 {
-    let mut resolved_items = Vec::with_capacity(alloc, items.len())?;
+    let mut row_items = Vec::with_capacity(alloc, items.len())?;
     for i in 0..items.len() {
-        let value = resolved(alloc, p, names, &items[i].value)?;
-        resolved_items.push(RowItem {
-            exp: value.exp,
+        row_items.push(RowItem {
+            values: item_values(alloc, p, rows, &items[i].value)?,
             kind: kinds[i],
         })?;
     }
-    Ok(resolved_items)
+    Ok(row_items)
 }
 
 // Puts the value of an item behind others, or null where it has a fault.
@@ -79,14 +137,15 @@ fn push_item<R: Cells>(
     seen: Seen,
     item: &RowItem,
     at: &R,
+    number: usize,
     p: &Profile,
 ) -> Result<Seen, ScalarErr>
     requires { R.group at.now ≡ [] }
-    ensures cells { IfOk result (λ _. cells.new.items ≡ cells.old.items ++ cell_or_null (made_at_row p.now (R.tables at.now) item.now (R.cells at.now)) ∷ []) }
-    ensures seen { IfOk result (λ s. seen_of s ≡ join (seen_of seen) (fault_in (made_at_row p.now (R.tables at.now) item.now (R.cells at.now)))) }
+    ensures cells { IfOk result (λ _. cells.new.items ≡ cells.old.items ++ cell_or_null (made_at_row p.now (R.tables at.now) item.now (R.cells at.now, number)) ∷ []) }
+    ensures seen { IfOk result (λ s. seen_of s ≡ join (seen_of seen) (fault_in (made_at_row p.now (R.tables at.now) item.now (R.cells at.now, number)))) }
     ensures err { IfErr result (λ e. e ≡ ScalarErr.OutOfMemory) }
 {
-    match given_of_kind(value_at(alloc, &item.exp, at, p), item.kind, p) {
+    match given_of_kind(item.values.at(alloc, at, number, p), item.kind, p) {
         Ok(value) => {
             cells.push(value.into_cell()?)?;
             Ok(seen)
@@ -99,23 +158,24 @@ fn push_item<R: Cells>(
     }
 }
 
-/// Puts the values of items at a row of FROM behind others; null stands for one that has a fault.
+/// Puts the values of items at a row of FROM of this number behind others; null stands for one that has a fault.
 pub(crate) fn push_items<R: Cells>(
     alloc: Global,
     cells: &mut Vec<Cell>,
     seen: Seen,
     items: &[RowItem],
     at: &R,
+    number: usize,
     p: &Profile,
 ) -> Result<Seen, ScalarErr>
     requires { R.group at.now ≡ [] }
-    ensures cells { IfOk result (λ _. cells.new.items ≡ cells.old.items ++ row_at (made_at_row p.now (R.tables at.now)) items.now (R.cells at.now)) }
-    ensures seen { IfOk result (λ s. seen_of s ≡ join (seen_of seen) (row_fault (made_at_row p.now (R.tables at.now)) items.now (R.cells at.now))) }
+    ensures cells { IfOk result (λ _. cells.new.items ≡ cells.old.items ++ row_at (made_at_row p.now (R.tables at.now)) items.now (R.cells at.now, number)) }
+    ensures seen { IfOk result (λ s. seen_of s ≡ join (seen_of seen) (row_fault (made_at_row p.now (R.tables at.now)) items.now (R.cells at.now, number))) }
     ensures err { IfErr result (λ e. e ≡ ScalarErr.OutOfMemory) }
 {
     let mut with_these = seen;
     for item in items {
-        with_these = push_item(alloc, cells, with_these, item, at, p)?;
+        with_these = push_item(alloc, cells, with_these, item, at, number, p)?;
     }
     Ok(with_these)
 }

@@ -1,8 +1,8 @@
-//! The engine of queries without windows, on tables that the program holds.
+//! The engine of queries, on tables that the program holds.
 //!
 //! It decides how a select is carried out on the rows that FROM and WHERE keep, in two phases, and how the selects of a
 //! UNION ALL become one table, with the fault of all of them. The rows of FROM and WHERE come from `sql_from`, groups
-//! from `sql_groups`, values from `sql_eval`.
+//! from `sql_groups`, the values of windows from `sql_window`, those of expressions from `sql_eval`.
 //! It knows no statement, no script, no rule of typing, and nothing of VTL.
 //! Begin with specs/Answers.antt and specs/Items.antt, then `queries.rt`, `selects.rt` and `items.rt`.
 #![tactic(auto)]
@@ -12,6 +12,7 @@ mod items;
 mod output;
 mod queries;
 mod selects;
+mod window_kinds;
 
 pub use queries::{exec, source_rows};
-pub use sql_groups::ExecErr;
+pub use sql_window::ExecErr;

@@ -2,14 +2,14 @@
 ghost use Rattle.std.specs.Prelude.{◌≡◌, ◌<◌, ◌∷◌, [], true, length, None, Ok, IfErr, IfOk, OnOk};
 ghost use Rattle.vtl_cell.specs.Outcome.{unless};
 ghost use Rattle.vtl_rows.specs.Tables.{fits};
-ghost use Rattle.sql_groups.specs.Outcomes.{row_at, row_fault};
-ghost use Rattle.sql_groups.specs.Seen.{answer_of};
+ghost use Rattle.sql_window.specs.Outcomes.{row_at, row_fault};
+ghost use Rattle.sql_window.specs.Seen.{answer_of};
 ghost use Rattle.sql_exec.specs.Items.{made_at_row};
 ghost use Rattle.sql_exec.specs.Outputs.{Adds, Sees, fault_seen};
 
 use crate::items::{RowItem, push_items};
 use sql_eval::Cells;
-use sql_groups::Seen;
+use sql_window::Seen;
 use std::alloc::{AllocError, Global};
 use vtl_cell::{Cell, Profile};
 use vtl_rows::{Column, Table};
@@ -49,21 +49,22 @@ impl Output {
         }
     }
 
-    /// Adds the row of the values of items at a row of FROM.
+    /// Adds the row of the values of items at a row of FROM of this number.
     pub(crate) fn add_row<R: Cells>(
         &mut self,
         alloc: Global,
         items: &[RowItem],
         at: &R,
+        number: usize,
         p: &Profile,
     ) -> Result<(), ScalarErr>
         requires row { R.group at.now ≡ [] }
-        requires fits { row_fault (made_at_row p.now (R.tables at.now)) items.now (R.cells at.now) ≡ None → fits self.old.table.columns (row_at (made_at_row p.now (R.tables at.now)) items.now (R.cells at.now)) ≡ true }
-        ensures adds { OnOk result (Adds (unless (row_fault (made_at_row p.now (R.tables at.now)) items.now (R.cells at.now)) (row_at (made_at_row p.now (R.tables at.now)) items.now (R.cells at.now) ∷ [])) self.old self.new) }
+        requires fits { row_fault (made_at_row p.now (R.tables at.now)) items.now (R.cells at.now, number) ≡ None → fits self.old.table.columns (row_at (made_at_row p.now (R.tables at.now)) items.now (R.cells at.now, number)) ≡ true }
+        ensures adds { OnOk result (Adds (unless (row_fault (made_at_row p.now (R.tables at.now)) items.now (R.cells at.now, number)) (row_at (made_at_row p.now (R.tables at.now)) items.now (R.cells at.now, number) ∷ [])) self.old self.new) }
         ensures err { IfErr result (λ e. e ≡ ScalarErr.OutOfMemory) }
     {
         self.cells.clear();
-        self.seen = push_items(alloc, &mut self.cells, self.seen, items, at, p)?;
+        self.seen = push_items(alloc, &mut self.cells, self.seen, items, at, number, p)?;
         if let Seen::Nothing = self.seen {
             self.table.push_cells(&mut self.cells)?;
         }

@@ -1,25 +1,24 @@
-// Queries without windows.
-ghost use Rattle.std.specs.Prelude.{◌≡◌, ◌∷◌, [], IfOk, false, length, map};
+// Queries.
+ghost use Rattle.std.specs.Prelude.{◌≡◌, ◌∷◌, [], IfOk, length, map};
 ghost use Rattle.vtl_scalar.specs.Answers.{AnswersBy};
 ghost use Rattle.sql_tree.specs.Formed.{IsQuery};
 ghost use Rattle.sql_tree.specs.Grammar.{most_levels};
 ghost use Rattle.sql_tree.specs.Trees.{SelectTree};
 ghost use Rattle.sql_tree.specs.View.{query_tree};
-ghost use Rattle.sql_groups.specs.Queries.{query_columns, scope_of};
-ghost use Rattle.sql_groups.specs.TypedSelects.{IsQueryTyped};
-ghost use Rattle.sql_groups.specs.From.{source_rows};
-ghost use Rattle.sql_groups.specs.Profiles.{IsLawful};
-ghost use Rattle.sql_groups.specs.Selects.{query_value};
-ghost use Rattle.sql_groups.specs.Tables.{column_entry};
-ghost use Rattle.sql_groups.specs.Columns.{source_columns};
-ghost use Rattle.sql_groups.specs.Held.{base_held, tables_held};
+ghost use Rattle.sql_window.specs.Queries.{query_columns, scope_of};
+ghost use Rattle.sql_window.specs.TypedSelects.{IsQueryTyped};
+ghost use Rattle.sql_window.specs.From.{source_rows};
+ghost use Rattle.sql_window.specs.Profiles.{IsLawful};
+ghost use Rattle.sql_window.specs.Selects.{query_value};
+ghost use Rattle.sql_window.specs.Tables.{column_entry};
+ghost use Rattle.sql_window.specs.Columns.{source_columns};
+ghost use Rattle.sql_window.specs.Held.{base_held, tables_held};
 ghost use Rattle.sql_exec.specs.Answers.{Gives};
-ghost use Rattle.sql_exec.specs.Plain.{query_has_window};
 
 use crate::columns::{named_columns, query_kinds};
 use crate::output::Output;
 use crate::selects::add_selects;
-use sql_groups::{ExecErr, Plan};
+use sql_window::{ExecErr, Plan};
 use std::alloc::Global;
 use std::sync::ledger::Ledger;
 use vtl_cell::Profile;
@@ -41,7 +40,6 @@ pub fn exec<L: Ledger>(
 ) -> Result<Table, ExecErr>
     requires formed { IsQuery most_levels (query_tree plan.now.query) }
     requires typed { IsQueryTyped p.now (tables_held tables.now) (query_tree plan.now.query) }
-    requires plain { query_has_window (query_tree plan.now.query) ≡ false }
     requires lawful { IsLawful (base_held p.now tables.now) }
     ensures columns { IfOk result (λ t. map column_entry t.columns ≡ query_columns (tables_held tables.now) (query_tree plan.now.query)) }
     ensures rows { Gives (query_value (base_held p.now tables.now) (query_tree plan.now.query)) result }
@@ -73,5 +71,5 @@ pub fn source_rows<L: Ledger>(
     ensures rows { (s : SelectTree) → query_tree plan.now.query ≡ s ∷ [] → AnswersBy (λ t. t.rows) result (source_rows (base_held p.now tables.now) s) }
 {
     let selects = plan.query().selects.as_slice();
-    sql_groups::source_rows(alloc, &selects[0], tables, p)
+    sql_window::source_rows(alloc, &selects[0], tables, p)
 }

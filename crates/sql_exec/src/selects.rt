@@ -1,24 +1,26 @@
 // Selects: FROM and WHERE first, and then items or groups.
-ghost use Rattle.std.specs.List.{AllByRecursion, list_any};
-ghost use Rattle.std.specs.Prelude.{◌≡◌, ◌==◌, false, filter, length, map, zip, IfErr, IfOk, OnOk};
+ghost use Rattle.std.specs.List.{AllByRecursion};
+ghost use Rattle.std.specs.Prelude.{◌≡◌, ◌==◌, filter, length, map, zip, None, IfErr, IfOk, OnOk};
 ghost use Rattle.vtl_rows.specs.Tables.{column_kinds};
 ghost use Rattle.sql_tree.specs.View.{item_tree, select_tree};
-ghost use Rattle.sql_groups.specs.Queries.{scope_of};
-ghost use Rattle.sql_groups.specs.Scopes.{row_of};
-ghost use Rattle.sql_groups.specs.Selects.{appended, plain_rows, second_phase, select_value};
-ghost use Rattle.sql_groups.specs.Profiles.{IsLawful};
-ghost use Rattle.sql_groups.specs.Tables.{RowsFit};
-ghost use Rattle.sql_groups.specs.Held.{base_held, tables_held};
-ghost use Rattle.sql_groups.specs.Sources.{scope_held};
-ghost use Rattle.sql_groups.specs.Standing.{rows_for, sight_of};
+ghost use Rattle.sql_window.specs.Queries.{scope_of};
+ghost use Rattle.sql_window.specs.Scopes.{row_of};
+ghost use Rattle.sql_window.specs.Outcomes.{row_at};
+ghost use Rattle.sql_window.specs.Selects.{appended, item_value, plain_rows, second_phase, select_value};
+ghost use Rattle.sql_window.specs.Profiles.{IsLawful};
+ghost use Rattle.sql_window.specs.Tables.{RowsFit};
+ghost use Rattle.sql_window.specs.Held.{base_held, tables_held};
+ghost use Rattle.sql_window.specs.Sources.{scope_held};
+ghost use Rattle.sql_window.specs.Standing.{rows_for, sight_of};
+ghost use Rattle.sql_window.specs.Expressions.{site};
+ghost use Rattle.sql_window.specs.TypedSelects.{IsItemTyped};
 ghost use Rattle.sql_exec.specs.Outputs.{Adds};
 ghost use Rattle.sql_exec.specs.Parts.{IsPart, MakesKinds};
-ghost use Rattle.sql_exec.specs.Plain.{is_window_item};
 
-use crate::items::{RowItem, row_items};
+use crate::items::{ItemValues, RowItem, row_items};
 use crate::output::Output;
 use sql_check_queries::is_grouped;
-use sql_groups::{Partners, Plan, Sources, TupleRows, push_grouped, source_tuples};
+use sql_window::{Partners, Plan, Sources, TupleRows, push_grouped, source_tuples};
 use sql_tree::{Item, Select};
 use std::alloc::{AllocError, Global};
 use vtl_cell::{Kind, Profile};
@@ -37,7 +39,9 @@ fn item_partners<'a>(
 {
     let mut partners = Partners::none(alloc, sources);
     for item in items {
-        partners = partners.with(alloc, &item.exp, p)?;
+        if let ItemValues::Expression(e) = &item.values {
+            partners = partners.with(alloc, e, p)?;
+        }
     }
     Ok(partners)
 }
@@ -52,19 +56,19 @@ fn add_rows(
     p: &Profile,
 ) -> Result<(), ScalarErr>
     requires lawful { IsLawful (base_held p.now rows.now.sources.held) }
-    requires plain { list_any is_window_item (map item_tree items.now) ≡ false }
+    requires typed { AllByRecursion (IsItemTyped (site p.now (tables_held rows.now.sources.held) (scope_held rows.now.sources.sources)) None) (map item_tree items.now) }
     requires many { length kinds.now ≡ length items.now }
     requires columns { column_kinds out.old.table.columns ≡ kinds.now }
     requires fit { RowsFit (row_of (scope_held rows.now.sources.sources)) (rows_for rows.now.sources rows.now.tuples) }
-    requires fitting { MakesKinds (scope_held rows.now.sources.sources) kinds.now (plain_rows (sight_of p.now rows.now.sources) (zip (map item_tree items.now) kinds.now)) }
+    requires fitting { MakesKinds (scope_held rows.now.sources.sources) kinds.now (λ all. row_at (item_value (sight_of p.now rows.now.sources) all) (zip (map item_tree items.now) kinds.now)) }
     ensures adds { OnOk result (Adds (plain_rows (sight_of p.now rows.now.sources) (zip (map item_tree items.now) kinds.now) (rows_for rows.now.sources rows.now.tuples)) out.old out.new) }
     ensures err { IfErr result (λ e. e ≡ ScalarErr.OutOfMemory) }
 {
-    let resolved = row_items(alloc, p, &rows.sources, items, kinds)?;
+    let resolved = row_items(alloc, p, rows, items, kinds)?;
     let partners = item_partners(alloc, &rows.sources, &resolved, p)?;
     out.table.reserve_rows(rows.len())?;
     for number in 0..rows.len() {
-        out.add_row(alloc, &resolved, &(&*rows).partnered(number, &partners), p)?;
+        out.add_row(alloc, &resolved, &(&*rows).partnered(number, &partners), number, p)?;
     }
     Ok(())
 }

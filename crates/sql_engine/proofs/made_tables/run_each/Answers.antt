@@ -12,7 +12,7 @@ use Rattle.sql_engine.proofs.made_tables.run_each.Goals as goal
 pub loop-place-init : goal.loop-place-init
 loop-place-init g c =
     run_begins c.args.p.now c.args.inputs.now c.args.last.now.entries (map statement_tree c.args.statements.now) c.new-tables.result c.new-tables.ensures
-    c.requires.typed c.requires.formed c.requires.plain c.requires.there c.requires.in_range c.requires.created
+    c.requires.typed c.requires.formed c.requires.there c.requires.in_range c.requires.created
 
 pub run_statement-requires : goal.run_statement-requires
 run_statement-requires g c =

@@ -1,12 +1,17 @@
-use Rattle.std.proofs.Common.{◌≡◌, ◌∙◌, ◌+◌, [], ◌∷◌, ◌++◌, List, ap, sym, subst, map, drop}
-use Rattle.sql_tree.specs.View.{join_tree, select_tree}
+use Rattle.std.proofs.Common.{◌≡◌, ◌∙◌, ◌+◌, [], ◌∷◌, ◌++◌, ◌≤◌, List, length, ap, sym, subst, map, drop, drop_of_length-le, arith}
+use Rattle.std.specs.List.{AllByRecursion}
+use Rattle.sql_tree.specs.View.{item_tree, join_tree, select_tree}
+use Rattle.sql_tree.specs.declared.statements.Item.{Item}
 use Rattle.sql_tree.specs.declared.statements.Join.{Join}
-use Rattle.sql_groups.specs.Queries.{first_scope, join_source, joined_scope}
-use Rattle.sql_groups.specs.Scopes.{Scope, with_source}
-use Rattle.sql_groups.specs.TypedSelects.{AreJoinsTyped, IsSourceTyped}
-use Rattle.sql_groups.specs.Held.{tables_held}
+use Rattle.sql_window.specs.Queries.{first_scope, groups_of, join_source, joined_scope, scope_of}
+use Rattle.sql_window.specs.Expressions.{site}
+use Rattle.sql_window.specs.Scopes.{Scope, with_source}
+use Rattle.sql_window.specs.TypedSelects.{AreJoinsTyped, IsSourceTyped}
+use Rattle.sql_window.specs.Held.{tables_held}
 use Rattle.sql_tree.specs.declared.parts.Source.{Source}
-use Rattle.sql_groups.specs.Sources.{scope_held, table_named}
+use Rattle.sql_window.specs.Sources.{scope_held, table_named}
+use Rattle.sql_exec.specs.Items.{IsKindKnown}
+use Rattle.sql_exec.proofs.QueryParts.{kinds_known}
 use Rattle.sql_exec.proofs.QueryColumns.{drop_read, scope_with}
 use Rattle.sql_exec.proofs.columns.select_kinds.Goals as goal
 
@@ -17,12 +22,12 @@ loop-join-init c =
     let before = c.over.result in
     let given : tables_held before.held ≡ tables = ap tables_held c.over.ensures.held in
     let none : scope_held before.sources ≡ [] = ap scope_held c.over.ensures.sources in
-    let typed : IsSourceTyped (tables_held before.held) (scope_held before.sources) s.source = subst (λ t. IsSourceTyped t (scope_held before.sources) s.source) (sym given) (subst (λ scope. IsSourceTyped tables scope s.source) (sym none) c.requires.typed.source) in
+    let typed : IsSourceTyped (tables_held before.held) (scope_held before.sources) s.source = subst (λ t. IsSourceTyped t (scope_held before.sources) s.source) (sym given) (subst (λ scope. IsSourceTyped tables scope s.source) (sym none) c.requires.source) in
     let first : scope_held c.in_ok-sources.sources.sources ≡ first_scope tables s =
     scope_with before c.in_ok-sources.sources s.source typed c.in_ok-sources.ensures.sources ∙ (λ i. with_source (given i) (none i) s.source) in
     record {
       held = c.in_ok-sources.ensures.held ∙ c.over.ensures.held;
-      typed = subst (λ scope. AreJoinsTyped c.args.p.now tables scope s.joins) (sym first) c.requires.typed.joins;
+      typed = subst (λ scope. AreJoinsTyped c.args.p.now tables scope s.joins) (sym first) c.requires.joins;
       scope = ap (λ scope. joined_scope tables scope s.joins) first;
     }
 
@@ -49,3 +54,17 @@ loop-join-preserved c =
       typed = subst (λ (scope : Scope). AreJoinsTyped c.args.p.now tables scope rest) (sym next) typed.2;
       scope = ap (λ (scope : Scope). joined_scope tables scope rest) next ∙ sym (ap (joined_scope tables (scope_held before.sources)) read) ∙ c.loop-join.invariant.scope;
     }
+
+pub item_kinds-requires : goal.item_kinds-requires
+item_kinds-requires c =
+    let s = select_tree c.args.select.now in
+    let tables = tables_held c.args.tables.now in
+    let sources = c.loop-join.sources in
+    let joins = c.args.select.now.joins in
+    let i = c.loop-join.join-index in
+    let long = ap (λ (js : List Join). length js) c.as_slice-join-items.ensures in
+    let last : length joins ≤ i = omega (arith, c.loop-join-test.false, long) in
+    let none : drop i joins ≡ [] = drop_of_length-le joins last in
+    let whole : scope_held sources.sources ≡ scope_of tables s = sym (ap (λ (js : List Join). joined_scope tables (scope_held sources.sources) (map join_tree js)) none) ∙ c.loop-join.invariant.scope in
+    subst (λ (items : List Item). AllByRecursion (IsKindKnown (scope_held sources.sources)) (map item_tree items)) (sym c.as_slice.ensures)
+    (subst (λ (scope : Scope). AllByRecursion (IsKindKnown scope) s.items) (sym whole) (kinds_known (site c.args.p.now tables (scope_of tables s)) (groups_of s) s.items c.requires.items))

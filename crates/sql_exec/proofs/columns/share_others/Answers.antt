@@ -1,15 +1,15 @@
 use Rattle.std.proofs.Common.{◌∙◌, ◌+◌, ap, sym, map, drop}
 use Rattle.std.specs.Prelude.{fold}
 use Rattle.sql_tree.specs.View.{select_tree}
-use Rattle.sql_groups.specs.Queries.{beside, kinds_of}
-use Rattle.sql_groups.specs.Held.{tables_held}
-use Rattle.sql_exec.specs.Parts.{IsPlain}
+use Rattle.sql_window.specs.Queries.{beside, kinds_of}
+use Rattle.sql_window.specs.Held.{tables_held}
+use Rattle.sql_window.specs.TypedSelects.{IsSelectTyped}
 use Rattle.sql_exec.proofs.QueryColumns.{drop_read}
 use Rattle.sql_exec.proofs.Steps.{holds_mapped}
 use Rattle.sql_exec.proofs.columns.share_others.Goals as goal
 
 pub select_kinds-requires : goal.select_kinds-requires
-select_kinds-requires c = holds_mapped (IsPlain c.args.p.now (tables_held c.args.tables.now)) select_tree c.args.others.now c.loop-other.other-index c.other-item.result c.requires c.loop-other-test.true c.other-item.is
+select_kinds-requires c = holds_mapped (IsSelectTyped c.args.p.now (tables_held c.args.tables.now)) select_tree c.args.others.now c.loop-other.other-index c.other-item.result c.requires c.loop-other-test.true c.other-item.is
 
 pub loop-other-preserved : goal.loop-other-preserved
 loop-other-preserved c =

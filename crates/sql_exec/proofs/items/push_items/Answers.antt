@@ -1,6 +1,8 @@
+use Rattle.std.proofs.Common.{ℕ}
 use Rattle.vtl_cell.specs.Outcome.{fault_in}
-use Rattle.sql_groups.specs.Outcomes.{cell_or_null}
-use Rattle.sql_groups.specs.Seen.{seen_of}
+use Rattle.vtl_cell.specs.Row.{Row}
+use Rattle.sql_window.specs.Outcomes.{cell_or_null}
+use Rattle.sql_window.specs.Seen.{seen_of}
 use Rattle.sql_exec.specs.Items.{made_at_row}
 use Rattle.sql_exec.proofs.Steps.{mapped_more, seen_more}
 use Rattle.sql_exec.proofs.items.push_items.Goals as goal
@@ -8,7 +10,7 @@ use Rattle.sql_exec.proofs.items.push_items.Goals as goal
 pub loop-item-preserved : goal.loop-item-preserved
 loop-item-preserved g c =
     let made = made_at_row c.args.p.now (g.R.Cells.tables c.args.at.now) in
-    let r = g.R.Cells.cells c.args.at.now in
+    let r : Row × ℕ = (g.R.Cells.cells c.args.at.now, c.args.number) in
     let items = c.args.items.now in
     let i = c.loop-item.item-index in
     let item = c.item-item.result in

@@ -8,22 +8,22 @@ use Rattle.vtl_rows.specs.Tables.{Listed, column_kinds}
 use Rattle.sql_tree.specs.Trees.{QueryTree}
 use Rattle.sql_tree.specs.View.{query_tree, select_tree}
 use Rattle.sql_tree.specs.declared.statements.Item.{Item}
-use Rattle.sql_groups.specs.Queries.{query_columns, shared_kinds}
-use Rattle.sql_groups.specs.Scopes.{or_null}
-use Rattle.sql_groups.specs.Selects.{appended, query_value, select_value}
-use Rattle.sql_groups.specs.Tables.{column_entry, kinds_of}
-use Rattle.sql_groups.specs.Held.{base_held, tables_held}
+use Rattle.sql_window.specs.Queries.{query_columns, shared_kinds}
+use Rattle.sql_window.specs.Scopes.{or_null}
+use Rattle.sql_window.specs.Selects.{appended, query_value, select_value}
+use Rattle.sql_window.specs.Tables.{column_entry, kinds_of}
+use Rattle.sql_window.specs.Held.{base_held, tables_held}
+use Rattle.sql_window.specs.TypedSelects.{IsSelectTyped}
 use Rattle.sql_exec.specs.Outputs.{Adds, fault_seen}
-use Rattle.sql_exec.specs.Parts.{IsPart, IsPlain}
-use Rattle.sql_exec.proofs.QueryParts.{all_plain, query_parts}
+use Rattle.sql_exec.specs.Parts.{IsPart}
+use Rattle.sql_exec.proofs.QueryParts.{query_parts}
 use Rattle.sql_exec.proofs.WholeQueries.{answered_keeps, columns_are, columns_long, first_many, first_named, gives, kinds_held, query_kinds_are, some_selects}
 use Rattle.sql_exec.proofs.queries.exec.Goals as goal
 
 pub query_kinds-requires : goal.query_kinds-requires
 query_kinds-requires g c =
-    let b = base_held c.args.p.now c.args.tables.now in
     let is : map select_tree c.as_slice-selects.result.now ≡ query_tree c.args.plan.now.query = ap (map select_tree) c.as_slice-selects.ensures ∙ ap query_tree c.query.ensures.query in
-    subst (AllByRecursion (IsPlain c.args.p.now (tables_held c.args.tables.now))) (sym is) (all_plain b (query_tree c.args.plan.now.query) c.requires.typed.selects c.requires.plain)
+    subst (AllByRecursion (IsSelectTyped c.args.p.now (tables_held c.args.tables.now))) (sym is) c.requires.typed.selects
 
 pub named_columns-requires : goal.named_columns-requires
 named_columns-requires g c =
@@ -53,7 +53,7 @@ add_selects-requires-clause-parts g c =
     let is : map select_tree c.as_slice-selects.result.now ≡ q = ap (map select_tree) c.as_slice-selects.ensures ∙ ap query_tree c.query.ensures.query in
     let kinds : c.deref-2.result.now ≡ kinds_of (query_columns b.tables q) = c.deref-2.ensures.value ∙ c.in_ok-kinds.ensures ∙ ap (λ (ss : QueryTree). map or_null (shared_kinds b.tables ss)) is ∙ sym (query_kinds_are b.tables q) in
     subst (λ (ks : List Kind). AllByRecursion (IsPart b ks) (map select_tree c.as_slice-selects.result.now)) (sym kinds)
-    (subst (AllByRecursion (IsPart b (kinds_of (query_columns b.tables q)))) (sym is) (query_parts b q c.requires.typed c.requires.plain))
+    (subst (AllByRecursion (IsPart b (kinds_of (query_columns b.tables q)))) (sym is) (query_parts b q c.requires.typed))
 
 pub add_selects-requires-clause-columns : goal.add_selects-requires-clause-columns
 add_selects-requires-clause-columns g c =

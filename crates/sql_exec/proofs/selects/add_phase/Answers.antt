@@ -1,20 +1,24 @@
-use Rattle.std.proofs.Common.{◌≡◌, ◌∙◌, List, true, false, map, length, refl, sym, ap, subst}
+use Rattle.std.proofs.Common.{◌≡◌, ◌∙◌, List, None, true, false, map, length, refl, sym, ap, subst}
 use Rattle.std.specs.Prelude.{zip}
+use Rattle.std.specs.List.{AllByRecursion}
 use Rattle.std.proofs.lemmas.List.{length-map}
 use Rattle.vtl_cell.specs.Outcome.{Outcome}
 use Rattle.vtl_cell.specs.Row.{Row}
 use Rattle.sql_tree.specs.View.{item_tree, select_tree}
 use Rattle.sql_tree.specs.declared.statements.Item.{Item}
-use Rattle.sql_groups.specs.Queries.{is_grouped}
-use Rattle.sql_groups.specs.Selects.{grouped_rows, plain_rows}
-use Rattle.sql_groups.specs.Held.{base_held}
-use Rattle.sql_groups.specs.Sources.{scope_held}
-use Rattle.sql_groups.specs.Standing.{rows_for, sight_of}
+use Rattle.sql_window.specs.Queries.{is_grouped}
+use Rattle.sql_window.specs.Outcomes.{row_at}
+use Rattle.sql_window.specs.Selects.{grouped_rows, item_value}
+use Rattle.sql_window.specs.Expressions.{site}
+use Rattle.sql_window.specs.TypedSelects.{IsItemTyped}
+use Rattle.sql_window.specs.Held.{base_held}
+use Rattle.sql_window.specs.Sources.{scope_held}
+use Rattle.sql_window.specs.Standing.{rows_for, sight_of}
 use Rattle.sql_exec.specs.Outputs.{Adds}
 use Rattle.sql_exec.specs.Parts.{MakesKinds}
 use Rattle.sql_exec.specs.declared.output.Output.{Output}
 use Rattle.sql_exec.proofs.Added.{behind_added}
-use Rattle.sql_exec.proofs.QueryParts.{part_many, phase_grouped, plain_makes}
+use Rattle.sql_exec.proofs.QueryParts.{part_many, phase_grouped, plain_makes, plain_typed}
 use Rattle.sql_exec.proofs.selects.add_phase.Goals as goal
 
 pub add_rows-requires-clause-many : goal.add_rows-requires-clause-many
@@ -27,7 +31,7 @@ add_rows-requires-clause-fitting c =
     let s = c.args.rows.now.sources in
     let kinds = c.args.kinds.now in
     let plain : is_grouped (select_tree c.args.select.now) ≡ false = sym c.is_grouped.ensures ∙ c.if-not-is_grouped.true in
-    subst (λ (items : List Item). MakesKinds (scope_held s.sources) kinds (plain_rows (sight_of c.args.p.now s) (zip (map item_tree items) kinds))) (sym c.as_slice.ensures)
+    subst (λ (items : List Item). MakesKinds (scope_held s.sources) kinds (λ rows. row_at (item_value (sight_of c.args.p.now s) rows) (zip (map item_tree items) kinds))) (sym c.as_slice.ensures)
     (plain_makes (base_held c.args.p.now s.held) kinds (select_tree c.args.select.now) c.requires.part (scope_held s.sources) c.requires.scope plain)
 
 pub returns-in-Ok-clause-adds : goal.returns-in-Ok-clause-adds
@@ -41,3 +45,11 @@ returns-in-Ok-clause-adds c =
     let now : Output = record { table = c.push_grouped.new.table; cells = old.cells; seen = old.seen } in
     let grouped : is_grouped s ≡ true = sym c.is_grouped.ensures ∙ c.if-not-is_grouped.false in
     subst (λ (m : Outcome (List Row)). Adds m old now) (sym (phase_grouped v wanted s rows grouped)) (behind_added (grouped_rows v wanted s.group s.having rows) old now c.in-Ok.ensures.columns refl c.in-Ok.ensures.rows)
+
+pub add_rows-requires-clause-typed : goal.add_rows-requires-clause-typed
+add_rows-requires-clause-typed c =
+    let s = c.args.rows.now.sources in
+    let b = base_held c.args.p.now s.held in
+    let plain : is_grouped (select_tree c.args.select.now) ≡ false = sym c.is_grouped.ensures ∙ c.if-not-is_grouped.true in
+    subst (λ (items : List Item). AllByRecursion (IsItemTyped (site b.settings b.tables (scope_held s.sources)) None) (map item_tree items)) (sym c.as_slice.ensures)
+    (plain_typed b c.args.kinds.now (select_tree c.args.select.now) c.requires.part (scope_held s.sources) c.requires.scope plain)

@@ -1,19 +1,22 @@
-use Rattle.std.proofs.Common.{◌≡◌, ◌<◌, ◌≤◌, ◌∙◌, [], true, List, length, map, get_or, sym, ap, subst, refl, arith}
+use Rattle.std.proofs.Common.{◌≡◌, ◌<◌, ◌≤◌, ◌∙◌, [], true, List, length, map, get_or, ap, subst, refl, arith}
 use Rattle.std.specs.Prelude.{zip}
 use Rattle.std.proofs.lemmas.List.{get_or_default}
 use Rattle.vtl_cell.specs.Outcome.{Outcome}
 use Rattle.vtl_cell.specs.Row.{Row}
 use Rattle.vtl_rows.specs.Tables.{column_kinds, fits_kinds}
 use Rattle.sql_tree.specs.View.{item_tree}
-use Rattle.sql_groups.specs.Scopes.{row_of}
-use Rattle.sql_groups.specs.Outcomes.{row_at, row_fault}
-use Rattle.sql_groups.specs.Sources.{scope_held}
-use Rattle.sql_groups.specs.Standing.{rows_for, sight_of}
-use Rattle.sql_exec.specs.Items.{item_at_row}
+use Rattle.sql_window.specs.Scopes.{row_of}
+use Rattle.sql_window.specs.Outcomes.{row_at, row_fault}
+use Rattle.sql_window.specs.Selects.{item_value}
+use Rattle.sql_window.specs.Sources.{scope_held}
+use Rattle.sql_window.specs.Standing.{rows_for, sight_of}
+use Rattle.sql_window.specs.Windows.{told_apart}
+use Rattle.sql_exec.specs.Items.{told_row}
 use Rattle.sql_exec.specs.Outputs.{Adds}
 use Rattle.sql_exec.proofs.Added.{added_all, added_more, added_none}
 use Rattle.sql_exec.proofs.MadeRows.{made_fits, made_row}
-use Rattle.sql_exec.proofs.PlainRows.{each_is, one_row, plain_each}
+use Rattle.sql_exec.proofs.PlainRows.{each_is, one_row}
+use Rattle.sql_exec.proofs.RowItems.{told_first, told_long}
 use Rattle.sql_exec.proofs.Steps.{holds_at}
 use Rattle.sql_exec.proofs.selects.add_rows.Goals as goal
 
@@ -21,16 +24,17 @@ pub loop-number-init : goal.loop-number-init
 loop-number-init c = added_none c.args.out.now _ c.in_ok-reserve_rows.ensures.columns c.in_ok-reserve_rows.ensures.rows refl
 
 pub add_row-requires-clause-fits : goal.add_row-requires-clause-fits
-add_row-requires-clause-fits c =
+add_row-requires-clause-fits c none =
     let p = c.args.p.now in
     let s = c.args.rows.now.sources in
     let rows = rows_for s c.args.rows.now.tuples in
     let i = c.loop-number.number in
     let r = get_or rows i [] in
     let h : i < length rows = omega (arith, c.len-number-end.ensures.rows, c.loop-number-test.true) in
-    let fit = holds_at (λ x. fits_kinds (row_of (scope_held s.sources)) x ≡ true) rows i r c.requires.fit h (get_or_default rows i [] r h) in
-    made_fits p s (map item_tree c.args.items.now) c.args.kinds.now c.deref-in-loop-number.result.now c.in_ok-resolved.resolved.items c.deref-in-loop-number.ensures.value c.in_ok-resolved.ensures c.partnered.result.row.sources.now c.partnered.ensures.sources _ r c.partnered.ensures.row
-    c.loop-number.out.table.columns (ap column_kinds c.loop-number.invariant.columns ∙ c.requires.columns) c.requires.plain fit c.requires.fitting
+    let fit : fits_kinds (row_of (scope_held s.sources)) r ≡ true = holds_at (λ x. fits_kinds (row_of (scope_held s.sources)) x ≡ true) rows i r c.requires.fit h (get_or_default rows i [] r h) in
+    let here = ap (fits_kinds (row_of (scope_held s.sources))) (told_first rows i h) ∙ fit in
+    made_fits p s rows (zip (map item_tree c.args.items.now) c.args.kinds.now) c.deref-in-loop-number.result.now c.in_ok-resolved.resolved.items c.deref-in-loop-number.ensures.value c.in_ok-resolved.ensures c.partnered.result.row.sources.now c.partnered.ensures.sources i h _ c.partnered.ensures.row
+    c.loop-number.out.table.columns c.args.kinds.now (ap column_kinds c.loop-number.invariant.columns ∙ c.requires.columns) (c.requires.fitting rows (told_row rows i) c.requires.fit here)
 
 pub loop-number-preserved : goal.loop-number-preserved
 loop-number-preserved c =
@@ -38,22 +42,24 @@ loop-number-preserved c =
     let s = c.args.rows.now.sources in
     let rows = rows_for s c.args.rows.now.tuples in
     let i = c.loop-number.number in
-    let r = get_or rows i [] in
     let h : i < length rows = omega (arith, c.len-number-end.ensures.rows, c.loop-number-test.true) in
+    let long = told_long rows in
+    let l : i < length (told_apart rows) = omega (arith, h, long) in
     let wanted = zip (map item_tree c.args.items.now) c.args.kinds.now in
-    let m = one_row (row_fault (item_at_row (sight_of p s)) wanted) (row_at (item_at_row (sight_of p s)) wanted) in
-    let one = made_row p s (map item_tree c.args.items.now) c.args.kinds.now c.deref-in-loop-number.result.now c.in_ok-resolved.resolved.items c.deref-in-loop-number.ensures.value c.in_ok-resolved.ensures c.partnered.result.row.sources.now c.partnered.ensures.sources _ r c.partnered.ensures.row in
-    added_more m rows i r h (get_or_default rows i [] r h) c.args.out.now c.loop-number.out c.add_row.new.self c.loop-number.invariant
+    let at = item_value (sight_of p s) rows in
+    let m = one_row (row_fault at wanted) (row_at at wanted) in
+    let one = made_row p s rows wanted c.deref-in-loop-number.result.now c.in_ok-resolved.resolved.items c.deref-in-loop-number.ensures.value c.in_ok-resolved.ensures c.partnered.result.row.sources.now c.partnered.ensures.sources i h _ c.partnered.ensures.row in
+    added_more m (told_apart rows) i (told_row rows i) l (get_or_default (told_apart rows) i ([], 0) (told_row rows i) l) c.args.out.now c.loop-number.out c.add_row.new.self c.loop-number.invariant
     (subst (λ (n : Outcome (List Row)). Adds n c.loop-number.out c.add_row.new.self) one c.in_ok-add_row.ensures.adds)
 
 pub returns-clause-adds : goal.returns-clause-adds
 returns-clause-adds c =
     let s = c.args.rows.now.sources in
-    let v = sight_of c.args.p.now s in
-    let items = map item_tree c.args.items.now in
-    let kinds = c.args.kinds.now in
+    let wanted = zip (map item_tree c.args.items.now) c.args.kinds.now in
     let rows = rows_for s c.args.rows.now.tuples in
-    let f = row_fault (item_at_row v) (zip items kinds) in
-    let g = row_at (item_at_row v) (zip items kinds) in
-    let h : length rows ≤ c.loop-number.number = omega (arith, c.len-number-end.ensures.rows, c.loop-number-test.false) in
-    subst (λ (n : Outcome (List Row)). Adds n c.args.out.now c.loop-number.out) (each_is f g rows ∙ sym (plain_each v items kinds rows c.requires.plain)) (added_all (one_row f g) rows c.loop-number.number c.args.out.now c.loop-number.out h c.loop-number.invariant)
+    let at = item_value (sight_of c.args.p.now s) rows in
+    let f = row_fault at wanted in
+    let g = row_at at wanted in
+    let long = told_long rows in
+    let h : length (told_apart rows) ≤ c.loop-number.number = omega (arith, long, c.len-number-end.ensures.rows, c.loop-number-test.false) in
+    subst (λ (n : Outcome (List Row)). Adds n c.args.out.now c.loop-number.out) (each_is f g (told_apart rows)) (added_all (one_row f g) (told_apart rows) c.loop-number.number c.args.out.now c.loop-number.out h c.loop-number.invariant)

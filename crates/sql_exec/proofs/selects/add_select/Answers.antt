@@ -4,15 +4,15 @@ use Rattle.vtl_cell.specs.Outcome.{Outcome, after}
 use Rattle.vtl_cell.specs.Row.{Row}
 use Rattle.sql_tree.specs.View.{select_tree}
 use Rattle.vtl_rows.specs.Named.{NamedTables}
-use Rattle.sql_groups.specs.Profiles.{IsLawful}
-use Rattle.sql_groups.specs.Queries.{scope_of}
-use Rattle.sql_groups.specs.Scopes.{Scope, row_of}
-use Rattle.sql_groups.specs.Selects.{second_phase, select_value}
-use Rattle.sql_groups.specs.Tables.{RowsFit}
-use Rattle.sql_groups.specs.Values.{at_rows}
-use Rattle.sql_groups.proofs.SourceKinds.{source_rows_fit}
-use Rattle.sql_groups.specs.Held.{base_held}
-use Rattle.sql_groups.specs.Standing.{rows_for, sight_of}
+use Rattle.sql_window.specs.Profiles.{IsLawful}
+use Rattle.sql_window.specs.Queries.{scope_of}
+use Rattle.sql_window.specs.Scopes.{Scope, row_of}
+use Rattle.sql_window.specs.Selects.{second_phase, select_value}
+use Rattle.sql_window.specs.Tables.{RowsFit}
+use Rattle.sql_window.specs.Values.{at_rows}
+use Rattle.sql_window.proofs.SourceKinds.{source_rows_fit}
+use Rattle.sql_window.specs.Held.{base_held}
+use Rattle.sql_window.specs.Standing.{rows_for, sight_of}
 use Rattle.sql_exec.specs.Outputs.{Adds}
 use Rattle.sql_exec.proofs.selects.add_select.Goals as goal
 
@@ -20,7 +20,7 @@ pub add_phase-requires-clause-fit : goal.add_phase-requires-clause-fit
 add_phase-requires-clause-fit c =
     let rows = rows_for c.in-Ok.rows.sources c.in-Ok.rows.tuples in
     subst (λ (scope : Scope). RowsFit (row_of scope) rows) (sym c.in-Ok.ensures.scope)
-    (source_rows_fit (base_held c.args.p.now c.args.tables.now) c.requires.lawful.fit (select_tree c.args.select.now) rows c.requires.part.known.typed c.in-Ok.ensures.rows)
+    (source_rows_fit (base_held c.args.p.now c.args.tables.now) c.requires.lawful.fit (select_tree c.args.select.now) rows c.requires.part.typed c.in-Ok.ensures.rows)
 
 pub returns-in-Ok-clause-adds : goal.returns-in-Ok-clause-adds
 returns-in-Ok-clause-adds c =

@@ -1,10 +1,10 @@
 use Rattle.std.proofs.Common.{subst}
 use Rattle.sql_tree.specs.View.{select_tree}
 use Rattle.sql_tree.specs.declared.statements.Select.{Select}
-use Rattle.sql_groups.specs.Held.{base_held}
+use Rattle.sql_window.specs.Held.{base_held}
 use Rattle.sql_exec.specs.Outputs.{Adds}
 use Rattle.sql_exec.specs.Parts.{IsPart}
-use Rattle.sql_groups.specs.Selects.{appended, select_value}
+use Rattle.sql_window.specs.Selects.{appended, select_value}
 use Rattle.sql_exec.proofs.Added.{added_all, added_more}
 use Rattle.sql_exec.proofs.Steps.{holds_mapped, mapped_twice}
 use Rattle.sql_exec.proofs.selects.add_selects.Goals as goal

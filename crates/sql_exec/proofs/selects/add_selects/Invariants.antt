@@ -1,7 +1,7 @@
 use Rattle.std.proofs.Common.{map, take}
 use Rattle.sql_tree.specs.View.{select_tree}
-use Rattle.sql_groups.specs.Selects.{appended, select_value}
-use Rattle.sql_groups.specs.Held.{base_held}
+use Rattle.sql_window.specs.Selects.{appended, select_value}
+use Rattle.sql_window.specs.Held.{base_held}
 use Rattle.sql_exec.specs.Outputs.{Adds}
 use Rattle.sql_exec.proofs.selects.add_selects.Given as goal
 
