@@ -1,10 +1,9 @@
 -- Columns that a source has stand within the rows of FROM.
-use Rattle.std.proofs.Common.{◌≡◌, ℕ, ◌<◌, length, get_or, Option, None, Some, inl, inr, sym, subst, ◌∙◌, ap}
+use Rattle.std.proofs.Common.{◌≡◌, ℕ, ◌<◌, length, get_or, Option, None, Some, true, false, inl, inr, sym, subst, ◌∙◌, ap}
 use Rattle.std.specs.Prelude.{IsSome, option_map, unwrap_or}
 use Rattle.std.specs.List.{AllByRecursion}
 use Rattle.std.proofs.lemmas.Bool.{cases_lt}
 use Rattle.std.proofs.lemmas.List.{get_or_past}
-use Rattle.vtl_cell.specs.Settings.{Settings}
 use Rattle.vtl_cell.specs.declared.kind.Kind.{Kind}
 use Rattle.vtl_cell.specs.declared.kind.Kind.TheVariants as k
 use Rattle.sql_tree.specs.Trees as tree
@@ -22,7 +21,7 @@ pub place_within : (scope : Scope) (x : Column) → IsSome (found scope x) → p
 place_within scope x there = go (found (placed scope) x) (found_placed k.Null scope x) (found_placed k.Bool scope x)
   where
     go : (o : Option ℕ) → found scope x ≡ option_map (λ i. get_or (row_of scope) i k.Null) o → found scope x ≡ option_map (λ i. get_or (row_of scope) i k.Bool) o → unwrap_or o (length (row_of scope)) < length (row_of scope)
-    go None e g = absurd (subst IsSome e there)
+    go None e g = let never : false ≡ true = subst IsSome e there in cc
     go (Some i) e g = elim (cases_lt i (length (row_of scope))) [
       | inl within ↦ within
       | inr past ↦ let null : found scope x ≡ Some k.Null = e ∙ ap (λ (z : Kind). Some z) (get_or_past (row_of scope) i k.Null past) in let bool : found scope x ≡ Some k.Bool = g ∙ ap (λ (z : Kind). Some z) (get_or_past (row_of scope) i k.Bool past) in let same : Some k.Null ≡ Some k.Bool = sym null ∙ bool in cc
