@@ -4,7 +4,6 @@ use Rattle.std.specs.List.{AllByRecursion, range_with_len}
 use Rattle.std.proofs.lemmas.List.{map-append}
 use Rattle.std.proofs.lemmas.List.Elements.{All-from_recursion}
 use Rattle.vtl_cell.specs.Sorted.{rising}
-use Rattle.vtl_cell.specs.declared.kind.Kind.{Kind}
 use Rattle.vtl_rows.specs.Keys.{key_of}
 use Rattle.vtl_rows.specs.declared.column.SortKey.{SortKey}
 use Rattle.vtl_tree.specs.Structure.{columns_of, same_name}
@@ -12,11 +11,12 @@ use Rattle.vtl_tree.specs.declared.structure.Component.{Component}
 use Rattle.vtl_tree.specs.declared.structure.Structure.{Structure}
 use Rattle.vtl_expr.specs.Columns.{identifiers_of, others_of, place_of, places_in}
 use Rattle.vtl_expr.specs.Groups.{places_named}
-use Rattle.vtl_group.specs.Made.{IsColumnAt, IsNamedColumn}
+use Rattle.vtl_group.proofs.Kept.{column_within}
+use Rattle.vtl_group.proofs.Places.{all_append, all_front, columns_split, same_name-refl}
+use Rattle.vtl_group.specs.Made.{IsNamedColumn}
 use Rattle.vtl_group.specs.PointWindows.{key_in, keys_in}
 use Rattle.vtl_group.specs.calls.OrderKey.{OrderKey}
 use Rattle.vtl_group.specs.calls.Window.{Window}
-use Rattle.vtl_windows.proofs.Columns.{all_append, all_front, columns_split, same-refl}
 use Rattle.vtl_window.specs.Sorted.{identifier_keys, order_keys, ordering_key, partition_keys, rising_key, sort_keys}
 
 -- ---- what they are
@@ -54,11 +54,6 @@ module _ (xs : List Component) where
 abbrev pub IsWithin : ℕ → SortKey → Type 0
 IsWithin n k = k.column < n
 
-column_within : (i : ℕ) (name : List ℕ) (kind : Kind) (xs : List Component) → IsColumnAt i name kind xs → i < length xs
-column_within i name kind [] h = absurd h
-column_within zero name kind (x ∷ xs) h = omega arith
-column_within (suc i) name kind (x ∷ xs) h = let l = column_within i name kind xs h in omega (arith, l)
-
 module _ (xs : List Component) (w : Window) where
   names_within : (names : List (List ℕ)) → AllByRecursion (IsNamedColumn xs) names → AllByRecursion (IsWithin (length xs)) (map (λ name. rising_key (place_of name xs)) names)
   names_within [] all = tt
@@ -82,7 +77,7 @@ one_before name x xs h = go (same_name x.name name)
 
 own_places : (xs : List Component) → AllByRecursion (λ y. place_of y.name xs < length xs) xs
 own_places [] = tt
-own_places (x ∷ xs) = (first (same_name x.name x.name) (same-refl x.name), more xs (own_places xs))
+own_places (x ∷ xs) = (first (same_name x.name x.name) (same_name-refl x.name), more xs (own_places xs))
   where
     first : (b : Bool) → b ≡ true → cond (not b) (1 + place_of x.name xs) 0 < suc (length xs)
     first true e = omega arith
