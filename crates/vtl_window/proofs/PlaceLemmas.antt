@@ -29,11 +29,11 @@ apart_in n (r ∷ rows) e =
     let parts = apart_parts (same_key n) r rows e in
     apart_more same_row r rows (all_more (λ q. same_key n r q ≡ false) (λ q. same_row r q ≡ false) (key_apart n r) rows parts.0) (apart_in n rows parts.1)
 
-apart_at : (rows : List Row) (j k : ℕ) → j < k → k < length rows → all_apart same_row rows ≡ true → same_row (get_or rows j []) (get_or rows k []) ≡ false
-apart_at [] j k h l e = absurd (omega (arith, l))
-apart_at (r ∷ rows) j zero h l e = absurd (omega (arith, h))
-apart_at (r ∷ rows) zero (suc k) h l e = all_get (λ q. same_row r q ≡ false) rows k [] (omega (arith, l)) (apart_parts same_row r rows e).0
-apart_at (r ∷ rows) (suc j) (suc k) h l e = apart_at rows j k (omega (arith, h)) (omega (arith, l)) (apart_parts same_row r rows e).1
+pub apart_at : (same : Row → Row → Bool) (rows : List Row) (j k : ℕ) → j < k → k < length rows → all_apart same rows ≡ true → same (get_or rows j []) (get_or rows k []) ≡ false
+apart_at same [] j k h l e = absurd (omega (arith, l))
+apart_at same (r ∷ rows) j zero h l e = absurd (omega (arith, h))
+apart_at same (r ∷ rows) zero (suc k) h l e = all_get (λ q. same r q ≡ false) rows k [] (omega (arith, l)) (apart_parts same r rows e).0
+apart_at same (r ∷ rows) (suc j) (suc k) h l e = apart_at same rows j k (omega (arith, h)) (omega (arith, l)) (apart_parts same r rows e).1
 
 -- ---- places
 module _ (keys : List Key) (columns : List ℕ) (rows : List Row) (rises : Rises (le_by (window_cmp keys columns)) rows) (apart : all_apart same_row rows ≡ true) where
@@ -57,7 +57,7 @@ module _ (keys : List Key) (columns : List ℕ) (rows : List Row) (rises : Rises
       go true e = refl
       go false e =
           let one : at k ≡ at i = (window_order keys columns).antisym (at k) (at i) (rises_get le rows k i [] h l rises) (ap not e) in
-          absurd (true≢false (sym (ap (same_row (at k)) (sym one) ∙ same_row-refl (at k)) ∙ apart_at rows k i h l apart))
+          absurd (true≢false (sym (ap (same_row (at k)) (sym one) ∙ same_row-refl (at k)) ∙ apart_at same_row rows k i h l apart))
 
   behind : (i k : ℕ) → i ≤ k → k < length rows → is_lt (window_cmp keys columns (at k) (at i)) ≡ false
   behind i k h l = not_false (is_lt (window_cmp keys columns (at k) (at i))) (go (below_or_not i k))

@@ -1,6 +1,6 @@
 -- The keys of the sort: what they are, and that they are columns.
-use Rattle.std.proofs.Common.{◌≡◌, ℕ, zero, suc, ◌+◌, ◌<◌, ◌≤◌, Bool, true, false, not, cond, List, [], ◌∷◌, ◌++◌, length, map, refl, ap, ◌∙◌, arith, subst, All}
-use Rattle.std.specs.List.{AllByRecursion, range_with_len}
+use Rattle.std.proofs.Common.{◌≡◌, ℕ, suc, ◌+◌, ◌<◌, Bool, true, false, not, cond, List, [], ◌∷◌, ◌++◌, length, map, refl, ap, ◌∙◌, arith, subst, All}
+use Rattle.std.specs.List.{AllByRecursion}
 use Rattle.std.proofs.lemmas.List.{map-append}
 use Rattle.std.proofs.lemmas.List.Elements.{All-from_recursion}
 use Rattle.vtl_cell.specs.Sorted.{rising}
@@ -33,22 +33,17 @@ module _ (xs : List Component) where
   ids_are [] = refl
   ids_are (y ∷ ys) = ap (λ l. rising (place_of y.name xs) ∷ l) (ids_are ys)
 
-  all_are : (is : List ℕ) → map key_of (map rising_key is) ≡ map rising is
-  all_are [] = refl
-  all_are (i ∷ is) = ap (λ l. rising i ∷ l) (all_are is)
-
   pub partition_is : (w : Window) → map key_of (partition_keys xs w) ≡ map rising (places_named w.partition xs)
   partition_is w = names_are w.partition
 
   pub order_is : (w : Window) → map key_of (order_keys xs w) ≡ keys_in xs w
   order_is w = orders_are w.order
 
-  pub sort_is : (ids : List Component) (w : Window) (n : ℕ) → map key_of (sort_keys xs ids w n) ≡ (map rising (places_named w.partition xs) ++ keys_in xs w) ++ map rising (places_in xs ids) ++ map rising (range_with_len 0 n)
-  sort_is ids w n =
-      map-append key_of ((partition_keys xs w ++ order_keys xs w) ++ identifier_keys xs ids) (map rising_key (range_with_len 0 n))
-      ∙ ap (λ l. l ++ map key_of (map rising_key (range_with_len 0 n))) (map-append key_of (partition_keys xs w ++ order_keys xs w) (identifier_keys xs ids)
-      ∙ ap (λ l. l ++ map key_of (identifier_keys xs ids)) (map-append key_of (partition_keys xs w) (order_keys xs w)))
-      ∙ (λ i. ((partition_is w i ++ order_is w i) ++ ids_are ids i) ++ all_are (range_with_len 0 n) i)
+  pub sort_is : (ids : List Component) (w : Window) → map key_of (sort_keys xs ids w) ≡ (map rising (places_named w.partition xs) ++ keys_in xs w) ++ map rising (places_in xs ids)
+  sort_is ids w =
+      map-append key_of (partition_keys xs w ++ order_keys xs w) (identifier_keys xs ids)
+      ∙ ap (λ l. l ++ map key_of (identifier_keys xs ids)) (map-append key_of (partition_keys xs w) (order_keys xs w))
+      ∙ (λ i. (partition_is w i ++ order_is w i) ++ ids_are ids i)
 
 -- ---- they are columns
 abbrev pub IsWithin : ℕ → SortKey → Type 0
@@ -62,10 +57,6 @@ module _ (xs : List Component) (w : Window) where
   orders_within : (ks : List OrderKey) → AllByRecursion (λ key. IsNamedColumn xs key.component) ks → AllByRecursion (IsWithin (length xs)) (map (ordering_key xs) ks)
   orders_within [] all = tt
   orders_within (k ∷ ks) all = (column_within (place_of k.component xs) k.component _ xs all.0, orders_within ks all.1)
-
-all_within : (a n m : ℕ) → a + n ≤ m → AllByRecursion (IsWithin m) (map rising_key (range_with_len a n))
-all_within a zero m h = tt
-all_within a (suc n) m h = (omega (arith, h), all_within (a + 1) n m (omega (arith, h)))
 
 -- a component is among those that it is one of
 one_before : (name : List ℕ) (x : Component) (xs : List Component) → place_of name xs < length xs → place_of name (x ∷ xs) < length (x ∷ xs)
@@ -95,13 +86,11 @@ identifier_places : (a : Structure) → AllByRecursion (λ y. place_of y.name (c
 identifier_places a = all_front (λ y. place_of y.name (columns_of a) < length (columns_of a)) (identifiers_of a) (others_of a) (subst (AllByRecursion (λ y. place_of y.name (columns_of a) < length (columns_of a))) (columns_split a) (own_places (columns_of a)))
 
 pub keys_within : (a : Structure) (w : Window) → AllByRecursion (IsNamedColumn (columns_of a)) w.partition → AllByRecursion (λ key. IsNamedColumn (columns_of a) key.component) w.order
-    → All (λ k. k.column < length (columns_of a)) (sort_keys (columns_of a) (identifiers_of a) w (length (columns_of a)))
+    → All (λ k. k.column < length (columns_of a)) (sort_keys (columns_of a) (identifiers_of a) w)
 keys_within a w h k =
     let xs = columns_of a in
     let P = IsWithin (length xs) in
-    All-from_recursion P (sort_keys xs (identifiers_of a) w (length xs))
-    (all_append P ((partition_keys xs w ++ order_keys xs w) ++ identifier_keys xs (identifiers_of a)) (map rising_key (range_with_len 0 (length xs)))
+    All-from_recursion P (sort_keys xs (identifiers_of a) w)
     (all_append P (partition_keys xs w ++ order_keys xs w) (identifier_keys xs (identifiers_of a))
     (all_append P (partition_keys xs w) (order_keys xs w) (names_within xs w w.partition h) (orders_within xs w w.order k))
     (ids_within xs (identifiers_of a) (identifier_places a)))
-    (all_within 0 (length xs) (length xs) (omega arith)))
