@@ -3,7 +3,6 @@ ghost use Rattle.std.specs.List.{AllByRecursion};
 ghost use Rattle.std.specs.Prelude.{◌≡◌, ◌<◌, ◌≤◌, ◌-◌, ℕ, All, IfOk, drop, length, map, option_map, take};
 ghost use Rattle.std.specs.Option.{option_map_or};
 ghost use Rattle.vtl_cell.specs.Row.{column_of};
-ghost use Rattle.vtl_rows.specs.Keys.{key_of};
 ghost use Rattle.vtl_rows.specs.Places.{IsOrderOf, row_at};
 ghost use Rattle.vtl_tree.specs.Shown.{shown};
 ghost use Rattle.vtl_tree.specs.Structure.{columns_of};
