@@ -1,6 +1,7 @@
 pub mod AnalysisLemmas
 pub mod CallLemmas
 pub mod PartitionLemmas
+pub mod PlaceLemmas
 pub mod PutLemmas
 pub mod RankLemmas
 pub mod RunLemmas

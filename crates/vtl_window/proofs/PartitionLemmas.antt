@@ -1,45 +1,46 @@
 -- A stretch of the points in the order of the sort is a partition in order, and a call has at each place of it the value at the point there.
-use Rattle.std.proofs.Common.{◌≡◌, ℕ, zero, suc, ◌-◌, ◌<◌, Bool, true, false, not, cond, ◌&&◌, List, [], ◌∷◌, ◌++◌, length, drop, take, get_or, map, refl, sym, ap, ◌∙◌, arith, subst, All, append_assoc}
-use Rattle.std.specs.Prelude.{filter}
+use Rattle.std.proofs.Common.{◌≡◌, ℕ, ◌-◌, ◌<◌, Bool, true, false, not, cond, List, [], ◌∷◌, ◌++◌, length, drop, take, get_or, map, refl, sym, ap, ◌∙◌, arith, subst, append_assoc, ◌+◌, ◌≤◌, ◌⊎◌, inl, inr, true≢false, zero, suc}
+use Rattle.std.specs.Prelude.{count_by, filter}
 use Rattle.std.specs.List.{AllByRecursion, range_with_len}
 use Rattle.std.specs.Cmp.{Equal-is}
-use Rattle.std.specs.Ordering.{is_eq, is_lt, ordering_then}
+use Rattle.std.specs.Ordering.{is_eq, is_lt, ordering_then, nat_cmp, on, then_cmp, ordering_reverse}
 use Rattle.std.specs.declared.cmp.Ordering.{Ordering}
-use Rattle.std.proofs.lemmas.Bool.{and_parts}
 use Rattle.std.proofs.lemmas.List.{get_or-map, length-map}
-use Rattle.std.proofs.lemmas.List.Elements.{All-from_recursion}
+use Rattle.std.proofs.lemmas.List.Sums.{length-filter}
 use Rattle.std.proofs.lemmas.List.FromFn.{fill_by_all}
+use Rattle.std.specs.declared.cmp.Ordering.TheVariants.{Less, Equal, Greater}
+use Rattle.std.proofs.lemmas.Bool.{and_parts, cases_order}
 use Rattle.vtl_cell.specs.Perm.{Perm}
-use Rattle.vtl_cell.specs.Row.{Row, row_cmp, same_row}
+use Rattle.vtl_cell.specs.Row.{Row, row_cmp, same_row, same_key}
 use Rattle.vtl_cell.specs.Settings.{Settings}
-use Rattle.vtl_cell.specs.Sorted.{Key, by_keys, in_order, rising, window_cmp}
+use Rattle.vtl_cell.specs.Sorted.{Key, by_keys, rising, window_cmp}
 use Rattle.vtl_cell.specs.Sorting.{Rises, le_by}
-use Rattle.vtl_cell.specs.Kinds.{is_null, is_of}
-use Rattle.vtl_cell.proofs.Keys.{window_order}
-use Rattle.vtl_cell.proofs.Perms.{Perm-filter, Perm-sym}
-use Rattle.vtl_cell.proofs.Rows.{same_row-is, same_row-refl}
-use Rattle.vtl_cell.proofs.Sorts.{Perm-sorted_by, Rises-map, Rises-sorted_by, sorted_is}
+use Rattle.vtl_cell.proofs.Aparts.{all_apart-Perm, all_apart-filter}
+use Rattle.vtl_cell.proofs.Keys.{window_order, by_keys_total}
+use Rattle.vtl_cell.proofs.Perms.{Perm-filter, Perm-sym, length-Perm, AllByRecursion-Perm, Perm-from_IsPermutation, Perm-map}
+use Rattle.vtl_cell.proofs.Rows.{same_row-is, same_row-refl, same_row-sym, row_cmp_total}
+use Rattle.vtl_cell.proofs.Sorts.{Rises-map, sorted_is, Rises-from_IsSorted}
 use Rattle.vtl_rows.specs.Keys.{agree, key_of}
 use Rattle.vtl_rows.specs.Places.{IsOrderOf, row_at}
 use Rattle.vtl_rows.specs.Tables.{cells_at}
 use Rattle.vtl_rows.specs.declared.column.SortKey.{SortKey}
-use Rattle.vtl_rows.proofs.AllColumns.{all_columns_last, keys_append}
-use Rattle.vtl_rows.proofs.Stable.{first_not_less}
-use Rattle.vtl_rows.proofs.Ties.{ties_agree}
+use Rattle.vtl_rows.proofs.AllColumns.{keys_append}
+use Rattle.vtl_rows.proofs.Stable.{first_not_less, placed_total}
+use Rattle.vtl_rows.proofs.Ties.{ties_agree, both_tie}
 use Rattle.vtl_tree.specs.DataSet.{IsDataSet, is_point}
 use Rattle.vtl_tree.specs.Environment.{DataSet}
-use Rattle.vtl_tree.specs.Structure.{columns_of, same_role}
+use Rattle.vtl_tree.specs.Structure.{columns_of, key_width}
 use Rattle.vtl_tree.specs.declared.structure.Component.{Component}
-use Rattle.vtl_tree.specs.declared.structure.Role.TheVariants as role
 use Rattle.vtl_expr.specs.Columns.{identifiers_of}
 use Rattle.vtl_expr.specs.Groups.{places_named}
 use Rattle.vtl_group.specs.PointWindows.{call_value, identifier_places, keys_in, partition_of, stand_of}
 use Rattle.vtl_group.specs.calls.AnalyticCall.{AnalyticCall}
-use Rattle.vtl_windows.proofs.Columns.{all_filtered}
-use Rattle.vtl_windows.proofs.Places.{places_are}
+use Rattle.vtl_group.proofs.Places.{all_filtered, all_more, all_of_map, point_length, key_cells, key_within}
 use Rattle.vtl_window.specs.Runs.{AreInOrder, run_values, stand_at, value_at}
 use Rattle.vtl_window.specs.Sorted.{order_keys, partition_keys, sort_keys}
 use Rattle.vtl_window.proofs.CallLemmas.{map_same}
+use Rattle.vtl_window.proofs.PlaceLemmas.{apart_in, place_in, apart_at}
+use Rattle.vtl_window.proofs.PutLemmas.{all_get}
 use Rattle.vtl_window.proofs.SortLemmas.{order_is, partition_is, sort_is}
 use Rattle.vtl_window.proofs.StretchLemmas.{IsStretch, rises_drop, rises_take, rises_with, stretch_is}
 
@@ -52,42 +53,23 @@ filter-map f p (x ∷ xs) = go (p (f x)) (filter-map f p xs)
     go true ih = ap (λ l. f x ∷ l) ih
     go false ih = ih
 
-all_unmap : {X Y : Type 0} (f : X → Y) (P : Y → Type 0) (xs : List X) → AllByRecursion P (map f xs) → AllByRecursion (λ x. P (f x)) xs
-all_unmap f P [] all = tt
-all_unmap f P (x ∷ xs) all = (all.0, all_unmap f P xs all.1)
-
 rises_unmap : {X Y : Type 0} (f : X → Y) (le : Y → Y → Bool) (xs : List X) → Rises le (map f xs) → Rises (λ x y. le (f x) (f y)) xs
 rises_unmap f le [] r = tt
-rises_unmap f le (x ∷ xs) r = (all_unmap f (λ y. le (f x) y ≡ true) xs r.0, rises_unmap f le xs r.1)
-
-all_more : {X : Type 0} (P Q : X → Type 0) → ((x : X) → P x → Q x) → (xs : List X) → AllByRecursion P xs → AllByRecursion Q xs
-all_more P Q f [] all = tt
-all_more P Q f (x ∷ xs) all = (f x all.0, all_more P Q f xs all.1)
+rises_unmap f le (x ∷ xs) r = (all_of_map f (λ y. le (f x) y ≡ true) xs r.0, rises_unmap f le xs r.1)
 
 all_true : {X : Type 0} (xs : List X) → AllByRecursion (λ x. Unit {0}) xs
 all_true [] = tt
 all_true (x ∷ xs) = (tt, all_true xs)
 
-all_get : {X : Type 0} (P : X → Type 0) (xs : List X) (k : ℕ) (d : X) → k < length xs → AllByRecursion P xs → P (get_or xs k d)
-all_get P [] k d h all = absurd (omega (arith, h))
-all_get P (x ∷ xs) zero d h all = all.0
-all_get P (x ∷ xs) (suc k) d h all = all_get P xs k d (omega (arith, h)) all.1
-
 pub listed : {X Y : Type 0} (f : X → Y) (xs : List X) (d : X) → map (λ i. f (get_or xs i d)) (range_with_len 0 (length xs)) ≡ map f xs
 listed f xs d = sym (fill_by_all (λ i. f (get_or xs i d)) (map f xs) (length xs) (f d) (length-map xs f) (λ k l. get_or-map f xs k d (f d) l))
 
--- a point has a cell for each column
-point_wide : (xs : List Component) (r : Row) → is_point xs r ≡ true → length r ≡ length xs
-point_wide [] [] h = refl
-point_wide [] (v ∷ r) h = cc
-point_wide (x ∷ xs) [] h = cc
-point_wide (x ∷ xs) (v ∷ r) h = ap suc (point_wide xs r (and_parts (is_of x.kind v && not (same_role x.role role.Identifier && is_null v)) (is_point xs r) h).1)
+count_by-Perm : {X : Type 0} (t : X → Bool) {xs ys : List X} → Perm xs ys → count_by t xs ≡ count_by t ys
+count_by-Perm t {xs} {ys} p = sym (length-filter t xs) ∙ length-Perm (Perm-filter t p) ∙ length-filter t ys
 
+-- points have a cell for each column
 pub points_wide_each : (d : DataSet) → IsDataSet d.structure d.points → AllByRecursion (λ r. length r ≡ length (columns_of d.structure)) d.points
-points_wide_each d h = all_more (λ r. is_point (columns_of d.structure) r ≡ true) (λ r. length r ≡ length (columns_of d.structure)) (λ r. point_wide (columns_of d.structure) r) d.points h.typed
-
-points_wide : (d : DataSet) → IsDataSet d.structure d.points → All (λ r. length r ≡ length (columns_of d.structure)) d.points
-points_wide d h = All-from_recursion (λ r. length r ≡ length (columns_of d.structure)) d.points (points_wide_each d h)
+points_wide_each d h = all_more (λ r. is_point (columns_of d.structure) r ≡ true) (λ r. length r ≡ length (columns_of d.structure)) (point_length (columns_of d.structure)) d.points h.typed
 
 -- ---- orders
 not_false : (b : Bool) → not b ≡ true → b ≡ false
@@ -111,8 +93,63 @@ behind_ties ks ls places r s t =
     ∙ ap (λ o. ordering_then o (row_cmp r s)) (keys_append ks (ls ++ map rising places) r s)
     ∙ ap (λ o. ordering_then (ordering_then o (by_keys (ls ++ map rising places) r s)) (row_cmp r s)) ((Equal-is (by_keys ks r s)).0 t)
 
+numbers_within : (a n m : ℕ) → a + n ≤ m → AllByRecursion (λ i. i < m) (range_with_len a n)
+numbers_within a zero m h = tt
+numbers_within a (suc n) m h = (omega (arith, h), numbers_within (a + 1) n m (omega (arith, h)))
+
+-- points of one data set that tie by all identifiers are one
+module _ (d : DataSet) (own : IsDataSet d.structure d.points) where
+  abbrev point : ℕ → Row
+  point k = row_at d.points k
+
+  key_is : (k : ℕ) → k < length d.points → cells_at (identifier_places d.structure) (point k) ≡ take (key_width d.structure) (point k)
+  key_is k h =
+      let is = all_get (λ r. is_point (columns_of d.structure) r ≡ true) d.points k [] h own.typed in
+      key_cells d.structure d.structure (point k) own.well_formed (refl, refl) (key_within d.structure (point k) is)
+
+  not_apart : (j k : ℕ) → j < k → k < length d.points → take (key_width d.structure) (point j) ≡ take (key_width d.structure) (point k) → ⊥
+  not_apart j k h l e =
+      true≢false (sym (ap (same_row (take (key_width d.structure) (point j))) (sym e) ∙ same_row-refl (take (key_width d.structure) (point j))) ∙ apart_at (same_key (key_width d.structure)) d.points j k h l own.distinct)
+
+  one_point : (j k : ℕ) → j < length d.points → k < length d.points → is_eq (by_keys (map rising (identifier_places d.structure)) (point j) (point k)) ≡ true → point j ≡ point k
+  one_point j k h l t = go (cases_order j k)
+    where
+      cells : cells_at (identifier_places d.structure) (point j) ≡ cells_at (identifier_places d.structure) (point k)
+      cells = same_row-is (cells_at (identifier_places d.structure) (point j)) (cells_at (identifier_places d.structure) (point k)) (sym (ties_agree (identifier_places d.structure) (point j) (point k)) ∙ t)
+
+      keys : take (key_width d.structure) (point j) ≡ take (key_width d.structure) (point k)
+      keys = sym (key_is j h) ∙ cells ∙ key_is k l
+
+      go : (j ≡ k) ⊎ ((j < k) ⊎ (k < j)) → point j ≡ point k
+      go (inl same) = ap point same
+      go (inr (inl less)) = absurd (not_apart j k less l keys)
+      go (inr (inr more)) = absurd (not_apart k j more h (sym keys))
+
+  own_row : (o : Ordering) → o ≡ ordering_reverse o → not (is_lt o) ≡ true
+  own_row Less e = cc
+  own_row Equal e = refl
+  own_row Greater e = refl
+
+  -- so whole rows need not be looked at
+  by_identifiers : (ks : List Key) (j k : ℕ) → j < length d.points → k < length d.points → le_by (by_keys (ks ++ map rising (identifier_places d.structure))) (point j) (point k) ≡ true → le_by (window_cmp ks (identifier_places d.structure)) (point j) (point k) ≡ true
+  by_identifiers ks j k h l e = go (by_keys (ks ++ map rising (identifier_places d.structure)) (point k) (point j)) refl e
+    where
+      ids : List Key
+      ids = map rising (identifier_places d.structure)
+
+      last_tie : by_keys (ks ++ ids) (point k) (point j) ≡ Equal → is_eq (by_keys ids (point k) (point j)) ≡ true
+      last_tie t =
+          (and_parts (is_eq (by_keys ks (point k) (point j))) (is_eq (by_keys ids (point k) (point j))) (sym (both_tie (by_keys ks (point k) (point j)) (by_keys ids (point k) (point j))) ∙ ap is_eq (sym (keys_append ks ids (point k) (point j)) ∙ t))).1
+
+      go : (o : Ordering) → by_keys (ks ++ ids) (point k) (point j) ≡ o → not (is_lt o) ≡ true → not (is_lt (ordering_then o (row_cmp (point k) (point j)))) ≡ true
+      go Less t n = cc
+      go Greater t n = refl
+      go Equal t n =
+          let one = one_point k j l h (last_tie t) in
+          ap (λ r. not (is_lt (row_cmp (point k) r))) (sym one) ∙ own_row (row_cmp (point k) (point k)) (row_cmp_total.antisymm (point k) (point k))
+
 module _ (d : DataSet) (own : IsDataSet d.structure d.points) (call : AnalyticCall) (places : List ℕ)
-    (order : IsOrderOf (sort_keys (columns_of d.structure) (identifiers_of d.structure) call.window (length (columns_of d.structure))) d.points places) where
+    (order : IsOrderOf (sort_keys (columns_of d.structure) (identifiers_of d.structure) call.window) d.points places) where
   abbrev xs : List Component
   xs = columns_of d.structure
 
@@ -138,17 +175,25 @@ module _ (d : DataSet) (own : IsDataSet d.structure d.points) (call : AnalyticCa
   abbrev sorted_rows : List Row
   sorted_rows = map (row_at rows) places
 
-  sorted : sorted_rows ≡ in_order first_keys ids rows
-  sorted = order.sorted ∙ all_columns_last (sort_keys xs (identifiers_of d.structure) call.window (length xs)) first_keys ids (length xs) rows (sort_is xs (identifiers_of d.structure) call.window (length xs)) (points_wide d own)
-
   sorted_perm : Perm sorted_rows rows
-  sorted_perm = subst (λ l. Perm l rows) (sym sorted) (Perm-sorted_by (window_order first_keys ids) rows)
+  sorted_perm =
+      subst (Perm sorted_rows) (sym (fill_by_all (row_at rows) rows (length rows) [] refl (λ k l. refl)))
+      (Perm-map (row_at rows) (Perm-sym (Perm-from_IsPermutation (range_with_len 0 (length rows)) places order.all)))
+
+  within : AllByRecursion (λ k. k < length rows) places
+  within = AllByRecursion-Perm (λ k. k < length rows) (Perm-from_IsPermutation (range_with_len 0 (length rows)) places order.all) (numbers_within 0 (length rows) (length rows) (omega arith))
 
   abbrev le_all : ℕ → ℕ → Bool
   le_all j k = le_by (window_cmp first_keys ids) (row_at rows j) (row_at rows k)
 
+  abbrev all_keys : List Key
+  all_keys = map key_of (sort_keys xs (identifiers_of d.structure) call.window)
+
   rises : Rises le_all places
-  rises = rises_unmap (row_at rows) (le_by (window_cmp first_keys ids)) places (subst (Rises (le_by (window_cmp first_keys ids))) (sym sorted) (Rises-sorted_by (window_order first_keys ids) rows))
+  rises =
+      rises_with (λ k. k < length rows) (le_by (then_cmp (on (row_at rows) (by_keys all_keys)) nat_cmp)) le_all
+      (λ j k h l e. by_identifiers d own first_keys j k h l (ap (λ ks. le_by (by_keys ks) (row_at rows j) (row_at rows k)) (sym (sort_is xs (identifiers_of d.structure) call.window)) ∙ first_le (by_keys all_keys (row_at rows k) (row_at rows j)) (nat_cmp k j) e))
+      places within (Rises-from_IsSorted (placed_total (row_at rows) (by_keys_total all_keys)) places order.placed)
 
   named : map key_of keys ≡ map rising agreed
   named = partition_is xs call.window
@@ -212,12 +257,18 @@ module _ (d : DataSet) (own : IsDataSet d.structure d.points) (call : AnalyticCa
     one_of : (i : ℕ) → i < length run → cells_at agreed (at i) ≡ cells_at agreed start
     one_of i l = all_get IsMember run i 0 l members
 
+    -- the place of a point is the number of points of the partition before it
     place_is : (i : ℕ) → i < length run → i ≡ (stand_of d call.window (at i)).place
     place_is i l =
-        let same = ordered_is (at i) (one_of i l) in
-        let many : length (stand_of d call.window (at i)).ordered ≡ length run = ap length (sym same) ∙ length-map run (row_at rows) in
-        let there : get_or (stand_of d call.window (at i)).ordered i [] ≡ at i = ap (λ l. get_or l i []) (sym same) ∙ get_or-map (row_at rows) run i 0 [] l in
-        sym (places_are d call.window (at i) i own (omega (arith, many, l))) ∙ ap (λ r. (stand_of d call.window r).place) there
+        let r = at i in
+        let ordered = map (row_at rows) run in
+        let perm = partition_perm r (one_of i l) in
+        let apart = sym (all_apart-Perm same_row same_row-sym perm) ∙ all_apart-filter same_row (λ q. agree agreed q r) rows (apart_in (key_width d.structure) rows own.distinct) in
+        let there : get_or ordered i [] ≡ r = get_or-map (row_at rows) run i 0 [] l in
+        let inside : i < length ordered = let many = length-map run (row_at rows) in omega (arith, many, l) in
+        sym (place_in listed_keys ids ordered (Rises-map (row_at rows) (le_by (window_cmp listed_keys ids)) run run_rises) apart i inside)
+        ∙ ap (λ q. count_by (λ z. is_lt (window_cmp listed_keys ids z q)) ordered) there
+        ∙ sym (count_by-Perm (λ z. is_lt (window_cmp listed_keys ids z r)) perm)
 
     stand_is : (i : ℕ) → i < length run → stand_at rows run i ≡ stand_of d call.window (at i)
     stand_is i l = λ n. record { point = at i; place = place_is i l n; ordered = ordered_is (at i) (one_of i l) n }

@@ -13,7 +13,7 @@ use Rattle.vtl_cell.specs.declared.cell.Cell.TheVariants as c
 use Rattle.vtl_cell.proofs.Perms.{AllByRecursion-Perm, Perm-from_IsPermutation, Perm-sym, length-Perm}
 use Rattle.vtl_window.specs.PutBack.{IsPutBack, outcome_at}
 
-all_get : {X : Type 0} (P : X → Type 0) (xs : List X) (k : ℕ) (d : X) → k < length xs → AllByRecursion P xs → P (get_or xs k d)
+pub all_get : {X : Type 0} (P : X → Type 0) (xs : List X) (k : ℕ) (d : X) → k < length xs → AllByRecursion P xs → P (get_or xs k d)
 all_get P [] k d h all = absurd (omega (arith, h))
 all_get P (x ∷ xs) zero d h all = all.0
 all_get P (x ∷ xs) (suc k) d h all = all_get P xs k d (omega (arith, h)) all.1

@@ -1,10 +1,9 @@
 -- The keys of the sort: what they are, and that they are columns.
-use Rattle.std.proofs.Common.{◌≡◌, ℕ, zero, suc, ◌+◌, ◌<◌, ◌≤◌, Bool, true, false, not, cond, List, [], ◌∷◌, ◌++◌, length, map, refl, ap, ◌∙◌, arith, subst, All}
-use Rattle.std.specs.List.{AllByRecursion, range_with_len}
+use Rattle.std.proofs.Common.{◌≡◌, ℕ, suc, ◌+◌, ◌<◌, Bool, true, false, not, cond, List, [], ◌∷◌, ◌++◌, length, map, refl, ap, ◌∙◌, arith, subst, All}
+use Rattle.std.specs.List.{AllByRecursion}
 use Rattle.std.proofs.lemmas.List.{map-append}
 use Rattle.std.proofs.lemmas.List.Elements.{All-from_recursion}
 use Rattle.vtl_cell.specs.Sorted.{rising}
-use Rattle.vtl_cell.specs.declared.kind.Kind.{Kind}
 use Rattle.vtl_rows.specs.Keys.{key_of}
 use Rattle.vtl_rows.specs.declared.column.SortKey.{SortKey}
 use Rattle.vtl_tree.specs.Structure.{columns_of, same_name}
@@ -12,11 +11,12 @@ use Rattle.vtl_tree.specs.declared.structure.Component.{Component}
 use Rattle.vtl_tree.specs.declared.structure.Structure.{Structure}
 use Rattle.vtl_expr.specs.Columns.{identifiers_of, others_of, place_of, places_in}
 use Rattle.vtl_expr.specs.Groups.{places_named}
-use Rattle.vtl_group.specs.Made.{IsColumnAt, IsNamedColumn}
+use Rattle.vtl_group.proofs.Kept.{column_within}
+use Rattle.vtl_group.proofs.Places.{all_append, all_front, columns_split, same_name-refl}
+use Rattle.vtl_group.specs.Made.{IsNamedColumn}
 use Rattle.vtl_group.specs.PointWindows.{key_in, keys_in}
 use Rattle.vtl_group.specs.calls.OrderKey.{OrderKey}
 use Rattle.vtl_group.specs.calls.Window.{Window}
-use Rattle.vtl_windows.proofs.Columns.{all_append, all_front, columns_split, same-refl}
 use Rattle.vtl_window.specs.Sorted.{identifier_keys, order_keys, ordering_key, partition_keys, rising_key, sort_keys}
 
 -- ---- what they are
@@ -33,31 +33,21 @@ module _ (xs : List Component) where
   ids_are [] = refl
   ids_are (y ∷ ys) = ap (λ l. rising (place_of y.name xs) ∷ l) (ids_are ys)
 
-  all_are : (is : List ℕ) → map key_of (map rising_key is) ≡ map rising is
-  all_are [] = refl
-  all_are (i ∷ is) = ap (λ l. rising i ∷ l) (all_are is)
-
   pub partition_is : (w : Window) → map key_of (partition_keys xs w) ≡ map rising (places_named w.partition xs)
   partition_is w = names_are w.partition
 
   pub order_is : (w : Window) → map key_of (order_keys xs w) ≡ keys_in xs w
   order_is w = orders_are w.order
 
-  pub sort_is : (ids : List Component) (w : Window) (n : ℕ) → map key_of (sort_keys xs ids w n) ≡ (map rising (places_named w.partition xs) ++ keys_in xs w) ++ map rising (places_in xs ids) ++ map rising (range_with_len 0 n)
-  sort_is ids w n =
-      map-append key_of ((partition_keys xs w ++ order_keys xs w) ++ identifier_keys xs ids) (map rising_key (range_with_len 0 n))
-      ∙ ap (λ l. l ++ map key_of (map rising_key (range_with_len 0 n))) (map-append key_of (partition_keys xs w ++ order_keys xs w) (identifier_keys xs ids)
-      ∙ ap (λ l. l ++ map key_of (identifier_keys xs ids)) (map-append key_of (partition_keys xs w) (order_keys xs w)))
-      ∙ (λ i. ((partition_is w i ++ order_is w i) ++ ids_are ids i) ++ all_are (range_with_len 0 n) i)
+  pub sort_is : (ids : List Component) (w : Window) → map key_of (sort_keys xs ids w) ≡ (map rising (places_named w.partition xs) ++ keys_in xs w) ++ map rising (places_in xs ids)
+  sort_is ids w =
+      map-append key_of (partition_keys xs w ++ order_keys xs w) (identifier_keys xs ids)
+      ∙ ap (λ l. l ++ map key_of (identifier_keys xs ids)) (map-append key_of (partition_keys xs w) (order_keys xs w))
+      ∙ (λ i. (partition_is w i ++ order_is w i) ++ ids_are ids i)
 
 -- ---- they are columns
 abbrev pub IsWithin : ℕ → SortKey → Type 0
 IsWithin n k = k.column < n
-
-column_within : (i : ℕ) (name : List ℕ) (kind : Kind) (xs : List Component) → IsColumnAt i name kind xs → i < length xs
-column_within i name kind [] h = absurd h
-column_within zero name kind (x ∷ xs) h = omega arith
-column_within (suc i) name kind (x ∷ xs) h = let l = column_within i name kind xs h in omega (arith, l)
 
 module _ (xs : List Component) (w : Window) where
   names_within : (names : List (List ℕ)) → AllByRecursion (IsNamedColumn xs) names → AllByRecursion (IsWithin (length xs)) (map (λ name. rising_key (place_of name xs)) names)
@@ -67,10 +57,6 @@ module _ (xs : List Component) (w : Window) where
   orders_within : (ks : List OrderKey) → AllByRecursion (λ key. IsNamedColumn xs key.component) ks → AllByRecursion (IsWithin (length xs)) (map (ordering_key xs) ks)
   orders_within [] all = tt
   orders_within (k ∷ ks) all = (column_within (place_of k.component xs) k.component _ xs all.0, orders_within ks all.1)
-
-all_within : (a n m : ℕ) → a + n ≤ m → AllByRecursion (IsWithin m) (map rising_key (range_with_len a n))
-all_within a zero m h = tt
-all_within a (suc n) m h = (omega (arith, h), all_within (a + 1) n m (omega (arith, h)))
 
 -- a component is among those that it is one of
 one_before : (name : List ℕ) (x : Component) (xs : List Component) → place_of name xs < length xs → place_of name (x ∷ xs) < length (x ∷ xs)
@@ -82,7 +68,7 @@ one_before name x xs h = go (same_name x.name name)
 
 own_places : (xs : List Component) → AllByRecursion (λ y. place_of y.name xs < length xs) xs
 own_places [] = tt
-own_places (x ∷ xs) = (first (same_name x.name x.name) (same-refl x.name), more xs (own_places xs))
+own_places (x ∷ xs) = (first (same_name x.name x.name) (same_name-refl x.name), more xs (own_places xs))
   where
     first : (b : Bool) → b ≡ true → cond (not b) (1 + place_of x.name xs) 0 < suc (length xs)
     first true e = omega arith
@@ -100,13 +86,11 @@ identifier_places : (a : Structure) → AllByRecursion (λ y. place_of y.name (c
 identifier_places a = all_front (λ y. place_of y.name (columns_of a) < length (columns_of a)) (identifiers_of a) (others_of a) (subst (AllByRecursion (λ y. place_of y.name (columns_of a) < length (columns_of a))) (columns_split a) (own_places (columns_of a)))
 
 pub keys_within : (a : Structure) (w : Window) → AllByRecursion (IsNamedColumn (columns_of a)) w.partition → AllByRecursion (λ key. IsNamedColumn (columns_of a) key.component) w.order
-    → All (λ k. k.column < length (columns_of a)) (sort_keys (columns_of a) (identifiers_of a) w (length (columns_of a)))
+    → All (λ k. k.column < length (columns_of a)) (sort_keys (columns_of a) (identifiers_of a) w)
 keys_within a w h k =
     let xs = columns_of a in
     let P = IsWithin (length xs) in
-    All-from_recursion P (sort_keys xs (identifiers_of a) w (length xs))
-    (all_append P ((partition_keys xs w ++ order_keys xs w) ++ identifier_keys xs (identifiers_of a)) (map rising_key (range_with_len 0 (length xs)))
+    All-from_recursion P (sort_keys xs (identifiers_of a) w)
     (all_append P (partition_keys xs w ++ order_keys xs w) (identifier_keys xs (identifiers_of a))
     (all_append P (partition_keys xs w) (order_keys xs w) (names_within xs w w.partition h) (orders_within xs w w.order k))
     (ids_within xs (identifiers_of a) (identifier_places a)))
-    (all_within 0 (length xs) (length xs) (omega arith)))

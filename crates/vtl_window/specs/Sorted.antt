@@ -1,7 +1,6 @@
--- The keys by which the points of a data set are sorted for a window: its partition, its order, and then all identifiers and all columns,
--- so that no two points tie.
+-- The keys by which the points of a data set are sorted for a window: its partition, its order, and then all identifiers, so that no two
+-- points tie.
 use Rattle.std.specs.Prelude.{ℕ, false, List, ◌++◌, map}
-use Rattle.std.specs.List.{range_with_len}
 use Rattle.vtl_rows.specs.declared.column.SortKey.{SortKey}
 use Rattle.vtl_tree.specs.declared.structure.Component.{Component}
 use Rattle.vtl_expr.specs.Columns.{place_of}
@@ -23,5 +22,5 @@ order_keys xs w = map (ordering_key xs) w.order
 abbrev pub identifier_keys : List Component → List Component → List SortKey
 identifier_keys xs ids = map (λ y. rising_key (place_of y.name xs)) ids
 
-abbrev pub sort_keys : List Component → List Component → Window → ℕ → List SortKey
-sort_keys xs ids w count = ((partition_keys xs w ++ order_keys xs w) ++ identifier_keys xs ids) ++ map rising_key (range_with_len 0 count)
+abbrev pub sort_keys : List Component → List Component → Window → List SortKey
+sort_keys xs ids w = (partition_keys xs w ++ order_keys xs w) ++ identifier_keys xs ids

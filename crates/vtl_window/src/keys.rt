@@ -1,5 +1,4 @@
 // The keys by which the points of a data set are sorted for a window.
-ghost use Rattle.std.specs.List.{range_with_len};
 ghost use Rattle.std.specs.Prelude.{◌≡◌, ◌++◌, IfOk, OnOk, map};
 ghost use Rattle.vtl_tree.specs.Shown.{shown};
 ghost use Rattle.vtl_expr.specs.Columns.{place_of};
@@ -67,16 +66,6 @@ fn push_identifiers(
     Ok(())
 }
 
-// Puts so many columns from the first on behind other keys.
-fn push_all(keys: &mut Vec<SortKey>, count: usize) -> Result<(), AllocError>
-    ensures { OnOk result (keys.new.items ≡ keys.old.items ++ map rising_key (range_with_len 0 count)) }
-{
-    for column in 0..count {
-        keys.push(rising(column))?;
-    }
-    Ok(())
-}
-
 /// The keys of the partition. It fails only if memory runs out.
 pub(crate) fn partition_keys(
     alloc: Global,
@@ -103,20 +92,18 @@ pub(crate) fn order_keys(
     Ok(keys)
 }
 
-/// All keys of the sort, of which the last are all columns. It fails only if memory runs out.
+/// All keys of the sort, of which the last are all identifiers. It fails only if memory runs out.
 pub(crate) fn sort_keys(
     alloc: Global,
     columns: &[&Component],
     identifiers: &[&Component],
     window: &Window,
-    count: usize,
 ) -> Result<Vec<SortKey>, AllocError>
-    ensures { IfOk result (λ v. v.items ≡ sort_keys (shown columns.now) (shown identifiers.now) window.now count) }
+    ensures { IfOk result (λ v. v.items ≡ sort_keys (shown columns.now) (shown identifiers.now) window.now) }
 {
     let mut keys = Vec::new(alloc);
     push_names(&mut keys, columns, window.partition.as_slice())?;
     push_order(&mut keys, columns, window.order.as_slice())?;
     push_identifiers(&mut keys, columns, identifiers)?;
-    push_all(&mut keys, count)?;
     Ok(keys)
 }

@@ -3,7 +3,6 @@ ghost use Rattle.std.specs.List.{AllByRecursion};
 ghost use Rattle.std.specs.Prelude.{◌≡◌, ◌<◌, ◌≤◌, ◌-◌, ℕ, All, IfOk, drop, length, map, option_map, take};
 ghost use Rattle.std.specs.Option.{option_map_or};
 ghost use Rattle.vtl_cell.specs.Row.{column_of};
-ghost use Rattle.vtl_rows.specs.Keys.{key_of};
 ghost use Rattle.vtl_rows.specs.Places.{IsOrderOf, row_at};
 ghost use Rattle.vtl_tree.specs.Shown.{shown};
 ghost use Rattle.vtl_tree.specs.Structure.{columns_of};
@@ -66,10 +65,10 @@ fn sorted_places(
     requires partition { AllByRecursion (IsNamedColumn (columns_of a.now.structure)) window.now.partition }
     requires order { AllByRecursion (λ key. IsNamedColumn (columns_of a.now.structure) key.component) window.now.order }
     ensures within { IfOk result (λ v. All (λ i. i < length a.now.points) v.items) }
-    ensures order { IfOk result (λ v. IsOrderOf (sort_keys (columns_of a.now.structure) (identifiers_of a.now.structure) window.now (length (columns_of a.now.structure))) a.now.points v.items) }
+    ensures order { IfOk result (λ v. IsOrderOf (sort_keys (columns_of a.now.structure) (identifiers_of a.now.structure) window.now) a.now.points v.items) }
 {
     let identifiers = a.structure().identifiers(alloc)?;
-    let keys = sort_keys(alloc, columns, &identifiers, window, columns.len())?;
+    let keys = sort_keys(alloc, columns, &identifiers, window)?;
     let places = a.table().places_by_columns(alloc, &keys)?;
     Ok(places)
 }
@@ -88,7 +87,7 @@ fn sorted_values(
     requires column { (k : ℕ) → column_of column (row_at a.now.points k) ≡ argument (columns_of a.now.structure) (option_map (λ name. name.now) call.component) (row_at a.now.points k) }
     requires partition { partition.now ≡ partition_keys (columns_of a.now.structure) call.window.now }
     requires order { order.now ≡ order_keys (columns_of a.now.structure) call.window.now }
-    requires sorted { IsOrderOf (sort_keys (columns_of a.now.structure) (identifiers_of a.now.structure) call.window.now (length (columns_of a.now.structure))) a.now.points places.now }
+    requires sorted { IsOrderOf (sort_keys (columns_of a.now.structure) (identifiers_of a.now.structure) call.window.now) a.now.points places.now }
     ensures { IfOk result (λ v. v.items ≡ map (λ k. call_value p.now a.now (lent call.entry) (row_at a.now.points k)) places.now) }
 {
     let starts = a.table().runs(alloc, places, partition)?;

@@ -15,8 +15,7 @@ places_by_columns-requires c =
     let w = c.args.window.now in
     let xs = columns_of a in
     let ids : shown c.deref.result.now ≡ identifiers_of a = ap shown c.deref.ensures.value ∙ c.in_ok-identifiers.ensures ∙ ap identifiers_of c.structure.ensures.structure in
-    let count : length c.args.columns.now ≡ length xs = sym (length-map c.args.columns.now (λ r. r.now)) ∙ ap length c.requires.columns in
-    let keys : c.deref-2.result.now ≡ sort_keys xs (identifiers_of a) w (length xs) = c.deref-2.ensures.value ∙ c.in_ok-keys.ensures ∙ (λ j. sort_keys (c.requires.columns j) (ids j) w (count j)) in
+    let keys : c.deref-2.result.now ≡ sort_keys xs (identifiers_of a) w = c.deref-2.ensures.value ∙ c.in_ok-keys.ensures ∙ (λ j. sort_keys (c.requires.columns j) (ids j) w) in
     let columns : length c.table.result.now.columns ≡ length xs = ap length c.table.ensures.table.columns ∙ length-map xs column_for in
     subst (λ n. All (λ k. k.column < n) c.deref-2.result.now) (sym columns)
     (subst (All (λ k. k.column < length xs)) (sym keys) (keys_within a w c.requires.partition c.requires.order))
@@ -31,6 +30,5 @@ returns-clause-order c =
     let xs = columns_of a in
     let places = c.in_ok-places.places.items in
     let ids : shown c.deref.result.now ≡ identifiers_of a = ap shown c.deref.ensures.value ∙ c.in_ok-identifiers.ensures ∙ ap identifiers_of c.structure.ensures.structure in
-    let count : length c.args.columns.now ≡ length xs = sym (length-map c.args.columns.now (λ r. r.now)) ∙ ap length c.requires.columns in
-    let keys : c.deref-2.result.now ≡ sort_keys xs (identifiers_of a) w (length xs) = c.deref-2.ensures.value ∙ c.in_ok-keys.ensures ∙ (λ j. sort_keys (c.requires.columns j) (ids j) w (count j)) in
+    let keys : c.deref-2.result.now ≡ sort_keys xs (identifiers_of a) w = c.deref-2.ensures.value ∙ c.in_ok-keys.ensures ∙ (λ j. sort_keys (c.requires.columns j) (ids j) w) in
     subst (λ ks. IsOrderOf ks c.args.a.now.points places) keys (subst (λ rows. IsOrderOf c.deref-2.result.now rows places) c.table.ensures.points c.in_ok-places.ensures.order)
