@@ -20,8 +20,8 @@ ghost use Rattle.sql_exec.specs.Parts.{IsPart, MakesKinds};
 use crate::items::{ItemValues, RowItem, row_items};
 use crate::output::Output;
 use sql_check_queries::is_grouped;
-use sql_window::{Partners, Plan, Sources, TupleRows, push_grouped, source_tuples};
 use sql_tree::{Item, Select};
+use sql_window::{Partners, Plan, Sources, TupleRows, push_grouped, source_tuples};
 use std::alloc::{AllocError, Global};
 use vtl_cell::{Kind, Profile};
 use vtl_rows::Tables;
@@ -68,7 +68,13 @@ fn add_rows(
     let partners = item_partners(alloc, &rows.sources, &resolved, p)?;
     out.table.reserve_rows(rows.len())?;
     for number in 0..rows.len() {
-        out.add_row(alloc, &resolved, &(&*rows).partnered(number, &partners), number, p)?;
+        out.add_row(
+            alloc,
+            &resolved,
+            &(&*rows).partnered(number, &partners),
+            number,
+            p,
+        )?;
     }
     Ok(())
 }
