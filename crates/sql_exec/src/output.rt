@@ -1,5 +1,5 @@
 // What the selects of a query gave so far.
-ghost use Rattle.std.specs.Prelude.{◌≡◌, ◌<◌, ◌∷◌, [], true, length, None, Ok, IfErr, IfOk, OnOk};
+ghost use Rattle.std.specs.Prelude.{◌≡◌, ◌<◌, ◌∷◌, [], true, length, None, Ok, IfErr, OnOk};
 ghost use Rattle.vtl_cell.specs.Outcome.{unless};
 ghost use Rattle.vtl_rows.specs.Tables.{fits};
 ghost use Rattle.sql_window.specs.Outcomes.{row_at, row_fault};
@@ -10,7 +10,7 @@ ghost use Rattle.sql_exec.specs.Outputs.{Adds, Sees, fault_seen};
 use crate::items::{RowItem, push_items};
 use sql_eval::Cells;
 use sql_window::Seen;
-use std::alloc::{AllocError, Global};
+use std::alloc::Global;
 use vtl_cell::{Cell, Profile};
 use vtl_rows::{Column, Table};
 use vtl_scalar::ScalarErr;
