@@ -9,7 +9,6 @@ pub use Rattle.sql_engine.specs.Structures
 pub use Rattle.sql_engine.specs.Tables
 pub use Rattle.sql_engine.specs.TypedStatements
 pub use Rattle.sql_engine.specs.TypingStatements
-pub use Rattle.sql_engine.specs.Windows
 pub use Rattle.sql_engine.specs.declared.error
 pub use Rattle.sql_engine.specs.error as engine_error
 pub use Rattle.sql_parser.specs.declared.parsing
