@@ -74,9 +74,9 @@ SELECT "r"."Station" AS "Station", "r"."Hour" AS "Hour", COUNT(*) AS "Rows", SUM
 FROM "readings" AS "r" GROUP BY "r"."Station", "r"."Hour"
 END
 done
-for rows in 3000 6000; do
-    make_numbers left "$rows" 1237 0
-    make_numbers right "$rows" 2731 $((rows / 2))
+for rows in 500000 1000000; do
+    make_numbers left "$rows" 123457 0
+    make_numbers right "$rows" 273139 $((rows / 2))
     job "a join of $rows with $rows rows by an equality" 'left right' "$numbers" 3 <<'END'
 SELECT "l"."Id" AS "Left", "r"."Id" AS "Right", "l"."Number" AS "Number"
 FROM "left" AS "l" INNER JOIN "right" AS "r" ON "l"."Number" = "r"."Number"

@@ -1,0 +1,9 @@
+SET SCALE 2 ROUNDING HALF_UP;
+INPUT "X" ("id" INTEGER, "g" TEXT) KEY ("id");
+CREATE TABLE "T" AS
+  SELECT "x"."g" AS "g", 1 AS "c"
+  FROM "X" AS "x";
+CREATE TABLE "U" AS
+  SELECT "t"."g" AS "g", SUM("t"."c") OVER (PARTITION BY "t"."g" ROWS BETWEEN UNBOUNDED PRECEDING AND CURRENT ROW) AS "s", RANK() OVER (ORDER BY "t"."g") AS "r", LAG("t"."c", 1, 0) OVER (PARTITION BY "t"."g" ORDER BY "t"."c") AS "l"
+  FROM "T" AS "t";
+EXPORT "U";

@@ -1,0 +1,6 @@
+SET SCALE 2 ROUNDING HALF_UP;
+INPUT "X" ("id" INTEGER, "g" TEXT, "k" INTEGER, "v" INTEGER, "n" NUMBER) KEY ("id");
+CREATE TABLE "U" AS
+  SELECT "x"."id" AS "id", LAG("x"."v", 7, 0) OVER (PARTITION BY "x"."g" ORDER BY "x"."k") AS "i", LAG("x"."n", 1000000, 1.5) OVER (ORDER BY "x"."k" DESC) AS "n"
+  FROM "X" AS "x";
+EXPORT "U";

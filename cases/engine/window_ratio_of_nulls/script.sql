@@ -1,0 +1,6 @@
+SET SCALE 2 ROUNDING HALF_UP;
+INPUT "Y" ("id" INTEGER, "g" TEXT, "n" NUMBER) KEY ("id");
+CREATE TABLE "U" AS
+  SELECT "y"."id" AS "id", RATIO_TO_REPORT("y"."n") OVER (PARTITION BY "y"."g") AS "x"
+  FROM "Y" AS "y";
+EXPORT "U";

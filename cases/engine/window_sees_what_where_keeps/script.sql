@@ -1,0 +1,7 @@
+SET SCALE 2 ROUNDING HALF_UP;
+INPUT "X" ("id" INTEGER, "g" TEXT, "k" INTEGER, "v" INTEGER, "n" NUMBER) KEY ("id");
+CREATE TABLE "U" AS
+  SELECT "x"."id" AS "id", SUM("x"."v") OVER (PARTITION BY "x"."g" ROWS BETWEEN UNBOUNDED PRECEDING AND UNBOUNDED FOLLOWING) AS "i", LAG("x"."v", 1, -9) OVER (ORDER BY "x"."k") AS "l", RANK() OVER (ORDER BY "x"."k") AS "r"
+  FROM "X" AS "x"
+  WHERE "x"."v" > 2;
+EXPORT "U";
