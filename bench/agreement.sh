@@ -1,9 +1,8 @@
 #!/bin/sh
 # Times scripts by `sqlrun` beside `run`: the same script over the same files, by its text in SQL and interpreted. Prints the
 # processor seconds of both, the least of three runs in turn, and how many times as long `sqlrun` takes, which is meant to be
-# at most 1.5; and tells where the two have not written the same. Nothing is asserted. The last jobs stand aside: the engine
-# looks through one table for each row of another. The program is the one that ../vtl builds; another may be given as the
-# only word.
+# at most 1.5; and tells where the two have not written the same. Nothing is asserted. The program is the one that ../vtl
+# builds; another may be given as the only word.
 top=$(dirname -- "$(readlink -f -- "$0")")/..
 . "$top/bench/program.sh"
 . "$top/bench/timing.sh"
@@ -92,9 +91,12 @@ echo 'r <- wide [unpivot Code, Value];' | job 'unpivot of 300,000 points'
 make_points coded Code,Value 300000 'printf "%s,%.1f\n", substr("ABC", key % 3 + 1, 1), key / 10'
 echo 'r <- coded [pivot Code, Value];' | job 'pivot of 300,000 points'
 
-echo
-make_points readings Value 3000 "$value"
-make_points others Value 3000 "$value"
-echo 'r <- readings + others;' | job '+ on 3,000 and 3,000 points'
-echo 'r <- inner_join(readings, others [rename Value to Other] as o);' | job 'inner_join of 3,000 with 3,000 points'
-echo 'r <- union(readings, others);' | job 'union of 3,000 with 3,000 points'
+make_points readings Value 1000000 "$value"
+make_points others Value 1000000 "$value"
+echo 'r <- readings + others;' | job '+ on 1,000,000 and 1,000,000 points'
+echo 'r <- inner_join(readings, others [rename Value to Other] as o);' | job 'inner_join of 1,000,000 with 1,000,000 points'
+echo 'r <- left_join(readings, others [rename Value to Other] as o);' | job 'left_join of 1,000,000 with 1,000,000 points'
+echo 'r <- full_join(readings, others [rename Value to Other] as o);' | job 'full_join of 1,000,000 with 1,000,000 points'
+echo 'r <- union(readings, others);' | job 'union of 1,000,000 with 1,000,000 points'
+echo 'r <- setdiff(readings, others);' | job 'setdiff of 1,000,000 and 1,000,000 points'
+echo 'r <- exists_in(readings, others, true);' | job 'exists_in of 1,000,000 in 1,000,000 points'
