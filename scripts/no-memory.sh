@@ -93,6 +93,7 @@ judged() {
 
 for example; do
     folder=$top/examples/$example
+    [ -e "$folder/script.vtl" ] || { echo "no-memory.sh: examples/$example has no script.vtl" >&2; exit 1; }
     for way in run sqlrun; do
         COUNT=$made/count
         export COUNT
