@@ -1,7 +1,7 @@
 -- Aggregates: of the measures of a data set, and of one component over groups.
 use Rattle.std.specs.Prelude.{ℕ, Bool, true, false, ◌||◌, List, [], ◌∷◌, Option, Some, None, Result, Err, cond}
 use Rattle.std.specs.Option.{is_none, is_some}
-use Rattle.vtl_kinds.specs.Aggregates as kinds
+use Rattle.vtl_cell.specs.AggregateKinds as kinds
 use Rattle.vtl_cell.specs.declared.operator.AggKind.{AggKind}
 use Rattle.vtl_cell.specs.declared.operator.AggKind.TheVariants as agg
 use Rattle.vtl_cell.specs.declared.kind.Kind.{Kind}

@@ -39,7 +39,7 @@ use Rattle.check_operators.specs.Typed.{TypedTree, value, dataset, beside_kinds,
 use Rattle.check_operators.specs.declared.places.Place.{Place}
 use Rattle.check_operators.specs.declared.places.Place.TheVariants as place
 use Rattle.check_groups.specs.Aggregates.{aggregate_kind, operand_name}
-use Rattle.vtl_kinds.specs.Aggregates.{number_of}
+use Rattle.vtl_cell.specs.AggregateKinds.{number_of}
 use Rattle.check_groups.specs.declared.calls.Call.{Call}
 use Rattle.check_groups.specs.declared.calls.Needed.{Needed}
 use Rattle.check_groups.specs.declared.calls.Needed.TheVariants as needed

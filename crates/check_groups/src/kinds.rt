@@ -22,7 +22,7 @@ pub(crate) fn agg_kind(function: AggregateName) -> AggKind
 pub(crate) fn aggregate_kind(function: AggregateName, kind: Kind) -> Option<Kind>
     ensures { result ≡ aggregate_kind function kind }
 {
-    vtl_kinds::aggregate_kind(agg_kind(function), kind)
+    vtl_cell::aggregate_kind(agg_kind(function), kind)
 }
 
 /// The kind that an aggregate without an operand gives: there is only the number of points.

@@ -4,8 +4,7 @@ ghost use Rattle.vtl_syntax.specs.View.{expr_tree};
 ghost use Rattle.check_groups.specs.Windowed.{is_rank, is_unfit_over, over_kind, window_kind};
 
 use crate::kinds::aggregate_kind;
-use vtl_cell::Kind;
-use vtl_kinds::number_of;
+use vtl_cell::{Kind, number_of};
 use vtl_syntax::{Expr, ValueWindowName};
 
 fn window_kind(function: ValueWindowName, kind: Kind) -> Option<Kind>

@@ -12,7 +12,7 @@ use Rattle.check_shapes.specs.declared.measures.Outcome.{Outcome}
 use Rattle.vtl_tree.specs.declared.structure.Component.{Component}
 use Rattle.vtl_tree.specs.declared.structure.Structure.{Structure}
 use Rattle.check_values.specs.Kinds.{exp_kind}
-use Rattle.vtl_kinds.specs.Operators.{counted_kinds, takes_literals}
+use Rattle.vtl_cell.specs.OperatorKinds.{counted_kinds, takes_literals}
 use Rattle.check_operators.specs.Operators.{beside_literal, between_kinds, first_fits, given_structure, meets_first, misplaced_rule, on_datasets, outcome_of, structure_by}
 
 -- several data sets among values

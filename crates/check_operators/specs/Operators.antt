@@ -24,7 +24,7 @@ use Rattle.check_shapes.specs.declared.measures.Outcome.{Outcome}
 use Rattle.check_shapes.specs.declared.measures.Outcome.TheVariants as outcome
 use Rattle.check_values.specs.Calls.{call_form}
 use Rattle.check_values.specs.Kinds.{exp_kind}
-use Rattle.vtl_kinds.specs.Operators.{counted_kinds, takes_literals}
+use Rattle.vtl_cell.specs.OperatorKinds.{counted_kinds, takes_literals}
 use Rattle.check_values.specs.Literals.{set_typed}
 use Rattle.check_operators.specs.Typed.{TypedTree, value, dataset, beside_kinds, boxed_tree, components_in, made_of, of_value}
 use Rattle.check_operators.specs.declared.operands.Parted.{Parted}

@@ -23,7 +23,7 @@ use Rattle.check_shapes.specs.Pairs as pairs
 use Rattle.check_shapes.specs.declared.choices.Choice.TheVariants as choice
 use Rattle.check_shapes.specs.declared.names.Wanted.TheVariants as wanted
 use Rattle.check_values.specs.Columns.{name_of}
-use Rattle.vtl_kinds.specs.Literals.{integer_written}
+use Rattle.vtl_cell.specs.Literals.{integer_written}
 use Rattle.check_operators.specs.Typed.{TypedTree, components_in, dataset_in, made_of}
 
 -- operands that all have to be data sets, behind those that are done

@@ -5,8 +5,7 @@ ghost use Rattle.check_operators.specs.Operators.{between_kinds, given_by};
 
 use check_shapes::Operator;
 use std::alloc::{AllocError, Global};
-use vtl_cell::{Kind, ScalarOp};
-use vtl_kinds::operator_kind;
+use vtl_cell::{Kind, ScalarOp, operator_kind};
 
 /// The kinds that an operator between values gives for a measure, for each kind that the measure may have.
 #[derive(Clone, Copy)]

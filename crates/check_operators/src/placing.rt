@@ -1,7 +1,7 @@
 // Which operators take data sets, and where.
 ghost use Rattle.std.specs.Prelude.{◌≡◌};
 ghost use Rattle.check_operators.specs.Operators.{is_binary, is_choice, misplaced_rule, outcome_of, takes_dataset, takes_first};
-ghost use Rattle.vtl_kinds.specs.Operators.{takes_literals};
+ghost use Rattle.vtl_cell.specs.OperatorKinds.{takes_literals};
 
 use check_faults::Rule;
 use check_shapes::Outcome;

@@ -13,8 +13,7 @@ ghost use Rattle.check_operators.specs.Typed.{beside_kinds, boxed_tree, conditio
 use check_faults::{Rule, TypeErr};
 use check_values::kind;
 use std::alloc::{AllocError, Global};
-use vtl_cell::Kind;
-use vtl_kinds::meets;
+use vtl_cell::{Kind, meets};
 use vtl_nodes::{Node, NodeForm};
 use vtl_tree::{CompExpr, Component, Role, Structure};
 

@@ -11,8 +11,8 @@ pub use Rattle.check_shapes.specs.declared.names
 pub use Rattle.check_shapes.specs.declared.operands
 pub use Rattle.check_shapes.specs.declared.renaming
 pub use Rattle.check_shapes.specs.declared.targets
-pub use Rattle.vtl_kinds.specs.Literals as KindsLiterals
-pub use Rattle.vtl_kinds.specs.Operators as KindsOperators
+pub use Rattle.vtl_cell.specs.Literals as KindsLiterals
+pub use Rattle.vtl_cell.specs.OperatorKinds as KindsOperators
 pub mod Calls
 pub mod Columns
 pub mod Groupings

@@ -3,7 +3,7 @@ use Rattle.std.specs.Prelude.{ℤ, pos, Bool, true, not, ◌&&◌, ◌||◌, Lis
 use Rattle.std.specs.List.{list_all}
 use Rattle.vtl_cell.specs.Settings.{Settings}
 use Rattle.vtl_cell.specs.ScalarKinds.{meets, shared_kind}
-use Rattle.vtl_kinds.specs.Literals.{integer_cell, integer_written, is_null_kind, largest_place, lies_between, number_cell, with_sign, written}
+use Rattle.vtl_cell.specs.Literals.{integer_cell, integer_written, is_null_kind, largest_place, lies_between, number_cell, with_sign, written}
 use Rattle.vtl_cell.specs.declared.cell.Cell.{Cell}
 use Rattle.vtl_cell.specs.declared.cell.Cell.TheVariants as c
 use Rattle.vtl_cell.specs.declared.kind.Kind.{Kind}

@@ -21,7 +21,7 @@ use Rattle.vtl_nodes.specs.declared.calls.Frame.{Frame}
 use Rattle.vtl_nodes.specs.declared.calls.OrderKey.{OrderKey}
 use Rattle.vtl_nodes.specs.declared.calls.Window.{Window}
 use Rattle.check_values.specs.Columns.{name_of}
-use Rattle.vtl_kinds.specs.Literals.{integer_written, longest_reach}
+use Rattle.vtl_cell.specs.Literals.{integer_written, longest_reach}
 use Rattle.vtl_cell.specs.Results.{◌>>=◌}
 use Rattle.check_faults.specs.Rules.{ruled}
 use Rattle.check_faults.specs.declared.rules.Rule.{Rule}

@@ -4,13 +4,12 @@ ghost use Rattle.vtl_tree.specs.View.{comp_exp_of};
 ghost use Rattle.check_faults.specs.Answers.{Answers};
 ghost use Rattle.check_values.specs.Calls.{call_form, call_kind};
 ghost use Rattle.check_values.specs.Kinds.{exp_kind};
-ghost use Rattle.vtl_kinds.specs.Operators.{kind_by_operands};
+ghost use Rattle.vtl_cell.specs.OperatorKinds.{kind_by_operands};
 
 use crate::kind;
 use check_faults::{Rule, TypeErr};
 use std::alloc::{AllocError, Global};
-use vtl_cell::{Kind, ScalarOp};
-use vtl_kinds::{kind_by_operands, operator_kind};
+use vtl_cell::{Kind, ScalarOp, kind_by_operands, operator_kind};
 use vtl_tree::CompExpr;
 
 /// The kinds of values.

@@ -4,8 +4,7 @@ ghost use Rattle.vtl_cell.specs.Kinds.{kind_of};
 ghost use Rattle.vtl_tree.specs.View.{comp_exp_of};
 ghost use Rattle.check_values.specs.Kinds.{exp_kind, given_kind};
 
-use vtl_cell::{Cell, Kind};
-use vtl_kinds::meets;
+use vtl_cell::{Cell, Kind, meets};
 use vtl_nodes::AnalyticOp;
 use vtl_tree::CompExpr;
 

@@ -5,14 +5,13 @@ ghost use Rattle.vtl_syntax.specs.View.{expr_tree};
 ghost use Rattle.vtl_tree.specs.View.{comp_exp_of};
 ghost use Rattle.check_faults.specs.Answers.{Answers};
 ghost use Rattle.check_values.specs.Literals.{are_digits, beside_all, cast_kind, constant_cell, constant_typed, integer_in, kind_met, lies_in, literal_cell, literal_kind, literals_fit, members_typed, met_beside, numeral_cell, numeral_kind, second_passes, set_typed, shared_beside, shared_or, stands_beside, third_passes, valued};
-ghost use Rattle.vtl_kinds.specs.Literals.{integer_written, is_null_kind};
+ghost use Rattle.vtl_cell.specs.Literals.{integer_written, is_null_kind};
 
 use check_faults::{Rule, TypeErr, broken};
 use std::alloc::{AllocError, Global};
-use vtl_cell::{Cell, Kind, List, Profile};
-use vtl_kinds::{
-    LARGEST_PLACE, integer_cell, integer_written, is_null_kind, lies_between, meets, number_cell,
-    shared_kind, with_sign, written,
+use vtl_cell::{
+    Cell, Kind, LARGEST_PLACE, List, Profile, integer_cell, integer_written, is_null_kind,
+    lies_between, meets, number_cell, shared_kind, with_sign, written,
 };
 use vtl_syntax::{CastKind, Constant, Expr, FunctionName, Literal, Numeral, UnaryOp};
 use vtl_tree::CompExpr;

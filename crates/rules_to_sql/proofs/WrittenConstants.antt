@@ -29,7 +29,7 @@ use Rattle.vtl_cell.specs.declared.cell.Cell.{Cell}
 use Rattle.vtl_cell.specs.declared.cell.Cell.TheVariants as c
 use Rattle.vtl_cell.specs.declared.kind.Kind.TheVariants as k
 use Rattle.vtl_cell.proofs.Texts.{day_reads_back, integer_reads_back, period_reads_back}
-use Rattle.vtl_kinds.specs.Literals.{integer_cell, integer_written, with_sign, written}
+use Rattle.vtl_cell.specs.Literals.{integer_cell, integer_written, with_sign, written}
 use Rattle.sql_meaning.specs.Fits.{Fits}
 use Rattle.sql_check_parts.specs.Expressions.{Site}
 use Rattle.sql_check_parts.specs.Kinds.{kind_in}

@@ -21,7 +21,7 @@ use Rattle.vtl_decimal.proofs.ReadingLemmas.{spelled_numeral}
 use Rattle.vtl_decimal.proofs.RoundingLemmas.{rounds_up_no_rest}
 use Rattle.vtl_decimal.proofs.WrittenLemmas.{reads_back, text_spelled}
 use Rattle.vtl_cell.specs.declared.cell.Cell.TheVariants as c
-use Rattle.vtl_kinds.specs.Literals.{number_cell}
+use Rattle.vtl_cell.specs.Literals.{number_cell}
 use Rattle.rules_to_sql.specs.Constants.{decimal_text, some_digit}
 
 unlimited : (b : Bool) (o : Option ℤ) (k : ℤ) → cond b o None ≡ Some k → o ≡ Some k

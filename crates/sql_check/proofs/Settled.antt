@@ -10,7 +10,7 @@ use Rattle.std.proofs.lemmas.Str.{length-le-encodes}
 use Rattle.vtl_cell.specs.Settings.{Settings}
 use Rattle.vtl_cell.specs.settings.Rounding.{Rounding}
 use Rattle.vtl_cell.specs.declared.kind.Kind.{Kind}
-use Rattle.vtl_kinds.specs.Literals.{lies_between}
+use Rattle.vtl_cell.specs.Literals.{lies_between}
 use Rattle.sql_tree.specs.Trees as tree
 use Rattle.sql_tree.specs.Trees.{QueryTree, StatementTree, Text}
 use Rattle.sql_tree.specs.declared.statements.SqlExport.{SqlExport}

@@ -8,7 +8,7 @@ use Rattle.grammar_forms.specs.Written.{Each}
 use Rattle.vtl_cell.specs.Settings.{Settings}
 use Rattle.vtl_cell.specs.declared.kind.Kind.{Kind}
 use Rattle.vtl_cell.specs.declared.kind.Kind.TheVariants as k
-use Rattle.vtl_kinds.specs.Literals.{is_null_kind}
+use Rattle.vtl_cell.specs.Literals.{is_null_kind}
 use Rattle.sql_tree.specs.Formed.{IsInput, IsInputColumn, IsQuery, is_column_kind}
 use Rattle.sql_tree.specs.Grammar.{most_levels}
 use Rattle.sql_tree.specs.Trees.{QueryTree, Text}

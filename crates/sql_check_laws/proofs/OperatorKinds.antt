@@ -7,7 +7,7 @@ use Rattle.vtl_cell.specs.declared.kind.Kind.{Kind}
 use Rattle.vtl_cell.specs.declared.kind.Kind.TheVariants as k
 use Rattle.vtl_cell.specs.declared.operator.ScalarOp.{ScalarOp}
 use Rattle.vtl_cell.specs.declared.operator.ScalarOp.TheVariants as op
-use Rattle.vtl_kinds.specs.Operators.{counted_kinds, takes_literals}
+use Rattle.vtl_cell.specs.OperatorKinds.{counted_kinds, takes_literals}
 use Rattle.sql_check_parts.specs.Kinds.{operator_kind}
 use Rattle.sql_check_laws.specs.Operators.{is_short_replace}
 

@@ -8,7 +8,7 @@ use Rattle.grammar_forms.specs.Written.{Each}
 use Rattle.vtl_cell.specs.Settings.{Settings}
 use Rattle.vtl_cell.specs.Words.{is_word}
 use Rattle.vtl_cell.specs.settings.Rounding.{Rounding}
-use Rattle.vtl_kinds.specs.Literals.{lies_between}
+use Rattle.vtl_cell.specs.Literals.{lies_between}
 use Rattle.sql_tree.specs.Formed.{FormedScript, IsStatement}
 use Rattle.sql_tree.specs.Grammar.{most_levels}
 use Rattle.sql_tree.specs.Trees as tree

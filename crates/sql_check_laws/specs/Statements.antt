@@ -4,7 +4,7 @@ use Rattle.std.specs.List.{AllByRecursion, list_any}
 use Rattle.std.specs.Map.{keys_of}
 use Rattle.vtl_cell.specs.Settings.{Settings}
 use Rattle.vtl_cell.specs.Words.{is_word}
-use Rattle.vtl_kinds.specs.Literals.{is_null_kind}
+use Rattle.vtl_cell.specs.Literals.{is_null_kind}
 use Rattle.sql_tree.specs.Trees as tree
 use Rattle.sql_tree.specs.Trees.{StatementTree, Text}
 use Rattle.sql_tree.specs.declared.statements.InputColumn.{InputColumn}

@@ -5,7 +5,7 @@ ghost use Rattle.vtl_cell.specs.ScalarKinds.{kinds_of};
 ghost use Rattle.vtl_cell.specs.declared.kind.Kind.{Kind};
 ghost use Rattle.vtl_cell.specs.declared.kind.Kind.TheVariants as k;
 ghost use Rattle.vtl_cell.specs.declared.operator.ScalarOp.{ScalarOp};
-ghost use Rattle.vtl_kinds.specs.Operators.{counted_kinds, takes_literals};
+ghost use Rattle.vtl_cell.specs.OperatorKinds.{counted_kinds, takes_literals};
 ghost use Rattle.sql_tree.specs.Trees.{Exp};
 ghost use Rattle.sql_check_parts.specs.Expressions.{Site, breaks};
 ghost use Rattle.sql_check_parts.specs.Kinds.{operator_kind};

@@ -7,7 +7,7 @@ use Rattle.std.proofs.lemmas.Map.Made.{keys_of-map_values}
 use Rattle.vtl_cell.specs.Apart.{all_apart}
 use Rattle.vtl_cell.specs.Texts.{same_text}
 use Rattle.vtl_cell.specs.declared.kind.Kind.{Kind}
-use Rattle.vtl_text.proofs.Apart.{apart_push, repeated}
+use Rattle.vtl_cell.proofs.TextsApart.{apart_push, repeated}
 use Rattle.sql_check_parts.specs.Scopes.{Columns, is_among, repeats}
 use Rattle.sql_check_parts.specs.Told.{distinct_columns}
 

@@ -8,7 +8,7 @@ use Rattle.vtl_cell.specs.declared.kind.Kind.{Kind}
 use Rattle.vtl_cell.specs.declared.kind.Kind.TheVariants as k
 use Rattle.vtl_cell.specs.declared.operator.ScalarOp.{ScalarOp}
 use Rattle.vtl_cell.specs.declared.operator.ScalarOp.TheVariants as op
-use Rattle.vtl_kinds.specs.Aggregates.{aggregate_kind}
+use Rattle.vtl_cell.specs.AggregateKinds.{aggregate_kind}
 use Rattle.sql_tree.specs.Trees as tree
 use Rattle.sql_tree.specs.Trees.{Text, Exp, Exps, Branches}
 use Rattle.sql_tree.specs.declared.parts.Constant.{Constant}

@@ -5,8 +5,8 @@ use Rattle.vtl_cell.specs.declared.kind.Kind.{Kind}
 use Rattle.vtl_cell.specs.declared.kind.Kind.TheVariants as k
 use Rattle.vtl_cell.specs.declared.operator.ScalarOp.{ScalarOp}
 use Rattle.vtl_cell.specs.declared.operator.ScalarOp.TheVariants as op
-use Rattle.vtl_kinds.specs.Aggregates.{aggregate_kind}
-use Rattle.vtl_kinds.specs.Operators.{kind_by_operands}
+use Rattle.vtl_cell.specs.AggregateKinds.{aggregate_kind}
+use Rattle.vtl_cell.specs.OperatorKinds.{kind_by_operands}
 use Rattle.sql_tree.specs.Trees as tree
 use Rattle.sql_tree.specs.Trees.{Exp, Exps, Branches}
 use Rattle.sql_check_parts.specs.Literals.{constant_kind}

@@ -8,7 +8,7 @@ use Rattle.vtl_cell.specs.declared.kind.Kind.{Kind}
 use Rattle.vtl_cell.specs.declared.kind.Kind.TheVariants as k
 use Rattle.vtl_cell.specs.declared.operator.ScalarOp.{ScalarOp}
 use Rattle.vtl_cell.specs.declared.operator.ScalarOp.TheVariants as op
-use Rattle.vtl_kinds.specs.Literals.{integer_cell, integer_written, largest_place, lies_between, number_cell, with_sign, written}
+use Rattle.vtl_cell.specs.Literals.{integer_cell, integer_written, largest_place, lies_between, number_cell, with_sign, written}
 use Rattle.sql_tree.specs.Trees as tree
 use Rattle.sql_tree.specs.Trees.{Exp, Exps}
 use Rattle.sql_tree.specs.declared.parts.Numeral.{Numeral}

@@ -7,7 +7,7 @@ use Rattle.std.specs.Option.{is_none}
 use Rattle.vtl_cell.specs.Settings.{Settings}
 use Rattle.vtl_cell.specs.ScalarKinds.{shared_kind}
 use Rattle.vtl_cell.specs.declared.kind.Kind.{Kind}
-use Rattle.vtl_kinds.specs.Literals.{is_null_kind}
+use Rattle.vtl_cell.specs.Literals.{is_null_kind}
 use Rattle.sql_tree.specs.Trees as tree
 use Rattle.sql_tree.specs.Trees.{Text, Exp, ItemTree, JoinTree, QueryTree, SelectTree, ValueTree}
 use Rattle.sql_tree.specs.declared.parts.Source.{Source}

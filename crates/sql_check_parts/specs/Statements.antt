@@ -3,7 +3,7 @@ use Rattle.std.specs.Prelude.{◌≡◌, ℕ, suc, ℤ, pos, unsigned_abs, Bool,
 use Rattle.std.specs.List.{list_any}
 use Rattle.std.specs.Map.{keys_of}
 use Rattle.std.specs.Option.{is_none}
-use Rattle.vtl_kinds.specs.Literals.{integer_written, lies_between}
+use Rattle.vtl_cell.specs.Literals.{integer_written, lies_between}
 use Rattle.vtl_cell.specs.Settings.{Settings}
 use Rattle.vtl_cell.specs.settings.Rounding.{Rounding}
 use Rattle.vtl_cell.specs.settings.Rounding.TheVariants as rounding

@@ -6,8 +6,8 @@ use Rattle.vtl_cell.specs.Settings.{Settings}
 use Rattle.vtl_cell.specs.ScalarKinds.{meets}
 use Rattle.vtl_cell.specs.declared.kind.Kind.{Kind}
 use Rattle.vtl_cell.specs.declared.kind.Kind.TheVariants as k
-use Rattle.vtl_kinds.specs.Aggregates.{aggregate_kind, number_of}
-use Rattle.vtl_kinds.specs.Literals.{integer_written, lies_between, longest_reach}
+use Rattle.vtl_cell.specs.AggregateKinds.{aggregate_kind, number_of}
+use Rattle.vtl_cell.specs.Literals.{integer_written, lies_between, longest_reach}
 use Rattle.sql_tree.specs.Trees.{Text}
 use Rattle.sql_tree.specs.declared.parts.Column.{Column}
 use Rattle.sql_tree.specs.declared.parts.Literal.{Literal}

@@ -4,7 +4,7 @@
 //! For each part the definition gives the rules that it breaks, each a test of its own; the fault is the least of them.
 //! Whatever has no kind counts as null. Tables, columns and sources by name stand here for the crates above.
 //! It walks no expression, and knows nothing of VTL's structures: the kinds of both languages are in
-//! `vtl_kinds`.
+//! `vtl_cell`.
 //! Begin with specs/Rules.antt, then Expressions.antt, Queries.antt and Statements.antt.
 #![tactic(auto)]
 

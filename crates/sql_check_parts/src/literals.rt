@@ -12,9 +12,9 @@ use crate::operators::operator_kind;
 use crate::{SqlRule, Test, Told, least_broken};
 use sql_tree::{Constant, Literal, Numeral, SqlExpr};
 use std::alloc::{AllocError, Global};
-use vtl_cell::{Cell, Kind, Profile, ScalarOp};
-use vtl_kinds::{
-    LARGEST_PLACE, integer_cell, integer_written, lies_between, number_cell, with_sign, written,
+use vtl_cell::{
+    Cell, Kind, LARGEST_PLACE, Profile, ScalarOp, integer_cell, integer_written, lies_between,
+    number_cell, with_sign, written,
 };
 
 fn numeral_kind(numeral: &Numeral) -> Kind

@@ -2,7 +2,7 @@
 ghost use Rattle.std.specs.Prelude.{◌≡◌, IfOk, map};
 ghost use Rattle.sql_tree.specs.Trees.{exps_of};
 ghost use Rattle.sql_tree.specs.View.{expr_tree};
-ghost use Rattle.vtl_kinds.specs.Aggregates.{aggregate_kind};
+ghost use Rattle.vtl_cell.specs.AggregateKinds.{aggregate_kind};
 ghost use Rattle.vtl_cell.specs.ScalarKinds.{common_kind};
 ghost use Rattle.sql_check_parts.specs.Expressions.{aggregate_breaks, call_breaks, case_breaks, condition_breaks, operator_breaks};
 ghost use Rattle.sql_check_parts.specs.Kinds.{given_kind, operator_kind};
@@ -13,8 +13,9 @@ ghost use Rattle.sql_check_parts.specs.Told.{IsTold};
 use crate::{Grouping, SqlRule, Test, Told, least_broken, literals_fit, or_null};
 use sql_tree::SqlExpr;
 use std::alloc::{AllocError, Global};
-use vtl_cell::{AggKind, Kind, Profile, ScalarOp};
-use vtl_kinds::{aggregate_kind, common_kind, kind_by_operands, meets};
+use vtl_cell::{
+    AggKind, Kind, Profile, ScalarOp, aggregate_kind, common_kind, kind_by_operands, meets,
+};
 
 /// The kind that an operator gives for operands of these kinds, where they meet it.
 pub(crate) fn operator_kind(

@@ -10,8 +10,10 @@ use crate::literals::{has_no_value, literal_kind};
 use crate::{Grouping, Scope, SqlRule, Test, Told, column, least_broken, lesser, or_null};
 use sql_tree::{Bound, Column, Frame, Literal, ValueFunction, Window, WindowCall, WindowKey};
 use std::alloc::{AllocError, Global};
-use vtl_cell::{Kind, Profile, Txt};
-use vtl_kinds::{LONGEST_REACH, aggregate_kind, integer_written, lies_between, meets, number_of};
+use vtl_cell::{
+    Kind, LONGEST_REACH, Profile, Txt, aggregate_kind, integer_written, lies_between, meets,
+    number_of,
+};
 
 // ---- columns
 

@@ -1,7 +1,7 @@
 -- The scale of a typed script is at most 9.
 use Rattle.std.proofs.Common.{◌≡◌, ◌≤◌, pos, ℤ, true, Option, Some, None, arith}
 use Rattle.std.proofs.lemmas.Int.{ints}
-use Rattle.vtl_kinds.specs.Literals.{lies_between}
+use Rattle.vtl_cell.specs.Literals.{lies_between}
 use Rattle.sql_exec.specs.TypingStatements.{scale_of}
 
 pub scale_small : (o : Option ℤ) → lies_between (pos 0) (pos 9) o ≡ true → scale_of o ≤ 9

@@ -5,7 +5,7 @@ ghost use Rattle.vtl_cell.specs.ScalarKinds.{common_kind};
 ghost use Rattle.vtl_cell.specs.Settings.{Settings};
 ghost use Rattle.vtl_cell.specs.declared.cell.Cell.TheVariants as c;
 ghost use Rattle.vtl_cell.specs.declared.kind.Kind.TheVariants as k;
-ghost use Rattle.vtl_kinds.specs.Aggregates.{aggregate_kind};
+ghost use Rattle.vtl_cell.specs.AggregateKinds.{aggregate_kind};
 ghost use Rattle.sql_tree.specs.Trees.{Text};
 ghost use Rattle.sql_check_parts.specs.Kinds.{given_kind};
 ghost use Rattle.sql_check_parts.specs.Scopes.{or_null};

@@ -4,8 +4,7 @@ ghost use Rattle.sql_check_parts.specs.Windows.{call_kind, window_kind};
 
 use sql_eval::{Names, or_null};
 use sql_tree::{ValueFunction, Window, WindowCall};
-use vtl_cell::Kind;
-use vtl_kinds::{aggregate_kind, number_of};
+use vtl_cell::{Kind, aggregate_kind, number_of};
 
 // The kind that a call gives: LAG and LEAD that of their column, whose default is of that kind.
 fn call_kind<N: Names>(names: &N, call: &WindowCall) -> Option<Kind>

@@ -28,9 +28,9 @@ use Rattle.vtl_cell.proofs.Extremes.{greatest_member, least_member}
 use Rattle.vtl_cell.proofs.Readings.{read_kind}
 use Rattle.vtl_cell.proofs.Rows.{split_and}
 use Rattle.vtl_decimal.specs.Tally.{mean_of, tally_of}
-use Rattle.vtl_kinds.specs.Aggregates.{aggregate_kind, number_of}
-use Rattle.vtl_kinds.specs.Literals.{integer_written, written}
-use Rattle.vtl_kinds.specs.Operators.{counted_kinds, kind_by_operands}
+use Rattle.vtl_cell.specs.AggregateKinds.{aggregate_kind, number_of}
+use Rattle.vtl_cell.specs.Literals.{integer_written, written}
+use Rattle.vtl_cell.specs.OperatorKinds.{counted_kinds, kind_by_operands}
 use Rattle.vtl_scalar.specs.KindLaws.{HasKind, IsOfKind}
 use Rattle.vtl_scalar.proofs.KindLemmas.{common_left, common_right, meet_through, only_gives, two_give}
 use Rattle.vtl_scalar.proofs.ValueKindLemmas.{scalar_is, value_is_of_kind}

@@ -39,7 +39,7 @@ use Rattle.vtl_cell.specs.declared.operator.ScalarOp.TheVariants as op
 use Rattle.vtl_cell.proofs.Extremes.{greatest_member, least_member}
 use Rattle.vtl_cell.proofs.Keys.{window_order}
 use Rattle.vtl_cell.proofs.Readings.{read_kind}
-use Rattle.vtl_kinds.specs.Literals.{integer_cell, number_cell, with_sign, written}
+use Rattle.vtl_cell.specs.Literals.{integer_cell, number_cell, with_sign, written}
 use Rattle.vtl_rows.specs.Tables.{cells_at}
 use Rattle.vtl_scalar.proofs.ProfileLemmas.{Gives, number_gives, value_is_of_profile}
 use Rattle.sql_tree.specs.Trees as tree

@@ -33,7 +33,7 @@ use Rattle.vtl_cell.specs.declared.kind.Kind.{Kind}
 use Rattle.vtl_cell.specs.declared.kind.Kind.TheVariants as k
 use Rattle.vtl_cell.specs.declared.operator.ScalarOp.TheVariants as op
 use Rattle.vtl_cell.proofs.Keys.{window_order}
-use Rattle.vtl_kinds.specs.Literals.{integer_cell, integer_written, number_cell, with_sign, written}
+use Rattle.vtl_cell.specs.Literals.{integer_cell, integer_written, number_cell, with_sign, written}
 use Rattle.vtl_rows.specs.Tables.{cells_at, fits_kinds}
 use Rattle.vtl_scalar.specs.KindLaws.{HasKind, IsOfKind}
 use Rattle.vtl_scalar.proofs.ValueKindLemmas.{value_is_of_kind}

@@ -11,7 +11,7 @@ use Rattle.vtl_cell.specs.Sorted.{Key, in_order, row_rank, window_cmp}
 use Rattle.vtl_cell.specs.Sorting.{le_by}
 use Rattle.vtl_cell.specs.declared.cell.Cell.{Cell}
 use Rattle.vtl_cell.specs.declared.cell.Cell.TheVariants as c
-use Rattle.vtl_kinds.specs.Literals.{integer_written}
+use Rattle.vtl_cell.specs.Literals.{integer_written}
 use Rattle.vtl_rows.specs.Tables.{cells_at}
 use Rattle.sql_tree.specs.Trees.{Text}
 use Rattle.sql_tree.specs.declared.parts.Column.{Column}

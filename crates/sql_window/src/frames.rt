@@ -8,9 +8,8 @@ ghost use Rattle.sql_window.specs.Frames.{bound_in};
 use sql_check_parts::literal_value;
 use sql_tree::{self, Literal, Side};
 use std::alloc::{AllocError, Global};
-use vtl_cell::{Cell, Profile, Txt};
+use vtl_cell::{Cell, Profile, Txt, integer_written};
 use vtl_frames::{Bound, Frame};
-use vtl_kinds::integer_written;
 
 /// The number that digits write; 0 where they write none.
 pub(crate) fn count_of(digits: &Txt, p: &Profile) -> usize

@@ -23,7 +23,7 @@ use Rattle.vtl_cell.specs.declared.operator.AggKind.TheVariants as agg
 use Rattle.vtl_cell.proofs.Extremes.{greatest_member, least_member}
 use Rattle.vtl_cell.proofs.Rows.{split_and}
 use Rattle.vtl_cell.proofs.Sorts.{AllByRecursion-filter}
-use Rattle.vtl_kinds.specs.Aggregates.{aggregate_kind, sum_kind}
+use Rattle.vtl_cell.specs.AggregateKinds.{aggregate_kind, sum_kind}
 
 -- ---- lists and choices
 pub all_at : {X : Type 0} (P : X → Type 0) (xs : List X) (i : ℕ) (d : X) → i < length xs → AllByRecursion P xs → P (get_or xs i d)

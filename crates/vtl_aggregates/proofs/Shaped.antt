@@ -15,7 +15,7 @@ use Rattle.vtl_cell.specs.declared.operator.AggKind.TheVariants as agg
 use Rattle.vtl_cell.proofs.Aparts.{all_apart-Perm, apart_parts}
 use Rattle.vtl_cell.proofs.Perms.{AllByRecursion-Perm, Perm-append_back, Perm-map, Perm-middle}
 use Rattle.vtl_cell.proofs.Sorts.{AllByRecursion-filter}
-use Rattle.vtl_kinds.specs.Aggregates.{aggregate_kind}
+use Rattle.vtl_cell.specs.AggregateKinds.{aggregate_kind}
 use Rattle.vtl_tree.specs.Structure.{IsStructure, columns_of, names_of, of_role, same_name, same_role}
 use Rattle.vtl_tree.specs.declared.structure.Component.{Component}
 use Rattle.vtl_tree.specs.declared.structure.Role.{Role}

@@ -1,4 +1,4 @@
-pub use Rattle.vtl_kinds.specs.Aggregates as AggregateKinds
+pub use Rattle.vtl_cell.specs.AggregateKinds as AggregateKinds
 pub use Rattle.vtl_nodes.specs.Trees
 pub use Rattle.vtl_nodes.specs.declared.calls
 pub mod Aggregates

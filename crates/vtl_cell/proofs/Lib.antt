@@ -3,6 +3,7 @@ pub use Rattle.vtl_lists.proofs.Aparts
 pub use Rattle.vtl_lists.proofs.Eaches
 pub use Rattle.vtl_lists.proofs.Perms
 pub use Rattle.vtl_lists.proofs.Sorts
+pub use Rattle.vtl_text.proofs.Apart as TextsApart
 pub mod Aggregates
 pub mod Cells
 pub mod Cuts
@@ -10,6 +11,7 @@ pub mod Examples
 pub mod Extremes
 pub mod Hashes
 pub mod Keys
+pub mod KindLemmas
 pub mod Orders
 pub mod Readings
 pub mod Rows

@@ -13,12 +13,15 @@ pub use Rattle.vtl_lists.specs.Sorting
 pub use Rattle.vtl_text.specs.Texts
 pub use Rattle.vtl_text.specs.Words
 pub use Rattle.vtl_text.specs.declared.shared_text
+pub mod AggregateKinds
 pub mod Conversion
 pub mod Frames
 pub mod Groups
 pub mod Held
 pub mod Kinds
+pub mod Literals
 pub mod Logic
+pub mod OperatorKinds
 pub mod Order
 pub mod Outcome
 pub mod Outcomes

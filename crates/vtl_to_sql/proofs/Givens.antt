@@ -5,7 +5,7 @@ use Rattle.vtl_cell.specs.Apart.{all_apart}
 use Rattle.vtl_cell.specs.declared.kind.Kind.{Kind}
 use Rattle.vtl_cell.specs.declared.kind.Kind.TheVariants as k
 use Rattle.vtl_cell.proofs.Sorts.{AllByRecursion-filter}
-use Rattle.vtl_kinds.specs.Literals.{is_null_kind}
+use Rattle.vtl_cell.specs.Literals.{is_null_kind}
 use Rattle.vtl_tree.specs.Structure.{columns_of, names_of, of_role, same_name, same_role}
 use Rattle.vtl_tree.specs.Structures as structures
 use Rattle.vtl_tree.specs.declared.structure.Component.{Component}

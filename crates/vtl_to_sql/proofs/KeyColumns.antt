@@ -4,7 +4,7 @@ use Rattle.std.specs.List.{AllByRecursion, filter}
 use Rattle.vtl_cell.specs.Row.{Row, same_row}
 use Rattle.vtl_cell.specs.declared.cell.Cell.TheVariants as c
 use Rattle.vtl_rows.specs.Tables.{cells_at}
-use Rattle.vtl_kinds.specs.Literals.{is_null_kind}
+use Rattle.vtl_cell.specs.Literals.{is_null_kind}
 use Rattle.vtl_tree.specs.DataSet.{is_point}
 use Rattle.vtl_tree.specs.Structure.{IsStructure, columns_of, most_components, same_role}
 use Rattle.vtl_tree.specs.declared.structure.Component.{Component}

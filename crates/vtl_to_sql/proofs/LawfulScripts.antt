@@ -15,7 +15,7 @@ use Rattle.vtl_cell.specs.Words.{is_word}
 use Rattle.vtl_cell.specs.declared.kind.Kind.{Kind}
 use Rattle.vtl_cell.specs.declared.kind.Kind.TheVariants as k
 use Rattle.vtl_cell.proofs.Aparts.{apart_more}
-use Rattle.vtl_kinds.specs.Literals.{lies_between}
+use Rattle.vtl_cell.specs.Literals.{lies_between}
 use Rattle.vtl_tree.specs.Structure.{IsStructure, columns_of, names_of, same_name}
 use Rattle.vtl_tree.specs.Structures as structures
 use Rattle.vtl_tree.specs.Structures.{Named}

@@ -27,8 +27,8 @@ use Rattle.vtl_cell.specs.declared.kind.Kind.TheVariants as k
 use Rattle.vtl_cell.specs.declared.operator.AggKind.TheVariants as agg
 use Rattle.vtl_decimal.specs.declared.number.Fault.TheVariants.{Range}
 use Rattle.vtl_cell.proofs.Sorts.{AllByRecursion-filter}
-use Rattle.vtl_kinds.specs.Aggregates.{number_of, sum_kind}
-use Rattle.vtl_kinds.specs.Literals.{integer_written, longest_reach}
+use Rattle.vtl_cell.specs.AggregateKinds.{number_of, sum_kind}
+use Rattle.vtl_cell.specs.Literals.{integer_written, longest_reach}
 use Rattle.vtl_tree.specs.DataSet.{IsDataSet, is_point}
 use Rattle.vtl_tree.specs.Structure.{columns_of}
 use Rattle.vtl_tree.specs.declared.structure.Component.{Component}

@@ -1,6 +1,6 @@
 use Rattle.std.proofs.Common.{rules, ◌≡◌, ◌∙◌, ap, map, true}
 use Rattle.vtl_tree.specs.View.{comp_exp_of}
-use Rattle.vtl_kinds.specs.Operators.{takes_literals}
+use Rattle.vtl_cell.specs.OperatorKinds.{takes_literals}
 use Rattle.check_operators.specs.Operators.{beside_literal, meets_first}
 use Rattle.check_operators.specs.Typed.{boxed_tree}
 use Rattle.check_operators.proofs.OperatorLemmas.{fits_first}

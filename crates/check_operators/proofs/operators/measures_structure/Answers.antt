@@ -1,6 +1,6 @@
 use Rattle.std.proofs.Common.{ap, map, ◌∙◌}
 use Rattle.vtl_tree.specs.View.{comp_exp_of}
-use Rattle.vtl_kinds.specs.Operators.{counted_kinds}
+use Rattle.vtl_cell.specs.OperatorKinds.{counted_kinds}
 use Rattle.check_operators.specs.Operators.{between_kinds, given_by}
 use Rattle.check_operators.proofs.OperatorLemmas.{given_by_kinds}
 use Rattle.check_operators.proofs.operators.measures_structure.Goals as goal

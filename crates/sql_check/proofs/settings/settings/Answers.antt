@@ -1,6 +1,6 @@
 use Rattle.std.proofs.Common.{pos, sym, ap, ◌∙◌}
 use Rattle.sql_check_parts.specs.Statements.{scale_of}
-use Rattle.vtl_kinds.specs.Literals.{lies_between}
+use Rattle.vtl_cell.specs.Literals.{lies_between}
 use Rattle.sql_check.proofs.Settled.{set_broken, sets_given}
 use Rattle.sql_check.proofs.settings.settings.Goals as goal
 

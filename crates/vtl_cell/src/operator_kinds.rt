@@ -2,10 +2,10 @@
 ghost use Rattle.std.specs.Prelude.{◌≡◌, [], ◌∷◌, IfOk, option_and_then, option_map, if◌then◌else◌};
 ghost use Rattle.std.specs.List.{list_all};
 ghost use Rattle.vtl_cell.specs.ScalarKinds.{common_kind, first_met, is_set_of, kinds_of, meet, meets, numeric_one, numeric_two, only, shared_kind, to, truth_of_set};
-ghost use Rattle.vtl_kinds.specs.Operators.{counted_kinds, kind_by_operands, takes_literals};
+ghost use Rattle.vtl_cell.specs.OperatorKinds.{counted_kinds, kind_by_operands, takes_literals};
 
+use crate::{Kind, ScalarOp};
 use std::alloc::{AllocError, Global};
-use vtl_cell::{Kind, ScalarOp};
 
 /// Whether a value of a kind may stand where a kind is wanted: null anywhere, an integer for a number.
 pub fn meets(wanted: Kind, given: Kind) -> bool

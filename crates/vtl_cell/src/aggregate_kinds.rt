@@ -1,9 +1,8 @@
 // The kinds that aggregates take and give.
 ghost use Rattle.std.specs.Prelude.{◌≡◌};
-ghost use Rattle.vtl_kinds.specs.Aggregates.{aggregate_kind, is_number, number_of, sum_kind};
+ghost use Rattle.vtl_cell.specs.AggregateKinds.{aggregate_kind, is_number, number_of, sum_kind};
 
-use crate::meets;
-use vtl_cell::{AggKind, Kind};
+use crate::{AggKind, Kind, meets};
 
 /// Whether values of a kind may stand where numbers are wanted.
 pub fn is_number(kind: Kind) -> bool

@@ -2,10 +2,10 @@
 ghost use Rattle.std.specs.Prelude.{◌≡◌, IfOk};
 ghost use Rattle.std.specs.Result.{result_ok};
 ghost use Rattle.vtl_cell.specs.ScalarArithmetic.{negation_of};
-ghost use Rattle.vtl_kinds.specs.Literals.{integer_cell, integer_written, is_null_kind, lies_between, number_cell, with_sign, written};
+ghost use Rattle.vtl_cell.specs.Literals.{integer_cell, integer_written, is_null_kind, lies_between, number_cell, with_sign, written};
 
+use crate::{Cell, Kind, Txt, read_cell};
 use std::alloc::{AllocError, Global};
-use vtl_cell::{Cell, Kind, Txt, read_cell};
 use vtl_decimal::{Profile, neg, read_literal, read_whole_literal, whole};
 
 /// The last place in a text that a literal may name.

@@ -1,3 +1,0 @@
-pub mod Aggregates
-pub mod Literals
-pub mod Operators
