@@ -410,7 +410,7 @@ if wanted sentences; then
         shown docs/USING.md '' "$case/line" "$case/told"
     done
     shown docs/USING.md sql examples/density/text.sql
-    shown README.md sql examples/population/text.sql
+    shown docs/SQL.md sql examples/population/text.sql
     shown docs/SQL.md sql cases/translated/filter_and_sum/script.sql
 fi
 if wanted check && [ -x "$probe" ]; then
