@@ -426,7 +426,7 @@ if wanted ways; then
     scripts/ways.sh >"$made/said" || fail "scripts/ways.sh: exit code $?"
     while read -r word first second; do
         case $word in
-            ways) within "$second" 6000 "ways down from $first" ;;
+            ways) within "$second" 5000 "ways down from $first" ;;
             chain) within "$first" 17 "libraries in the longest chain, $second" ;;
         esac
     done <"$made/said"
