@@ -101,7 +101,7 @@ framed_to_sql o w = Some (frame_to_sql (frame_in w))
 
 -- ---- calls
 
--- a null default is not written
+-- a null default has no literal: the text says NULL of itself
 abbrev pub default_to_sql : Settings → Cell → Option Literal
 default_to_sql p c.Null = None
 default_to_sql p v = Some (literal_to_sql p v)

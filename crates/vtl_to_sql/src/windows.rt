@@ -1,6 +1,6 @@
 // The window of an analytic call.
 ghost use Rattle.std.specs.Fmt.{decimal};
-ghost use Rattle.std.specs.Prelude.{◌≡◌, ◌++◌, filter, map, not, IfOk, OnOk};
+ghost use Rattle.std.specs.Prelude.{◌≡◌, ◌++◌, map, IfOk, OnOk};
 ghost use Rattle.vtl_tree.specs.Shown.{shown};
 ghost use Rattle.check_shapes.specs.Names.{is_among};
 ghost use Rattle.rules_to_sql.specs.PointWindows.{default_frame, frame_in};
@@ -98,7 +98,7 @@ fn framed(alloc: Global, op: &AnalyticOp, seen: &Seen) -> Result<Option<Frame>, 
     }
 }
 
-// The default of `lag` and `lead`; a null is not written.
+// The default of `lag` and `lead`; a null is no literal.
 fn default_value(
     alloc: Global,
     writer: &Writer,
