@@ -6,7 +6,9 @@ ghost use Rattle.vtl_rows.specs.Keys.{FindsRepeat, FindsSame, apart, tie_by};
 ghost use Rattle.vtl_rows.specs.Places.{IsOrderOf, ties_before};
 
 use crate::guess::guessed_order;
-use crate::order::{compare_places, is_in_order, numbers_below, rising_keys, sorted_places};
+use crate::order::{
+    begins_block, compare_places, fetched, is_in_order, numbers_below, rising_keys, sorted_places,
+};
 use crate::seen::{Meeting, Seen};
 use crate::{SortKey, Table};
 use std::alloc::{AllocError, Global};
@@ -65,6 +67,10 @@ fn rise_strictly(table: &Table, keys: &[SortKey], places: &[usize]) -> bool
     ensures { OnTrue result (FindsSame (tie_by keys.now) table.now.rows None) }
 {
     for i in 0..places.len().saturating_sub(1) {
+        // As in `are_placed`.
+        if begins_block(i) && fetched(table, keys, &places[i..]) == usize::MAX {
+            return false;
+        }
         if !compare_places(table, keys, places[i + 1], places[i]).is_gt() {
             return false;
         }
