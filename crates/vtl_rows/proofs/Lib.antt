@@ -5,6 +5,7 @@ pub mod Gathered
 pub mod Gathers
 pub mod InOrder
 pub mod Least
+pub mod Marks
 pub mod NamedLemmas
 pub mod Placed
 pub mod SeenRows
