@@ -7,6 +7,7 @@ pub mod InOrder
 pub mod Least
 pub mod NamedLemmas
 pub mod Placed
+pub mod Probed
 pub mod SeenRows
 pub mod Stable
 pub mod Starts
