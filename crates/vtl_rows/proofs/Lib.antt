@@ -8,6 +8,7 @@ pub mod Least
 pub mod Marks
 pub mod NamedLemmas
 pub mod Placed
+pub mod Probed
 pub mod SeenRows
 pub mod Stable
 pub mod Starts

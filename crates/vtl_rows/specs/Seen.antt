@@ -1,7 +1,8 @@
 -- Rows that were seen, in slots by the hash of their cells in the columns of keys.
-use Rattle.std.specs.Prelude.{◌≡◌, ℕ, ◌+◌, ◌<◌, ◌≤◌, ◌^◌, ◌/◌, ◌==◌, ◌&&◌, Bool, true, false, List, length, map, slice_index_or, bit_and}
-use Rattle.std.specs.List.{fold}
+use Rattle.std.specs.Prelude.{◌≡◌, ℕ, ◌+◌, ◌<◌, ◌≤◌, ◌^◌, ◌/◌, ◌==◌, ◌&&◌, Bool, true, false, List, Option, None, Some, length, map, take, slice_index_or, bit_and}
+use Rattle.std.specs.List.{fold, range_with_len}
 use Rattle.std.specs.Hash.FoldHasher as folding
+use Rattle.vtl_cell.specs.Apart.{all_apart}
 use Rattle.vtl_cell.specs.Row.{Row, column_of}
 use Rattle.vtl_cell.specs.declared.cell.Cell.{Cell}
 use Rattle.vtl_cell.specs.contracts.cell.CellHash.TheImpl.{hash_input-value}
@@ -12,7 +13,7 @@ use Rattle.vtl_rows.specs.declared.seen.Place.{Place}
 use Rattle.vtl_rows.specs.declared.seen.Place.TheVariants as p
 use Rattle.vtl_rows.specs.declared.seen.Meeting.{Meeting}
 use Rattle.vtl_rows.specs.declared.seen.Meeting.TheVariants as m
-use Rattle.vtl_rows.specs.Keys.{tie_by}
+use Rattle.vtl_rows.specs.Keys.{FindsSame, tie_by}
 use Rattle.vtl_rows.specs.Places.{row_at}
 
 -- the cells of a row in the columns of keys
@@ -34,6 +35,10 @@ tag_of hash = hash / (2 ^ 32)
 -- where a row is looked for
 abbrev pub probe_of : List SortKey → ℕ → Row → ℕ → Probe
 probe_of keys mask row i = record { start = bit_and (row_hash keys row) mask; tag = tag_of (row_hash keys row); row = i }
+
+-- the same for this many rows, from one on
+abbrev pub probes_of : List SortKey → ℕ → List Row → ℕ → ℕ → List Probe
+probes_of keys mask rows first count = map (λ i. probe_of keys mask (row_at rows i) i) (range_with_len first count)
 
 -- the slot at a place
 abbrev pub slot_at : List Slot → ℕ → Slot
@@ -90,3 +95,13 @@ abbrev pub Tells : List SortKey → List Row → ℕ → ℕ → List Slot → M
 Tells keys rows i mask slots m.New = IsNew keys rows i × Covers keys rows mask slots (i + 1)
 Tells keys rows i mask slots m.Repeat = Repeats keys rows i
 Tells keys rows i mask slots m.Unknown = Unit {0}
+
+-- no two of the rows before one tie, and they have slots
+abbrev pub IsNewUpTo : List SortKey → List Row → ℕ → List Slot → ℕ → Type 0
+IsNewUpTo keys rows mask slots i = (all_apart (tie_by keys) (take i rows) ≡ true) × Covers keys rows mask slots i
+
+-- what a search among the rows before one tells, if it is not given up
+abbrev pub TellsUpTo : List SortKey → List Row → ℕ → List Slot → ℕ → Option (Option ℕ) → Type 0
+TellsUpTo keys rows mask slots end None = Unit {0}
+TellsUpTo keys rows mask slots end (Some None) = IsNewUpTo keys rows mask slots end
+TellsUpTo keys rows mask slots end (Some (Some place)) = FindsSame (tie_by keys) rows (Some place)

@@ -1,17 +1,52 @@
 // The first row that agrees with one before it.
-ghost use Rattle.std.specs.Prelude.{◌≡◌, ◌<◌, ◌&&◌, nat_lt, None, length, All, IfOk, IfSome, IsPermutation, if◌then◌else◌};
+ghost use Rattle.std.specs.Prelude.{◌≡◌, ◌<◌, ◌≤◌, ◌^◌, ◌&&◌, nat_lt, None, length, All, IfOk, IfSome, IsPermutation, if◌then◌else◌};
 ghost use Rattle.std.specs.Bool.{OnTrue};
 ghost use Rattle.std.specs.List.{range_with_len};
 ghost use Rattle.vtl_rows.specs.Keys.{FindsRepeat, FindsSame, apart, tie_by};
 ghost use Rattle.vtl_rows.specs.Places.{IsOrderOf, ties_before};
+ghost use Rattle.vtl_rows.specs.Seen.{IsNewUpTo, TellsUpTo};
 
 use crate::guess::guessed_order;
 use crate::order::{
     begins_block, compare_places, fetched, is_in_order, numbers_below, rising_keys, sorted_places,
 };
-use crate::seen::{Meeting, Seen};
+use crate::seen::{Meeting, Probe, Seen};
 use crate::{SortKey, Table};
 use std::alloc::{AllocError, Global};
+
+// The slots of this many rows are fetched side by side.
+const BLOCK: usize = 32;
+
+// Adds the rows from one up to another to those that were seen. The first of them that ties with one before it, if
+// there is one; None where the search is given up.
+fn repeat_in_block(
+    seen: &mut Seen,
+    table: &Table,
+    keys: &[SortKey],
+    first: usize,
+    end: usize,
+    probes: &mut Vec<Probe>,
+) -> Result<Option<Option<usize>>, AllocError>
+    requires small { end < 2 ^ 32 }
+    requires from { first ≤ end }
+    requires within { end ≤ length table.now.rows }
+    requires new { IsNewUpTo keys.now table.now.rows seen.old.mask seen.old.slots.items first }
+    ensures { IfOk result (TellsUpTo keys.now table.now.rows seen.new.mask seen.new.slots.items end) }
+{
+    seen.probe_rows(table, keys, first, end, probes)?;
+    // A few rows never come to this sum: it is asked for so that no compiler leaves out the reads.
+    if seen.fetched(probes) == usize::MAX {
+        return Ok(None);
+    }
+    for probe in probes.iter() {
+        match seen.add(table, keys, *probe) {
+            Meeting::New => {}
+            Meeting::Repeat => return Ok(Some(Some(probe.row))),
+            Meeting::Unknown => return Ok(None),
+        }
+    }
+    Ok(Some(None))
+}
 
 // The first row that ties with one before it, if there is one, found by hash. None where the search is given up.
 fn repeat_by_hash(
@@ -25,11 +60,13 @@ fn repeat_by_hash(
         return Ok(None);
     }
     let mut seen = Seen::new(alloc, table.len())?;
-    for i in 0..table.len() {
-        match seen.add(table, keys, i) {
-            Meeting::New => {}
-            Meeting::Repeat => return Ok(Some(Some(i))),
-            Meeting::Unknown => return Ok(None),
+    let mut probes = Vec::with_capacity(alloc, table.len().min(BLOCK))?;
+    let mut first = 0;
+    while first < table.len() {
+        let end = first.saturating_add(BLOCK).min(table.len());
+        match repeat_in_block(&mut seen, table, keys, first, end, &mut probes)? {
+            Some(None) => first = end,
+            told => return Ok(told),
         }
     }
     Ok(Some(None))

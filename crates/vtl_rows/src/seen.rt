@@ -1,6 +1,7 @@
 // Rows that were seen, found by the hash of their cells in the columns of keys.
-ghost use Rattle.std.specs.Prelude.{◌≡◌, ◌<◌, ◌≤◌, ◌^◌, ◌+◌, length, IfOk};
-ghost use Rattle.vtl_rows.specs.Seen.{Covers, Finds, Tells, is_match, probe_of, row_hash, tag_of};
+ghost use Rattle.std.specs.Prelude.{◌≡◌, ◌<◌, ◌≤◌, ◌^◌, ◌+◌, ◌-◌, length, OnOk};
+ghost use Rattle.vtl_rows.specs.Places.{row_at};
+ghost use Rattle.vtl_rows.specs.Seen.{Covers, Finds, Tells, is_match, probe_of, probes_of, row_hash, tag_of};
 
 use crate::order::{compare_places, row_or_none};
 use crate::{SortKey, Table};
@@ -70,13 +71,45 @@ impl Seen {
         })
     }
 
-    // Looks for a row among those before it, and adds it where it is new.
-    pub(crate) fn add(&mut self, table: &Table, keys: &[SortKey], i: usize) -> Meeting
-        requires small { i < 2 ^ 32 }
-        requires covers { Covers keys.now table.now.rows self.old.mask self.old.slots.items i }
-        ensures { Tells keys.now table.now.rows i self.new.mask self.new.slots.items result }
+    // What to look for of the rows from one up to another, in place of what the list held.
+    pub(crate) fn probe_rows(
+        &self,
+        table: &Table,
+        keys: &[SortKey],
+        first: usize,
+        end: usize,
+        probes: &mut Vec<Probe>,
+    ) -> Result<(), AllocError>
+        requires { first ≤ end }
+        ensures { OnOk result (probes.new.items ≡ probes_of keys.now self.now.mask table.now.rows first (end - first)) }
     {
-        let probe = probe_of(row_or_none(table, i), keys, self.mask, i);
+        probes.clear();
+        for i in first..end {
+            probes.push(probe_of(row_or_none(table, i), keys, self.mask, i))?;
+        }
+        Ok(())
+    }
+
+    // A sum over the slots at which rows are first looked for. No read of it waits for another, so the processor
+    // fetches the slots side by side; a search would fetch one after the other.
+    pub(crate) fn fetched(&self, probes: &[Probe]) -> usize {
+        let mut sum: usize = 0;
+        for probe in probes {
+            if let Some(slot) = self.slots.get(probe.start) {
+                sum = sum.wrapping_add(slot.row as usize);
+            }
+        }
+        sum
+    }
+
+    // Looks for a row among those before it, and adds it where it is new.
+    pub(crate) fn add(&mut self, table: &Table, keys: &[SortKey], probe: Probe) -> Meeting
+        requires small { probe.row < 2 ^ 32 }
+        requires of_row { probe ≡ probe_of keys.now self.old.mask (row_at table.now.rows probe.row) probe.row }
+        requires covers { Covers keys.now table.now.rows self.old.mask self.old.slots.items probe.row }
+        ensures same_mask { self.new.mask ≡ self.old.mask }
+        ensures tells { Tells keys.now table.now.rows probe.row self.new.mask self.new.slots.items result }
+    {
         let steps = self.left.min(MAX_STEPS_FOR_A_ROW);
         let end = probe.start.saturating_add(steps).min(self.slots.len());
         match seek(&self.slots, probe, end, table, keys) {
@@ -86,7 +119,7 @@ impl Seen {
                 self.left = self.left.saturating_sub(place - probe.start + 1);
                 self.slots[place] = Slot {
                     tag: probe.tag,
-                    row: i as u32,
+                    row: probe.row as u32,
                 };
                 Meeting::New
             }
