@@ -13,4 +13,5 @@ pub mod PlainRows
 pub mod QueryParts
 pub mod QueryColumns
 pub mod MadeRows
+pub mod PlannedSelects
 pub mod WholeQueries

@@ -1,13 +1,20 @@
 -- The selects of a query.
-use Rattle.std.specs.Prelude.{◌≡◌, ℕ, true, List}
+use Rattle.std.specs.Prelude.{◌≡◌, ℕ, true, List, [], zip}
+use Rattle.vtl_cell.specs.Outcome.{Outcome, after}
+use Rattle.vtl_cell.specs.Outcomes.{Same}
 use Rattle.vtl_cell.specs.Row.{Row}
 use Rattle.vtl_cell.specs.declared.kind.Kind.{Kind}
 use Rattle.vtl_rows.specs.Tables.{fits_kinds}
 use Rattle.sql_tree.specs.Trees.{SelectTree}
-use Rattle.sql_window.specs.Queries.{kinds_of}
+use Rattle.sql_eval.specs.Plans.{planned_source_rows}
+use Rattle.sql_eval.specs.plan.Early.{Early}
+use Rattle.sql_window.specs.From.{source_rows}
+use Rattle.sql_window.specs.Queries.{kinds_of, scope_of}
 use Rattle.sql_window.specs.Scopes.{Scope, row_of}
 use Rattle.sql_window.specs.TypedSelects.{IsSelectTyped}
+use Rattle.sql_window.specs.Selects.{second_phase}
 use Rattle.sql_window.specs.Tables.{Base, RowsFit}
+use Rattle.sql_window.specs.Values.{at_rows}
 use Rattle.sql_window.specs.Resolved.{AreLifted}
 
 -- what is made at each row of FROM, among rows that fit, is of these kinds
@@ -18,3 +25,11 @@ MakesKinds scope kinds made = (rows : List Row) (x : Row × ℕ) → RowsFit (ro
 pub record IsPart (b : Base) (kinds : List Kind) (s : SelectTree) : Type 0 where
   pub typed : IsSelectTyped b.settings b.tables s
   pub lifted : AreLifted kinds (kinds_of b.tables s)
+
+-- what the second phase of a select gives of these rows of FROM and WHERE, or their fault
+abbrev pub phase_of : Base → List Kind → SelectTree → Outcome (List Row) → Outcome (List Row)
+phase_of b kinds s rows = after rows (second_phase (at_rows b (scope_of b.tables s)) (zip s.items kinds) s)
+
+-- with these conjuncts tried early FROM and WHERE give the same rows, in any order, or the same fault
+abbrev pub HasRowsOf : Base → List Early → SelectTree → Type 0
+HasRowsOf b early s = Same (planned_source_rows b s [] early) (source_rows b s)

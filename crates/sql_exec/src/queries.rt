@@ -26,7 +26,8 @@ use vtl_index::Steps;
 use vtl_rows::{Table, Tables};
 
 /// The table of a query: its columns with their names and kinds, and its rows, each as often, in any order. Joins that
-/// its plan lists go by an index; every other join tries each pair.
+/// its plan lists go by an index, and every other join tries each pair; parts of a WHERE that it lists are tried before
+/// a join too, which sees the rows at which they are true.
 ///
 /// # Errors
 ///

@@ -1,12 +1,13 @@
 // Selects: FROM and WHERE first, and then items or groups.
 ghost use Rattle.std.specs.List.{AllByRecursion};
-ghost use Rattle.std.specs.Prelude.{◌≡◌, ◌==◌, filter, length, map, zip, None, IfErr, IfOk, OnOk};
+ghost use Rattle.std.specs.Prelude.{◌≡◌, ◌==◌, [], filter, length, map, zip, None, IfErr, IfOk, OnOk};
 ghost use Rattle.vtl_rows.specs.Tables.{column_kinds};
 ghost use Rattle.sql_tree.specs.View.{item_tree, select_tree};
+ghost use Rattle.sql_eval.specs.Plans.{IsPlan, early_in, planned_selects, planned_source_rows};
 ghost use Rattle.sql_window.specs.Queries.{scope_of};
 ghost use Rattle.sql_window.specs.Scopes.{row_of};
 ghost use Rattle.sql_window.specs.Outcomes.{row_at};
-ghost use Rattle.sql_window.specs.Selects.{appended, item_value, plain_rows, second_phase, select_value};
+ghost use Rattle.sql_window.specs.Selects.{appended, item_value, plain_rows, second_phase};
 ghost use Rattle.sql_window.specs.Profiles.{IsLawful};
 ghost use Rattle.sql_window.specs.Tables.{RowsFit};
 ghost use Rattle.sql_window.specs.Held.{base_held, tables_held};
@@ -15,11 +16,12 @@ ghost use Rattle.sql_window.specs.Standing.{rows_for, sight_of};
 ghost use Rattle.sql_window.specs.Expressions.{site};
 ghost use Rattle.sql_window.specs.TypedSelects.{IsItemTyped};
 ghost use Rattle.sql_exec.specs.Outputs.{Adds};
-ghost use Rattle.sql_exec.specs.Parts.{IsPart, MakesKinds};
+ghost use Rattle.sql_exec.specs.Parts.{HasRowsOf, IsPart, MakesKinds, phase_of};
 
 use crate::items::{ItemValues, RowItem, row_items};
 use crate::output::Output;
 use sql_check_queries::is_grouped;
+use sql_eval::Early;
 use sql_tree::{Item, Select};
 use sql_window::{Partners, Plan, Sources, TupleRows, push_grouped, source_tuples};
 use std::alloc::{AllocError, Global};
@@ -105,23 +107,26 @@ fn add_phase(
     }
 }
 
-// Adds the rows of a select, or its fault. Its joins that are listed go by a look-up.
+// Adds the rows of a select, or its fault. Its joins that are listed go by a look-up, and the parts of its WHERE that are
+// listed are tried early.
 fn add_select(
     alloc: Global,
     out: &mut Output,
     select: &Select,
     by_index: &[usize],
+    early: &[Early],
     kinds: &[Kind],
     tables: &Tables,
     p: &Profile,
 ) -> Result<(), ScalarErr>
     requires part { IsPart (base_held p.now tables.now) kinds.now (select_tree select.now) }
     requires lawful { IsLawful (base_held p.now tables.now) }
+    requires same { HasRowsOf (base_held p.now tables.now) early.now (select_tree select.now) }
     requires columns { column_kinds out.old.table.columns ≡ kinds.now }
-    ensures adds { OnOk result (Adds (select_value (base_held p.now tables.now) kinds.now (select_tree select.now)) out.old out.new) }
+    ensures adds { OnOk result (Adds (phase_of (base_held p.now tables.now) kinds.now (select_tree select.now) (planned_source_rows (base_held p.now tables.now) (select_tree select.now) [] early.now)) out.old out.new) }
     ensures err { IfErr result (λ e. e ≡ ScalarErr.OutOfMemory) }
 {
-    match source_tuples(alloc, select, tables, Some(by_index), p) {
+    match source_tuples(alloc, select, tables, Some(by_index), early, p) {
         Ok(rows) => add_phase(alloc, out, select, &rows, kinds, p),
         Err(error) => out.see(error),
     }
@@ -141,8 +146,22 @@ fn indexed_joins(alloc: Global, plan: &Plan, select: usize) -> Result<Vec<usize>
     Ok(joins)
 }
 
-/// Adds the rows of all selects, or the worst of their faults: each select is carried out, whatever those before it
-/// give, with the joins by an index that the plan of the query has for it.
+// The parts of the WHERE of the select at a place that are tried early.
+fn early_parts(alloc: Global, plan: &Plan, select: usize) -> Result<Vec<Early>, AllocError>
+    ensures { IfOk result (λ v. v.items ≡ early_in plan.now.ways select) }
+{
+    let early = plan.early();
+    let mut parts = Vec::new(alloc);
+    for entry in early {
+        if entry.select == select {
+            parts.push(*entry)?;
+        }
+    }
+    Ok(parts)
+}
+
+/// Adds the rows of all selects, or the worst of their faults, as the plan of the query has them: each select is carried
+/// out, whatever those before it give, with the joins by an index and the parts of WHERE that the plan lists for it.
 pub(crate) fn add_selects(
     alloc: Global,
     out: &mut Output,
@@ -153,14 +172,17 @@ pub(crate) fn add_selects(
     p: &Profile,
 ) -> Result<(), ScalarErr>
     requires parts { AllByRecursion (IsPart (base_held p.now tables.now) kinds.now) (map select_tree selects.now) }
+    requires plan { IsPlan (map select_tree selects.now) plan.now.ways }
     requires lawful { IsLawful (base_held p.now tables.now) }
     requires columns { column_kinds out.old.table.columns ≡ kinds.now }
-    ensures adds { OnOk result (Adds (appended (map (select_value (base_held p.now tables.now) kinds.now) (map select_tree selects.now))) out.old out.new) }
+    ensures adds { OnOk result (Adds (appended (planned_selects (base_held p.now tables.now) kinds.now plan.now.ways 0 (map select_tree selects.now))) out.old out.new) }
     ensures err { IfErr result (λ e. e ≡ ScalarErr.OutOfMemory) }
 {
     for place in 0..selects.len() {
         let by_index = indexed_joins(alloc, plan, place)?;
-        add_select(alloc, out, &selects[place], &by_index, kinds, tables, p)?;
+        let early = early_parts(alloc, plan, place)?;
+        let select = &selects[place];
+        add_select(alloc, out, select, &by_index, &early, kinds, tables, p)?;
     }
     Ok(())
 }

@@ -8,14 +8,19 @@ use Rattle.vtl_rows.specs.Tables.{Listed, column_kinds}
 use Rattle.sql_tree.specs.Trees.{QueryTree}
 use Rattle.sql_tree.specs.View.{query_tree, select_tree}
 use Rattle.sql_tree.specs.declared.statements.Item.{Item}
+use Rattle.sql_tree.specs.declared.statements.Query.{Query}
+use Rattle.sql_tree.specs.declared.statements.Select.{Select}
 use Rattle.sql_window.specs.Queries.{query_columns, shared_kinds}
 use Rattle.sql_window.specs.Scopes.{or_null}
-use Rattle.sql_window.specs.Selects.{appended, query_value, select_value}
+use Rattle.sql_eval.specs.Plans.{IsPlan, planned_selects, planned_value}
+use Rattle.sql_window.specs.Selects.{appended, query_value}
 use Rattle.sql_window.specs.Tables.{column_entry, kinds_of}
 use Rattle.sql_window.specs.Held.{base_held, tables_held}
 use Rattle.sql_window.specs.TypedSelects.{IsSelectTyped}
 use Rattle.sql_exec.specs.Outputs.{Adds, fault_seen}
 use Rattle.sql_exec.specs.Parts.{IsPart}
+use Rattle.sql_eval.proofs.Planned.{plan_stands}
+use Rattle.sql_exec.proofs.PlannedSelects.{gives_same}
 use Rattle.sql_exec.proofs.QueryParts.{query_parts}
 use Rattle.sql_exec.proofs.WholeQueries.{answered_keeps, columns_are, columns_long, first_many, first_named, gives, kinds_held, query_kinds_are, some_selects}
 use Rattle.sql_exec.proofs.queries.exec.Goals as goal
@@ -77,12 +82,19 @@ returns-clause-columns g c =
     answered_keeps (λ (t : Listed). map column_entry t.columns ≡ query_columns tables q) c.finish.result (fault_seen c.add_selects.new.out) table c.finish.ensures
     (ap (map column_entry) (c.in_ok-add_selects.ensures.adds.columns ∙ c.new-out.ensures.columns) ∙ are ∙ ap (query_columns tables) is)
 
+pub add_selects-requires-clause-plan : goal.add_selects-requires-clause-plan
+add_selects-requires-clause-plan g c =
+    subst (λ (l : List Select). IsPlan (map select_tree l) c.args.plan.now.ways) (sym c.as_slice-selects.ensures) c.query.ensures.plan
+
 pub returns-clause-rows : goal.returns-clause-rows
 returns-clause-rows g c =
     let b = base_held c.args.p.now c.args.tables.now in
     let q = query_tree c.args.plan.now.query in
+    let w = c.args.plan.now.ways in
     let is : map select_tree c.as_slice-selects.result.now ≡ q = ap (map select_tree) c.as_slice-selects.ensures ∙ ap query_tree c.query.ensures.query in
     let kinds : c.deref-2.result.now ≡ kinds_of (query_columns b.tables q) = c.deref-2.ensures.value ∙ c.in_ok-kinds.ensures ∙ ap (λ (ss : QueryTree). map or_null (shared_kinds b.tables ss)) is ∙ sym (query_kinds_are b.tables q) in
-    let adds : Adds (query_value b q) c.new-out.result c.add_selects.new.out =
-    subst (λ (m : Outcome (List Row)). Adds m c.new-out.result c.add_selects.new.out) (λ i. appended (map (select_value b (kinds i)) (is i))) c.in_ok-add_selects.ensures.adds in
-    gives (query_value b q) c.finish.result c.new-out.result c.add_selects.new.out c.finish.ensures c.new-out.ensures.fault c.new-out.ensures.rows adds
+    let adds : Adds (planned_value b w q) c.new-out.result c.add_selects.new.out =
+    subst (λ (m : Outcome (List Row)). Adds m c.new-out.result c.add_selects.new.out) (λ i. appended (planned_selects b (kinds i) w 0 (is i))) c.in_ok-add_selects.ensures.adds in
+    let plan : IsPlan q w = subst (λ (z : Query). IsPlan (query_tree z) w) c.query.ensures.query c.query.ensures.plan in
+    gives_same (planned_value b w q) (query_value b q) c.finish.result (plan_stands b c.requires.lawful w q plan c.requires.typed)
+    (gives (planned_value b w q) c.finish.result c.new-out.result c.add_selects.new.out c.finish.ensures c.new-out.ensures.fault c.new-out.ensures.rows adds)

@@ -1,37 +1,39 @@
-use Rattle.std.proofs.Common.{◌≡◌, ◌∙◌, List, sym, ap, subst}
+use Rattle.std.proofs.Common.{◌≡◌, ◌∙◌, [], List, sym, ap, subst}
 use Rattle.std.specs.Prelude.{OnOk, zip}
-use Rattle.vtl_cell.specs.Outcome.{Outcome, after}
+use Rattle.vtl_cell.specs.Outcome.{Outcome}
 use Rattle.vtl_cell.specs.Row.{Row}
 use Rattle.sql_tree.specs.View.{select_tree}
 use Rattle.vtl_rows.specs.Named.{NamedTables}
+use Rattle.sql_eval.specs.Plans.{planned_source_rows}
 use Rattle.sql_window.specs.Profiles.{IsLawful}
-use Rattle.sql_window.specs.Queries.{scope_of}
 use Rattle.sql_window.specs.Scopes.{Scope, row_of}
-use Rattle.sql_window.specs.Selects.{second_phase, select_value}
+use Rattle.sql_window.specs.Selects.{second_phase}
 use Rattle.sql_window.specs.Tables.{RowsFit}
 use Rattle.sql_window.specs.Values.{at_rows}
-use Rattle.sql_window.proofs.SourceKinds.{source_rows_fit}
 use Rattle.sql_window.specs.Held.{base_held}
 use Rattle.sql_window.specs.Standing.{rows_for, sight_of}
 use Rattle.sql_exec.specs.Outputs.{Adds}
+use Rattle.sql_exec.specs.Parts.{phase_of}
+use Rattle.sql_exec.proofs.PlannedSelects.{same_rows_fit}
 use Rattle.sql_exec.proofs.selects.add_select.Goals as goal
 
 pub add_phase-requires-clause-fit : goal.add_phase-requires-clause-fit
 add_phase-requires-clause-fit c =
     let rows = rows_for c.in-Ok.rows.sources c.in-Ok.rows.tuples in
     subst (λ (scope : Scope). RowsFit (row_of scope) rows) (sym c.in-Ok.ensures.scope)
-    (source_rows_fit (base_held c.args.p.now c.args.tables.now) c.requires.lawful.fit (select_tree c.args.select.now) rows c.requires.part.typed c.in-Ok.ensures.rows)
+    (same_rows_fit (base_held c.args.p.now c.args.tables.now) c.args.kinds.now (select_tree c.args.select.now) c.args.early.now rows c.requires.lawful c.requires.part c.requires.same c.in-Ok.ensures.rows)
 
 pub returns-in-Ok-clause-adds : goal.returns-in-Ok-clause-adds
 returns-in-Ok-clause-adds c =
     let p = c.args.p.now in
     let b = base_held p c.args.tables.now in
     let s = select_tree c.args.select.now in
-    let wanted = zip s.items c.args.kinds.now in
+    let kinds = c.args.kinds.now in
+    let wanted = zip s.items kinds in
     let sources = c.in-Ok.rows.sources in
     let rows = rows_for sources c.in-Ok.rows.tuples in
-    let same : second_phase (sight_of p sources) wanted s rows ≡ select_value b c.args.kinds.now s =
-    (λ i. second_phase (at_rows (base_held p (c.in-Ok.ensures.held i)) (c.in-Ok.ensures.scope i)) wanted s rows) ∙ sym (ap (λ (m : Outcome (List Row)). after m (second_phase (at_rows b (scope_of b.tables s)) wanted s)) c.in-Ok.ensures.rows) in
+    let same : second_phase (sight_of p sources) wanted s rows ≡ phase_of b kinds s (planned_source_rows b s [] c.args.early.now) =
+    (λ i. second_phase (at_rows (base_held p (c.in-Ok.ensures.held i)) (c.in-Ok.ensures.scope i)) wanted s rows) ∙ sym (ap (phase_of b kinds s) c.in-Ok.ensures.rows) in
     subst (λ (m : Outcome (List Row)). OnOk c.add_phase.result (Adds m c.args.out.now c.add_phase.new.out)) same c.add_phase.ensures.adds
 
 pub add_phase-requires-clause-lawful : goal.add_phase-requires-clause-lawful

@@ -1,25 +1,67 @@
-use Rattle.std.proofs.Common.{subst}
+use Rattle.std.proofs.Common.{◌≡◌, ◌<◌, ◌≤◌, ◌∙◌, ◌+◌, ◌∷◌, [], ℕ, List, drop, get_or, length, map, ap, arith, subst, sym}
+use Rattle.std.proofs.lemmas.List.{drop-map, length-map, map-id}
+use Rattle.vtl_cell.specs.Outcome.{Outcome}
+use Rattle.vtl_cell.specs.Row.{Row}
 use Rattle.sql_tree.specs.View.{select_tree}
 use Rattle.sql_tree.specs.declared.statements.Select.{Select}
+use Rattle.sql_eval.specs.Plans.{early_in, planned_selects, planned_source_rows}
+use Rattle.sql_eval.specs.plan.Early.{Early}
 use Rattle.sql_window.specs.Held.{base_held}
+use Rattle.sql_window.specs.Selects.{appended}
 use Rattle.sql_exec.specs.Outputs.{Adds}
-use Rattle.sql_exec.specs.Parts.{IsPart}
-use Rattle.sql_window.specs.Selects.{appended, select_value}
+use Rattle.sql_exec.specs.Parts.{HasRowsOf, IsPart, phase_of}
 use Rattle.sql_exec.proofs.Added.{added_all, added_more}
-use Rattle.sql_exec.proofs.Steps.{holds_mapped, mapped_twice}
+use Rattle.sql_exec.proofs.PlannedSelects.{has_rows, phase_planned, planned_at, planned_many, planned_read}
+use Rattle.sql_exec.proofs.QueryColumns.{drop_read}
+use Rattle.sql_exec.proofs.Steps.{holds_mapped}
 use Rattle.sql_exec.proofs.selects.add_selects.Goals as goal
+
+-- the select at a place, and those behind it
+here : (selects : List Select) (i : ℕ) (x : Select) → i < length selects → x ≡ get_or selects i x → drop i (map select_tree selects) ≡ select_tree x ∷ map select_tree (drop (i + 1) selects)
+here selects i x h at = drop-map select_tree i selects ∙ ap (map select_tree) (drop_read selects i x h at)
 
 pub add_select-requires-clause-part : goal.add_select-requires-clause-part
 add_select-requires-clause-part c = holds_mapped (IsPart (base_held c.args.p.now c.args.tables.now) c.args.kinds.now) select_tree c.args.selects.now c.loop-place.place c.index-selects-place.result c.requires.parts c.loop-place-test.true c.index-selects-place.is
 
+pub add_select-requires-clause-same : goal.add_select-requires-clause-same
+add_select-requires-clause-same c =
+    let b = base_held c.args.p.now c.args.tables.now in
+    let selects = c.args.selects.now in
+    let i = c.loop-place.place in
+    let x = c.index-selects-place.result in
+    let part = holds_mapped (IsPart b c.args.kinds.now) select_tree selects i x c.requires.parts c.loop-place-test.true c.index-selects-place.is in
+    subst (λ (early : List Early). HasRowsOf b early (select_tree x)) (sym (c.deref-in-loop-place.ensures.value ∙ c.in_ok-early.ensures))
+    (has_rows c.args.plan.now.ways b c.args.kinds.now (map select_tree selects) c.requires.plan i (select_tree x) (map select_tree (drop (i + 1) selects)) (here selects i x c.loop-place-test.true c.index-selects-place.is) c.requires.lawful part)
+
 pub loop-place-preserved : goal.loop-place-preserved
 loop-place-preserved c =
-    let value = λ (s : Select). select_value (base_held c.args.p.now c.args.tables.now) c.args.kinds.now (select_tree s) in
-    added_more value c.args.selects.now c.loop-place.place c.index-selects-place.result c.loop-place-test.true c.index-selects-place.is c.args.out.now c.loop-place.out c.add_select.new.out c.loop-place.invariant c.in_ok-add_select.ensures.adds
+    let b = base_held c.args.p.now c.args.tables.now in
+    let kinds = c.args.kinds.now in
+    let w = c.args.plan.now.ways in
+    let selects = c.args.selects.now in
+    let q = map select_tree selects in
+    let i = c.loop-place.place in
+    let x = c.index-selects-place.result in
+    let s = select_tree x in
+    let rest = map select_tree (drop (i + 1) selects) in
+    let there = here selects i x c.loop-place-test.true c.index-selects-place.is in
+    let many = planned_many w b kinds 0 q in
+    let long = length-map selects select_tree in
+    let h : i < length (planned_selects b kinds w 0 q) = omega (arith, many, long, c.loop-place-test.true) in
+    let early : c.deref-in-loop-place.result.now ≡ early_in w i = c.deref-in-loop-place.ensures.value ∙ c.in_ok-early.ensures in
+    let same : phase_of b kinds s (planned_source_rows b s [] c.deref-in-loop-place.result.now) ≡ planned_at w b kinds i s = ap (λ (es : List Early). phase_of b kinds s (planned_source_rows b s [] es)) early ∙ phase_planned w b kinds q c.requires.plan i s rest there in
+    added_more (λ (m : Outcome (List Row)). m) (planned_selects b kinds w 0 q) i (planned_at w b kinds i s) h (planned_read w b kinds i q s rest there) c.args.out.now c.loop-place.out c.add_select.new.out c.loop-place.invariant
+    (subst (λ (m : Outcome (List Row)). Adds m c.loop-place.out c.add_select.new.out) same c.in_ok-add_select.ensures.adds)
 
 pub returns-clause-adds : goal.returns-clause-adds
 returns-clause-adds c =
-    let value = select_value (base_held c.args.p.now c.args.tables.now) c.args.kinds.now in
+    let b = base_held c.args.p.now c.args.tables.now in
+    let kinds = c.args.kinds.now in
+    let w = c.args.plan.now.ways in
     let selects = c.args.selects.now in
-    subst (λ ms. Adds (appended ms) c.args.out.now c.loop-place.out) (mapped_twice select_tree value selects)
-    (added_all (λ (s : Select). value (select_tree s)) selects c.loop-place.place c.args.out.now c.loop-place.out c.loop-place-test.false c.loop-place.invariant)
+    let q = map select_tree selects in
+    let all = planned_selects b kinds w 0 q in
+    let many = planned_many w b kinds 0 q in
+    let long = length-map selects select_tree in
+    let h : length all ≤ c.loop-place.place = omega (arith, many, long, c.loop-place-test.false) in
+    subst (λ (ms : List (Outcome (List Row))). Adds (appended ms) c.args.out.now c.loop-place.out) (map-id all) (added_all (λ (m : Outcome (List Row)). m) all c.loop-place.place c.args.out.now c.loop-place.out h c.loop-place.invariant)
