@@ -6,6 +6,7 @@ pub use Rattle.sql_meaning.specs.From
 pub use Rattle.sql_meaning.specs.Groups
 pub use Rattle.sql_meaning.specs.Orders
 pub use Rattle.sql_meaning.specs.Outcomes
+pub use Rattle.sql_meaning.specs.Plans
 pub use Rattle.sql_meaning.specs.Profiles
 pub use Rattle.sql_meaning.specs.Scripts
 pub use Rattle.sql_meaning.specs.Selects
@@ -14,6 +15,7 @@ pub use Rattle.sql_meaning.specs.Tables
 pub use Rattle.sql_meaning.specs.TypedSelects
 pub use Rattle.sql_meaning.specs.Values
 pub use Rattle.sql_meaning.specs.Windows
+pub use Rattle.sql_meaning.specs.declared.plan
 pub mod Placed
 pub mod View
 pub mod Resolves

@@ -27,4 +27,4 @@ pub use names::{Level, Names};
 pub use resolved::{Existence, Resolved, ResolvedBranch, Side, Tie};
 pub use resolving::resolve;
 pub use sql_check_parts::or_null;
-pub use sql_meaning::Plan;
+pub use sql_meaning::{Early, Plan};

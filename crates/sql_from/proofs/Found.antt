@@ -19,7 +19,7 @@ use Rattle.sql_eval.specs.Tables.{rows_of}
 use Rattle.sql_eval.specs.Profiles.{AreOfProfile, IsLawful, IsRowOfProfile}
 use Rattle.sql_from.specs.Held.{IsHeld, base_held, rows_held}
 use Rattle.sql_from.specs.Joins.{Test, numbers_to, passes, with_number}
-use Rattle.sql_from.specs.Keys.{ArePaired, all_paired, asked_columns, last_of, own_columns, row_in}
+use Rattle.sql_from.specs.Keys.{ArePaired, all_paired, asked_columns, last_of, own_columns}
 use Rattle.sql_from.specs.Lookups.{Finds, IsKeyed, found_by}
 use Rattle.sql_from.specs.Partners.{Answers, AreTiedBy}
 use Rattle.sql_from.specs.Rows.{combined}

@@ -18,6 +18,7 @@ pub mod Standing
 pub mod Tabled
 pub mod Equalities
 pub mod Conjunctions
+pub mod Conjuncts
 pub mod Found
 pub mod Spots
 pub mod Tied

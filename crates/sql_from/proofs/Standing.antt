@@ -1,9 +1,11 @@
 -- What one source more stands for.
-use Rattle.std.proofs.Common.{◌≡◌, ℕ, ◌+◌, ◌-◌, List, [], ◌∷◌, ◌++◌, map, length, Option, Some, None, Ok, Err, IfOk, IsSome, Result, refl, sym, ap, ◌∙◌, subst, length-append, arith}
+use Rattle.std.proofs.Common.{◌≡◌, ℕ, suc, ◌+◌, ◌-◌, ◌<◌, List, [], ◌∷◌, ◌++◌, map, take, get_or, length, Option, Some, None, Ok, Err, IfOk, IsSome, Result, refl, sym, ap, ◌∙◌, subst, length-append, arith}
 use Rattle.std.specs.List.{AllByRecursion, filter}
 use Rattle.std.specs.Prelude.{fold}
 use Rattle.std.specs.Option.{option_map}
-use Rattle.std.proofs.lemmas.List.{length-map, map-append}
+use Rattle.std.proofs.lemmas.Grind.{flat_map-append}
+use Rattle.std.proofs.lemmas.List.{length-map, map-append, take_more}
+use Rattle.vtl_cell.proofs.Sorts.{AllByRecursion-filter}
 use Rattle.vtl_cell.specs.Outcome.{DivZero, Fault, Range, Outcome, fault_in, faults_by, join, unless}
 use Rattle.vtl_cell.specs.Outcomes.{is_true}
 use Rattle.vtl_cell.specs.Row.{Row}
@@ -24,9 +26,11 @@ use Rattle.sql_eval.specs.Queries.{join_source, joined_scope}
 use Rattle.sql_eval.specs.Scopes.{Columns, or_nothing as columns_or_nothing, row_of, with_source}
 use Rattle.sql_eval.specs.TypedSelects.{AreJoinsTyped, IsSourceTyped}
 use Rattle.sql_eval.specs.Profiles.{IsLawful}
-use Rattle.sql_eval.specs.From.{Joined, first_of, joined, joined_rows, kept_of, pairs, with_join}
+use Rattle.sql_eval.specs.From.{Joined, first_of, joined_rows, kept_of, pairs, with_join}
+use Rattle.sql_eval.specs.Plans.{early_at, planned_joins, try_early}
 use Rattle.sql_eval.specs.Tables.{Base, column_entry, columns_named, rows_of}
-use Rattle.sql_eval.specs.Values.{at_rows, value}
+use Rattle.sql_eval.specs.Values.{View, at_rows, value}
+use Rattle.sql_eval.specs.plan.Early.{Early}
 use Rattle.sql_eval.proofs.SourceKinds.{source_added}
 use Rattle.sql_eval.proofs.UpToOrder.{join_none}
 use Rattle.sql_from.specs.Held.{base_held, columns_held, rows_held, tables_held}
@@ -174,7 +178,7 @@ first_stands p held source t s count typed is wide counted w tuples =
       fault = refl;
     })
 
--- ---- WHERE
+-- ---- WHERE, and a part of it that is tried early
 
 module _ (p : Settings) (s : Sourced) (t : Numbered) (seen : Option Fault) (f : Joined) (before : StandsFor f s t seen) where
   pub kept_stands : (e : Exp) (tuples : List (List ℕ)) (seen' : Option Fault) → tuples ≡ kept_tuples (condition_at p s e) t.tuples → seen' ≡ join seen (kept_fault (condition_at p s e) t.tuples)
@@ -186,6 +190,19 @@ module _ (p : Settings) (s : Sourced) (t : Numbered) (seen : Option Fault) (f : 
       ∙ (λ i. unless (join (before.fault i) (faults_through (λ r. fault_in (v r)) h t.tuples i)) (kept_means h v t.tuples i))
       ∙ (λ i. unless (join f.fault (faults_by (λ r. fault_in (value (at_rows (base_held p s.held) (before.scope i)) e r [])) (before.rows i))) (filter (λ r. is_true (value (at_rows (base_held p s.held) (before.scope i)) e r [])) (before.rows i)))
 
+  pub tried_stands : (e : Exp) (t' : Numbered) (seen' : Option Fault) → t'.width ≡ t.width → t'.tuples ≡ kept_tuples (condition_at p s e) t.tuples → seen' ≡ join seen (kept_fault (condition_at p s e) t.tuples) → StandsFor (try_early (sight_of p s) f e) s t' seen'
+  tried_stands e t' seen' w is fault =
+      let v : Row → Outcome Cell = λ r. value (sight_of p s) e r [] in
+      let h = combined (parts_of s.sources) in
+      record {
+        scope = before.scope;
+        width = w ∙ before.width;
+        whole = subst (AllByRecursion (λ x. length x ≡ length s.sources)) (sym is) (AllByRecursion-filter (λ x. length x ≡ length s.sources) (λ x. is_true (condition_at p s e x)) t.tuples before.whole);
+        wide = before.wide;
+        rows = ap (map h) is ∙ kept_means h v t.tuples ∙ ap (filter (λ r. is_true (v r))) before.rows;
+        fault = fault ∙ (λ i. join (before.fault i) (faults_through (λ r. fault_in (v r)) h t.tuples i)) ∙ ap (λ rows. join f.fault (faults_by (λ r. fault_in (v r)) rows)) before.rows;
+      }
+
   pub all_stand : unless seen (rows_for s t) ≡ kept_of (base_held p s.held) None f
   all_stand = (λ i. unless (before.fault i) (before.rows i)) ∙ ap (λ g. unless g f.rows) (sym (join_none f.fault))
 
@@ -196,25 +213,42 @@ scope_behind : (b : Base) (f : Joined) (j : JoinTree) → (with_join b f j).scop
 scope_behind b f (tree.on kind s e) = refl
 scope_behind b f (tree.cross s) = refl
 
-pub scope_joined : (b : Base) (f : Joined) (js : List JoinTree) → (fold (with_join b) f js).scope ≡ joined_scope b.tables f.scope js
-scope_joined b f [] = refl
-scope_joined b f (j ∷ js) = scope_joined b (with_join b f j) js ∙ ap (λ scope. joined_scope b.tables scope js) (scope_behind b f j)
+-- what is tried early keeps the sources
+scope_tried : (v : View) (f : Joined) (es : List Exp) → (fold (try_early v) f es).scope ≡ f.scope
+scope_tried v f [] = refl
+scope_tried v f (e ∷ es) = scope_tried v (try_early v f e) es
 
--- what has been joined, and the joins that are left
-pub record Left (b : Base) (s : SelectTree) (js : List JoinTree) (sources : Sourced) (t : Numbered) (seen : Option Fault) : Type 0 where
-  pub so_far : Joined
-  pub stands : StandsFor so_far sources t seen
-  pub typed : AreJoinsTyped b.settings b.tables so_far.scope js
-  pub all : fold (with_join b) so_far js ≡ joined b s
+module _ (b : Base) (s : SelectTree) (early : List Early) where
+  -- what has been tried before the n-th join, and what is joined to it
+  abbrev tried_at : ℕ → Joined → Joined
+  tried_at n f = fold (try_early (at_rows b f.scope)) f (early_at s early n)
 
-pub left_less : (b : Base) (s : SelectTree) (j : JoinTree) (js : List JoinTree) (sources sources' : Sourced) (t t' : Numbered) (seen seen' : Option Fault) (left : Left b s (j ∷ js) sources t seen)
-    → StandsFor (with_join b left.so_far j) sources' t' seen' → Left b s js sources' t' seen'
-left_less b s j js sources sources' t t' seen seen' left stands = record {
-  so_far = with_join b left.so_far j;
-  stands = stands;
-  typed = subst (λ scope. AreJoinsTyped b.settings b.tables scope js) (sym (scope_behind b left.so_far j)) left.typed.2;
-  all = left.all;
-}
+  scope_next : (n : ℕ) (f : Joined) (j : JoinTree) → (with_join b (tried_at n f) j).scope ≡ with_source b.tables f.scope (join_source j)
+  scope_next n f j = scope_behind b (tried_at n f) j ∙ ap (λ scope. with_source b.tables scope (join_source j)) (scope_tried (at_rows b f.scope) f (early_at s early n))
+
+  pub scope_joined : (n : ℕ) (f : Joined) (js : List JoinTree) → (planned_joins b s [] early n f js).scope ≡ joined_scope b.tables f.scope js
+  scope_joined n f [] = refl
+  scope_joined n f (j ∷ js) = scope_joined (suc n) (with_join b (tried_at n f) j) js ∙ ap (λ scope. joined_scope b.tables scope js) (scope_next n f j)
+
+  -- what has been joined, and the joins that are left from the n-th on
+  pub record Left (n : ℕ) (js : List JoinTree) (sources : Sourced) (t : Numbered) (seen : Option Fault) : Type 0 where
+    pub so_far : Joined
+    pub stands : StandsFor so_far sources t seen
+    pub typed : AreJoinsTyped b.settings b.tables so_far.scope js
+    pub all : planned_joins b s [] early n so_far js ≡ planned_joins b s [] early 0 (first_of b s.source) s.joins
+
+  pub left_less : (n : ℕ) (j : JoinTree) (js : List JoinTree) (sources sources' : Sourced) (t t' : Numbered) (seen seen' : Option Fault) (left : Left n (j ∷ js) sources t seen)
+      → StandsFor (with_join b (tried_at n left.so_far) j) sources' t' seen' → Left (suc n) js sources' t' seen'
+  left_less n j js sources sources' t t' seen seen' left stands = record {
+    so_far = with_join b (tried_at n left.so_far) j;
+    stands = stands;
+    typed = subst (λ scope. AreJoinsTyped b.settings b.tables scope js) (sym (scope_next n left.so_far j)) left.typed.2;
+    all = left.all;
+  }
+
+  -- one entry more
+  pub early_more : (i n : ℕ) (e : Early) → i < length early → e ≡ get_or early i e → early_at s (take (i + 1) early) n ≡ early_at s (take i early) n ++ early_at s (e ∷ []) n
+  early_more i n e h at = ap (λ es. early_at s es n) (take_more early i e h ∙ ap (λ x. take i early ++ x ∷ []) (sym at)) ∙ flat_map-append _ (take i early) (e ∷ [])
 
 -- ---- look-ups that are wanted
 pub allowed : {A : Type 0} (b : Base) (o : Option A) → IsSome o → MayLookUp b o → IsLawful b

@@ -3,15 +3,17 @@
 //! A row of FROM is kept as a tuple of row numbers, one for each source, and no cell of it is copied: `TupleRow` lends
 //! the cells to the evaluator (`sql_eval`), and `Sources` says where those of each column stand, worked out once for a
 //! select. How the rows are found that go together with a tuple is left to the trait `Pairing`: each row is tried, or, for
-//! joins that the caller lists, rows are looked up by the cells that ON equates. `Partners` holds look-ups for the EXISTS
-//! of a select, made once for all its rows, and `PartneredRow` asks them. The fault is that of every ON and of WHERE.
-//! It knows no groups, items or windows, no statement, no plan, and nothing of VTL.
+//! joins that the caller lists, rows are looked up by the cells that ON equates. Parts of WHERE that the caller lists are
+//! tried before a join too. `Partners` holds look-ups for the EXISTS of a select, made once for all its rows, and
+//! `PartneredRow` asks them. The fault is that of every ON, of these parts and of WHERE.
+//! It knows no groups, items or windows, no statement, nothing of how joins and parts are chosen, and nothing of VTL.
 //! Begin with specs/Rows.antt and specs/Sources.antt, then `sources.rt`, `tuple_row.rt` and `tuples.rt`; for look-ups with
 //! specs/Keys.antt, then `key_pairs.rt` and `key_lookup.rt`; for EXISTS with specs/Partners.antt, then `partners.rt`.
 #![tactic(auto)]
 
 mod columns;
 mod condition;
+mod early;
 mod existence;
 mod joining;
 mod key_lookup;

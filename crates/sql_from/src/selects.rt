@@ -1,6 +1,6 @@
 // FROM and WHERE of a select.
 ghost use Rattle.std.specs.Option.{option_map};
-ghost use Rattle.std.specs.Prelude.{◌≡◌, ◌+◌, ◌<◌, ◌^◌, ◌++◌, ◌∷◌, [], length, true, IfErr, IfOk, IfSome, IsSome};
+ghost use Rattle.std.specs.Prelude.{◌≡◌, ◌+◌, ◌<◌, ◌^◌, ◌++◌, ◌∷◌, [], fold, length, true, IfErr, IfOk, IfSome, IsSome};
 ghost use Rattle.vtl_cell.specs.Outcome.{join, unless};
 ghost use Rattle.vtl_cell.specs.Settings.{Settings};
 ghost use Rattle.vtl_scalar.specs.Answers.{Answers, AnswersBy};
@@ -8,7 +8,8 @@ ghost use Rattle.sql_tree.specs.View.{expr_tree, join_tree, select_tree};
 ghost use Rattle.sql_eval.specs.Queries.{join_source, scope_of};
 ghost use Rattle.sql_eval.specs.TypedSelects.{IsSelectTyped, IsSourceTyped};
 ghost use Rattle.sql_eval.specs.Profiles.{IsLawful};
-ghost use Rattle.sql_eval.specs.From.{Joined, first_of, joined, kept_of, source_rows, with_join};
+ghost use Rattle.sql_eval.specs.From.{Joined, first_of, kept_of, source_rows, with_join};
+ghost use Rattle.sql_eval.specs.Plans.{early_at, planned_joins, planned_source_rows, try_early};
 ghost use Rattle.sql_from.specs.Columns.{source_columns};
 ghost use Rattle.sql_from.specs.Held.{base_held, rows_held, tables_held};
 ghost use Rattle.sql_from.specs.Keys.{last_of};
@@ -17,14 +18,15 @@ ghost use Rattle.sql_from.specs.Joins.{crossed_tuples, joined_tuples, kept_fault
 ghost use Rattle.sql_from.specs.Rows.{combined};
 ghost use Rattle.sql_from.specs.Seen.{answer_of, seen_of};
 ghost use Rattle.sql_from.specs.Sources.{parts_of, scope_held};
-ghost use Rattle.sql_from.specs.Standing.{MayLookUp, StandsFor, condition_at, rows_for};
+ghost use Rattle.sql_from.specs.Standing.{MayLookUp, StandsFor, condition_at, rows_for, sight_of};
 
+use crate::early::due;
 use crate::joining::{cross_step, join_each, join_found, keep, singles};
 use crate::key_lookup::{KeyLookup, lookup_of};
 use crate::pairs::Walked;
 use crate::source_condition::SourceCondition;
 use crate::{Partners, Seen, Sources, TupleRows};
-use sql_eval::{Level, Resolved, resolve};
+use sql_eval::{Early, Level, Resolved, resolve};
 use sql_tree::{Join, JoinKind, Select, Source, SqlExpr};
 use std::alloc::{AllocError, Global};
 use vtl_cell::Profile;
@@ -293,6 +295,74 @@ impl<'a> Joining<'a> {
             }
         }
     }
+
+    // With the tuples at which a part of WHERE is true, and its fault beside the one so far.
+    fn with_part(
+        self,
+        alloc: Global,
+        part: &SqlExpr,
+        by_index: bool,
+        p: &Profile,
+    ) -> Result<Joining<'a>, ScalarErr>
+        requires whole { self.walked.rows.width ≡ length self.sources.sources }
+        requires lawful { by_index ≡ true → IsLawful (base_held p.now self.sources.held) }
+        ensures sources { IfOk result (λ j. j.sources ≡ self.entry.sources) }
+        ensures width { IfOk result (λ j. j.walked.rows.width ≡ self.entry.walked.rows.width) }
+        ensures stands { IfOk result (λ j. (f : Joined) → StandsFor f self.entry.sources self.entry.walked.rows (seen_of self.entry.walked.seen) → StandsFor (try_early (sight_of p.now self.entry.sources) f (expr_tree part.now)) self.entry.sources j.walked.rows (seen_of j.walked.seen)) }
+        ensures err { IfErr result (λ e. e ≡ ScalarErr.OutOfMemory) }
+    {
+        let Joining { sources, walked } = self;
+        let walked = kept(alloc, part, by_index, &sources, &walked, p)?;
+        Ok(Joining { sources, walked })
+    }
+
+    // The same for what an entry has tried before the join at a place.
+    fn with_entry(
+        self,
+        alloc: Global,
+        select: &Select,
+        entry: Early,
+        place: usize,
+        by_index: bool,
+        p: &Profile,
+    ) -> Result<Joining<'a>, ScalarErr>
+        requires whole { self.walked.rows.width ≡ length self.sources.sources }
+        requires lawful { by_index ≡ true → IsLawful (base_held p.now self.sources.held) }
+        ensures sources { IfOk result (λ j. j.sources ≡ self.entry.sources) }
+        ensures width { IfOk result (λ j. j.walked.rows.width ≡ self.entry.walked.rows.width) }
+        ensures stands { IfOk result (λ j. (f : Joined) → StandsFor f self.entry.sources self.entry.walked.rows (seen_of self.entry.walked.seen) → StandsFor (fold (try_early (sight_of p.now self.entry.sources)) f (early_at (select_tree select.now) (entry ∷ []) place)) self.entry.sources j.walked.rows (seen_of j.walked.seen)) }
+        ensures err { IfErr result (λ e. e ≡ ScalarErr.OutOfMemory) }
+    {
+        match due(select, entry, place) {
+            Some(part) => self.with_part(alloc, part, by_index, p),
+            None => Ok(self),
+        }
+    }
+
+    // The same for all that is tried early before the join at a place.
+    fn with_early(
+        self,
+        alloc: Global,
+        select: &Select,
+        early: &[Early],
+        place: usize,
+        by_index: bool,
+        p: &Profile,
+    ) -> Result<Joining<'a>, ScalarErr>
+        requires whole { self.walked.rows.width ≡ length self.sources.sources }
+        requires lawful { by_index ≡ true → IsLawful (base_held p.now self.sources.held) }
+        ensures sources { IfOk result (λ j. j.sources ≡ self.entry.sources) }
+        ensures width { IfOk result (λ j. j.walked.rows.width ≡ self.entry.walked.rows.width) }
+        ensures stands { IfOk result (λ j. (f : Joined) → StandsFor f self.entry.sources self.entry.walked.rows (seen_of self.entry.walked.seen) → StandsFor (fold (try_early (sight_of p.now self.entry.sources)) f (early_at (select_tree select.now) early.now place)) self.entry.sources j.walked.rows (seen_of j.walked.seen)) }
+        ensures err { IfErr result (λ e. e ≡ ScalarErr.OutOfMemory) }
+    {
+        let mut so_far = self;
+        for entry in early {
+            so_far = so_far.with_entry(alloc, select, *entry, place, by_index, p)?;
+        }
+        Ok(so_far)
+    }
+
     // The tuples that WHERE keeps, or the fault of every ON and of WHERE.
     fn finish(
         self,
@@ -325,25 +395,28 @@ fn is_listed(by_index: Option<&[usize]>, place: usize) -> bool
     }
 }
 
-// The sources of a select and the tuples of FROM, with the fault of every ON. Of the joins that are listed rows are looked
-// up.
+// The sources of a select and the tuples of FROM, with the fault of every ON and of what is tried early. Of the joins that
+// are listed rows are looked up.
 fn joined<'a>(
     alloc: Global,
     select: &Select,
     tables: &'a Tables,
     by_index: Option<&[usize]>,
+    early: &[Early],
     p: &Profile,
 ) -> Result<Joining<'a>, ScalarErr>
     requires typed { IsSelectTyped p.now (tables_held tables.now) (select_tree select.now) }
     requires lawful { MayLookUp (base_held p.now tables.now) by_index }
     ensures held { IfOk result (λ j. j.sources.held ≡ tables.now) }
-    ensures stands { IfOk result (λ j. StandsFor (joined (base_held p.now tables.now) (select_tree select.now)) j.sources j.walked.rows (seen_of j.walked.seen)) }
+    ensures stands { IfOk result (λ j. StandsFor (planned_joins (base_held p.now tables.now) (select_tree select.now) [] early.now 0 (first_of (base_held p.now tables.now) (select_tree select.now).source) (select_tree select.now).joins) j.sources j.walked.rows (seen_of j.walked.seen)) }
     ensures err { IfErr result (λ e. e ≡ ScalarErr.OutOfMemory) }
 {
     let joins = select.joins.as_slice();
+    let by_any = by_index.is_some();
     let mut so_far = first_source(alloc, &select.from, tables)?;
     for place in 0..joins.len() {
-        so_far = so_far.with_join(alloc, &joins[place], is_listed(by_index, place), p)?;
+        let tried = so_far.with_early(alloc, select, early, place, by_any, p)?;
+        so_far = tried.with_join(alloc, &joins[place], is_listed(by_index, place), p)?;
     }
     Ok(so_far)
 }
@@ -357,20 +430,24 @@ fn joined<'a>(
 /// source and one of one other source go by a look-up, in time for the rows of both and the pairs that are found, and so
 /// does an EXISTS of WHERE whose equalities each tie a column of its table and one of a source, the same for all. Every
 /// other join tries each pair, and every other EXISTS walks over its table; so do all of them where no list is given.
+///
+/// Each part of WHERE that is listed to be tried early is tried before its join too, one after the other: the join sees
+/// the rows at which it is true, and its fault is told beside the others. WHERE is tried whole at the end.
 pub fn source_tuples<'a>(
     alloc: Global,
     select: &Select,
     tables: &'a Tables,
     by_index: Option<&[usize]>,
+    early: &[Early],
     p: &Profile,
 ) -> Result<TupleRows<'a>, ExecErr>
     requires typed { IsSelectTyped p.now (tables_held tables.now) (select_tree select.now) }
     requires lawful { MayLookUp (base_held p.now tables.now) by_index }
     ensures held { IfOk result (λ r. r.sources.held ≡ tables.now) }
     ensures scope { IfOk result (λ r. scope_held r.sources.sources ≡ scope_of (tables_held tables.now) (select_tree select.now)) }
-    ensures rows { AnswersBy (λ r. rows_for r.sources r.tuples) result (source_rows (base_held p.now tables.now) (select_tree select.now)) }
+    ensures rows { AnswersBy (λ r. rows_for r.sources r.tuples) result (planned_source_rows (base_held p.now tables.now) (select_tree select.now) [] early.now) }
 {
-    joined(alloc, select, tables, by_index, p)?.finish(
+    joined(alloc, select, tables, by_index, early, p)?.finish(
         alloc,
         &select.condition,
         by_index.is_some(),
@@ -391,5 +468,5 @@ pub fn source_rows(
     ensures columns { IfOk result (λ t. t.columns ≡ source_columns (scope_of (tables_held tables.now) (select_tree select.now))) }
     ensures rows { AnswersBy (λ t. t.rows) result (source_rows (base_held p.now tables.now) (select_tree select.now)) }
 {
-    Ok(source_tuples(alloc, select, tables, None, p)?.table(alloc)?)
+    Ok(source_tuples(alloc, select, tables, None, &[], p)?.table(alloc)?)
 }

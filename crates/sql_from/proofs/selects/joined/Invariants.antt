@@ -8,5 +8,5 @@ use Rattle.sql_from.proofs.selects.joined.Given as goal
 abbrev pub invariant-loop-place : goal.invariant-loop-place
 invariant-loop-place l = record {
   held : l.so_far.sources.held ≡ l.tables;
-  left : Left (base_held l.p l.tables) (select_tree l.select) (map join_tree (drop l.place l.select.joins)) l.so_far.sources l.so_far.walked.rows (seen_of l.so_far.walked.seen);
+  left : Left (base_held l.p l.tables) (select_tree l.select) l.early l.place (map join_tree (drop l.place l.select.joins)) l.so_far.sources l.so_far.walked.rows (seen_of l.so_far.walked.seen);
 }

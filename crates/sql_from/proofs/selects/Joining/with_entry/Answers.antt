@@ -1,0 +1,22 @@
+use Rattle.std.proofs.Common.{List, sym, subst}
+use Rattle.std.specs.Prelude.{fold}
+use Rattle.sql_tree.specs.Trees.{Exp}
+use Rattle.sql_eval.specs.Plans.{try_early}
+use Rattle.sql_from.specs.Seen.{seen_of}
+use Rattle.sql_from.specs.Standing.{StandsFor, sight_of}
+use Rattle.sql_from.proofs.Standing.{if_ok}
+use Rattle.sql_from.proofs.selects.Joining.with_entry.Goals as goal
+
+pub returns-in-Some-clause-stands : goal.returns-in-Some-clause-stands
+returns-in-Some-clause-stands c =
+    let old = c.args.self in
+    let v = sight_of c.args.p.now old.sources in
+    if_ok c.with_part.result _ _
+    (λ j stands f before. subst (λ (es : List Exp). StandsFor (fold (try_early v) f es) old.sources j.walked.rows (seen_of j.walked.seen)) (sym c.in-Some.ensures) (stands f before))
+    c.with_part.ensures.stands
+
+pub returns-in-None-clause-stands : goal.returns-in-None-clause-stands
+returns-in-None-clause-stands c f before =
+    let old = c.args.self in
+    let v = sight_of c.args.p.now old.sources in
+    subst (λ (es : List Exp). StandsFor (fold (try_early v) f es) old.sources old.walked.rows (seen_of old.walked.seen)) (sym c.in-None.ensures) before
