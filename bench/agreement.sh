@@ -1,7 +1,7 @@
 #!/bin/sh
 # Times scripts by `sqlrun` beside `run`: the same script over the same files, by its text in SQL and interpreted. Prints the
 # processor seconds of both, the least of three runs in turn, and how many times as long `sqlrun` takes, which is meant to be
-# at most 1.5; and tells where the two have not written the same. Nothing is asserted. The program is the one that ../vtl
+# at most 1.3; and tells where the two have not written the same. Nothing is asserted. The program is the one that ../vtl
 # builds; another may be given as the only word.
 top=$(dirname -- "$(readlink -f -- "$0")")/..
 . "$top/bench/program.sh"

@@ -1,7 +1,8 @@
 // Items of a select that is not grouped, with places in place of names.
-ghost use Rattle.std.specs.Prelude.{◌≡◌, ◌++◌, ◌∷◌, [], map, length, zip, IfErr, IfOk, None};
+ghost use Rattle.std.specs.Prelude.{◌≡◌, ◌++◌, ◌∷◌, [], ℕ, map, length, zip, IfErr, IfOk, IfSome, None, Ok};
 ghost use Rattle.std.specs.List.{AllByRecursion};
 ghost use Rattle.vtl_cell.specs.Outcome.{fault_in, join};
+ghost use Rattle.vtl_cell.specs.Settings.{Settings};
 ghost use Rattle.vtl_scalar.specs.Answers.{AnswersBy};
 ghost use Rattle.vtl_scalar.specs.Given.{given_cell};
 ghost use Rattle.sql_tree.specs.View.{item_tree, value_tree};
@@ -18,7 +19,7 @@ use sql_eval::{Cells, Level, Resolved, resolve, value_at};
 use sql_tree::{Item, ItemValue};
 use sql_window::{Seen, TupleRows, window_values};
 use std::alloc::{AllocError, Global};
-use vtl_cell::{Cell, Kind, Profile};
+use vtl_cell::{Cell, Kind, Profile, clone_cell};
 use vtl_decimal::Fault;
 use vtl_scalar::{Given, ScalarErr, given_of_kind};
 
@@ -130,7 +131,21 @@ pub(crate) fn row_items(
     Ok(row_items)
 }
 
-// Puts the value of an item behind others, or null where it has a fault.
+// The value of an item that is a column, where its cell is of the item's kind as it stands.
+fn lent_column<'v, R: Cells>(item: &RowItem, at: &'v R) -> Option<&'v Cell>
+    ensures { IfSome result (λ cell. (p : Settings) (number : ℕ) → made_at_row p (R.tables at.now) item.now (R.cells at.now, number) ≡ Ok cell.now) }
+{
+    let ItemValues::Expression(Resolved::Column(place)) = &item.values else {
+        return None;
+    };
+    match (item.kind, at.cell(*place)) {
+        (Kind::Num, Cell::Int(_)) => None,
+        (_, cell) => Some(cell),
+    }
+}
+
+// Puts the value of an item behind others, or null where it has a fault. Most items are columns, whose cells are copied
+// at once.
 fn push_item<R: Cells>(
     alloc: Global,
     cells: &mut Vec<Cell>,
@@ -145,6 +160,10 @@ fn push_item<R: Cells>(
     ensures seen { IfOk result (λ s. seen_of s ≡ join (seen_of seen) (fault_in (made_at_row p.now (R.tables at.now) item.now (R.cells at.now, number)))) }
     ensures err { IfErr result (λ e. e ≡ ScalarErr.OutOfMemory) }
 {
+    if let Some(cell) = lent_column(item, at) {
+        cells.push(clone_cell(cell)?)?;
+        return Ok(seen);
+    }
     match given_of_kind(item.values.at(alloc, at, number, p), item.kind, p) {
         Ok(value) => {
             cells.push(value.into_cell()?)?;

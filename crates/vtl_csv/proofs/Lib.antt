@@ -8,6 +8,7 @@ pub mod InputFieldLemmas
 pub mod InputLayoutLemmas
 pub mod InputPointLemmas
 pub mod KeyOrderLemmas
+pub mod PlainIntegerLemmas
 pub mod PlainLemmas
 pub mod PointLemmas
 pub mod ReadAgainLemmas

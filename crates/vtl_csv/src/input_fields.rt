@@ -8,6 +8,7 @@ ghost use Rattle.std.specs.List.{zip};
 
 use crate::file_column::FileColumn;
 use crate::input::{Flaw, InputKind};
+use crate::plain_integers::plain_integer;
 use crate::reading::field;
 use crate::text_pool::TextPool;
 use csv::ByteRecord;
@@ -31,6 +32,10 @@ fn value(
 {
     match kind {
         Kind::Text => Ok(Some(Cell::Text(pool.text(alloc, text)?))),
+        Kind::Int => match plain_integer(text, profile) {
+            Some(n) => Ok(Some(Cell::Int(n))),
+            None => read_cell(alloc, kind, text, profile),
+        },
         _ => read_cell(alloc, kind, text, profile),
     }
 }

@@ -16,6 +16,7 @@ mod input;
 mod input_fields;
 mod input_laws;
 mod laws;
+mod plain_integers;
 mod reading;
 mod record_text;
 mod records;

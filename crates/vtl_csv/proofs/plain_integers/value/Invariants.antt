@@ -1,0 +1,13 @@
+-- What the digits up to the index are, and the number that they write.
+use Rattle.std.proofs.Common.{◌≡◌, ◌^◌, ◌<◌, true, take}
+use Rattle.std.specs.Char.{is_ascii_digit}
+use Rattle.std.specs.List.{list_all}
+use Rattle.std.specs.Str.Parse.{digits_value}
+use Rattle.vtl_csv.proofs.plain_integers.value.Given as goal
+
+abbrev pub invariant-loop-digit : goal.invariant-loop-digit
+invariant-loop-digit l = record {
+  digits : list_all is_ascii_digit (take l.digit-index l.digits) ≡ true;
+  value : l.value ≡ digits_value 10 (take l.digit-index l.digits);
+  small : l.value < 10 ^ l.digit-index;
+}
