@@ -1,12 +1,11 @@
 -- What is asked where a text is run, and what a run of it gives.
-use Rattle.std.specs.Prelude.{◌≡◌, ℕ, List, [], ◌∷◌, map, Result, Ok, Err}
+use Rattle.std.specs.Prelude.{◌≡◌, ℕ, List, Result, Ok, Err}
 use Rattle.vtl_cell.specs.Outcome.{DivZero, Range}
-use Rattle.vtl_cell.specs.Perm.{Perm}
 use Rattle.vtl_rows.specs.Named.{NamedTables}
 use Rattle.sql_tree.specs.Texts.{IsScript}
 use Rattle.sql_tree.specs.Trees.{ScriptTree}
-use Rattle.sql_engine.specs.Exported.{entry_column}
 use Rattle.sql_engine.specs.InputTables.{AreInputsInRange, HaveInputTables, rows_given}
+pub use Rattle.sql_engine.specs.Runs.{ShowsAs, ShowsMeaning}
 use Rattle.sql_engine.specs.Scripts.{Export, NamedFault, script_value}
 use Rattle.sql_engine.specs.TypingStatements.{IsTypedScript, script_settings}
 use Rattle.vtl_to_sql.specs.error.RunErr.{RunErr}
@@ -20,18 +19,6 @@ pub record CanRun (text : List ℕ) (inputs : NamedTables) : Type 0 where
   pub typed : IsTypedScript script
   pub there : HaveInputTables inputs script
   pub in_range : AreInputsInRange (script_settings script) inputs script
-
--- a table for each export, in order, of its name, its columns, and its rows in any order
-abbrev pub ShowsAs : List Export → NamedTables → Type 0
-ShowsAs [] [] = Unit {0}
-ShowsAs [] (t ∷ ts) = ⊥
-ShowsAs (e ∷ es) [] = ⊥
-ShowsAs (e ∷ es) (t ∷ ts) = (t.0 ≡ e.name) × (t.1.columns ≡ map entry_column e.columns) × Perm t.1.rows e.rows × ShowsAs es ts
-
--- the tables are those of the exports, and there is no fault
-abbrev pub ShowsMeaning : Result (List Export) NamedFault → NamedTables → Type 0
-ShowsMeaning (Ok exports) tables = ShowsAs exports tables
-ShowsMeaning (Err fault) tables = ⊥
 
 -- The answer tells the meaning: the tables are the exports, or the fault is the one that it says, with its name. Where there is a fault
 -- or want of memory the tables are as before.

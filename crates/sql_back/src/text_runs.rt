@@ -5,11 +5,11 @@ ghost use Rattle.sql_tree.specs.Texts.{IsScript};
 ghost use Rattle.sql_tree.specs.Trees.{ScriptTree};
 ghost use Rattle.sql_tree.specs.View.{script_tree};
 ghost use Rattle.sql_engine.specs.InputTables.{AreInputsInRange, HaveInputTables};
-ghost use Rattle.sql_engine.specs.Runs.{Runs};
+ghost use Rattle.sql_engine.specs.Runs.{RunsAsMade};
 ghost use Rattle.sql_back.specs.Engines.{same_error};
 ghost use Rattle.sql_back.specs.TextRuns.{CanRun, RunsText};
 
-use sql_engine::{RunErr as EngineErr, SqlChecked, run};
+use sql_engine::{RunErr as EngineErr, SqlChecked, run_as_made};
 use sql_parser::{SqlErr, parse};
 use sql_tree::SqlScript;
 use std::alloc::{AllocError, Global};
@@ -43,7 +43,7 @@ fn told(error: EngineErr) -> RunErr
     }
 }
 
-// The run of a script, whose steps nobody counts.
+// The run of a script, whose steps nobody counts. Its rows are not sorted: whoever writes them does it.
 fn run_uncounted<L: Ledger>(
     alloc: Global,
     checked: &SqlChecked,
@@ -56,10 +56,10 @@ fn run_uncounted<L: Ledger>(
     requires some { 0 < L.parts }
     requires there { HaveInputTables inputs.now (script_tree checked.now.script) }
     requires in_range { AreInputsInRange checked.now.settings inputs.now (script_tree checked.now.script) }
-    ensures { Runs (script_tree checked.now.script) inputs.now out.old out.new result }
+    ensures { RunsAsMade (script_tree checked.now.script) inputs.now out.old out.new result }
 {
     let mut steps: Steps<L> = Steps::new(blank);
-    run(alloc, checked, inputs, out, &mut steps)
+    run_as_made(alloc, checked, inputs, out, &mut steps)
 }
 
 /// Runs the script that a text spells. Its rules need no test: a text that can be run breaks none.

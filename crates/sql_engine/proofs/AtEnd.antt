@@ -4,9 +4,10 @@ use Rattle.std.specs.Prelude.{fold, is_some, option_map, unwrap_or}
 use Rattle.std.specs.List.{AllByRecursion}
 use Rattle.std.specs.Map.{lookup}
 use Rattle.std.proofs.lemmas.List.{append-nil, map-append}
-use Rattle.vtl_lists.proofs.Sorts.{sorted_by-Perm}
+use Rattle.vtl_lists.proofs.Perms.{Perm-sym}
+use Rattle.vtl_lists.proofs.Sorts.{Perm-sorted_by, sorted_by-Perm}
 use Rattle.vtl_cell.specs.Outcome.{Outcome}
-use Rattle.vtl_cell.specs.Perm.{Perm}
+use Rattle.vtl_cell.specs.Perm.{Perm, chain}
 use Rattle.vtl_cell.specs.Results.{◌>>=◌}
 use Rattle.vtl_cell.specs.Row.{Row}
 use Rattle.vtl_cell.specs.Settings.{Settings}
@@ -30,9 +31,11 @@ use Rattle.sql_exec.specs.Held.{tables_held}
 use Rattle.sql_engine.specs.Exported.{AreExported, entry_column, exported_of, exports_in, no_listed, ordered_by, shown}
 use Rattle.sql_engine.specs.Held.{HaveMade}
 use Rattle.sql_engine.specs.InputTables.{rows_given}
-use Rattle.sql_engine.specs.Runs.{FaultIs, ShowsExports}
+use Rattle.sql_engine.specs.Runs.{FaultIs, Shows, ShowsAs, ShowsExports, ShowsMeaning}
 use Rattle.sql_engine.specs.declared.error.RunErr.{RunErr}
 use Rattle.sql_engine.specs.declared.error.RunErr.TheVariants as run
+use Rattle.sql_engine.specs.declared.orders.RowOrder.{RowOrder}
+use Rattle.sql_engine.specs.declared.orders.RowOrder.TheVariants as by
 use Rattle.sql_engine.proofs.Standing.{both_there, columns_named, named_behind}
 use Rattle.sql_engine.proofs.TableLookups.{columns_in, columns_looked, or_else}
 
@@ -153,8 +156,12 @@ entries_back : (columns : List Column) → map entry_column (map column_entry co
 entries_back [] = refl
 entries_back (x ∷ columns) = ap (λ l. x ∷ l) (entries_back columns)
 
+-- the table of one export, with its rows in any order
+abbrev ShowsOne : Export → Text × Listed → Type 0
+ShowsOne e t = (t.0 ≡ e.name) × (t.1.columns ≡ map entry_column e.columns) × Perm t.1.rows e.rows
+
 module _ (tables : Data) (held : NamedTables) (same : tables_in tables ≡ tables_held held) where
-  one_shown : (s : SqlExport) → IsSome (columns_of (tables_held held) s.name) → Perm (table_named tables s.name).rows (rows_of (table_of s.name held)) → exported_of held s ≡ shown (export_of s (table_named tables s.name))
+  one_shown : (s : SqlExport) → IsSome (columns_of (tables_held held) s.name) → Perm (table_named tables s.name).rows (rows_of (table_of s.name held)) → exported_of by.Sorted held s ≡ shown (export_of s (table_named tables s.name))
   one_shown s some q = go (lookup (same_text s.name) tables) (table_of s.name held) (both_there tables held same s.name) (subst IsSome (columns_looked s.name held) some) q
     where
       go : (a : Option Table) (b : Option Listed) → option_map (λ t. t.columns) a ≡ option_map columns_in b → IsSome (option_map columns_in b) → Perm (unwrap_or a no_table).rows (rows_of b)
@@ -171,9 +178,28 @@ module _ (tables : Data) (held : NamedTables) (same : tables_in tables ≡ table
       go None None e some q = cc
 
   pub all_shown : (ss : List SqlExport) (exported : List Text) → AreExported (tables_held held) exported ss → AllByRecursion (λ s. Perm (table_named tables s.name).rows (rows_of (table_of s.name held))) ss
-      → map (exported_of held) ss ≡ map shown (map (λ s. export_of s (table_named tables s.name)) ss)
+      → map (exported_of by.Sorted held) ss ≡ map shown (map (λ s. export_of s (table_named tables s.name)) ss)
   all_shown [] exported h q = refl
   all_shown (s ∷ ss) exported h q = λ i. one_shown s h.0 q.0 i ∷ all_shown ss (exported ++ s.name ∷ []) h.3 q.1 i
+
+  -- with rows as they were made
+
+  one_as_made : (s : SqlExport) → IsSome (columns_of (tables_held held) s.name) → Perm (table_named tables s.name).rows (rows_of (table_of s.name held)) → ShowsOne (export_of s (table_named tables s.name)) (exported_of by.AsMade held s)
+  one_as_made s some q = go (lookup (same_text s.name) tables) (table_of s.name held) (both_there tables held same s.name) (subst IsSome (columns_looked s.name held) some) q
+    where
+      go : (a : Option Table) (b : Option Listed) → option_map (λ t. t.columns) a ≡ option_map columns_in b → IsSome (option_map columns_in b) → Perm (unwrap_or a no_table).rows (rows_of b) → ShowsOne (export_of s (unwrap_or a no_table)) (s.name, unwrap_or b no_listed)
+      go (Some t) (Some u) e some q =
+          let columns : t.columns ≡ columns_in u = cc in
+          let back : u.columns ≡ map entry_column t.columns = sym (entries_back u.columns) ∙ ap (map entry_column) (sym columns) in
+          (refl, back, Perm-sym (chain (Perm-sorted_by (window_order (map (sort_key t.columns) s.order) []) t.rows) q))
+      go (Some t) None e some q = cc
+      go None (Some u) e some q = cc
+      go None None e some q = cc
+
+  pub all_as_made : (ss : List SqlExport) (exported : List Text) → AreExported (tables_held held) exported ss → AllByRecursion (λ s. Perm (table_named tables s.name).rows (rows_of (table_of s.name held))) ss
+      → ShowsAs (map (λ s. export_of s (table_named tables s.name)) ss) (map (exported_of by.AsMade held) ss)
+  all_as_made [] exported h q = tt
+  all_as_made (s ∷ ss) exported h q = let one = one_as_made s h.0 q.0 in (one.0, one.1, one.2, all_as_made ss (exported ++ s.name ∷ []) h.3 q.1)
 
 -- ---- a script
 
@@ -184,10 +210,14 @@ module _ (p : Settings) (inputs : NamedTables) (ss : List StatementTree) (typed 
   pub are_exported : (held : NamedTables) → HaveMade p inputs ss held → AreExported (tables_held held) [] (exports_in ss)
   are_exported held h = subst (λ (l : Tables). AreExported l [] (exports_in ss)) h.given (exports_typed p ss nothing typed)
 
-  pub exports_shown : (held : NamedTables) → HaveMade p inputs ss held → ShowsExports (exports_of p inputs ss) (map (exported_of held) (exports_in ss))
-  exports_shown held h =
-      subst (λ (r : Result Made NamedFault). ShowsExports (r >>= (λ m. Ok m.exports)) (map (exported_of held) (exports_in ss))) (sym h.made_is)
+  pub exports_shown : (how : RowOrder) (held : NamedTables) → HaveMade p inputs ss held → Shows how (exports_of p inputs ss) (map (exported_of how held) (exports_in ss))
+  exports_shown by.Sorted held h =
+      subst (λ (r : Result Made NamedFault). ShowsExports (r >>= (λ m. Ok m.exports)) (map (exported_of by.Sorted held) (exports_in ss))) (sym h.made_is)
       (all_shown h.made.tables held h.same (exports_in ss) [] (are_exported held h) h.rows ∙ ap (map shown) (sym (exports_are p (rows_given inputs) ss nothing nothing_made h.made typed refl h.made_is)))
+  exports_shown by.AsMade held h =
+      subst (λ (r : Result Made NamedFault). ShowsMeaning (r >>= (λ m. Ok m.exports)) (map (exported_of by.AsMade held) (exports_in ss))) (sym h.made_is)
+      (subst (λ (es : List Export). ShowsAs es (map (exported_of by.AsMade held) (exports_in ss))) (sym (exports_are p (rows_given inputs) ss nothing nothing_made h.made typed refl h.made_is))
+      (all_as_made h.made.tables held h.same (exports_in ss) [] (are_exported held h) h.rows))
 
   pub fault_told : (e : RunErr) → FaultIs (statements_made p (rows_given inputs) nothing_made ss) e → FaultIs (exports_of p inputs ss) e
   fault_told (run.DivZero name) h = ap (λ (r : Result Made NamedFault). r >>= (λ m. Ok m.exports)) h

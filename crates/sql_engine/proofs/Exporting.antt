@@ -15,7 +15,8 @@ use Rattle.sql_tree.specs.declared.statements.Statement.{Statement}
 use Rattle.sql_exec.specs.Scopes.{columns_of, is_among}
 use Rattle.sql_exec.specs.Statements.{AreNames, IsOrder}
 use Rattle.sql_exec.specs.Held.{tables_held}
-use Rattle.sql_engine.specs.Exported.{AreExported, exported_of, exports_in, no_listed, ordered_by}
+use Rattle.sql_engine.specs.Exported.{AreExported, exported_of, exports_in, no_listed, placed_by}
+use Rattle.sql_engine.specs.declared.orders.RowOrder.{RowOrder}
 use Rattle.sql_engine.proofs.TableLookups.{columns_in, columns_looked, free_name, or_else, or_else_again, table_behind}
 
 -- ---- tables by name
@@ -40,16 +41,16 @@ pub one_left : (ss : List Statement) (i : ℕ) (x : Statement) → i < length ss
 one_left ss i x h e = ap (map statement_tree) (drop_more ss i x h ∙ ap (λ (y : Statement). y ∷ drop (i + 1) ss) (sym e))
 
 -- the exports so far are there, and the tables of the others are still to be taken
-pub record Exporting (tables : NamedTables) (all rest : List SqlExport) (owned out : NamedTables) : Type 0 where
+pub record Exporting (how : RowOrder) (tables : NamedTables) (all rest : List SqlExport) (owned out : NamedTables) : Type 0 where
   pub fits : AreExported (tables_held tables) (keys_of out) rest
   pub kept : (name : Text) → is_among name (keys_of out) ≡ false → lookup (same_text name) owned ≡ table_of name tables
-  pub whole : out ++ map (exported_of tables) rest ≡ map (exported_of tables) all
+  pub whole : out ++ map (exported_of how tables) rest ≡ map (exported_of how tables) all
 
 some_table : (name : Text) (tables : NamedTables) (o : Option Listed) → table_of name tables ≡ o → IsSome (columns_of (tables_held tables) name) → IsSome o
 some_table name tables None e h = let q : IsSome (option_map columns_in None) = subst IsSome (columns_looked name tables ∙ ap (option_map columns_in) e) h in cc
 some_table name tables (Some t) e h = refl
 
-module _ (tables : NamedTables) (all rest : List SqlExport) (s : SqlExport) (owned out : NamedTables) (x : Exporting tables all (s ∷ rest) owned out) where
+module _ (how : RowOrder) (tables : NamedTables) (all rest : List SqlExport) (s : SqlExport) (owned out : NamedTables) (x : Exporting how tables all (s ∷ rest) owned out) where
   pub owned_here : lookup (same_text s.name) owned ≡ table_of s.name tables
   owned_here = x.kept s.name x.fits.1
 
@@ -63,15 +64,15 @@ module _ (tables : NamedTables) (all rest : List SqlExport) (s : SqlExport) (own
     pub in_order : AreNames (columns_in t) s.order
     in_order = subst (λ o. IsOrder o s.order) (columns_looked s.name tables ∙ ap (option_map columns_in) (sym owned_here ∙ taken)) x.fits.2
 
-    pub exported_more : (left : NamedTables) → ((name : Text) → same_text s.name name ≡ false → lookup (same_text name) left ≡ lookup (same_text name) owned) → Exporting tables all rest left (out ++ (s.name, ordered_by s.order t) ∷ [])
+    pub exported_more : (left : NamedTables) → ((name : Text) → same_text s.name name ≡ false → lookup (same_text name) left ≡ lookup (same_text name) owned) → Exporting how tables all rest left (out ++ (s.name, placed_by how s.order t) ∷ [])
     exported_more left others =
-        let keys : keys_of (out ++ (s.name, ordered_by s.order t) ∷ []) ≡ keys_of out ++ s.name ∷ [] = map-append (λ (e : Text × Listed). e.0) out ((s.name, ordered_by s.order t) ∷ []) in
-        let here : exported_of tables s ≡ (s.name, ordered_by s.order t) = ap (λ (o : Option Listed). (s.name, ordered_by s.order (unwrap_or o no_listed))) (sym owned_here ∙ taken) in
+        let keys : keys_of (out ++ (s.name, placed_by how s.order t) ∷ []) ≡ keys_of out ++ s.name ∷ [] = map-append (λ (e : Text × Listed). e.0) out ((s.name, placed_by how s.order t) ∷ []) in
+        let here : exported_of how tables s ≡ (s.name, placed_by how s.order t) = ap (λ (o : Option Listed). (s.name, placed_by how s.order (unwrap_or o no_listed))) (sym owned_here ∙ taken) in
         record {
           fits = subst (λ names. AreExported (tables_held tables) names rest) (sym keys) x.fits.3;
           kept = λ name h. let parts = none_of_both (keys_of out) (s.name ∷ []) name (ap (is_among name) (sym keys) ∙ h) in
               others name (nat_list_eq_equiv.symm s.name name ∙ or_false (same_text name s.name) parts.1) ∙ x.kept name parts.0;
-          whole = append_assoc out ((s.name, ordered_by s.order t) ∷ []) (map (exported_of tables) rest) ∙ ap (λ e. out ++ (e ∷ map (exported_of tables) rest)) (sym here) ∙ x.whole;
+          whole = append_assoc out ((s.name, placed_by how s.order t) ∷ []) (map (exported_of how tables) rest) ∙ ap (λ e. out ++ (e ∷ map (exported_of how tables) rest)) (sym here) ∙ x.whole;
         }
       where
         or_false : (b : Bool) → (b || false) ≡ false → b ≡ false

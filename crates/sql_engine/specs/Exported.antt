@@ -11,6 +11,8 @@ use Rattle.sql_exec.specs.Scopes.{Tables, columns_of, is_among}
 use Rattle.sql_exec.specs.Statements.{IsOrder}
 use Rattle.sql_exec.specs.Scripts.{Export, sort_key}
 use Rattle.sql_exec.specs.Tables.{column_entry}
+use Rattle.sql_engine.specs.declared.orders.RowOrder.{RowOrder}
+use Rattle.sql_engine.specs.declared.orders.RowOrder.TheVariants as by
 use Rattle.vtl_cell.specs.declared.kind.Kind.{Kind}
 
 abbrev pub exports_in : List StatementTree → List SqlExport
@@ -30,12 +32,17 @@ shown e = (e.name, record { columns = map entry_column e.columns; rows = e.rows 
 abbrev pub ordered_by : List Text → Listed → Listed
 ordered_by order t = record { columns = t.columns; rows = in_order (map (sort_key (map column_entry t.columns)) order) [] t.rows }
 
+-- the same, or with its rows as they were made
+abbrev pub placed_by : RowOrder → List Text → Listed → Listed
+placed_by by.Sorted order t = ordered_by order t
+placed_by by.AsMade order t = t
+
 abbrev pub no_listed : Listed
 no_listed = record { columns = []; rows = [] }
 
 -- what an export gives of the tables that are held
-abbrev pub exported_of : NamedTables → SqlExport → Text × Listed
-exported_of held s = (s.name, ordered_by s.order (unwrap_or (table_of s.name held) no_listed))
+abbrev pub exported_of : RowOrder → NamedTables → SqlExport → Text × Listed
+exported_of how held s = (s.name, placed_by how s.order (unwrap_or (table_of s.name held) no_listed))
 
 -- each export names a table, no table is exported twice, and each is ordered by columns of it
 abbrev pub AreExported : Tables → List Text → List SqlExport → Type 0

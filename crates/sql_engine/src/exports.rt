@@ -7,7 +7,7 @@ ghost use Rattle.sql_tree.specs.View.{statement_tree};
 ghost use Rattle.sql_exec.specs.Held.{tables_held};
 ghost use Rattle.sql_engine.specs.Exported.{AreExported, exported_of, exports_in};
 
-use crate::orders::ordered;
+use crate::orders::{RowOrder, placed};
 use indexmap::IndexMap;
 use sql_tree::Statement;
 use std::alloc::{AllocError, Global};
@@ -40,15 +40,16 @@ fn take(owned: &mut Owned, name: &Txt) -> SharedTable
     }
 }
 
-/// The tables that statements export, in the order of their EXPORTs, each with its rows in order. A table is given
-/// itself, and its cells are copied only where it has other owners. It fails only if memory runs out.
-pub fn exported(
+/// The tables that statements export, in the order of their EXPORTs, each with its rows in this order. A table is given
+/// itself. It fails only if memory runs out.
+pub(crate) fn exported(
     alloc: Global,
     tables: Tables,
     statements: &[Statement],
+    order: RowOrder,
 ) -> Result<Outputs, AllocError>
     requires { AreExported (tables_held tables) [] (exports_in (map statement_tree statements.now)) }
-    ensures { IfOk result (λ out. out ≡ map (exported_of tables) (exports_in (map statement_tree statements.now))) }
+    ensures { IfOk result (λ out. out ≡ map (exported_of order tables) (exports_in (map statement_tree statements.now))) }
 {
     let mut owned = owned(alloc, tables)?;
     let mut out = Outputs::new(alloc);
@@ -57,8 +58,8 @@ pub fn exported(
             continue;
         };
         let table = take(&mut owned, &export.name);
-        let table = ordered(alloc, table, export.order.as_slice())?;
-        out.put(alloc, export.name.share()?, table)?;
+        let table = placed(alloc, table, export.order.as_slice(), order)?;
+        out.put_shared(export.name.share()?, table)?;
     }
     Ok(out)
 }

@@ -1,4 +1,4 @@
-// Tables in the order of an export.
+// Tables in the order of an export, or with their rows as they were made.
 ghost use Rattle.std.specs.Prelude.{◌≡◌, ◌<◌, ◌++◌, ◌∷◌, [], All, IfOk, OnOk, Some, length, map};
 ghost use Rattle.std.specs.List.{position_or_len, range_with_len};
 ghost use Rattle.std.specs.Map.{keys_of};
@@ -8,11 +8,20 @@ ghost use Rattle.vtl_rows.specs.Keys.{key_of};
 ghost use Rattle.sql_exec.specs.Statements.{AreNames};
 ghost use Rattle.sql_exec.specs.Scripts.{sort_key};
 ghost use Rattle.sql_exec.specs.Tables.{column_entry};
-ghost use Rattle.sql_engine.specs.Exported.{ordered_by};
+ghost use Rattle.sql_engine.specs.Exported.{ordered_by, placed_by};
 
 use std::alloc::{AllocError, Global};
 use vtl_cell::Txt;
 use vtl_rows::{Column, SharedTable, SortKey, Table};
+
+/// The order in which exports give their rows.
+#[derive(Clone, Copy)]
+pub(crate) enum RowOrder {
+    /// By the columns that the export lists, and then by all.
+    Sorted,
+    /// As the rows were made.
+    AsMade,
+}
 
 // The place of a column; of a name that is none their number.
 fn place_of(columns: &[Column], name: &Txt) -> usize
@@ -66,9 +75,8 @@ fn sort_keys(alloc: Global, columns: &[Column], names: &[Txt]) -> Result<Vec<Sor
     Ok(keys)
 }
 
-/// The table with its rows in order: by listed columns, and then by all. Its cells are copied where it has other
-/// owners. It fails only if memory runs out.
-pub fn ordered(alloc: Global, table: SharedTable, names: &[Txt]) -> Result<Table, AllocError>
+// The table with its rows in order: by listed columns, and then by all.
+fn ordered(alloc: Global, table: SharedTable, names: &[Txt]) -> Result<Table, AllocError>
     requires { AreNames (map column_entry table.columns) names.now }
     ensures { IfOk result (λ t. t ≡ ordered_by names.now table) }
 {
@@ -76,4 +84,24 @@ pub fn ordered(alloc: Global, table: SharedTable, names: &[Txt]) -> Result<Table
     let keys = sort_keys(alloc, table.columns(), names)?;
     table.sort_by_columns(alloc, &keys)?;
     Ok(table)
+}
+
+/// The table with its rows in this order, where the names are those of the columns that are listed. Rows that stay as
+/// they were made are not copied. It fails only if memory runs out.
+pub(crate) fn placed(
+    alloc: Global,
+    table: SharedTable,
+    names: &[Txt],
+    order: RowOrder,
+) -> Result<SharedTable, AllocError>
+    requires { AreNames (map column_entry table.columns) names.now }
+    ensures { IfOk result (λ t. t ≡ placed_by order names.now table) }
+{
+    match order {
+        RowOrder::Sorted => {
+            let sorted = ordered(alloc, table, names)?;
+            SharedTable::of(alloc, sorted)
+        }
+        RowOrder::AsMade => Ok(table),
+    }
 }

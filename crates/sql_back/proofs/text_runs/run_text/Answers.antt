@@ -1,11 +1,11 @@
 use Rattle.std.proofs.Common.{◌≡◌, Err, ap, sym, subst, ◌∙◌}
 use Rattle.sql_tree.specs.View.{script_tree}
 use Rattle.sql_engine.specs.InputTables.{AreInputsInRange, HaveInputTables, rows_given}
-use Rattle.sql_engine.specs.Runs.{FaultIs, ShowsExports}
+use Rattle.sql_engine.specs.Runs.{FaultIs, ShowsMeaning}
 use Rattle.sql_engine.specs.Scripts.{script_value}
 use Rattle.sql_engine.specs.TypingStatements.{IsTypedScript, script_settings}
 use Rattle.sql_back.specs.TextRuns.{TellsText}
-use Rattle.sql_back.proofs.EngineRuns.{exports_shown, fault_told}
+use Rattle.sql_back.proofs.EngineRuns.{fault_told}
 use Rattle.sql_back.proofs.text_runs.run_text.Goals as goal
 
 pub of-checked-requires-clause-typed : goal.of-checked-requires-clause-typed
@@ -28,7 +28,7 @@ pub returns-in-Ok : goal.returns-in-Ok
 returns-in-Ok c script spelled =
     let same = ap script_tree c.of-checked.ensures.script ∙ c.in_ok-script.ensures.script script spelled in
     let rows = rows_given c.args.inputs.now in
-    exports_shown (script_value script rows) c.run_uncounted.new.out (subst (λ s. ShowsExports (script_value s rows) c.run_uncounted.new.out) same c.in-Ok.ensures)
+    subst (λ s. ShowsMeaning (script_value s rows) c.run_uncounted.new.out) same c.in-Ok.ensures
 
 pub returns : goal.returns
 returns c script spelled =

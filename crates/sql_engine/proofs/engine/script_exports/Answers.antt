@@ -10,7 +10,7 @@ use Rattle.sql_exec.proofs.TypedStatements.{script_typed}
 use Rattle.sql_exec.specs.Scripts.{script_value}
 use Rattle.sql_engine.specs.Exported.{exported_of, exports_in}
 use Rattle.sql_engine.specs.InputTables.{AreInputsInRange, rows_given}
-use Rattle.sql_engine.specs.Runs.{ShowsExports}
+use Rattle.sql_engine.specs.Runs.{Shows}
 use Rattle.sql_engine.proofs.AtEnd.{are_exported, exports_of, exports_shown}
 use Rattle.sql_engine.proofs.Scales.{scale_small}
 use Rattle.sql_engine.proofs.engine.script_exports.Goals as goal
@@ -56,10 +56,10 @@ returns g c =
     let typed = (script_typed script.scale script.rounding (map statement_tree script.statements)).to c.script.ensures.typed in
     let here = subst (λ (l : List Statement). AreTyped p nothing (map statement_tree l)) (sym c.as_slice-statements.ensures)
     (subst (λ (q : Settings). AreTyped q nothing (map statement_tree script.statements)) (sym settings) typed.1) in
-    let shows = exports_shown p inputs (map statement_tree ss) here c.in_ok-tables.tables c.in_ok-tables.ensures in
+    let shows = exports_shown p inputs (map statement_tree ss) here c.args.order c.in_ok-tables.tables c.in_ok-tables.ensures in
     let same : ss ≡ c.args.script.now.script.statements = c.as_slice-statements.ensures ∙ ap (λ (s : SqlScript). s.statements) c.script.ensures.script in
     let meant : exports_of p inputs (map statement_tree ss) ≡ script_value (script_tree c.args.script.now.script) (rows_given inputs) =
     ap (λ (q : Settings). exports_of q inputs (map statement_tree ss)) c.profile-p.ensures.set
     ∙ ap (λ (l : List Statement). exports_of (script_settings (script_tree c.args.script.now.script)) inputs (map statement_tree l)) same in
-    subst (λ (t : NamedTables). ShowsExports (script_value (script_tree c.args.script.now.script) (rows_given inputs)) t) (sym c.in_ok-exported.ensures)
-    (subst (λ r. ShowsExports r (map (exported_of c.in_ok-tables.tables) (exports_in (map statement_tree ss)))) meant shows)
+    subst (λ (t : NamedTables). Shows c.args.order (script_value (script_tree c.args.script.now.script) (rows_given inputs)) t) (sym c.in_ok-exported.ensures)
+    (subst (λ r. Shows c.args.order r (map (exported_of c.args.order c.in_ok-tables.tables) (exports_in (map statement_tree ss)))) meant shows)
