@@ -5,6 +5,8 @@
 # builds; another may be given as the only word.
 top=$(dirname -- "$(readlink -f -- "$0")")/..
 . "$top/bench/program.sh"
+# Both commands are run in turn, three times, by this script itself.
+RUNS=1
 . "$top/bench/timing.sh"
 
 cat >"$made/structures.csv" <<'END'

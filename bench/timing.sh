@@ -10,20 +10,31 @@ for found in python3 /usr/bin/python3; do
     [ "$python" ] || ! "$found" -c 'import pandas' 2>/dev/null || python=$found
 done
 
-# Processor seconds of a command, whose name in the table comes first; and its peak memory, where `time` is installed.
-timed() {
-    label=$1
-    shift
+# Each job is run so many times, and the least of its times counts: one job's times differ by half from run to run.
+RUNS=${RUNS:-3}
+
+# One run of a command: its seconds in user and system mode, and its peak memory in KB where `time` is installed.
+run_once() {
     if [ -x /usr/bin/time ]; then
-        /usr/bin/time -o "$made/time" -f '%U %S %M' "$@" >"$made/said" 2>&1 || return
-        awk -v label="$label" '{ printf "    %-8s %6.2f s  %4d MB\n", label, $1 + $2, $3 / 1024 }' "$made/time"
-        awk '{ print $1 + $2 }' "$made/time" >"$made/seconds.$label"
+        /usr/bin/time -a -o "$made/runs" -f '%U %S %M' "$@" >"$made/said" 2>&1
     else
         # In a subshell of its own, whose children are the command alone.
         ("$@" >"$made/said" 2>&1 && times >"$made/times") || return
-        sed -n 2p "$made/times" | sed 's/[ms]/ /g' | awk -v label="$label" '{ printf "    %-8s %6.2f s\n", label, $1 * 60 + $2 + $3 * 60 + $4 }'
-        sed -n 2p "$made/times" | sed 's/[ms]/ /g' | awk '{ print $1 * 60 + $2 + $3 * 60 + $4 }' >"$made/seconds.$label"
+        sed -n 2p "$made/times" | sed 's/[ms]/ /g' | awk '{ print $1 * 60 + $2, $3 * 60 + $4, 0 }' >>"$made/runs"
     fi
+}
+
+# Processor seconds of a command, whose name in the table comes first, and its peak memory; the least of all runs.
+timed() {
+    label=$1
+    shift
+    : >"$made/runs"
+    for number in $(seq "$RUNS"); do
+        run_once "$@" || return
+    done
+    awk '{ print $1 + $2, int($3 / 1024) }' "$made/runs" | sort -n | head -n 1 >"$made/least"
+    awk -v label="$label" '{ printf "    %-8s %6.2f s", label, $1; if ($2) printf "  %4d MB", $2; print "" }' "$made/least"
+    awk '{ print $1 }' "$made/least" >"$made/seconds.$label"
 }
 
 ratio() {
@@ -49,7 +60,7 @@ raced() {
     [ ! -e "$made/script.sql" ] || set -- engine "$made/script.sql"
     timed vtl "$program" "$@" "$made/in" "$made/out" || cat "$made/said"
     if [ -e "$made/job.sql" ] && command -v sqlite3 >/dev/null; then
-        timed sqlite3 sqlite3 "$made/work.db" ".read $made/job.sql"
+        timed sqlite3 sh -c 'rm -f "$1" && exec sqlite3 "$1" ".read $2"' sh "$made/work.db" "$made/job.sql"
         rm -f "$made/work.db"
         ratio sqlite3
     fi
