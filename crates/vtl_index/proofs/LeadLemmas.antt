@@ -1,8 +1,8 @@
 -- The first row that has a key is its lead.
-use Rattle.std.proofs.Common.{◌≡◌, ℕ, ◌+◌, ◌<◌, ◌≤◌, List, [], ◌∷◌, ◌++◌, Option, None, Some, length, map, take, arith, sym, ap, ◌∙◌, true≢false}
+use Rattle.std.proofs.Common.{◌≡◌, ℕ, ◌+◌, ◌<◌, ◌≤◌, List, [], ◌∷◌, ◌++◌, Option, None, Some, length, take, arith, sym, ap, ◌∙◌, true≢false}
 use Rattle.std.specs.List.{position_or_len}
 use Rattle.std.specs.Option.{unwrap_or}
-use Rattle.std.proofs.lemmas.List.{map-append, take_all, take_more}
+use Rattle.std.proofs.lemmas.List.{get_or-map, length-map, take_more}
 use Rattle.std.proofs.lemmas.List.Sums.{position_or_len_is}
 use Rattle.vtl_cell.specs.Row.{Row, same_row}
 use Rattle.vtl_cell.proofs.Rows.{same_row-is, same_row-refl}
@@ -26,14 +26,13 @@ module _ (key : Row → Row) (rows : List Row) where
       position_or_len_is (λ s. same_row (key s) (key (row_at rows i))) rows lead [] within first.before (λ h. first.here)
 
   -- one more lead
-  pub leads_more : (i lead : ℕ) (leads : List ℕ) → i < length rows → leads ≡ map lead_of (take i rows) → IsFirst (λ j. key (row_at rows j)) (length rows) (key (row_at rows i)) lead
-      → leads ++ lead ∷ [] ≡ map lead_of (take (i + 1) rows)
+  pub leads_more : (i lead : ℕ) (leads : List ℕ) → i < length rows → leads ≡ take i (leads_of key rows) → IsFirst (λ j. key (row_at rows j)) (length rows) (key (row_at rows i)) lead
+      → leads ++ lead ∷ [] ≡ take (i + 1) (leads_of key rows)
   leads_more i lead leads h e first =
-      ap (λ l. l ++ lead ∷ []) e ∙ ap (λ k. map lead_of (take i rows) ++ k ∷ []) (sym (lead_is i lead first))
-      ∙ sym (map-append lead_of (take i rows) (row_at rows i ∷ [])) ∙ ap (map lead_of) (sym (take_more rows i [] h))
-
-  pub leads_all : (i : ℕ) (leads : List ℕ) → length rows ≤ i → leads ≡ map lead_of (take i rows) → leads ≡ leads_of key rows
-  leads_all i leads h e = e ∙ ap (map lead_of) (take_all i rows h)
+      let count = length-map rows lead_of in
+      let within : i < length (leads_of key rows) = omega (arith, h, count) in
+      ap (λ l. l ++ lead ∷ []) e ∙ ap (λ k. take i (leads_of key rows) ++ k ∷ []) (sym (get_or-map lead_of rows i [] 0 h ∙ lead_is i lead first))
+      ∙ sym (take_more (leads_of key rows) i 0 within)
 
   -- ---- the rows of a key that is not found
   pub no_rows : (k : Row) → FindsFirst (λ j. key (row_at rows j)) (length rows) k None → [] ≡ rows_with key rows k

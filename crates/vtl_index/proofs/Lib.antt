@@ -1,4 +1,6 @@
 pub mod Adding
+pub mod Asking
+pub mod Blocks
 pub mod Counts
 pub mod Finding
 pub mod Grouping

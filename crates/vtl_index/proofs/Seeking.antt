@@ -42,7 +42,7 @@ position_map p at [] = refl
 position_map p at (i ∷ is) = ap (λ n. cond (not (p (at i))) (1 + n) 0) (position_map p at is)
 
 module _ {X : Type 0} (p : X → Bool) (xs : List X) (d : X) where
-  first_place : unwrap_or (slice_get (filter (λ i. p (get_or xs i d)) (range_with_len 0 (length xs))) 0) (length xs) ≡ position_or_len p xs
+  pub first_place : unwrap_or (slice_get (filter (λ i. p (get_or xs i d)) (range_with_len 0 (length xs))) 0) (length xs) ≡ position_or_len p xs
   first_place =
       ap (unwrap_or (slice_get (filter (λ i. p (get_or xs i d)) (range_with_len 0 (length xs))) 0)) (sym (zero-add (length xs)))
       ∙ first_number (λ i. p (get_or xs i d)) 0 (length xs)
@@ -57,7 +57,7 @@ module _ {X : Type 0} (p : X → Bool) (xs : List X) (d : X) where
       ∙ ap (list_any p) (all_indexed xs d)
 
 -- ---- the rows that are found by cells as they are
-abbrev sought_of : List ℕ → List ℕ → List Row → Sought
+abbrev pub sought_of : List ℕ → List ℕ → List Row → Sought
 sought_of own asked rows = record { own = own; asked = asked; rows = rows }
 
 pub same_sought : (own own' asked asked' : List ℕ) (rows rows' : List Row) → own ≡ own' → asked ≡ asked' → rows ≡ rows' → sought_of own asked rows ≡ sought_of own' asked' rows'

@@ -3,11 +3,13 @@ pub mod Counted
 pub mod Entries
 pub mod Finders
 pub mod FirstRows
+pub mod GroupedRows
 pub mod Groups
 pub mod Index
 pub mod Keys
 pub mod Leads
 pub mod Lookup
+pub mod Matches
 pub mod Members
 pub mod Numbers
 pub mod Places

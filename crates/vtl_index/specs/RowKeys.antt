@@ -1,7 +1,8 @@
 -- Keys of rows: the cells of listed columns, as they count there.
-use Rattle.std.specs.Prelude.{ℕ, ◌/◌, ◌^◌, Bool, false, Ok, Err, List, map, length, nat_lt}
-use Rattle.std.specs.List.{fold, list_any}
+use Rattle.std.specs.Prelude.{ℕ, ◌/◌, ◌-◌, ◌^◌, Bool, true, false, Ok, Err, List, [], ◌∷◌, ◌++◌, map, length, nat_lt}
+use Rattle.std.specs.List.{fold, list_any, range_with_len}
 use Rattle.std.specs.Hash.FoldHasher as folding
+use Rattle.std.specs.declared.hash.FoldHasher.{FoldHasher}
 use Rattle.vtl_cell.specs.Conversion.{as_kind}
 use Rattle.vtl_cell.specs.Kinds.{is_null}
 use Rattle.vtl_cell.specs.Outcome.{Outcome}
@@ -13,6 +14,8 @@ use Rattle.vtl_cell.specs.declared.cell.Cell.TheVariants as c
 use Rattle.vtl_cell.specs.declared.kind.Kind.TheVariants as k
 use Rattle.vtl_rows.specs.Places.{row_at}
 use Rattle.vtl_rows.specs.declared.column.SortKey.{SortKey}
+use Rattle.vtl_index.specs.declared.row_keys.Hashing.{Hashing}
+use Rattle.vtl_index.specs.declared.row_keys.Hashing.TheVariants.{Plain, Salted}
 use Rattle.vtl_index.specs.declared.row_keys.KeyColumn.{KeyColumn}
 use Rattle.vtl_index.specs.declared.row_keys.KeyForm.{KeyForm}
 use Rattle.vtl_index.specs.declared.row_keys.KeyForm.TheVariants.{AsIs, AsNumber}
@@ -67,9 +70,26 @@ rising_by at = record { column = at.column; falling = false }
 abbrev pub with_cell : {S : Type 0} → (S → List ℕ → S) → S → Cell → S
 with_cell write state cell = fold write state (hash_input-value.it cell)
 
--- the hash of a key
+-- the hash of cells
 unfoldable pub cells_hash : Row → ℕ
-cells_hash key = folding.finish (fold (with_cell folding.write) folding.initial key)
+cells_hash cells = folding.finish (fold (with_cell folding.write) folding.initial cells)
+
+-- the cells in front of a key
+abbrev pub salt_of : Hashing → Row
+salt_of Plain = []
+salt_of Salted = c.Bool true ∷ []
+
+-- a hasher that took them in
+abbrev pub begun : Hashing → FoldHasher
+begun hashing = fold (with_cell folding.write) folding.initial (salt_of hashing)
+
+-- the hash of a key
+abbrev pub hash_by : Hashing → Row → ℕ
+hash_by hashing key = cells_hash (salt_of hashing ++ key)
+
+-- the hashes of the keys from a place up to another
+abbrev pub hashes_by : Hashing → (ℕ → Row) → ℕ → ℕ → List ℕ
+hashes_by hashing keys first end = map (λ i. hash_by hashing (keys i)) (range_with_len first (end - first))
 
 -- the upper half of it
 abbrev pub tag_of : ℕ → ℕ

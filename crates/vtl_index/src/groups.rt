@@ -89,4 +89,16 @@ impl Groups {
     {
         self.rows(self.of(row))
     }
+
+    // The same, for a row's number that is read where it stands: that is all of the group where each row is one by
+    // itself. Who walks a list of such numbers then reads no memory but the list's.
+    pub(crate) fn beside_at<'a>(&'a self, row: &'a usize) -> &'a [usize]
+        requires { row.now < length self.now }
+        ensures { result.now ≡ rows_led self.now (slice_index self.now row.now) }
+    {
+        match &self.layout {
+            Layout::Apart(_rows) => slice::from_ref(row),
+            Layout::Shared(_members) => self.beside(*row),
+        }
+    }
 }

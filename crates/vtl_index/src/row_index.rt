@@ -1,9 +1,13 @@
 // A look-up from keys to the rows of a table that have them.
 ghost use Rattle.std.specs.Prelude.{◌≡◌, ◌+◌, ◌<◌, ◌≤◌, length, nat_lt, IfOk, OnOk};
-ghost use Rattle.vtl_index.specs.RowIndex.{found_rows, is_sought};
+ghost use Rattle.vtl_index.specs.GroupedRows.{AreByKey, lookup_of};
+ghost use Rattle.vtl_index.specs.Matches.{asked_keys, firsts_by};
+ghost use Rattle.vtl_index.specs.RowIndex.{first_found, found_rows};
 ghost use Rattle.vtl_index.specs.RowKeys.{key_at, key_of};
 
 use crate::finder::{Finder, Led, led_of};
+use crate::firsts::{first_of, firsts_of};
+use crate::grouped_rows::GroupedRows;
 use crate::row_keys::{KeyColumn, KeyedRows, NullKeys, RowKey};
 use crate::{Groups, Steps};
 use std::alloc::{AllocError, Global};
@@ -20,59 +24,39 @@ use vtl_rows::Table;
 /// compares its key with as many others as the logarithm of the number of rows, and looks at no more than 128 slots
 /// otherwise, whatever the cells are.
 pub struct RowIndex<'t> {
-    table: &'t Table,
-    key: Vec<KeyColumn>,
-    nulls: NullKeys,
-    p: Profile,
+    rows: GroupedRows<'t>,
     finder: Finder,
-    groups: Groups,
 }
 
 // Written out, so that a proof above sees one call and not the drop of each part.
 impl<'t> Drop for RowIndex<'t> {
     fn drop(self) {
         let RowIndex {
-            table: _table,
-            key: _key,
-            nulls: _nulls,
-            p: _p,
+            rows: _rows,
             finder: _finder,
-            groups: _groups,
         } = self;
     }
 }
 
 impl<'t> Model for RowIndex<'t> {
-    ghost use Rattle.std.specs.Prelude.{◌≡◌, length};
-    ghost use Rattle.vtl_rows.specs.Places.{row_at};
+    ghost use Rattle.std.specs.Prelude.{length};
     ghost use Rattle.vtl_index.specs.Finders.{IsFinder};
-    ghost use Rattle.vtl_index.specs.Leads.{leads_of};
+    ghost use Rattle.vtl_index.specs.GroupedRows.{AreByKey, keys_of, lookup_of};
     ghost use Rattle.vtl_index.specs.RowIndex.{RowLookup};
-    ghost use Rattle.vtl_index.specs.RowKeys.{key_at};
 
     ghost Value = { RowLookup };
 
-    ghost view = { λ x. record { rows = x.table.now.rows; key = x.key.items; nulls = x.nulls; p = x.p } };
+    ghost view = { λ x. lookup_of x.rows };
 
-    ghost invariant = { λ x. (x.groups ≡ leads_of (key_at x.p x.key.items) x.table.now.rows) × IsFinder (λ i. key_at x.p x.key.items (row_at x.table.now.rows i)) (length x.table.now.rows) x.finder };
+    ghost invariant = { λ x. AreByKey x.rows × IsFinder (keys_of (lookup_of x.rows)) (length x.rows.table.now.rows) x.finder };
 }
 
 // Counts a step for each row.
-fn count_rows<L: Ledger>(table: &Table, steps: &mut Steps<L>)
+pub(crate) fn count_rows<L: Ledger>(table: &Table, steps: &mut Steps<L>)
     ensures { steps.new ≡ steps.old + length table.now.rows }
 {
     for _ in 0..table.len() {
         steps.tick();
-    }
-}
-
-// Whether a key is looked for at all.
-fn is_sought(nulls: NullKeys, key: &RowKey) -> bool
-    ensures { result ≡ is_sought nulls (key_of key.now) }
-{
-    match nulls {
-        NullKeys::Found => true,
-        NullKeys::NotFound => !key.has_null(),
     }
 }
 
@@ -101,14 +85,14 @@ impl<'t> RowIndex<'t> {
             },
         )?;
         let groups = Groups::from_leads(alloc, leads)?;
-        Ok(RowIndex {
+        let rows = GroupedRows {
             table,
             key,
             nulls,
             p: *p,
-            finder,
             groups,
-        })
+        };
+        Ok(RowIndex { rows, finder })
     }
 
     /// The numbers of the rows that have the key of this row, rising. The cells of the row's key stand at these
@@ -121,7 +105,7 @@ impl<'t> RowIndex<'t> {
         let key = RowKey {
             row,
             columns: at,
-            p: &self.p,
+            p: &self.rows.p,
         };
         self.rows_of(&key)
     }
@@ -130,18 +114,39 @@ impl<'t> RowIndex<'t> {
     fn rows_of(&self, key: &RowKey) -> &[usize]
         ensures { result.now ≡ found_rows self.now (key_of key.now) }
     {
-        if !is_sought(self.nulls, key) {
-            return &[];
+        let first = self.first_of(key);
+        if first < self.rows.table.len() {
+            self.rows.groups.beside(first)
+        } else {
+            &[]
         }
-        let keyed = KeyedRows {
-            table: self.table,
-            columns: &self.key,
-            p: &self.p,
+    }
+
+    // The number of the first row that has a key, or how many rows there are.
+    fn first_of(&self, key: &RowKey) -> usize
+        ensures { result ≡ first_found self.now (key_of key.now) }
+    {
+        let hash = key.hash(self.finder.hashing());
+        first_of(&self.rows, &self.finder, key, hash)
+    }
+
+    // The same for the keys of the first rows of a table, as many as are counted, whose cells stand at these columns
+    // there. Past the last row it asks for a row without cells.
+    pub(crate) fn firsts(
+        &self,
+        alloc: Global,
+        asking: &Table,
+        at: &[KeyColumn],
+        count: usize,
+    ) -> Result<Vec<usize>, AllocError>
+        ensures { IfOk result (λ v. v.items ≡ firsts_by self.now (asked_keys (record { index = self.now; at = at.now; asking = asking.now.rows })) count) }
+    {
+        let asked = KeyedRows {
+            table: asking,
+            columns: at,
+            p: &self.rows.p,
         };
-        match self.finder.find(&keyed, key) {
-            Some(lead) => self.groups.beside(lead),
-            None => &[],
-        }
+        firsts_of(alloc, &self.rows, &self.finder, &asked, count)
     }
 
     /// Whether a row has the key of this row, whose cells stand at these columns there. It takes one step, and no
@@ -157,6 +162,18 @@ impl<'t> RowIndex<'t> {
     pub fn table(&self) -> &'t Table
         ensures { result.now.rows ≡ self.now.rows }
     {
-        self.table
+        self.rows.table
+    }
+
+    // The rows without what finds a key.
+    pub(crate) fn into_rows(self) -> GroupedRows<'t>
+        ensures value { lookup_of result ≡ self.entry }
+        ensures grouped { AreByKey result }
+    {
+        let RowIndex {
+            rows,
+            finder: _finder,
+        } = self;
+        rows
     }
 }

@@ -1,5 +1,5 @@
 // Keys of rows: the cells of listed columns, as they count there.
-ghost use Rattle.std.specs.Prelude.{◌≡◌, length};
+ghost use Rattle.std.specs.Prelude.{◌≡◌, ◌≤◌, length, OnOk};
 ghost use Rattle.std.specs.List.{list_any};
 ghost use Rattle.std.specs.Ordering.{nat_cmp, on, then_cmp};
 ghost use Rattle.vtl_cell.specs.Kinds.{is_null};
@@ -7,8 +7,9 @@ ghost use Rattle.vtl_cell.specs.Order.{cell_cmp};
 ghost use Rattle.vtl_cell.specs.Row.{row_cmp, same_row};
 ghost use Rattle.vtl_rows.specs.Places.{row_at};
 ghost use Rattle.vtl_index.specs.Counted.{counted_value};
-ghost use Rattle.vtl_index.specs.RowKeys.{cells_hash, count_in, counted, key_cell, key_of, keys_in, tag_of};
+ghost use Rattle.vtl_index.specs.RowKeys.{begun, count_in, counted, hash_by, hashes_by, key_cell, key_of, keys_in, tag_of};
 
+use std::alloc::AllocError;
 use std::cmp::Ordering;
 use std::hash::{FoldHasher, Hash, Hasher};
 use vtl_cell::{Cell, Profile, compare};
@@ -40,6 +41,30 @@ pub enum NullKeys {
     Found,
     /// A key that has a null is not found.
     NotFound,
+}
+
+// How keys are hashed: by their cells alone, or with one cell more in front of these. Cells that were chosen to have
+// like hashes the one way seldom have them the other way.
+#[derive(Clone, Copy)]
+pub(crate) enum Hashing {
+    Plain,
+    Salted,
+}
+
+impl Hashing {
+    // A hasher that took in what stands in front of a key.
+    fn begin(self) -> FoldHasher
+        ensures { result ≡ begun self }
+    {
+        match self {
+            Hashing::Plain => FoldHasher::default(),
+            Hashing::Salted => {
+                let mut state = FoldHasher::default();
+                Cell::Bool(true).hash(&mut state);
+                state
+            }
+        }
+    }
 }
 
 // A cell as it counts in a key: one of the row, or one that was made.
@@ -125,10 +150,10 @@ impl RowKey<'_> {
     }
 
     // The hash of the key. Its seed is fixed, so nothing but time may depend on it, and not much of that.
-    pub(crate) fn hash(&self) -> u64
-        ensures { result ≡ cells_hash (key_of self.now) }
+    pub(crate) fn hash(&self, hashing: Hashing) -> u64
+        ensures { result ≡ hash_by hashing (key_of self.now) }
     {
-        let mut state = FoldHasher::default();
+        let mut state = hashing.begin();
         for at in self.columns {
             self.cell_at(*at).cell().hash(&mut state);
         }
@@ -181,6 +206,40 @@ impl KeyedRows<'_> {
             columns: self.columns,
             p: self.p,
         }
+    }
+
+    // The hashes of the keys of the rows from one up to another, in place of what the list held.
+    pub(crate) fn hash_rows(
+        &self,
+        hashing: Hashing,
+        first: usize,
+        end: usize,
+        hashes: &mut Vec<u64>,
+    ) -> Result<(), AllocError>
+        requires { first ≤ end }
+        ensures { OnOk result (hashes.new.items ≡ hashes_by hashing (keys_in self.now) first end) }
+    {
+        hashes.clear();
+        for i in first..end {
+            hashes.push(self.key(i).hash(hashing))?;
+        }
+        Ok(())
+    }
+
+    // Something of the first cell of a row's key: the first byte of a text, whose bytes lie elsewhere again; another
+    // cell counts as one.
+    pub(crate) fn sample(&self, i: usize) -> usize {
+        if let Some(at) = self.columns.first() {
+            if let Some(Cell::Text(text)) = row_or_none(self.table, i).get(at.column) {
+                return text
+                    .as_str()
+                    .as_bytes()
+                    .first()
+                    .copied()
+                    .map_or(0, usize::from);
+            }
+        }
+        1
     }
 
     // The order of the key of the row at a place and another key.

@@ -1,10 +1,10 @@
 // The first row of each key, found by the hash of the key.
 ghost use Rattle.std.specs.Prelude.{◌≡◌, ◌<◌, ◌-◌, ◌^◌, replicate, IfOk};
 ghost use Rattle.vtl_index.specs.FirstRows.{FindsFirst};
-ghost use Rattle.vtl_index.specs.RowKeys.{cells_hash, count_in, key_of, keys_in};
+ghost use Rattle.vtl_index.specs.RowKeys.{count_in, hash_by, key_of, keys_in};
 ghost use Rattle.vtl_index.specs.RowSlots.{IsFilled, Meets, Seeks, end_of, start_of};
 
-use crate::row_keys::{KeyedRows, RowKey, tag_of};
+use crate::row_keys::{Hashing, KeyedRows, RowKey, tag_of};
 use std::alloc::{AllocError, Global};
 
 // There are at least this many slots for each row.
@@ -32,6 +32,7 @@ pub(crate) enum Place {
 
 #[derive(Drop)]
 pub(crate) struct RowSlots {
+    pub(crate) hashing: Hashing,
     pub(crate) mask: usize,
     pub(crate) slots: Vec<RowSlot>,
 }
@@ -52,9 +53,13 @@ fn free_slots(alloc: Global, count: usize) -> Result<Vec<RowSlot>, AllocError>
 
 impl RowSlots {
     // No rows yet, of the rows of a table.
-    pub(crate) fn new(alloc: Global, keyed: &KeyedRows) -> Result<RowSlots, AllocError>
+    pub(crate) fn new(
+        alloc: Global,
+        keyed: &KeyedRows,
+        hashing: Hashing,
+    ) -> Result<RowSlots, AllocError>
         requires { count_in keyed.now < 2 ^ 32 }
-        ensures { IfOk result (λ t. IsFilled (keys_in keyed.now) (count_in keyed.now) t.mask t.slots.items 0) }
+        ensures { IfOk result (λ t. IsFilled t.hashing (keys_in keyed.now) (count_in keyed.now) t.mask t.slots.items 0) }
     {
         let room = keyed
             .len()
@@ -63,6 +68,7 @@ impl RowSlots {
             .unwrap_or(1);
         let slots = free_slots(alloc, room.saturating_add(MAX_PROBES))?;
         Ok(RowSlots {
+            hashing,
             mask: room.saturating_sub(1),
             slots,
         })
@@ -86,8 +92,8 @@ impl RowSlots {
 
     // Looks for a key.
     fn seek(&self, keyed: &KeyedRows, hash: u64, key: &RowKey) -> Place
-        requires { hash ≡ cells_hash (key_of key.now) }
-        ensures { Seeks (keys_in keyed.now) (count_in keyed.now) self.now.mask self.now.slots.items (key_of key.now) result }
+        requires { hash ≡ hash_by self.now.hashing (key_of key.now) }
+        ensures { Seeks self.now.hashing (keys_in keyed.now) (count_in keyed.now) self.now.mask self.now.slots.items (key_of key.now) result }
     {
         let tag = tag_of(hash);
         for place in self.start_of(hash)..self.end_of(hash) {
@@ -103,28 +109,51 @@ impl RowSlots {
         Place::Unknown
     }
 
-    // The first row that has a key.
-    pub(crate) fn find(&self, keyed: &KeyedRows, key: &RowKey) -> Option<usize>
-        requires { IsFilled (keys_in keyed.now) (count_in keyed.now) self.now.mask self.now.slots.items (count_in keyed.now) }
+    // A sum over the slots at which keys of these hashes are first looked for, and over the rows that stand there and
+    // may have one of them; it is never the most there is. No read of it waits for another but that of a row's text for
+    // that of its slot, so the processor fetches what many keys need side by side; a search would fetch it for one after
+    // the other.
+    pub(crate) fn fetched(&self, keyed: &KeyedRows, hashes: &[u64]) -> usize {
+        let mut sum = 0usize;
+        for hash in hashes {
+            if let Some(slot) = self.slots.get(self.start_of(*hash)) {
+                sum = sum.saturating_add(slot.row as usize);
+            }
+        }
+        for hash in hashes {
+            if let Some(slot) = self.slots.get(self.start_of(*hash)) {
+                if slot.tag == tag_of(*hash) {
+                    sum = sum.saturating_add(keyed.sample(slot.row as usize));
+                }
+            }
+        }
+        sum
+    }
+
+    // The first row that has a key, of which this is the hash.
+    pub(crate) fn find(&self, keyed: &KeyedRows, key: &RowKey, hash: u64) -> Option<usize>
+        requires hash { hash ≡ hash_by self.now.hashing (key_of key.now) }
+        requires filled { IsFilled self.now.hashing (keys_in keyed.now) (count_in keyed.now) self.now.mask self.now.slots.items (count_in keyed.now) }
         ensures { FindsFirst (keys_in keyed.now) (count_in keyed.now) (key_of key.now) result }
     {
-        match self.seek(keyed, key.hash(), key) {
+        match self.seek(keyed, hash, key) {
             Place::Held(row) => Some(row),
             Place::Free(_) => None,
             Place::Unknown => None,
         }
     }
 
-    // The first row that has the key of a row, which is put in a slot where it is the first. None where the search is
+    // The first row that has the key of a row, of which this is the hash; the row is put in a slot where it is the first. None where the search is
     // given up.
-    pub(crate) fn meet(&mut self, keyed: &KeyedRows, i: usize) -> Option<usize>
+    pub(crate) fn meet(&mut self, keyed: &KeyedRows, i: usize, hash: u64) -> Option<usize>
         requires few { count_in keyed.now < 2 ^ 32 }
         requires within { i < count_in keyed.now }
-        requires filled { IsFilled (keys_in keyed.now) (count_in keyed.now) self.old.mask self.old.slots.items i }
-        ensures { Meets (keys_in keyed.now) (count_in keyed.now) self.new.mask self.new.slots.items i result }
+        requires hash { hash ≡ hash_by self.old.hashing (keys_in keyed.now i) }
+        requires filled { IsFilled self.old.hashing (keys_in keyed.now) (count_in keyed.now) self.old.mask self.old.slots.items i }
+        ensures hashing { self.new.hashing ≡ self.old.hashing }
+        ensures meets { Meets self.new.hashing (keys_in keyed.now) (count_in keyed.now) self.new.mask self.new.slots.items i result }
     {
         let key = keyed.key(i);
-        let hash = key.hash();
         match self.seek(keyed, hash, &key) {
             Place::Held(row) => Some(row),
             Place::Unknown => None,

@@ -1,9 +1,9 @@
 // Rows of a table, found by the cells of other rows.
-ghost use Rattle.std.specs.Prelude.{◌≡◌, ◌+◌, length, IfOk, OnOk};
+ghost use Rattle.std.specs.Prelude.{◌≡◌, ◌+◌, length, map, IfOk, OnOk};
 ghost use Rattle.vtl_index.specs.Seekers.{first_meant, is_any_meant};
 
 use crate::by_columns::{any_profile, key_of_columns};
-use crate::row_index::RowIndex;
+use crate::row_index::{RowIndex, count_rows};
 use crate::row_keys::{KeyColumn, NullKeys};
 use crate::steps::Steps;
 use std::alloc::{AllocError, Global};
@@ -71,6 +71,21 @@ impl<'t> Seeker<'t> {
             .first()
             .copied()
             .unwrap_or(self.len())
+    }
+
+    /// For each row of a table the number of the first row that it asks for, or how many rows there are. It takes one
+    /// step for each row that asks. It fails only if memory runs out.
+    pub fn firsts<L: Ledger>(
+        &self,
+        alloc: Global,
+        asking: &Table,
+        steps: &mut Steps<L>,
+    ) -> Result<Vec<usize>, AllocError>
+        ensures places { IfOk result (λ v. v.items ≡ map (first_meant self.now) asking.now.rows) }
+        ensures steps { OnOk result (steps.new ≡ steps.old + length asking.now.rows) }
+    {
+        count_rows(asking, steps);
+        self.index.firsts(alloc, asking, &self.asked, asking.len())
     }
 
     /// How many rows there are.

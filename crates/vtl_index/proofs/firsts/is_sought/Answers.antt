@@ -3,7 +3,7 @@ use Rattle.vtl_cell.specs.Kinds.{is_null}
 use Rattle.vtl_index.specs.RowIndex.{is_sought}
 use Rattle.vtl_index.specs.RowKeys.{key_cell, key_of}
 use Rattle.vtl_index.proofs.KeyOrder.{list_any_map}
-use Rattle.vtl_index.proofs.row_index.is_sought.Goals as goal
+use Rattle.vtl_index.proofs.firsts.is_sought.Goals as goal
 
 pub returns-in-NotFound : goal.returns-in-NotFound
 returns-in-NotFound c =
