@@ -7,10 +7,12 @@ pub use Rattle.vtl_clause.proofs.Places
 pub use Rattle.vtl_clause.proofs.PointLemmas
 pub use Rattle.vtl_clause.proofs.TableLemmas
 pub use Rattle.vtl_clause.proofs.Values
+pub mod AnswerLemmas
 pub mod ChosenLemmas
 pub mod ExistenceLemmas
 pub mod FirstLemmas
 pub mod OperandLemmas
 pub mod PivotLemmas
 pub mod RowLemmas
+pub mod UnionLemmas
 pub mod UnpivotLemmas

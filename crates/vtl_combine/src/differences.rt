@@ -15,7 +15,7 @@ use vtl_syntax::Retain;
 use vtl_tree::Structure;
 
 // The points of an operand whose identifiers another one lacks.
-fn reduced_rows(
+pub(crate) fn reduced_rows(
     alloc: Global,
     a: &DataSet,
     b: &DataSet,

@@ -11,7 +11,7 @@ ghost use Rattle.vtl_clause.specs.Made.{IsExistence};
 ghost use Rattle.vtl_clause.specs.Sets.{existence_of, is_retained};
 ghost use Rattle.vtl_combine.specs.Existence.{answered, sought_common};
 
-use crate::retaining::is_retained;
+use crate::retaining::{answers, is_retained};
 use crate::rows::own_key;
 use std::alloc::{AllocError, Global};
 use std::marker::Brand;
@@ -112,12 +112,13 @@ fn existence_table<L: Ledger>(
     let seeker = sought(alloc, a.structure(), b, &mut steps)?;
     let identifiers = own_key(alloc, a.structure())?;
     let table = a.table();
+    let answers = answers(alloc, &seeker, table, &mut steps)?;
     let mut out = new_table(alloc, made)?;
+    out.reserve_rows(table.len())?;
     let mut cells = Vec::new(alloc);
     for i in 0..table.len() {
         let row = table.row(i);
-        let answer = seeker.has(row, &mut steps);
-        push_answer(&mut out, &mut cells, retain, &identifiers, row, answer)?;
+        push_answer(&mut out, &mut cells, retain, &identifiers, row, answers[i])?;
     }
     Ok(out)
 }

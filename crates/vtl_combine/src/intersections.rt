@@ -17,8 +17,8 @@ use vtl_rows::Table;
 use vtl_syntax::Retain;
 use vtl_tree::Structure;
 
-// The row numbers of an operand whose identifiers all others have. Each of the others is asked only for rows that the
-// ones before it have, so all questions are no more than the points of all operands.
+// The row numbers of an operand whose identifiers all others have. Each of the others is asked for the rows that the ones
+// before it have, or for less than twice as many, so all questions are less than twice the points of all operands.
 fn common_rows(
     alloc: Global,
     operand: &DataSet,

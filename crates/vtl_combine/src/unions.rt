@@ -11,6 +11,7 @@ ghost use Rattle.vtl_clause.specs.Operators.{left_of};
 ghost use Rattle.vtl_clause.specs.Sets.{union_of};
 ghost use Rattle.vtl_combine.specs.Operands.{HasColumns};
 
+use crate::differences::reduced_rows;
 use crate::firsts::once_by_key;
 use crate::rows::{all_rows, are_data_sets, key_width};
 use std::alloc::{AllocError, Global};
@@ -32,7 +33,11 @@ fn all_points(alloc: Global, operands: &[&DataSet], made: &Structure) -> Result<
     Ok(all)
 }
 
-fn union_table(alloc: Global, operands: &[&DataSet], made: &Structure) -> Result<Table, AllocError>
+fn united_by_keys(
+    alloc: Global,
+    operands: &[&DataSet],
+    made: &Structure,
+) -> Result<Table, AllocError>
     requires { AreCombined (structures_of (shown operands.now)) made.now }
     ensures table { IfOk result (IsTableOf made.now) }
     ensures rows { IfOk result (λ t. t.rows ≡ union_of (shown operands.now) made.now) }
@@ -41,6 +46,36 @@ fn union_table(alloc: Global, operands: &[&DataSet], made: &Structure) -> Result
     let all = all_points(alloc, operands, made)?;
     let width = key_width(alloc, made)?;
     once_by_key(alloc, all, width)
+}
+
+// The points of the first of two operands, and those of the second whose identifiers the first lacks. Each cell is copied
+// once.
+fn united_pair(
+    alloc: Global,
+    a: &DataSet,
+    b: &DataSet,
+    made: &Structure,
+) -> Result<Table, AllocError>
+    requires { IsCombined a.now.structure (b.now.structure ∷ []) made.now }
+    ensures table { IfOk result (IsTableOf made.now) }
+    ensures rows { IfOk result (λ t. t.rows ≡ union_of (a.now ∷ b.now ∷ []) made.now) }
+{
+    are_data_sets(&[a, b]);
+    let behind = reduced_rows(alloc, b, a, made)?;
+    let mut table = all_rows(alloc, a, made)?;
+    table.append(behind)?;
+    Ok(table)
+}
+
+fn union_table(alloc: Global, operands: &[&DataSet], made: &Structure) -> Result<Table, AllocError>
+    requires { AreCombined (structures_of (shown operands.now)) made.now }
+    ensures table { IfOk result (IsTableOf made.now) }
+    ensures rows { IfOk result (λ t. t.rows ≡ union_of (shown operands.now) made.now) }
+{
+    match operands {
+        [a, b] => united_pair(alloc, a, b, made),
+        _ => united_by_keys(alloc, operands, made),
+    }
 }
 
 /// The points of all operands in order, without those whose identifiers an earlier one has; as a data set of the

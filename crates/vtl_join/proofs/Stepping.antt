@@ -1,17 +1,18 @@
 -- One more item of a walk, and what is made of equal parts.
-use Rattle.std.proofs.Common.{◌≡◌, ℕ, suc, ◌+◌, ◌<◌, ◌≤◌, Bool, List, [], ◌∷◌, ◌++◌, length, get_or, map, map-id, take, drop, Option, Some, None, Result, Ok, Err, sym, ap, ◌∙◌, subst, All, append_assoc, arith}
-use Rattle.std.specs.Prelude.{IfOk}
+use Rattle.std.proofs.Common.{◌≡◌, ℕ, suc, ◌+◌, ◌<◌, ◌≤◌, Bool, not, cond, ◌||◌, ◌&&◌, List, [], ◌∷◌, ◌++◌, length, get_or, map, map-id, take, drop, Option, Some, None, Result, Ok, Err, refl, sym, ap, ◌∙◌, subst, All, append_assoc, arith}
+use Rattle.std.specs.Prelude.{IfOk, IfSome}
 use Rattle.std.specs.Borrow.{Bor}
-use Rattle.std.specs.List.{AllByRecursion, flat_map, range_with_len}
+use Rattle.std.specs.List.{AllByRecursion, flat_map, list_all, range_with_len}
 use Rattle.std.proofs.lemmas.Grind.{flat_map-append}
-use Rattle.std.proofs.lemmas.List.{append-nil, drop-map, get_or_default, length-map, length-take-le, map-append, map_more, take-map}
+use Rattle.std.proofs.lemmas.List.{append-nil, drop-map, get_or-map, length-map, length-take-le, map-append, map_more, take-map}
+use Rattle.std.proofs.lemmas.List.Elements.{All-from_recursion}
 use Rattle.std.proofs.lemmas.List.FromFn.{map-range_with_len_more}
 use Rattle.vtl_cell.specs.Row.{Row}
 use Rattle.vtl_rows.specs.Gathered.{picked, picked_kind, pieces}
 use Rattle.vtl_rows.specs.Places.{row_at}
 use Rattle.vtl_rows.specs.Tables.{Listed, column_kinds}
 use Rattle.vtl_rows.specs.declared.gather.Pick.{Pick}
-use Rattle.vtl_index.specs.Seekers.{Sought}
+use Rattle.vtl_index.specs.Seekers.{Sought, first_meant}
 use Rattle.vtl_sets.specs.TableOf.{table_columns}
 use Rattle.vtl_sets.proofs.ColumnLemmas.{kinds_of_columns}
 use Rattle.vtl_tree.specs.Environment.{DataSet}
@@ -26,7 +27,7 @@ use Rattle.vtl_meaning.specs.Made.{attributes_of, component_kinds, kinds_of_all}
 use Rattle.vtl_meaning.proofs.JoinParts.{AreSets}
 use Rattle.vtl_meaning.proofs.Places.{all_append}
 use Rattle.vtl_join.specs.declared.joined.Operand.{Operand}
-use Rattle.vtl_join.specs.Finding.{all_numbers, numbers_for, sought_beside, sources_around}
+use Rattle.vtl_join.specs.Finding.{Found, all_numbers, found_by, is_found, is_listed, is_past, is_within, listed_number, listed_numbers, number, numbers_for, sought_beside, sources_around}
 use Rattle.vtl_join.specs.Joining.{sets_of}
 use Rattle.vtl_join.specs.Picks.{joined_rows, picks_at, picks_behind, picks_from, places_of, table_of}
 use Rattle.vtl_join.proofs.PickKinds.{all_below, from_below, kinds_behind}
@@ -37,12 +38,45 @@ range_more n =
     let z : 0 + n ≡ n = omega arith in
     sym (map-id (range_with_len 0 (n + 1))) ∙ map-range_with_len_more (λ i. i) 0 n n z ∙ ap (λ l. l ++ n ∷ []) (map-id (range_with_len 0 n))
 
+-- what is listed for a row of the lead is what it finds
+number_found : (rows : List Row) (i : ℕ) (x : Option Sought) → i < length rows → listed_number i (found_by rows x) ≡ number i (row_at rows i) x
+number_found rows i None h = refl
+number_found rows i (Some x) h = get_or-map (first_meant x) rows i [] 0 h
+
+all_numbers_found : (rows : List Row) (i : ℕ) (xs : List (Option Sought)) → i < length rows → map (listed_number i) (map (found_by rows) xs) ≡ map (number i (row_at rows i)) xs
+all_numbers_found rows i [] h = refl
+all_numbers_found rows i (x ∷ xs) h = λ j. number_found rows i x h j ∷ all_numbers_found rows i xs h j
+
+same_bounds : (rows : List Row) (x : Option Sought) (n : ℕ) → is_within (found_by rows x) n ≡ not (is_past x n)
+same_bounds rows None n = refl
+same_bounds rows (Some x) n = refl
+
+all_are_found : (rows : List Row) (i : ℕ) (xs : List (Option Sought)) → i < length rows → list_all (is_listed i) (map (found_by rows) xs) ≡ list_all (is_found i (row_at rows i)) xs
+all_are_found rows i [] h = refl
+all_are_found rows i (x ∷ xs) h =
+    let here = same_bounds rows x (listed_number i (found_by rows x)) ∙ ap (λ n. not (is_past x n)) (number_found rows i x h) in
+    λ j. here j && all_are_found rows i xs h j
+
+listed_is : (whole : Bool) (xs : List (Option Sought)) (rows : List Row) (i : ℕ) → i < length rows → listed_numbers whole (map (found_by rows) xs) i ≡ numbers_for whole xs i (row_at rows i)
+listed_is whole xs rows i h = λ j. cond (not whole || all_are_found rows i xs h j) (i ∷ all_numbers_found rows i xs h j) []
+
+-- each row of the lead has its number in what is found
+each_is_long : (rows : List Row) (i : ℕ) (xs : List (Option Sought)) → i < length rows → AllByRecursion (λ f. IfSome f (λ x. i < length x.numbers)) (map (found_by rows) xs)
+each_is_long rows i [] h = tt
+each_is_long rows i (None ∷ xs) h = (tt, each_is_long rows i xs h)
+each_is_long rows i (Some x ∷ xs) h = (let l = length-map rows (first_meant x) in omega (arith, h, l), each_is_long rows i xs h)
+
+pub found_within : (rows : List Row) (xs : List (Option Sought)) (i : ℕ) (fs : List (Option Found)) → fs ≡ map (found_by rows) xs → i < length rows → All (λ f. IfSome f (λ x. i < length x.numbers)) fs
+found_within rows xs i fs e h =
+    let P : Option Found → Type 0 = λ f. IfSome f (λ x. i < length x.numbers) in
+    subst (All P) (sym e) (All-from_recursion P (map (found_by rows) xs) (each_is_long rows i xs h))
+
 -- the tuple of one more row
-pub tuples_more : (whole : Bool) (xs : List (Option Sought)) (rows : List Row) (i : ℕ) (r : Row) (old new : List ℕ) → i < length rows → r ≡ get_or rows i r → old ≡ all_numbers whole xs rows (range_with_len 0 i) → new ≡ old ++ numbers_for whole xs i r → new ≡ all_numbers whole xs rows (range_with_len 0 (i + 1))
-tuples_more whole xs rows i r old new h at o n =
+pub tuples_more : (whole : Bool) (xs : List (Option Sought)) (rows : List Row) (i : ℕ) (fs : List (Option Found)) (old new : List ℕ) → i < length rows → fs ≡ map (found_by rows) xs → old ≡ all_numbers whole xs rows (range_with_len 0 i) → new ≡ old ++ listed_numbers whole fs i
+    → new ≡ all_numbers whole xs rows (range_with_len 0 (i + 1))
+tuples_more whole xs rows i fs old new h e o n =
     let f : ℕ → List ℕ = λ k. numbers_for whole xs k (row_at rows k) in
-    let here : r ≡ row_at rows i = at ∙ get_or_default rows i r [] h in
-    n ∙ ap (λ l. l ++ numbers_for whole xs i r) o ∙ ap (λ q. all_numbers whole xs rows (range_with_len 0 i) ++ numbers_for whole xs i q) here
+    n ∙ ap (λ l. l ++ listed_numbers whole fs i) o ∙ ap (λ l. flat_map f (range_with_len 0 i) ++ l) (ap (λ l. listed_numbers whole l i) e ∙ listed_is whole xs rows i h)
     ∙ ap (λ l. flat_map f (range_with_len 0 i) ++ l) (sym (append-nil (f i)))
     ∙ sym (flat_map-append f (range_with_len 0 i) (i ∷ [])) ∙ ap (flat_map f) (sym (range_more i))
 

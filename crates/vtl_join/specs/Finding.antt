@@ -1,5 +1,5 @@
 -- The rows of operands that rows of a lead find, by their numbers.
-use Rattle.std.specs.Prelude.{ℕ, ◌+◌, Bool, true, false, not, ◌||◌, cond, List, [], ◌∷◌, ◌++◌, map, length, take, drop, nat_le, Option, Some, None}
+use Rattle.std.specs.Prelude.{ℕ, ◌+◌, Bool, true, false, not, ◌||◌, cond, List, [], ◌∷◌, ◌++◌, map, length, take, drop, slice_index, nat_le, Option, Some, None}
 use Rattle.std.specs.List.{flat_map, list_all, range_with_len}
 use Rattle.vtl_cell.specs.Row.{Row}
 use Rattle.vtl_rows.specs.Places.{row_at}
@@ -53,6 +53,33 @@ numbers_for whole xs i r = cond (is_kept whole xs i r) (numbers xs i r) []
 -- those of the rows of the lead at these places, one after the other
 abbrev pub all_numbers : Bool → List (Option Sought) → List Row → List ℕ → List ℕ
 all_numbers whole xs rows places = flat_map (λ i. numbers_for whole xs i (row_at rows i)) places
+
+-- ---- by lists, that are made for all rows of the lead at once
+-- what rows of the lead find in an operand, one after the other: the number of the row, or how many rows there are; and how many
+-- there are
+pub record Found : Type 0 where
+  pub numbers : List ℕ
+  pub count : ℕ
+
+-- nothing for an operand that is the lead itself
+abbrev pub found_by : List Row → Option Sought → Option Found
+found_by rows None = None
+found_by rows (Some x) = Some (record { numbers = map (first_meant x) rows; count = length x.rows })
+
+abbrev pub listed_number : ℕ → Option Found → ℕ
+listed_number i None = i
+listed_number i (Some f) = slice_index f.numbers i
+
+-- the number is that of a row
+abbrev pub is_within : Option Found → ℕ → Bool
+is_within None n = true
+is_within (Some f) n = not (nat_le f.count n)
+
+abbrev pub is_listed : ℕ → Option Found → Bool
+is_listed i f = is_within f (listed_number i f)
+
+abbrev pub listed_numbers : Bool → List (Option Found) → ℕ → List ℕ
+listed_numbers whole fs i = cond (not whole || list_all (is_listed i) fs) (i ∷ map (listed_number i) fs) []
 
 -- a join that asks that each operand has a part
 abbrev pub wants_all : JoinKind → Bool

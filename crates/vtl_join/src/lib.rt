@@ -10,6 +10,7 @@
 mod closing;
 mod columns;
 mod crossing;
+mod found_rows;
 mod gathering;
 mod joined;
 mod keys;

@@ -1,12 +1,12 @@
 // Tuples of row numbers: that of a row of the lead, and those of the rows that it finds.
 ghost use Rattle.std.specs.List.{range_with_len};
-ghost use Rattle.std.specs.Prelude.{◌≡◌, ◌++◌, length, IfOk, OnOk};
+ghost use Rattle.std.specs.Prelude.{◌≡◌, ◌<◌, ◌++◌, length, All, IfOk, IfSome, OnOk};
 ghost use Rattle.vtl_join.specs.Crossing.{up_to};
-ghost use Rattle.vtl_join.specs.Finding.{all_numbers, is_past, number, numbers_for};
+ghost use Rattle.vtl_join.specs.Finding.{all_numbers, listed_numbers};
 
+use crate::found_rows::{FoundRows, all_found, is_within, number};
 use std::alloc::{AllocError, Global};
 use std::sync::ledger::Ledger;
-use vtl_cell::Cell;
 use vtl_index::{Seeker, Steps};
 use vtl_rows::Table;
 
@@ -21,47 +21,21 @@ pub(crate) fn up_to(alloc: Global, count: usize) -> Result<Vec<usize>, AllocErro
     Ok(numbers)
 }
 
-// The number of the row that a row of the lead finds, or how many rows there are.
-fn number<L: Ledger>(
-    source: &Option<Seeker<'_>>,
-    i: usize,
-    row: &[Cell],
-    steps: &mut Steps<L>,
-) -> usize
-    ensures { result ≡ number i row.now source.now }
-{
-    match source {
-        Some(seeker) => seeker.first(row, steps),
-        None => i,
-    }
-}
-
-// Whether a number is that of no row.
-fn is_past(source: &Option<Seeker<'_>>, number: usize) -> bool
-    ensures { result ≡ is_past source.now number }
-{
-    match source {
-        Some(seeker) => seeker.len() <= number,
-        None => false,
-    }
-}
-
 // Adds the tuple of a row of the lead, unless each part is wanted and one is missing.
-fn push_tuple<L: Ledger>(
+fn push_tuple(
     tuples: &mut Vec<usize>,
     whole: bool,
-    sources: &[Option<Seeker<'_>>],
+    found: &[Option<FoundRows>],
     i: usize,
-    row: &[Cell],
-    steps: &mut Steps<L>,
 ) -> Result<(), AllocError>
-    ensures { OnOk result (tuples.new.items ≡ tuples.old.items ++ numbers_for whole sources.now i row.now) }
+    requires { All (λ f. IfSome f (λ rows. i < length rows.numbers)) found.now }
+    ensures { OnOk result (tuples.new.items ≡ tuples.old.items ++ listed_numbers whole found.now i) }
 {
     let before = tuples.len();
     tuples.push(i)?;
-    for source in sources {
-        let place = number(source, i, row, steps);
-        if whole && is_past(source, place) {
+    for rows in found {
+        let place = number(rows, i);
+        if whole && !is_within(rows, place) {
             tuples.truncate(before);
             return Ok(());
         }
@@ -70,7 +44,8 @@ fn push_tuple<L: Ledger>(
     Ok(())
 }
 
-// The tuples of all rows of the lead, one after the other, in one block.
+// The tuples of all rows of the lead, one after the other, in one block. What is found is listed for one operand after
+// the other, since a look-up that is asked for many rows at once does not wait for memory at each of them.
 pub(crate) fn all_tuples<L: Ledger>(
     alloc: Global,
     whole: bool,
@@ -80,10 +55,11 @@ pub(crate) fn all_tuples<L: Ledger>(
 ) -> Result<Vec<usize>, AllocError>
     ensures { IfOk result (λ v. v.items ≡ all_numbers whole sources.now lead.now.rows (range_with_len 0 (length lead.now.rows))) }
 {
+    let found = all_found(alloc, sources, lead, steps)?;
     let width = sources.len().saturating_add(1);
     let mut tuples = Vec::with_capacity(alloc, lead.len().saturating_mul(width))?;
     for i in 0..lead.len() {
-        push_tuple(&mut tuples, whole, sources, i, lead.row(i), steps)?;
+        push_tuple(&mut tuples, whole, &found, i)?;
     }
     Ok(tuples)
 }

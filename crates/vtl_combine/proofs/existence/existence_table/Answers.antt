@@ -8,6 +8,7 @@ use Rattle.vtl_tree.specs.Structure.{key_width}
 use Rattle.vtl_tree.specs.declared.structure.Structure.{Structure}
 use Rattle.vtl_clause.proofs.SetsKept.{existence_kept}
 use Rattle.vtl_combine.specs.Existence.{answered, sought_common}
+use Rattle.vtl_combine.proofs.AnswerLemmas.{answer_told}
 use Rattle.vtl_combine.proofs.ChosenLemmas.{each_more}
 use Rattle.vtl_combine.proofs.ExistenceLemmas.{answer_fits_at, existence_is}
 use Rattle.vtl_combine.proofs.existence.existence_table.Goals as goal
@@ -20,8 +21,9 @@ push_answer-requires g c = λ h.
     let within : c.loop-i.i < length rows = omega (arith, c.len-i-end.ensures.rows, c.loop-i-test.true) in
     let ids = c.deref.ensures.value ∙ c.in_ok-identifiers.ensures ∙ ap (λ (x : Structure). range_with_len 0 (key_width x)) c.structure-2.ensures.structure in
     let found = c.in_ok-seeker.ensures ∙ ap (λ (x : Structure). sought_common x e) c.structure.ensures.structure in
-    answer_fits_at d e c.args.retain c.args.made.now rows c.loop-i.i c.row-row.result.now c.loop-i.out.columns c.deref.result.now c.in_ok-seeker.seeker c.has-answer.result c.requires.made c.table-table.ensures.table.points within c.row-row.ensures.row
-    c.loop-i.invariant.columns ids found c.has-answer.ensures.found h
+    let told = answer_told c.in_ok-seeker.seeker rows c.in_ok-answers.answers.items c.loop-i.i c.index.result.now c.row-row.result.now within c.in_ok-answers.ensures c.index.ensures c.row-row.ensures.row in
+    answer_fits_at d e c.args.retain c.args.made.now rows c.loop-i.i c.row-row.result.now c.loop-i.out.columns c.deref.result.now c.in_ok-seeker.seeker c.index.result.now c.requires.made c.table-table.ensures.table.points within c.row-row.ensures.row
+    c.loop-i.invariant.columns ids found told h
 
 pub loop-i-preserved : goal.loop-i-preserved
 loop-i-preserved g c =
@@ -33,11 +35,12 @@ loop-i-preserved g c =
     let f = λ (q : Row). answered kept ids q (is_any_meant x q) in
     let before = flat_map f (take c.loop-i.i rows) in
     let within : c.loop-i.i < length rows = omega (arith, c.len-i-end.ensures.rows, c.loop-i-test.true) in
+    let told = answer_told x rows c.in_ok-answers.answers.items c.loop-i.i c.index.result.now r within c.in_ok-answers.ensures c.index.ensures c.row-row.ensures.row in
     record {
       columns = c.push_answer.ensures.columns ∙ c.loop-i.invariant.columns;
       rows =
-          c.in_ok-push_answer.ensures.rows ∙ ap (λ l. l ++ answered kept c.deref.result.now r c.has-answer.result) c.loop-i.invariant.rows
-          ∙ ap (λ ps. before ++ answered kept ps r c.has-answer.result) c.deref.ensures.value ∙ ap (λ b. before ++ answered kept ids r b) c.has-answer.ensures.found
+          c.in_ok-push_answer.ensures.rows ∙ ap (λ l. l ++ answered kept c.deref.result.now r c.index.result.now) c.loop-i.invariant.rows
+          ∙ ap (λ ps. before ++ answered kept ps r c.index.result.now) c.deref.ensures.value ∙ ap (λ b. before ++ answered kept ids r b) told
           ∙ sym (each_more f rows c.loop-i.i r within c.row-row.ensures.row);
     }
 

@@ -2,7 +2,7 @@ use Rattle.std.proofs.Common.{arith, ◌∙◌, ap}
 use Rattle.std.proofs.lemmas.Grind.{common_steps}
 use Rattle.std.proofs.lemmas.List.{take_all}
 use Rattle.vtl_combine.specs.Operands.{retained_by}
-use Rattle.vtl_combine.proofs.retaining.retained_by.Goals as goal
+use Rattle.vtl_combine.proofs.retaining.retained_of_few.Goals as goal
 
 pub loop-row-preserved : goal.loop-row-preserved
 loop-row-preserved g c = grind (arith, common_steps)

@@ -1,0 +1,35 @@
+use Rattle.std.proofs.Common.{◌∷◌, [], ◌++◌, ◌∙◌, ap, sym, subst, arith}
+use Rattle.vtl_tree.specs.DataSet.{IsDataSet}
+use Rattle.vtl_clause.specs.Operators.{left_of}
+use Rattle.vtl_clause.proofs.SetsKept.{combined_is, union_kept}
+use Rattle.vtl_combine.proofs.OperandLemmas.{has_columns}
+use Rattle.vtl_combine.proofs.UnionLemmas.{united_with_reduced}
+use Rattle.vtl_combine.proofs.unions.united_pair.Goals as goal
+
+pub reduced_rows-requires : goal.reduced_rows-requires
+reduced_rows-requires c =
+    let b = c.args.b.now.structure in
+    has_columns c.args.made.now b (combined_is c.args.a.now.structure (b ∷ []) c.args.made.now c.requires) c.requires.operands.1.0
+
+pub all_rows-requires : goal.all_rows-requires
+all_rows-requires c =
+    let a = c.args.a.now.structure in
+    has_columns c.args.made.now a (combined_is a (c.args.b.now.structure ∷ []) c.args.made.now c.requires) c.requires.operands.0
+
+pub returns-clause-rows : goal.returns-clause-rows
+returns-clause-rows c =
+    let a = c.args.a.now in
+    let b = c.args.b.now in
+    let s = c.args.made.now in
+    c.in_ok-append.ensures.rows ∙ ap (λ l. l ++ c.in_ok-behind.behind.rows) c.in_ok-table.ensures.rows ∙ ap (λ l. left_of a s ++ l) c.in_ok-behind.ensures.rows
+    ∙ united_with_reduced a b s c.requires (c.are_data_sets.ensures 0 c.args.a (omega arith)) (c.are_data_sets.ensures 1 c.args.b (omega arith))
+
+pub returns-clause-table : goal.returns-clause-table
+returns-clause-table c =
+    let a = c.args.a.now in
+    let b = c.args.b.now in
+    let s = c.args.made.now in
+    record {
+      columns = c.in_ok-append.ensures.columns ∙ c.in_ok-table.ensures.columns;
+      points = subst (λ l. IsDataSet s l) (sym (returns-clause-rows c)) (union_kept (a ∷ b ∷ []) s c.requires (c.are_data_sets.ensures 0 c.args.a (omega arith), (c.are_data_sets.ensures 1 c.args.b (omega arith), tt)));
+    }
