@@ -10,8 +10,10 @@ pub mod PlacedColumns
 pub mod RowItems
 pub mod Added
 pub mod PlainRows
+pub mod GatheredItems
 pub mod QueryParts
 pub mod QueryColumns
 pub mod MadeRows
 pub mod PlannedSelects
 pub mod WholeQueries
+pub mod Counted

@@ -1,6 +1,6 @@
 -- The selects of a query by its plan, one by one.
 use Rattle.std.proofs.Common.{◌≡◌, ℕ, zero, suc, ◌+◌, Bool, true, false, cond, List, [], ◌∷◌, length, drop, get_or, Ok, Err, Result, refl, sym, ap, ◌∙◌, subst, arith}
-use Rattle.std.specs.Prelude.{fold}
+use Rattle.std.specs.Prelude.{IfOk, fold}
 use Rattle.std.specs.List.{AllByRecursion}
 use Rattle.vtl_lists.proofs.Perms.{AllByRecursion-Perm, Perm-sym}
 use Rattle.vtl_lists.specs.Perm.{chain}
@@ -18,11 +18,12 @@ use Rattle.sql_eval.specs.Plans.{IsAt, IsEqualityJoin, IsPlan, SelectStands, Sel
 use Rattle.sql_eval.specs.plan.Early.{Early}
 use Rattle.sql_eval.specs.plan.Indexed.{Indexed}
 use Rattle.sql_window.specs.From.{Joined, first_of, kept_of, source_rows, with_join}
-use Rattle.sql_window.specs.Profiles.{IsLawful}
+use Rattle.sql_window.specs.Profiles.{AreOfProfile, IsLawful, IsRowOfProfile}
 use Rattle.sql_window.specs.Scopes.{row_of}
 use Rattle.sql_window.specs.Queries.{scope_of}
 use Rattle.sql_window.specs.Tables.{Base, RowsFit}
 use Rattle.sql_window.specs.Values.{at_rows}
+use Rattle.sql_window.proofs.Profiled.{sources_are}
 use Rattle.sql_window.proofs.SourceKinds.{source_rows_fit}
 use Rattle.sql_exec.specs.Answers.{Gives}
 use Rattle.sql_exec.specs.Parts.{HasRowsOf, IsPart, phase_of}
@@ -102,6 +103,14 @@ same_rows_fit b kinds s early rows lawful part same is = go (source_rows b s) re
     go : (m : Outcome (List Row)) → source_rows b s ≡ m → Same (Ok rows) m → RowsFit (row_of (scope_of b.tables s)) rows
     go (Ok others) e perm = AllByRecursion-Perm (λ r. fits_kinds (row_of (scope_of b.tables s)) r ≡ true) (Perm-sym perm) (source_rows_fit b lawful.fit s others part.typed e)
     go (Err f) e perm = absurd perm
+
+-- so are their integers of the profile
+pub same_rows_of_profile : (b : Base) (s : SelectTree) (early : List Early) (rows : List Row) → IsLawful b → HasRowsOf b early s → planned_source_rows b s [] early ≡ Ok rows → AreOfProfile b.settings rows
+same_rows_of_profile b s early rows lawful same is = go (source_rows b s) (sources_are b lawful.ranged s) (subst (λ (m : Outcome (List Row)). Same m (source_rows b s)) is same)
+  where
+    go : (m : Outcome (List Row)) → IfOk m (AreOfProfile b.settings) → Same (Ok rows) m → AreOfProfile b.settings rows
+    go (Ok others) all perm = AllByRecursion-Perm (IsRowOfProfile b.settings) (Perm-sym perm) all
+    go (Err f) all perm = absurd perm
 
 pub gives_same : (m n : Outcome (List Row)) (r : Result Listed ScalarErr) → Same m n → Gives m r → Gives n r
 gives_same (Ok xs) (Ok ys) (Ok t) same gives = chain (Perm-sym same) gives

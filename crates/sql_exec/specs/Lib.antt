@@ -18,6 +18,7 @@ pub use Rattle.sql_window.specs.Tables
 pub use Rattle.sql_window.specs.Values
 pub use Rattle.sql_window.specs.Windows
 pub mod Answers
+pub mod Gathered
 pub mod Items
 pub mod Outputs
 pub mod Parts

@@ -8,6 +8,7 @@
 #![tactic(auto)]
 
 mod columns;
+mod gathered;
 mod items;
 mod output;
 mod queries;

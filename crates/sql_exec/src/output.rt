@@ -10,7 +10,7 @@ ghost use Rattle.sql_exec.specs.Outputs.{Adds, Sees, fault_seen};
 use crate::items::{RowItem, push_items};
 use sql_eval::Cells;
 use sql_window::Seen;
-use std::alloc::Global;
+use std::alloc::{AllocError, Global};
 use vtl_cell::{Cell, Profile};
 use vtl_rows::{Column, Table};
 use vtl_scalar::ScalarErr;
@@ -69,6 +69,22 @@ impl Output {
             self.table.push_cells(&mut self.cells)?;
         }
         Ok(())
+    }
+
+    /// Adds the rows of a table below the same columns. It takes the place of a table of no rows, and else its cells are
+    /// moved. It fails only if memory runs out.
+    pub(crate) fn add_table(&mut self, table: Table) -> Result<(), AllocError>
+        requires { table.columns ≡ self.old.table.columns }
+        ensures { OnOk result (Adds (Ok table.rows) self.old self.new) }
+    {
+        let Seen::Nothing = self.seen else {
+            return Ok(());
+        };
+        if self.table.len() == 0 {
+            self.table = table;
+            return Ok(());
+        }
+        self.table.append(table)
     }
 
     /// Sees a fault. That memory ran out is no such fault, and is passed on.

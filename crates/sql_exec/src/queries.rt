@@ -1,14 +1,16 @@
 // Queries.
-ghost use Rattle.std.specs.Prelude.{◌≡◌, ◌∷◌, [], IfOk, length, map};
+ghost use Rattle.std.specs.Prelude.{◌≡◌, ◌+◌, ◌≤◌, ◌∷◌, [], true, IfOk, length, map};
 ghost use Rattle.vtl_scalar.specs.Answers.{AnswersBy};
 ghost use Rattle.sql_tree.specs.Formed.{IsQuery};
 ghost use Rattle.sql_tree.specs.Grammar.{most_levels};
 ghost use Rattle.sql_tree.specs.Trees.{SelectTree};
 ghost use Rattle.sql_tree.specs.View.{query_tree};
+ghost use Rattle.sql_eval.specs.Plans.{indexed_in, is_indexed};
 ghost use Rattle.sql_window.specs.Queries.{query_columns, scope_of};
 ghost use Rattle.sql_window.specs.TypedSelects.{IsQueryTyped};
 ghost use Rattle.sql_window.specs.From.{source_rows};
 ghost use Rattle.sql_window.specs.Profiles.{IsLawful};
+ghost use Rattle.sql_window.specs.Steps.{IsPlainJoin, most_steps};
 ghost use Rattle.sql_window.specs.Selects.{query_value};
 ghost use Rattle.sql_window.specs.Tables.{column_entry};
 ghost use Rattle.sql_window.specs.Columns.{source_columns};
@@ -29,6 +31,10 @@ use vtl_rows::{Table, Tables};
 /// its plan lists go by an index, and every other join tries each pair; parts of a WHERE that it lists are tried before
 /// a join too, which sees the rows at which they are true.
 ///
+/// A step is one row that is added to a look-up, one that asks it, or one pair of rows that a join takes. One select over
+/// two sources, whose join the plan lists, takes at most one for each row of both and for each row that FROM gives, if it
+/// is not grouped and asks no EXISTS.
+///
 /// # Errors
 ///
 /// The query's fault is a division by zero or a number out of its range; or there was not enough memory.
@@ -44,12 +50,13 @@ pub fn exec<L: Ledger>(
     requires lawful { IsLawful (base_held p.now tables.now) }
     ensures columns { IfOk result (λ t. map column_entry t.columns ≡ query_columns (tables_held tables.now) (query_tree plan.now.query)) }
     ensures rows { Gives (query_value (base_held p.now tables.now) (query_tree plan.now.query)) result }
+    ensures steps { (s : SelectTree) → query_tree plan.now.query ≡ s ∷ [] → is_indexed (indexed_in plan.now.ways 0) 0 ≡ true → IsPlainJoin s → steps.new ≤ steps.old + most_steps (base_held p.now tables.now) s }
 {
     let selects = plan.query().selects.as_slice();
     let kinds = query_kinds(alloc, p, tables, selects)?;
     let columns = named_columns(alloc, selects[0].items.as_slice(), &kinds)?;
     let mut out = Output::new(alloc, columns);
-    add_selects(alloc, &mut out, plan, selects, &kinds, tables, p)?;
+    add_selects(alloc, &mut out, plan, selects, &kinds, tables, p, steps)?;
     out.finish()
 }
 
@@ -72,5 +79,5 @@ pub fn source_rows<L: Ledger>(
     ensures rows { (s : SelectTree) → query_tree plan.now.query ≡ s ∷ [] → AnswersBy (λ t. t.rows) result (source_rows (base_held p.now tables.now) s) }
 {
     let selects = plan.query().selects.as_slice();
-    sql_window::source_rows(alloc, &selects[0], tables, p)
+    sql_window::source_rows(alloc, &selects[0], tables, p, steps)
 }

@@ -8,6 +8,7 @@ use Rattle.vtl_cell.specs.Settings.{Settings}
 use Rattle.vtl_rows.specs.Gathered.{part_at}
 use Rattle.vtl_rows.specs.Places.{row_at}
 use Rattle.vtl_rows.specs.Tables.{Listed}
+use Rattle.vtl_index.specs.Matches.{Matched, matched}
 use Rattle.vtl_index.specs.RowIndex.{RowLookup, found_rows}
 use Rattle.vtl_index.specs.RowKeys.{has_null, key_at}
 use Rattle.vtl_index.specs.declared.row_keys.NullKeys.TheVariants.{NotFound}
@@ -19,8 +20,8 @@ use Rattle.sql_eval.specs.Tables.{rows_of}
 use Rattle.sql_eval.specs.Profiles.{AreOfProfile, IsLawful, IsRowOfProfile}
 use Rattle.sql_from.specs.Held.{IsHeld, base_held, rows_held}
 use Rattle.sql_from.specs.Joins.{Test, numbers_to, passes, with_number}
-use Rattle.sql_from.specs.Keys.{ArePaired, all_paired, asked_columns, last_of, own_columns}
-use Rattle.sql_from.specs.Lookups.{Finds, IsKeyed, found_by}
+use Rattle.sql_from.specs.Keys.{ArePaired, all_paired, asked_columns, last_of, linked_count, own_columns}
+use Rattle.sql_from.specs.Lookups.{Finds, IsKeyed}
 use Rattle.sql_from.specs.Partners.{Answers, AreTiedBy}
 use Rattle.sql_from.specs.Rows.{combined}
 use Rattle.sql_from.specs.Sources.{Sourced, parts_of}
@@ -79,11 +80,18 @@ got_part [] i t e = cc
 got_part (u ∷ ts) zero t e = cc
 got_part (u ∷ ts) (suc i) t e = got_part ts i t e
 
+-- how many rows the source that leads and the last one have
+pub linked_rows : (s : Sourced) (lead n : ℕ) (own table : Listed) → lead ≡ n → slice_get (parts_of s.sources) (length s.sources - 1) ≡ Some own → slice_get (parts_of s.sources) lead ≡ Some table → length table.rows + length own.rows ≡ linked_count s n
+linked_rows s lead n own table same own_got table_got =
+    let last = got_part (parts_of s.sources) (length s.sources - 1) own own_got in
+    let first = got_part (parts_of s.sources) lead table table_got in
+    (λ i. length (sym first i).rows + length (sym last i).rows) ∙ ap (linked_count s) same
+
 -- what is found by a look-up of a table's rows
 module _ (p : Settings) (own : Listed) (lead : ℕ) (table : Listed) (keys : List KeyPair) (l : KeyLookup) (keyed : IsKeyed own lead table keys p l) (small : p.scale ≤ 9) (own_is : AreOfProfile p own.rows) (table_is : AreOfProfile p table.rows) where
-  keyed_finds : (number : ℕ) (t : ℕ → Bool) → ((j : ℕ) → t j ≡ all_paired p (row_at own.rows j) (row_at table.rows number) keys) → found_by l number ≡ filter t (numbers_to (length own.rows))
+  keyed_finds : (number : ℕ) (t : ℕ → Bool) → ((j : ℕ) → t j ≡ all_paired p (row_at own.rows j) (row_at table.rows number) keys) → matched l.matches number ≡ filter t (numbers_to (length own.rows))
   keyed_finds number t h =
-      (λ i. found_rows (keyed.index_is i) (key_at (keyed.index_is i).p (keyed.asked_is i) (row_at (keyed.table_is i).rows number)))
+      ap (λ (m : Matched). matched m number) keyed.matches_are
       ∙ found_is p small own.rows own_is (row_at table.rows number) (ranged_row p table.rows table_is number) keys t h
 
 -- ---- the look-up of a conjunction of equalities
@@ -99,22 +107,22 @@ module _ (p : Settings) (s : Sourced) (e : Exp) (l : KeyLookup) (lead : ℕ) (ow
   lead_is : part_at (parts_of s.sources) lead ≡ table
   lead_is = got_part (parts_of s.sources) lead table table_got
 
-  pub rows_are : l.index.rows ≡ (last_of s).rows
-  rows_are = ap (λ (x : RowLookup). x.rows) keyed.index_is ∙ ap (λ (t : Listed). t.rows) (sym last_is)
+  pub count_is : l.count ≡ length (last_of s).rows
+  count_is = keyed.count_is ∙ ap (λ (t : Listed). length t.rows) (sym last_is)
 
   pub lookup_finds : Finds (length s.sources) f l
   lookup_finds = record {
     lead = subst (λ n. n + 1 < length s.sources) (sym keyed.lead_is) within;
     sound = λ front last whole. (paired p front last whole).sound;
     found = λ front whole.
-        ap (λ n. found_by l (slice_index front n)) keyed.lead_is
+        ap (λ n. matched l.matches (slice_index front n)) keyed.lead_is
         ∙ keyed_finds p own lead table keys l keyed lawful.scale (ranged p s.held lawful own own_held) (ranged p s.held lawful table table_held) (slice_index front lead) (passes f front)
         (λ j. (paired p front j whole).same ∙ (λ i. all_paired p (row_at (last_is i).rows j) (row_at (lead_is i).rows (slice_index front lead)) keys))
-        ∙ ap (λ (x : RowLookup). filter (passes f front) (numbers_to (length x.rows))) (sym keyed.index_is);
+        ∙ ap (λ n. filter (passes f front) (numbers_to n)) (sym keyed.count_is);
   }
 
 -- ---- the look-up of the partners of EXISTS
-any_numbered : (t : Row → Bool) (rows : List Row) (js : List ℕ) → list_any (λ j. t (row_at rows j)) js ≡ list_any t (map (row_at rows) js)
+pub any_numbered : (t : Row → Bool) (rows : List Row) (js : List ℕ) → list_any (λ j. t (row_at rows j)) js ≡ list_any t (map (row_at rows) js)
 any_numbered t rows [] = refl
 any_numbered t rows (j ∷ js) = ap (λ b. t (row_at rows j) || b) (any_numbered t rows js)
 
@@ -139,5 +147,5 @@ module _ (p : Settings) (s : Sourced) (x : PartnerIndex) (lead : ℕ) (own table
         ∙ sym (any_numbered t own.rows (numbers_to (length own.rows)) ∙ ap (list_any t) (all_places own.rows))
         ∙ any_kept (λ j. t (row_at own.rows j)) (numbers_to (length own.rows))
         ∙ ap (λ js. not (length js == 0)) (sym (keyed_finds p own lead table keys x.keys keyed lawful.scale (ranged p s.held lawful own (x.table, sym own_rows)) (ranged p s.held lawful table table_held) number (λ j. t (row_at own.rows j)) (λ j. refl)))
-        ∙ ap (λ n. not (length (found_by x.keys (slice_index (with_number front last) n)) == 0)) (sym keyed.lead_is);
+        ∙ ap (λ n. not (length (matched x.keys.matches (slice_index (with_number front last) n)) == 0)) (sym keyed.lead_is);
   }

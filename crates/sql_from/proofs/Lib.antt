@@ -6,6 +6,7 @@ pub use Rattle.sql_eval.proofs.SharedKinds
 pub use Rattle.sql_eval.proofs.SourceKinds
 pub use Rattle.sql_eval.proofs.UpToOrder
 pub use Rattle.sql_eval.proofs.WindowKinds
+pub mod Views
 pub mod Flats
 pub mod Joins
 pub mod Marks
@@ -16,9 +17,15 @@ pub mod Walks
 pub mod Means
 pub mod Standing
 pub mod Tabled
+pub mod ChosenCells
 pub mod Equalities
 pub mod Conjunctions
 pub mod Conjuncts
 pub mod Found
 pub mod Spots
 pub mod Tied
+pub mod Links
+pub mod TwoSources
+pub mod Fewer
+pub mod Counted
+pub mod KeyFound

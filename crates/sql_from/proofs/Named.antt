@@ -40,6 +40,15 @@ numbered_last {V = V} first (e ∷ es) key v =
     let s : suc first + length es ≡ first + suc (length es) = omega arith in
     ap (λ l. (e.0, first) ∷ l) (numbered_last (suc first) es key v ∙ ap (λ (n : ℕ). numbered (suc first) es ++ (key, n) ∷ []) s)
 
+pub same_text-is : (x y : Text) → same_text x y ≡ true → x ≡ y
+same_text-is [] [] e = refl
+same_text-is [] (j ∷ y) e = cc
+same_text-is (i ∷ x) [] e = cc
+same_text-is (i ∷ x) (j ∷ y) e =
+    let parts = and_parts (nat_eq i j) (same_text x y) e in
+    let rest = same_text-is x y parts.1 in
+    λ m. eqb-true i j parts.0 m ∷ rest m
+
 -- ---- one column more
 module _ (first : ℕ) (es : Columns) (named : Named ColumnAt) (key : Text) (kind : Kind) (before : AreFound first es named) where
   pub put_found : (n : ℕ) (after : Named ColumnAt) → n ≡ first + length es → after ≡ named ++ (key, record { place = n; kind = kind }) ∷ [] → AreFound first (es ++ (key, kind) ∷ []) after
@@ -81,15 +90,6 @@ module _ (first : ℕ) (es : Columns) (named : Named ColumnAt) (key : Text) (kin
 
       places_known : IsSome (value_among (numbered first es) key)
       places_known = subst IsSome (before.places key) (some_mapped (λ c. c.place) (value_among named key) (some_named named there))
-
-      same_text-is : (x y : Text) → same_text x y ≡ true → x ≡ y
-      same_text-is [] [] e = refl
-      same_text-is [] (j ∷ y) e = cc
-      same_text-is (i ∷ x) [] e = cc
-      same_text-is (i ∷ x) (j ∷ y) e =
-          let parts = and_parts (nat_eq i j) (same_text x y) e in
-          let rest = same_text-is x y parts.1 in
-          λ m. eqb-true i j parts.0 m ∷ rest m
 
       known : {W : Type 0} (xs : Named W) → IsSome (value_among xs key) → (name : Text) → same_text name key ≡ true → IsSome (value_among xs name)
       known xs h name s = subst (λ k. IsSome (value_among xs k)) (sym (same_text-is name key s)) h

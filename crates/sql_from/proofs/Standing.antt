@@ -51,7 +51,7 @@ last_of P (y ∷ xs) x all = last_of P xs x all.1
 
 -- ---- the table of a source
 
-named_rows : (held : NamedTables) (name : Text) → rows_held held name ≡ (table_named held name).rows
+pub named_rows : (held : NamedTables) (name : Text) → rows_held held name ≡ (table_named held name).rows
 named_rows held name = go (table_of name held)
   where
     go : (o : Option Listed) → rows_of o ≡ (or_nothing o).rows

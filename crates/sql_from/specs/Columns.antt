@@ -1,6 +1,8 @@
 -- The columns of the table of FROM and WHERE.
-use Rattle.std.specs.Prelude.{ℕ, List, ◌∷◌, ◌++◌, map}
+use Rattle.std.specs.Prelude.{ℕ, List, ◌∷◌, ◌++◌, map, slice_index_or}
 use Rattle.std.specs.List.{flat_map}
+use Rattle.vtl_cell.specs.declared.kind.Kind.{Kind}
+use Rattle.vtl_cell.specs.declared.kind.Kind.TheVariants as k
 use Rattle.vtl_rows.specs.declared.column.Column.{Column}
 use Rattle.sql_tree.specs.Trees.{Text}
 use Rattle.sql_eval.specs.Scopes.{Columns, Scope}
@@ -15,3 +17,7 @@ columns_below alias columns = map (λ e. record { name = alias ++ line_feed ∷ 
 -- those of all sources, in order
 abbrev pub source_columns : Scope → List Column
 source_columns scope = flat_map (λ s. columns_below s.0 s.1) scope
+
+-- the kinds at listed places of a row; past its end that of null
+abbrev pub kinds_at : List ℕ → List Kind → List Kind
+kinds_at places kinds = map (λ i. slice_index_or kinds i k.Null) places

@@ -1,5 +1,5 @@
 -- Joins by equal cells: which columns of two sources are equated, as keys.
-use Rattle.std.specs.Prelude.{◌≡◌, ℕ, ◌+◌, ◌-◌, ◌<◌, ◌&&◌, Bool, List, ◌∷◌, [], length, map, slice_index, None}
+use Rattle.std.specs.Prelude.{◌≡◌, ℕ, ◌+◌, ◌-◌, ◌<◌, ◌==◌, ◌&&◌, ◌||◌, Bool, true, false, List, ◌∷◌, [], length, map, slice_get, slice_index, Option, None, Some}
 use Rattle.std.specs.List.{list_all}
 use Rattle.vtl_cell.specs.Outcome.{fault_in}
 use Rattle.vtl_cell.specs.Outcomes.{is_true}
@@ -14,11 +14,13 @@ use Rattle.vtl_rows.specs.Tables.{Listed}
 use Rattle.vtl_rows.specs.declared.gather.Pick.{Pick}
 use Rattle.vtl_index.specs.declared.row_keys.KeyColumn.{KeyColumn}
 use Rattle.vtl_index.specs.declared.row_keys.KeyForm.TheVariants.{AsNumber}
+use Rattle.sql_tree.specs.Trees as tree
 use Rattle.sql_tree.specs.Trees.{Exp}
 use Rattle.sql_tree.specs.declared.parts.Column.{Column}
+use Rattle.sql_eval.specs.Plans.{conjuncts}
 use Rattle.sql_eval.specs.Values.{place_in}
 use Rattle.sql_from.specs.Joins.{with_number}
-use Rattle.sql_from.specs.Rows.{combined}
+use Rattle.sql_from.specs.Rows.{combined, picks_from}
 use Rattle.sql_from.specs.Sources.{Sourced, parts_of, scope_held}
 use Rattle.sql_from.specs.Standing.{condition_at}
 use Rattle.sql_from.specs.declared.key_pairs.KeyPair.{KeyPair}
@@ -37,6 +39,15 @@ pub record IsSpot (s : Sourced) (x : Column) (pick : Pick) : Type 0 where
   pub cell : (front : List ℕ) (last : ℕ) → length front + 1 ≡ length s.sources
       → column_of (place_in (scope_held s.sources) x) (combined (parts_of s.sources) (with_number front last)) ≡ column_of pick.column (row_at (part_at (parts_of s.sources) pick.part).rows (slice_index (with_number front last) pick.part))
 
+-- where the cell of a column stands in each row of FROM, if there is one
+abbrev pub spot_of : Sourced → Column → Option Pick
+spot_of s x = slice_get (picks_from 0 (parts_of s.sources)) (place_in (scope_held s.sources) x)
+
+-- whether that is in the source at this place
+abbrev pub stands_in : ℕ → Option Pick → Bool
+stands_in n None = false
+stands_in n (Some pick) = pick.part == n
+
 -- the last source
 abbrev pub last_of : Sourced → Listed
 last_of s = part_at (parts_of s.sources) (length s.sources - 1)
@@ -44,6 +55,28 @@ last_of s = part_at (parts_of s.sources) (length s.sources - 1)
 -- the row of the source at a place, in a tuple
 abbrev pub row_in : Sourced → ℕ → List ℕ → Row
 row_in s place front = row_at (part_at (parts_of s.sources) place).rows (slice_index front place)
+
+-- ---- equalities of columns
+
+-- whether one is a column of the last source and the other one of the source that leads
+abbrev pub are_linked : Sourced → ℕ → Exp → Exp → Bool
+are_linked s lead (tree.column x) (tree.column y) =
+    (stands_in (length s.sources - 1) (spot_of s x) && stands_in lead (spot_of s y)) || (stands_in (length s.sources - 1) (spot_of s y) && stands_in lead (spot_of s x))
+are_linked s lead a b = false
+
+-- an equality of two such columns
+abbrev pub is_link : Sourced → ℕ → Exp → Bool
+is_link s lead (tree.binary a op.Equal b) = are_linked s lead a b
+is_link s lead e = false
+
+-- each part of a condition is such an equality
+pub record IsLinked (s : Sourced) (lead : ℕ) (e : Exp) : Type 0 where
+  pub before : lead + 1 < length s.sources
+  pub links : list_all (is_link s lead) (conjuncts e) ≡ true
+
+-- how many rows the source that leads and the last one have
+abbrev pub linked_count : Sourced → ℕ → ℕ
+linked_count s lead = length (part_at (parts_of s.sources) lead).rows + length (last_of s).rows
 
 -- ---- pairs of columns
 

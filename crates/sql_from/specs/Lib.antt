@@ -19,5 +19,8 @@ pub mod Joins
 pub mod Standing
 pub mod Keys
 pub mod Lookups
+pub mod Asking
+pub mod Steps
 pub mod Partners
+pub mod KeyPartners
 pub mod Columns

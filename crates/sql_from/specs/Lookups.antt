@@ -1,29 +1,22 @@
 -- What a look-up by keys finds for a tuple.
 use Rattle.std.specs.Prelude.{◌≡◌, ℕ, ◌+◌, ◌<◌, List, filter, length, slice_index, None}
 use Rattle.vtl_cell.specs.Settings.{Settings}
-use Rattle.vtl_rows.specs.Places.{row_at}
 use Rattle.vtl_rows.specs.Tables.{Listed}
-use Rattle.vtl_index.specs.RowIndex.{found_rows}
-use Rattle.vtl_index.specs.RowKeys.{key_at}
+use Rattle.vtl_index.specs.Matches.{matched}
 use Rattle.sql_from.specs.Joins.{Test, fault_of, numbers_to, passes}
 use Rattle.vtl_index.specs.declared.row_keys.NullKeys.TheVariants.{NotFound}
 use Rattle.sql_from.specs.Keys.{asked_columns, own_columns}
 use Rattle.sql_from.specs.declared.key_pairs.KeyPair.{KeyPair}
 use Rattle.sql_from.specs.declared.key_lookup.KeyLookup.{KeyLookup}
 
--- the rows that have the cells of a row of the source that leads
-abbrev pub found_by : KeyLookup → ℕ → List ℕ
-found_by l number = found_rows l.index (key_at l.index.p l.asked.items (row_at l.table.now.rows number))
-
 -- It finds the rows with which a condition is true of a tuple, and the condition has no fault; tuples have so many numbers with a row.
 pub record Finds (width : ℕ) (f : Test) (l : KeyLookup) : Type 0 where
   pub lead : l.lead + 1 < width
   pub sound : (front : List ℕ) (last : ℕ) → length front + 1 ≡ width → fault_of f front last ≡ None
-  pub found : (front : List ℕ) → length front + 1 ≡ width → found_by l (slice_index front l.lead) ≡ filter (passes f front) (numbers_to (length l.index.rows))
+  pub found : (front : List ℕ) → length front + 1 ≡ width → matched l.matches (slice_index front l.lead) ≡ filter (passes f front) (numbers_to l.count)
 
 -- a look-up of the rows of a table by columns of its own, asked with the rows of a table that leads
 pub record IsKeyed (own : Listed) (lead : ℕ) (table : Listed) (keys : List KeyPair) (p : Settings) (l : KeyLookup) : Type 0 where
   pub lead_is : l.lead ≡ lead
-  pub table_is : l.table.now ≡ table
-  pub asked_is : l.asked.items ≡ asked_columns keys
-  pub index_is : l.index ≡ record { rows = own.rows; key = own_columns keys; nulls = NotFound; p = p }
+  pub count_is : l.count ≡ length own.rows
+  pub matches_are : l.matches ≡ record { index = record { rows = own.rows; key = own_columns keys; nulls = NotFound; p = p }; at = asked_columns keys; asking = table.rows }

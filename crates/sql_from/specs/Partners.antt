@@ -5,12 +5,12 @@ use Rattle.vtl_cell.specs.Row.{Row, column_of}
 use Rattle.vtl_cell.specs.Settings.{Settings}
 use Rattle.vtl_rows.specs.Gathered.{picked_cell}
 use Rattle.vtl_rows.specs.declared.gather.Pick.{Pick}
+use Rattle.vtl_index.specs.Matches.{matched}
 use Rattle.sql_eval.specs.Placed.{has_partner, is_tied}
 use Rattle.sql_eval.specs.declared.resolved.Tie.{Tie}
 use Rattle.sql_from.specs.Held.{rows_held}
 use Rattle.sql_from.specs.Joins.{with_number}
 use Rattle.sql_from.specs.Keys.{all_paired, is_paired, row_in}
-use Rattle.sql_from.specs.Lookups.{found_by}
 use Rattle.sql_from.specs.Rows.{combined}
 use Rattle.sql_from.specs.Sources.{Sourced, parts_of}
 use Rattle.sql_from.specs.declared.key_pairs.KeyPair.{KeyPair}
@@ -33,4 +33,4 @@ AreTiedBy s lead ties keys = (p : Settings) (inner : Row) (front : List ℕ) (la
 pub record Answers (s : Sourced) (x : PartnerIndex) : Type 0 where
   pub lead : x.keys.lead < length s.sources
   pub has : (front : List ℕ) (last : ℕ) → length front + 1 ≡ length s.sources
-      → has_partner x.p (rows_held s.held) x.table x.ties.items (combined (parts_of s.sources) (with_number front last)) ≡ not (length (found_by x.keys (slice_index (with_number front last) x.keys.lead)) == 0)
+      → has_partner x.p (rows_held s.held) x.table x.ties.items (combined (parts_of s.sources) (with_number front last)) ≡ not (length (matched x.keys.matches (slice_index (with_number front last) x.keys.lead)) == 0)

@@ -1,5 +1,5 @@
 -- The rows of FROM that tuples of row numbers stand for. The number one past a table's last row is that of a missing part.
-use Rattle.std.specs.Prelude.{ℕ, ◌+◌, List, [], ◌∷◌, ◌++◌, map, length}
+use Rattle.std.specs.Prelude.{ℕ, ◌+◌, List, [], ◌∷◌, ◌++◌, map, length, slice_index_or}
 use Rattle.std.specs.List.{range_with_len}
 use Rattle.vtl_cell.specs.Row.{Row}
 use Rattle.vtl_rows.specs.Places.{row_at}
@@ -33,3 +33,7 @@ picks_at k count = map (λ j. record { part = k; column = j }) (range_with_len 0
 abbrev pub picks_from : ℕ → List Listed → List Pick
 picks_from k [] = []
 picks_from k (t ∷ ts) = picks_at k (length t.columns) ++ picks_from (k + 1) ts
+
+-- where the cell at a place of a row stands, by where all its cells stand; past the last one in the first column of the first source
+abbrev pub pick_for : List Pick → ℕ → Pick
+pick_for picks i = slice_index_or picks i (record { part = 0; column = 0 })

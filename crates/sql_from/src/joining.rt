@@ -134,8 +134,8 @@ pub(crate) fn join_found<C: Condition>(
     requires width { C.width condition.now ≡ left.now.rows.width + 1 }
     requires marks { length marks.now ≡ left.now.rows.width }
     ensures width { IfOk result (λ w. w.rows.width ≡ left.now.rows.width + 1) }
-    ensures rows { IfOk result (λ w. w.rows.tuples ≡ joined_tuples kind (C.value condition.now) marks.now (length keys.now.index.rows) left.now.rows.tuples) }
-    ensures seen { IfOk result (λ w. seen_of w.seen ≡ join (seen_of left.now.seen) (pairs_fault (C.value condition.now) (length keys.now.index.rows) left.now.rows.tuples)) }
+    ensures rows { IfOk result (λ w. w.rows.tuples ≡ joined_tuples kind (C.value condition.now) marks.now keys.now.count left.now.rows.tuples) }
+    ensures seen { IfOk result (λ w. seen_of w.seen ≡ join (seen_of left.now.seen) (pairs_fault (C.value condition.now) keys.now.count left.now.rows.tuples)) }
     ensures err { IfErr result (λ e. e ≡ ScalarErr.OutOfMemory) }
 {
     let found = Lookup { condition, keys };

@@ -1,9 +1,11 @@
 // The columns of two sources that a condition equates.
-ghost use Rattle.std.specs.Prelude.{◌≡◌, ◌+◌, ◌<◌, true, IfOk, IfSome, length, map};
+ghost use Rattle.std.specs.List.{list_all};
+ghost use Rattle.std.specs.Prelude.{◌≡◌, ℕ, ◌+◌, ◌<◌, true, IfOk, IfSome, IsSome, Some, length, map};
 ghost use Rattle.vtl_cell.specs.declared.operator.ScalarOp.TheVariants as op;
 ghost use Rattle.sql_tree.specs.Trees as tree;
 ghost use Rattle.sql_tree.specs.View.{expr_tree};
-ghost use Rattle.sql_from.specs.Keys.{ArePaired, IsPairOf, asked_columns, own_columns};
+ghost use Rattle.sql_eval.specs.Plans.{conjuncts};
+ghost use Rattle.sql_from.specs.Keys.{ArePaired, IsLinked, IsPairOf, are_linked, asked_columns, is_link, own_columns};
 
 use crate::Sources;
 use sql_tree::{Column, SqlExpr};
@@ -21,7 +23,8 @@ pub(crate) struct KeyPair {
 // The pair that an equality of two columns makes, if these are of the last source and of the one that leads.
 fn key_pair(sources: &Sources<'_>, lead: usize, x: &Column, y: &Column) -> Option<KeyPair>
     requires { lead + 1 < length sources.now.sources }
-    ensures { IfSome result (IsPairOf sources.now lead x.now y.now) }
+    ensures pair { IfSome result (IsPairOf sources.now lead x.now y.now) }
+    ensures some { are_linked sources.now lead (tree.column x.now) (tree.column y.now) ≡ true → IsSome result }
 {
     let a = sources.spot(x)?;
     let b = sources.spot(y)?;
@@ -50,7 +53,8 @@ fn push_pair(
     right: &SqlExpr,
 ) -> Result<bool, AllocError>
     requires { lead + 1 < length sources.now.sources }
-    ensures { IfOk result (λ b. b ≡ true → ArePaired sources.now lead (tree.binary (expr_tree left.now) op.Equal (expr_tree right.now)) keys.old.items keys.new.items) }
+    ensures paired { IfOk result (λ b. b ≡ true → ArePaired sources.now lead (tree.binary (expr_tree left.now) op.Equal (expr_tree right.now)) keys.old.items keys.new.items) }
+    ensures whole { IfOk result (λ b. are_linked sources.now lead (expr_tree left.now) (expr_tree right.now) ≡ true → b ≡ true) }
 {
     match (left, right) {
         (SqlExpr::Column(x), SqlExpr::Column(y)) => match key_pair(sources, lead, x, y) {
@@ -74,23 +78,28 @@ pub(crate) fn push_pairs(
     condition: &SqlExpr,
 ) -> Result<bool, AllocError>
     requires { lead + 1 < length sources.now.sources }
-    ensures { IfOk result (λ b. b ≡ true → ArePaired sources.now lead (expr_tree condition.now) keys.old.items keys.new.items) }
+    ensures paired { IfOk result (λ b. b ≡ true → ArePaired sources.now lead (expr_tree condition.now) keys.old.items keys.new.items) }
+    ensures whole { IfOk result (λ b. list_all (is_link sources.now lead) (conjuncts (expr_tree condition.now)) ≡ true → b ≡ true) }
 {
     match condition {
-        SqlExpr::Binary { left, op, right } => match op {
-            ScalarOp::And => Ok(
-                push_pairs(keys, sources, lead, left)? && push_pairs(keys, sources, lead, right)?,
-            ),
-            ScalarOp::Equal => push_pair(keys, sources, lead, left, right),
-            _ => Ok(false),
-        },
+        SqlExpr::Binary {
+            left,
+            op: ScalarOp::And,
+            right,
+        } => Ok(push_pairs(keys, sources, lead, left)? && push_pairs(keys, sources, lead, right)?),
+        SqlExpr::Binary {
+            left,
+            op: ScalarOp::Equal,
+            right,
+        } => push_pair(keys, sources, lead, left, right),
         _ => Ok(false),
     }
 }
 
 // The lesser of the places of the sources of two columns.
 fn first_source(sources: &Sources<'_>, left: &SqlExpr, right: &SqlExpr) -> Option<usize>
-    ensures { IfSome result (λ n. n < length sources.now.sources) }
+    ensures within { IfSome result (λ n. n < length sources.now.sources) }
+    ensures is { (lead : ℕ) → lead + 1 < length sources.now.sources → are_linked sources.now lead (expr_tree left.now) (expr_tree right.now) ≡ true → result ≡ Some lead }
 {
     match (left, right) {
         (SqlExpr::Column(x), SqlExpr::Column(y)) => {
@@ -105,7 +114,8 @@ fn first_source(sources: &Sources<'_>, left: &SqlExpr, right: &SqlExpr) -> Optio
 /// The source that the first equality of a conjunction asks for a cell, if there is one.
 #[cycle(leads)]
 pub(crate) fn lead_of(sources: &Sources<'_>, condition: &SqlExpr) -> Option<usize>
-    ensures { IfSome result (λ n. n < length sources.now.sources) }
+    ensures within { IfSome result (λ n. n < length sources.now.sources) }
+    ensures is { (lead : ℕ) → IsLinked sources.now lead (expr_tree condition.now) → result ≡ Some lead }
 {
     match condition {
         SqlExpr::Binary {

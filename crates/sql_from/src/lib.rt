@@ -5,19 +5,25 @@
 //! select. How the rows are found that go together with a tuple is left to the trait `Pairing`: each row is tried, or, for
 //! joins that the caller lists, rows are looked up by the cells that ON equates. Parts of WHERE that the caller lists are
 //! tried before a join too. `Partners` holds look-ups for the EXISTS of a select, made once for all its rows, and
-//! `PartneredRow` asks them. The fault is that of every ON, of these parts and of WHERE.
+//! `PartneredRow` asks them; `KeyPartners` holds those that are asked with a list of cells, as the key of a group is. The fault
+//! is that of every ON, of these parts and of WHERE.
 //! It knows no groups, items or windows, no statement, nothing of how joins and parts are chosen, and nothing of VTL.
 //! Begin with specs/Rows.antt and specs/Sources.antt, then `sources.rt`, `tuple_row.rt` and `tuples.rt`; for look-ups with
-//! specs/Keys.antt, then `key_pairs.rt` and `key_lookup.rt`; for EXISTS with specs/Partners.antt, then `partners.rt`.
+//! specs/Keys.antt, then `key_pairs.rt` and `key_lookup.rt`; for EXISTS with specs/Partners.antt, then `partners.rt`, and with
+//! specs/KeyPartners.antt, then `key_partners.rt`.
 #![tactic(auto)]
 
+mod asking;
 mod columns;
 mod condition;
+mod counting;
 mod early;
 mod existence;
 mod joining;
+mod key_index;
 mod key_lookup;
 mod key_pairs;
+mod key_partners;
 mod lookup;
 mod outer_row;
 mod pairing;
@@ -34,7 +40,9 @@ mod tuple_row;
 mod tuple_rows;
 mod tuples;
 
+pub use asking::asks;
 pub use existence::has_partner;
+pub use key_partners::KeyPartners;
 pub use outer_row::OuterRow;
 pub use partnered_row::PartneredRow;
 pub use partners::Partners;

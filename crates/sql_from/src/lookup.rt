@@ -33,7 +33,7 @@ fn push_found(front: &[usize], found: &[usize], rows: &mut Tuples) -> Result<(),
 impl<'c, 'l, 'k, C: Condition> Pairing for Lookup<'c, 'l, 'k, C> {
     ghost width = { λ l. C.width l.condition.now };
 
-    ghost count = { λ l. length l.keys.now.index.rows };
+    ghost count = { λ l. l.keys.now.count };
 
     ghost value = { λ l. C.value l.condition.now };
 
@@ -44,7 +44,7 @@ impl<'c, 'l, 'k, C: Condition> Pairing for Lookup<'c, 'l, 'k, C> {
     }
 
     fn count(&self) -> usize {
-        self.keys.index.table().len()
+        self.keys.count
     }
 
     fn add_pairs(

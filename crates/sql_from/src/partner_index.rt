@@ -1,10 +1,10 @@
 // Partners of a row of FROM in the table of EXISTS, by a look-up.
 ghost use Rattle.std.specs.List.{AllByRecursion};
 ghost use Rattle.std.specs.Prelude.{◌≡◌, ◌+◌, ◌<◌, ◌==◌, not, true, IfOk, IfSome, length, slice_index};
+ghost use Rattle.vtl_index.specs.Matches.{matched};
 ghost use Rattle.sql_eval.specs.Profiles.{IsLawful};
 ghost use Rattle.sql_from.specs.Held.{base_held};
 ghost use Rattle.sql_from.specs.Joins.{with_number};
-ghost use Rattle.sql_from.specs.Lookups.{found_by};
 ghost use Rattle.sql_from.specs.Partners.{Answers};
 
 use crate::Sources;
@@ -12,7 +12,9 @@ use crate::key_lookup::{KeyLookup, keyed};
 use crate::ties::{are_same_ties, lead_of_tie, tied_columns};
 use sql_eval::{Existence, Tie};
 use std::alloc::{AllocError, Global};
+use std::sync::ledger::Ledger;
 use vtl_cell::{Profile, Txt};
+use vtl_index::Steps;
 
 /// What an EXISTS asks, and an index of the rows of its table.
 pub(crate) struct PartnerIndex<'a> {
@@ -36,12 +38,13 @@ impl Drop for PartnerIndex<'_> {
 
 impl<'a> PartnerIndex<'a> {
     /// The index for an EXISTS, where each of its equalities ties a column of its table and one of a source, which is the
-    /// same for all of them; else none. It fails only if memory runs out.
-    pub(crate) fn of(
+    /// same for all of them; else none. It takes a step for each row of both tables. It fails only if memory runs out.
+    pub(crate) fn of<L: Ledger>(
         alloc: Global,
         sources: &Sources<'a>,
         test: &Existence,
         p: &Profile,
+        steps: &mut Steps<L>,
     ) -> Result<Option<PartnerIndex<'a>>, AllocError>
         requires { IsLawful (base_held p.now sources.now.held) }
         ensures { IfOk result (λ o. IfSome o (Answers sources.now)) }
@@ -62,7 +65,7 @@ impl<'a> PartnerIndex<'a> {
                     table: test.table.share()?,
                     ties: copied(alloc, &test.ties)?,
                     p: *p,
-                    keys: keyed(alloc, own, lead, table, &keys, p)?,
+                    keys: keyed(alloc, own, lead, table, &keys, p, steps)?,
                 }))
             }
             None => Ok(None),
@@ -83,7 +86,7 @@ impl<'a> PartnerIndex<'a> {
     /// Whether a row of the table is found for a tuple. It takes no memory.
     pub(crate) fn has(&self, front: &[usize], last: usize) -> bool
         requires { self.now.keys.lead < length front.now + 1 }
-        ensures { result ≡ not (length (found_by self.now.keys (slice_index (with_number front.now last) self.now.keys.lead)) == 0) }
+        ensures { result ≡ not (length (matched self.now.keys.matches (slice_index (with_number front.now last) self.now.keys.lead)) == 0) }
     {
         let lead = self.keys.lead;
         let number = if lead < front.len() {
@@ -91,7 +94,7 @@ impl<'a> PartnerIndex<'a> {
         } else {
             last
         };
-        !self.keys.found_at(number).is_empty()
+        !self.keys.matches.rows(number).is_empty()
     }
 }
 
@@ -103,7 +106,8 @@ fn copied(alloc: Global, ties: &[Tie]) -> Result<Vec<Tie>, AllocError>
     Ok(copies)
 }
 
-fn is_same_profile(a: &Profile, b: &Profile) -> bool
+/// Whether two profiles are the same.
+pub(crate) fn is_same_profile(a: &Profile, b: &Profile) -> bool
     ensures { result ≡ true → a.now ≡ b.now }
 {
     a.scale() == b.scale() && a.rounding() == b.rounding()

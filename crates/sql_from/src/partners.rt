@@ -14,7 +14,9 @@ use crate::partner_index::PartnerIndex;
 use sql_eval::{Existence, Resolved};
 use std::alloc::{AllocError, Global};
 use std::marker::Model;
+use std::sync::ledger::Ledger;
 use vtl_cell::Profile;
+use vtl_index::Steps;
 
 /// The sources of a select, and look-ups for the EXISTS of its expressions, made once for all rows. A contract sees the
 /// sources.
@@ -46,18 +48,19 @@ impl<'a> Model for Partners<'a> {
 }
 
 // Puts the look-up for an EXISTS behind others, where there can be one.
-fn push_index<'a>(
+fn push_index<'a, L: Ledger>(
     alloc: Global,
     indexes: &mut Vec<PartnerIndex<'a>>,
     sources: &Sources<'a>,
     test: &Existence,
     p: &Profile,
+    steps: &mut Steps<L>,
 ) -> Result<(), AllocError>
     requires lawful { IsLawful (base_held p.now sources.now.held) }
     requires before { AllByRecursion (Answers sources.now) indexes.old.items }
     ensures { OnOk result (AllByRecursion (Answers sources.now) indexes.new.items) }
 {
-    if let Some(index) = PartnerIndex::of(alloc, sources, test, p)? {
+    if let Some(index) = PartnerIndex::of(alloc, sources, test, p, steps)? {
         indexes.push(index)?;
     }
     Ok(())
@@ -65,30 +68,33 @@ fn push_index<'a>(
 
 // Puts the look-ups for the EXISTS of an expression behind others.
 #[cycle(indexed)]
-fn push_indexes<'a>(
+fn push_indexes<'a, L: Ledger>(
     alloc: Global,
     indexes: &mut Vec<PartnerIndex<'a>>,
     sources: &Sources<'a>,
     e: &Resolved,
     p: &Profile,
+    steps: &mut Steps<L>,
 ) -> Result<(), AllocError>
     requires lawful { IsLawful (base_held p.now sources.now.held) }
     requires before { AllByRecursion (Answers sources.now) indexes.old.items }
     ensures { OnOk result (AllByRecursion (Answers sources.now) indexes.new.items) }
 {
     match e {
-        Resolved::Exists(test) => push_index(alloc, indexes, sources, test, p),
-        Resolved::Membership { operand, .. } => push_indexes(alloc, indexes, sources, operand, p),
+        Resolved::Exists(test) => push_index(alloc, indexes, sources, test, p, steps),
+        Resolved::Membership { operand, .. } => {
+            push_indexes(alloc, indexes, sources, operand, p, steps)
+        }
         Resolved::Apply { args, .. } => {
             for arg in args {
-                push_indexes(alloc, indexes, sources, arg, p)?;
+                push_indexes(alloc, indexes, sources, arg, p, steps)?;
             }
             Ok(())
         }
         Resolved::Choose { branches, .. } => {
             for branch in branches {
-                push_indexes(alloc, indexes, sources, &branch.condition, p)?;
-                push_indexes(alloc, indexes, sources, &branch.value, p)?;
+                push_indexes(alloc, indexes, sources, &branch.condition, p, steps)?;
+                push_indexes(alloc, indexes, sources, &branch.value, p, steps)?;
             }
             Ok(())
         }
@@ -108,14 +114,21 @@ impl<'a> Partners<'a> {
     }
 
     /// With look-ups for the EXISTS of an expression: one for each whose equalities each tie a column of its table and
-    /// one of a source, which is the same for all of them. It fails only if memory runs out.
-    pub fn with(self, alloc: Global, e: &Resolved, p: &Profile) -> Result<Partners<'a>, AllocError>
+    /// one of a source, which is the same for all of them. Each takes a step for each row of its table and of the source.
+    /// It fails only if memory runs out.
+    pub fn with<L: Ledger>(
+        self,
+        alloc: Global,
+        e: &Resolved,
+        p: &Profile,
+        steps: &mut Steps<L>,
+    ) -> Result<Partners<'a>, AllocError>
         requires { IsLawful (base_held p.now self.held) }
         ensures { IfOk result (λ x. x ≡ self.entry) }
     {
         let Partners { sources, indexes } = self;
         let mut indexes = indexes;
-        push_indexes(alloc, &mut indexes, sources, e, p)?;
+        push_indexes(alloc, &mut indexes, sources, e, p, steps)?;
         Ok(Partners { sources, indexes })
     }
 

@@ -1,6 +1,7 @@
 // FROM and WHERE of a select.
+ghost use Rattle.std.specs.List.{AllByRecursion};
 ghost use Rattle.std.specs.Option.{option_map};
-ghost use Rattle.std.specs.Prelude.{◌≡◌, ◌+◌, ◌<◌, ◌^◌, ◌++◌, ◌∷◌, [], fold, length, true, IfErr, IfOk, IfSome, IsSome};
+ghost use Rattle.std.specs.Prelude.{◌≡◌, ℕ, ◌+◌, ◌<◌, ◌≤◌, ◌^◌, ◌++◌, ◌∷◌, [], fold, length, true, false, IfErr, IfOk, IfSome, IsSome};
 ghost use Rattle.vtl_cell.specs.Outcome.{join, unless};
 ghost use Rattle.vtl_cell.specs.Settings.{Settings};
 ghost use Rattle.vtl_scalar.specs.Answers.{Answers, AnswersBy};
@@ -10,16 +11,20 @@ ghost use Rattle.sql_eval.specs.TypedSelects.{IsSelectTyped, IsSourceTyped};
 ghost use Rattle.sql_eval.specs.Profiles.{IsLawful};
 ghost use Rattle.sql_eval.specs.From.{Joined, first_of, kept_of, source_rows, with_join};
 ghost use Rattle.sql_eval.specs.Plans.{early_at, planned_joins, planned_source_rows, try_early};
+ghost use Rattle.sql_from.specs.Asking.{asks, condition_asks};
 ghost use Rattle.sql_from.specs.Columns.{source_columns};
 ghost use Rattle.sql_from.specs.Held.{base_held, rows_held, tables_held};
-ghost use Rattle.sql_from.specs.Keys.{last_of};
+ghost use Rattle.sql_from.specs.Keys.{IsLinked, last_of, linked_count};
 ghost use Rattle.sql_from.specs.Lookups.{Finds};
 ghost use Rattle.sql_from.specs.Joins.{crossed_tuples, joined_tuples, kept_fault, kept_tuples, pairs_fault};
 ghost use Rattle.sql_from.specs.Rows.{combined};
 ghost use Rattle.sql_from.specs.Seen.{answer_of, seen_of};
-ghost use Rattle.sql_from.specs.Sources.{parts_of, scope_held};
+ghost use Rattle.sql_from.specs.Sources.{parts_of, scope_held, table_named};
 ghost use Rattle.sql_from.specs.Standing.{MayLookUp, StandsFor, condition_at, rows_for, sight_of};
+ghost use Rattle.sql_from.specs.Steps.{IsPlainJoin, JoinsTwo, is_listed, most_steps, two_counts};
 
+use crate::asking::asks;
+use crate::counting::{count_each, count_pairs};
 use crate::early::due;
 use crate::joining::{cross_step, join_each, join_found, keep, singles};
 use crate::key_lookup::{KeyLookup, lookup_of};
@@ -29,7 +34,9 @@ use crate::{Partners, Seen, Sources, TupleRows};
 use sql_eval::{Early, Level, Resolved, resolve};
 use sql_tree::{Join, JoinKind, Select, Source, SqlExpr};
 use std::alloc::{AllocError, Global};
+use std::sync::ledger::Ledger;
 use vtl_cell::Profile;
+use vtl_index::Steps;
 use vtl_rows::{Table, Tables};
 use vtl_scalar::ScalarErr;
 
@@ -37,19 +44,22 @@ use vtl_scalar::ScalarErr;
 pub type ExecErr = ScalarErr;
 
 // The look-up of the rows of the last source, where it is wanted and there is one.
-fn wanted_lookup<'a>(
+fn wanted_lookup<'a, L: Ledger>(
     alloc: Global,
     by_index: bool,
     sources: &Sources<'a>,
     condition: &SqlExpr,
     p: &Profile,
+    steps: &mut Steps<L>,
 ) -> Result<Option<KeyLookup<'a>>, AllocError>
     requires { by_index ≡ true → IsLawful (base_held p.now sources.now.held) }
-    ensures rows { IfOk result (λ o. IfSome o (λ l. l.index.rows ≡ (last_of sources.now).rows)) }
+    ensures rows { IfOk result (λ o. IfSome o (λ l. l.count ≡ length (last_of sources.now).rows)) }
+    ensures some { by_index ≡ true → (lead : ℕ) → IsLinked sources.now lead (expr_tree condition.now) → IfOk result IsSome }
+    ensures steps { by_index ≡ true → (lead : ℕ) → IsLinked sources.now lead (expr_tree condition.now) → steps.new ≤ steps.old + linked_count sources.now lead }
     ensures finds { IfOk result (λ o. IfSome o (Finds (length sources.now.sources) (condition_at p.now sources.now (expr_tree condition.now)))) }
 {
     if by_index {
-        lookup_of(alloc, sources, condition, p)
+        lookup_of(alloc, sources, condition, p, steps)
     } else {
         Ok(None)
     }
@@ -71,8 +81,8 @@ fn found_on(
     requires marks { length marks.now ≡ left.now.rows.width }
     requires finds { Finds (length sources.now.sources) (condition_at p.now sources.now (expr_tree condition.now)) keys.now }
     ensures width { IfOk result (λ w. w.rows.width ≡ left.now.rows.width + 1) }
-    ensures rows { IfOk result (λ w. w.rows.tuples ≡ joined_tuples kind (condition_at p.now sources.now (expr_tree condition.now)) marks.now (length keys.now.index.rows) left.now.rows.tuples) }
-    ensures seen { IfOk result (λ w. seen_of w.seen ≡ join (seen_of left.now.seen) (pairs_fault (condition_at p.now sources.now (expr_tree condition.now)) (length keys.now.index.rows) left.now.rows.tuples)) }
+    ensures rows { IfOk result (λ w. w.rows.tuples ≡ joined_tuples kind (condition_at p.now sources.now (expr_tree condition.now)) marks.now keys.now.count left.now.rows.tuples) }
+    ensures seen { IfOk result (λ w. seen_of w.seen ≡ join (seen_of left.now.seen) (pairs_fault (condition_at p.now sources.now (expr_tree condition.now)) keys.now.count left.now.rows.tuples)) }
     ensures err { IfErr result (λ e. e ≡ ScalarErr.OutOfMemory) }
 {
     let resolved = resolve(alloc, p, sources, &Level::Rows, condition)?;
@@ -113,8 +123,9 @@ fn each_on(
     join_each(alloc, kind, &condition, left, marks, count)
 }
 
-// The same, where rows are looked up if that is wanted and they can be.
-fn joined_on(
+// The same, where rows are looked up if that is wanted and they can be. It takes a step for each row of both sources of a
+// look-up and for each tuple that it gives, or for each pair that is tried.
+fn joined_on<L: Ledger>(
     alloc: Global,
     kind: JoinKind,
     condition: &SqlExpr,
@@ -123,6 +134,7 @@ fn joined_on(
     left: &Walked,
     marks: &[usize],
     p: &Profile,
+    steps: &mut Steps<L>,
 ) -> Result<Walked, ScalarErr>
     requires width { length sources.now.sources ≡ left.now.rows.width + 1 }
     requires marks { length marks.now ≡ left.now.rows.width }
@@ -130,54 +142,66 @@ fn joined_on(
     ensures width { IfOk result (λ w. w.rows.width ≡ left.now.rows.width + 1) }
     ensures rows { IfOk result (λ w. w.rows.tuples ≡ joined_tuples kind (condition_at p.now sources.now (expr_tree condition.now)) marks.now (length (last_of sources.now).rows) left.now.rows.tuples) }
     ensures seen { IfOk result (λ w. seen_of w.seen ≡ join (seen_of left.now.seen) (pairs_fault (condition_at p.now sources.now (expr_tree condition.now)) (length (last_of sources.now).rows) left.now.rows.tuples)) }
+    ensures steps { by_index ≡ true → (lead : ℕ) → IsLinked sources.now lead (expr_tree condition.now) → steps.new ≤ steps.old + linked_count sources.now lead + length (joined_tuples kind (condition_at p.now sources.now (expr_tree condition.now)) marks.now (length (last_of sources.now).rows) left.now.rows.tuples) }
     ensures err { IfErr result (λ e. e ≡ ScalarErr.OutOfMemory) }
 {
-    match wanted_lookup(alloc, by_index, sources, condition, p)? {
-        Some(keys) => found_on(alloc, kind, condition, &keys, sources, left, marks, p),
+    match wanted_lookup(alloc, by_index, sources, condition, p, steps)? {
+        Some(keys) => {
+            let found = found_on(alloc, kind, condition, &keys, sources, left, marks, p)?;
+            count_each(found.rows.len(), steps);
+            Ok(found)
+        }
         None => {
             let count = sources.last_count();
+            count_pairs(left.rows.len(), count, steps);
             each_on(alloc, kind, condition, sources, left, marks, count, p)
         }
     }
 }
 
-// The look-ups for the EXISTS of a condition, where they are wanted.
-fn wanted_partners<'a>(
+// The look-ups for the EXISTS of a condition, where they are wanted. The condition is given resolved, too.
+fn wanted_partners<'a, L: Ledger>(
     alloc: Global,
     by_index: bool,
     sources: &'a Sources<'a>,
-    condition: &Resolved,
+    condition: &SqlExpr,
+    resolved: &Resolved,
     p: &Profile,
+    steps: &mut Steps<L>,
 ) -> Result<Partners<'a>, AllocError>
     requires { by_index ≡ true → IsLawful (base_held p.now sources.now.held) }
-    ensures { IfOk result (λ x. x ≡ sources.now) }
+    ensures sources { IfOk result (λ x. x ≡ sources.now) }
+    ensures steps { asks (expr_tree condition.now) ≡ false → steps.new ≡ steps.old }
 {
     let none = Partners::none(alloc, sources);
-    if by_index {
-        none.with(alloc, condition, p)
+    if by_index && asks(condition) {
+        none.with(alloc, resolved, p, steps)
     } else {
         Ok(none)
     }
 }
 
 // The tuples at which WHERE is true. EXISTS is asked by look-ups where that is wanted.
-fn kept(
+fn kept<L: Ledger>(
     alloc: Global,
     condition: &SqlExpr,
     by_index: bool,
     sources: &Sources<'_>,
     from: &Walked,
     p: &Profile,
+    steps: &mut Steps<L>,
 ) -> Result<Walked, ScalarErr>
     requires width { length sources.now.sources ≡ from.now.rows.width }
     requires lawful { by_index ≡ true → IsLawful (base_held p.now sources.now.held) }
     ensures width { IfOk result (λ w. w.rows.width ≡ from.now.rows.width) }
     ensures rows { IfOk result (λ w. w.rows.tuples ≡ kept_tuples (condition_at p.now sources.now (expr_tree condition.now)) from.now.rows.tuples) }
     ensures seen { IfOk result (λ w. seen_of w.seen ≡ join (seen_of from.now.seen) (kept_fault (condition_at p.now sources.now (expr_tree condition.now)) from.now.rows.tuples)) }
+    ensures steps { asks (expr_tree condition.now) ≡ false → steps.new ≡ steps.old }
     ensures err { IfErr result (λ e. e ≡ ScalarErr.OutOfMemory) }
 {
     let resolved = resolve(alloc, p, sources, &Level::Rows, condition)?;
-    let partners = wanted_partners(alloc, by_index, sources, &resolved.exp, p)?;
+    let exp = &resolved.exp;
+    let partners = wanted_partners(alloc, by_index, sources, condition, exp, p, steps)?;
     let condition = SourceCondition {
         partners: &partners,
         expression: &resolved.exp,
@@ -187,33 +211,42 @@ fn kept(
 }
 
 // The tuples that WHERE keeps, where one is written, and its fault beside the one that was seen before.
-fn kept_where(
+fn kept_where<L: Ledger>(
     alloc: Global,
     condition: &Option<SqlExpr>,
     by_index: bool,
     sources: &Sources<'_>,
     walked: Walked,
     p: &Profile,
+    steps: &mut Steps<L>,
 ) -> Result<Walked, ScalarErr>
     requires width { length sources.now.sources ≡ walked.rows.width }
     requires lawful { by_index ≡ true → IsLawful (base_held p.now sources.now.held) }
     ensures width { IfOk result (λ w. w.rows.width ≡ walked.rows.width) }
     ensures kept { IfOk result (λ w. (f : Joined) → StandsFor f sources.now walked.rows (seen_of walked.seen) → unless (seen_of w.seen) (rows_for sources.now w.rows) ≡ kept_of (base_held p.now sources.now.held) (option_map expr_tree condition.now) f) }
+    ensures steps { condition_asks (option_map expr_tree condition.now) ≡ false → steps.new ≡ steps.old }
     ensures err { IfErr result (λ e. e ≡ ScalarErr.OutOfMemory) }
 {
     match condition {
-        Some(condition) => kept(alloc, condition, by_index, sources, &walked, p),
+        Some(condition) => kept(alloc, condition, by_index, sources, &walked, p, steps),
         None => Ok(walked),
     }
 }
 
-// Each tuple with each row of a further source; the fault is the one that was seen before.
-fn crossed(alloc: Global, left: &Walked, count: usize, width: usize) -> Result<Walked, AllocError>
+// Each tuple with each row of a further source; the fault is the one that was seen before. It takes a step for each pair.
+fn crossed<L: Ledger>(
+    alloc: Global,
+    left: &Walked,
+    count: usize,
+    width: usize,
+    steps: &mut Steps<L>,
+) -> Result<Walked, AllocError>
     requires { width ≡ left.now.rows.width + 1 }
     ensures width { IfOk result (λ w. w.rows.width ≡ left.now.rows.width + 1) }
     ensures rows { IfOk result (λ w. w.rows.tuples ≡ crossed_tuples count left.now.rows.tuples) }
     ensures seen { IfOk result (λ w. seen_of w.seen ≡ seen_of left.now.seen) }
 {
+    count_pairs(left.rows.len(), count, steps);
     Ok(Walked {
         rows: cross_step(alloc, &left.rows, count, width)?,
         seen: left.seen,
@@ -244,6 +277,7 @@ fn first_source<'a>(
 ) -> Result<Joining<'a>, AllocError>
     requires { IsSourceTyped (tables_held tables.now) [] source.now }
     ensures held { IfOk result (λ j. j.sources.held ≡ tables.now) }
+    ensures source { IfOk result (λ j. j.sources.sources ≡ (source.now.alias, table_named tables.now source.now.table) ∷ []) }
     ensures stands { IfOk result (λ j. (p : Settings) → StandsFor (first_of (base_held p tables.now) source.now) j.sources j.walked.rows (seen_of j.walked.seen)) }
 {
     let sources = Sources::over(alloc, tables).with(alloc, source)?;
@@ -259,18 +293,20 @@ fn first_source<'a>(
 
 impl<'a> Joining<'a> {
     // With the source of a join, whose rows are looked up where that is wanted.
-    fn with_join(
+    fn with_join<L: Ledger>(
         self,
         alloc: Global,
         join: &Join,
         by_index: bool,
         p: &Profile,
+        steps: &mut Steps<L>,
     ) -> Result<Joining<'a>, ScalarErr>
         requires whole { self.walked.rows.width ≡ length self.sources.sources }
         requires source { IsSourceTyped (tables_held self.sources.held) (scope_held self.sources.sources) (join_source (join_tree join.now)) }
         requires lawful { by_index ≡ true → IsLawful (base_held p.now self.sources.held) }
         ensures held { IfOk result (λ j. j.sources.held ≡ self.entry.sources.held) }
         ensures stands { IfOk result (λ j. (f : Joined) → StandsFor f self.entry.sources self.entry.walked.rows (seen_of self.entry.walked.seen) → StandsFor (with_join (base_held p.now self.entry.sources.held) f (join_tree join.now)) j.sources j.walked.rows (seen_of j.walked.seen)) }
+        ensures steps { by_index ≡ true → (f : Joined) → StandsFor f self.entry.sources self.entry.walked.rows (seen_of self.entry.walked.seen) → JoinsTwo p.now self.entry.sources (join_tree join.now) → steps.new ≤ steps.old + two_counts self.entry.sources (join_tree join.now) + length (with_join (base_held p.now self.entry.sources.held) f (join_tree join.now)).rows }
         ensures err { IfErr result (λ e. e ≡ ScalarErr.OutOfMemory) }
     {
         let Joining { sources, walked } = self;
@@ -283,41 +319,43 @@ impl<'a> Joining<'a> {
                 let marks = sources.marks(alloc)?;
                 let sources = sources.with(alloc, source)?;
                 let walked = joined_on(
-                    alloc, *kind, condition, by_index, &sources, &walked, &marks, p,
+                    alloc, *kind, condition, by_index, &sources, &walked, &marks, p, steps,
                 )?;
                 Ok(Joining { sources, walked })
             }
             Join::Cross(source) => {
                 let count = sources.count_of(source);
                 let sources = sources.with(alloc, source)?;
-                let walked = crossed(alloc, &walked, count, sources.len())?;
+                let walked = crossed(alloc, &walked, count, sources.len(), steps)?;
                 Ok(Joining { sources, walked })
             }
         }
     }
 
     // With the tuples at which a part of WHERE is true, and its fault beside the one so far.
-    fn with_part(
+    fn with_part<L: Ledger>(
         self,
         alloc: Global,
         part: &SqlExpr,
         by_index: bool,
         p: &Profile,
+        steps: &mut Steps<L>,
     ) -> Result<Joining<'a>, ScalarErr>
         requires whole { self.walked.rows.width ≡ length self.sources.sources }
         requires lawful { by_index ≡ true → IsLawful (base_held p.now self.sources.held) }
         ensures sources { IfOk result (λ j. j.sources ≡ self.entry.sources) }
         ensures width { IfOk result (λ j. j.walked.rows.width ≡ self.entry.walked.rows.width) }
         ensures stands { IfOk result (λ j. (f : Joined) → StandsFor f self.entry.sources self.entry.walked.rows (seen_of self.entry.walked.seen) → StandsFor (try_early (sight_of p.now self.entry.sources) f (expr_tree part.now)) self.entry.sources j.walked.rows (seen_of j.walked.seen)) }
+        ensures steps { asks (expr_tree part.now) ≡ false → steps.new ≡ steps.old }
         ensures err { IfErr result (λ e. e ≡ ScalarErr.OutOfMemory) }
     {
         let Joining { sources, walked } = self;
-        let walked = kept(alloc, part, by_index, &sources, &walked, p)?;
+        let walked = kept(alloc, part, by_index, &sources, &walked, p, steps)?;
         Ok(Joining { sources, walked })
     }
 
     // The same for what an entry has tried before the join at a place.
-    fn with_entry(
+    fn with_entry<L: Ledger>(
         self,
         alloc: Global,
         select: &Select,
@@ -325,22 +363,24 @@ impl<'a> Joining<'a> {
         place: usize,
         by_index: bool,
         p: &Profile,
+        steps: &mut Steps<L>,
     ) -> Result<Joining<'a>, ScalarErr>
         requires whole { self.walked.rows.width ≡ length self.sources.sources }
         requires lawful { by_index ≡ true → IsLawful (base_held p.now self.sources.held) }
         ensures sources { IfOk result (λ j. j.sources ≡ self.entry.sources) }
         ensures width { IfOk result (λ j. j.walked.rows.width ≡ self.entry.walked.rows.width) }
         ensures stands { IfOk result (λ j. (f : Joined) → StandsFor f self.entry.sources self.entry.walked.rows (seen_of self.entry.walked.seen) → StandsFor (fold (try_early (sight_of p.now self.entry.sources)) f (early_at (select_tree select.now) (entry ∷ []) place)) self.entry.sources j.walked.rows (seen_of j.walked.seen)) }
+        ensures steps { condition_asks (select_tree select.now).condition ≡ false → steps.new ≡ steps.old }
         ensures err { IfErr result (λ e. e ≡ ScalarErr.OutOfMemory) }
     {
         match due(select, entry, place) {
-            Some(part) => self.with_part(alloc, part, by_index, p),
+            Some(part) => self.with_part(alloc, part, by_index, p, steps),
             None => Ok(self),
         }
     }
 
     // The same for all that is tried early before the join at a place.
-    fn with_early(
+    fn with_early<L: Ledger>(
         self,
         alloc: Global,
         select: &Select,
@@ -348,36 +388,40 @@ impl<'a> Joining<'a> {
         place: usize,
         by_index: bool,
         p: &Profile,
+        steps: &mut Steps<L>,
     ) -> Result<Joining<'a>, ScalarErr>
         requires whole { self.walked.rows.width ≡ length self.sources.sources }
         requires lawful { by_index ≡ true → IsLawful (base_held p.now self.sources.held) }
         ensures sources { IfOk result (λ j. j.sources ≡ self.entry.sources) }
         ensures width { IfOk result (λ j. j.walked.rows.width ≡ self.entry.walked.rows.width) }
         ensures stands { IfOk result (λ j. (f : Joined) → StandsFor f self.entry.sources self.entry.walked.rows (seen_of self.entry.walked.seen) → StandsFor (fold (try_early (sight_of p.now self.entry.sources)) f (early_at (select_tree select.now) early.now place)) self.entry.sources j.walked.rows (seen_of j.walked.seen)) }
+        ensures steps { condition_asks (select_tree select.now).condition ≡ false → steps.new ≡ steps.old }
         ensures err { IfErr result (λ e. e ≡ ScalarErr.OutOfMemory) }
     {
         let mut so_far = self;
         for entry in early {
-            so_far = so_far.with_entry(alloc, select, *entry, place, by_index, p)?;
+            so_far = so_far.with_entry(alloc, select, *entry, place, by_index, p, steps)?;
         }
         Ok(so_far)
     }
 
     // The tuples that WHERE keeps, or the fault of every ON and of WHERE.
-    fn finish(
+    fn finish<L: Ledger>(
         self,
         alloc: Global,
         condition: &Option<SqlExpr>,
         by_index: bool,
         p: &Profile,
+        steps: &mut Steps<L>,
     ) -> Result<TupleRows<'a>, ScalarErr>
         requires whole { self.walked.rows.width ≡ length self.sources.sources }
         requires lawful { by_index ≡ true → IsLawful (base_held p.now self.sources.held) }
         ensures sources { IfOk result (λ r. r.sources ≡ self.entry.sources) }
         ensures rows { (f : Joined) → StandsFor f self.entry.sources self.entry.walked.rows (seen_of self.entry.walked.seen) → AnswersBy (λ r. rows_for r.sources r.tuples) result (kept_of (base_held p.now self.entry.sources.held) (option_map expr_tree condition.now) f) }
+        ensures steps { condition_asks (option_map expr_tree condition.now) ≡ false → steps.new ≡ steps.old }
     {
         let Joining { sources, walked } = self;
-        let kept = kept_where(alloc, condition, by_index, &sources, walked, p)?;
+        let kept = kept_where(alloc, condition, by_index, &sources, walked, p, steps)?;
         Ok(TupleRows {
             tuples: kept.finish()?,
             sources,
@@ -387,7 +431,8 @@ impl<'a> Joining<'a> {
 
 // Whether a join is listed.
 fn is_listed(by_index: Option<&[usize]>, place: usize) -> bool
-    ensures { result ≡ true → IsSome by_index.entry }
+    ensures listed { result ≡ is_listed by_index.entry place }
+    ensures some { result ≡ true → IsSome by_index.entry }
 {
     match by_index {
         Some(joins) => joins.contains(&place),
@@ -397,26 +442,28 @@ fn is_listed(by_index: Option<&[usize]>, place: usize) -> bool
 
 // The sources of a select and the tuples of FROM, with the fault of every ON and of what is tried early. Of the joins that
 // are listed rows are looked up.
-fn joined<'a>(
+fn joined<'a, L: Ledger>(
     alloc: Global,
     select: &Select,
     tables: &'a Tables,
     by_index: Option<&[usize]>,
     early: &[Early],
     p: &Profile,
+    steps: &mut Steps<L>,
 ) -> Result<Joining<'a>, ScalarErr>
     requires typed { IsSelectTyped p.now (tables_held tables.now) (select_tree select.now) }
     requires lawful { MayLookUp (base_held p.now tables.now) by_index }
     ensures held { IfOk result (λ j. j.sources.held ≡ tables.now) }
     ensures stands { IfOk result (λ j. StandsFor (planned_joins (base_held p.now tables.now) (select_tree select.now) [] early.now 0 (first_of (base_held p.now tables.now) (select_tree select.now).source) (select_tree select.now).joins) j.sources j.walked.rows (seen_of j.walked.seen)) }
+    ensures steps { is_listed by_index.entry 0 ≡ true → IsPlainJoin (select_tree select.now) → steps.new ≤ steps.old + most_steps (base_held p.now tables.now) (select_tree select.now) }
     ensures err { IfErr result (λ e. e ≡ ScalarErr.OutOfMemory) }
 {
     let joins = select.joins.as_slice();
     let by_any = by_index.is_some();
     let mut so_far = first_source(alloc, &select.from, tables)?;
     for place in 0..joins.len() {
-        let tried = so_far.with_early(alloc, select, early, place, by_any, p)?;
-        so_far = tried.with_join(alloc, &joins[place], is_listed(by_index, place), p)?;
+        let tried = so_far.with_early(alloc, select, early, place, by_any, p, steps)?;
+        so_far = tried.with_join(alloc, &joins[place], is_listed(by_index, place), p, steps)?;
     }
     Ok(so_far)
 }
@@ -433,40 +480,47 @@ fn joined<'a>(
 ///
 /// Each part of WHERE that is listed to be tried early is tried before its join too, one after the other: the join sees
 /// the rows at which it is true, and its fault is told beside the others. WHERE is tried whole at the end.
-pub fn source_tuples<'a>(
+///
+/// A step is one row that is added to a look-up, one that asks it, or one pair of rows: each pair that a join by a look-up
+/// gives, and each that any other join tries.
+pub fn source_tuples<'a, L: Ledger>(
     alloc: Global,
     select: &Select,
     tables: &'a Tables,
     by_index: Option<&[usize]>,
     early: &[Early],
     p: &Profile,
+    steps: &mut Steps<L>,
 ) -> Result<TupleRows<'a>, ExecErr>
     requires typed { IsSelectTyped p.now (tables_held tables.now) (select_tree select.now) }
     requires lawful { MayLookUp (base_held p.now tables.now) by_index }
     ensures held { IfOk result (λ r. r.sources.held ≡ tables.now) }
     ensures scope { IfOk result (λ r. scope_held r.sources.sources ≡ scope_of (tables_held tables.now) (select_tree select.now)) }
     ensures rows { AnswersBy (λ r. rows_for r.sources r.tuples) result (planned_source_rows (base_held p.now tables.now) (select_tree select.now) [] early.now) }
+    ensures steps { is_listed by_index.entry 0 ≡ true → IsPlainJoin (select_tree select.now) → steps.new ≤ steps.old + most_steps (base_held p.now tables.now) (select_tree select.now) }
 {
-    joined(alloc, select, tables, by_index, early, p)?.finish(
+    joined(alloc, select, tables, by_index, early, p, steps)?.finish(
         alloc,
         &select.condition,
         by_index.is_some(),
         p,
+        steps,
     )
 }
 
 /// The table of the rows that FROM gives and WHERE keeps: the columns of the sources in order, each named by the alias, a
 /// line feed and its name. The select is typed over the columns of the tables that the program holds. Each join tries
 /// each pair. Faults are those of `source_tuples`; each cell is copied once.
-pub fn source_rows(
+pub fn source_rows<L: Ledger>(
     alloc: Global,
     select: &Select,
     tables: &Tables,
     p: &Profile,
+    steps: &mut Steps<L>,
 ) -> Result<Table, ExecErr>
     requires { IsSelectTyped p.now (tables_held tables.now) (select_tree select.now) }
     ensures columns { IfOk result (λ t. t.columns ≡ source_columns (scope_of (tables_held tables.now) (select_tree select.now))) }
     ensures rows { AnswersBy (λ t. t.rows) result (source_rows (base_held p.now tables.now) (select_tree select.now)) }
 {
-    Ok(source_tuples(alloc, select, tables, None, &[], p)?.table(alloc)?)
+    Ok(source_tuples(alloc, select, tables, None, &[], p, steps)?.table(alloc)?)
 }

@@ -11,7 +11,7 @@ ghost use Rattle.sql_eval.specs.Tables.{column_entry};
 ghost use Rattle.sql_from.specs.Columns.{columns_below, line_feed, source_columns};
 ghost use Rattle.sql_from.specs.Held.{IsHeld, rows_held, tables_held};
 ghost use Rattle.sql_from.specs.Joins.{marks_of};
-ghost use Rattle.sql_from.specs.Keys.{IsSpot, last_of};
+ghost use Rattle.sql_from.specs.Keys.{IsSpot, last_of, spot_of};
 ghost use Rattle.sql_from.specs.Partners.{IsPickOf};
 ghost use Rattle.sql_from.specs.Rows.{combined, picks_at, picks_from, width_of};
 ghost use Rattle.sql_from.specs.Sources.{IsWide, parts_of, scope_held, table_named};
@@ -245,7 +245,8 @@ impl<'a> Sources<'a> {
 
     // Where the cell of a column stands: the place of its source, and that of the column in its table.
     pub(crate) fn spot(&self, column: &Column) -> Option<Pick>
-        ensures { IfSome result (IsSpot self.now column.now) }
+        ensures spot { result ≡ spot_of self.now column.now }
+        ensures cell { IfSome result (IsSpot self.now column.now) }
     {
         self.picks.get(self.place(column)).copied()
     }

@@ -1,13 +1,15 @@
 // Rows of FROM as tuples of row numbers.
-ghost use Rattle.std.specs.Prelude.{◌≡◌, ◌<◌, ◌∷◌, ◌++◌, [], length, slice_index_or, IfOk};
-ghost use Rattle.sql_from.specs.Columns.{source_columns};
-ghost use Rattle.sql_from.specs.Rows.{combined};
+ghost use Rattle.std.specs.Prelude.{◌≡◌, ◌<◌, ◌∷◌, ◌++◌, [], length, map, slice_index_or, All, IfOk};
+ghost use Rattle.vtl_rows.specs.Tables.{cells_at, column_kinds};
+ghost use Rattle.sql_eval.specs.Scopes.{row_of};
+ghost use Rattle.sql_from.specs.Columns.{kinds_at, source_columns};
+ghost use Rattle.sql_from.specs.Rows.{combined, pick_for};
 ghost use Rattle.sql_from.specs.Sources.{parts_of, scope_held};
 ghost use Rattle.sql_from.specs.Standing.{rows_for};
 
 use crate::{PartneredRow, Partners, Sources, TupleRow, Tuples};
 use std::alloc::{AllocError, Global};
-use vtl_rows::{Table, gather_beside};
+use vtl_rows::{Column, Pick, Table, gather_beside};
 
 /// Rows of FROM: the sources of the select, and for each row a tuple with the number of a row of each source.
 pub struct TupleRows<'a> {
@@ -73,4 +75,35 @@ impl<'a> TupleRows<'a> {
             columns,
         )
     }
+
+    /// A table of the cells at these places of each of these rows, below columns of their kinds. Each cell is copied
+    /// once, texts are shared. It fails only if memory runs out.
+    pub fn gathered(
+        &self,
+        alloc: Global,
+        places: &[usize],
+        columns: Vec<Column>,
+    ) -> Result<Table, AllocError>
+        requires some { 0 < length columns.items }
+        requires within { All (λ i. i < length (row_of (scope_held self.now.sources.sources))) places.now }
+        requires kinds { column_kinds columns.items ≡ kinds_at places.now (row_of (scope_held self.now.sources.sources)) }
+        ensures columns { IfOk result (λ t. t.columns ≡ columns.items) }
+        ensures rows { IfOk result (λ t. t.rows ≡ map (cells_at places.now) (rows_for self.now.sources self.now.tuples)) }
+    {
+        let tables = self.sources.tables(alloc)?;
+        let picks = chosen_picks(alloc, self.sources.picks(), places)?;
+        gather_beside(alloc, &tables, self.tuples.numbers(), &picks, columns)
+    }
+}
+
+// The picks at these places.
+fn chosen_picks(alloc: Global, picks: &[Pick], places: &[usize]) -> Result<Vec<Pick>, AllocError>
+    requires { All (λ i. i < length picks.now) places.now }
+    ensures { IfOk result (λ chosen. chosen.items ≡ map (pick_for picks.now) places.now) }
+{
+    let mut chosen = Vec::with_capacity(alloc, places.len())?;
+    for place in places {
+        chosen.push(picks[*place])?;
+    }
+    Ok(chosen)
 }

@@ -12,12 +12,15 @@ pub use Rattle.sql_eval.specs.Tables
 pub use Rattle.sql_eval.specs.TypedSelects
 pub use Rattle.sql_eval.specs.Values
 pub use Rattle.sql_eval.specs.Windows
+pub use Rattle.sql_from.specs.Asking
 pub use Rattle.sql_from.specs.Columns
 pub use Rattle.sql_from.specs.Held
 pub use Rattle.sql_from.specs.Seen
 pub use Rattle.sql_from.specs.Sources
 pub use Rattle.sql_from.specs.Standing
+pub use Rattle.sql_from.specs.Steps
 pub mod Grouped
 pub mod Items
 pub mod Kept
+pub mod Partners
 pub mod Resolved

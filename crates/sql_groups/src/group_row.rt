@@ -3,7 +3,9 @@ ghost use Rattle.std.specs.Prelude.{◌≡◌};
 ghost use Rattle.vtl_cell.specs.declared.cell.Cell.TheVariants.{Null};
 ghost use Rattle.sql_groups.specs.Grouped.{AreWithin, rows_at};
 ghost use Rattle.sql_groups.specs.Kept.{rows_of};
+ghost use Rattle.sql_groups.specs.Partners.{MayAsk};
 
+use crate::group_partners::GroupPartners;
 use crate::totals::aggregate;
 use sql_eval::{Cells, Existence, Resolved};
 use sql_from::{OuterRow, TupleRows, has_partner};
@@ -13,9 +15,11 @@ use vtl_cell::{AggKind, Cell, Profile};
 use vtl_decimal::whole;
 use vtl_scalar::ScalarErr;
 
-/// A group: its key, which holds the cells of the columns of GROUP BY, and its rows. All cells are lent.
+/// A group: its key, which holds the cells of the columns of GROUP BY, and its rows. All cells are lent. EXISTS is asked by
+/// a look-up where there is one for it.
 pub(crate) struct GroupRow<'a, 'r> {
     rows: &'a TupleRows<'r>,
+    partners: &'a GroupPartners<'a>,
     key: &'a [Cell],
     numbers: &'a [usize],
     null: &'a Cell,
@@ -26,6 +30,7 @@ impl Drop for GroupRow<'_, '_> {
     fn drop(self) {
         let GroupRow {
             rows: _,
+            partners: _,
             key: _,
             numbers: _,
             null: _,
@@ -38,30 +43,35 @@ impl<'a, 'r> Model for GroupRow<'a, 'r> {
     ghost use Rattle.vtl_cell.specs.declared.cell.Cell.TheVariants.{Null};
     ghost use Rattle.sql_groups.specs.Grouped.{AreWithin, Group, rows_at};
     ghost use Rattle.sql_groups.specs.Kept.{rows_of};
+    ghost use Rattle.sql_groups.specs.Partners.{MayAsk};
 
     ghost Value = { Group };
 
     ghost view = { λ g. record { held = g.rows.now.sources.held; key = g.key.now; rows = rows_at (rows_of g.rows.now) g.numbers.now } };
 
-    ghost invariant = { λ g. AreWithin (rows_of g.rows.now) g.numbers.now × (g.null.now ≡ Null) };
+    ghost invariant = { λ g. AreWithin (rows_of g.rows.now) g.numbers.now × (g.null.now ≡ Null) × MayAsk g.rows.now g.partners.now g.key.now };
 }
 
 impl<'a, 'r> GroupRow<'a, 'r> {
-    /// The group of a key and the rows with these numbers; a null is lent where a place is past the last cell of the key.
+    /// The group of a key and the rows with these numbers, with look-ups over the rows; a null is lent where a place is past
+    /// the last cell of the key.
     pub(crate) fn of(
         rows: &'a TupleRows<'r>,
+        partners: &'a GroupPartners<'a>,
         key: &'a [Cell],
         numbers: &'a [usize],
         null: &'a Cell,
     ) -> GroupRow<'a, 'r>
         requires numbers { AreWithin (rows_of rows.now) numbers.now }
         requires null { null.now ≡ Null }
+        requires partners { MayAsk rows.now partners.now key.now }
         ensures held { result.held ≡ rows.now.sources.held }
         ensures key { result.key ≡ key.now }
         ensures rows { result.rows ≡ rows_at (rows_of rows.now) numbers.now }
     {
         GroupRow {
             rows,
+            partners,
             key,
             numbers,
             null,
@@ -94,7 +104,10 @@ impl<'a, 'r> Cells for GroupRow<'a, 'r> {
     }
 
     fn is_there(&self, alloc: Global, test: &Existence, p: &Profile) -> Result<bool, AllocError> {
-        has_partner(alloc, self.rows.sources.held(), test, self, p)
+        match self.partners.keys.answer(test, self.key, p) {
+            Some(found) => Ok(found),
+            None => has_partner(alloc, self.rows.sources.held(), test, self, p),
+        }
     }
 
     fn count_all(&self, p: &Profile) -> Result<Cell, ScalarErr> {
@@ -108,6 +121,14 @@ impl<'a, 'r> Cells for GroupRow<'a, 'r> {
         operand: &Resolved,
         p: &Profile,
     ) -> Result<Cell, ScalarErr> {
-        aggregate(alloc, self.rows, self.numbers, function, operand, p)
+        aggregate(
+            alloc,
+            self.rows,
+            &self.partners.rows,
+            self.numbers,
+            function,
+            operand,
+            p,
+        )
     }
 }

@@ -9,6 +9,8 @@
 //! Begin with `push_grouped` in `select.rt` and specs/Items.antt, then specs/Grouped.antt and `grouping.rt`.
 #![tactic(auto)]
 
+mod asked;
+mod group_partners;
 mod group_row;
 mod grouping;
 mod items;
@@ -21,4 +23,4 @@ mod totals;
 pub use laws::items_are_lifted_to_columns;
 pub use select::push_grouped;
 pub use sql_eval::Plan;
-pub use sql_from::{ExecErr, Partners, Seen, Sources, TupleRows, source_rows, source_tuples};
+pub use sql_from::{ExecErr, Partners, Seen, Sources, TupleRows, asks, source_rows, source_tuples};

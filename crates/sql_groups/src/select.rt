@@ -9,7 +9,8 @@ ghost use Rattle.sql_from.specs.Scopes.{row_of};
 ghost use Rattle.sql_from.specs.TypedSelects.{IsSelectTyped};
 ghost use Rattle.sql_from.specs.Selects.{grouped_rows};
 ghost use Rattle.sql_from.specs.Tables.{RowsFit};
-ghost use Rattle.sql_from.specs.Held.{tables_held};
+ghost use Rattle.sql_from.specs.Held.{base_held, tables_held};
+ghost use Rattle.sql_from.specs.Profiles.{AreOfProfile, IsLawful};
 ghost use Rattle.sql_from.specs.Sources.{scope_held};
 ghost use Rattle.sql_from.specs.Standing.{rows_for, sight_of};
 ghost use Rattle.sql_groups.specs.Resolved.{AreLifted};
@@ -19,7 +20,9 @@ use crate::rows::push_groups;
 use sql_from::TupleRows;
 use sql_tree::Select;
 use std::alloc::Global;
+use std::sync::ledger::Ledger;
 use vtl_cell::{Kind, Profile};
+use vtl_index::Steps;
 use vtl_rows::Table;
 use vtl_scalar::ScalarErr;
 
@@ -29,23 +32,34 @@ use vtl_scalar::ScalarErr;
 /// DivZero where HAVING at some group, or an item at one that it keeps, divides by zero; otherwise Range where one of
 /// these is out of range; otherwise it fails only if memory runs out. Which rows stand behind the others is told only
 /// where it succeeds.
-pub fn push_grouped(
+pub fn push_grouped<L: Ledger>(
     alloc: Global,
     table: &mut Table,
     select: &Select,
     rows: &TupleRows<'_>,
     kinds: &[Kind],
     p: &Profile,
+    steps: &mut Steps<L>,
 ) -> Result<(), ScalarErr>
     requires grouped { is_grouped (select_tree select.now) ≡ true }
     requires typed { IsSelectTyped p.now (tables_held rows.now.sources.held) (select_tree select.now) }
     requires scope { scope_held rows.now.sources.sources ≡ scope_of (tables_held rows.now.sources.held) (select_tree select.now) }
     requires fit { RowsFit (row_of (scope_held rows.now.sources.sources)) (rows_for rows.now.sources rows.now.tuples) }
+    requires lawful { IsLawful (base_held p.now rows.now.sources.held) }
+    requires ranged { AreOfProfile p.now (rows_for rows.now.sources rows.now.tuples) }
     requires lifted { AreLifted kinds.now (kinds_of (tables_held rows.now.sources.held) (select_tree select.now)) }
     requires columns { column_kinds table.old.columns ≡ kinds.now }
     ensures columns { table.new.columns ≡ table.old.columns }
     ensures rows { AnswersBy (λ u. table.new.rows) result (after (grouped_rows (sight_of p.now rows.now.sources) (zip (map item_tree select.now.items) kinds.now) select.now.group (option_map expr_tree select.now.having) (rows_for rows.now.sources rows.now.tuples)) (λ made. Ok (table.old.rows ++ made))) }
 {
     let resolved = resolve_groups(alloc, p, &rows.sources, select, kinds)?;
-    push_groups(alloc, table, &resolved, rows, select.group.as_slice(), p)
+    push_groups(
+        alloc,
+        table,
+        &resolved,
+        rows,
+        select.group.as_slice(),
+        p,
+        steps,
+    )
 }

@@ -13,7 +13,7 @@ ghost use Rattle.sql_groups.specs.Grouped.{AreWithin, rows_at};
 ghost use Rattle.sql_groups.specs.Kept.{rows_of, tables_of};
 
 use sql_eval::{Cells, Resolved, value_at};
-use sql_from::{Seen, TupleRows};
+use sql_from::{Partners, Seen, TupleRows};
 use std::alloc::Global;
 use vtl_agg::Acc;
 use vtl_cell::{AggKind, Cell, Profile};
@@ -61,22 +61,25 @@ fn finished(acc: Acc, seen: Seen) -> Result<Cell, ScalarErr>
 }
 
 /// An aggregate of the values that an expression has at the rows of these numbers: the worst of their faults, or else
-/// its value or its own fault. It goes over the rows once.
-pub(crate) fn aggregate(
+/// its value or its own fault. It goes over the rows once, at which EXISTS is asked by a look-up where there is one for it.
+pub(crate) fn aggregate<'a>(
     alloc: Global,
-    rows: &TupleRows<'_>,
+    rows: &'a TupleRows<'a>,
+    partners: &'a Partners<'a>,
     numbers: &[usize],
     function: AggKind,
     operand: &Resolved,
     p: &Profile,
 ) -> Result<Cell, ScalarErr>
-    requires { AreWithin (rows_of rows.now) numbers.now }
+    requires numbers { AreWithin (rows_of rows.now) numbers.now }
+    requires partners { partners.now ≡ rows.now.sources }
     ensures { Answers result (aggregate_value p.now (tables_of rows.now) function (placed_of operand.now) (rows_at (rows_of rows.now) numbers.now)) }
 {
     let mut acc = Acc::new(alloc, function, p);
     let mut seen = Seen::Nothing;
     for number in numbers {
-        seen = add_value(alloc, &mut acc, seen, operand, &rows.row(*number), p)?;
+        let at = rows.partnered(*number, partners);
+        seen = add_value(alloc, &mut acc, seen, operand, &at, p)?;
     }
     finished(acc, seen)
 }

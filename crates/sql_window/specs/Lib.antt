@@ -1,3 +1,4 @@
+pub use Rattle.sql_groups.specs.Asking
 pub use Rattle.sql_groups.specs.Columns
 pub use Rattle.sql_groups.specs.Expressions
 pub use Rattle.sql_groups.specs.From
@@ -14,6 +15,7 @@ pub use Rattle.sql_groups.specs.Seen
 pub use Rattle.sql_groups.specs.Selects
 pub use Rattle.sql_groups.specs.Sources
 pub use Rattle.sql_groups.specs.Standing
+pub use Rattle.sql_groups.specs.Steps
 pub use Rattle.sql_groups.specs.Tables
 pub use Rattle.sql_groups.specs.TypedSelects
 pub use Rattle.sql_groups.specs.Values

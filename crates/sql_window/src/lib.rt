@@ -16,7 +16,7 @@ mod lane;
 mod windows;
 
 pub use sql_groups::{
-    ExecErr, Partners, Plan, Seen, Sources, TupleRows, items_are_lifted_to_columns, push_grouped,
-    source_rows, source_tuples,
+    ExecErr, Partners, Plan, Seen, Sources, TupleRows, asks, items_are_lifted_to_columns,
+    push_grouped, source_rows, source_tuples,
 };
 pub use windows::window_values;

@@ -98,3 +98,8 @@ returns-clause-rows g c =
     let plan : IsPlan q w = subst (λ (z : Query). IsPlan (query_tree z) w) c.query.ensures.query c.query.ensures.plan in
     gives_same (planned_value b w q) (query_value b q) c.finish.result (plan_stands b c.requires.lawful w q plan c.requires.typed)
     (gives (planned_value b w q) c.finish.result c.new-out.result c.add_selects.new.out c.finish.ensures c.new-out.ensures.fault c.new-out.ensures.rows adds)
+
+pub returns-clause-steps : goal.returns-clause-steps
+returns-clause-steps g c s one listed plain =
+    let is : map select_tree c.as_slice-selects.result.now ≡ query_tree c.args.plan.now.query = ap (map select_tree) c.as_slice-selects.ensures ∙ ap query_tree c.query.ensures.query in
+    c.add_selects.ensures.steps s (is ∙ one) listed plain

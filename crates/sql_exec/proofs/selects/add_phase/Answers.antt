@@ -22,20 +22,20 @@ use Rattle.sql_exec.proofs.QueryParts.{part_many, phase_grouped, plain_makes, pl
 use Rattle.sql_exec.proofs.selects.add_phase.Goals as goal
 
 pub add_rows-requires-clause-many : goal.add_rows-requires-clause-many
-add_rows-requires-clause-many c =
+add_rows-requires-clause-many g c =
     let items = c.args.select.now.items in
-    part_many (base_held c.args.p.now c.args.rows.now.sources.held) c.args.kinds.now (select_tree c.args.select.now) c.requires.part ∙ length-map items item_tree ∙ ap (λ (l : List Item). length l) (sym c.as_slice.ensures)
+    part_many (base_held c.args.p.now c.args.rows.now.sources.held) c.args.kinds.now (select_tree c.args.select.now) c.requires.part ∙ length-map items item_tree ∙ ap (λ (l : List Item). length l) (sym c.as_slice-items.ensures)
 
 pub add_rows-requires-clause-fitting : goal.add_rows-requires-clause-fitting
-add_rows-requires-clause-fitting c =
+add_rows-requires-clause-fitting g c =
     let s = c.args.rows.now.sources in
     let kinds = c.args.kinds.now in
     let plain : is_grouped (select_tree c.args.select.now) ≡ false = sym c.is_grouped.ensures ∙ c.if-not-is_grouped.true in
-    subst (λ (items : List Item). MakesKinds (scope_held s.sources) kinds (λ rows. row_at (item_value (sight_of c.args.p.now s) rows) (zip (map item_tree items) kinds))) (sym c.as_slice.ensures)
+    subst (λ (items : List Item). MakesKinds (scope_held s.sources) kinds (λ rows. row_at (item_value (sight_of c.args.p.now s) rows) (zip (map item_tree items) kinds))) (sym c.as_slice-items.ensures)
     (plain_makes (base_held c.args.p.now s.held) kinds (select_tree c.args.select.now) c.requires.part (scope_held s.sources) c.requires.scope plain)
 
 pub returns-in-Ok-clause-adds : goal.returns-in-Ok-clause-adds
-returns-in-Ok-clause-adds c =
+returns-in-Ok-clause-adds g c =
     let s = select_tree c.args.select.now in
     let wanted = zip s.items c.args.kinds.now in
     let from = c.args.rows.now in
@@ -47,9 +47,9 @@ returns-in-Ok-clause-adds c =
     subst (λ (m : Outcome (List Row)). Adds m old now) (sym (phase_grouped v wanted s rows grouped)) (behind_added (grouped_rows v wanted s.group s.having rows) old now c.in-Ok.ensures.columns refl c.in-Ok.ensures.rows)
 
 pub add_rows-requires-clause-typed : goal.add_rows-requires-clause-typed
-add_rows-requires-clause-typed c =
+add_rows-requires-clause-typed g c =
     let s = c.args.rows.now.sources in
     let b = base_held c.args.p.now s.held in
     let plain : is_grouped (select_tree c.args.select.now) ≡ false = sym c.is_grouped.ensures ∙ c.if-not-is_grouped.true in
-    subst (λ (items : List Item). AllByRecursion (IsItemTyped (site b.settings b.tables (scope_held s.sources)) None) (map item_tree items)) (sym c.as_slice.ensures)
+    subst (λ (items : List Item). AllByRecursion (IsItemTyped (site b.settings b.tables (scope_held s.sources)) None) (map item_tree items)) (sym c.as_slice-items.ensures)
     (plain_typed b c.args.kinds.now (select_tree c.args.select.now) c.requires.part (scope_held s.sources) c.requires.scope plain)

@@ -10,7 +10,7 @@ use Rattle.sql_exec.proofs.PlainRows.{one_row}
 use Rattle.sql_exec.proofs.selects.add_rows.Given as goal
 
 abbrev pub invariant-loop-number : goal.invariant-loop-number
-invariant-loop-number l =
+invariant-loop-number g l =
     let rows = rows_for l.rows.sources l.rows.tuples in
     let at = item_value (sight_of l.p l.rows.sources) rows in
     let wanted = zip (map item_tree l.items) l.kinds in

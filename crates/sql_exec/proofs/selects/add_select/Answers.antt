@@ -1,4 +1,4 @@
-use Rattle.std.proofs.Common.{◌≡◌, ◌∙◌, [], List, sym, ap, subst}
+use Rattle.std.proofs.Common.{◌≡◌, ◌∙◌, [], List, arith, sym, ap, subst}
 use Rattle.std.specs.Prelude.{OnOk, zip}
 use Rattle.vtl_cell.specs.Outcome.{Outcome}
 use Rattle.vtl_cell.specs.Row.{Row}
@@ -14,17 +14,21 @@ use Rattle.sql_window.specs.Held.{base_held}
 use Rattle.sql_window.specs.Standing.{rows_for, sight_of}
 use Rattle.sql_exec.specs.Outputs.{Adds}
 use Rattle.sql_exec.specs.Parts.{phase_of}
-use Rattle.sql_exec.proofs.PlannedSelects.{same_rows_fit}
+use Rattle.sql_exec.proofs.PlannedSelects.{same_rows_fit, same_rows_of_profile}
 use Rattle.sql_exec.proofs.selects.add_select.Goals as goal
 
 pub add_phase-requires-clause-fit : goal.add_phase-requires-clause-fit
-add_phase-requires-clause-fit c =
+add_phase-requires-clause-fit g c =
     let rows = rows_for c.in-Ok.rows.sources c.in-Ok.rows.tuples in
     subst (λ (scope : Scope). RowsFit (row_of scope) rows) (sym c.in-Ok.ensures.scope)
     (same_rows_fit (base_held c.args.p.now c.args.tables.now) c.args.kinds.now (select_tree c.args.select.now) c.args.early.now rows c.requires.lawful c.requires.part c.requires.same c.in-Ok.ensures.rows)
 
+pub add_phase-requires-clause-ranged : goal.add_phase-requires-clause-ranged
+add_phase-requires-clause-ranged g c =
+    same_rows_of_profile (base_held c.args.p.now c.args.tables.now) (select_tree c.args.select.now) c.args.early.now (rows_for c.in-Ok.rows.sources c.in-Ok.rows.tuples) c.requires.lawful c.requires.same c.in-Ok.ensures.rows
+
 pub returns-in-Ok-clause-adds : goal.returns-in-Ok-clause-adds
-returns-in-Ok-clause-adds c =
+returns-in-Ok-clause-adds g c =
     let p = c.args.p.now in
     let b = base_held p c.args.tables.now in
     let s = select_tree c.args.select.now in
@@ -37,4 +41,10 @@ returns-in-Ok-clause-adds c =
     subst (λ (m : Outcome (List Row)). OnOk c.add_phase.result (Adds m c.args.out.now c.add_phase.new.out)) same c.add_phase.ensures.adds
 
 pub add_phase-requires-clause-lawful : goal.add_phase-requires-clause-lawful
-add_phase-requires-clause-lawful c = subst (λ (h : NamedTables). IsLawful (base_held c.args.p.now h)) (sym c.in-Ok.ensures.held) c.requires.lawful
+add_phase-requires-clause-lawful g c = subst (λ (h : NamedTables). IsLawful (base_held c.args.p.now h)) (sym c.in-Ok.ensures.held) c.requires.lawful
+
+pub returns-in-Ok-clause-steps : goal.returns-in-Ok-clause-steps
+returns-in-Ok-clause-steps g c listed plain =
+    let from = c.source_tuples.ensures.steps listed plain in
+    let items = c.add_phase.ensures.steps plain.plain plain.items in
+    omega (arith, from, items)

@@ -11,6 +11,7 @@ use Rattle.sql_window.specs.Selects.{appended}
 use Rattle.sql_exec.specs.Outputs.{Adds}
 use Rattle.sql_exec.specs.Parts.{HasRowsOf, IsPart, phase_of}
 use Rattle.sql_exec.proofs.Added.{added_all, added_more}
+use Rattle.sql_exec.proofs.Counted.{select_taken}
 use Rattle.sql_exec.proofs.PlannedSelects.{has_rows, phase_planned, planned_at, planned_many, planned_read}
 use Rattle.sql_exec.proofs.QueryColumns.{drop_read}
 use Rattle.sql_exec.proofs.Steps.{holds_mapped}
@@ -21,10 +22,10 @@ here : (selects : List Select) (i : ℕ) (x : Select) → i < length selects →
 here selects i x h at = drop-map select_tree i selects ∙ ap (map select_tree) (drop_read selects i x h at)
 
 pub add_select-requires-clause-part : goal.add_select-requires-clause-part
-add_select-requires-clause-part c = holds_mapped (IsPart (base_held c.args.p.now c.args.tables.now) c.args.kinds.now) select_tree c.args.selects.now c.loop-place.place c.index-selects-place.result c.requires.parts c.loop-place-test.true c.index-selects-place.is
+add_select-requires-clause-part g c = holds_mapped (IsPart (base_held c.args.p.now c.args.tables.now) c.args.kinds.now) select_tree c.args.selects.now c.loop-place.place c.index-selects-place.result c.requires.parts c.loop-place-test.true c.index-selects-place.is
 
 pub add_select-requires-clause-same : goal.add_select-requires-clause-same
-add_select-requires-clause-same c =
+add_select-requires-clause-same g c =
     let b = base_held c.args.p.now c.args.tables.now in
     let selects = c.args.selects.now in
     let i = c.loop-place.place in
@@ -34,7 +35,7 @@ add_select-requires-clause-same c =
     (has_rows c.args.plan.now.ways b c.args.kinds.now (map select_tree selects) c.requires.plan i (select_tree x) (map select_tree (drop (i + 1) selects)) (here selects i x c.loop-place-test.true c.index-selects-place.is) c.requires.lawful part)
 
 pub loop-place-preserved : goal.loop-place-preserved
-loop-place-preserved c =
+loop-place-preserved g c =
     let b = base_held c.args.p.now c.args.tables.now in
     let kinds = c.args.kinds.now in
     let w = c.args.plan.now.ways in
@@ -50,11 +51,18 @@ loop-place-preserved c =
     let h : i < length (planned_selects b kinds w 0 q) = omega (arith, many, long, c.loop-place-test.true) in
     let early : c.deref-in-loop-place.result.now ≡ early_in w i = c.deref-in-loop-place.ensures.value ∙ c.in_ok-early.ensures in
     let same : phase_of b kinds s (planned_source_rows b s [] c.deref-in-loop-place.result.now) ≡ planned_at w b kinds i s = ap (λ (es : List Early). phase_of b kinds s (planned_source_rows b s [] es)) early ∙ phase_planned w b kinds q c.requires.plan i s rest there in
-    added_more (λ (m : Outcome (List Row)). m) (planned_selects b kinds w 0 q) i (planned_at w b kinds i s) h (planned_read w b kinds i q s rest there) c.args.out.now c.loop-place.out c.add_select.new.out c.loop-place.invariant
-    (subst (λ (m : Outcome (List Row)). Adds m c.loop-place.out c.add_select.new.out) same c.in_ok-add_select.ensures.adds)
+    record {
+      adds = added_more (λ (m : Outcome (List Row)). m) (planned_selects b kinds w 0 q) i (planned_at w b kinds i s) h (planned_read w b kinds i q s rest there) c.args.out.now c.loop-place.out c.add_select.new.out c.loop-place.invariant.adds
+          (subst (λ (m : Outcome (List Row)). Adds m c.loop-place.out c.add_select.new.out) same c.in_ok-add_select.ensures.adds);
+      steps = λ only one listed plain. record {
+        none = λ e. absurd (omega (arith, e));
+        most = select_taken b w q only s rest i c.args.steps.now c.loop-place.steps c.add_select.new.steps one (omega (arith, long, c.loop-place-test.true)) there listed plain (c.loop-place.invariant.steps only one listed plain)
+            c.deref.result.now (c.deref.ensures.value ∙ c.in_ok-by_index.ensures) c.add_select.ensures.steps;
+      };
+    }
 
 pub returns-clause-adds : goal.returns-clause-adds
-returns-clause-adds c =
+returns-clause-adds g c =
     let b = base_held c.args.p.now c.args.tables.now in
     let kinds = c.args.kinds.now in
     let w = c.args.plan.now.ways in
@@ -64,4 +72,15 @@ returns-clause-adds c =
     let many = planned_many w b kinds 0 q in
     let long = length-map selects select_tree in
     let h : length all ≤ c.loop-place.place = omega (arith, many, long, c.loop-place-test.false) in
-    subst (λ (ms : List (Outcome (List Row))). Adds (appended ms) c.args.out.now c.loop-place.out) (map-id all) (added_all (λ (m : Outcome (List Row)). m) all c.loop-place.place c.args.out.now c.loop-place.out h c.loop-place.invariant)
+    subst (λ (ms : List (Outcome (List Row))). Adds (appended ms) c.args.out.now c.loop-place.out) (map-id all) (added_all (λ (m : Outcome (List Row)). m) all c.loop-place.place c.args.out.now c.loop-place.out h c.loop-place.invariant.adds)
+
+pub returns-in_err-add_select-clause-steps : goal.returns-in_err-add_select-clause-steps
+returns-in_err-add_select-clause-steps g c only one listed plain =
+    let b = base_held c.args.p.now c.args.tables.now in
+    let w = c.args.plan.now.ways in
+    let selects = c.args.selects.now in
+    let i = c.loop-place.place in
+    let x = c.index-selects-place.result in
+    let long = length-map selects select_tree in
+    select_taken b w (map select_tree selects) only (select_tree x) (map select_tree (drop (i + 1) selects)) i c.args.steps.now c.loop-place.steps c.add_select.new.steps one (omega (arith, long, c.loop-place-test.true)) (here selects i x c.loop-place-test.true c.index-selects-place.is) listed plain
+    (c.loop-place.invariant.steps only one listed plain) c.deref.result.now (c.deref.ensures.value ∙ c.in_ok-by_index.ensures) c.add_select.ensures.steps

@@ -5,4 +5,4 @@ use Rattle.sql_window.specs.Sources.{Sourced}
 use Rattle.sql_exec.proofs.selects.item_partners.Goals as goal
 
 pub with-requires : goal.with-requires
-with-requires c = subst (λ (s : Sourced). IsLawful (base_held c.args.p.now s.held)) (sym c.loop-item.invariant) c.requires
+with-requires g c = subst (λ (s : Sourced). IsLawful (base_held c.args.p.now s.held)) (sym c.loop-item.invariant) c.requires

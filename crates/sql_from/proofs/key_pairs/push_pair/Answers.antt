@@ -8,12 +8,12 @@ use Rattle.sql_from.specs.Keys.{ArePaired}
 use Rattle.sql_from.proofs.Conjunctions.{equality_paired}
 use Rattle.sql_from.proofs.key_pairs.push_pair.Goals as goal
 
-pub returns-in_ok-push-in-Some : goal.returns-in_ok-push-in-Some
-returns-in_ok-push-in-Some c e =
+pub returns-in_ok-push-in-Some-clause-paired : goal.returns-in_ok-push-in-Some-clause-paired
+returns-in_ok-push-in-Some-clause-paired c e =
     let s = c.args.sources.now in
     let x = c.in-Column-Column.x in
     let y = c.in-Column-Column.y in
     let left : expr_tree c.args.left.now ≡ tree.column x = ap expr_tree c.in-Column-Column.is-0 ∙ search (rules, expr.the_lemmas) in
     let right : expr_tree c.args.right.now ≡ tree.column y = ap expr_tree c.in-Column-Column.is-1 ∙ search (rules, expr.the_lemmas) in
     subst (λ (e : Exp). ArePaired s c.args.lead e c.args.keys.now.items c.push.new.self.items) (λ i. tree.binary (sym left i) op.Equal (sym right i))
-    (equality_paired s c.args.lead x y c.args.keys.now.items c.push.new.self.items c.in-Some.pair c.in-Some.ensures c.in_ok-push-in-Some.ensures.items)
+    (equality_paired s c.args.lead x y c.args.keys.now.items c.push.new.self.items c.in-Some.pair c.in-Some.ensures.pair c.in_ok-push-in-Some.ensures.items)

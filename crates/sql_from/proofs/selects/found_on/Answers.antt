@@ -17,7 +17,7 @@ returns-clause-seen c =
     let s = c.args.sources.now in
     let value : Sourced → Test = λ t x. placed_value c.args.p.now (rows_held t.held) (placed_of c.in_ok-resolved.resolved.exp) (combined (parts_of t.sources) x) [] in
     let on : value c.none-partners.result ≡ condition_at c.args.p.now s (expr_tree c.args.condition.now) = ap value c.none-partners.ensures ∙ λ i x. c.in_ok-resolved.ensures.value_is (rows_held s.held) (combined (parts_of s.sources) x) [] i in
-    subst (λ (f : Test). IfOk c.join_found.result (λ w. seen_of w.seen ≡ join (seen_of c.args.left.now.seen) (pairs_fault f (length c.args.keys.now.index.rows) c.args.left.now.rows.tuples))) on c.join_found.ensures.seen
+    subst (λ (f : Test). IfOk c.join_found.result (λ w. seen_of w.seen ≡ join (seen_of c.args.left.now.seen) (pairs_fault f c.args.keys.now.count c.args.left.now.rows.tuples))) on c.join_found.ensures.seen
 
 pub join_found-requires-clause-finds : goal.join_found-requires-clause-finds
 join_found-requires-clause-finds c =
@@ -31,4 +31,4 @@ returns-clause-rows c =
     let s = c.args.sources.now in
     let value : Sourced → Test = λ t x. placed_value c.args.p.now (rows_held t.held) (placed_of c.in_ok-resolved.resolved.exp) (combined (parts_of t.sources) x) [] in
     let on : value c.none-partners.result ≡ condition_at c.args.p.now s (expr_tree c.args.condition.now) = ap value c.none-partners.ensures ∙ λ i x. c.in_ok-resolved.ensures.value_is (rows_held s.held) (combined (parts_of s.sources) x) [] i in
-    subst (λ (f : Test). IfOk c.join_found.result (λ w. w.rows.tuples ≡ joined_tuples c.args.kind f c.args.marks.now (length c.args.keys.now.index.rows) c.args.left.now.rows.tuples)) on c.join_found.ensures.rows
+    subst (λ (f : Test). IfOk c.join_found.result (λ w. w.rows.tuples ≡ joined_tuples c.args.kind f c.args.marks.now c.args.keys.now.count c.args.left.now.rows.tuples)) on c.join_found.ensures.rows

@@ -8,7 +8,7 @@ use Rattle.sql_from.proofs.Standing.{if_both, kept_stands}
 use Rattle.sql_from.proofs.selects.kept_where.Goals as goal
 
 pub returns-in-Some-clause-kept : goal.returns-in-Some-clause-kept
-returns-in-Some-clause-kept c =
+returns-in-Some-clause-kept g c =
     let p = c.args.p.now in
     let s = c.args.sources.now in
     let e = expr_tree c.in-Some.condition in

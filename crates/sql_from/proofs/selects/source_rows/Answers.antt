@@ -17,12 +17,12 @@ as_written : (b : Base) (s : SelectTree) → planned_source_rows b s [] [] ≡ s
 as_written b s = ap (kept_of b s.condition) (joins_by_index b s [] tt s.joins 0 (first_of b s.source) refl)
 
 pub returns-in_err-source_tuples-clause-rows : goal.returns-in_err-source_tuples-clause-rows
-returns-in_err-source_tuples-clause-rows c =
+returns-in_err-source_tuples-clause-rows g c =
     let b = base_held c.args.p.now c.args.tables.now in
     let s = select_tree c.args.select.now in
     let told : AnswersBy (λ (t : Listed). t.rows) c.from_residual.result (planned_source_rows b s [] []) = search rules in
     subst (λ (m : Outcome (List Row)). AnswersBy (λ (t : Listed). t.rows) c.from_residual.result m) (as_written b s) told
 
 pub returns-clause-rows : goal.returns-clause-rows
-returns-clause-rows c =
+returns-clause-rows g c =
     sym (as_written (base_held c.args.p.now c.args.tables.now) (select_tree c.args.select.now)) ∙ c.in_ok-source_tuples.ensures.rows ∙ ap (λ (rows : List Row). Ok rows) (sym c.in_ok-table.ensures.rows)

@@ -12,7 +12,7 @@ use Rattle.sql_from.proofs.Standing.{if_ok, scope_joined}
 use Rattle.sql_from.proofs.selects.source_tuples.Goals as goal
 
 pub returns-clause-scope : goal.returns-clause-scope
-returns-clause-scope c =
+returns-clause-scope g c =
     let b = base_held c.args.p.now c.args.tables.now in
     let s = select_tree c.args.select.now in
     if_ok c.finish.result _ _
@@ -20,7 +20,7 @@ returns-clause-scope c =
     c.finish.ensures.sources
 
 pub returns-clause-rows : goal.returns-clause-rows
-returns-clause-rows c =
+returns-clause-rows g c =
     let p = c.args.p.now in
     let s = select_tree c.args.select.now in
     let b = base_held p c.args.tables.now in

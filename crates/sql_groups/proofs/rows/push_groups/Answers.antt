@@ -6,26 +6,38 @@ use Rattle.vtl_rows.specs.Places.{row_at}
 use Rattle.vtl_rows.specs.Tables.{fits}
 use Rattle.sql_from.proofs.Lists.{all_at}
 use Rattle.sql_from.specs.Held.{rows_held}
+use Rattle.sql_from.specs.KeyPartners.{Asking}
+use Rattle.sql_from.specs.Profiles.{AreOfProfile, IsRowOfProfile}
 use Rattle.sql_from.specs.Seen.{seen_of}
 use Rattle.sql_groups.specs.Grouped.{AreWithin, Group, rows_at}
 use Rattle.sql_groups.specs.Items.{around, fault_for, fault_of_key, is_kept, keys_in, passes, places_of, row_for, row_of_key, tested}
 use Rattle.sql_groups.specs.Kept.{rows_of}
 use Rattle.sql_groups.proofs.GroupLemmas.{group_within}
+use Rattle.sql_groups.proofs.KeyLemmas.{keys_of_profile}
 use Rattle.sql_groups.proofs.ItemLemmas.{faults_of_more, group_is, rows_more, walked}
 use Rattle.sql_groups.proofs.rows.push_groups.Goals as goal
 
 pub of-at-requires : goal.of-at-requires
-of-at-requires c =
+of-at-requires g c =
     let g = c.in_ok-groups.groups in
     let x = c.args.rows.now in
     let within : c.loop-number.number < length g.keys = omega (arith, c.len-number-end.ensures.keys, c.loop-number-test.true) in
     record {
       numbers = subst (AreWithin (rows_of x)) (sym c.rows.ensures) (group_within (places_of x c.args.group.now) (rows_of x) g c.in_ok-groups.ensures c.loop-number.number within);
       null = refl;
+      partners = record {
+        held = ap (λ (a : Asking). a.held) c.in_ok-partners.ensures.keys;
+        sources = c.in_ok-partners.ensures.rows;
+        ranged =
+            subst (λ (a : Asking). IsRowOfProfile a.settings c.key.result.now) (sym c.in_ok-partners.ensures.keys)
+            (subst (IsRowOfProfile c.args.p.now) (sym c.key.ensures)
+            (all_at (IsRowOfProfile c.args.p.now) g.keys c.loop-number.number [] within
+            (subst (AreOfProfile c.args.p.now) (sym c.in_ok-groups.ensures.keys_are) (keys_of_profile c.args.p.now (places_of x c.args.group.now) (rows_of x) c.requires.ranged))));
+      };
     }
 
 pub push_group-requires : goal.push_group-requires
-push_group-requires c =
+push_group-requires g c =
     let g = c.in_ok-groups.groups in
     let p = c.args.p.now in
     let x = c.args.rows.now in
@@ -40,7 +52,7 @@ push_group-requires c =
     (subst (λ ks. AllByRecursion (λ k. fits c.args.table.now.columns (row_of_key a s k) ≡ true) ks) (sym c.in_ok-groups.ensures.keys_are) c.requires.made)
 
 pub loop-number-preserved : goal.loop-number-preserved
-loop-number-preserved c =
+loop-number-preserved g c =
     let g = c.in_ok-groups.groups in
     let p = c.args.p.now in
     let x = c.args.rows.now in
@@ -60,7 +72,7 @@ loop-number-preserved c =
     }
 
 pub returns-clause-rows : goal.returns-clause-rows
-returns-clause-rows c =
+returns-clause-rows g c =
     let g = c.in_ok-groups.groups in
     let s = c.args.select.now in
     let a = around c.args.p.now c.args.rows.now c.args.group.now in

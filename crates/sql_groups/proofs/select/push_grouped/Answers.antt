@@ -8,17 +8,17 @@ use Rattle.sql_groups.proofs.SelectLemmas.{kinds_many, made_are, made_fit}
 use Rattle.sql_groups.proofs.select.push_grouped.Goals as goal
 
 pub resolve_groups-requires : goal.resolve_groups-requires
-resolve_groups-requires c =
+resolve_groups-requires g c =
     kinds_many c.args.p.now c.args.rows.now (select_tree c.args.select.now) c.args.kinds.now c.requires.lifted
     ∙ length-map c.args.select.now.items item_tree
 
 pub push_groups-requires-clause-made : goal.push_groups-requires-clause-made
-push_groups-requires-clause-made c =
+push_groups-requires-clause-made g c =
     made_fit c.args.p.now c.args.rows.now (select_tree c.args.select.now) c.args.kinds.now c.requires.lifted c.in_ok-resolved.resolved c.as_slice.result.now c.as_slice.ensures c.in_ok-resolved.ensures
     c.requires.grouped c.requires.typed c.requires.scope c.requires.fit c.args.table.now.columns c.requires.columns
 
 pub returns-clause-rows : goal.returns-clause-rows
-returns-clause-rows c =
+returns-clause-rows g c =
     let view : Unit {0} → List Row = λ u. c.push_groups.new.table.rows in
     subst (λ (m : Outcome (List Row)). AnswersBy view c.push_groups.result (after m (λ made. Ok (c.args.table.now.rows ++ made))))
     (made_are c.args.p.now c.args.rows.now (select_tree c.args.select.now) c.args.kinds.now c.requires.lifted c.in_ok-resolved.resolved c.as_slice.result.now c.as_slice.ensures c.in_ok-resolved.ensures)

@@ -20,7 +20,7 @@ loop-number-preserved c =
     let x = c.args.rows.now in
     let e = placed_of c.args.operand.now in
     let f : Row → Outcome Cell = λ q. placed_value p (tables_of x) e q [] in
-    let r : Row = combined (parts_of c.row.result.sources.now.sources) (c.row.result.front.now ++ c.row.result.last ∷ []) in
+    let r : Row = combined (parts_of c.partnered-at.result.row.sources.now.sources) (c.partnered-at.result.row.front.now ++ c.partnered-at.result.row.last ∷ []) in
     let i = c.loop-number.number-index in
     let numbers = c.args.numbers.now in
     let values = values_to f (rows_of x) numbers i in
@@ -28,13 +28,13 @@ loop-number-preserved c =
       settings = c.add_value.ensures.settings ∙ c.loop-number.invariant.settings;
       kind = c.add_value.ensures.kind ∙ c.loop-number.invariant.kind;
       added =
-          subst (IsAdded c.add_value.new.acc) (values_more f (rows_of x) numbers i c.loop-number-test.true r c.row.ensures.row)
-          (subst (λ (z : Sourced). IsAdded c.add_value.new.acc (values ++ cell_or_null (placed_value p (rows_held z.held) e r []) ∷ [])) c.row.ensures.sources (c.in_ok-seen.ensures.added values c.loop-number.invariant.added));
+          subst (IsAdded c.add_value.new.acc) (values_more f (rows_of x) numbers i c.loop-number-test.true r c.partnered-at.ensures.row)
+          (subst (λ (z : Sourced). IsAdded c.add_value.new.acc (values ++ cell_or_null (placed_value p (rows_held z.held) e r []) ∷ [])) c.partnered-at.ensures.sources (c.in_ok-seen.ensures.added values c.loop-number.invariant.added));
       seen =
           c.in_ok-seen.ensures.seen
-          ∙ ap (λ (z : Sourced). join (seen_of c.loop-number.seen) (fault_in (placed_value p (rows_held z.held) e r []))) c.row.ensures.sources
+          ∙ ap (λ (z : Sourced). join (seen_of c.loop-number.seen) (fault_in (placed_value p (rows_held z.held) e r []))) c.partnered-at.ensures.sources
           ∙ ap (λ s. join s (fault_in (f r))) c.loop-number.invariant.seen
-          ∙ faults_more f (rows_of x) numbers i c.loop-number-test.true r c.row.ensures.row;
+          ∙ faults_more f (rows_of x) numbers i c.loop-number-test.true r c.partnered-at.ensures.row;
     }
 
 pub returns : goal.returns

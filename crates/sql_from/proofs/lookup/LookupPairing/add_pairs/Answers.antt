@@ -12,7 +12,7 @@ pub returns-clause-met : goal.returns-clause-met
 returns-clause-met g c =
     let f = g.C.Condition.value c.args.self.now.condition.now in
     let x = c.args.front.now in
-    let all = numbers_to (length c.args.self.now.keys.now.index.rows) in
+    let all = numbers_to c.args.self.now.keys.now.count in
     let is : c.found-found.result.now ≡ filter (passes f x) all = c.found-found.ensures ∙ c.requires.sound.found x (c.requires.front ∙ sym c.requires.width) in
     ap not (c.is_empty.ensures ∙ ap (λ l. length l == 0) is) ∙ sym (any_kept (passes f x) all)
 
@@ -21,4 +21,4 @@ returns-clause-seen g c =
     let f = g.C.Condition.value c.args.self.now.condition.now in
     let x = c.args.front.now in
     let seen = seen_of c.args.so_far.now.seen in
-    sym (ap (join seen) (no_faults (fault_of f x) (λ j. c.requires.sound.sound x j (c.requires.front ∙ sym c.requires.width)) (numbers_to (length c.args.self.now.keys.now.index.rows))) ∙ join_none seen)
+    sym (ap (join seen) (no_faults (fault_of f x) (λ j. c.requires.sound.sound x j (c.requires.front ∙ sym c.requires.width)) (numbers_to c.args.self.now.keys.now.count)) ∙ join_none seen)

@@ -10,7 +10,7 @@ use Rattle.sql_from.proofs.Found.{index_answers}
 use Rattle.sql_from.proofs.partner_index.PartnerIndex.of.Goals as goal
 
 pub returns-in_ok-keyed-in-Some-2 : goal.returns-in_ok-keyed-in-Some-2
-returns-in_ok-keyed-in-Some-2 c =
+returns-in_ok-keyed-in-Some-2 g c =
     let s = c.args.sources.now in
     let p = c.args.p.now in
     let lead = c.in-Some-lead_of_tie.lead in
@@ -24,4 +24,4 @@ returns-in_ok-keyed-in-Some-2 c =
     let ties : c.deref-2.result.now ≡ c.in_ok-copied-in-Some-2.field-0.items = c.deref-2.ensures.value ∙ sym (c.in_ok-copied-in-Some-2.ensures ∙ c.deref-in-Some-2.ensures.value) in
     index_answers p s x lead own table keys c.requires c.in-Some-lead_of_tie.ensures there c.table-table.ensures.source c.table-table.ensures.held
     (subst (λ (ts : List Tie). AreTiedBy s lead ts keys) ties tied)
-    (subst (λ (ks : List KeyPair). IsKeyed own lead table ks p c.in_ok-keyed-in-Some-2.field-0) c.deref-in-Some-2-2.ensures.value c.in_ok-keyed-in-Some-2.ensures) refl
+    (subst (λ (ks : List KeyPair). IsKeyed own lead table ks p c.in_ok-keyed-in-Some-2.field-0) c.deref-in-Some-2-2.ensures.value c.in_ok-keyed-in-Some-2.ensures.keyed) refl

@@ -32,16 +32,17 @@ one_more p s early i n e h at old now same t t' t'' seen seen' seen'' before ste
     subst (λ (j : Joined). StandsFor j old t'' seen'') (sym all) moved
 
 pub loop-entry-preserved : goal.loop-entry-preserved
-loop-entry-preserved c = record {
+loop-entry-preserved g c = record {
   sources = c.in_ok-so_far.ensures.sources ∙ c.loop-entry.invariant.sources;
   width = c.in_ok-so_far.ensures.width ∙ c.loop-entry.invariant.width;
   stands = one_more c.args.p.now (select_tree c.args.select.now) c.args.early.now c.loop-entry.entry-index c.args.place _ c.loop-entry-test.true (get_or_default c.args.early.now c.loop-entry.entry-index _ _ c.loop-entry-test.true)
       c.args.self.sources c.loop-entry.so_far.sources c.loop-entry.invariant.sources c.args.self.walked.rows c.loop-entry.so_far.walked.rows c.in_ok-so_far.so_far.walked.rows
       (seen_of c.args.self.walked.seen) (seen_of c.loop-entry.so_far.walked.seen) (seen_of c.in_ok-so_far.so_far.walked.seen) c.loop-entry.invariant.stands c.in_ok-so_far.ensures.stands;
+  steps = λ h. c.with_entry.ensures.steps h ∙ c.loop-entry.invariant.steps h;
 }
 
 pub returns-clause-stands : goal.returns-clause-stands
-returns-clause-stands c f h =
+returns-clause-stands g c f h =
     let old = c.args.self.sources in
     let walked = c.loop-entry.so_far.walked in
     subst (λ (es : List Early). StandsFor (fold (try_early (sight_of c.args.p.now old)) f (early_at (select_tree c.args.select.now) es c.args.place)) old walked.rows (seen_of walked.seen)) (take_all c.loop-entry.entry-index c.args.early.now c.loop-entry-test.false)

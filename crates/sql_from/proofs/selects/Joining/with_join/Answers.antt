@@ -15,11 +15,12 @@ use Rattle.sql_from.specs.Keys.{last_of}
 use Rattle.sql_from.specs.Seen.{seen_of}
 use Rattle.sql_from.specs.Sources.{IsWide, Sourced, parts_of, scope_held}
 use Rattle.sql_from.specs.Standing.{StandsFor, condition_at}
+use Rattle.sql_from.proofs.Counted.{on_bounded}
 use Rattle.sql_from.proofs.Standing.{cross_stands, last_counted, on_stands, with_table}
 use Rattle.sql_from.proofs.selects.Joining.with_join.Goals as goal
 
 pub returns-in-On-clause-stands : goal.returns-in-On-clause-stands
-returns-in-On-clause-stands c =
+returns-in-On-clause-stands g c =
     let p = c.args.p.now in
     let s : Sourced = c.args.self.sources in
     let t = c.args.self.walked.rows in
@@ -41,7 +42,7 @@ returns-in-On-clause-stands c =
     (c.in_ok-walked-in-On.ensures.seen ∙ ap (λ (z : Sourced). join (seen_of c.args.self.walked.seen) (pairs_fault (condition_at p z e) (length (last_of z).rows) t.tuples)) is)))
 
 pub returns-clause-stands : goal.returns-clause-stands
-returns-clause-stands c =
+returns-clause-stands g c =
     let p = c.args.p.now in
     let s : Sourced = c.args.self.sources in
     let t = c.args.self.walked.rows in
@@ -59,4 +60,28 @@ returns-clause-stands c =
     c.in_ok-walked-in-Cross.ensures.width c.in_ok-walked-in-Cross.ensures.rows c.in_ok-walked-in-Cross.ensures.seen))
 
 pub joined_on-requires-clause-lawful : goal.joined_on-requires-clause-lawful
-joined_on-requires-clause-lawful c e = subst (λ (h : NamedTables). IsLawful (base_held c.args.p.now h)) (sym c.in_ok-sources-in-On.ensures.held) (c.requires.lawful e)
+joined_on-requires-clause-lawful g c e = subst (λ (h : NamedTables). IsLawful (base_held c.args.p.now h)) (sym c.in_ok-sources-in-On.ensures.held) (c.requires.lawful e)
+
+pub returns-in-On-clause-steps : goal.returns-in-On-clause-steps
+returns-in-On-clause-steps g c by f before two =
+    let s : Sourced = c.args.self.sources in
+    let source = c.in-On.source in
+    let new : Sourced = c.in_ok-sources-in-On.sources in
+    let e = expr_tree c.in-On.condition in
+    let joining : join_tree c.args.join.now ≡ tree.on c.in-On.kind source e = ap join_tree c.in-On.is in
+    let typed : IsSourceTyped (tables_held s.held) (scope_held s.sources) source = subst (λ (j : JoinTree). IsSourceTyped (tables_held s.held) (scope_held s.sources) (join_source j)) joining c.requires.source in
+    let is : new ≡ with_table s source = λ i. record { held = c.in_ok-sources-in-On.ensures.held i; sources = c.in_ok-sources-in-On.ensures.sources i } in
+    on_bounded c.args.p.now s source typed c.args.self.walked.rows (seen_of c.args.self.walked.seen) f before c.in-On.kind e new is c.in_ok-sources-in-On.ensures.wide c.deref.result.now (c.deref.ensures.value ∙ c.in_ok-marks-in-On.ensures)
+    c.args.steps.now c.joined_on.new.steps (c.joined_on.ensures.steps by) (join_tree c.args.join.now) joining two
+
+pub returns-in_err-walked-in-On-clause-steps : goal.returns-in_err-walked-in-On-clause-steps
+returns-in_err-walked-in-On-clause-steps g c by f before two =
+    let s : Sourced = c.args.self.sources in
+    let source = c.in-On.source in
+    let new : Sourced = c.in_ok-sources-in-On.sources in
+    let e = expr_tree c.in-On.condition in
+    let joining : join_tree c.args.join.now ≡ tree.on c.in-On.kind source e = ap join_tree c.in-On.is in
+    let typed : IsSourceTyped (tables_held s.held) (scope_held s.sources) source = subst (λ (j : JoinTree). IsSourceTyped (tables_held s.held) (scope_held s.sources) (join_source j)) joining c.requires.source in
+    let is : new ≡ with_table s source = λ i. record { held = c.in_ok-sources-in-On.ensures.held i; sources = c.in_ok-sources-in-On.ensures.sources i } in
+    on_bounded c.args.p.now s source typed c.args.self.walked.rows (seen_of c.args.self.walked.seen) f before c.in-On.kind e new is c.in_ok-sources-in-On.ensures.wide c.deref.result.now (c.deref.ensures.value ∙ c.in_ok-marks-in-On.ensures)
+    c.args.steps.now c.joined_on.new.steps (c.joined_on.ensures.steps by) (join_tree c.args.join.now) joining two

@@ -1,0 +1,115 @@
+// The EXISTS that are asked at groups, by look-ups that are made once.
+ghost use Rattle.std.specs.List.{AllByRecursion};
+ghost use Rattle.std.specs.Prelude.{◌≡◌, ◌+◌, ◌<◌, IfOk, IfSome, OnOk, length};
+ghost use Rattle.sql_eval.specs.Placed.{has_partner};
+ghost use Rattle.sql_eval.specs.Profiles.{IsLawful, IsRowOfProfile};
+ghost use Rattle.sql_from.specs.Held.{base_held, rows_held};
+ghost use Rattle.sql_from.specs.KeyPartners.{AnswersAt, asking_of};
+
+use crate::key_index::KeyIndex;
+use crate::partner_index::is_same_profile;
+use sql_eval::Existence;
+use std::alloc::{AllocError, Global};
+use std::marker::Model;
+use std::sync::ledger::Ledger;
+use vtl_cell::{Cell, Profile};
+use vtl_index::Steps;
+use vtl_rows::Tables;
+
+/// Look-ups for the EXISTS that are asked at groups, with their keys, made once for all groups. A contract sees the tables
+/// that the program holds, and the profile of the keys.
+pub struct KeyPartners<'a> {
+    held: &'a Tables,
+    p: Profile,
+    indexes: Vec<KeyIndex<'a>>,
+}
+
+// Written out, so that a proof above sees one call and not the drop of each part.
+impl Drop for KeyPartners<'_> {
+    fn drop(self) {
+        let KeyPartners {
+            held: _,
+            p: _,
+            indexes: _indexes,
+        } = self;
+    }
+}
+
+impl<'a> Model for KeyPartners<'a> {
+    ghost use Rattle.std.specs.List.{AllByRecursion};
+    ghost use Rattle.sql_from.specs.KeyPartners.{AnswersAt, Asking, asking_of};
+
+    ghost Value = { Asking };
+
+    ghost view = { λ x. asking_of x.held.now x.p };
+
+    ghost invariant = { λ x. AllByRecursion (AnswersAt (asking_of x.held.now x.p)) x.indexes.items };
+}
+
+// Puts the look-up for an EXISTS behind others, where there can be one.
+fn push_index<'a, L: Ledger>(
+    alloc: Global,
+    indexes: &mut Vec<KeyIndex<'a>>,
+    held: &'a Tables,
+    test: &'a Existence,
+    p: &Profile,
+    steps: &mut Steps<L>,
+) -> Result<(), AllocError>
+    requires lawful { IsLawful (base_held p.now held.now) }
+    requires before { AllByRecursion (AnswersAt (asking_of held.now p.now)) indexes.old.items }
+    ensures { OnOk result (AllByRecursion (AnswersAt (asking_of held.now p.now)) indexes.new.items) }
+{
+    if let Some(index) = KeyIndex::of(alloc, held, test, p, steps)? {
+        indexes.push(index)?;
+    }
+    Ok(())
+}
+
+impl<'a> KeyPartners<'a> {
+    /// No look-ups, over the tables that the program holds, for keys of a profile.
+    pub fn none(alloc: Global, held: &'a Tables, p: &Profile) -> KeyPartners<'a>
+        ensures held { result.held ≡ held.now }
+        ensures settings { result.settings ≡ p.now }
+    {
+        KeyPartners {
+            held,
+            p: *p,
+            indexes: Vec::new(alloc),
+        }
+    }
+
+    /// With a look-up for an EXISTS, if each of its equalities ties a column of its table and one of the key. It takes a
+    /// step for each row of the table. It fails only if memory runs out.
+    pub fn with<L: Ledger>(
+        self,
+        alloc: Global,
+        test: &'a Existence,
+        steps: &mut Steps<L>,
+    ) -> Result<KeyPartners<'a>, AllocError>
+        requires { IsLawful (base_held self.settings self.held) }
+        ensures { IfOk result (λ x. x ≡ self.entry) }
+    {
+        let KeyPartners { held, p, indexes } = self;
+        let mut indexes = indexes;
+        push_index(alloc, &mut indexes, held, test, &p, steps)?;
+        Ok(KeyPartners { held, p, indexes })
+    }
+
+    /// Whether a row of the table of EXISTS makes each of its equalities true, at a key whose integers are of the profile;
+    /// none where there is no look-up for it. It takes no memory.
+    pub fn answer(&self, test: &Existence, key: &[Cell], p: &Profile) -> Option<bool>
+        requires { IsRowOfProfile self.now.settings key.now }
+        ensures { IfSome result (λ b. b ≡ has_partner p.now (rows_held self.now.held) test.now.table test.now.ties.items key.now) }
+    {
+        if !is_same_profile(&self.p, p) {
+            return None;
+        }
+        for i in 0..self.indexes.len() {
+            let index = &self.indexes[i];
+            if index.is_for(test) {
+                return Some(index.has(key));
+            }
+        }
+        None
+    }
+}
