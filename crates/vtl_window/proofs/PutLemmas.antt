@@ -1,124 +1,102 @@
--- Values that are put back at their places.
-use Rattle.std.proofs.Common.{◌≡◌, ℕ, zero, suc, ◌+◌, ◌<◌, ◌⊎◌, inl, inr, List, [], ◌∷◌, ◌++◌, length, take, drop, get_or, set, map, Ok, refl, sym, ap, ◌∙◌, arith, subst, All, length-append}
-use Rattle.std.specs.Prelude.{IsPermutation}
+-- Cells that are put at their places.
+use Rattle.std.proofs.Common.{◌≡◌, ℕ, zero, suc, ◌<◌, ◌⊎◌, inl, inr, List, [], ◌∷◌, length, get_or, set, map, Option, None, Some, Global, refl, sym, ap, ◌∙◌, arith, subst, All}
+use Rattle.std.specs.Prelude.{IsPermutation, unwrap_or}
 use Rattle.std.specs.List.{AllByRecursion, range_with_len}
+use Rattle.std.specs.Vec.Iter.{into_iter_items, into_iter_len, into_iter_steps}
+use Rattle.std.specs.declared.vec.IntoIter.{IntoIter}
 use Rattle.std.proofs.lemmas.Bool.{cases_order}
-use Rattle.std.proofs.lemmas.List.{drop_all, drop_more, get_or-map, get_or-set_other, get_or-set_same, length-map, length-set, take_all}
+use Rattle.std.proofs.lemmas.List.{get_or-set_other, get_or-set_same, length-set}
 use Rattle.std.proofs.lemmas.List.Elements.{recursion_from_All}
 use Rattle.std.proofs.lemmas.List.FromFn.{fill_by_all, get_or-range_with_len, length-range_with_len}
-use Rattle.std.proofs.Math.Seq.{take-append_seam}
-use Rattle.vtl_cell.specs.Outcome.{Outcome}
+use Rattle.vtl_cell.specs.Outcome.{Fault, Outcome, fault_in, join}
 use Rattle.vtl_cell.specs.declared.cell.Cell.{Cell}
 use Rattle.vtl_cell.specs.declared.cell.Cell.TheVariants as c
 use Rattle.vtl_cell.proofs.Perms.{AllByRecursion-Perm, Perm-from_IsPermutation, Perm-sym, length-Perm}
-use Rattle.vtl_window.specs.PutBack.{IsPutBack, outcome_at}
+use Rattle.vtl_tree.proofs.Faults.{faults_by-Perm, join_assoc}
+use Rattle.vtl_expr.specs.AggregatePoints.{cell_or_null}
+use Rattle.vtl_window.specs.Analyses.{cells_by, faults_of}
 
 pub all_get : {X : Type 0} (P : X → Type 0) (xs : List X) (k : ℕ) (d : X) → k < length xs → AllByRecursion P xs → P (get_or xs k d)
 all_get P [] k d h all = absurd (omega (arith, h))
 all_get P (x ∷ xs) zero d h all = all.0
 all_get P (x ∷ xs) (suc k) d h all = all_get P xs k d (omega (arith, h)) all.1
 
-all_more : {X : Type 0} (P Q : X → Type 0) → ((x : X) → P x → Q x) → (xs : List X) → AllByRecursion P xs → AllByRecursion Q xs
-all_more P Q f [] all = tt
-all_more P Q f (x ∷ xs) all = (f x all.0, all_more P Q f xs all.1)
+-- ---- cells put at places
+module _ (f : ℕ → Cell) where
+  -- at each of these places its cell
+  abbrev pub put_each : List ℕ → List Cell → List Cell
+  put_each [] cells = cells
+  put_each (k ∷ ks) cells = put_each ks (set cells k (f k))
 
-last_of : {X : Type 0} (xs : List X) (x d : X) → get_or (xs ++ x ∷ []) (length xs) d ≡ x
-last_of [] x d = refl
-last_of (y ∷ xs) x d = last_of xs x d
+  length-put_each : (ks : List ℕ) (cells : List Cell) → length (put_each ks cells) ≡ length cells
+  length-put_each [] cells = refl
+  length-put_each (k ∷ ks) cells = length-put_each ks (set cells k (f k)) ∙ length-set cells k (f k)
 
-pub none_left : {X : Type 0} (xs : List X) → length xs ≡ 0 → xs ≡ []
-none_left [] h = refl
-none_left (x ∷ xs) h = absurd (omega (arith, h))
+  one_put : (cells : List Cell) (j k : ℕ) → j < length cells → get_or cells j c.Null ≡ f j → (j ≡ k) ⊎ ((j < k) ⊎ (k < j)) → get_or (set cells k (f k)) j c.Null ≡ f j
+  one_put cells j k h old (inl same) = ap (λ i. get_or (set cells i (f i)) j c.Null) (sym same) ∙ get_or-set_same cells j (f j) c.Null h
+  one_put cells j k h old (inr (inl less)) = get_or-set_other cells k j (f k) c.Null (λ s. absurd (omega (arith, less, s))) ∙ old
+  one_put cells j k h old (inr (inr more)) = get_or-set_other cells k j (f k) c.Null (λ s. absurd (omega (arith, more, s))) ∙ old
 
-first_take : {X : Type 0} (n : ℕ) (xs : List X) → take n (take (suc n) xs) ≡ take n xs
-first_take zero xs = refl
-first_take (suc n) [] = refl
-first_take (suc n) (x ∷ xs) = ap (λ l. x ∷ l) (first_take n xs)
+  -- a cell that stands at its place stays
+  stays : (ks : List ℕ) (cells : List Cell) (j : ℕ) → j < length cells → get_or cells j c.Null ≡ f j → get_or (put_each ks cells) j c.Null ≡ f j
+  stays [] cells j h old = old
+  stays (k ∷ ks) cells j h old = stays ks (set cells k (f k)) j (subst (λ n. j < n) (sym (length-set cells k (f k))) h) (one_put cells j k h old (cases_order j k))
 
-at_take : {X : Type 0} (n m : ℕ) (xs : List X) (d : X) → n < m → get_or (take m xs) n d ≡ get_or xs n d
-at_take n zero xs d h = absurd (omega (arith, h))
-at_take n (suc m) [] d h = refl
-at_take zero (suc m) (x ∷ xs) d h = refl
-at_take (suc n) (suc m) (x ∷ xs) d h = at_take n m xs d (omega (arith, h))
+  each_put : (ks : List ℕ) (cells : List Cell) → AllByRecursion (λ k. k < length cells) ks → AllByRecursion (λ k. get_or (put_each ks cells) k c.Null ≡ f k) ks
+  each_put [] cells h = tt
+  each_put (k ∷ ks) cells h =
+      let n = sym (length-set cells k (f k)) in (
+        stays ks (set cells k (f k)) k (subst (λ m. k < m) n h.0) (get_or-set_same cells k (f k) c.Null h.0),
+        each_put ks (set cells k (f k)) (subst (λ m. AllByRecursion (λ j. j < m) ks) n h.1),
+      )
 
-module _ (sorted : List (Outcome Cell)) (places : List ℕ) (all : IsPermutation (range_with_len 0 (length sorted)) places) (within : All (λ i. i < length sorted) places) where
-  pub many_places : length places ≡ length sorted
-  many_places =
-      sym (length-Perm (Perm-from_IsPermutation (range_with_len 0 (length sorted)) places all)) ∙ length-range_with_len 0 (length sorted)
-
-  pub place_within : (k : ℕ) → k < length sorted → get_or places k 0 < length sorted
-  place_within k h =
-      all_get (λ i. i < length sorted) places k 0 (let m = many_places in omega (arith, h, m)) (recursion_from_All (λ i. i < length sorted) places within)
-
-  pub begins : (values : List (Outcome Cell)) → length values ≡ length sorted → IsPutBack sorted places sorted values
-  begins values h = record {
-    left = sym (take_all (length sorted) sorted (omega arith));
-    few = omega arith;
-    many = h;
-    put = λ f e. subst (AllByRecursion (λ k. outcome_at values k ≡ f k)) (sym (drop_all (length sorted) places (let m = many_places in omega (arith, m)))) tt;
-  }
-
-  -- one value more
-  pub goes_on : (rest values : List (Outcome Cell)) (value : Outcome Cell) → IsPutBack sorted places (rest ++ value ∷ []) values → IsPutBack sorted places rest (set values (get_or places (length rest) 0) value)
-  goes_on rest values value h = record {
-    left = left_is;
-    few = omega (arith, inside);
-    many = length-set values x value ∙ h.many;
-    put = λ f e. subst (AllByRecursion (λ k. outcome_at (set values x value) k ≡ f k)) (sym (drop_more places n 0 near)) (here f e, all_more (λ k. outcome_at values k ≡ f k) (λ k. outcome_at (set values x value) k ≡ f k) (λ k old. other f e k old (cases_order k x)) (drop (n + 1) places) (before f e));
-  }
+  -- all places have theirs
+  pub all_put : (places : List ℕ) (cells : List Cell) → IsPermutation (range_with_len 0 (length places)) places → All (λ i. i < length places) places → length cells ≡ length places → put_each places cells ≡ map f (range_with_len 0 (length places))
+  all_put places cells all within many =
+      let inside = subst (λ m. AllByRecursion (λ k. k < m) places) (sym many) (recursion_from_All (λ i. i < length places) places within) in
+      let each = AllByRecursion-Perm (λ k. get_or (put_each places cells) k c.Null ≡ f k) (Perm-sym (Perm-from_IsPermutation (range_with_len 0 (length places)) places all)) (each_put places cells inside) in
+      fill_by_all f (put_each places cells) (length places) c.Null (length-put_each places cells ∙ many)
+      (λ k l. ap (λ j. get_or (put_each places cells) j c.Null) (sym (number k l)) ∙ all_get (λ j. get_or (put_each places cells) j c.Null ≡ f j) (range_with_len 0 (length places)) k 0 (let m = length-range_with_len 0 (length places) in omega (arith, l, m)) each ∙ ap f (number k l))
     where
-      n : ℕ
-      n = length rest
+      number : (k : ℕ) → k < length places → get_or (range_with_len 0 (length places)) k 0 ≡ k
+      number k l = get_or-range_with_len 0 (length places) k 0 l ∙ omega arith
 
-      x : ℕ
-      x = get_or places n 0
+-- ---- values put back one after the other
+-- What is left to be put, and that it makes these cells and these faults of the ones so far.
+pub record IsPutBack (value : Outcome Cell → Outcome Cell) (f : ℕ → Outcome Cell) (places : List ℕ) (rest : List (Outcome Cell)) (cells : List Cell) (seen : Option Fault) (made : List Cell) (faults : Option Fault) : Type 0 where
+  pub left : rest ≡ map f places
+  pub put : put_each (λ k. cell_or_null (value (f k))) places cells ≡ made
+  pub noted : join seen (faults_of (λ k. value (f k)) places) ≡ faults
 
-      one_more : length (rest ++ value ∷ []) ≡ suc n
-      one_more = let l = length-append rest (value ∷ []) in omega (arith, l)
+pub begins : (value : Outcome Cell → Outcome Cell) (f : ℕ → Outcome Cell) (places : List ℕ) (cells : List Cell) (seen : Option Fault) (sorted : List (Outcome Cell))
+    → IsPermutation (range_with_len 0 (length places)) places → All (λ i. i < length places) places → length cells ≡ length places → sorted ≡ map f places
+    → IsPutBack value f places sorted cells seen (cells_by (λ k. value (f k)) (range_with_len 0 (length places))) (join seen (faults_of (λ k. value (f k)) (range_with_len 0 (length places))))
+begins value f places cells seen sorted all within many e = record {
+  left = e;
+  put = all_put (λ k. cell_or_null (value (f k))) places cells all within many;
+  noted = ap (join seen) (sym (faults_by-Perm (λ k. fault_in (value (f k))) (Perm-from_IsPermutation (range_with_len 0 (length places)) places all)));
+}
 
-      inside : n < length sorted
-      inside = let few = h.few in let l = one_more in omega (arith, few, l)
+-- the next value is taken, and put as a cell at its place
+pub goes_on : (value : Outcome Cell → Outcome Cell) (f : ℕ → Outcome Cell) (k : ℕ) (ks : List ℕ) (x : Outcome Cell) (cell : Cell) (rest others : List (Outcome Cell)) (cells then made : List Cell) (seen with_this faults : Option Fault)
+    → ((first : Outcome Cell) (behind : List (Outcome Cell)) → rest ≡ first ∷ behind → (x ≡ first) × (others ≡ behind))
+    → then ≡ set cells k cell → cell ≡ cell_or_null (value x) → with_this ≡ join seen (fault_in (value x))
+    → IsPutBack value f (k ∷ ks) rest cells seen made faults → IsPutBack value f ks others then with_this made faults
+goes_on value f k ks x cell rest others cells then made seen with_this faults taken is_put is_cell is_noted h =
+    let both = taken (f k) (map f ks) h.left in
+    record {
+      left = both.1;
+      put = ap (put_each (λ j. cell_or_null (value (f j))) ks) (is_put ∙ ap (set cells k) (is_cell ∙ ap (λ y. cell_or_null (value y)) both.0)) ∙ h.put;
+      noted =
+          ap (λ s. join s (faults_of (λ j. value (f j)) ks)) (is_noted ∙ ap (λ y. join seen (fault_in (value y))) both.0)
+          ∙ join_assoc seen (fault_in (value (f k))) (faults_of (λ j. value (f j)) ks) ∙ h.noted;
+    }
 
-      near : n < length places
-      near = let m = many_places in let i = inside in omega (arith, m, i)
-
-      with_last : rest ++ value ∷ [] ≡ take (suc n) sorted
-      with_last = h.left ∙ ap (λ m. take m sorted) one_more
-
-      left_is : rest ≡ take n sorted
-      left_is = sym (take-append_seam rest (value ∷ [])) ∙ ap (take n) with_last ∙ first_take n sorted
-
-      value_is : value ≡ outcome_at sorted n
-      value_is = sym (last_of rest value (Ok c.Null)) ∙ ap (λ l. get_or l n (Ok c.Null)) with_last ∙ at_take n (suc n) sorted (Ok c.Null) (omega arith)
-
-      value_of : (f : ℕ → Outcome Cell) → sorted ≡ map f places → value ≡ f x
-      value_of f e = value_is ∙ ap (λ l. outcome_at l n) e ∙ get_or-map f places n 0 (Ok c.Null) near
-
-      x_within : x < length values
-      x_within = let p = place_within n inside in let m = h.many in omega (arith, p, m)
-
-      here : (f : ℕ → Outcome Cell) → sorted ≡ map f places → outcome_at (set values x value) x ≡ f x
-      here f e = get_or-set_same values x value (Ok c.Null) x_within ∙ value_of f e
-
-      before : (f : ℕ → Outcome Cell) → sorted ≡ map f places → AllByRecursion (λ k. outcome_at values k ≡ f k) (drop (n + 1) places)
-      before f e = let l = one_more in let m : length (rest ++ value ∷ []) ≡ n + 1 = omega (arith, l) in subst (λ m. AllByRecursion (λ k. outcome_at values k ≡ f k) (drop m places)) m (h.put f e)
-
-      other : (f : ℕ → Outcome Cell) → sorted ≡ map f places → (k : ℕ) → outcome_at values k ≡ f k → (k ≡ x) ⊎ ((k < x) ⊎ (x < k)) → outcome_at (set values x value) k ≡ f k
-      other f e k old (inl same) = ap (outcome_at (set values x value)) same ∙ here f e ∙ ap f (sym same)
-      other f e k old (inr (inl less)) = get_or-set_other values x k value (Ok c.Null) (λ s. absurd (omega (arith, less, s))) ∙ old
-      other f e k old (inr (inr more)) = get_or-set_other values x k value (Ok c.Null) (λ s. absurd (omega (arith, more, s))) ∙ old
-
-  -- in the end each value stands at its place
-  pub all_put : (values : List (Outcome Cell)) → IsPutBack sorted places [] values → (f : ℕ → Outcome Cell) → sorted ≡ map f places → values ≡ map f (range_with_len 0 (length sorted))
-  all_put values h f e =
-      let each = AllByRecursion-Perm (λ k. outcome_at values k ≡ f k) (Perm-sym (Perm-from_IsPermutation (range_with_len 0 (length sorted)) places all)) (h.put f e) in
-      fill_by_all f values (length sorted) (Ok c.Null) h.many
-      (λ k l. ap (outcome_at values) (sym (number k l)) ∙ all_get (λ j. outcome_at values j ≡ f j) (range_with_len 0 (length sorted)) k 0 (let m = length-range_with_len 0 (length sorted) in omega (arith, l, m)) each ∙ ap f (number k l))
-    where
-      number : (k : ℕ) → k < length sorted → get_or (range_with_len 0 (length sorted)) k 0 ≡ k
-      number k l = get_or-range_with_len 0 (length sorted) k 0 l ∙ omega arith
+-- what an iterator gives where a value is left
+pub taken_next : {X : Type 0} (it then : IntoIter X Global) (r : Option X) (d x : X) (xs : List X) → into_iter_len it ≡ length (into_iter_items it) → into_iter_steps it r then → into_iter_items it ≡ x ∷ xs → (unwrap_or r d ≡ x) × (into_iter_items then ≡ xs)
+taken_next it then None d x xs n steps e = let some = ap length e in absurd (omega (arith, n, steps.0, some))
+taken_next it then (Some y) d x xs n steps e = let s = steps.0 in (cc, cc)
 
 -- ---- as many values as points
-pub values_many : (n : ℕ) (places : List ℕ) (sorted : List (Outcome Cell)) (f : ℕ → Outcome Cell) → IsPermutation (range_with_len 0 n) places → sorted ≡ map f places → length sorted ≡ n
-values_many n places sorted f all e =
-    ap length e ∙ length-map places f ∙ sym (length-Perm (Perm-from_IsPermutation (range_with_len 0 n) places all)) ∙ length-range_with_len 0 n
+pub places_many : (n : ℕ) (places : List ℕ) → IsPermutation (range_with_len 0 n) places → length places ≡ n
+places_many n places all = sym (length-Perm (Perm-from_IsPermutation (range_with_len 0 n) places all)) ∙ length-range_with_len 0 n

@@ -1,6 +1,6 @@
 -- The result of an analytic operator whose columns are made one after the other.
 use Rattle.std.proofs.Common.{◌≡◌, ℕ, zero, suc, ◌<◌, Bool, true, false, cond, List, [], ◌∷◌, length, map, get_or, Option, Some, None, Ok, Err, refl, sym, ap, ◌∙◌, subst, arith}
-use Rattle.std.specs.Prelude.{IfOk}
+use Rattle.std.specs.Prelude.{IfOk, option_map}
 use Rattle.std.specs.List.{AllByRecursion, find}
 use Rattle.vtl_cell.specs.Outcome.{DivZero, Fault, Range, faults_by, unless}
 use Rattle.vtl_cell.specs.Row.{Row}
@@ -12,20 +12,22 @@ use Rattle.vtl_scalar.specs.declared.error.ScalarErr.{ScalarErr}
 use Rattle.vtl_scalar.specs.declared.error.ScalarErr.TheVariants as err
 use Rattle.vtl_tree.specs.DataSet.{IsDataSet, is_point}
 use Rattle.vtl_tree.specs.Environment.{DataSet}
-use Rattle.vtl_tree.specs.Structure.{columns_of}
+use Rattle.vtl_tree.specs.Structure.{columns_of, same_name, same_role}
 use Rattle.vtl_tree.specs.declared.structure.Component.{Component}
+use Rattle.vtl_tree.specs.declared.structure.Role.TheVariants as role
 use Rattle.vtl_tree.specs.declared.structure.Structure.{Structure}
 use Rattle.vtl_expr.specs.AggregatePoints.{Made}
 use Rattle.vtl_expr.specs.AggregatePoints.{group_fault as point_fault}
-use Rattle.vtl_group.specs.AnalyticPoints.{analytic_of, made_of, point_of}
-use Rattle.vtl_group.specs.Made.{IsWindowed}
+use Rattle.vtl_group.specs.AnalyticPoints.{analytic_of, item_named, made_of, measure_call, point_of, value_for}
+use Rattle.vtl_group.specs.Made.{AreValuesOver, IsValueOver, IsWindowed}
 use Rattle.vtl_group.specs.TableOf.{table_columns}
-use Rattle.vtl_group.specs.Trees.{AnalyticTree}
+use Rattle.vtl_group.specs.Trees as nodes
+use Rattle.vtl_group.specs.Trees.{AnalyticTree, ItemTree, ValueTree}
 use Rattle.vtl_group.proofs.AnalyticPoints.{result_is}
 use Rattle.vtl_group.proofs.Kept.{unless_ok}
 use Rattle.vtl_group.proofs.TableLemmas.{point_fits}
-use Rattle.vtl_window.specs.Analyses.{across, made_cells, made_faults}
-use Rattle.vtl_window.proofs.AnalysisLemmas.{across_columns, faults_turned}
+use Rattle.vtl_window.specs.Analyses.{made_cells, made_faults}
+use Rattle.vtl_window.proofs.AnalysisLemmas.{faults_turned}
 
 -- ---- lists
 -- one that is found is one of the list
@@ -36,6 +38,21 @@ found_has P p (y ∷ ys) o all e x is = go (p y) e (λ f. found_has P p ys o all
     go : (b : Bool) → cond b (Some y) (find p ys) ≡ o → (find p ys ≡ o → P x) → P x
     go true f later = let s : y ≡ x = cc in subst P s all.0
     go false f later = later f
+
+-- what makes a column stands over the operand's columns
+pub value_over : (p : Settings) (xs : List Component) (spec : AnalyticTree) (y : Component) (v : ValueTree) → AreValuesOver p xs spec → value_for spec y ≡ Some v → IsValueOver p xs v
+value_over p xs (nodes.of_measures o w) y v h e = go (same_role y.role role.Measure) e
+  where
+    go : (b : Bool) → cond b (Some (measure_call o w y.name)) None ≡ Some v → IsValueOver p xs v
+    go true f = let s : measure_call o w y.name ≡ v = cc in subst (IsValueOver p xs) s h
+    go false f = cc
+value_over p xs (nodes.of_items items) y v h e = go (item_named items y.name) refl e
+  where
+    go : (o : Option ItemTree) → item_named items y.name ≡ o → option_map (λ i. i.value) o ≡ Some v → IsValueOver p xs v
+    go None f g = cc
+    go (Some i) f g =
+        let s : i.value ≡ v = cc in
+        subst (IsValueOver p xs) s (found_has (λ (j : ItemTree). IsValueOver p xs j.value) (λ (j : ItemTree). same_name j.target y.name) items (Some i) h f i refl)
 
 mapped_at : {X Y : Type 0} (P : Y → Type 0) (f : X → Y) (xs : List X) (i : ℕ) (d : X) → i < length xs → AllByRecursion P (map f xs) → P (f (get_or xs i d))
 mapped_at P f [] i d h all = absurd (omega arith)
@@ -77,10 +94,8 @@ module _ (p : Settings) (spec : AnalyticTree) (d : DataSet) (s : Structure) (w :
   pub is_result : IsDataSet s (map point d.points)
   is_result = subst (λ m. IfOk m (IsDataSet s)) result (result_is p spec d s w.analyzed own)
 
-  pub row_is : (i : ℕ) (r : Row) → i < length d.points → across i columns ≡ point (get_or d.points i r)
-  row_is i r h = ap (across i) (sym parts.1) ∙ across_columns made (columns_of s) d.points i r h
+  pub begins : columns ≡ made_cells made (columns_of s) d.points
+  begins = sym parts.1
 
-  pub row_fits : (i : ℕ) (r : Row) → i < length d.points → fits (table_columns s) (across i columns) ≡ true
-  row_fits i r h =
-      ap (fits (table_columns s)) (row_is i r h)
-      ∙ point_fits (columns_of s) (point (get_or d.points i r)) (mapped_at (λ q. is_point (columns_of s) q ≡ true) point d.points i r h is_result.typed)
+  pub row_fits : (i : ℕ) (r : Row) → i < length d.points → fits (table_columns s) (point (get_or d.points i r)) ≡ true
+  row_fits i r h = point_fits (columns_of s) (point (get_or d.points i r)) (mapped_at (λ q. is_point (columns_of s) q ≡ true) point d.points i r h is_result.typed)

@@ -1,17 +1,18 @@
--- Calls as they are lent.
-use Rattle.std.specs.Prelude.{List, map, option_map}
-use Rattle.vtl_cell.specs.Outcome.{Outcome}
-use Rattle.vtl_cell.specs.Settings.{Settings}
-use Rattle.vtl_cell.specs.declared.cell.Cell.{Cell}
-use Rattle.vtl_tree.specs.Environment.{DataSet}
+-- Calls, and what makes columns, as they are lent.
+use Rattle.std.specs.Prelude.{option_map}
+use Rattle.vtl_tree.specs.View.{comp_exp_of}
 use Rattle.vtl_nodes.specs.declared.calls.AnalyticCall.{AnalyticCall}
-use Rattle.vtl_group.specs.PointWindows.{call_value}
+use Rattle.vtl_group.specs.Trees as tree
+use Rattle.vtl_group.specs.Trees.{ValueTree}
 use Rattle.vtl_window.specs.declared.call.Call.{Call}
+use Rattle.vtl_window.specs.declared.maker.Maker.{Maker}
+use Rattle.vtl_window.specs.declared.maker.Maker.TheVariants as maker
 
 -- the call
 abbrev pub lent : Call → AnalyticCall
 lent c = record { op = c.op.now; component = option_map (λ name. name.now) c.component; window = c.window.now }
 
--- its value at each point of a data set, in the order of its points
-abbrev pub values_at : Settings → DataSet → AnalyticCall → List (Outcome Cell)
-values_at p d call = map (call_value p d call) d.points
+-- what makes a column
+abbrev pub maker_tree : Maker → ValueTree
+maker_tree (maker.Scalar e) = tree.scalar (comp_exp_of e.now)
+maker_tree (maker.Analytic call) = tree.analytic (lent call)

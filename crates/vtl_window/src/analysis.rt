@@ -1,43 +1,21 @@
 // Analytic operators on data sets.
-ghost use Rattle.std.specs.Prelude.{◌≡◌, ◌++◌, ◌∷◌, [], IfOk, OnOk, map};
-ghost use Rattle.vtl_cell.specs.Row.{column_of};
+ghost use Rattle.std.specs.Prelude.{IfOk};
 ghost use Rattle.vtl_scalar.specs.Answers.{Answers, AnswersBy};
 ghost use Rattle.vtl_group.specs.AnalyticPoints.{analytic_of};
 ghost use Rattle.vtl_group.specs.DataSets.{with_structure};
 ghost use Rattle.vtl_group.specs.Made.{IsWindowed};
 ghost use Rattle.vtl_group.specs.TableOf.{IsTableOf};
 ghost use Rattle.vtl_group.specs.View.{analytic_tree};
-ghost use Rattle.vtl_window.specs.Analyses.{across};
 
+use crate::column::push_across;
 use crate::columns::made_columns;
-use std::alloc::{AllocError, Global};
-use vtl_cell::{Cell, Profile, clone_cell};
+use std::alloc::Global;
+use vtl_cell::Profile;
 use vtl_expr::{DataSet, new_table};
 use vtl_nodes::AnalyticSpec;
 use vtl_rows::Table;
 use vtl_scalar::ScalarErr;
 use vtl_tree::Structure;
-
-// Puts the cell at a place of a column behind others, or null after its last one.
-fn push_cell_at(row: &mut Vec<Cell>, column: &[Cell], place: usize) -> Result<(), AllocError>
-    ensures { OnOk result (row.new.items ≡ row.old.items ++ column_of place column.now ∷ []) }
-{
-    match column.get(place) {
-        Some(cell) => row.push(clone_cell(cell)?)?,
-        None => row.push(Cell::Null)?,
-    }
-    Ok(())
-}
-
-// Puts the cells at a place of columns behind others.
-fn push_across(row: &mut Vec<Cell>, columns: &[Vec<Cell>], place: usize) -> Result<(), AllocError>
-    ensures { OnOk result (row.new.items ≡ row.old.items ++ across place (map (λ v. v.items) columns.now)) }
-{
-    for column in columns {
-        push_cell_at(row, column, place)?;
-    }
-    Ok(())
-}
 
 fn analyzed_table(
     alloc: Global,
@@ -52,12 +30,12 @@ fn analyzed_table(
 {
     let table = a.table();
     let wanted = made.columns(alloc)?;
-    let columns = made_columns(alloc, spec, &wanted, a, p)?;
+    let mut columns = made_columns(alloc, spec, &wanted, a, p)?;
     let mut points = new_table(alloc, made)?;
     points.reserve_rows(table.len())?;
     let mut row = Vec::with_capacity(alloc, columns.len())?;
     for i in 0..table.len() {
-        push_across(&mut row, &columns, i)?;
+        push_across(&mut row, &mut columns, table.row(i))?;
         points.push_cells(&mut row)?;
     }
     Ok(points)

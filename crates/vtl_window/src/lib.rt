@@ -10,10 +10,13 @@
 
 mod analysis;
 mod call;
+mod column;
 mod columns;
+mod faults;
 mod frames;
 mod keys;
 mod lane;
+mod maker;
 mod partition;
 mod putting_back;
 mod values;

@@ -1,15 +1,20 @@
-// The value of a call at each point.
+// The values of a call at the points.
 ghost use Rattle.std.specs.List.{AllByRecursion};
-ghost use Rattle.std.specs.Prelude.{◌≡◌, ◌<◌, ◌≤◌, ◌-◌, ℕ, All, IfOk, drop, length, map, option_map, take};
+ghost use Rattle.std.specs.Prelude.{◌≡◌, ◌<◌, ◌≤◌, ◌-◌, ℕ, All, IfErr, IfOk, drop, length, map, option_map, take};
 ghost use Rattle.std.specs.Option.{option_map_or};
+ghost use Rattle.vtl_cell.specs.Outcome.{join};
 ghost use Rattle.vtl_cell.specs.Row.{column_of};
 ghost use Rattle.vtl_rows.specs.Places.{IsOrderOf, row_at};
 ghost use Rattle.vtl_tree.specs.Shown.{shown};
 ghost use Rattle.vtl_tree.specs.Structure.{columns_of};
 ghost use Rattle.vtl_expr.specs.Columns.{identifiers_of, place_of};
+ghost use Rattle.vtl_expr.specs.Seen.{seen_of};
+ghost use Rattle.vtl_group.specs.AnalyticPoints.{tree_value};
 ghost use Rattle.vtl_group.specs.Made.{IsNamedColumn, IsWindowOver};
 ghost use Rattle.vtl_group.specs.PointWindows.{argument, call_value};
-ghost use Rattle.vtl_window.specs.Calls.{lent, values_at};
+ghost use Rattle.vtl_group.specs.Trees.{analytic};
+ghost use Rattle.vtl_window.specs.Analyses.{cells_by, faults_of};
+ghost use Rattle.vtl_window.specs.Calls.{lent};
 ghost use Rattle.vtl_window.specs.Runs.{start_at};
 ghost use Rattle.vtl_window.specs.Sorted.{order_keys, partition_keys, sort_keys};
 
@@ -18,11 +23,11 @@ use crate::keys::{order_keys, partition_keys, sort_keys};
 use crate::partition::{Outcomes, push_call};
 use crate::putting_back::put_back;
 use std::alloc::{AllocError, Global};
-use vtl_cell::{Cell, Profile, Txt};
-use vtl_decimal::Fault;
-use vtl_expr::{DataSet, place_of};
+use vtl_cell::{Cell, Kind, Profile, Txt};
+use vtl_expr::{DataSet, Seen, place_of};
 use vtl_nodes::Window;
 use vtl_rows::SortKey;
+use vtl_scalar::ScalarErr;
 use vtl_tree::Component;
 
 // The place of the component of a call; past the last column where it has none.
@@ -101,18 +106,22 @@ fn sorted_values(
     Ok(out)
 }
 
-/// The value of a call at each point of a data set, a fault standing for a value, in the order of its points. It fails
-/// only if memory runs out.
+/// The values of a call at the points of a data set, as cells of the kind, in the order of the points. A null stands for
+/// a value with a fault, which is noted. It fails only if memory runs out.
 ///
 /// The points are sorted once, and each partition is gone over once.
-pub(crate) fn call_values(
+pub(crate) fn call_cells(
     alloc: Global,
-    a: &DataSet,
+    seen: &mut Seen,
     call: Call<'_>,
+    kind: Kind,
+    a: &DataSet,
     p: &Profile,
-) -> Result<Vec<Result<Cell, Fault>>, AllocError>
-    requires window { IsWindowOver (columns_of a.now.structure) call.op.now call.window.now }
-    ensures { IfOk result (λ v. v.items ≡ values_at p.now a.now (lent call.entry)) }
+) -> Result<Vec<Cell>, ScalarErr>
+    requires { IsWindowOver (columns_of a.now.structure) call.op.now call.window.now }
+    ensures cells { IfOk result (λ v. v.items ≡ cells_by (tree_value p.now a.now kind (analytic (lent call.entry))) a.now.points) }
+    ensures seen { IfOk result (λ _. seen_of seen.new ≡ join (seen_of seen.old) (faults_of (tree_value p.now a.now kind (analytic (lent call.entry))) a.now.points)) }
+    ensures err { IfErr result (λ e. e ≡ ScalarErr.OutOfMemory) }
 {
     let columns = a.structure().columns(alloc)?;
     let places = sorted_places(alloc, a, &columns, call.window)?;
@@ -120,5 +129,5 @@ pub(crate) fn call_values(
     let order = order_keys(alloc, &columns, call.window)?;
     let column = argument_place(&columns, call.component);
     let sorted = sorted_values(alloc, a, &places, call, column, &partition, &order, p)?;
-    put_back(alloc, &places, sorted)
+    put_back(alloc, seen, &places, sorted, kind, p)
 }
