@@ -130,8 +130,9 @@ impl<'t> RowIndex<'t> {
         first_of(&self.rows, &self.finder, key, hash)
     }
 
-    // The same for the keys of the first rows of a table, as many as are counted, whose cells stand at these columns
-    // there. Past the last row it asks for a row without cells.
+    // For each of the first `count` rows of the table `asking`: the number of the first row here that has its key, or how
+    // many rows there are here. The cells of the keys stand at the columns `at` of `asking`. Past the last row of
+    // `asking` it asks for a row without cells.
     pub(crate) fn firsts(
         &self,
         alloc: Global,

@@ -143,8 +143,8 @@ impl RowSlots {
         }
     }
 
-    // The first row that has the key of a row, of which this is the hash; the row is put in a slot where it is the first. None where the search is
-    // given up.
+    // The first row that has the key of a row, of which this is the hash. Where the row itself is the first, it is put in a
+    // slot. None where the search is given up.
     pub(crate) fn meet(&mut self, keyed: &KeyedRows, i: usize, hash: u64) -> Option<usize>
         requires few { count_in keyed.now < 2 ^ 32 }
         requires within { i < count_in keyed.now }
