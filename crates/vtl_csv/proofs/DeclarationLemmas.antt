@@ -1,5 +1,5 @@
 -- Records of five fields, and the parts of a list.
-use Rattle.std.proofs.Common.{◌≡◌, ℕ, zero, suc, ◌+◌, ◌-◌, ◌<◌, ◌≤◌, Bool, true, false, cond, not, ◌&&◌, ◌==◌, nat_le, List, [], ◌∷◌, ◌++◌, take, drop, length, Option, Some, None, Result, Ok, Err, chars, codes, option_map, arith, refl, sym, ap, subst, ◌∙◌, if◌then◌else◌}
+use Rattle.std.proofs.Common.{◌≡◌, ℕ, zero, suc, ◌+◌, ◌-◌, ◌<◌, ◌≤◌, Bool, true, false, cond, not, ◌&&◌, ◌==◌, nat_le, List, [], ◌∷◌, ◌++◌, take, drop, get_or, length, Option, Some, None, Result, Ok, Err, chars, codes, option_map, arith, refl, sym, ap, subst, ◌∙◌, if◌then◌else◌}
 use Rattle.std.proofs.lemmas.List.{length-drop, take_all}
 use Rattle.std.specs.List.{list_all, position_or_len}
 use Rattle.std.specs.Option.{option_and_then, option_map_or}
@@ -11,7 +11,6 @@ use Rattle.std.specs.Bool.{OnTrue}
 use Rattle.std.specs.Prelude.{ok_or}
 use Rattle.csv.specs.Machine.{Read, next_record}
 use Rattle.csv.specs.Reading.{default_config, is_bom, records, records_from, records_next, strip_bom}
-use Rattle.csv.specs.Records.{field_at}
 use Rattle.csv.specs.declared.parser.Config.{Config}
 use Rattle.csv.specs.declared.parser.State.{State}
 use Rattle.csv.specs.declared.parser.State.TheVariants as st
@@ -29,9 +28,8 @@ use Rattle.vtl_tree.specs.Structures.{Fits, Named, are_codes, codes_fit, compone
 use Rattle.vtl_csv.specs.Declarations.{Declaration, code_in, codes_in, codes_of, component_in, dataset_in, declaration_of, declared_by, distinct, has_component, is_bar, is_full, kind_in, onto_first, parts, record_of, role_in, text_in, text_that}
 
 pub declaration_there : (fs : List (List ℕ)) (v w x y z : List ℕ) → length fs ≡ 5
-    → field_at fs 0 ≡ Some v → field_at fs 1 ≡ Some w → field_at fs 2 ≡ Some x → field_at fs 3 ≡ Some y → field_at fs 4 ≡ Some z
+    → v ≡ get_or fs 0 v → w ≡ get_or fs 1 w → x ≡ get_or fs 2 x → y ≡ get_or fs 3 y → z ≡ get_or fs 4 z
     → Some (record { dataset = v; component = w; role = x; kind = y; code_list = z }) ≡ declaration_of fs
-unfolding field_at
 declaration_there [] v w x y z n e0 e1 e2 e3 e4 = absurd (omega (arith, n))
 declaration_there (a ∷ []) v w x y z n e0 e1 e2 e3 e4 = absurd (omega (arith, n))
 declaration_there (a ∷ b ∷ []) v w x y z n e0 e1 e2 e3 e4 = absurd (omega (arith, n))

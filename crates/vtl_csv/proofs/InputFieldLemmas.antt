@@ -1,21 +1,27 @@
 -- Steps of the loop over the fields of a record.
-use Rattle.std.proofs.Common.{◌≡◌, ℕ, ◌+◌, ◌<◌, ◌≤◌, List, [], ◌∷◌, ◌++◌, Bool, true, false, cond, get_or, drop, length, Result, Ok, Err, refl, ap, ◌∙◌, arith}
+use Rattle.std.proofs.Common.{◌≡◌, ℕ, ◌+◌, ◌<◌, ◌≤◌, ◌==◌, List, [], ◌∷◌, ◌++◌, Bool, true, false, cond, chars, get_or, option_map, drop, length, Option, Some, None, Result, Ok, Err, refl, ap, sym, ◌∙◌, arith}
 use Rattle.std.specs.List.{zip}
 use Rattle.std.specs.Prelude.{IsUtf8}
 use Rattle.std.specs.Str.{is_utf8}
+use Rattle.std.proofs.lemmas.Bool.{eqb-true}
 use Rattle.std.proofs.lemmas.List.{drop_all, drop_more}
-use Rattle.std.proofs.lemmas.Str.{IsUtf8-from_is_utf8, is_utf8-from_IsUtf8}
+use Rattle.std.proofs.lemmas.Str.{IsUtf8-from_is_utf8, IsUtf8-nil, is_utf8-from_IsUtf8}
 use Rattle.vtl_cell.specs.Settings.{Settings}
 use Rattle.vtl_cell.specs.declared.cell.Cell.{Cell}
+use Rattle.vtl_cell.specs.declared.cell.Cell.TheVariants as c
+use Rattle.vtl_cell.specs.declared.kind.Kind.{Kind}
+use Rattle.vtl_cell.specs.declared.kind.Kind.TheVariants as k
+use Rattle.vtl_cell.specs.Reading.{reads}
 use Rattle.vtl_cell.specs.Row.{Row}
 use Rattle.vtl_tree.specs.declared.structure.Component.{Component}
 use Rattle.vtl_csv.specs.declared.input.InputKind.{InputKind}
 use Rattle.vtl_csv.specs.declared.input.InputKind.TheVariants as i
-use Rattle.vtl_csv.specs.InputFields.{at_column, field_cell, row_with, text_cell}
+use Rattle.vtl_csv.specs.Declarations.{text_in}
+use Rattle.vtl_csv.specs.InputFields.{at_column, coded_cell, field_cell, row_with, text_cell}
 use Rattle.vtl_csv.proofs.PointLemmas.{pair_at, zip_ended, zip_within}
 
 -- a field that is a text, or none
-pub field_text : (p : Settings) (x : Component) (f : List ℕ) → IsUtf8 f → field_cell p x f ≡ text_cell p x f
+field_text : (p : Settings) (x : Component) (f : List ℕ) → IsUtf8 f → field_cell p x f ≡ text_cell p x f
 field_text p x f h = ap (λ b. cond b (text_cell p x f) (Err i.NotText)) (is_utf8-from_IsUtf8 f h)
 
 pub field_refused : (p : Settings) (x : Component) (f : List ℕ) → ¬ (IsUtf8 f) → field_cell p x f ≡ Err i.NotText
@@ -24,6 +30,36 @@ field_refused p x f h = go (is_utf8 f) refl
     go : (b : Bool) → is_utf8 f ≡ b → cond b (text_cell p x f) (Err i.NotText) ≡ Err i.NotText
     go true e = absurd (h (IsUtf8-from_is_utf8 f e))
     go false e = refl
+
+-- a field with no byte
+pub field_empty : (p : Settings) (x : Component) (f : List ℕ) → (length f == 0) ≡ true → text_cell p x [] ≡ field_cell p x f
+field_empty p x [] none = sym (field_text p x [] IsUtf8-nil)
+field_empty p x (b ∷ bs) none = let e : length (b ∷ bs) ≡ 0 = eqb-true (length (b ∷ bs)) 0 none in absurd (omega (arith, e))
+
+-- a field that is a text with a byte is read
+field_read : (p : Settings) (x : Component) (f : List ℕ) → 0 < length f → IsUtf8 f → field_cell p x f ≡ coded_cell x (reads p x.kind f)
+field_read p x [] some h = absurd (omega (arith, some))
+field_read p x (b ∷ bs) some h = field_text p x (b ∷ bs) h
+
+-- the value that its text stands for
+pub field_value : (p : Settings) (x : Component) (f t : List ℕ) (kind : Kind) (o : Option Cell) → 0 < length f → IsUtf8 f → t ≡ f → kind ≡ x.kind → o ≡ reads p kind t → coded_cell x o ≡ field_cell p x f
+field_value p x f t kind o some h same of_kind e =
+    ap (coded_cell x) (e ∙ ap (λ m. reads p m t) of_kind ∙ ap (reads p x.kind) same) ∙ sym (field_read p x f some h)
+
+-- a field of a column of texts
+pub field_shared : (p : Settings) (x : Component) (f t : List ℕ) → 0 < length f → x.kind ≡ k.Text → Some t ≡ text_in f → coded_cell x (Some (c.Text t)) ≡ field_cell p x f
+field_shared p x f t some of_texts found = go (is_utf8 f) refl found
+  where
+    go : (b : Bool) → is_utf8 f ≡ b → Some t ≡ cond b (Some (chars f)) None → coded_cell x (Some (c.Text t)) ≡ field_cell p x f
+    go true e q = field_value p x f f k.Text (Some (c.Text t)) some (IsUtf8-from_is_utf8 f e) refl (sym of_texts) (ap (option_map c.Text) q)
+    go false e q = cc
+
+pub field_lost : (p : Settings) (x : Component) (f : List ℕ) → None ≡ text_in f → Err i.NotText ≡ field_cell p x f
+field_lost p x f found = go (is_utf8 f) refl found
+  where
+    go : (b : Bool) → is_utf8 f ≡ b → None ≡ cond b (Some (chars f)) None → Err i.NotText ≡ cond b (text_cell p x f) (Err i.NotText)
+    go true e q = cc
+    go false e q = refl
 
 module _ (p : Settings) (xs : List Component) (ys : List (List ℕ)) (i : ℕ) (row : Row) (same : length ys ≡ length xs) where
   module _ (x : Component) (y : List ℕ) (h : i < length xs) (at_x : x ≡ get_or xs i x) (at_y : y ≡ get_or ys i y) where

@@ -10,6 +10,7 @@ pub mod InputPointLemmas
 pub mod KeyOrderLemmas
 pub mod PlainIntegerLemmas
 pub mod PlainLemmas
+pub mod PlainLineLemmas
 pub mod PointLemmas
 pub mod ReadAgainLemmas
 pub mod ProfileLemmas

@@ -1,16 +1,18 @@
 -- Integers in their shortest spelling are read as what their digits write.
-use Rattle.std.proofs.Common.{ℕ, ℤ, ◌≡◌, ◌+◌, ◌-◌, ◌*◌, ◌^◌, ◌<◌, ◌≤◌, true, cond, ◌&&◌, List, [], ◌∷◌, length, get_or, take, Option, None, Some, Ok, Err, refl, ap, sym, subst, ◌∙◌, arith, add-one, pow-suc}
-use Rattle.std.specs.Prelude.{IfSome, IsOk, slice_index, unsigned_abs}
+use Rattle.std.proofs.Common.{ℕ, ℤ, ◌≡◌, ◌+◌, ◌-◌, ◌*◌, ◌^◌, ◌<◌, ◌≤◌, Bool, true, false, cond, ◌&&◌, List, [], ◌∷◌, length, get_or, take, Option, None, Some, Ok, Err, refl, ap, sym, subst, ◌∙◌, arith, add-one, lit<, pow-suc}
+use Rattle.std.specs.Prelude.{IfSome, IsOk, IsUtf8, slice_index, unsigned_abs}
 use Rattle.std.specs.Char.{digit_value, is_ascii_digit}
 use Rattle.std.specs.Fmt.{decimal, signed_decimal}
 use Rattle.std.specs.List.{list_all}
-use Rattle.std.specs.Str.{all_ascii_digits}
+use Rattle.std.specs.Str.{IsAscii, all_ascii_digits}
 use Rattle.std.specs.Str.Parse.{digits_value}
 use Rattle.std.proofs.Math.Nat.{pow-le-pow_right}
 use Rattle.std.proofs.lemmas.Bool.{lt-ltb}
-use Rattle.std.proofs.lemmas.Fmt.{decimal-digits_value}
+use Rattle.std.proofs.lemmas.Fmt.{IsAscii-decimal_wide, decimal-digits_value}
 use Rattle.std.proofs.lemmas.Int.Digits.{digits_value_more}
 use Rattle.std.proofs.lemmas.List.Folds.{list_all_more}
+use Rattle.std.proofs.lemmas.Str.{IsUtf8-from_ascii}
+use Rattle.std.proofs.lemmas.Str.Ascii.{IsAscii-cons}
 use Rattle.std.proofs.lemmas.Str.Parse.{IsNumeralModel, digits_value_short, numerals_by_value, tells_all_ascii_digits}
 use Rattle.vtl_cell.specs.number.Fault.TheVariants.{Range}
 use Rattle.vtl_cell.specs.Range.{fit_integer}
@@ -66,6 +68,21 @@ short_if ds None most few h e = tt
 short_if ds (Some n) most few h e = value_short ds n most h few e
 
 -- ---- integers
+-- the digits of a number with its sign are a text
+pub plain_utf8 : (is_negative : Bool) (size : ℕ) → size < 10 ^ 18 → IsUtf8 (cond is_negative (45 ∷ decimal size) (decimal size))
+plain_utf8 is_negative size small = IsUtf8-from_ascii (cond is_negative (45 ∷ decimal size) (decimal size)) (signed is_negative)
+  where
+    digits : IsAscii (decimal size)
+    digits = IsAscii-decimal_wide size (omega (arith, small))
+
+    signed : (b : Bool) → IsAscii (cond b (45 ∷ decimal size) (decimal size))
+    signed true = IsAscii-cons 45 (decimal size) (lit< tt) digits
+    signed false = digits
+
+pub utf8_if : (o : Option ℤ) (t u : List ℕ) → u ≡ t → IsUtf8 u → IfSome o (λ n. IsUtf8 t)
+utf8_if None t u is h = tt
+utf8_if (Some n) t u is h = subst IsUtf8 is h
+
 in_range : (s : ℕ) (n : ℤ) → unsigned_abs n < 10 ^ (18 - s) → IsOk (fit_integer s n)
 in_range s n small = subst (λ b. IsOk (cond b (Ok n) (Err Range))) (sym (lt-ltb (unsigned_abs n) (10 ^ (18 - s)) small)) refl
 

@@ -6,8 +6,9 @@ use Rattle.csv.specs.declared.parser.Config.{Config}
 use Rattle.csv.specs.declared.parser.State.{State}
 use Rattle.csv.specs.declared.parser.State.TheVariants as st
 use Rattle.csv.specs.declared.reader.Reader.{Reader}
+use Rattle.std.specs.Bool.{OnFalse, OnTrue}
 use Rattle.std.proofs.lemmas.Bool.{cases_Bool}
-use Rattle.vtl_csv.specs.RecordsLeft.{ReadsRecords, bytes_left, records_of}
+use Rattle.vtl_csv.specs.RecordsLeft.{ReadsRecords, bytes_left, records_of, records_of_reader}
 
 -- the end of a text ends one record, and no other follows
 at_end : (b : Bool) (fields : List (List ℕ)) (p : Read) → cond b (Some (fields, st.StartRecord, [])) None ≡ Some p → (p.1 ≡ st.StartRecord) × (p.2 ≡ [])
@@ -58,7 +59,7 @@ records_from-enough cfg (suc n) (suc m) s xs a b =
     ])
 
 -- where there is a next record, it is the first of those left
-records_of-more : (s : State) (xs : List ℕ) (p : Read) → next_record default_config s [] [] xs ≡ Some p
+pub records_of-more : (s : State) (xs : List ℕ) (p : Read) → next_record default_config s [] [] xs ≡ Some p
     → records_of (Some xs) s ≡ p.0 ∷ records_of (Some p.2) p.1
 unfolding records_from
 records_of-more s xs p e =
@@ -94,15 +95,13 @@ read-ended s after (Some xs) (Some ys) fields r =
     by (Some p) e next = cc next.0
 
 -- the same of a reader
-pub reader-found : (a b : Reader (Bor (List ℕ))) (fields : List (List ℕ)) → a.config ≡ default_config → IsSome (source_of bytes_left a)
-    → ReadRecord bytes_left a b true fields
-    → records_of (source_of bytes_left a) a.state ≡ fields ∷ records_of (source_of bytes_left b) b.state
-reader-found a b fields config known r =
-    rw r.1 (read-found a.state b.state (source_of bytes_left a) (pending_of (bytes_left b.rdr) b) fields known (rw config at r.0))
-
-pub reader-ended : (a b : Reader (Bor (List ℕ))) (fields : List (List ℕ)) → a.config ≡ default_config
-    → ReadRecord bytes_left a b false fields → records_of (source_of bytes_left a) a.state ≡ []
-reader-ended a b fields config r = read-ended a.state b.state (source_of bytes_left a) (pending_of (bytes_left b.rdr) b) fields (rw config at r.0)
+pub reader-read : (a b : Reader (Bor (List ℕ))) (fields : List (List ℕ)) (found : Bool) → a.config ≡ default_config → IsSome (source_of bytes_left a)
+    → ReadRecord bytes_left a b found fields
+    → OnTrue found (records_of_reader a ≡ fields ∷ records_of_reader b) × OnFalse found (records_of_reader a ≡ [])
+reader-read a b fields true config known r =
+    (rw r.1 (read-found a.state b.state (source_of bytes_left a) (pending_of (bytes_left b.rdr) b) fields known (rw config at r.0)), tt)
+reader-read a b fields false config known r =
+    (tt, read-ended a.state b.state (source_of bytes_left a) (pending_of (bytes_left b.rdr) b) fields (rw config at r.0))
 
 -- such a reader takes one record at each read
 pub reads-ready : (a : Reader (Bor (List ℕ))) → ReadsRecords a → Ready a

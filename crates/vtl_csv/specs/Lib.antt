@@ -6,8 +6,10 @@ pub mod InputFields
 pub mod InputFile
 pub mod InputSteps
 pub mod Plain
+pub mod PlainLines
 pub mod ReadAgain
 pub mod RecordsLeft
+pub mod RestOfText
 pub mod RowsWritten
 pub mod SortedCodes
 pub mod StructuresFile

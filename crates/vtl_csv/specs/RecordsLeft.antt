@@ -1,5 +1,5 @@
--- The records that a reader of a slice has left.
-use Rattle.std.specs.Prelude.{◌≡◌, ◌+◌, Bool, true, false, List, [], length, Option, Some, None, IsSome}
+-- The records that a reader of a text has left.
+use Rattle.std.specs.Prelude.{◌≡◌, ◌+◌, true, false, List, [], length, Option, Some, None, IsSome}
 use Rattle.std.specs.Borrow.{Bor}
 use Rattle.csv.specs.Reading.{default_config, is_flexible, names_headers, reader_config, reader_headers, reader_state, reader_trim, records_from, source_of, took_first}
 use Rattle.csv.specs.declared.parser.State.{State}
@@ -16,10 +16,9 @@ abbrev pub records_of : Option Bytes → State → List Record
 records_of None state = []
 records_of (Some text) state = records_from default_config (length text + 1) state text
 
--- the records that a reader has left, which are none once it has ended
-abbrev pub records_left : Bool → Reader (Bor Bytes) → List Record
-records_left true reader = []
-records_left false reader = records_of (source_of bytes_left reader) (reader_state reader)
+-- the records that a reader of a slice has left
+abbrev pub records_of_reader : Reader (Bor Bytes) → List Record
+records_of_reader reader = records_of (source_of bytes_left reader) (reader_state reader)
 
 -- each read of this reader is of one record of known bytes, as they stand, whatever its length
 pub record ReadsRecords (reader : Reader (Bor Bytes)) : Type 0 where
@@ -29,6 +28,3 @@ pub record ReadsRecords (reader : Reader (Bor Bytes)) : Type 0 where
   pub no_header : names_headers reader ≡ false
   pub no_header_row : took_first reader ≡ false → reader_headers reader ≡ None
   pub source : IsSome (source_of bytes_left reader)
-
-abbrev pub ReadsUntilEnd : Bool → Reader (Bor Bytes) → Type 0
-ReadsUntilEnd has_ended reader = has_ended ≡ false → ReadsRecords reader

@@ -9,13 +9,13 @@ ghost use Rattle.vtl_sets.specs.TableOf.{IsTableOf, column_for};
 ghost use Rattle.vtl_csv.specs.InputFile.{Reads, dataset_rows, rows_below, rows_with};
 ghost use Rattle.vtl_csv.specs.InputSteps.{Answers, IsLayout, fault_among, fault_of, flaw_of, layout_seen, rows_outcome, taken, taken_with};
 
+use crate::fields::Fields;
 use crate::file_column::FileColumn;
 use crate::header::{Layout, read_layout};
 use crate::input::{Fault, Flaw, InputErr, InputKind};
 use crate::input_fields::{MOST_POINTS, fill_row};
 use crate::records::RecordReader;
 use crate::text_pool::pools;
-use csv::ByteRecord;
 use std::alloc::{AllocError, Global};
 use vtl_cell::Profile;
 use vtl_rows::Table;
@@ -55,12 +55,12 @@ fn table_of(alloc: Global, file: &[FileColumn], expected: usize) -> Result<Table
 }
 
 // Adds the rows of the records that are left, up to the first flaw, which is the answer.
-fn add_rows(
+fn add_rows<'a>(
     alloc: Global,
     table: &mut Table,
     columns: &[FileColumn],
-    reader: &mut RecordReader,
-    fields: &mut ByteRecord,
+    reader: &mut RecordReader<'a>,
+    fields: &mut Fields<'a>,
     profile: &Profile,
 ) -> Result<Option<Flaw>, AllocError>
     requires { table.old.columns ≡ map column_for columns.now }
@@ -106,13 +106,13 @@ fn first_fault(table: &Table, repeat: Option<usize>, flaw: Option<Flaw>) -> Opti
 
 // Adds the rows of the records that are left to a table of none, and answers the first fault, if there is one; the
 // identifiers stand at the places `keys`.
-fn read_rows(
+fn read_rows<'a>(
     alloc: Global,
     table: &mut Table,
     columns: &[FileColumn],
     keys: &[usize],
-    reader: &mut RecordReader,
-    fields: &mut ByteRecord,
+    reader: &mut RecordReader<'a>,
+    fields: &mut Fields<'a>,
     profile: &Profile,
 ) -> Result<Option<Fault>, AllocError>
     requires columns { table.old.columns ≡ map column_for columns.now }
@@ -178,13 +178,13 @@ fn key_places<'a>(
 }
 
 // The data set whose records are left after a header with this layout, about so many.
-fn read_table(
+fn read_table<'a>(
     alloc: Global,
     structure: &Structure,
     layout: &Layout,
     expected: usize,
-    reader: &mut RecordReader,
-    fields: &mut ByteRecord,
+    reader: &mut RecordReader<'a>,
+    fields: &mut Fields<'a>,
     profile: &Profile,
 ) -> Result<Result<Table, Fault>, AllocError>
     requires structure { IsStructure structure.now }
@@ -218,7 +218,7 @@ fn read_text(
     ensures { IfOk result (λ r. Answers structure.now r (dataset_rows profile.now structure.now text.now)) }
 {
     let mut reader = RecordReader::new(alloc, text);
-    let mut fields = ByteRecord::new(alloc);
+    let mut fields = Fields::new(alloc);
     if !reader.next(&mut fields)? {
         return Ok(Err(bad_header(1)));
     }

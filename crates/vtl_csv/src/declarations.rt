@@ -2,7 +2,6 @@
 ghost use Rattle.std.specs.Prelude.{◌≡◌, ◌<◌, ◌≤◌, ℕ, List as Items, [], ◌∷◌, IfOk, IfSome, chars, length, nat_le, option_map};
 ghost use Rattle.std.specs.List.{list_any, position_or_len};
 ghost use Rattle.std.specs.Option.{option_map_or};
-ghost use Rattle.csv.specs.Records.{fields_of};
 ghost use Rattle.vtl_cell.specs.Each.{each_some};
 ghost use Rattle.vtl_text.specs.Words.{is_component_name, is_name};
 ghost use Rattle.vtl_tree.specs.Structure.{names_of, same_name};
@@ -10,7 +9,7 @@ ghost use Rattle.vtl_tree.specs.Structures.{components_of, is_filled, is_string_
 ghost use Rattle.vtl_csv.specs.DeclarationFields.{declaration_fields};
 ghost use Rattle.vtl_csv.specs.Declarations.{Declaration, code_in, codes_in, codes_of, component_in, dataset_in, declaration_of, declared_by, has_component, is_bar, is_full, is_heading, kind_in, parts, record_of, role_in, text_in};
 
-use csv::ByteRecord;
+use crate::fields::Fields;
 use std::alloc::{AllocError, Global};
 use std::str;
 use vtl_cell::Kind;
@@ -34,18 +33,18 @@ fn is_text(field: &[u8], text: &[u8]) -> bool
 }
 
 // The fields of a record, if there are five.
-pub fn read_declaration(fields: &ByteRecord) -> Option<Declaration<'_>>
-    ensures { option_map declaration_fields result ≡ declaration_of (fields_of fields.now) }
+pub fn read_declaration<'a>(fields: &'a Fields) -> Option<Declaration<'a>>
+    ensures { option_map declaration_fields result ≡ declaration_of fields.now }
 {
     if fields.len() != 5 {
         return None;
     }
     Some(Declaration {
-        dataset: fields.get(0)?,
-        component: fields.get(1)?,
-        role: fields.get(2)?,
-        kind: fields.get(3)?,
-        code_list: fields.get(4)?,
+        dataset: fields.field(0),
+        component: fields.field(1),
+        role: fields.field(2),
+        kind: fields.field(3),
+        code_list: fields.field(4),
     })
 }
 
@@ -293,9 +292,9 @@ fn declared(
 pub fn component(
     alloc: Global,
     structures: &Structures,
-    fields: &ByteRecord,
+    fields: &Fields,
 ) -> Result<Result<(Txt, Component), u8>, AllocError>
-    ensures { IfOk result (λ r. r ≡ record_of structures.now (fields_of fields.now)) }
+    ensures { IfOk result (λ r. r ≡ record_of structures.now fields.now) }
 {
     match read_declaration(fields) {
         Some(line) => declared(alloc, structures, line),

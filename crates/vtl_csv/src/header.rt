@@ -1,15 +1,14 @@
 // The columns of a CSV file of a data set, by its header.
 ghost use Rattle.std.specs.Prelude.{◌≡◌, [], IfOk, option_map};
 ghost use Rattle.std.specs.Option.{is_some};
-ghost use Rattle.csv.specs.Records.{fields_of};
 ghost use Rattle.vtl_cell.specs.Each.{each_some};
 ghost use Rattle.vtl_tree.specs.Shown.{shown};
 ghost use Rattle.vtl_csv.specs.InputFile.{columns_with, layout_of, named_by, newly_named, place_in};
 ghost use Rattle.vtl_csv.specs.InputSteps.{columns_answer, layout_answer};
 
+use crate::fields::Fields;
 use crate::file_column::FileColumn;
-use crate::reading::{column, field, is_same_text};
-use csv::ByteRecord;
+use crate::reading::{column, is_same_text};
 use std::alloc::{AllocError, Global};
 use vtl_tree::{Component, Structure};
 
@@ -64,13 +63,13 @@ fn newly_named<'a>(
 fn columns<'a>(
     alloc: Global,
     components: &'a [Component],
-    fields: &ByteRecord,
+    fields: &Fields,
 ) -> Result<Result<Vec<FileColumn<'a>>, u64>, AllocError>
-    ensures { IfOk result (λ r. columns_answer r ≡ columns_with components.now [] (fields_of fields.now)) }
+    ensures { IfOk result (λ r. columns_answer r ≡ columns_with components.now [] fields.now) }
 {
     let mut columns = Vec::new(alloc);
     for i in 0..fields.len() {
-        match newly_named(components, &columns, field(fields, i)) {
+        match newly_named(components, &columns, fields.field(i)) {
             Some(component) => columns.push(FileColumn::new(alloc, component)?)?,
             None => return Ok(Err(i as u64 + 1)),
         }
@@ -112,9 +111,9 @@ fn places(
 pub fn read_layout<'a>(
     alloc: Global,
     structure: &'a Structure,
-    fields: &ByteRecord,
+    fields: &Fields,
 ) -> Result<Result<Layout<'a>, u64>, AllocError>
-    ensures { IfOk result (λ r. layout_answer r ≡ layout_of structure.now (fields_of fields.now)) }
+    ensures { IfOk result (λ r. layout_answer r ≡ layout_of structure.now fields.now) }
 {
     let columns = match columns(alloc, structure.components.as_slice(), fields)? {
         Ok(columns) => columns,

@@ -1,17 +1,19 @@
 // The cells that the fields of a record spell in their columns.
-ghost use Rattle.std.specs.Prelude.{◌≡◌, [], IfOk, length, option_map};
-ghost use Rattle.csv.specs.Records.{fields_of};
-ghost use Rattle.vtl_cell.specs.Reading.{reads};
-ghost use Rattle.vtl_csv.specs.InputFields.{field_cell, record_row, row_with, text_cell};
+ghost use Rattle.std.specs.Prelude.{◌≡◌, ◌<◌, [], IfOk, Some, Ok, Err, length, option_map, if◌then◌else◌};
+ghost use Rattle.vtl_cell.specs.Settings.{Settings};
+ghost use Rattle.vtl_cell.specs.declared.cell.Cell.TheVariants as cell;
+ghost use Rattle.vtl_cell.specs.declared.kind.Kind.TheVariants as kind;
+ghost use Rattle.vtl_csv.specs.InputFields.{coded_cell, field_cell, record_row, row_with};
 ghost use Rattle.vtl_csv.specs.InputSteps.{flaw_of, row_answer};
+ghost use Rattle.vtl_csv.specs.StructuresFile.{is_identifier};
+ghost use Rattle.vtl_csv.specs.declared.input.InputKind.TheVariants as input;
 ghost use Rattle.std.specs.List.{zip};
 
+use crate::fields::Fields;
 use crate::file_column::FileColumn;
 use crate::input::{Flaw, InputKind};
 use crate::plain_integers::plain_integer;
-use crate::reading::field;
 use crate::text_pool::TextPool;
-use csv::ByteRecord;
 use std::alloc::{AllocError, Global};
 use std::str;
 use vtl_cell::{Cell, Kind, Profile, read_cell};
@@ -20,46 +22,78 @@ use vtl_tree::Role;
 /// The most points that a file may hold.
 pub const MOST_POINTS: usize = 1_000_000;
 
-// The value of a kind that a text stands for. A text is shared with an equal one of the pool.
-fn value(
-    alloc: Global,
-    kind: Kind,
-    pool: &mut TextPool,
-    text: &str,
-    profile: &Profile,
-) -> Result<Option<Cell>, AllocError>
-    ensures { IfOk result (λ o. o ≡ reads profile.now kind text.now) }
+// The cell of an empty field: null, which no identifier is.
+fn empty_cell(column: &FileColumn) -> Result<Cell, InputKind>
+    ensures { result ≡ (if is_identifier column.now then Err input.NullIdentifier else Ok cell.Null) }
 {
-    match kind {
-        Kind::Text => Ok(Some(Cell::Text(pool.text(alloc, text)?))),
-        Kind::Int => match plain_integer(text, profile) {
-            Some(n) => Ok(Some(Cell::Int(n))),
-            None => read_cell(alloc, kind, text, profile),
-        },
-        _ => read_cell(alloc, kind, text, profile),
+    match column.component().role {
+        Role::Identifier => Err(InputKind::NullIdentifier),
+        Role::Measure | Role::Attribute => Ok(Cell::Null),
     }
 }
 
-// The cell of a field that is a text.
+// A cell that is read, if it is among the codes of its column.
+fn coded_cell(column: &FileColumn, value: Cell) -> Result<Cell, InputKind>
+    ensures { result ≡ coded_cell column.now (Some value) }
+{
+    if column.is_coded(&value) {
+        Ok(value)
+    } else {
+        Err(InputKind::NotInCodes)
+    }
+}
+
+// The cell of a field that is not empty, of a column of any kind.
+fn read_field(
+    alloc: Global,
+    column: &FileColumn,
+    field: &[u8],
+    profile: &Profile,
+) -> Result<Result<Cell, InputKind>, AllocError>
+    requires { 0 < length field.now }
+    ensures { IfOk result (λ r. r ≡ field_cell profile.now column.now field.now) }
+{
+    let text = match str::from_utf8(field) {
+        Ok(text) => text,
+        Err(_) => return Ok(Err(InputKind::NotText)),
+    };
+    match read_cell(alloc, column.component().kind, text, profile)? {
+        Some(cell) => Ok(coded_cell(column, cell)),
+        None => Ok(Err(InputKind::BadValue)),
+    }
+}
+
+// The cell of a field that is not empty, of a column of integers.
+fn integer_cell(
+    alloc: Global,
+    column: &FileColumn,
+    field: &[u8],
+    profile: &Profile,
+) -> Result<Result<Cell, InputKind>, AllocError>
+    requires some { 0 < length field.now }
+    requires integers { column.now.kind ≡ kind.Int }
+    ensures { IfOk result (λ r. r ≡ field_cell profile.now column.now field.now) }
+{
+    match plain_integer(field, profile) {
+        Some(n) => Ok(Ok(Cell::Int(n))),
+        None => read_field(alloc, column, field, profile),
+    }
+}
+
+// The cell of a field that is not empty, of a column of texts. Its text is shared with an equal one of the pool.
 fn text_cell(
     alloc: Global,
     column: &FileColumn,
     pool: &mut TextPool,
-    text: &str,
-    profile: &Profile,
+    field: &[u8],
 ) -> Result<Result<Cell, InputKind>, AllocError>
-    ensures { IfOk result (λ r. r ≡ text_cell profile.now column.now text.now) }
+    requires some { 0 < length field.now }
+    requires texts { column.now.kind ≡ kind.Text }
+    ensures { IfOk result (λ r. (p : Settings) → r ≡ field_cell p column.now field.now) }
 {
-    if text.is_empty() {
-        return Ok(match column.component().role {
-            Role::Identifier => Err(InputKind::NullIdentifier),
-            Role::Measure | Role::Attribute => Ok(Cell::Null),
-        });
-    }
-    match value(alloc, column.component().kind, pool, text, profile)? {
-        Some(cell) if column.is_coded(&cell) => Ok(Ok(cell)),
-        Some(_) => Ok(Err(InputKind::NotInCodes)),
-        None => Ok(Err(InputKind::BadValue)),
+    match pool.text(alloc, field)? {
+        Some(text) => Ok(coded_cell(column, Cell::Text(text))),
+        None => Ok(Err(InputKind::NotText)),
     }
 }
 
@@ -73,9 +107,13 @@ fn field_cell(
 ) -> Result<Result<Cell, InputKind>, AllocError>
     ensures { IfOk result (λ r. r ≡ field_cell profile.now column.now field.now) }
 {
-    match str::from_utf8(field) {
-        Ok(text) => text_cell(alloc, column, pool, text, profile),
-        Err(_) => Ok(Err(InputKind::NotText)),
+    if field.is_empty() {
+        return Ok(empty_cell(column));
+    }
+    match column.component().kind {
+        Kind::Int => integer_cell(alloc, column, field, profile),
+        Kind::Text => text_cell(alloc, column, pool, field),
+        _ => read_field(alloc, column, field, profile),
     }
 }
 
@@ -84,17 +122,17 @@ fn fill(
     alloc: Global,
     columns: &[FileColumn],
     pools: &mut [TextPool],
-    fields: &ByteRecord,
+    fields: &Fields,
     profile: &Profile,
     row: &mut Vec<Cell>,
 ) -> Result<Option<Flaw>, AllocError>
-    requires fields { length (fields_of fields.now) ≡ length columns.now }
+    requires fields { length fields.now ≡ length columns.now }
     requires pools { length pools.old ≡ length columns.now }
     requires none { row.old.items ≡ [] }
-    ensures { IfOk result (λ o. row_answer row.new.items (option_map flaw_of o) ≡ row_with profile.now [] (zip columns.now (fields_of fields.now))) }
+    ensures { IfOk result (λ o. row_answer row.new.items (option_map flaw_of o) ≡ row_with profile.now [] (zip columns.now fields.now)) }
 {
     for i in 0..columns.len() {
-        match field_cell(alloc, &columns[i], &mut pools[i], field(fields, i), profile)? {
+        match field_cell(alloc, &columns[i], &mut pools[i], fields.field(i), profile)? {
             Ok(cell) => row.push(cell)?,
             Err(kind) => {
                 let column = i as u64 + 1;
@@ -112,13 +150,13 @@ pub fn fill_row(
     columns: &[FileColumn],
     pools: &mut [TextPool],
     count: usize,
-    fields: &ByteRecord,
+    fields: &Fields,
     profile: &Profile,
     row: &mut Vec<Cell>,
 ) -> Result<Option<Flaw>, AllocError>
     requires pools { length pools.old ≡ length columns.now }
     requires none { row.old.items ≡ [] }
-    ensures { IfOk result (λ o. row_answer row.new.items (option_map flaw_of o) ≡ record_row profile.now columns.now count (fields_of fields.now)) }
+    ensures { IfOk result (λ o. row_answer row.new.items (option_map flaw_of o) ≡ record_row profile.now columns.now count fields.now) }
 {
     if count >= MOST_POINTS {
         let kind = InputKind::TooManyRows;

@@ -10,6 +10,7 @@
 
 mod dataset;
 mod declarations;
+mod fields;
 mod file_column;
 mod header;
 mod input;
@@ -17,6 +18,7 @@ mod input_fields;
 mod input_laws;
 mod laws;
 mod plain_integers;
+mod plain_lines;
 mod reading;
 mod record_text;
 mod records;
@@ -26,6 +28,7 @@ mod table_text;
 mod text_pool;
 
 pub use dataset::read_dataset;
+pub use fields::Fields;
 pub use input::{InputErr, InputKind};
 pub use input_laws::{
     read_rows_are_a_data_set, read_rows_are_of_the_profile, reading_asks_for_identifiers_alone,

@@ -1,5 +1,5 @@
 // Integers in their shortest spelling, read in one walk over their digits.
-ghost use Rattle.std.specs.Prelude.{◌≡◌, ◌≤◌, ◌<◌, ◌^◌, ◌∷◌, true, length, slice_index, if◌then◌else◌, unsigned_abs, IfSome, IsFalse, Some};
+ghost use Rattle.std.specs.Prelude.{◌≡◌, ◌≤◌, ◌<◌, ◌^◌, ◌∷◌, true, length, slice_index, if◌then◌else◌, unsigned_abs, IfSome, IsFalse, IsUtf8, Some};
 ghost use Rattle.std.specs.Char.{is_ascii_digit};
 ghost use Rattle.std.specs.Fmt.{decimal, signed_decimal};
 ghost use Rattle.std.specs.List.{list_all};
@@ -13,24 +13,25 @@ use vtl_cell::Profile;
 // The most digits of an integer, with those that a number of the profile has behind its point.
 const MOST_DIGITS: usize = 18;
 
-/// The integer that a text spells with no digit that could be left out, where so few digits write it that the profile
-/// has it. Where this gives None the text may still be an integer's.
-pub fn plain_integer(text: &str, profile: &Profile) -> Option<i64>
-    ensures { IfSome result (λ n. reads profile.now kind.Int text.now ≡ Some (cell.Int n)) }
+/// The integer that a field spells with no digit that could be left out, where so few digits write it that the profile
+/// has it. Such a field is a text. Where this gives None the field may still be an integer's.
+pub fn plain_integer(field: &[u8], profile: &Profile) -> Option<i64>
+    ensures utf8 { IfSome result (λ n. IsUtf8 field.now) }
+    ensures read { IfSome result (λ n. reads profile.now kind.Int field.now ≡ Some (cell.Int n)) }
 {
     let most = MOST_DIGITS - usize::from(profile.scale());
-    let (is_negative, digits) = split_minus(text.as_bytes());
+    let (is_negative, digits) = split_minus(field);
     let size = plain_size(digits, most)?;
     with_sign(is_negative, size)
 }
 
-// Whether a minus begins the text, and what stands behind it.
-fn split_minus(text: &[u8]) -> (bool, &[u8])
-    ensures { text.now ≡ (if result.0 then 45 ∷ result.1.now else result.1.now) }
+// Whether a minus begins the field, and what stands behind it.
+fn split_minus(field: &[u8]) -> (bool, &[u8])
+    ensures { field.now ≡ (if result.0 then 45 ∷ result.1.now else result.1.now) }
 {
-    match text {
+    match field {
         [b'-', rest @ ..] => (true, rest),
-        _ => (false, text),
+        _ => (false, field),
     }
 }
 

@@ -1,10 +1,8 @@
-// Columns of a structure, and fields of a record.
+// Columns of a structure, and their names.
 ghost use Rattle.std.specs.Prelude.{◌≡◌, ◌<◌, length, slice_index_or, encode_utf8_all};
-ghost use Rattle.csv.specs.Records.{fields_of};
 ghost use Rattle.vtl_tree.specs.Shown.{shown};
 ghost use Rattle.vtl_tree.specs.Structure.{same_name};
 
-use csv::ByteRecord;
 use vtl_text::Txt;
 use vtl_tree::Component;
 
@@ -14,17 +12,6 @@ pub fn column<'a>(columns: &[&'a Component], i: usize) -> &'a Component
     ensures { result.now ≡ slice_index_or (shown columns.now) i result.now }
 {
     columns[i]
-}
-
-/// The field at a place.
-pub fn field(fields: &ByteRecord, i: usize) -> &[u8]
-    requires { i < length (fields_of fields.now) }
-    ensures { result.now ≡ slice_index_or (fields_of fields.now) i result.now }
-{
-    match fields.get(i) {
-        Some(field) => field,
-        None => unreachable!(),
-    }
 }
 
 /// Whether a field is a text in UTF-8.

@@ -124,7 +124,7 @@ fn needs_quotes(field: &[u8]) -> bool
 }
 
 // Whether a byte is a comma, a quote or an end of a line.
-fn is_mark(byte: u8) -> bool
+pub fn is_mark(byte: u8) -> bool
     ensures { result ≡ needs_byte default_writer byte }
 {
     byte == b',' || byte == b'"' || byte == b'\r' || byte == b'\n'

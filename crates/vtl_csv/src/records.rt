@@ -1,10 +1,13 @@
 // The records of a CSV text, one after the other.
-ghost use Rattle.std.specs.Prelude.{◌≡◌, ◌∷◌, [], true, IfOk, OnErr};
+ghost use Rattle.std.specs.Prelude.{◌≡◌, ◌∷◌, [], IfOk, OnErr};
 ghost use Rattle.std.specs.Bool.{OnTrue, OnFalse};
-ghost use Rattle.csv.specs.Reading.{default_config, error_kind, records, stops_reader, strip_bom};
-ghost use Rattle.csv.specs.Records.{fields_of};
+ghost use Rattle.csv.specs.Reading.{default_config, records, strip_bom};
+ghost use Rattle.vtl_csv.specs.RecordsLeft.{ReadsRecords, records_of_reader};
+ghost use Rattle.vtl_csv.specs.RestOfText.{IsFront, ReadsRest, records_in_rest};
 
-use csv::{ByteRecord, Error, Reader, ReaderBuilder};
+use crate::fields::Fields;
+use crate::plain_lines::{without_blank_lines, without_bom};
+use csv::{Reader, ReaderBuilder};
 use std::alloc::{AllocError, Global};
 use std::marker::Model;
 
@@ -13,8 +16,8 @@ use std::marker::Model;
 /// After an error no record is left.
 #[derive(Drop)]
 pub struct RecordReader<'a> {
-    reader: Reader<&'a [u8]>,
-    has_ended: bool,
+    alloc: Global,
+    rest: Rest<'a>,
 }
 
 impl<'a> Model for RecordReader<'a> {
@@ -22,19 +25,81 @@ impl<'a> Model for RecordReader<'a> {
 
     ghost Value = { List (List (List ℕ)) };
 
-    ghost use Rattle.vtl_csv.specs.RecordsLeft.{records_left, ReadsUntilEnd};
+    ghost use Rattle.vtl_csv.specs.RestOfText.{records_in_rest, ReadsRest};
 
-    ghost view = { λ r. records_left r.has_ended r.reader };
+    ghost view = { λ r. records_in_rest r.rest };
 
-    ghost invariant = { λ r. ReadsUntilEnd r.has_ended r.reader };
+    ghost invariant = { λ r. ReadsRest r.rest };
 }
 
-// The reading of a slice, which has every byte at hand, stops only if memory runs out.
-fn want_of_memory(error: Error) -> AllocError
-    requires { stops_reader (error_kind error) ≡ true }
+// What has not been read of a text: the text from its start or from the end of a line on, or, once a line has a quote
+// mark, a reader of it.
+#[derive(Drop)]
+enum Rest<'a> {
+    Lines(&'a [u8]),
+    Quoted(Box<Reader<&'a [u8]>>),
+}
+
+// What stands at the front of a text: a record and the text behind it, no record, or a line with a quote mark.
+enum Front<'a> {
+    Record(&'a [u8]),
+    Nothing,
+    QuotedLine,
+}
+
+// What stands at the front of a text; a record's fields are put into `fields`.
+fn take_front<'a>(text: &'a [u8], fields: &mut Fields<'a>) -> Result<Front<'a>, AllocError>
+    ensures { IfOk result (λ f. IsFront (records default_config (strip_bom text.now)) fields.new f) }
 {
-    drop(error);
-    AllocError
+    let line = without_blank_lines(without_bom(text));
+    if line.is_empty() {
+        return Ok(Front::Nothing);
+    }
+    match fields.take_line(line)? {
+        Some(rest) => Ok(Front::Record(rest)),
+        None => Ok(Front::QuotedLine),
+    }
+}
+
+// A reader of the records of a text, in a box, as it is large.
+#[cold]
+#[inline(never)]
+fn reader_of(alloc: Global, text: &[u8]) -> Result<Box<Reader<&[u8]>>, AllocError>
+    ensures reads { IfOk result (λ b. ReadsRecords b.value) }
+    ensures records { IfOk result (λ b. records_of_reader b.value ≡ records default_config (strip_bom text.now)) }
+{
+    let reader = ReaderBuilder::new()
+        .has_headers(false)
+        .flexible(true)
+        .from_reader(alloc, text);
+    Ok(Box::new(alloc, reader)?)
+}
+
+impl<'a> Rest<'a> {
+    // Reads the next record into `fields`, and answers whether there was one.
+    fn next(&mut self, alloc: Global, fields: &mut Fields<'a>) -> Result<bool, AllocError>
+        requires { ReadsRest self.old }
+        ensures reads { IfOk result (λ found. OnTrue found (ReadsRest self.new)) }
+        ensures found { IfOk result (λ found. OnTrue found (records_in_rest self.old ≡ fields.new ∷ records_in_rest self.new)) }
+        ensures ended { IfOk result (λ found. OnFalse found (records_in_rest self.old ≡ [])) }
+    {
+        match self {
+            Rest::Lines(text) => match take_front(*text, fields)? {
+                Front::Record(rest) => {
+                    *text = rest;
+                    Ok(true)
+                }
+                Front::Nothing => Ok(false),
+                Front::QuotedLine => {
+                    let mut reader = reader_of(alloc, *text)?;
+                    let found = fields.read(&mut reader)?;
+                    *self = Rest::Quoted(reader);
+                    Ok(found)
+                }
+            },
+            Rest::Quoted(reader) => fields.read(reader),
+        }
+    }
 }
 
 impl<'a> RecordReader<'a> {
@@ -42,34 +107,27 @@ impl<'a> RecordReader<'a> {
     pub fn new(alloc: Global, text: &'a [u8]) -> Self
         ensures { result ≡ records default_config (strip_bom text.now) }
     {
-        let reader = ReaderBuilder::new()
-            .has_headers(false)
-            .flexible(true)
-            .from_reader(alloc, text);
         RecordReader {
-            reader,
-            has_ended: false,
+            alloc,
+            rest: Rest::Lines(text),
         }
     }
 
     /// Reads the next record into `fields`, and answers whether there was one.
-    pub fn next(&mut self, fields: &mut ByteRecord) -> Result<bool, AllocError>
-        ensures found { IfOk result (λ found. OnTrue found (self.old ≡ fields_of fields.new ∷ self.new)) }
+    pub fn next(&mut self, fields: &mut Fields<'a>) -> Result<bool, AllocError>
+        ensures found { IfOk result (λ found. OnTrue found (self.old ≡ fields.new ∷ self.new)) }
         ensures ended { IfOk result (λ found. OnFalse found ((self.old ≡ []) × (self.new ≡ []))) }
         ensures failed { OnErr result (self.new ≡ []) }
     {
-        if self.has_ended {
-            return Ok(false);
-        }
-        match self.reader.read_byte_record(fields) {
+        match self.rest.next(self.alloc, fields) {
             Ok(true) => Ok(true),
             Ok(false) => {
-                self.has_ended = true;
+                self.rest = Rest::Lines(&[]);
                 Ok(false)
             }
             Err(error) => {
-                self.has_ended = true;
-                Err(want_of_memory(error))
+                self.rest = Rest::Lines(&[]);
+                Err(error)
             }
         }
     }

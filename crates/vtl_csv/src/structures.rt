@@ -1,13 +1,12 @@
 // The structures that a structures file declares.
 ghost use Rattle.std.specs.Prelude.{◌≡◌, ◌+◌, ◌<◌, ◌^◌, [], IfOk, drop, length, option_map};
 ghost use Rattle.std.specs.List.{list_any};
-ghost use Rattle.csv.specs.Records.{fields_of};
 ghost use Rattle.vtl_csv.specs.StructuresFile.{Gives, is_header, is_identifier, lacks_identifier, lines_declare, lines_in, outcome, records_in, structures_of_file, with_record, without_identifier};
 ghost use Rattle.vtl_csv.specs.FaultFields.{answer_of, fault_of};
 
 use crate::declarations::{component, components, data_set_name, is_heading, read_declaration};
+use crate::fields::Fields;
 use crate::records::RecordReader;
-use csv::ByteRecord;
 use std::alloc::{AllocError, Global};
 use thiserror::Error;
 use vtl_text::Txt;
@@ -48,8 +47,8 @@ struct Fault {
 }
 
 // Whether a record is the first one of a structures file.
-fn is_header(fields: &ByteRecord) -> bool
-    ensures { result ≡ is_header (fields_of fields.now) }
+fn is_header(fields: &Fields) -> bool
+    ensures { result ≡ is_header fields.now }
 {
     match read_declaration(fields) {
         Some(line) => is_heading(line),
@@ -81,9 +80,9 @@ fn has_identifier(components: &[Component]) -> bool
 fn lacks_identifier(
     alloc: Global,
     structures: &Structures,
-    fields: &ByteRecord,
+    fields: &Fields,
 ) -> Result<bool, AllocError>
-    ensures { IfOk result (λ b. b ≡ lacks_identifier structures.now (fields_of fields.now)) }
+    ensures { IfOk result (λ b. b ≡ lacks_identifier structures.now fields.now) }
 {
     let Some(line) = read_declaration(fields) else {
         return Ok(false);
@@ -96,11 +95,11 @@ fn lacks_identifier(
 }
 
 // The first line, from `line` on, of a data set without an identifier.
-fn without_identifier(
+fn without_identifier<'a>(
     alloc: Global,
     structures: &Structures,
-    reader: &mut RecordReader,
-    fields: &mut ByteRecord,
+    reader: &mut RecordReader<'a>,
+    fields: &mut Fields<'a>,
 ) -> Result<Option<u64>, AllocError>
     requires { length reader.old < 2 ^ 63 }
     ensures { IfOk result (λ o. o ≡ without_identifier 2 structures.now reader.old) }
@@ -119,9 +118,9 @@ fn without_identifier(
 fn add_record(
     alloc: Global,
     structures: &mut Structures,
-    fields: &ByteRecord,
+    fields: &Fields,
 ) -> Result<Option<u8>, AllocError>
-    ensures { IfOk result (λ o. outcome structures.new o ≡ with_record structures.old (fields_of fields.now)) }
+    ensures { IfOk result (λ o. outcome structures.new o ≡ with_record structures.old fields.now) }
 {
     match component(alloc, structures, fields)? {
         Ok((dataset, component)) => {
@@ -133,11 +132,11 @@ fn add_record(
 }
 
 // Adds what the remaining records declare, and answers the first fault, if there is one.
-fn add_records(
+fn add_records<'a>(
     alloc: Global,
     structures: &mut Structures,
-    reader: &mut RecordReader,
-    fields: &mut ByteRecord,
+    reader: &mut RecordReader<'a>,
+    fields: &mut Fields<'a>,
 ) -> Result<Option<Fault>, AllocError>
     requires { length reader.old < 2 ^ 63 }
     ensures { IfOk result (λ o. outcome structures.new (option_map fault_of o) ≡ lines_declare 2 structures.old reader.old) }
@@ -161,7 +160,7 @@ fn missing_identifier(
     ensures { IfOk result (λ o. o ≡ without_identifier 2 structures.now (drop 1 (records_in text.now))) }
 {
     let mut reader = RecordReader::new(alloc, text);
-    let mut fields = ByteRecord::new(alloc);
+    let mut fields = Fields::new(alloc);
     if !reader.next(&mut fields)? {
         return Ok(None);
     }
@@ -178,7 +177,7 @@ fn add_lines(
     ensures { IfOk result (λ o. outcome structures.new (option_map fault_of o) ≡ lines_in (records_in text.now)) }
 {
     let mut reader = RecordReader::new(alloc, text);
-    let mut fields = ByteRecord::new(alloc);
+    let mut fields = Fields::new(alloc);
     if !reader.next(&mut fields)? || !is_header(&fields) {
         return Ok(Some(Fault { line: 1, rule: 1 }));
     }

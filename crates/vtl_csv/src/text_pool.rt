@@ -1,8 +1,10 @@
 // Equal texts of a column that share one text.
-ghost use Rattle.std.specs.Prelude.{◌≡◌, chars, vec_len, IfOk, IfSome};
+ghost use Rattle.std.specs.Prelude.{◌≡◌, vec_len, IfOk, IfSome, Some};
+ghost use Rattle.vtl_csv.specs.Declarations.{text_in};
 
 use std::alloc::{AllocError, Global};
-use std::hash::{FoldHasher, Hash, Hasher};
+use std::hash::{FoldHasher, Hasher};
+use std::str;
 use vtl_text::Txt;
 
 // A column with fewer texts than this shares none.
@@ -34,19 +36,22 @@ impl TextPool {
         }
     }
 
-    /// A text with these characters, shared with an equal one that the pool holds. It fails only if memory runs out.
-    pub fn text(&mut self, alloc: Global, text: &str) -> Result<Txt, AllocError>
-        ensures { IfOk result (λ t. t ≡ chars text.now) }
+    /// The text that a field is, shared with an equal one that the pool holds. None where the field is not UTF-8. It
+    /// fails only if memory runs out.
+    pub fn text(&mut self, alloc: Global, field: &[u8]) -> Result<Option<Txt>, AllocError>
+        ensures { IfOk result (λ o. o ≡ text_in field.now) }
     {
         if self.is_idle(alloc) {
-            return Txt::new(alloc, text);
+            return new_text(alloc, field);
         }
-        let place = place_of(text);
-        if let Some(held) = self.held(place, text)? {
-            return Ok(held);
+        let place = place_of(field);
+        if let Some(held) = self.held(place, field) {
+            return Ok(Some(held.share()?));
         }
-        let made = Txt::new(alloc, text)?;
-        self.keep(alloc, place, made.share()?)?;
+        let made = new_text(alloc, field)?;
+        if let Some(text) = &made {
+            self.keep(alloc, place, text.share()?)?;
+        }
         Ok(made)
     }
 
@@ -64,13 +69,13 @@ impl TextPool {
         self.has_given_up || self.asked < FEW
     }
 
-    // The text in a slot, where it is this one.
-    fn held(&self, place: usize, text: &str) -> Result<Option<Txt>, AllocError>
-        ensures { IfOk result (λ o. IfSome o (λ t. t ≡ chars text.now)) }
+    // The text in a slot, where its bytes are those of the field.
+    fn held(&self, place: usize, field: &[u8]) -> Option<&Txt>
+        ensures { IfSome result (λ t. Some t.now ≡ text_in field.now) }
     {
         match self.slots.get(place) {
-            Some(Some(held)) if held.as_str() == text => Ok(Some(held.share()?)),
-            _ => Ok(None),
+            Some(Some(held)) if held.as_str().as_bytes() == field => Some(held),
+            _ => None,
         }
     }
 
@@ -88,10 +93,20 @@ impl TextPool {
 }
 
 // The slot of a text.
-fn place_of(text: &str) -> usize {
+fn place_of(field: &[u8]) -> usize {
     let mut state = FoldHasher::default();
-    text.hash(&mut state);
+    state.write(field);
     state.finish() as usize % SLOTS
+}
+
+// A new text that a field is.
+fn new_text(alloc: Global, field: &[u8]) -> Result<Option<Txt>, AllocError>
+    ensures { IfOk result (λ o. o ≡ text_in field.now) }
+{
+    match str::from_utf8(field) {
+        Ok(text) => Ok(Some(Txt::new(alloc, text)?)),
+        Err(_) => Ok(None),
+    }
 }
 
 // Slots with nothing in them.

@@ -1,25 +1,8 @@
-use Rattle.std.proofs.Common.{sym, arith}
-use Rattle.csv.specs.Records.{fields_of}
-use Rattle.csv.proofs.RecordFacts.{field-there}
+use Rattle.std.proofs.Common.{arith}
 use Rattle.vtl_csv.proofs.DeclarationLemmas.{declaration_there}
 use Rattle.vtl_csv.proofs.declarations.read_declaration.Goals as goal
 
-pub returns-in_err-get : goal.returns-in_err-get
-returns-in_err-get c = absurd (field-there (fields_of c.args.fields.now) 0 (omega arith) (sym c.in_err-get.ensures.value))
-
-pub returns-in_err-get-2 : goal.returns-in_err-get-2
-returns-in_err-get-2 c = absurd (field-there (fields_of c.args.fields.now) 1 (omega arith) (sym c.in_err-get-2.ensures.value))
-
-pub returns-in_err-get-3 : goal.returns-in_err-get-3
-returns-in_err-get-3 c = absurd (field-there (fields_of c.args.fields.now) 2 (omega arith) (sym c.in_err-get-3.ensures.value))
-
-pub returns-in_err-get-4 : goal.returns-in_err-get-4
-returns-in_err-get-4 c = absurd (field-there (fields_of c.args.fields.now) 3 (omega arith) (sym c.in_err-get-4.ensures.value))
-
-pub returns-in_err-get-5 : goal.returns-in_err-get-5
-returns-in_err-get-5 c = absurd (field-there (fields_of c.args.fields.now) 4 (omega arith) (sym c.in_err-get-5.ensures.value))
-
 pub returns : goal.returns
 returns c =
-    declaration_there (fields_of c.args.fields.now) c.in_ok-get.field-0.now c.in_ok-get-2.field-0.now c.in_ok-get-3.field-0.now c.in_ok-get-4.field-0.now c.in_ok-get-5.field-0.now
-    (omega arith) (sym c.in_ok-get.ensures.value) (sym c.in_ok-get-2.ensures.value) (sym c.in_ok-get-3.ensures.value) (sym c.in_ok-get-4.ensures.value) (sym c.in_ok-get-5.ensures.value)
+    declaration_there c.args.fields.now c.field.result.now c.field-2.result.now c.field-3.result.now c.field-4.result.now c.field-5.result.now
+    (omega arith) c.field.ensures c.field-2.ensures c.field-3.ensures c.field-4.ensures c.field-5.ensures

@@ -1,8 +1,7 @@
 use Rattle.std.proofs.Common.{sym, ap, ◌∙◌}
-use Rattle.csv.specs.Records.{fields_of}
 use Rattle.vtl_csv.proofs.DeclarationLemmas.{record_fits}
 use Rattle.vtl_csv.proofs.structures.add_record.Goals as goal
 
 pub add-requires : goal.add-requires
 add-requires c =
-    record_fits c.args.structures.now (fields_of c.args.fields.now) (c.in-Ok.dataset, c.in-Ok.component) (sym c.in_ok-dataset.ensures ∙ c.in-Ok.is)
+    record_fits c.args.structures.now c.args.fields.now (c.in-Ok.dataset, c.in-Ok.component) (sym c.in_ok-dataset.ensures ∙ c.in-Ok.is)
