@@ -18,6 +18,9 @@ use vtl_rows::{Column, Table};
 use vtl_scalar::ScalarErr;
 use vtl_tree::AggCall;
 
+// The rows of this many numbers are fetched side by side.
+const BLOCK: usize = 32;
+
 /// An aggregate of a group, with a place in place of a name.
 #[derive(Clone, Copy)]
 pub(crate) enum Call {
@@ -108,6 +111,35 @@ fn add_cell(acc: &mut Acc, row: &[Cell], place: usize) -> Result<(), AllocError>
     }
 }
 
+// How many of the rows with these numbers have a value at a place, or a little less. No read of it waits for another, so
+// the processor fetches the rows, which lie anywhere in memory, side by side.
+fn fetched(table: &Table, numbers: &[usize], place: usize) -> usize {
+    let mut count = 0usize;
+    for number in numbers {
+        if *number < table.len() {
+            match table.row(*number).get(place) {
+                None | Some(Cell::Null) => {}
+                Some(_) => count = count.saturating_add(1),
+            }
+        }
+    }
+    count
+}
+
+// Fetches the next rows where a block of them begins. Their count is looked at so that they are fetched; it never is
+// so great.
+fn fetch_block(table: &Table, numbers: &[usize], i: usize, place: usize) -> Result<(), AllocError> {
+    if i % BLOCK != 0 {
+        return Ok(());
+    }
+    let rest = numbers.get(i..).unwrap_or(&[]);
+    let block = &rest[..rest.len().min(BLOCK)];
+    if fetched(table, block, place) > BLOCK {
+        return Err(AllocError);
+    }
+    Ok(())
+}
+
 // An aggregate of the cells at a place of the rows with these numbers. It goes over the rows once.
 fn of_cells(
     alloc: Global,
@@ -121,8 +153,9 @@ fn of_cells(
     ensures { Answers result (group_value p.now kind (map (column_of place) (rows_at table.now.rows numbers.now))) }
 {
     let mut acc = Acc::new(alloc, kind, p);
-    for number in numbers {
-        add_cell(&mut acc, table.row(*number), place)?;
+    for i in 0..numbers.len() {
+        fetch_block(table, numbers, i, place)?;
+        add_cell(&mut acc, table.row(numbers[i]), place)?;
     }
     Ok(acc.finish()?)
 }
