@@ -65,6 +65,28 @@ fn wanted_lookup<'a, L: Ledger>(
     }
 }
 
+// The look-ups for the EXISTS of a condition, where they are wanted. The condition is given resolved, too.
+fn wanted_partners<'a, L: Ledger>(
+    alloc: Global,
+    by_index: bool,
+    sources: &'a Sources<'a>,
+    condition: &SqlExpr,
+    resolved: &Resolved,
+    p: &Profile,
+    steps: &mut Steps<L>,
+) -> Result<Partners<'a>, AllocError>
+    requires { by_index ≡ true → IsLawful (base_held p.now sources.now.held) }
+    ensures sources { IfOk result (λ x. x ≡ sources.now) }
+    ensures steps { asks (expr_tree condition.now) ≡ false → steps.new ≡ steps.old }
+{
+    let none = Partners::none(alloc, sources);
+    if by_index && asks(condition) {
+        none.with(alloc, resolved, p, steps)
+    } else {
+        Ok(none)
+    }
+}
+
 // Joins the tuples with the rows of a further source, which is the last one, by a condition on all sources. Rows are
 // looked up.
 fn found_on(
@@ -95,26 +117,31 @@ fn found_on(
     join_found(alloc, kind, &condition, keys, left, marks)
 }
 
-// The same, where each row is tried.
-fn each_on(
+// The same, where each row is tried. EXISTS is asked by look-ups where that is wanted.
+fn each_on<L: Ledger>(
     alloc: Global,
     kind: JoinKind,
     condition: &SqlExpr,
+    by_index: bool,
     sources: &Sources<'_>,
     left: &Walked,
     marks: &[usize],
     count: usize,
     p: &Profile,
+    steps: &mut Steps<L>,
 ) -> Result<Walked, ScalarErr>
     requires width { length sources.now.sources ≡ left.now.rows.width + 1 }
     requires marks { length marks.now ≡ left.now.rows.width }
+    requires lawful { by_index ≡ true → IsLawful (base_held p.now sources.now.held) }
     ensures width { IfOk result (λ w. w.rows.width ≡ left.now.rows.width + 1) }
     ensures rows { IfOk result (λ w. w.rows.tuples ≡ joined_tuples kind (condition_at p.now sources.now (expr_tree condition.now)) marks.now count left.now.rows.tuples) }
     ensures seen { IfOk result (λ w. seen_of w.seen ≡ join (seen_of left.now.seen) (pairs_fault (condition_at p.now sources.now (expr_tree condition.now)) count left.now.rows.tuples)) }
+    ensures steps { asks (expr_tree condition.now) ≡ false → steps.new ≡ steps.old }
     ensures err { IfErr result (λ e. e ≡ ScalarErr.OutOfMemory) }
 {
     let resolved = resolve(alloc, p, sources, &Level::Rows, condition)?;
-    let partners = Partners::none(alloc, sources);
+    let exp = &resolved.exp;
+    let partners = wanted_partners(alloc, by_index, sources, condition, exp, p, steps)?;
     let condition = SourceCondition {
         partners: &partners,
         expression: &resolved.exp,
@@ -124,12 +151,14 @@ fn each_on(
 }
 
 // The same, where rows are looked up if that is wanted and they can be. It takes a step for each row of both sources of a
-// look-up and for each tuple that it gives, or for each pair that is tried.
+// look-up and for each tuple that it gives, or for each pair that is tried. Where any look-ups are wanted, EXISTS is asked
+// by them, too.
 fn joined_on<L: Ledger>(
     alloc: Global,
     kind: JoinKind,
     condition: &SqlExpr,
     by_index: bool,
+    by_any: bool,
     sources: &Sources<'_>,
     left: &Walked,
     marks: &[usize],
@@ -139,6 +168,7 @@ fn joined_on<L: Ledger>(
     requires width { length sources.now.sources ≡ left.now.rows.width + 1 }
     requires marks { length marks.now ≡ left.now.rows.width }
     requires lawful { by_index ≡ true → IsLawful (base_held p.now sources.now.held) }
+    requires any { by_any ≡ true → IsLawful (base_held p.now sources.now.held) }
     ensures width { IfOk result (λ w. w.rows.width ≡ left.now.rows.width + 1) }
     ensures rows { IfOk result (λ w. w.rows.tuples ≡ joined_tuples kind (condition_at p.now sources.now (expr_tree condition.now)) marks.now (length (last_of sources.now).rows) left.now.rows.tuples) }
     ensures seen { IfOk result (λ w. seen_of w.seen ≡ join (seen_of left.now.seen) (pairs_fault (condition_at p.now sources.now (expr_tree condition.now)) (length (last_of sources.now).rows) left.now.rows.tuples)) }
@@ -154,30 +184,10 @@ fn joined_on<L: Ledger>(
         None => {
             let count = sources.last_count();
             count_pairs(left.rows.len(), count, steps);
-            each_on(alloc, kind, condition, sources, left, marks, count, p)
+            each_on(
+                alloc, kind, condition, by_any, sources, left, marks, count, p, steps,
+            )
         }
-    }
-}
-
-// The look-ups for the EXISTS of a condition, where they are wanted. The condition is given resolved, too.
-fn wanted_partners<'a, L: Ledger>(
-    alloc: Global,
-    by_index: bool,
-    sources: &'a Sources<'a>,
-    condition: &SqlExpr,
-    resolved: &Resolved,
-    p: &Profile,
-    steps: &mut Steps<L>,
-) -> Result<Partners<'a>, AllocError>
-    requires { by_index ≡ true → IsLawful (base_held p.now sources.now.held) }
-    ensures sources { IfOk result (λ x. x ≡ sources.now) }
-    ensures steps { asks (expr_tree condition.now) ≡ false → steps.new ≡ steps.old }
-{
-    let none = Partners::none(alloc, sources);
-    if by_index && asks(condition) {
-        none.with(alloc, resolved, p, steps)
-    } else {
-        Ok(none)
     }
 }
 
@@ -292,18 +302,21 @@ fn first_source<'a>(
 }
 
 impl<'a> Joining<'a> {
-    // With the source of a join, whose rows are looked up where that is wanted.
+    // With the source of a join, whose rows are looked up where that is wanted. Where any look-ups are wanted, the EXISTS of
+    // its ON is asked by them.
     fn with_join<L: Ledger>(
         self,
         alloc: Global,
         join: &Join,
         by_index: bool,
+        by_any: bool,
         p: &Profile,
         steps: &mut Steps<L>,
     ) -> Result<Joining<'a>, ScalarErr>
         requires whole { self.walked.rows.width ≡ length self.sources.sources }
         requires source { IsSourceTyped (tables_held self.sources.held) (scope_held self.sources.sources) (join_source (join_tree join.now)) }
         requires lawful { by_index ≡ true → IsLawful (base_held p.now self.sources.held) }
+        requires any { by_any ≡ true → IsLawful (base_held p.now self.sources.held) }
         ensures held { IfOk result (λ j. j.sources.held ≡ self.entry.sources.held) }
         ensures stands { IfOk result (λ j. (f : Joined) → StandsFor f self.entry.sources self.entry.walked.rows (seen_of self.entry.walked.seen) → StandsFor (with_join (base_held p.now self.entry.sources.held) f (join_tree join.now)) j.sources j.walked.rows (seen_of j.walked.seen)) }
         ensures steps { by_index ≡ true → (f : Joined) → StandsFor f self.entry.sources self.entry.walked.rows (seen_of self.entry.walked.seen) → JoinsTwo p.now self.entry.sources (join_tree join.now) → steps.new ≤ steps.old + two_counts self.entry.sources (join_tree join.now) + length (with_join (base_held p.now self.entry.sources.held) f (join_tree join.now)).rows }
@@ -319,7 +332,7 @@ impl<'a> Joining<'a> {
                 let marks = sources.marks(alloc)?;
                 let sources = sources.with(alloc, source)?;
                 let walked = joined_on(
-                    alloc, *kind, condition, by_index, &sources, &walked, &marks, p, steps,
+                    alloc, *kind, condition, by_index, by_any, &sources, &walked, &marks, p, steps,
                 )?;
                 Ok(Joining { sources, walked })
             }
@@ -463,7 +476,8 @@ fn joined<'a, L: Ledger>(
     let mut so_far = first_source(alloc, &select.from, tables)?;
     for place in 0..joins.len() {
         let tried = so_far.with_early(alloc, select, early, place, by_any, p, steps)?;
-        so_far = tried.with_join(alloc, &joins[place], is_listed(by_index, place), p, steps)?;
+        let listed = is_listed(by_index, place);
+        so_far = tried.with_join(alloc, &joins[place], listed, by_any, p, steps)?;
     }
     Ok(so_far)
 }
@@ -475,8 +489,9 @@ fn joined<'a, L: Ledger>(
 ///
 /// Where joins are listed, by their places, those of them whose ON is a conjunction of equalities of a column of its own
 /// source and one of one other source go by a look-up, in time for the rows of both and the pairs that are found, and so
-/// does an EXISTS of WHERE whose equalities each tie a column of its table and one of a source, the same for all. Every
-/// other join tries each pair, and every other EXISTS walks over its table; so do all of them where no list is given.
+/// does an EXISTS of an ON or of WHERE whose equalities each tie a column of its table and one of a source, the same for
+/// all. Every other join tries each pair, and every other EXISTS walks over its table; so do all of them where no list is
+/// given.
 ///
 /// Each part of WHERE that is listed to be tried early is tried before its join too, one after the other: the join sees
 /// the rows at which it is true, and its fault is told beside the others. WHERE is tried whole at the end.

@@ -4,7 +4,7 @@ use Rattle.sql_tree.specs.View.{expr_tree}
 use Rattle.sql_eval.specs.Placed.{placed_value}
 use Rattle.sql_eval.specs.View.{placed_of}
 use Rattle.sql_from.specs.Held.{rows_held}
-use Rattle.sql_from.specs.Joins.{Test, pairs_fault}
+use Rattle.sql_from.specs.Joins.{Test, joined_tuples, pairs_fault}
 use Rattle.sql_from.specs.Rows.{combined}
 use Rattle.sql_from.specs.Seen.{seen_of}
 use Rattle.sql_from.specs.Sources.{Sourced, parts_of}
@@ -12,8 +12,15 @@ use Rattle.sql_from.specs.Standing.{condition_at}
 use Rattle.sql_from.proofs.selects.each_on.Goals as goal
 
 pub returns-clause-seen : goal.returns-clause-seen
-returns-clause-seen c =
+returns-clause-seen g c =
     let s = c.args.sources.now in
     let value : Sourced → Test = λ t x. placed_value c.args.p.now (rows_held t.held) (placed_of c.in_ok-resolved.resolved.exp) (combined (parts_of t.sources) x) [] in
-    let on : value c.none-partners.result ≡ condition_at c.args.p.now s (expr_tree c.args.condition.now) = ap value c.none-partners.ensures ∙ λ i x. c.in_ok-resolved.ensures.value_is (rows_held s.held) (combined (parts_of s.sources) x) [] i in
+    let on : value c.in_ok-partners.partners ≡ condition_at c.args.p.now s (expr_tree c.args.condition.now) = ap value c.in_ok-partners.ensures.sources ∙ λ i x. c.in_ok-resolved.ensures.value_is (rows_held s.held) (combined (parts_of s.sources) x) [] i in
     subst (λ (f : Test). IfOk c.join_each.result (λ w. seen_of w.seen ≡ join (seen_of c.args.left.now.seen) (pairs_fault f c.args.count c.args.left.now.rows.tuples))) on c.join_each.ensures.seen
+
+pub returns-clause-rows : goal.returns-clause-rows
+returns-clause-rows g c =
+    let s = c.args.sources.now in
+    let value : Sourced → Test = λ t x. placed_value c.args.p.now (rows_held t.held) (placed_of c.in_ok-resolved.resolved.exp) (combined (parts_of t.sources) x) [] in
+    let on : value c.in_ok-partners.partners ≡ condition_at c.args.p.now s (expr_tree c.args.condition.now) = ap value c.in_ok-partners.ensures.sources ∙ λ i x. c.in_ok-resolved.ensures.value_is (rows_held s.held) (combined (parts_of s.sources) x) [] i in
+    subst (λ (f : Test). IfOk c.join_each.result (λ w. w.rows.tuples ≡ joined_tuples c.args.kind f c.args.marks.now c.args.count c.args.left.now.rows.tuples)) on c.join_each.ensures.rows

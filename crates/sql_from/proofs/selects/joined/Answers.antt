@@ -91,14 +91,19 @@ loop-place-preserved g c =
             stands = λ e. absurd (omega (arith, e));
             most = join_taken p held s c.requires.typed.joins plain (join_tree x) (only_join s (join_tree x) js plain.one (ap (λ n. map join_tree (drop n joins)) (sym start) ∙ next)) i old.sources old.walked.rows (seen_of old.walked.seen) c.args.steps.now c.loop-place.steps taken start c.loop-place.invariant.held
                 (early_at s early i) tried.sources tried.walked.rows (seen_of tried.walked.seen) c.in_ok-tried.ensures.sources c.in_ok-tried.ensures.stands c.with_early.new.steps c.with_join.new.steps (c.with_early.ensures.steps plain.condition)
-                (c.with_join.ensures.steps (c.is_listed.ensures.listed ∙ ap (is_listed c.args.by_index) start ∙ listed));
+                (c.with_join.ensures.steps (c.is_listed-listed.ensures.listed ∙ ap (is_listed c.args.by_index) start ∙ listed));
           };
     }
 
 pub with_join-requires-clause-lawful : goal.with_join-requires-clause-lawful
 with_join-requires-clause-lawful g c e =
     let same = ap (λ (z : Sourced). z.held) c.in_ok-tried.ensures.sources ∙ c.loop-place.invariant.held in
-    subst (λ (h : NamedTables). IsLawful (base_held c.args.p.now h)) (sym same) (allowed (base_held c.args.p.now c.args.tables.now) c.args.by_index (c.is_listed.ensures.some e) c.requires.lawful)
+    subst (λ (h : NamedTables). IsLawful (base_held c.args.p.now h)) (sym same) (allowed (base_held c.args.p.now c.args.tables.now) c.args.by_index (c.is_listed-listed.ensures.some e) c.requires.lawful)
+
+pub with_join-requires-clause-any : goal.with_join-requires-clause-any
+with_join-requires-clause-any g c e =
+    let same = ap (λ (z : Sourced). z.held) c.in_ok-tried.ensures.sources ∙ c.loop-place.invariant.held in
+    subst (λ (h : NamedTables). IsLawful (base_held c.args.p.now h)) (sym same) (allowed (base_held c.args.p.now c.args.tables.now) c.args.by_index (sym c.is_some-by_any.ensures ∙ e) c.requires.lawful)
 
 pub returns-in_err-so_far-2-clause-steps : goal.returns-in_err-so_far-2-clause-steps
 returns-in_err-so_far-2-clause-steps g c listed plain =
@@ -116,4 +121,4 @@ returns-in_err-so_far-2-clause-steps g c listed plain =
     let start = only_place s joins i items plain.one refl same c.loop-place-test.true in
     join_taken p c.args.tables.now s c.requires.typed.joins plain (join_tree x) (only_join s (join_tree x) (map join_tree (drop (i + 1) joins)) plain.one (ap (λ n. map join_tree (drop n joins)) (sym start) ∙ next)) i old.sources old.walked.rows (seen_of old.walked.seen) c.args.steps.now c.loop-place.steps taken start c.loop-place.invariant.held
     (early_at s c.args.early.now i) tried.sources tried.walked.rows (seen_of tried.walked.seen) c.in_ok-tried.ensures.sources c.in_ok-tried.ensures.stands c.with_early.new.steps c.with_join.new.steps (c.with_early.ensures.steps plain.condition)
-    (c.with_join.ensures.steps (c.is_listed.ensures.listed ∙ ap (is_listed c.args.by_index) start ∙ listed))
+    (c.with_join.ensures.steps (c.is_listed-listed.ensures.listed ∙ ap (is_listed c.args.by_index) start ∙ listed))

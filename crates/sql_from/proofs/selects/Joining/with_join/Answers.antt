@@ -62,6 +62,9 @@ returns-clause-stands g c =
 pub joined_on-requires-clause-lawful : goal.joined_on-requires-clause-lawful
 joined_on-requires-clause-lawful g c e = subst (λ (h : NamedTables). IsLawful (base_held c.args.p.now h)) (sym c.in_ok-sources-in-On.ensures.held) (c.requires.lawful e)
 
+pub joined_on-requires-clause-any : goal.joined_on-requires-clause-any
+joined_on-requires-clause-any g c e = subst (λ (h : NamedTables). IsLawful (base_held c.args.p.now h)) (sym c.in_ok-sources-in-On.ensures.held) (c.requires.any e)
+
 pub returns-in-On-clause-steps : goal.returns-in-On-clause-steps
 returns-in-On-clause-steps g c by f before two =
     let s : Sourced = c.args.self.sources in
