@@ -17,3 +17,5 @@ pub mod MadeRows
 pub mod PlannedSelects
 pub mod WholeQueries
 pub mod Counted
+pub mod ItemWalks
+pub mod SimpleRows

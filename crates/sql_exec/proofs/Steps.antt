@@ -6,6 +6,10 @@ use Rattle.std.proofs.lemmas.List.{map-append, take_more}
 use Rattle.vtl_cell.specs.Outcome.{Fault, faults_by, join}
 use Rattle.sql_window.proofs.UpToOrder.{faults_by-append, join_assoc, join_none}
 
+-- a fact along an equation
+pub along : {X : Type 0} {x y : X} → x ≡ y → (P : X → Type 0) → P x → P y
+along e P h = subst P e h
+
 -- ---- at one place
 
 pub holds_at : {X : Type 0} (P : X → Type 0) (xs : List X) (i : ℕ) (x : X) → AllByRecursion P xs → i < length xs → x ≡ get_or xs i x → P x

@@ -14,11 +14,14 @@ pub use Rattle.sql_window.specs.Outcomes
 pub use Rattle.sql_window.specs.Profiles
 pub use Rattle.sql_window.specs.Scripts
 pub use Rattle.sql_window.specs.Selects
+pub use Rattle.sql_window.specs.Steps
 pub use Rattle.sql_window.specs.Tables
 pub use Rattle.sql_window.specs.Values
 pub use Rattle.sql_window.specs.Windows
 pub mod Answers
 pub mod Gathered
+pub mod ItemCells
 pub mod Items
 pub mod Outputs
 pub mod Parts
+pub mod SimpleItems

@@ -17,8 +17,8 @@ use std::alloc::{AllocError, Global};
 use vtl_cell::{Kind, is_same_kind};
 use vtl_rows::Column;
 
-// The place of the cells of an item in the rows of FROM, if it is a column of this kind.
-fn column_place<N: Names>(names: &N, item: &Item, kind: Kind) -> Option<usize>
+/// The place of the cells of an item in the rows of FROM, if it is a column of this kind.
+pub(crate) fn column_place<N: Names>(names: &N, item: &Item, kind: Kind) -> Option<usize>
     ensures { IfSome result (IsColumnAt (N.scope names.now) (item_tree item.now, kind)) }
 {
     let ItemValue::Expr(value) = &item.value else {

@@ -17,7 +17,7 @@ ghost use Rattle.sql_exec.specs.Items.{HasValuesOf, HaveValuesOf, made_at_row, m
 
 use sql_eval::{Cells, Level, Resolved, resolve, value_at};
 use sql_tree::{Item, ItemValue};
-use sql_window::{Seen, TupleRows, window_values};
+use sql_window::{Seen, TabledRows, TupleRows, window_values};
 use std::alloc::{AllocError, Global};
 use vtl_cell::{Cell, Kind, Profile, clone_cell};
 use vtl_decimal::Fault;
@@ -104,7 +104,10 @@ fn item_values(
             let resolved = resolve(alloc, p, &rows.sources, &Level::Rows, e)?;
             Ok(ItemValues::Expression(resolved.exp))
         }
-        ItemValue::Window(window) => Ok(ItemValues::Window(window_values(alloc, rows, window, p)?)),
+        ItemValue::Window(window) => {
+            let tabled = TabledRows::of(alloc, rows)?;
+            Ok(ItemValues::Window(window_values(alloc, &tabled, window, p)?))
+        }
     }
 }
 

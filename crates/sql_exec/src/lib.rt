@@ -9,10 +9,12 @@
 
 mod columns;
 mod gathered;
+mod item_cells;
 mod items;
 mod output;
 mod queries;
 mod selects;
+mod simple_items;
 mod window_kinds;
 
 pub use queries::{exec, source_rows};

@@ -1,12 +1,15 @@
 // What the selects of a query gave so far.
-ghost use Rattle.std.specs.Prelude.{◌≡◌, ◌<◌, ◌∷◌, [], true, length, None, Ok, IfErr, OnOk};
+ghost use Rattle.std.specs.Prelude.{◌≡◌, ◌<◌, ◌∷◌, [], true, List, drop, length, map, None, Ok, IfErr, OnOk};
+ghost use Rattle.vtl_cell.specs.Row.{Row};
 ghost use Rattle.vtl_cell.specs.Outcome.{unless};
 ghost use Rattle.vtl_rows.specs.Tables.{fits};
 ghost use Rattle.sql_window.specs.Outcomes.{row_at, row_fault};
 ghost use Rattle.sql_window.specs.Seen.{answer_of};
+ghost use Rattle.sql_exec.specs.ItemCells.{next_value, values_in};
 ghost use Rattle.sql_exec.specs.Items.{made_at_row};
 ghost use Rattle.sql_exec.specs.Outputs.{Adds, Sees, fault_seen};
 
+use crate::item_cells::{ItemCells, push_across};
 use crate::items::{RowItem, push_items};
 use sql_eval::Cells;
 use sql_window::Seen;
@@ -65,6 +68,26 @@ impl Output {
     {
         self.cells.clear();
         self.seen = push_items(alloc, &mut self.cells, self.seen, items, at, number, p)?;
+        if let Seen::Nothing = self.seen {
+            self.table.push_cells(&mut self.cells)?;
+        }
+        Ok(())
+    }
+
+    /// Adds the row of the values of items at the next row of FROM, which is this one.
+    pub(crate) fn add_across(
+        &mut self,
+        items: &mut [ItemCells],
+        row: &[Cell],
+        p: &Profile,
+    ) -> Result<(), ScalarErr>
+        requires { row_fault (next_value p.now) items.old row.now ≡ None → fits self.old.table.columns (row_at (next_value p.now) items.old row.now) ≡ true }
+        ensures adds { OnOk result (Adds (unless (row_fault (next_value p.now) items.old row.now) (row_at (next_value p.now) items.old row.now ∷ [])) self.old self.new) }
+        ensures others { OnOk result ((rows : List Row) → map (values_in p.now rows) items.new ≡ map (λ x. drop 1 (values_in p.now (row.now ∷ rows) x)) items.old) }
+        ensures err { IfErr result (λ e. e ≡ ScalarErr.OutOfMemory) }
+    {
+        self.cells.clear();
+        self.seen = push_across(&mut self.cells, self.seen, items, row, p)?;
         if let Seen::Nothing = self.seen {
             self.table.push_cells(&mut self.cells)?;
         }

@@ -24,6 +24,7 @@ ghost use Rattle.sql_exec.specs.Parts.{HasRowsOf, IsPart, MakesKinds, phase_of};
 use crate::gathered::{add_gathered, column_places};
 use crate::items::{ItemValues, RowItem, row_items};
 use crate::output::Output;
+use crate::simple_items::{add_simple, simple_items};
 use sql_check_queries::is_grouped;
 use sql_eval::Early;
 use sql_tree::{Item, ItemValue, Select};
@@ -96,8 +97,8 @@ fn wanted_partners<'a, L: Ledger>(
     }
 }
 
-// Adds a row of the items for each row of FROM. Where all items are columns, their cells are gathered, and no expression
-// is evaluated.
+// Adds a row of the items for each row of FROM. Where all items are columns, their cells are gathered; where they are
+// columns and windows, no expression is evaluated.
 fn add_rows<L: Ledger>(
     alloc: Global,
     out: &mut Output,
@@ -120,6 +121,9 @@ fn add_rows<L: Ledger>(
     if let Some(places) = column_places(alloc, &rows.sources, items, kinds)? {
         add_gathered(alloc, out, rows, &places)?;
         return Ok(());
+    }
+    if let Some(simple) = simple_items(alloc, &rows.sources, items, kinds)? {
+        return add_simple(alloc, out, items, &simple, rows, kinds, p);
     }
     let resolved = row_items(alloc, p, rows, items, kinds)?;
     let partners = wanted_partners(alloc, &rows.sources, items, &resolved, p, steps)?;

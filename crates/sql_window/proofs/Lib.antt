@@ -17,3 +17,4 @@ pub mod PutLemmas
 pub mod RankLemmas
 pub mod StandLemmas
 pub mod StretchLemmas
+pub mod TabledLemmas

@@ -13,7 +13,8 @@ ghost use Rattle.sql_window.specs.Runs.{window_at};
 
 use crate::calls::{Outcomes, push_call};
 use crate::keys::{all_keys, order_keys, partition_keys};
-use sql_groups::{Sources, TupleRows};
+use crate::tabled_rows::TabledRows;
+use sql_groups::Sources;
 use sql_tree::Window;
 use std::alloc::{AllocError, Global};
 use vtl_cell::{Cell, Profile};
@@ -96,21 +97,22 @@ pub(crate) fn put_back(
 /// The values of a window at the rows of FROM that WHERE keeps, in the order of the rows; a fault stands for a value
 /// where there is one. It fails only if memory runs out.
 ///
-/// It takes a table of the rows, whose texts are shared, and the time of a sort; what else it does grows with the rows
-/// alone, but for frames of a median, which no window has.
+/// It takes the time of a sort; what else it does grows with the rows alone, but for frames of a median, which no window
+/// has.
 pub fn window_values(
     alloc: Global,
-    rows: &TupleRows<'_>,
+    rows: &TabledRows<'_>,
     window: &Window,
     p: &Profile,
 ) -> Result<Vec<Result<Cell, Fault>>, AllocError>
-    requires partition { AllByRecursion (λ x. place_in (scope_held rows.now.sources.sources) x < length (row_of (scope_held rows.now.sources.sources))) window.now.over.partition }
-    requires order { AllByRecursion (λ k. place_in (scope_held rows.now.sources.sources) k.column < length (row_of (scope_held rows.now.sources.sources))) window.now.over.order }
-    ensures { IfOk result (λ v. v.items ≡ map (window_value (sight_of p.now rows.now.sources) window.now (rows_for rows.now.sources rows.now.tuples)) (told_apart (rows_for rows.now.sources rows.now.tuples))) }
+    requires partition { AllByRecursion (λ x. place_in (scope_held rows.now.rows.now.sources.sources) x < length (row_of (scope_held rows.now.rows.now.sources.sources))) window.now.over.partition }
+    requires order { AllByRecursion (λ k. place_in (scope_held rows.now.rows.now.sources.sources) k.column < length (row_of (scope_held rows.now.rows.now.sources.sources))) window.now.over.order }
+    ensures { IfOk result (λ v. v.items ≡ map (window_value (sight_of p.now rows.now.rows.now.sources) window.now (rows_for rows.now.rows.now.sources rows.now.rows.now.tuples)) (told_apart (rows_for rows.now.rows.now.sources rows.now.rows.now.tuples))) }
 {
-    let table = rows.table(alloc)?;
-    let partition = partition_keys(alloc, &rows.sources, window.over.partition.as_slice())?;
-    let order = order_keys(alloc, &rows.sources, window.over.order.as_slice())?;
+    let table = rows.table();
+    let sources = rows.sources();
+    let partition = partition_keys(alloc, sources, window.over.partition.as_slice())?;
+    let order = order_keys(alloc, sources, window.over.order.as_slice())?;
     let keys = all_keys(alloc, &partition, &order, table.columns().len())?;
     let places = table.places_by_columns(alloc, &keys)?;
     let starts = table.runs(alloc, &places, &partition)?;
@@ -118,8 +120,8 @@ pub fn window_values(
     push_partitions(
         alloc,
         &mut values,
-        &rows.sources,
-        &table,
+        sources,
+        table,
         &places,
         &starts,
         window,

@@ -9,35 +9,41 @@ use Rattle.vtl_rows.specs.Runs.{is_start}
 use Rattle.sql_eval.specs.Values.{place_in}
 use Rattle.sql_eval.specs.Windows.{told_apart, window_value}
 use Rattle.sql_groups.specs.Held.{base_held}
-use Rattle.sql_groups.specs.Sources.{scope_held}
-use Rattle.sql_groups.specs.Standing.{sight_of}
+use Rattle.sql_groups.specs.Sources.{Sourced, scope_held}
+use Rattle.sql_groups.specs.Standing.{rows_for, sight_of}
 use Rattle.sql_window.specs.Keys.{AreCut, order_key, partition_key, rising_key}
 use Rattle.sql_window.specs.Runs.{window_at}
-use Rattle.sql_window.proofs.PutLemmas.{columns_many, keys_within, order_named, partition_named, told_rows}
+use Rattle.sql_window.proofs.PutLemmas.{keys_within, order_named, partition_named, told_rows}
 use Rattle.sql_window.proofs.windows.window_values.Goals as goal
 
 pub places_by_columns-requires : goal.places_by_columns-requires
 places_by_columns-requires c =
-    let scope = scope_held c.args.rows.now.sources.sources in
+    let s = c.sources-sources.result.now in
+    let scope = scope_held s.sources in
     let o = c.args.window.now.over in
-    let n = length c.in_ok-table.table.columns in
-    let many = ap length c.in_ok-table.ensures.columns ∙ columns_many scope in
+    let n = length c.table-table.result.now.columns in
+    let wide = c.table-table.ensures.wide in
+    let partition : AllByRecursion (λ x. place_in scope x < n) o.partition =
+    subst (λ (z : Sourced). AllByRecursion (λ x. place_in (scope_held z.sources) x < n) o.partition) (sym c.sources-sources.ensures)
+    (subst (λ m. AllByRecursion (λ x. place_in (scope_held c.args.rows.now.rows.now.sources.sources) x < m) o.partition) (sym wide) c.requires.partition) in
+    let order : AllByRecursion (λ k. place_in scope k.column < n) o.order =
+    subst (λ (z : Sourced). AllByRecursion (λ k. place_in (scope_held z.sources) k.column < n) o.order) (sym c.sources-sources.ensures)
+    (subst (λ m. AllByRecursion (λ k. place_in (scope_held c.args.rows.now.rows.now.sources.sources) k.column < m) o.order) (sym wide) c.requires.order) in
     let part = c.deref.ensures.value ∙ c.in_ok-partition.ensures ∙ ap (map (partition_key scope)) c.as_slice.ensures in
     let ord = c.deref-2.ensures.value ∙ c.in_ok-order.ensures ∙ ap (map (order_key scope)) c.as_slice-2.ensures in
     let keys = c.deref-3.ensures.value ∙ c.in_ok-keys.ensures ∙ ap (λ l. (l ++ c.deref-2.result.now) ++ map rising_key (range_with_len 0 (length c.columns.result.now))) part
     ∙ ap (λ l. (map (partition_key scope) o.partition ++ l) ++ map rising_key (range_with_len 0 (length c.columns.result.now))) ord
     ∙ ap (λ l. (map (partition_key scope) o.partition ++ map (order_key scope) o.order) ++ map rising_key (range_with_len 0 (length l))) c.columns.ensures.columns in
-    subst (All (λ k. k.column < n)) (sym keys)
-    (keys_within scope o n (subst (λ m. AllByRecursion (λ x. place_in scope x < m) o.partition) (sym many) c.requires.partition) (subst (λ m. AllByRecursion (λ k. place_in scope k.column < m) o.order) (sym many) c.requires.order))
+    subst (All (λ k. k.column < n)) (sym keys) (keys_within scope o n partition order)
 
 pub push_partitions-requires : goal.push_partitions-requires
 push_partitions-requires c =
-    let sources = c.args.rows.now.sources in
+    let sources = c.sources-sources.result.now in
     let scope = scope_held sources.sources in
     let v = sight_of c.args.p.now sources in
     let o = c.args.window.now.over in
-    let rows = c.in_ok-table.table.rows in
-    let n = length c.in_ok-table.table.columns in
+    let rows = c.table-table.result.now.rows in
+    let n = length c.table-table.result.now.columns in
     let p0 = map (partition_key scope) o.partition in
     let o0 = map (order_key scope) o.order in
     let partition_is = c.in_ok-partition.ensures ∙ ap (map (partition_key scope)) c.as_slice.ensures in
@@ -64,7 +70,7 @@ push_partitions-requires c =
 
 pub put_back-requires-clause-all : goal.put_back-requires-clause-all
 put_back-requires-clause-all c =
-    let rows = c.in_ok-table.table.rows in
+    let rows = c.table-table.result.now.rows in
     let places = c.in_ok-places.places.items in
     let all = c.in_ok-places.ensures.order.all in
     let many = sym (length-range_with_len 0 (length rows)) ∙ length-Perm (Perm-from_IsPermutation (range_with_len 0 (length rows)) places all) in
@@ -72,9 +78,10 @@ put_back-requires-clause-all c =
 
 pub returns : goal.returns
 returns c =
-    let v = sight_of c.args.p.now c.args.rows.now.sources in
+    let v = sight_of c.args.p.now c.sources-sources.result.now in
     let w = c.args.window.now in
-    let rows = c.in_ok-table.table.rows in
+    let told = rows_for c.args.rows.now.rows.now.sources c.args.rows.now.rows.now.tuples in
+    let rows = c.table-table.result.now.rows in
     let places = c.in_ok-places.places.items in
     let all = c.in_ok-places.ensures.order.all in
     let many = sym (length-Perm (Perm-from_IsPermutation (range_with_len 0 (length rows)) places all)) ∙ length-range_with_len 0 (length rows) in
@@ -82,5 +89,6 @@ returns c =
     let values = c.in_ok-push_partitions.ensures ∙ ap (λ l. l ++ map f c.deref-6.result.now) c.in_ok-values.ensures.items ∙ ap (map f) (c.deref-6.ensures.value ∙ sym c.deref-9.ensures.value) in
     IfOk-weaker c.put_back.result _ _
     (λ r e. e ∙ ap (λ l. map f (range_with_len 0 (length l))) c.deref-9.ensures.value ∙ ap (λ m. map f (range_with_len 0 m)) many ∙ told_rows v w rows
-    ∙ ap (λ l. map (window_value v w l) (told_apart l)) c.in_ok-table.ensures.rows)
+    ∙ ap (λ l. map (window_value v w l) (told_apart l)) c.table-table.ensures.rows
+    ∙ ap (λ (z : Sourced). map (window_value (sight_of c.args.p.now z) w told) (told_apart told)) c.sources-sources.ensures)
     (c.put_back.ensures f values)
