@@ -1,10 +1,12 @@
 // One statement, over the tables that are held.
-ghost use Rattle.std.specs.Prelude.{◌≡◌, IfOk, None, Ok, OnOk, map};
+ghost use Rattle.std.specs.Prelude.{◌≡◌, ◌+◌, ◌≤◌, ◌∷◌, [], IfOk, None, Ok, OnOk, map};
 ghost use Rattle.vtl_rows.specs.Named.{table_of};
+ghost use Rattle.sql_tree.specs.Trees.{SelectTree};
 ghost use Rattle.sql_tree.specs.View.{query_tree, statement_tree};
 ghost use Rattle.sql_exec.specs.Queries.{query_columns};
 ghost use Rattle.sql_exec.specs.TypingStatements.{input_columns};
 ghost use Rattle.sql_exec.specs.Selects.{query_value};
+ghost use Rattle.sql_exec.specs.Steps.{IsPlainJoin, most_steps};
 ghost use Rattle.sql_exec.specs.Tables.{HasTable, column_entry, rows_of};
 ghost use Rattle.sql_exec.specs.Answers.{Gives};
 ghost use Rattle.sql_exec.specs.Held.{base_held, tables_held};
@@ -34,7 +36,8 @@ fn run_input(input: &SqlInput, inputs: &Inputs, tables: &mut Tables) -> Result<(
     }
 }
 
-// The table of a query.
+// The table of a query. One select over two sources, whose ON is a conjunction of equalities of a column of each, takes
+// at most one step for each row of both and for each row that FROM gives, if it is not grouped and asks no EXISTS.
 fn query_table<L: Ledger>(
     alloc: Global,
     query: &Query,
@@ -45,6 +48,7 @@ fn query_table<L: Ledger>(
     requires { MayQuery p.now (query_tree query.now) tables.now }
     ensures columns { IfOk result (λ t. map column_entry t.columns ≡ query_columns (tables_held tables.now) (query_tree query.now)) }
     ensures rows { Gives (query_value (base_held p.now tables.now) (query_tree query.now)) result }
+    ensures steps { (s : SelectTree) → query_tree query.now ≡ s ∷ [] → IsPlainJoin s → steps.new ≤ steps.old + most_steps (base_held p.now tables.now) s }
 {
     let plan = plan(alloc, query)?;
     exec(alloc, &plan, tables, p, steps)
