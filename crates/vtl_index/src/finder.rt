@@ -14,6 +14,9 @@ use std::alloc::{AllocError, Global};
 // looked for.
 pub(crate) const BLOCK: usize = 32;
 
+// Rows mostly have few keys where they are grouped. Slots for so many stay near the processor, and are tried first.
+const FEW_KEYS: usize = 8_192;
+
 // How keys are found.
 #[derive(Drop)]
 pub(crate) enum Finder {
@@ -103,18 +106,19 @@ fn push_leads(
     Ok(true)
 }
 
-// The leads by hash. None where that is given up.
+// The leads by hash, with slots for so many keys. None where that is given up.
 fn led_by_hash(
     alloc: Global,
     keyed: &KeyedRows,
     hashing: Hashing,
+    count: usize,
 ) -> Result<Option<Led>, AllocError>
     ensures { IfOk result (λ found. IfSome found (IsLed keyed.now)) }
 {
     if keyed.len() > u32::MAX as usize {
         return Ok(None);
     }
-    let mut slots = RowSlots::new(alloc, keyed, hashing)?;
+    let mut slots = RowSlots::new(alloc, keyed, hashing, count)?;
     let mut leads = Vec::with_capacity(alloc, keyed.len())?;
     let mut hashes = Vec::with_capacity(alloc, keyed.len().min(BLOCK))?;
     let mut first = 0;
@@ -151,12 +155,18 @@ fn leads_in_order(
     Ok(leads)
 }
 
-// The leads, by hash, and by a sort where cells were chosen to have like hashes both ways.
+// The leads, by hash, first with slots for few keys and then for as many as there are rows, and by a sort where cells were
+// chosen to have like hashes both ways.
 pub(crate) fn led_of(alloc: Global, keyed: &KeyedRows) -> Result<Led, AllocError>
     ensures { IfOk result (IsLed keyed.now) }
 {
-    for hashing in [Hashing::Plain, Hashing::Salted] {
-        if let Some(led) = led_by_hash(alloc, keyed, hashing)? {
+    let all = keyed.len();
+    for (hashing, count) in [
+        (Hashing::Plain, all.min(FEW_KEYS)),
+        (Hashing::Plain, all),
+        (Hashing::Salted, all),
+    ] {
+        if let Some(led) = led_by_hash(alloc, keyed, hashing, count)? {
             return Ok(led);
         }
     }

@@ -7,8 +7,8 @@ ghost use Rattle.vtl_index.specs.RowSlots.{IsFilled, Meets, Seeks, end_of, start
 use crate::row_keys::{Hashing, KeyedRows, RowKey, tag_of};
 use std::alloc::{AllocError, Global};
 
-// There are at least this many slots for each row.
-const SLOTS_FOR_A_ROW: usize = 2;
+// There are this many slots for each key.
+const SLOTS_FOR_A_KEY: usize = 2;
 
 // No more than this many slots are looked at for a key: with more, the cost would depend on luck.
 const MAX_PROBES: usize = 128;
@@ -30,11 +30,13 @@ pub(crate) enum Place {
     Unknown,
 }
 
+// The keys of rows, each in a slot, and how many more keys are taken in.
 #[derive(Drop)]
 pub(crate) struct RowSlots {
     pub(crate) hashing: Hashing,
     pub(crate) mask: usize,
     pub(crate) slots: Vec<RowSlot>,
+    left: usize,
 }
 
 // This many slots of no row.
@@ -52,18 +54,18 @@ fn free_slots(alloc: Global, count: usize) -> Result<Vec<RowSlot>, AllocError>
 }
 
 impl RowSlots {
-    // No rows yet, of the rows of a table.
+    // No rows yet, of the rows of a table, with slots for so many keys.
     pub(crate) fn new(
         alloc: Global,
         keyed: &KeyedRows,
         hashing: Hashing,
+        count: usize,
     ) -> Result<RowSlots, AllocError>
         requires { count_in keyed.now < 2 ^ 32 }
         ensures { IfOk result (λ t. IsFilled t.hashing (keys_in keyed.now) (count_in keyed.now) t.mask t.slots.items 0) }
     {
-        let room = keyed
-            .len()
-            .saturating_mul(SLOTS_FOR_A_ROW)
+        let room = count
+            .saturating_mul(SLOTS_FOR_A_KEY)
             .checked_next_power_of_two()
             .unwrap_or(1);
         let slots = free_slots(alloc, room.saturating_add(MAX_PROBES))?;
@@ -71,6 +73,7 @@ impl RowSlots {
             hashing,
             mask: room.saturating_sub(1),
             slots,
+            left: count,
         })
     }
 
@@ -144,7 +147,7 @@ impl RowSlots {
     }
 
     // The first row that has the key of a row, of which this is the hash. Where the row itself is the first, it is put in a
-    // slot. None where the search is given up.
+    // slot. None where the search is given up, or more keys came than slots were made for.
     pub(crate) fn meet(&mut self, keyed: &KeyedRows, i: usize, hash: u64) -> Option<usize>
         requires few { count_in keyed.now < 2 ^ 32 }
         requires within { i < count_in keyed.now }
@@ -158,6 +161,10 @@ impl RowSlots {
             Place::Held(row) => Some(row),
             Place::Unknown => None,
             Place::Free(place) => {
+                if self.left == 0 {
+                    return None;
+                }
+                self.left -= 1;
                 self.slots[place] = RowSlot {
                     tag: tag_of(hash),
                     row: i as u32,

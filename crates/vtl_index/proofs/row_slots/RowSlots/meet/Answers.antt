@@ -14,8 +14,8 @@ returns-in-Held-clause-meets c =
       one_more t.hashing keys n t.mask t.slots.items c.args.i c.requires.filled held.stands,
     )
 
-pub returns-in-Free-clause-meets : goal.returns-in-Free-clause-meets
-returns-in-Free-clause-meets c =
+pub returns-else-self-eq0-clause-meets : goal.returns-else-self-eq0-clause-meets
+returns-else-self-eq0-clause-meets c =
     let keys = keys_in c.args.keyed.now in
     let n = count_in c.args.keyed.now in
     let t = c.args.self.now in
