@@ -1,5 +1,5 @@
 -- Steps of the loop over the fields of a record.
-use Rattle.std.proofs.Common.{◌≡◌, ℕ, ◌+◌, ◌<◌, ◌≤◌, ◌==◌, List, [], ◌∷◌, ◌++◌, Bool, true, false, cond, chars, get_or, option_map, drop, length, Option, Some, None, Result, Ok, Err, refl, ap, sym, ◌∙◌, arith}
+use Rattle.std.proofs.Common.{◌≡◌, ℕ, ◌+◌, ◌<◌, ◌≤◌, ◌==◌, List, [], ◌∷◌, Bool, true, false, cond, chars, get_or, drop, length, Option, Some, None, Result, Ok, Err, refl, ap, sym, ◌∙◌, arith, length-append}
 use Rattle.std.specs.List.{zip}
 use Rattle.std.specs.Prelude.{IsUtf8}
 use Rattle.std.specs.Str.{is_utf8}
@@ -8,9 +8,7 @@ use Rattle.std.proofs.lemmas.List.{drop_all, drop_more}
 use Rattle.std.proofs.lemmas.Str.{IsUtf8-from_is_utf8, IsUtf8-nil, is_utf8-from_IsUtf8}
 use Rattle.vtl_cell.specs.Settings.{Settings}
 use Rattle.vtl_cell.specs.declared.cell.Cell.{Cell}
-use Rattle.vtl_cell.specs.declared.cell.Cell.TheVariants as c
 use Rattle.vtl_cell.specs.declared.kind.Kind.{Kind}
-use Rattle.vtl_cell.specs.declared.kind.Kind.TheVariants as k
 use Rattle.vtl_cell.specs.Reading.{reads}
 use Rattle.vtl_cell.specs.Row.{Row}
 use Rattle.vtl_tree.specs.declared.structure.Component.{Component}
@@ -18,6 +16,7 @@ use Rattle.vtl_csv.specs.declared.input.InputKind.{InputKind}
 use Rattle.vtl_csv.specs.declared.input.InputKind.TheVariants as i
 use Rattle.vtl_csv.specs.Declarations.{text_in}
 use Rattle.vtl_csv.specs.InputFields.{at_column, coded_cell, field_cell, row_with, text_cell}
+use Rattle.vtl_csv.specs.InputSteps.{Goes}
 use Rattle.vtl_csv.proofs.PointLemmas.{pair_at, zip_ended, zip_within}
 
 -- a field that is a text, or none
@@ -46,14 +45,17 @@ pub field_value : (p : Settings) (x : Component) (f t : List ℕ) (kind : Kind) 
 field_value p x f t kind o some h same of_kind e =
     ap (coded_cell x) (e ∙ ap (λ m. reads p m t) of_kind ∙ ap (reads p x.kind) same) ∙ sym (field_read p x f some h)
 
--- a field of a column of texts
-pub field_shared : (p : Settings) (x : Component) (f t : List ℕ) → 0 < length f → x.kind ≡ k.Text → Some t ≡ text_in f → coded_cell x (Some (c.Text t)) ≡ field_cell p x f
-field_shared p x f t some of_texts found = go (is_utf8 f) refl found
-  where
-    go : (b : Bool) → is_utf8 f ≡ b → Some t ≡ cond b (Some (chars f)) None → coded_cell x (Some (c.Text t)) ≡ field_cell p x f
-    go true e q = field_value p x f f k.Text (Some (c.Text t)) some (IsUtf8-from_is_utf8 f e) refl (sym of_texts) (ap (option_map c.Text) q)
-    go false e q = cc
+-- a row that goes on is longer by one
+pub goes_longer : (row longer : Row) (r : Result Cell InputKind) → Goes row longer None r → length longer ≡ length row + 1
+goes_longer row longer (Ok v) h = ap length h.1 ∙ length-append row (v ∷ [])
+goes_longer row longer (Err kind) h = let bad : None ≡ Some kind = h.0 in cc
 
+-- a row that stops is as before
+pub goes_nowhere : (row after : Row) (kind : InputKind) (r : Result Cell InputKind) → Goes row after (Some kind) r → after ≡ row
+goes_nowhere row after kind (Err other) h = h.1
+goes_nowhere row after kind (Ok v) h = let bad : Some kind ≡ None = h.0 in cc
+
+-- a field of a column of texts that is none
 pub field_lost : (p : Settings) (x : Component) (f : List ℕ) → None ≡ text_in f → Err i.NotText ≡ field_cell p x f
 field_lost p x f found = go (is_utf8 f) refl found
   where
@@ -70,13 +72,24 @@ module _ (p : Settings) (xs : List Component) (ys : List (List ℕ)) (i : ℕ) (
         ∙ ap (λ q. at_column row (λ longer. row_with p longer (drop (i + 1) (zip xs ys))) (field_cell p q.0 q.1)) (pair_at xs ys i x y h k at_x at_y)
         ∙ ap (at_column row (λ longer. row_with p longer (drop (i + 1) (zip xs ys)))) e
 
-    -- the field is a cell
-    pub row_takes : (v : Cell) → field_cell p x y ≡ Ok v → row_with p row (drop i (zip xs ys)) ≡ row_with p (row ++ v ∷ []) (drop (i + 1) (zip xs ys))
-    row_takes v e = step (Ok v) e
+    -- the field is a cell, which the row has got
+    pub row_takes : (longer : Row) → Goes row longer None (field_cell p x y) → row_with p row (drop i (zip xs ys)) ≡ row_with p longer (drop (i + 1) (zip xs ys))
+    row_takes longer goes = go (field_cell p x y) refl goes
+      where
+        go : (r : Result Cell InputKind) → field_cell p x y ≡ r → Goes row longer None r → row_with p row (drop i (zip xs ys)) ≡ row_with p longer (drop (i + 1) (zip xs ys))
+        go (Ok v) e h = step (Ok v) e ∙ ap (λ l. row_with p l (drop (i + 1) (zip xs ys))) (sym h.1)
+        go (Err kind) e h = let bad : None ≡ Some kind = h.0 in cc
 
-    -- the field has a flaw
-    pub row_stops : (kind : InputKind) → field_cell p x y ≡ Err kind → row_with p row (drop i (zip xs ys)) ≡ Err (length row + 1, kind)
-    row_stops kind e = step (Err kind) e
+    -- the field has a flaw, and the row is as before
+    pub row_stops : (after : Row) (kind : InputKind) → Goes row after (Some kind) (field_cell p x y) → row_with p row (drop i (zip xs ys)) ≡ Err (length after + 1, kind)
+    row_stops after kind goes = go (field_cell p x y) refl goes
+      where
+        go : (r : Result Cell InputKind) → field_cell p x y ≡ r → Goes row after (Some kind) r → row_with p row (drop i (zip xs ys)) ≡ Err (length after + 1, kind)
+        go (Ok v) e h = let bad : Some kind ≡ None = h.0 in cc
+        go (Err other) e h =
+            let met : row_with p row (drop i (zip xs ys)) ≡ Err (length row + 1, other) = step (Err other) e in
+            let same : after ≡ row = h.1 in
+            let kinds : Some kind ≡ Some other = h.0 in cc
 
   -- no field is left
   pub row_ends : length xs ≤ i → row_with p row (drop i (zip xs ys)) ≡ Ok row

@@ -1,5 +1,5 @@
 -- What is read of a CSV file depends on the plain columns of the structure alone.
-use Rattle.std.proofs.Common.{◌≡◌, ℕ, suc, ◌+◌, List, [], ◌∷◌, ◌++◌, Bool, true, false, cond, Option, Some, None, Result, Ok, Err, length, map, take, refl, sym, ap, ◌∙◌, true≢false, encode_utf8_all}
+use Rattle.std.proofs.Common.{◌≡◌, ℕ, suc, ◌+◌, List, [], ◌∷◌, ◌++◌, Bool, true, false, cond, Option, Some, None, Result, Ok, Err, length, map, take, refl, sym, ap, ◌∙◌, true≢false}
 use Rattle.std.specs.Prelude.{◌==◌, min, nat_le, ok_or, option_map}
 use Rattle.std.specs.List.{filter, zip}
 use Rattle.std.specs.Option.{is_some}
@@ -19,17 +19,15 @@ use Rattle.vtl_cell.specs.Row.{Row}
 use Rattle.vtl_cell.proofs.Aparts.{all_apart-Perm, apart_parts}
 use Rattle.vtl_cell.proofs.Perms.{Perm-filter, length-Perm}
 use Rattle.vtl_rows.specs.Tables.{cells_at}
-use Rattle.vtl_rows.specs.declared.column.Column.{Column}
 use Rattle.vtl_tree.specs.declared.structure.Component.{Component}
-use Rattle.vtl_tree.specs.declared.structure.Role.{Role}
 use Rattle.vtl_tree.specs.declared.structure.Role.TheVariants as role
 use Rattle.vtl_tree.specs.declared.structure.Structure.{Structure}
-use Rattle.vtl_tree.specs.Structure.{IsStructure, columns_of, key_width, of_role, same_name, same_role}
+use Rattle.vtl_tree.specs.Structure.{IsStructure, columns_of, key_width, same_name, same_role}
 use Rattle.vtl_sets.specs.TableOf.{column_for, table_columns}
 use Rattle.vtl_csv.specs.declared.input.InputKind.{InputKind}
 use Rattle.vtl_csv.specs.declared.input.InputKind.TheVariants as i
-use Rattle.vtl_csv.specs.InputFields.{Flaw, at_column, coded_cell, field_cell, is_coded, most_points, record_row, row_with, text_cell}
-use Rattle.vtl_csv.specs.InputFile.{Fault, Layout, columns_with, dataset_rows, layout_of, named_by, newly_named, of_header, place_from, place_in, places_in, rows_below, rows_in_records, rows_with, unless_repeated}
+use Rattle.vtl_csv.specs.InputFields.{at_column, coded_cell, field_cell, is_coded, most_points, record_row, row_with, text_cell}
+use Rattle.vtl_csv.specs.InputFile.{Fault, Layout, columns_with, dataset_rows, layout_of, named_by, newly_named, of_header, place_from, place_in, rows_below, rows_in_records, rows_with, unless_repeated}
 use Rattle.vtl_csv.specs.Plain.{plain, plain_columns}
 use Rattle.vtl_csv.specs.StructuresFile.{◌at_line◌, is_identifier, records_in}
 use Rattle.vtl_csv.proofs.ReadAgainLemmas.{by_role, columns_apart, name_text, names_turn, same_names, texts_differ}

@@ -6,7 +6,7 @@ use Rattle.std.specs.Result.{result_ok}
 use Rattle.std.specs.Str.{is_utf8}
 use Rattle.vtl_cell.specs.number.Fault.{Fault}
 use Rattle.vtl_cell.specs.number.Fault.TheVariants.{Range}
-use Rattle.vtl_cell.specs.Numeral.{Numeral, denominator, integer_of, integer_read, integer_spelled, number_read, numeral_of, numerator, signed}
+use Rattle.vtl_cell.specs.Numeral.{denominator, integer_of, integer_read, integer_spelled, number_read, numeral_of, numerator, signed}
 use Rattle.vtl_cell.specs.Range.{fit_integer}
 use Rattle.vtl_cell.specs.Settings.{Settings}
 use Rattle.vtl_time.specs.Days.{read_day_of}

@@ -4,6 +4,7 @@ use Rattle.std.specs.Global.{Vec}
 use Rattle.vtl_lists.specs.Aliases.{Record}
 use Rattle.vtl_cell.specs.Settings.{Settings}
 use Rattle.vtl_cell.specs.Row.{Row}
+use Rattle.vtl_cell.specs.declared.cell.Cell.{Cell}
 use Rattle.vtl_rows.specs.Tables.{Listed}
 use Rattle.vtl_tree.specs.declared.structure.Component.{Component}
 use Rattle.vtl_tree.specs.declared.structure.Structure.{Structure}
@@ -11,6 +12,7 @@ use Rattle.vtl_sets.specs.TableOf.{table_columns}
 use Rattle.vtl_csv.specs.declared.header.Layout.{Layout as LayoutFields}
 use Rattle.vtl_csv.specs.declared.input.Fault.{Fault as FaultFields}
 use Rattle.vtl_csv.specs.declared.input.Flaw.{Flaw as FlawFields}
+use Rattle.vtl_csv.specs.declared.input.InputKind.{InputKind}
 use Rattle.vtl_csv.specs.declared.input.InputKind.TheVariants as i
 use Rattle.vtl_csv.specs.InputFields.{Flaw, record_row}
 use Rattle.vtl_csv.specs.InputFile.{Fault, Layout, layout_of}
@@ -25,6 +27,11 @@ fault_of f = (f.line, flaw_of f.flaw)
 abbrev pub row_answer : Row → Option Flaw → Result Row Flaw
 row_answer row None = Ok row
 row_answer row (Some flaw) = Err flaw
+
+-- a row goes on with a cell, or stays as it is where there is a flaw in its place
+abbrev pub Goes : Row → Row → Option InputKind → Result Cell InputKind → Type 0
+Goes before after flaw (Ok cell) = (flaw ≡ None) × (after ≡ before ++ cell ∷ [])
+Goes before after flaw (Err kind) = (flaw ≡ Some kind) × (after ≡ before)
 
 -- the columns of a header, or a column
 abbrev pub columns_answer : Result (Vec Component) ℕ → Result (List Component) ℕ

@@ -1,5 +1,5 @@
 // A column of a CSV file of a data set.
-ghost use Rattle.std.specs.Prelude.{◌≡◌, unwrap_or, IfOk, [], ◌++◌, OnOk, IsPermutation, IsSorted};
+ghost use Rattle.std.specs.Prelude.{◌≡◌, unwrap_or, IfOk, IsFalse, [], ◌++◌, None, OnOk, IsPermutation, IsSorted};
 ghost use Rattle.std.specs.Ordering.{nat_cmp};
 ghost use Rattle.std.specs.Cmp.Lexicographic.{slice_cmp};
 ghost use Rattle.std.specs.List.{list_any};
@@ -69,6 +69,13 @@ impl<'a> FileColumn<'a> {
         ensures { result.now ≡ self.now }
     {
         self.component
+    }
+
+    /// Whether the component lists codes.
+    pub fn lists_codes(&self) -> bool
+        ensures { IsFalse result → self.now.codes ≡ None }
+    {
+        self.component.codes.is_some()
     }
 
     /// Whether a text is among the codes of the component, if it lists codes.

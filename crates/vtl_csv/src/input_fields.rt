@@ -4,7 +4,7 @@ ghost use Rattle.vtl_cell.specs.Settings.{Settings};
 ghost use Rattle.vtl_cell.specs.declared.cell.Cell.TheVariants as cell;
 ghost use Rattle.vtl_cell.specs.declared.kind.Kind.TheVariants as kind;
 ghost use Rattle.vtl_csv.specs.InputFields.{coded_cell, field_cell, record_row, row_with};
-ghost use Rattle.vtl_csv.specs.InputSteps.{flaw_of, row_answer};
+ghost use Rattle.vtl_csv.specs.InputSteps.{Goes, flaw_of, row_answer};
 ghost use Rattle.vtl_csv.specs.StructuresFile.{is_identifier};
 ghost use Rattle.vtl_csv.specs.declared.input.InputKind.TheVariants as input;
 ghost use Rattle.std.specs.List.{zip};
@@ -22,98 +22,118 @@ use vtl_tree::Role;
 /// The most points that a file may hold.
 pub const MOST_POINTS: usize = 1_000_000;
 
-// The cell of an empty field: null, which no identifier is.
-fn empty_cell(column: &FileColumn) -> Result<Cell, InputKind>
-    ensures { result ≡ (if is_identifier column.now then Err input.NullIdentifier else Ok cell.Null) }
+// Puts a cell at the end of a row. A call of its own would cost more than that.
+#[inline(always)]
+fn push_cell(row: &mut Vec<Cell>, cell: Cell) -> Result<Option<InputKind>, AllocError>
+    ensures { IfOk result (λ flaw. Goes row.old.items row.new.items flaw (Ok cell)) }
+{
+    row.push(cell)?;
+    Ok(None)
+}
+
+// Puts the cell of an empty field at the end of a row: null, which no identifier is.
+fn push_empty(column: &FileColumn, row: &mut Vec<Cell>) -> Result<Option<InputKind>, AllocError>
+    ensures { IfOk result (λ flaw. Goes row.old.items row.new.items flaw (if is_identifier column.now then Err input.NullIdentifier else Ok cell.Null)) }
 {
     match column.component().role {
-        Role::Identifier => Err(InputKind::NullIdentifier),
-        Role::Measure | Role::Attribute => Ok(Cell::Null),
+        Role::Identifier => Ok(Some(InputKind::NullIdentifier)),
+        Role::Measure | Role::Attribute => push_cell(row, Cell::Null),
     }
 }
 
-// A cell that is read, if it is among the codes of its column.
-fn coded_cell(column: &FileColumn, value: Cell) -> Result<Cell, InputKind>
-    ensures { result ≡ coded_cell column.now (Some value) }
+// Puts a cell that is read at the end of a row, if it is among the codes of its column.
+fn push_coded(
+    column: &FileColumn,
+    cell: Cell,
+    row: &mut Vec<Cell>,
+) -> Result<Option<InputKind>, AllocError>
+    ensures { IfOk result (λ flaw. Goes row.old.items row.new.items flaw (coded_cell column.now (Some cell))) }
 {
-    if column.is_coded(&value) {
-        Ok(value)
+    if column.is_coded(&cell) {
+        push_cell(row, cell)
     } else {
-        Err(InputKind::NotInCodes)
+        Ok(Some(InputKind::NotInCodes))
     }
 }
 
-// The cell of a field that is not empty, of a column of any kind.
-fn read_field(
+// Puts the cell of a field that is not empty at the end of a row, in a column of any kind.
+fn push_read(
     alloc: Global,
     column: &FileColumn,
     field: &[u8],
     profile: &Profile,
-) -> Result<Result<Cell, InputKind>, AllocError>
+    row: &mut Vec<Cell>,
+) -> Result<Option<InputKind>, AllocError>
     requires { 0 < length field.now }
-    ensures { IfOk result (λ r. r ≡ field_cell profile.now column.now field.now) }
+    ensures { IfOk result (λ flaw. Goes row.old.items row.new.items flaw (field_cell profile.now column.now field.now)) }
 {
     let text = match str::from_utf8(field) {
         Ok(text) => text,
-        Err(_) => return Ok(Err(InputKind::NotText)),
+        Err(_) => return Ok(Some(InputKind::NotText)),
     };
     match read_cell(alloc, column.component().kind, text, profile)? {
-        Some(cell) => Ok(coded_cell(column, cell)),
-        None => Ok(Err(InputKind::BadValue)),
+        Some(cell) => push_coded(column, cell, row),
+        None => Ok(Some(InputKind::BadValue)),
     }
 }
 
-// The cell of a field that is not empty, of a column of integers.
-fn integer_cell(
+// Puts the cell of a field that is not empty at the end of a row, in a column of integers.
+fn push_integer(
     alloc: Global,
     column: &FileColumn,
     field: &[u8],
     profile: &Profile,
-) -> Result<Result<Cell, InputKind>, AllocError>
+    row: &mut Vec<Cell>,
+) -> Result<Option<InputKind>, AllocError>
     requires some { 0 < length field.now }
     requires integers { column.now.kind ≡ kind.Int }
-    ensures { IfOk result (λ r. r ≡ field_cell profile.now column.now field.now) }
+    ensures { IfOk result (λ flaw. Goes row.old.items row.new.items flaw (field_cell profile.now column.now field.now)) }
 {
     match plain_integer(field, profile) {
-        Some(n) => Ok(Ok(Cell::Int(n))),
-        None => read_field(alloc, column, field, profile),
+        Some(n) => push_cell(row, Cell::Int(n)),
+        None => push_read(alloc, column, field, profile, row),
     }
 }
 
-// The cell of a field that is not empty, of a column of texts. Its text is shared with an equal one of the pool.
-fn text_cell(
+// Puts the cell of a field that is not empty at the end of a row, in a column of texts. Its text is shared with an
+// equal one of the pool.
+fn push_text(
     alloc: Global,
     column: &FileColumn,
     pool: &mut TextPool,
     field: &[u8],
-) -> Result<Result<Cell, InputKind>, AllocError>
+    row: &mut Vec<Cell>,
+) -> Result<Option<InputKind>, AllocError>
     requires some { 0 < length field.now }
     requires texts { column.now.kind ≡ kind.Text }
-    ensures { IfOk result (λ r. (p : Settings) → r ≡ field_cell p column.now field.now) }
+    ensures { IfOk result (λ flaw. (p : Settings) → Goes row.old.items row.new.items flaw (field_cell p column.now field.now)) }
 {
     match pool.text(alloc, field)? {
-        Some(text) => Ok(coded_cell(column, Cell::Text(text))),
-        None => Ok(Err(InputKind::NotText)),
+        Some(text) if column.lists_codes() => push_coded(column, Cell::Text(text), row),
+        Some(text) => push_cell(row, Cell::Text(text)),
+        None => Ok(Some(InputKind::NotText)),
     }
 }
 
-// The cell of a field in its column.
-fn field_cell(
+// Puts the cell of a field in its column at the end of a row. Where the field has none its flaw is the answer, and the
+// row is as before.
+fn push_field(
     alloc: Global,
     column: &FileColumn,
     pool: &mut TextPool,
     field: &[u8],
     profile: &Profile,
-) -> Result<Result<Cell, InputKind>, AllocError>
-    ensures { IfOk result (λ r. r ≡ field_cell profile.now column.now field.now) }
+    row: &mut Vec<Cell>,
+) -> Result<Option<InputKind>, AllocError>
+    ensures { IfOk result (λ flaw. Goes row.old.items row.new.items flaw (field_cell profile.now column.now field.now)) }
 {
     if field.is_empty() {
-        return Ok(empty_cell(column));
+        return push_empty(column, row);
     }
     match column.component().kind {
-        Kind::Int => integer_cell(alloc, column, field, profile),
-        Kind::Text => text_cell(alloc, column, pool, field),
-        _ => read_field(alloc, column, field, profile),
+        Kind::Int => push_integer(alloc, column, field, profile, row),
+        Kind::Text => push_text(alloc, column, pool, field, row),
+        _ => push_read(alloc, column, field, profile, row),
     }
 }
 
@@ -132,12 +152,10 @@ fn fill(
     ensures { IfOk result (λ o. row_answer row.new.items (option_map flaw_of o) ≡ row_with profile.now [] (zip columns.now fields.now)) }
 {
     for i in 0..columns.len() {
-        match field_cell(alloc, &columns[i], &mut pools[i], fields.field(i), profile)? {
-            Ok(cell) => row.push(cell)?,
-            Err(kind) => {
-                let column = i as u64 + 1;
-                return Ok(Some(Flaw { column, kind }));
-            }
+        let field = fields.field(i);
+        if let Some(kind) = push_field(alloc, &columns[i], &mut pools[i], field, profile, row)? {
+            let column = i as u64 + 1;
+            return Ok(Some(Flaw { column, kind }));
         }
     }
     Ok(None)

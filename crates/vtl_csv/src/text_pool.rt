@@ -13,6 +13,15 @@ const FEW: usize = 64;
 // A text is kept in one of this many slots, by its hash, until another one takes the slot.
 const SLOTS: usize = 16_384;
 
+// A slot is named by this many bits of a hash fewer than it has.
+const UNUSED_BITS: u32 = 50;
+
+// Two words of eight bytes hold a text of at most this many.
+const MOST_OF_TWO_WORDS: usize = 16;
+
+// An odd number with bits in no order: a product by it spreads each bit over all those above.
+const MIXER: u64 = 0x9e37_79b9_7f4a_7c15;
+
 // After more texts than this, none is shared any more where most of them were new.
 const TRIAL: usize = 65_536;
 
@@ -20,9 +29,10 @@ const TRIAL: usize = 65_536;
 #[derive(Drop)]
 pub struct TextPool {
     slots: Vec<Option<Txt>>,
-    asked: usize,
+    // for so many texts more the pool neither looks nor keeps
+    idle_for: usize,
     made: usize,
-    has_given_up: bool,
+    shared: usize,
 }
 
 impl TextPool {
@@ -30,9 +40,9 @@ impl TextPool {
     pub fn new(alloc: Global) -> TextPool {
         TextPool {
             slots: Vec::new(alloc),
-            asked: 0,
+            idle_for: FEW,
             made: 0,
-            has_given_up: false,
+            shared: 0,
         }
     }
 
@@ -41,32 +51,21 @@ impl TextPool {
     pub fn text(&mut self, alloc: Global, field: &[u8]) -> Result<Option<Txt>, AllocError>
         ensures { IfOk result (λ o. o ≡ text_in field.now) }
     {
-        if self.is_idle(alloc) {
+        if self.idle_for > 0 {
+            self.idle_for -= 1;
             return new_text(alloc, field);
         }
         let place = place_of(field);
         if let Some(held) = self.held(place, field) {
-            return Ok(Some(held.share()?));
+            let text = held.share()?;
+            self.shared = self.shared.saturating_add(1);
+            return Ok(Some(text));
         }
         let made = new_text(alloc, field)?;
         if let Some(text) = &made {
             self.keep(alloc, place, text.share()?)?;
         }
         Ok(made)
-    }
-
-    // Counts one more text, and tells whether none is shared: there are few yet, or most of them were new at the end of
-    // the trial. Then what is held is given up for good.
-    fn is_idle(&mut self, alloc: Global) -> bool {
-        if self.has_given_up {
-            return true;
-        }
-        self.asked = self.asked.saturating_add(1);
-        if self.asked > TRIAL && self.made > self.asked / 2 {
-            self.slots = Vec::new(alloc);
-            self.has_given_up = true;
-        }
-        self.has_given_up || self.asked < FEW
     }
 
     // The text in a slot, where its bytes are those of the field.
@@ -84,19 +83,61 @@ impl TextPool {
         if self.slots.is_empty() {
             self.slots = no_texts(alloc)?;
         }
-        self.made = self.made.saturating_add(1);
         if let Some(slot) = self.slots.get_mut(place) {
             *slot = Some(text);
         }
+        self.made = self.made.saturating_add(1);
+        if self.made > self.shared && self.made.saturating_add(self.shared) > TRIAL {
+            self.give_up(alloc);
+        }
         Ok(())
+    }
+
+    // Lets go of what is held, and shares no text any more.
+    fn give_up(&mut self, alloc: Global) {
+        self.slots = Vec::new(alloc);
+        self.idle_for = usize::MAX;
     }
 }
 
 // The slot of a text.
 fn place_of(field: &[u8]) -> usize {
+    (hash_of(field) >> UNUSED_BITS) as usize
+}
+
+// The hash of a text, whose upper bits are the better ones. One of eight to sixteen bytes is told by the eight at each
+// of its ends.
+fn hash_of(field: &[u8]) -> u64 {
+    if field.len() > MOST_OF_TWO_WORDS {
+        return long_hash(field);
+    }
+    match (field.split_first_chunk(), field.split_last_chunk()) {
+        (Some((front, _)), Some((_, back))) => {
+            mixed(u64::from_be_bytes(*front), u64::from_be_bytes(*back))
+        }
+        _ => mixed(field.len() as u64, short_word(field)),
+    }
+}
+
+// The hash of two words. The lower bits of the second one tell most.
+fn mixed(first: u64, second: u64) -> u64 {
+    (first.wrapping_mul(MIXER) ^ second).wrapping_mul(MIXER)
+}
+
+// Few bytes as a word.
+fn short_word(bytes: &[u8]) -> u64 {
+    let mut word = 0;
+    for byte in bytes {
+        word = word << 8 | u64::from(*byte);
+    }
+    word
+}
+
+// The hash of a text of any length.
+fn long_hash(field: &[u8]) -> u64 {
     let mut state = FoldHasher::default();
     state.write(field);
-    state.finish() as usize % SLOTS
+    state.finish()
 }
 
 // A new text that a field is.

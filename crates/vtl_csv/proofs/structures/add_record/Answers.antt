@@ -1,4 +1,4 @@
-use Rattle.std.proofs.Common.{sym, ap, ◌∙◌}
+use Rattle.std.proofs.Common.{sym, ◌∙◌}
 use Rattle.vtl_csv.proofs.DeclarationLemmas.{record_fits}
 use Rattle.vtl_csv.proofs.structures.add_record.Goals as goal
 

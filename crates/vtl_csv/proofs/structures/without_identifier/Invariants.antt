@@ -1,4 +1,4 @@
-use Rattle.std.proofs.Common.{◌≡◌, ◌+◌, ◌<◌, ◌^◌, length}
+use Rattle.std.proofs.Common.{◌≡◌, ◌+◌, length}
 use Rattle.vtl_csv.specs.StructuresFile.{without_identifier}
 use Rattle.vtl_csv.proofs.structures.without_identifier.Given as goal
 

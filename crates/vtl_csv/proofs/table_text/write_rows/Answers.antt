@@ -1,4 +1,4 @@
-use Rattle.std.proofs.Common.{◌<◌, length, ap, arith}
+use Rattle.std.proofs.Common.{length, ap, arith}
 use Rattle.vtl_csv.proofs.table_text.write_rows.Goals as goal
 
 pub push_record-requires : goal.push_record-requires
