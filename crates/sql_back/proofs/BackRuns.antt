@@ -1,27 +1,25 @@
 -- What a run of a script's text tells is what the script means.
 use Rattle.std.proofs.Common.{◌≡◌, ℕ, true, ◌&&◌, List, [], ◌∷◌, map, Result, Ok, Err, refl, sym, ap, ◌∙◌, subst}
-use Rattle.std.specs.List.{AllByRecursion, list_all}
+use Rattle.std.specs.List.{list_all}
 use Rattle.std.proofs.lemmas.Bool.{and_parts}
 use Rattle.vtl_cell.specs.Outcome.{DivZero, Fault, Range}
 use Rattle.vtl_cell.specs.Perm.{Perm, chain}
-use Rattle.vtl_cell.specs.Row.{Row}
-use Rattle.vtl_cell.specs.Sorted.{Key, in_order}
 use Rattle.vtl_cell.proofs.Keys.{window_order}
 use Rattle.vtl_cell.proofs.Sorts.{Perm-sorted_by}
 use Rattle.vtl_rows.specs.Named.{NamedTables}
 use Rattle.vtl_rows.specs.Tables.{Listed}
-use Rattle.vtl_tree.specs.Environment.{DataSet, Environment}
-use Rattle.vtl_tree.specs.Structure.{columns_of, names_of}
+use Rattle.vtl_tree.specs.Environment.{DataSet}
+use Rattle.vtl_tree.specs.Structure.{columns_of}
 use Rattle.vtl_tree.specs.declared.structure.Component.{Component}
 use Rattle.vtl_nodes.specs.Trees.{NodeTree}
 use Rattle.sql_tree.specs.Texts.{IsScript as IsSpelled}
 use Rattle.sql_engine.specs.Exported.{entry_column}
 use Rattle.sql_engine.specs.InputTables.{rows_given}
-use Rattle.sql_engine.specs.Scripts.{script_value, sort_key}
+use Rattle.sql_engine.specs.Scripts.{script_value}
 use Rattle.vtl_to_sql.specs.Checked.{TypedScript, nodes_of, tree_of}
 use Rattle.vtl_to_sql.specs.BackendInputs.{AreInRange, AreInputs, environment_of, inputs_of}
 use Rattle.vtl_to_sql.specs.Made.{AreMadeStatements}
-use Rattle.vtl_to_sql.specs.Meaning.{AreDataSets, Outputs, is_built, known_in, meaning}
+use Rattle.vtl_to_sql.specs.Meaning.{AreDataSets, Outputs, is_built, known_in}
 use Rattle.vtl_to_sql.specs.RulesToSqlRuns.{Runs, ShowAll, ShowMeaning, Tells, script_meaning}
 use Rattle.vtl_to_sql.specs.BackendStatements.{is_script_built, statements_of, with_nodes}
 use Rattle.vtl_to_sql.specs.TableOf.{column_for}

@@ -12,7 +12,7 @@ use Rattle.vtl_cell.proofs.Perms.{Perm-same}
 use Rattle.vtl_rows.specs.Named.{NamedTables, table_of}
 use Rattle.vtl_rows.specs.Tables.{Listed, column_kinds}
 use Rattle.vtl_tree.specs.DataSet.{AreOfProfile, IsDataSet, is_point}
-use Rattle.vtl_tree.specs.Structure.{IsStructure, columns_of}
+use Rattle.vtl_tree.specs.Structure.{columns_of}
 use Rattle.vtl_tree.specs.Structures.{Named}
 use Rattle.vtl_tree.specs.declared.structure.Component.{Component}
 use Rattle.vtl_tree.specs.declared.structure.Structure.{Structure}
@@ -26,7 +26,7 @@ use Rattle.sql_engine.specs.TypingStatements.{input_columns}
 use Rattle.vtl_to_sql.specs.BackendInputs.{Holds, input_of as data_set_in, rows_named}
 use Rattle.vtl_to_sql.specs.Meaning.{AreDataSets, known_in}
 use Rattle.vtl_to_sql.specs.Profiles.{AllAreOfProfile}
-use Rattle.vtl_to_sql.specs.TableOf.{IsTableOf, column_for, table_columns}
+use Rattle.vtl_to_sql.specs.TableOf.{column_for}
 use Rattle.vtl_sets.proofs.TableLemmas.{point_fits}
 use Rattle.vtl_to_sql.specs.Exports.{AreRead}
 use Rattle.vtl_to_sql.specs.Runs.{entries}

@@ -1,5 +1,4 @@
 -- The errors of the engine, as back ends tell them.
-use Rattle.std.specs.Prelude.{◌≡◌}
 use Rattle.sql_engine.specs.declared.error.RunErr.{RunErr as EngineErr}
 use Rattle.sql_engine.specs.declared.error.RunErr.TheVariants as engine
 use Rattle.vtl_to_sql.specs.error.RunErr.{RunErr}

@@ -11,6 +11,7 @@ pub mod RowItems
 pub mod Added
 pub mod PlainRows
 pub mod GatheredItems
+pub mod WholeSources
 pub mod QueryParts
 pub mod QueryColumns
 pub mod MadeRows

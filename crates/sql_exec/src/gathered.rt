@@ -1,5 +1,7 @@
 // Items that are columns: their cells are gathered for all rows of FROM at once.
 ghost use Rattle.std.specs.Prelude.{◌≡◌, ◌<◌, length, map, zip, All, IfOk, IfSome, Ok, OnOk};
+ghost use Rattle.std.specs.Bool.{OnTrue};
+ghost use Rattle.std.specs.List.{range_with_len};
 ghost use Rattle.vtl_rows.specs.Tables.{cells_at, column_kinds};
 ghost use Rattle.sql_tree.specs.View.{item_tree};
 ghost use Rattle.sql_window.specs.Columns.{kinds_at};
@@ -12,10 +14,10 @@ ghost use Rattle.sql_exec.specs.Outputs.{Adds};
 use crate::output::Output;
 use sql_eval::Names;
 use sql_tree::{Item, ItemValue, SqlExpr};
-use sql_window::TupleRows;
+use sql_window::{TupleRows, lent_table};
 use std::alloc::{AllocError, Global};
 use vtl_cell::{Kind, is_same_kind};
-use vtl_rows::Column;
+use vtl_rows::{Column, Table};
 
 /// The place of the cells of an item in the rows of FROM, if it is a column of this kind.
 pub(crate) fn column_place<N: Names>(names: &N, item: &Item, kind: Kind) -> Option<usize>
@@ -69,7 +71,36 @@ fn copied_columns(alloc: Global, columns: &[Column]) -> Result<Vec<Column>, Allo
     Ok(copy)
 }
 
-/// Adds a row of the cells at these places for each row of FROM. It fails only if memory runs out.
+// Whether places are all those below a number, in order.
+fn are_all(places: &[usize], count: usize) -> bool
+    ensures { OnTrue result (places.now ≡ range_with_len 0 count) }
+{
+    if places.len() != count {
+        return false;
+    }
+    for i in 0..count {
+        if places[i] != i {
+            return false;
+        }
+    }
+    true
+}
+
+// The table of the only source, if its rows are these and the places are those of all its columns, in order.
+fn whole_source<'a>(rows: &'a TupleRows<'a>, places: &[usize]) -> Option<&'a Table>
+    ensures kinds { IfSome result (λ t. column_kinds t.now.columns ≡ kinds_at places.now (row_of (scope_held rows.now.sources.sources))) }
+    ensures rows { IfSome result (λ t. t.now.rows ≡ map (cells_at places.now) (rows_for rows.now.sources rows.now.tuples)) }
+{
+    let table = lent_table(rows)?;
+    if are_all(places, table.columns().len()) {
+        Some(table)
+    } else {
+        None
+    }
+}
+
+/// Adds a row of the cells at these places for each row of FROM. No cell is copied where these are all cells of the only
+/// source, which has the same rows. It fails only if memory runs out.
 pub(crate) fn add_gathered(
     alloc: Global,
     out: &mut Output,
@@ -81,5 +112,9 @@ pub(crate) fn add_gathered(
     ensures { OnOk result (Adds (Ok (map (cells_at places.now) (rows_for rows.now.sources rows.now.tuples))) out.old out.new) }
 {
     let columns = copied_columns(alloc, out.table.columns())?;
-    out.add_table(rows.gathered(alloc, places, columns)?)
+    let table = match whole_source(rows, places) {
+        Some(table) => table.share()?.with_columns(columns),
+        None => rows.gathered(alloc, places, columns)?,
+    };
+    out.add_table(table)
 }

@@ -12,7 +12,7 @@ use Rattle.vtl_rows.specs.Named.{NamedTables, table_of}
 use Rattle.vtl_rows.specs.Places.{row_at}
 use Rattle.vtl_rows.specs.Tables.{Listed}
 use Rattle.vtl_rows.proofs.Placed.{all_places}
-use Rattle.sql_eval.specs.Placed.{has_partner, is_tied}
+use Rattle.sql_eval.specs.Placed.{is_tied}
 use Rattle.sql_eval.specs.Profiles.{AreOfProfile, IsLawful}
 use Rattle.sql_eval.specs.Tables.{rows_of}
 use Rattle.sql_eval.specs.declared.resolved.Side.TheVariants as side

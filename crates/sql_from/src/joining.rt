@@ -21,7 +21,7 @@ pub(crate) fn singles(alloc: Global, count: usize) -> Result<Tuples, AllocError>
     ensures width { IfOk result (λ t. t.width ≡ 1) }
     ensures tuples { IfOk result (λ t. t.tuples ≡ singles count) }
 {
-    let mut tuples = Tuples::new(alloc, 1);
+    let mut tuples = Tuples::with_room(alloc, 1, count)?;
     for i in 0..count {
         tuples.push(&[], i)?;
     }

@@ -1,5 +1,5 @@
 // Tuples of row numbers.
-ghost use Rattle.std.specs.Prelude.{◌≡◌, ◌<◌, ◌≤◌, ◌+◌, ◌^◌, ◌++◌, [], ◌∷◌, length, take, drop, slice_index_or, OnOk, OnErr};
+ghost use Rattle.std.specs.Prelude.{◌≡◌, ◌<◌, ◌≤◌, ◌+◌, ◌^◌, ◌++◌, [], ◌∷◌, length, take, drop, slice_index_or, IfOk, OnOk, OnErr};
 ghost use Rattle.std.specs.List.{AllByRecursion};
 ghost use Rattle.vtl_rows.specs.Gathered.{pieces};
 
@@ -47,6 +47,19 @@ impl Tuples {
             numbers: Vec::new(alloc),
             count: 0,
         }
+    }
+
+    /// The same, with room for so many tuples. It fails only if memory runs out.
+    pub fn with_room(alloc: Global, width: usize, count: usize) -> Result<Tuples, AllocError>
+        requires { 0 < width }
+        ensures width { IfOk result (λ t. t.width ≡ width) }
+        ensures tuples { IfOk result (λ t. t.tuples ≡ []) }
+    {
+        Ok(Tuples {
+            width,
+            numbers: Vec::with_capacity(alloc, count.saturating_mul(width))?,
+            count: 0,
+        })
     }
 
     /// How many numbers a tuple has.

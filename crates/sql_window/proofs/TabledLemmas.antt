@@ -1,5 +1,5 @@
 -- Rows of FROM that are those of the table of one source.
-use Rattle.std.proofs.Common.{All, ◌≡◌, ℕ, ◌<◌, ◌≤◌, List, [], ◌∷◌, ◌++◌, length, get_or, map, Some, refl, sym, ap, subst, ◌∙◌, arith, append-nil}
+use Rattle.std.proofs.Common.{All, ◌≡◌, ℕ, ◌<◌, ◌≤◌, List, [], ◌∷◌, length, get_or, map, Some, refl, sym, ap, subst, ◌∙◌, arith, append-nil}
 use Rattle.std.specs.Prelude.{slice_get}
 use Rattle.std.specs.List.{range_with_len}
 use Rattle.std.proofs.lemmas.List.{length-map}
@@ -8,7 +8,8 @@ use Rattle.vtl_cell.specs.Row.{Row, column_of}
 use Rattle.vtl_cell.specs.declared.cell.Cell.TheVariants as c
 use Rattle.vtl_rows.specs.Named.{NamedTables}
 use Rattle.vtl_rows.specs.Places.{row_at}
-use Rattle.vtl_rows.specs.Tables.{Listed, cells_at}
+use Rattle.vtl_rows.specs.Tables.{Listed, cells_at, column_kinds}
+use Rattle.vtl_rows.specs.declared.column.Column.{Column}
 use Rattle.sql_tree.specs.Trees.{Text}
 use Rattle.sql_eval.specs.Scopes.{row_of}
 use Rattle.sql_eval.specs.Tables.{column_entry}
@@ -31,6 +32,18 @@ wide_alone (s ∷ []) t e =
     let kinds = map (λ x. x.1) (map column_entry s.1.columns) in
     ap (λ (u : Listed). length u.columns) same ∙ sym (length-map s.1.columns column_entry) ∙ sym (length-map (map column_entry s.1.columns) (λ x. x.1)) ∙ ap length (sym (append-nil kinds))
 wide_alone (s ∷ z ∷ ss) t e = cc
+
+pub kinds_alone : (ss : NamedTables) (t : Listed) → parts_of ss ≡ t ∷ [] → column_kinds t.columns ≡ row_of (scope_held ss)
+kinds_alone [] t e = cc
+kinds_alone (s ∷ []) t e =
+    let same : t ≡ s.1 = cc in
+    let kinds = map (λ x. x.1) (map column_entry s.1.columns) in
+    ap (λ (u : Listed). column_kinds u.columns) same ∙ sym (map-map s.1.columns) ∙ sym (append-nil kinds)
+  where
+    map-map : (xs : List Column) → map (λ x. x.1) (map column_entry xs) ≡ column_kinds xs
+    map-map [] = refl
+    map-map (x ∷ xs) = ap (λ l. x.kind ∷ l) (map-map xs)
+kinds_alone (s ∷ z ∷ ss) t e = cc
 
 -- ---- its rows
 -- the row of a tuple

@@ -1,6 +1,6 @@
 //! Windows of a select of the SQL dialect: the value of a call OVER at each row of FROM that WHERE keeps.
 //!
-//! The rows, of which there is a table, are sorted once, by the columns of PARTITION BY, then by the keys of ORDER BY, then by
+//! The rows are seen as a table, that of their only source where it has the same rows (`tabled_rows.rt`). They are sorted once, by the columns of PARTITION BY, then by the keys of ORDER BY, then by
 //! all columns; so each partition is a stretch of row numbers in order, over which the call's values are computed
 //! (`vtl_frames`), and these are put back at their rows. Rows that are alike are told apart by their numbers.
 //! It decides how a window is sorted and cut into partitions; what a window gives is defined in `sql_meaning`.
@@ -20,5 +20,5 @@ pub use sql_groups::{
     ExecErr, Partners, Plan, Seen, Sources, TupleRows, asks, items_are_lifted_to_columns,
     push_grouped, source_rows, source_tuples,
 };
-pub use tabled_rows::TabledRows;
+pub use tabled_rows::{TabledRows, lent_table};
 pub use windows::window_values;

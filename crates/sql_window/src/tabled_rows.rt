@@ -1,6 +1,7 @@
 // Rows of FROM with a table of them.
 ghost use Rattle.std.specs.List.{range_with_len};
 ghost use Rattle.std.specs.Prelude.{◌≡◌, ◌<◌, ◌∷◌, [], length, map, slice_index_or, true, All, IfOk, IfSome};
+ghost use Rattle.vtl_rows.specs.Tables.{column_kinds};
 ghost use Rattle.sql_eval.specs.Scopes.{row_of};
 ghost use Rattle.sql_groups.specs.Sources.{parts_of, scope_held};
 ghost use Rattle.sql_groups.specs.Standing.{rows_for};
@@ -85,8 +86,9 @@ fn are_all(rows: &TupleRows<'_>, table: &Table) -> bool
     counts_up(rows, table.len())
 }
 
-// The table of the only source, if its rows are these.
-fn lent_table<'a>(rows: &'a TupleRows<'a>) -> Option<&'a Table>
+/// The table of the only source, if its rows are these, each once and in order.
+pub fn lent_table<'a>(rows: &'a TupleRows<'a>) -> Option<&'a Table>
+    ensures kinds { IfSome result (λ t. column_kinds t.now.columns ≡ row_of (scope_held rows.now.sources.sources)) }
     ensures wide { IfSome result (λ t. length t.now.columns ≡ length (row_of (scope_held rows.now.sources.sources))) }
     ensures rows { IfSome result (λ t. t.now.rows ≡ rows_for rows.now.sources rows.now.tuples) }
 {

@@ -1,4 +1,4 @@
-use Rattle.std.proofs.Common.{◌≡◌, Err, ap, sym, subst, ◌∙◌}
+use Rattle.std.proofs.Common.{Err, ap, sym, subst, ◌∙◌}
 use Rattle.sql_tree.specs.View.{script_tree}
 use Rattle.sql_engine.specs.InputTables.{AreInputsInRange, HaveInputTables, rows_given}
 use Rattle.sql_engine.specs.Runs.{FaultIs, ShowsMeaning}

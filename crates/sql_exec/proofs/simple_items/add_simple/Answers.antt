@@ -22,7 +22,6 @@ use Rattle.sql_exec.specs.Outputs.{Adds}
 use Rattle.sql_exec.specs.SimpleItems.{AreSimple}
 use Rattle.sql_exec.specs.declared.item_cells.ItemCells.{ItemCells}
 use Rattle.sql_exec.proofs.Added.{added_all, added_more, added_none}
-use Rattle.sql_exec.proofs.ItemWalks.{others_in}
 use Rattle.sql_exec.proofs.PlainRows.{each_is, one_row}
 use Rattle.sql_exec.proofs.RowItems.{told_first, told_long}
 use Rattle.sql_exec.proofs.SimpleRows.{next_fits, next_left, next_made}

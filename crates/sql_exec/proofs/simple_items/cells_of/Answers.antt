@@ -1,7 +1,7 @@
 use Rattle.std.proofs.Common.{◌≡◌, None, subst, ◌∙◌}
 use Rattle.std.specs.Vec.Iter.{into_iter_items}
 use Rattle.sql_tree.specs.Trees as tree
-use Rattle.sql_tree.specs.View.{item_tree, value_tree}
+use Rattle.sql_tree.specs.View.{item_tree}
 use Rattle.sql_window.specs.Expressions.{site}
 use Rattle.sql_window.specs.Held.{base_held, tables_held}
 use Rattle.sql_window.specs.Selects.{Wanted}

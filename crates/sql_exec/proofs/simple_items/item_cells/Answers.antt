@@ -1,5 +1,4 @@
 use Rattle.std.proofs.Common.{◌<◌, ◌∙◌, None, length, get_or, map, ap, arith}
-use Rattle.std.specs.Prelude.{zip}
 use Rattle.std.proofs.lemmas.List.{get_or_default}
 use Rattle.vtl_cell.specs.declared.kind.Kind.TheVariants as k
 use Rattle.sql_tree.specs.View.{item_tree}

@@ -1,7 +1,6 @@
 use Rattle.std.proofs.Common.{◌≡◌, ◌∙◌, IfSome, List, Some, ap, subst, sym}
 use Rattle.std.specs.Option.{option_copied}
 use Rattle.vtl_index.specs.declared.row_keys.NullKeys.TheVariants.{NotFound}
-use Rattle.vtl_index.specs.RowIndex.{RowLookup}
 use Rattle.vtl_rows.specs.Named.{table_of}
 use Rattle.sql_eval.specs.declared.resolved.Tie.{Tie}
 use Rattle.sql_from.specs.KeyPartners.{AreTiedAs}
