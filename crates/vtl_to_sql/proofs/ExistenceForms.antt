@@ -1,5 +1,5 @@
 -- The query of `exists_in`, as it is written.
-use Rattle.std.proofs.Common.{◌≡◌, true, [], ◌∷◌, ◌++◌, ap}
+use Rattle.std.proofs.Common.{◌≡◌, [], ◌∷◌, ◌++◌, ap}
 use Rattle.vtl_cell.specs.Settings.{Settings}
 use Rattle.vtl_syntax.specs.declared.word_groups.Retain.{Retain}
 use Rattle.vtl_tree.specs.Structure.{columns_of}
@@ -7,15 +7,15 @@ use Rattle.vtl_tree.specs.declared.structure.Structure.{Structure}
 use Rattle.rules_to_sql.specs.Agreement.{common_identifiers}
 use Rattle.rules_to_sql.specs.Columns.{identifiers_of}
 use Rattle.sql_tree.specs.Trees.{Text}
-use Rattle.vtl_to_sql.specs.Existences.{retained_matches}
+use Rattle.vtl_to_sql.specs.Existences.{retained_matches, shown_matches}
 use Rattle.vtl_to_sql.specs.Items.{from_one}
 use Rattle.vtl_to_sql.specs.NamedItems.{own_columns}
-use Rattle.vtl_to_sql.specs.Queries.{existence_query, is_matched, items_as}
+use Rattle.vtl_to_sql.specs.Queries.{existence_query, items_as}
 use Rattle.vtl_to_sql.proofs.NamedItems.{own_written}
 
 pub existence_written : (p : Settings) (kept : Retain) (a b s : Structure) (x y : Text)
     → existence_query p kept a b s x y
-    ≡ from_one (items_as (own_columns (identifiers_of s) ++ is_matched true (common_identifiers a b) y ∷ []) (columns_of s)) (retained_matches kept (common_identifiers a b) y) x ∷ []
+    ≡ from_one (items_as (own_columns (identifiers_of s) ++ shown_matches kept (common_identifiers a b) y ∷ []) (columns_of s)) (retained_matches kept (common_identifiers a b) y) x ∷ []
 existence_written p kept a b s x y =
     let ids = common_identifiers a b in
-    ap (λ l. from_one (items_as (l ++ is_matched true ids y ∷ []) (columns_of s)) (retained_matches kept ids y) x ∷ []) (own_written p (columns_of a) (identifiers_of s))
+    ap (λ l. from_one (items_as (l ++ shown_matches kept ids y ∷ []) (columns_of s)) (retained_matches kept ids y) x ∷ []) (own_written p (columns_of a) (identifiers_of s))

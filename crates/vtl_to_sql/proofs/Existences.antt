@@ -1,7 +1,8 @@
--- `exists_in` is a select with EXISTS as an item.
-use Rattle.std.proofs.Common.{◌≡◌, Bool, true, false, ◌||◌, cond, List, [], ◌∷◌, ◌++◌, map, Some, None, Ok, refl, ap, sym, ◌∙◌, subst}
+-- `exists_in` is a select with EXISTS as an item, or with the one answer that is retained.
+use Rattle.std.proofs.Common.{◌≡◌, Bool, true, false, ◌||◌, cond, List, [], ◌∷◌, ◌++◌, map, Some, None, Ok, refl, ap, sym, ◌∙◌, subst, arith}
 use Rattle.std.specs.Prelude.{is_some}
 use Rattle.std.specs.List.{AllByRecursion, filter, find, list_any}
+use Rattle.std.proofs.lemmas.Bool.{not-true}
 use Rattle.vtl_cell.specs.Kinds.{is_of}
 use Rattle.vtl_cell.specs.Outcome.{faults_by, join, unless}
 use Rattle.vtl_cell.specs.Row.{Row, column_of, same_row}
@@ -27,23 +28,24 @@ use Rattle.rules_to_sql.proofs.OwnColumns.{columns_apart}
 use Rattle.vtl_tuples.proofs.Lists.{filter_each}
 use Rattle.rules_to_sql.proofs.SetsKept.{filter_true}
 use Rattle.rules_to_sql.proofs.Places.{all_front, columns_split, key_cells, key_within}
-use Rattle.sql_tree.specs.Formed.{IsMaybeExp, IsName}
+use Rattle.sql_tree.specs.Formed.{IsExp, IsMaybeExp, IsName}
 use Rattle.sql_tree.specs.Trees.{Exp, Text}
-use Rattle.rules_to_sql.specs.Fits.{IsMaybeCondition}
+use Rattle.rules_to_sql.specs.Fits.{Fits, IsMaybeCondition}
 use Rattle.rules_to_sql.specs.Expressions.{site}
-use Rattle.rules_to_sql.specs.Scopes.{Scope, add_source, columns_of as table_columns}
+use Rattle.rules_to_sql.specs.Kinds.{kind_in}
+use Rattle.rules_to_sql.specs.Scopes.{add_source, columns_of as table_columns}
 use Rattle.rules_to_sql.specs.From.{condition_fault, kept, source_rows}
 use Rattle.rules_to_sql.specs.Scripts.{Data, base_of, tables_in}
-use Rattle.rules_to_sql.specs.Tables.{Base}
-use Rattle.rules_to_sql.specs.Values.{at_rows}
+use Rattle.rules_to_sql.specs.Values.{at_rows, value as sql_value}
 use Rattle.vtl_to_sql.specs.Conditions.{HaveNames}
-use Rattle.vtl_to_sql.specs.Queries.{all_to_sql, existence_query, first_alias, is_matched, items_as, of_one, retained, select_as, source_as}
+use Rattle.vtl_to_sql.specs.Queries.{all_to_sql, answer_shown, existence_query, first_alias, is_matched, items_as, of_one, retained, select_as, source_as}
 use Rattle.vtl_to_sql.specs.Runs.{IsTable, entries, printable_depth}
 use Rattle.vtl_to_sql.proofs.Exact.{IsExactly, exactly_same}
 use Rattle.vtl_to_sql.proofs.Exists.{has_row, is_answer, matched_fits, matched_printed, matched_rows, matched_value}
 use Rattle.vtl_to_sql.proofs.Expressions.{Translates}
 use Rattle.vtl_to_sql.proofs.Givens.{AreGiven, kinds_in}
 use Rattle.vtl_to_sql.proofs.Identifiers.{AreIdentifiersAt, IsIdentifierAt, identifiers_there, own_there}
+use Rattle.vtl_to_sql.proofs.ItemLists.{items_behind, items_where}
 use Rattle.vtl_to_sql.proofs.OneOperand.{columns_for, columns_written, known_there, one_from, own_names, rows_there}
 use Rattle.vtl_to_sql.proofs.SelectItems.{AreItems, IsItem, Valued, each_by, select_gives, values_at, values_fault}
 use Rattle.vtl_to_sql.proofs.Selects.{IsPointOf, expression_items, valued}
@@ -67,12 +69,15 @@ pub all_columns : (xs zs : List Component) → AreIdentifiersAt xs zs → AreAmo
 all_columns xs [] i = tt
 all_columns xs (z ∷ zs) i = (i.0.column, all_columns xs zs i.1)
 
--- ---- items one behind the other
+-- ---- rows that pass a test
 
-pub items_both : (b : Base) (s : Scope) (P : Row → Type 0) (fs gs : List Valued) (es us : List Exp) (ys zs : List Component) → AreItems b s P fs es ys → AreItems b s P gs us zs → AreItems b s P (fs ++ gs) (es ++ us) (ys ++ zs)
-items_both b s P [] gs [] us [] zs i j = j
-items_both b s P (f ∷ fs) gs (e ∷ es) us (y ∷ ys) zs i j = (i.0, items_both b s P fs gs es us ys zs i.1 j)
-items_both b s P fs gs es us ys zs i j = absurd i
+pub all_passing : {X : Type 0} (P : X → Type 0) (t : X → Bool) (xs : List X) → AllByRecursion P xs → AllByRecursion (λ x. P x × (t x ≡ true)) (filter t xs)
+all_passing P t [] h = tt
+all_passing P t (x ∷ xs) h = go (t x) refl (all_passing P t xs h.1)
+  where
+    go : (b : Bool) → t x ≡ b → AllByRecursion (λ y. P y × (t y ≡ true)) (filter t xs) → AllByRecursion (λ y. P y × (t y ≡ true)) (cond b (x ∷ filter t xs) (filter t xs))
+    go true e ih = ((h.0, e), ih)
+    go false e ih = ih
 
 find_any : {X : Type 0} (p : X → Bool) (xs : List X) → is_some (find p xs) ≡ list_any p xs
 find_any p [] = refl
@@ -136,32 +141,61 @@ module _ (p : Settings) (law : Translates p) (before : Data) (x y : Text) (a b s
   abbrev answered_at : Valued
   answered_at r = Ok (c.Bool (has r))
 
-  answer_item : (z : Component) → z.kind ≡ k.Bool → IsItem (base_of p before) (one_scope xs) (IsPointOf xs) answered_at answer z
-  answer_item z kind = record {
-    kind = sym kind;
-    fits = (matched_fits (base_of p before) xs ys (columns_apart a sa.well_formed) (columns_apart b sb.well_formed) y known common ours theirs true).0;
-    printed = matched_printed true common y ny common_named;
-    value_is = λ r h. matched_value (base_of p before) xs ys (columns_apart a sa.well_formed) (columns_apart b sb.well_formed) y known common ours theirs e there sb.typed true r h;
+  abbrev is_kept : Retain → Row → Bool
+  is_kept kept r = is_retained kept (has r)
+
+  abbrev IsKeptPoint : Retain → Row → Type 0
+  IsKeptPoint kept r = IsPointOf xs r × (is_kept kept r ≡ true)
+
+  answer_kind : (kept : Retain) → kind_in (one_scope xs) (answer_shown kept answer) ≡ k.Bool
+  answer_kind retain.All = refl
+  answer_kind retain.True = refl
+  answer_kind retain.False = refl
+
+  answer_fits : (kept : Retain) → Fits (site p (tables_in before) (one_scope xs)) None (answer_shown kept answer)
+  answer_fits retain.All = (matched_fits (base_of p before) xs ys (columns_apart a sa.well_formed) (columns_apart b sb.well_formed) y known common ours theirs true).0
+  answer_fits retain.True = refl
+  answer_fits retain.False = refl
+
+  answer_printed : (kept : Retain) → IsExp printable_depth (answer_shown kept answer)
+  answer_printed retain.All = matched_printed true common y ny common_named
+  answer_printed retain.True = (tt, omega arith)
+  answer_printed retain.False = (tt, omega arith)
+
+  answer_value : (kept : Retain) (r : Row) → IsKeptPoint kept r → sql_value (at_rows (base_of p before) (one_scope xs)) (answer_shown kept answer) r [] ≡ answered_at r
+  answer_value retain.All r h = matched_value (base_of p before) xs ys (columns_apart a sa.well_formed) (columns_apart b sb.well_formed) y known common ours theirs e there sb.typed true r h.0
+  answer_value retain.True r h = ap (λ t. Ok (c.Bool t)) (sym h.1)
+  answer_value retain.False r h = ap (λ t. Ok (c.Bool t)) (sym (not-true (has r) h.1))
+
+  answer_item : (kept : Retain) (z : Component) → z.kind ≡ k.Bool → IsItem (base_of p before) (one_scope xs) (IsKeptPoint kept) answered_at (answer_shown kept answer) z
+  answer_item kept z kind = record {
+    kind = answer_kind kept ∙ sym kind;
+    fits = answer_fits kept;
+    printed = answer_printed kept;
+    value_is = answer_value kept;
     of_kind = λ r h. subst (λ q. is_of q (c.Bool (has r)) ≡ true) (sym kind) refl;
   }
 
-  last_item : (zs : List Component) → kinds_in zs ≡ k.Bool ∷ [] → AreItems (base_of p before) (one_scope xs) (IsPointOf xs) (answered_at ∷ []) (answer ∷ []) zs
-  last_item [] h = cc
-  last_item (z ∷ []) h = let kind : z.kind ≡ k.Bool = cc in (answer_item z kind, tt)
-  last_item (z ∷ u ∷ zs) h = cc
+  last_item : (kept : Retain) (zs : List Component) → kinds_in zs ≡ k.Bool ∷ [] → AreItems (base_of p before) (one_scope xs) (IsKeptPoint kept) (answered_at ∷ []) (answer_shown kept answer ∷ []) zs
+  last_item kept [] h = cc
+  last_item kept (z ∷ []) h = let kind : z.kind ≡ k.Bool = cc in (answer_item kept z kind, tt)
+  last_item kept (z ∷ u ∷ zs) h = cc
 
   abbrev values : List Valued
   values = valued p (columns_named xs ids) ++ answered_at ∷ []
 
-  abbrev items : List Exp
-  items = all_to_sql p of_one (columns_named xs ids) ++ answer ∷ []
+  abbrev items : Retain → List Exp
+  items kept = all_to_sql p of_one (columns_named xs ids) ++ answer_shown kept answer ∷ []
 
-  all_items : AreItems (base_of p before) (one_scope xs) (IsPointOf xs) values items (columns_of s)
-  all_items =
-      subst (AreItems (base_of p before) (one_scope xs) (IsPointOf xs) values items) (sym (columns_split s))
-      (items_both (base_of p before) (one_scope xs) (IsPointOf xs) (valued p (columns_named xs ids)) (answered_at ∷ []) (all_to_sql p of_one (columns_named xs ids)) (answer ∷ []) ids (others_of s)
-      (expression_items p law of_one xs (one_formed xs na) (one_scope xs) (own_names p law before x a d tx nx sa.well_formed na) before (columns_named xs ids) ids (columns_for p xs ids (columns_apart a sa.well_formed) ids_among) (columns_written xs ids))
-      (last_item (others_of s) i.truth))
+  own_items : AreItems (base_of p before) (one_scope xs) (IsPointOf xs) (valued p (columns_named xs ids)) (all_to_sql p of_one (columns_named xs ids)) ids
+  own_items = expression_items p law of_one xs (one_formed xs na) (one_scope xs) (own_names p law before x a d tx nx sa.well_formed na) before (columns_named xs ids) ids (columns_for p xs ids (columns_apart a sa.well_formed) ids_among) (columns_written xs ids)
+
+  all_items : (kept : Retain) → AreItems (base_of p before) (one_scope xs) (IsKeptPoint kept) values (items kept) (columns_of s)
+  all_items kept =
+      subst (AreItems (base_of p before) (one_scope xs) (IsKeptPoint kept) values (items kept)) (sym (columns_split s))
+      (items_behind (base_of p before) (one_scope xs) (IsKeptPoint kept) (valued p (columns_named xs ids)) (answered_at ∷ []) (all_to_sql p of_one (columns_named xs ids)) (answer_shown kept answer ∷ []) ids (others_of s)
+      (items_where (base_of p before) (one_scope xs) (IsPointOf xs) (IsKeptPoint kept) (valued p (columns_named xs ids)) (all_to_sql p of_one (columns_named xs ids)) ids (λ r h. h.0) own_items)
+      (last_item kept (others_of s) i.truth))
 
   -- ---- their values
 
@@ -192,19 +226,16 @@ module _ (p : Settings) (law : Translates p) (before : Data) (x y : Text) (a b s
 
   -- ---- the rows that are kept
 
-  abbrev is_kept : Retain → Row → Bool
-  is_kept kept r = is_retained kept (has r)
-
-  matched_are : (wanted : Bool) → source_rows (base_of p before) (select_as (items_as items (columns_of s)) (source_as first_alias x) [] (Some (is_matched wanted common y))) ≡ Ok (filter (is_answer (base_of p before) xs ys (columns_apart a sa.well_formed) (columns_apart b sb.well_formed) y known common ours theirs e there sb.typed wanted) d)
-  matched_are wanted =
+  matched_are : (es : List Exp) (wanted : Bool) → source_rows (base_of p before) (select_as (items_as es (columns_of s)) (source_as first_alias x) [] (Some (is_matched wanted common y))) ≡ Ok (filter (is_answer (base_of p before) xs ys (columns_apart a sa.well_formed) (columns_apart b sb.well_formed) y known common ours theirs e there sb.typed wanted) d)
+  matched_are es wanted =
       ap (λ t. unless (condition_fault (at_rows (base_of p before) t) (Some (is_matched wanted common y)) ((base_of p before).rows x)) (kept (at_rows (base_of p before) t) (Some (is_matched wanted common y)) ((base_of p before).rows x))) (ap (add_source [] first_alias) (known_there p law before x a d tx nx sa.well_formed na))
       ∙ ap (λ l. unless (condition_fault (at_rows (base_of p before) (one_scope xs)) (Some (is_matched wanted common y)) l) (kept (at_rows (base_of p before) (one_scope xs)) (Some (is_matched wanted common y)) l)) (rows_there p law before x a d tx nx sa.well_formed na)
       ∙ matched_rows (base_of p before) xs ys (columns_apart a sa.well_formed) (columns_apart b sb.well_formed) y known common ours theirs e there sb.typed wanted d sa.typed
 
-  rows_are : (kept : Retain) → source_rows (base_of p before) (select_as (items_as items (columns_of s)) (source_as first_alias x) [] (retained kept answer)) ≡ Ok (filter (is_kept kept) d)
+  rows_are : (kept : Retain) → source_rows (base_of p before) (select_as (items_as (items kept) (columns_of s)) (source_as first_alias x) [] (retained kept answer)) ≡ Ok (filter (is_kept kept) d)
   rows_are retain.All = ap Ok (rows_there p law before x a d tx nx sa.well_formed na ∙ sym (filter_true d))
-  rows_are retain.True = matched_are true
-  rows_are retain.False = matched_are false
+  rows_are retain.True = matched_are (items retain.True) true
+  rows_are retain.False = matched_are (items retain.False) false
 
   fits : (kept : Retain) → IsMaybeCondition (site p (tables_in before) (one_scope xs)) None (retained kept answer)
   fits retain.All = tt
@@ -218,11 +249,11 @@ module _ (p : Settings) (law : Translates p) (before : Data) (x y : Text) (a b s
 
   pub existence_means : (kept : Retain) → IsExactly p before (existence_query p kept a b s x y) s (Ok (existence_of (with_points a d) (with_points b e) kept))
   existence_means kept =
-      let q = select_as (items_as items (columns_of s)) (source_as first_alias x) [] (retained kept answer) in
+      let q = select_as (items_as (items kept) (columns_of s)) (source_as first_alias x) [] (retained kept answer) in
       let rows = filter (is_kept kept) d in
       let points = AllByRecursion-filter (IsPointOf xs) (is_kept kept) d sa.typed in
       let same : rows ≡ filter (λ r. is_retained kept (has_agreeing a (with_points b e) r)) d = filter_each (is_kept kept) (λ r. is_retained kept (has_agreeing a (with_points b e) r)) (λ r. ap (is_retained kept) (has_is r)) d in
       exactly_same p before (q ∷ []) s (each_by values rows) (Ok (existence_of (with_points a d) (with_points b e) kept)) (each_value rows points ∙ ap (λ l. Ok (map (with_answer a (with_points b e)) l)) same)
       (one_exactly p before s given q (each_by values rows)
-      (select_gives p before (one_scope xs) (IsPointOf xs) values items s all_items given (source_as first_alias x) [] (retained kept answer)
-      (one_from p law before x a d tx nx sa.well_formed na (items_as items (columns_of s)) (retained kept answer) (fits kept) (printed kept)) (Ok rows) (rows_are kept) points))
+      (select_gives p before (one_scope xs) (IsKeptPoint kept) values (items kept) s (all_items kept) given (source_as first_alias x) [] (retained kept answer)
+      (one_from p law before x a d tx nx sa.well_formed na (items_as (items kept) (columns_of s)) (retained kept answer) (fits kept) (printed kept)) (Ok rows) (rows_are kept) (all_passing (IsPointOf xs) (is_kept kept) d sa.typed)))

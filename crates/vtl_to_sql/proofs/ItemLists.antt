@@ -1,4 +1,4 @@
--- Items one behind the other, items of other columns of the same kinds, and the rows of one table at which a condition holds.
+-- Items one behind the other, items of other columns of the same kinds, items at fewer rows, and the rows of one table at which a condition holds.
 use Rattle.std.proofs.Common.{◌≡◌, Bool, true, cond, List, [], ◌∷◌, ◌++◌, None, Ok, refl, ap, ◌∙◌, subst, arith}
 use Rattle.std.specs.Prelude.{IfOk}
 use Rattle.std.specs.List.{AllByRecursion, filter}
@@ -53,6 +53,22 @@ module _ (b : Base) (s : Scope) (P : Row → Type 0) where
     value_is = λ r h. refl;
     of_kind = λ r h. subst (λ q. is_of q (c.Text text) ≡ true) same refl;
   }
+
+-- ---- items at fewer rows
+
+item_where : (b : Base) (s : Scope) (P Q : Row → Type 0) (f : Valued) (e : Exp) (y : Component) → ((r : Row) → Q r → P r) → IsItem b s P f e y → IsItem b s Q f e y
+item_where b s P Q f e y h i = record {
+  kind = i.kind;
+  fits = i.fits;
+  printed = i.printed;
+  value_is = λ r q. i.value_is r (h r q);
+  of_kind = λ r q. i.of_kind r (h r q);
+}
+
+pub items_where : (b : Base) (s : Scope) (P Q : Row → Type 0) (fs : List Valued) (es : List Exp) (ys : List Component) → ((r : Row) → Q r → P r) → AreItems b s P fs es ys → AreItems b s Q fs es ys
+items_where b s P Q [] [] [] h i = tt
+items_where b s P Q (f ∷ fs) (e ∷ es) (y ∷ ys) h i = (item_where b s P Q f e y h i.0, items_where b s P Q fs es ys h i.1)
+items_where b s P Q fs es ys h i = absurd i
 
 -- ---- a condition that has this truth at each row
 

@@ -17,7 +17,9 @@ use Rattle.rules_to_sql.specs.Columns.{column_behind, column_named, columns_name
 use Rattle.rules_to_sql.specs.Operators.{calculated_exps, measured_exps, pair_exps}
 use Rattle.rules_to_sql.specs.Trees.{ItemTree as Target, MeasureTree}
 use Rattle.rules_to_sql.specs.clauses.SubItem.{SubItem}
+use Rattle.sql_tree.specs.Trees as tree
 use Rattle.sql_tree.specs.Trees.{Text, Exp, ItemTree, JoinTree, QueryTree, SelectTree, exists, expression, on, unary}
+use Rattle.sql_tree.specs.declared.parts.Constant.TheVariants as constant
 use Rattle.sql_tree.specs.declared.parts.Equality.{Equality}
 use Rattle.sql_tree.specs.declared.parts.Source.{Source}
 use Rattle.sql_tree.specs.declared.word_groups.JoinKind.TheVariants as joining
@@ -214,7 +216,13 @@ retained retain.All e = None
 retained retain.True e = Some e
 retained retain.False e = Some (answered false e)
 
+-- the answer as a column: where the points of one answer alone are retained, it is that answer
+abbrev pub answer_shown : Retain → (answer : Exp) → Exp
+answer_shown retain.All e = e
+answer_shown retain.True e = tree.constant constant.True
+answer_shown retain.False e = tree.constant constant.False
+
 abbrev pub existence_query : Settings → Retain → (a b s : Structure) → (first second : Text) → QueryTree
 existence_query p kept a b s x y =
     let answer = is_matched true (common_identifiers a b) y in
-    select_as (items_as (all_to_sql p of_one (columns_named (columns_of a) (identifiers_of s)) ++ answer ∷ []) (columns_of s)) (source_as first_alias x) [] (retained kept answer) ∷ []
+    select_as (items_as (all_to_sql p of_one (columns_named (columns_of a) (identifiers_of s)) ++ answer_shown kept answer ∷ []) (columns_of s)) (source_as first_alias x) [] (retained kept answer) ∷ []

@@ -7,7 +7,7 @@ ghost use Rattle.check_shapes.specs.Names.{is_among};
 ghost use Rattle.rules_to_sql.specs.Agreement.{common_identifiers};
 ghost use Rattle.rules_to_sql.specs.Columns.{identifiers_of};
 ghost use Rattle.sql_tree.specs.View.{expr_tree, item_tree, query_tree};
-ghost use Rattle.vtl_to_sql.specs.Existences.{retained_matches};
+ghost use Rattle.vtl_to_sql.specs.Existences.{retained_matches, shown_matches};
 ghost use Rattle.vtl_to_sql.specs.NamedItems.{own_columns};
 ghost use Rattle.vtl_to_sql.specs.Queries.{existence_query, items_as};
 
@@ -16,7 +16,7 @@ use crate::pair_queries::Operand;
 use crate::queries::{from_one, one_select};
 use crate::set_queries::is_matched;
 use crate::writer::Writer;
-use sql_tree::{Item, Query, SqlExpr};
+use sql_tree::{Constant, Item, Query, SqlExpr};
 use std::alloc::{AllocError, Global};
 use vtl_cell::Txt;
 use vtl_syntax::Retain;
@@ -88,6 +88,23 @@ fn retained(
     Ok(Some(is_matched(alloc, writer, wanted, identifiers, other)?))
 }
 
+// The answer as a column: where the points of one answer alone are retained, it is that answer.
+fn answer_shown(
+    alloc: Global,
+    writer: &Writer,
+    kept: Retain,
+    identifiers: &[&Component],
+    other: &Txt,
+) -> Result<SqlExpr, AllocError>
+    ensures { IfOk result (λ e. expr_tree e ≡ shown_matches kept (shown identifiers.now) other.now) }
+{
+    match kept {
+        Retain::All => is_matched(alloc, writer, true, identifiers, other),
+        Retain::True => Ok(SqlExpr::Constant(Constant::True)),
+        Retain::False => Ok(SqlExpr::Constant(Constant::False)),
+    }
+}
+
 /// `exists_in`: for each point whether the second operand has one that agrees on the identifiers that both have. It
 /// fails only if memory runs out.
 pub(crate) fn existence_query(
@@ -101,7 +118,7 @@ pub(crate) fn existence_query(
     ensures { IfOk result (λ q. query_tree q ≡ existence_query writer.now kept a.now.structure.now b.now.structure.now s.now a.now.table.now b.now.table.now) }
 {
     let common = common_identifiers(alloc, a.structure, b.structure)?;
-    let answer = is_matched(alloc, writer, true, &common, b.table)?;
+    let answer = answer_shown(alloc, writer, kept, &common, b.table)?;
     let items = answered_items(alloc, writer, s, answer)?;
     let condition = retained(alloc, writer, kept, &common, b.table)?;
     one_select(alloc, from_one(alloc, writer, items, condition, a.table)?)

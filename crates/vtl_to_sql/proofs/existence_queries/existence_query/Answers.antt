@@ -1,4 +1,4 @@
-use Rattle.std.proofs.Common.{[], ◌∷◌, ◌++◌, List, Option, ap, sym, true, ◌∙◌}
+use Rattle.std.proofs.Common.{[], ◌∷◌, ◌++◌, List, Option, ap, sym, ◌∙◌}
 use Rattle.std.proofs.lemmas.Result.{IfOk-weaker}
 use Rattle.std.specs.Option.{option_map}
 use Rattle.vtl_tree.specs.Shown.{shown}
@@ -8,10 +8,10 @@ use Rattle.rules_to_sql.specs.Agreement.{common_identifiers}
 use Rattle.rules_to_sql.specs.Columns.{identifiers_of}
 use Rattle.sql_tree.specs.Trees.{Exp}
 use Rattle.sql_tree.specs.View.{expr_tree}
-use Rattle.vtl_to_sql.specs.Existences.{retained_matches}
+use Rattle.vtl_to_sql.specs.Existences.{retained_matches, shown_matches}
 use Rattle.vtl_to_sql.specs.Items.{from_one}
 use Rattle.vtl_to_sql.specs.NamedItems.{own_columns}
-use Rattle.vtl_to_sql.specs.Queries.{is_matched, items_as}
+use Rattle.vtl_to_sql.specs.Queries.{items_as}
 use Rattle.vtl_to_sql.proofs.ExistenceForms.{existence_written}
 use Rattle.vtl_to_sql.proofs.existence_queries.existence_query.Goals as goal
 
@@ -29,6 +29,6 @@ returns c =
     (λ q e. e ∙ ap (λ x. x ∷ [])
     (c.in_ok-from_one.ensures
     ∙ ap (λ l. from_one l condition a.table.now) c.in_ok-items.ensures
-    ∙ ap (λ x. from_one (items x) condition a.table.now) (c.in_ok-answer.ensures ∙ ap (λ (xs : List Component). is_matched true xs b.table.now) ours)
-    ∙ ap (λ (o : Option Exp). from_one (items (is_matched true ids b.table.now)) o a.table.now) (c.in_ok-condition.ensures ∙ ap (λ (xs : List Component). retained_matches c.args.kept xs b.table.now) theirs))
+    ∙ ap (λ x. from_one (items x) condition a.table.now) (c.in_ok-answer.ensures ∙ ap (λ (xs : List Component). shown_matches c.args.kept xs b.table.now) ours)
+    ∙ ap (λ (o : Option Exp). from_one (items (shown_matches c.args.kept ids b.table.now)) o a.table.now) (c.in_ok-condition.ensures ∙ ap (λ (xs : List Component). retained_matches c.args.kept xs b.table.now) theirs))
     ∙ sym (existence_written c.args.writer.now c.args.kept a.structure.now b.structure.now s a.table.now b.table.now)) c.one_select.ensures
