@@ -7,6 +7,8 @@ pub mod MadeStatements
 pub mod NamesRead
 pub mod NodesEvaluated
 pub mod PlacesRead
+pub mod ReorderedRuns
+pub mod Reorders
 pub mod Scripts
 pub mod Starts
 pub mod Steps

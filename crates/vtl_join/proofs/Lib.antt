@@ -1,3 +1,4 @@
+pub use Rattle.vtl_meaning.proofs.ScriptsOrders
 pub mod Pieced
 pub mod Picked
 pub mod PickKinds

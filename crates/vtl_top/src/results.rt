@@ -16,7 +16,7 @@ ghost use Rattle.vtl_top.specs.Steps.{status_of};
 use crate::output::Output;
 use crate::reading::file_in;
 use std::alloc::{AllocError, Global};
-use vtl_interp::{Backend, Checked, RunErr};
+use vtl_interp::{Backend, Checked, RunErr, run_over};
 use vtl_rows::{Table, Tables};
 use vtl_status::{Status, write_dataset};
 use vtl_text::Txt;
@@ -109,9 +109,7 @@ pub fn results<B: Backend>(
     // The nodes are the typing of the script, so the structures of its results are known.
     let _nodes = checked.nodes();
     let mut tables = Tables::new(alloc);
-    let ran = back.run(alloc, checked, &inputs, &mut tables);
-    drop(inputs);
-    match ran {
+    match run_over(alloc, back, checked, inputs, &mut tables) {
         Ok(()) => Ok(make_outputs(alloc, folder, checked, &tables)?),
         Err(error) => Err(faulted(error)),
     }

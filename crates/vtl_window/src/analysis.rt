@@ -43,7 +43,8 @@ fn analyzed_table(
 
 /// The values of an analytic operator at each point, as a data set of the structure that typing gives: its points are
 /// those of the operand, in its order, with what is made in place of the columns of its names. All values see the points
-/// of the operand. It takes the time of a sort for each call, and twice the memory of the result.
+/// of the operand. It takes the time of a sort for each call, less where the points stand in its order already; and besides the
+/// result the memory of each column that is made, and of the numbers of the points.
 ///
 /// DivZero where a value at some point divides by zero; otherwise Range where one is out of range; otherwise it fails
 /// only if memory runs out.

@@ -1,0 +1,111 @@
+// Whether expressions have windows that go along identifiers.
+
+use vtl_cell::Txt;
+use vtl_nodes::{AnalyticSpec, CalcItem, CalcValue, JoinOperand, Node, NodeForm, Window};
+use vtl_tree::{Role, Structure, is_same_role};
+
+// Whether a structure has an identifier of this name.
+fn is_identifier(structure: &Structure, name: &Txt) -> bool {
+    for component in structure.components.as_slice() {
+        if component.name == *name {
+            return is_same_role(component.role, Role::Identifier);
+        }
+    }
+    false
+}
+
+// Whether a window cuts and orders the points of this structure by identifiers alone.
+fn goes_along_identifiers(window: &Window, structure: &Structure) -> bool {
+    for name in window.partition.as_slice() {
+        if !is_identifier(structure, name) {
+            return false;
+        }
+    }
+    for key in window.order.as_slice() {
+        if !is_identifier(structure, &key.component) {
+            return false;
+        }
+    }
+    true
+}
+
+// The same of the window of a target of `calc`, if it has one.
+fn target_goes_along_identifiers(item: &CalcItem, structure: &Structure) -> bool {
+    match &item.value {
+        CalcValue::Scalar(_) => false,
+        CalcValue::Analytic(call) => goes_along_identifiers(&call.window, structure),
+    }
+}
+
+// The same of any window of an operator on points of this structure.
+fn any_goes_along_identifiers(spec: &AnalyticSpec, structure: &Structure) -> bool {
+    match spec {
+        AnalyticSpec::Measures { op: _, window } => goes_along_identifiers(window, structure),
+        AnalyticSpec::Calc(items) => {
+            for item in items.as_slice() {
+                if target_goes_along_identifiers(item, structure) {
+                    return true;
+                }
+            }
+            false
+        }
+    }
+}
+
+/// Whether any of these expressions has a window that goes along identifiers, at its head or in an operand.
+#[cycle(windowed)]
+pub fn have_window(nodes: &[Node]) -> bool {
+    for node in nodes {
+        if has_window(node) {
+            return true;
+        }
+    }
+    false
+}
+
+#[cycle(windowed)]
+fn has_window(node: &Node) -> bool {
+    match &node.form {
+        NodeForm::Analytic { a, spec } => {
+            any_goes_along_identifiers(spec, &a.structure) || has_window(a)
+        }
+        NodeForm::Named(_) => false,
+        NodeForm::Join { operands, .. } => operands_have_window(operands),
+        NodeForm::Union(nodes) | NodeForm::Intersect(nodes) => have_window(nodes),
+        NodeForm::Choose { c, a, b } => has_window(c) || has_window(a) || has_window(b),
+        NodeForm::Pair { a, b, .. }
+        | NodeForm::SetDiff { a, b }
+        | NodeForm::SymDiff { a, b }
+        | NodeForm::ExistsIn { a, b, .. }
+        | NodeForm::Check {
+            a,
+            imbalance: Some(b),
+            ..
+        } => has_window(a) || has_window(b),
+        NodeForm::Measures { a, .. }
+        | NodeForm::Member { a, .. }
+        | NodeForm::Filter { a, .. }
+        | NodeForm::Calc { a, .. }
+        | NodeForm::Keep { a, .. }
+        | NodeForm::DropNamed { a, .. }
+        | NodeForm::Rename { a, .. }
+        | NodeForm::Sub { a, .. }
+        | NodeForm::Pivot { a, .. }
+        | NodeForm::Unpivot { a, .. }
+        | NodeForm::Aggregate { a, .. }
+        | NodeForm::Check { a, .. }
+        | NodeForm::CheckDatapoint { a, .. }
+        | NodeForm::CheckHierarchy { a, .. }
+        | NodeForm::Hierarchy { a, .. } => has_window(a),
+    }
+}
+
+#[cycle(windowed)]
+fn operands_have_window(operands: &[JoinOperand]) -> bool {
+    for operand in operands {
+        if has_window(&operand.node) {
+            return true;
+        }
+    }
+    false
+}
