@@ -14,10 +14,50 @@ ghost use Rattle.sql_groups.specs.Kept.{rows_of, tables_of};
 
 use sql_eval::{Cells, Resolved, value_at};
 use sql_from::{Partners, Seen, TupleRows};
-use std::alloc::Global;
+use std::alloc::{AllocError, Global};
 use vtl_agg::Acc;
 use vtl_cell::{AggKind, Cell, Profile};
 use vtl_scalar::ScalarErr;
+
+// The rows of this many numbers are fetched side by side.
+const BLOCK: usize = 32;
+
+// How many of the rows with these numbers have a value at a place, or a little less. No read of it waits for another, so
+// the processor fetches the rows, which lie anywhere in memory, side by side.
+fn fetched(rows: &TupleRows<'_>, numbers: &[usize], place: usize) -> usize {
+    let mut count = 0usize;
+    for number in numbers {
+        if *number < rows.len() {
+            match rows.row(*number).cell(place) {
+                Cell::Null => {}
+                _ => count = count.saturating_add(1),
+            }
+        }
+    }
+    count
+}
+
+// Fetches the next rows where a block of them begins, if a column is asked of them. Their count is looked at so that they
+// are fetched; it never is so great.
+fn fetch_block(
+    rows: &TupleRows<'_>,
+    numbers: &[usize],
+    i: usize,
+    operand: &Resolved,
+) -> Result<(), AllocError> {
+    let Resolved::Column(place) = operand else {
+        return Ok(());
+    };
+    if i % BLOCK != 0 {
+        return Ok(());
+    }
+    let rest = numbers.get(i..).unwrap_or(&[]);
+    let block = &rest[..rest.len().min(BLOCK)];
+    if fetched(rows, block, *place) > BLOCK {
+        return Err(AllocError);
+    }
+    Ok(())
+}
 
 // Adds the value that an expression has at a row, or null where it has a fault, which is recorded.
 fn add_value<R: Cells>(
@@ -77,7 +117,10 @@ pub(crate) fn aggregate<'a>(
 {
     let mut acc = Acc::new(alloc, function, p);
     let mut seen = Seen::Nothing;
+    let mut count = 0usize;
     for number in numbers {
+        fetch_block(rows, numbers, count, operand)?;
+        count = count.saturating_add(1);
         let at = rows.partnered(*number, partners);
         seen = add_value(alloc, &mut acc, seen, operand, &at, p)?;
     }
