@@ -71,6 +71,7 @@ fits_count (k ∷ ks) (x ∷ xs) e = let h = fits_count ks xs (fits_both (is_of 
 pub fits_wide : (columns : List Column) (row : Row) → fits columns row ≡ true → length row ≡ length columns
 fits_wide columns row e = let l : length (column_kinds columns) ≡ length columns = simp length-map refl in fits_count (column_kinds columns) row e ∙ l
 
+-- ---- for a list that grows row by row, as `of_cells` takes it: none at the start, and one row more
 pub IsFlat-none : (columns : List Column) (cells : List Cell) → 0 < length columns → cells ≡ [] → IsFlat columns 0 cells
 IsFlat-none columns cells some e = let l : length cells ≡ 0 = ap length e in record { wide = some; whole = omega (arith, l); fit = λ k d h. absurd (omega (arith, h)) }
 
@@ -83,6 +84,9 @@ IsFlat-push columns n cells row flat h =
       whole = omega (arith, l, w, flat.whole);
       fit = subst (AllFit columns) (sym (flat_rows-push (length columns) n cells row flat.whole w)) (All-push (λ r. fits columns r ≡ true) (flat_rows (length columns) n cells) row flat.fit h);
     }
+
+pub rows_push : (columns : List Column) (n : ℕ) (cells row : List Cell) → IsFlat columns n cells → fits columns row ≡ true → flat_rows (length columns) (n + 1) (cells ++ row) ≡ flat_rows (length columns) n cells ++ row ∷ []
+rows_push columns n cells row flat h = flat_rows-push (length columns) n cells row flat.whole (fits_wide columns row h)
 
 -- below other columns of the same kinds
 pub as_many_kinds : (columns other : List Column) → column_kinds other ≡ column_kinds columns → length other ≡ length columns

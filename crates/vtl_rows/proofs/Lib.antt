@@ -6,6 +6,7 @@ pub mod Gathers
 pub mod InOrder
 pub mod Least
 pub mod Marks
+pub mod MovedUp
 pub mod NamedLemmas
 pub mod Placed
 pub mod Probed

@@ -1,5 +1,5 @@
 -- Rows by their places in a table.
-use Rattle.std.specs.Prelude.{◌≡◌, ℕ, ◌+◌, ◌<◌, ◌&&◌, Bool, false, List, [], map, length, nat_lt, slice_index_or, IsPermutation}
+use Rattle.std.specs.Prelude.{◌≡◌, ℕ, ◌+◌, ◌<◌, ◌&&◌, Bool, false, List, [], map, length, nat_lt, slice_index, slice_index_or, IsPermutation}
 use Rattle.std.specs.List.{range_with_len}
 use Rattle.std.specs.List.Sorted.{IsSorted}
 use Rattle.std.specs.Ordering.{is_lt, on, ordering_then, nat_cmp, then_cmp}
@@ -11,6 +11,10 @@ use Rattle.vtl_rows.specs.Keys.{key_of, ordered, tie_by}
 -- the row at a place, or no cells past the last
 abbrev pub row_at : List Row → ℕ → Row
 row_at rows i = slice_index_or rows i []
+
+-- each place is greater than the one before it
+abbrev pub AreRising : List ℕ → Type 0
+AreRising places = (k : ℕ) → k + 1 < length places → slice_index places k < slice_index places (k + 1)
 
 -- a number that stands behind a word
 abbrev pub number_at : ℕ × ℕ → ℕ

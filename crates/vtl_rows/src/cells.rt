@@ -1,8 +1,12 @@
 // The cells of a table, which may have other owners.
-ghost use Rattle.std.specs.Prelude.{◌≡◌, ◌++◌, [], true, IfOk, OnOk, OnErr};
-ghost use Rattle.vtl_rows.specs.Flat.{cells_of, is_own};
+ghost use Rattle.std.specs.Prelude.{◌≡◌, ◌<◌, ◌*◌, ◌++◌, [], true, length, All, IfOk, OnOk, OnErr};
+ghost use Rattle.std.specs.List.{flat_map};
+ghost use Rattle.vtl_rows.specs.Flat.{cells_of, flat_rows, is_own};
+ghost use Rattle.vtl_rows.specs.Places.{AreRising};
+ghost use Rattle.vtl_rows.specs.Tables.{cells_at};
 
 use crate::order::append_copies;
+use crate::project::moved_together;
 use std::alloc::{AllocError, Global};
 use std::mem;
 use std::rc::Rc;
@@ -32,6 +36,27 @@ impl Cells {
         match self {
             Cells::Own(cells) => cells.as_slice(),
             Cells::Shared(cells) => Rc::as_ref(cells).as_slice(),
+        }
+    }
+
+    // Whether they belong to one table.
+    pub(crate) fn is_own(&self) -> bool
+        ensures { result ≡ is_own self.now }
+    {
+        matches!(self, Cells::Own(_))
+    }
+
+    // The cells at rising places of every row, moved together; none is copied.
+    pub(crate) fn moved_together(self, width: usize, rows: usize, places: &[usize]) -> Vec<Cell>
+        requires own { is_own self ≡ true }
+        requires whole { length (cells_of self) ≡ rows * width }
+        requires rising { AreRising places.now }
+        requires within { All (λ i. i < width) places.now }
+        ensures { result.items ≡ flat_map (cells_at places.now) (flat_rows width rows (cells_of self)) }
+    {
+        match self {
+            Cells::Own(cells) => moved_together(cells, width, rows, places),
+            Cells::Shared(_) => unreachable!(),
         }
     }
 

@@ -30,7 +30,7 @@ impl Table {
     {
         let columns = copied_columns(alloc, self.columns())?;
         let cells = gather(alloc, self, rows)?;
-        Ok(Table::flat(columns, cells, rows.len()))
+        Ok(Table::of_cells(columns, cells, rows.len()))
     }
 }
 
@@ -54,7 +54,7 @@ pub fn gather_beside(
     parts_fit(parts);
     let count = tuples.len() / parts.len();
     let cells = picked_cells(alloc, parts, tuples, picks)?;
-    Ok(Table::flat(columns, cells, count))
+    Ok(Table::of_cells(columns, cells, count))
 }
 
 // The rows of every part fit its columns, as each part tells of itself.

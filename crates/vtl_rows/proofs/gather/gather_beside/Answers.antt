@@ -9,15 +9,15 @@ nonzero_div-count c = some_part c.args.columns.items (picked_kind (map (λ t. t.
 pub picked_cells-requires-clause-some : goal.picked_cells-requires-clause-some
 picked_cells-requires-clause-some c = some_part c.args.columns.items (picked_kind (map (λ t. t.now) c.args.parts.now)) c.args.picks.now (length c.args.parts.now) c.requires.some c.requires.within c.requires.kinds
 
-pub flat-requires : goal.flat-requires
-flat-requires c =
+pub of_cells-requires : goal.of_cells-requires
+of_cells-requires c =
     made_flat (picked (map (λ t. t.now) c.args.parts.now) c.args.picks.now) c.args.columns.items (pieces (length c.args.parts.now) c.args.tuples.now) _ c.in_ok-cells.cells.items
     (all_picked_fit (map (λ t. t.now) c.args.parts.now) c.parts_fit.ensures c.args.columns.items c.args.picks.now (pieces (length c.args.parts.now) c.args.tuples.now) c.requires.kinds)
     (sym (length-pieces (length c.args.parts.now) c.args.tuples.now)) c.in_ok-cells.ensures c.requires.some
 
 pub returns-clause-rows : goal.returns-clause-rows
 returns-clause-rows c =
-    c.flat.ensures.rows
+    c.of_cells.ensures.rows
     ∙ made_rows (picked (map (λ t. t.now) c.args.parts.now) c.args.picks.now) c.args.columns.items (pieces (length c.args.parts.now) c.args.tuples.now) _ c.in_ok-cells.cells.items
     (all_picked_fit (map (λ t. t.now) c.args.parts.now) c.parts_fit.ensures c.args.columns.items c.args.picks.now (pieces (length c.args.parts.now) c.args.tuples.now) c.requires.kinds)
     (sym (length-pieces (length c.args.parts.now) c.args.tuples.now)) c.in_ok-cells.ensures
