@@ -1,13 +1,14 @@
 // Keys of rows: the cells of listed columns, as they count there.
 ghost use Rattle.std.specs.Prelude.{◌≡◌, ◌≤◌, length, OnOk};
+ghost use Rattle.std.specs.Hash.FoldHasher as folding;
 ghost use Rattle.std.specs.List.{list_any};
 ghost use Rattle.std.specs.Ordering.{nat_cmp, on, then_cmp};
 ghost use Rattle.vtl_cell.specs.Kinds.{is_null};
 ghost use Rattle.vtl_cell.specs.Order.{cell_cmp};
-ghost use Rattle.vtl_cell.specs.Row.{row_cmp, same_row};
+ghost use Rattle.vtl_cell.specs.Row.{column_of, row_cmp, same_row};
 ghost use Rattle.vtl_rows.specs.Places.{row_at};
 ghost use Rattle.vtl_index.specs.Counted.{counted_value};
-ghost use Rattle.vtl_index.specs.RowKeys.{begun, count_in, counted, hash_by, hashes_by, key_cell, key_of, keys_in, tag_of};
+ghost use Rattle.vtl_index.specs.RowKeys.{begun, count_in, counted, hash_by, hashes_by, key_cell, key_of, keys_in, tag_of, with_cell};
 
 use std::alloc::AllocError;
 use std::cmp::Ordering;
@@ -155,7 +156,7 @@ impl RowKey<'_> {
     {
         let mut state = hashing.begin();
         for at in self.columns {
-            self.cell_at(*at).cell().hash(&mut state);
+            hash_cell(self, *at, &mut state);
         }
         state.finish()
     }
@@ -165,7 +166,30 @@ impl RowKey<'_> {
 fn compare_cells(a: &RowKey, at: KeyColumn, b: &RowKey, other_at: KeyColumn) -> Ordering
     ensures { result ≡ cell_cmp (key_cell a.now.p.now a.now.row.now at) (key_cell b.now.p.now b.now.row.now other_at) }
 {
-    compare(a.cell_at(at).cell(), b.cell_at(other_at).cell())
+    match (at.form, other_at.form) {
+        (KeyForm::AsIs, KeyForm::AsIs) => compare_plain(a.row, at.column, b.row, other_at.column),
+        _ => compare(a.cell_at(at).cell(), b.cell_at(other_at).cell()),
+    }
+}
+
+// The same where the cells count as they are.
+fn compare_plain(a: &[Cell], column: usize, b: &[Cell], other_column: usize) -> Ordering
+    ensures { result ≡ cell_cmp (column_of column a.now) (column_of other_column b.now) }
+{
+    let null = Cell::Null;
+    let x = a.get(column).unwrap_or(&null);
+    let y = b.get(other_column).unwrap_or(&null);
+    compare(x, y)
+}
+
+// Takes in a cell as it counts in a key.
+fn hash_cell(key: &RowKey, at: KeyColumn, state: &mut FoldHasher)
+    ensures { state.new ≡ with_cell folding.write state.old (key_cell key.now.p.now key.now.row.now at) }
+{
+    match (at.form, key.row.get(at.column)) {
+        (KeyForm::AsIs, Some(cell)) => cell.hash(state),
+        _ => key.cell_at(at).cell().hash(state),
+    }
 }
 
 // The upper half of a hash.

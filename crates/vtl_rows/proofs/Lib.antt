@@ -9,6 +9,7 @@ pub mod Marks
 pub mod MovedUp
 pub mod NamedLemmas
 pub mod Placed
+pub mod PlacesStay
 pub mod Probed
 pub mod SeenRows
 pub mod Stable

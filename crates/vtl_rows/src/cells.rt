@@ -39,6 +39,19 @@ impl Cells {
         }
     }
 
+    // The same cells, for one table where they have no other owner.
+    pub(crate) fn let_go(self) -> Cells
+        ensures { cells_of result ≡ cells_of self }
+    {
+        match self {
+            Cells::Own(cells) => Cells::Own(cells),
+            Cells::Shared(shared) => match Rc::try_unwrap(shared) {
+                Ok(cells) => Cells::Own(cells),
+                Err(shared) => Cells::Shared(shared),
+            },
+        }
+    }
+
     // Whether they belong to one table.
     pub(crate) fn is_own(&self) -> bool
         ensures { result ≡ is_own self.now }

@@ -28,6 +28,7 @@ mod tables;
 pub use column::{Column, SortKey};
 pub use gather::{Pick, gather_beside};
 pub use laws::{all_columns_end_ties, all_columns_order_rows};
+pub use project::are_all;
 pub use runs::ranks;
 pub use shared::SharedTable;
 pub use table::Table;

@@ -1,7 +1,7 @@
 // Columns chosen from others, and the cells below them.
 ghost use Rattle.std.specs.Prelude.{◌≡◌, ℕ, ◌<◌, ◌≤◌, ◌+◌, ◌*◌, ◌++◌, length, map, take, drop, All, IfOk, OnOk};
 ghost use Rattle.std.specs.Bool.{OnTrue};
-ghost use Rattle.std.specs.List.{flat_map};
+ghost use Rattle.std.specs.List.{flat_map, range_with_len};
 ghost use Rattle.vtl_cell.specs.Row.{column_of};
 ghost use Rattle.vtl_rows.specs.Flat.{flat_rows};
 ghost use Rattle.vtl_rows.specs.Places.{AreRising};
@@ -81,6 +81,21 @@ pub(crate) fn copy_at(row: &[Cell], place: usize) -> Result<Cell, AllocError>
         Some(cell) => clone_cell(cell),
         None => Ok(Cell::Null),
     }
+}
+
+/// Whether places are all those below a count, each once and in order.
+pub fn are_all(places: &[usize], count: usize) -> bool
+    ensures { OnTrue result (places.now ≡ range_with_len 0 count) }
+{
+    if places.len() != count {
+        return false;
+    }
+    for i in 0..count {
+        if places[i] != i {
+            return false;
+        }
+    }
+    true
 }
 
 // Whether each place is greater than the one before it.

@@ -1,6 +1,6 @@
 // Tables with several owners.
-ghost use Rattle.std.specs.Prelude.{◌≡◌, IfOk};
-ghost use Rattle.vtl_rows.specs.Tables.{column_kinds};
+ghost use Rattle.std.specs.Prelude.{◌≡◌, ◌<◌, length, map, All, IfOk};
+ghost use Rattle.vtl_rows.specs.Tables.{cells_at, column_at, column_kinds};
 
 use crate::{Column, Table};
 use std::alloc::{AllocError, Global};
@@ -58,6 +58,18 @@ impl SharedTable {
     {
         let SharedTable { table } = self;
         table.into_own(alloc)
+    }
+
+    /// The columns at these places, as `Table::into_projected` gives them. It fails only if memory runs out.
+    pub fn into_projected(self, alloc: Global, columns: &[usize]) -> Result<SharedTable, AllocError>
+        requires some { 0 < length columns.now }
+        requires within { All (λ i. i < length self.columns) columns.now }
+        ensures columns { IfOk result (λ t. t.columns ≡ map (column_at self.columns) columns.now) }
+        ensures rows { IfOk result (λ t. t.rows ≡ map (cells_at columns.now) self.rows) }
+    {
+        let SharedTable { table } = self;
+        let table = table.into_projected(alloc, columns)?;
+        SharedTable::of(alloc, table)
     }
 
     /// The same rows below other columns, of the same kinds as before: no cell is copied. It takes no memory.

@@ -91,6 +91,14 @@ impl DataSet {
         self.table.share()
     }
 
+    /// The table of the points, with its other owners. It takes no memory.
+    pub fn into_shared_table(self) -> SharedTable
+        ensures points { result.rows ≡ self.points }
+        ensures table { IsTableOf self.structure result }
+    {
+        self.table
+    }
+
     /// The table of the points itself: it is copied where it has other owners. It fails only if memory runs out.
     pub fn into_table(self, alloc: Global) -> Result<Table, AllocError>
         ensures points { IfOk result (λ t. t.rows ≡ self.points) }
