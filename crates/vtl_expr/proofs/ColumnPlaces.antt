@@ -1,28 +1,17 @@
 -- Columns of structures, and the columns of their tables.
-use Rattle.std.proofs.Common.{◌≡◌, true, ℕ, zero, suc, ◌<◌, ◌≤◌, List, [], ◌∷◌, length, map, get_or, All, Option, Some, None, refl, sym, ap, ◌∙◌, arith}
-use Rattle.std.specs.List.{AllByRecursion, range_with_len}
-use Rattle.std.specs.Option.{option_map_or}
-use Rattle.std.specs.Prelude.{slice_get}
-use Rattle.std.specs.Borrow.{Bor}
+use Rattle.std.proofs.Common.{◌≡◌, ℕ, zero, suc, ◌<◌, ◌≤◌, List, [], ◌∷◌, length, map, All, refl, ap, ◌∙◌, arith}
+use Rattle.std.specs.List.{AllByRecursion}
 use Rattle.std.proofs.lemmas.List.{length-map}
-use Rattle.std.proofs.lemmas.List.Folds.{find_at}
-use Rattle.vtl_cell.specs.Row.{Row}
-use Rattle.vtl_cell.specs.declared.cell.Cell.TheVariants as cell
 use Rattle.vtl_cell.specs.declared.kind.Kind.{Kind}
-use Rattle.vtl_cell.specs.declared.kind.Kind.TheVariants as k
-use Rattle.vtl_rows.specs.Tables.{cells_at, column_at}
+use Rattle.vtl_rows.specs.Tables.{column_at}
 use Rattle.vtl_rows.specs.declared.column.Column.{Column}
-use Rattle.vtl_index.proofs.Ranges.{all_indexed}
-use Rattle.vtl_tree.specs.DataSet.{is_point}
-use Rattle.vtl_tree.specs.Shown.{shown}
-use Rattle.vtl_tree.specs.Structure.{columns_of, same_name}
+use Rattle.vtl_tree.specs.Structure.{columns_of}
 use Rattle.vtl_tree.specs.declared.structure.Component.{Component}
 use Rattle.vtl_tree.specs.declared.structure.Structure.{Structure}
-use Rattle.vtl_sets.specs.TableOf.{column_for, table_columns}
+use Rattle.vtl_sets.specs.TableOf.{column_for}
 use Rattle.vtl_sets.proofs.ColumnLemmas.{some_columns}
-use Rattle.vtl_meaning.specs.Columns.{kind_named, place_of, places_in}
+use Rattle.vtl_meaning.specs.Columns.{place_of, places_in}
 use Rattle.vtl_meaning.specs.Made.{AreAmong, IsColumnAt}
-use Rattle.vtl_meaning.proofs.Places.{point_length}
 
 -- ---- columns that are chosen by their names
 abbrev column_with : List ℕ → Kind → Column
@@ -56,17 +45,3 @@ some_places a s places h e =
     let some = some_columns s.components h in
     let l = ap length e ∙ length-map (columns_of s) (λ y. place_of y.name (columns_of a)) in
     omega (arith, some, l)
-
--- ---- where these are all columns, in their order
-module _ (a s : Structure) (all : AreAmong (columns_of s) (columns_of a)) (whole : places_in (columns_of a) (columns_of s) ≡ range_with_len 0 (length (columns_of a))) where
-  pub same_columns : table_columns a ≡ table_columns s
-  same_columns =
-      let columns = table_columns a in
-      sym (all_indexed columns (column_with [] k.Null)) ∙ ap (λ n. map (column_at columns) (range_with_len 0 n)) (length-map (columns_of a) column_for)
-      ∙ ap (map (column_at columns)) (sym whole) ∙ chosen_columns (columns_of a) (columns_of s) all
-
-  pub same_rows : (rows : List Row) → AllByRecursion (λ r. is_point (columns_of a) r ≡ true) rows → rows ≡ map (cells_at (places_in (columns_of a) (columns_of s))) rows
-  same_rows [] are = refl
-  same_rows (r ∷ rows) are =
-      ap (λ (x : Row). x ∷ rows) (sym (all_indexed r cell.Null) ∙ ap (λ n. cells_at (range_with_len 0 n) r) (point_length (columns_of a) r are.0) ∙ ap (λ l. cells_at l r) (sym whole))
-      ∙ ap (λ l. cells_at (places_in (columns_of a) (columns_of s)) r ∷ l) (same_rows rows are.1)

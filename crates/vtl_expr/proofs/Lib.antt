@@ -16,6 +16,5 @@ pub mod MeasureLemmas
 pub mod PairLemmas
 pub mod PointLemmas
 pub mod PreparedLemmas
-pub mod Ranges
 pub mod Values
 pub mod Walks

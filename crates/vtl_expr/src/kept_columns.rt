@@ -1,8 +1,8 @@
 // Some of the columns of a data set.
-ghost use Rattle.std.specs.Bool.{OnTrue};
-ghost use Rattle.std.specs.List.{range_with_len};
 ghost use Rattle.std.specs.Prelude.{◌≡◌, IfOk};
+ghost use Rattle.vtl_tree.specs.Structure.{columns_of};
 ghost use Rattle.vtl_sets.specs.DataSets.{data_set};
+ghost use Rattle.vtl_meaning.specs.Columns.{places_in};
 ghost use Rattle.vtl_meaning.specs.Made.{IsLeft};
 ghost use Rattle.vtl_meaning.specs.Operators.{left_of};
 ghost use Rattle.vtl_sets.specs.TableOf.{IsTableOf};
@@ -13,42 +13,30 @@ use vtl_rows::SharedTable;
 use vtl_sets::DataSet;
 use vtl_tree::Structure;
 
-// Whether these are the places of so many columns, in their order.
-fn are_all(places: &[usize], count: usize) -> bool
-    ensures { OnTrue result (places.now ≡ range_with_len 0 count) }
-{
-    if places.len() != count {
-        return false;
-    }
-    for i in 0..count {
-        if places[i] != i {
-            return false;
-        }
-    }
-    true
-}
-
-// The table of the columns of a structure: one more owner of the same one where it has all columns in their order.
-fn kept_table(alloc: Global, a: &DataSet, made: &Structure) -> Result<SharedTable, AllocError>
-    requires { IsLeft a.now.structure made.now }
-    ensures table { IfOk result (IsTableOf made.now) }
-    ensures rows { IfOk result (λ t. t.rows ≡ left_of a.now made.now) }
+// The places of the columns of a structure.
+fn kept_places(alloc: Global, a: &DataSet, made: &Structure) -> Result<Vec<usize>, AllocError>
+    ensures { IfOk result (λ v. v.items ≡ places_in (columns_of a.now.structure) (columns_of made.now)) }
 {
     let columns = made.columns(alloc)?;
-    let places = places_in(alloc, a.structure(), &columns)?;
-    let table = a.table();
-    if are_all(&places, table.columns().len()) {
-        return a.share_table();
-    }
-    let projected = table.project(alloc, &places)?;
-    SharedTable::of(alloc, projected)
+    places_in(alloc, a.structure(), &columns)
 }
 
-/// The points with the columns of this structure alone, which has all identifiers: `keep`, `drop` and `a#m`. No cell is
-/// copied where these are all columns in their order. It fails only if memory runs out.
-pub fn keep_columns(alloc: Global, a: &DataSet, made: Structure) -> Result<DataSet, AllocError>
-    requires { IsLeft a.now.structure made }
-    ensures { IfOk result (λ d. d ≡ data_set made (left_of a.now made)) }
+// The table of the columns of a structure.
+fn kept_table(alloc: Global, a: DataSet, made: &Structure) -> Result<SharedTable, AllocError>
+    requires { IsLeft a.structure made.now }
+    ensures table { IfOk result (IsTableOf made.now) }
+    ensures rows { IfOk result (λ t. t.rows ≡ left_of a made.now) }
+{
+    let places = kept_places(alloc, &a, made)?;
+    a.into_shared_table().into_projected(alloc, &places)
+}
+
+/// The points with the columns of this structure alone, which has all identifiers: `keep`, `drop` and `a#m`. The table
+/// stays where these are all columns in their order. Else its cells are moved together where it has no other owner and
+/// the columns keep their order, and are copied where not. It fails only if memory runs out.
+pub fn keep_columns(alloc: Global, a: DataSet, made: Structure) -> Result<DataSet, AllocError>
+    requires { IsLeft a.structure made }
+    ensures { IfOk result (λ d. d ≡ data_set made (left_of a made)) }
 {
     let table = kept_table(alloc, a, &made)?;
     Ok(DataSet::shared(made, table))
