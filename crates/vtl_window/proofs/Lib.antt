@@ -1,5 +1,6 @@
 pub mod AnalysisLemmas
 pub mod CallLemmas
+pub mod OrderLemmas
 pub mod PartitionLemmas
 pub mod PlaceLemmas
 pub mod PutLemmas
@@ -7,4 +8,5 @@ pub mod RankLemmas
 pub mod RunLemmas
 pub mod SortLemmas
 pub mod StretchLemmas
+pub mod ValueLemmas
 pub mod Windowed

@@ -7,12 +7,14 @@ use Rattle.std.specs.Ordering.{is_eq, is_gt, is_lt, ordering_reverse}
 use Rattle.std.specs.declared.cmp.Ordering.{Ordering}
 use Rattle.std.specs.declared.cmp.Ordering.TheVariants.{Less, Equal, Greater}
 use Rattle.std.proofs.lemmas.Cmp.{upto}
-use Rattle.std.proofs.lemmas.List.Sums.{sum_by-cons}
+use Rattle.std.proofs.lemmas.List.Sums.{length-filter, sum_by-cons}
+use Rattle.vtl_cell.specs.Perm.{Perm}
 use Rattle.vtl_cell.specs.Row.{Row}
 use Rattle.vtl_cell.specs.Settings.{Settings}
 use Rattle.vtl_cell.specs.Sorted.{Key, by_keys, row_rank}
 use Rattle.vtl_cell.specs.Sorting.{Rises, le_by}
 use Rattle.vtl_cell.proofs.Keys.{by_keys_total}
+use Rattle.vtl_cell.proofs.Perms.{Perm-filter, length-Perm}
 use Rattle.vtl_rows.specs.Keys.{key_of}
 use Rattle.vtl_rows.specs.Places.{row_at}
 use Rattle.vtl_rows.specs.Runs.{is_start, last_start, rank_at}
@@ -73,6 +75,9 @@ below_or_not a b = search arith
 -- ---- counts
 pub count_cons : {X : Type 0} (p : X → Bool) (x : X) (xs : List X) → count_by p (x ∷ xs) ≡ cond (p x) 1 0 + count_by p xs
 count_cons p x xs = sum_by-cons (λ y. cond (p y) 1 0) x xs
+
+pub count_by-Perm : {X : Type 0} (t : X → Bool) {xs ys : List X} → Perm xs ys → count_by t xs ≡ count_by t ys
+count_by-Perm t {xs} {ys} p = sym (length-filter t xs) ∙ length-Perm (Perm-filter t p) ∙ length-filter t ys
 
 -- the items up to a place pass, and none behind it
 pub count_front : {X : Type 0} (p : X → Bool) (xs : List X) (s : ℕ) (d : X) → s ≤ length xs → ((k : ℕ) → k < s → p (get_or xs k d) ≡ true) → ((k : ℕ) → s ≤ k → k < length xs → p (get_or xs k d) ≡ false) → count_by p xs ≡ s
@@ -149,6 +154,10 @@ last_of p first (suc i) = go (p (suc i)) refl (last_of p first i)
     go false e x = record { at = x.at; here = omega (arith, x.here); start = x.start; none = λ k h l. one_more x e k h l (below_or_not k (suc i)) }
 
 -- ---- ranks
+-- a rank is one whatever order the rows stand in
+pub row_rank-Perm : (p : Settings) (keys : List Key) (r : Row) {xs ys : List Row} → Perm xs ys → row_rank p keys r xs ≡ row_rank p keys r ys
+row_rank-Perm p keys r perm = ap (λ n. count_in p (n + 1)) (count_by-Perm (λ q. is_lt (by_keys keys q r)) perm)
+
 pub count_map : {X Y : Type 0} (q : Y → Bool) (f : X → Y) (xs : List X) → count_by q (map f xs) ≡ count_by (λ x. q (f x)) xs
 count_map q f [] = refl
 count_map q f (x ∷ xs) = count_cons q (f x) (map f xs) ∙ ap (λ n. cond (q (f x)) 1 0 + n) (count_map q f xs) ∙ sym (count_cons (λ y. q (f y)) x xs)

@@ -15,9 +15,11 @@ use Rattle.vtl_group.proofs.Kept.{column_within}
 use Rattle.vtl_group.proofs.Places.{all_append, all_front, columns_split, same_name-refl}
 use Rattle.vtl_group.specs.Made.{IsNamedColumn}
 use Rattle.vtl_group.specs.PointWindows.{key_in, keys_in}
+use Rattle.vtl_group.specs.calls.AnalyticOp.{AnalyticOp}
+use Rattle.vtl_group.specs.calls.AnalyticOp.TheVariants as op
 use Rattle.vtl_group.specs.calls.OrderKey.{OrderKey}
 use Rattle.vtl_group.specs.calls.Window.{Window}
-use Rattle.vtl_window.specs.Sorted.{identifier_keys, order_keys, ordering_key, partition_keys, rising_key, sort_keys}
+use Rattle.vtl_window.specs.Sorted.{identifier_keys, order_keys, ordering_key, partition_keys, rising_key, sort_keys, tie_breakers}
 
 -- ---- what they are
 module _ (xs : List Component) where
@@ -39,11 +41,8 @@ module _ (xs : List Component) where
   pub order_is : (w : Window) → map key_of (order_keys xs w) ≡ keys_in xs w
   order_is w = orders_are w.order
 
-  pub sort_is : (ids : List Component) (w : Window) → map key_of (sort_keys xs ids w) ≡ (map rising (places_named w.partition xs) ++ keys_in xs w) ++ map rising (places_in xs ids)
-  sort_is ids w =
-      map-append key_of (partition_keys xs w ++ order_keys xs w) (identifier_keys xs ids)
-      ∙ ap (λ l. l ++ map key_of (identifier_keys xs ids)) (map-append key_of (partition_keys xs w) (order_keys xs w))
-      ∙ (λ i. (partition_is w i ++ order_is w i) ++ ids_are ids i)
+  pub order_ids_are : (ids : List Component) (w : Window) → map key_of (order_keys xs w ++ identifier_keys xs ids) ≡ keys_in xs w ++ map rising (places_in xs ids)
+  order_ids_are ids w = map-append key_of (order_keys xs w) (identifier_keys xs ids) ∙ (λ i. order_is w i ++ ids_are ids i)
 
 -- ---- they are columns
 abbrev pub IsWithin : ℕ → SortKey → Type 0
@@ -85,12 +84,18 @@ ids_within xs (y ∷ ys) all = (all.0, ids_within xs ys all.1)
 identifier_places : (a : Structure) → AllByRecursion (λ y. place_of y.name (columns_of a) < length (columns_of a)) (identifiers_of a)
 identifier_places a = all_front (λ y. place_of y.name (columns_of a) < length (columns_of a)) (identifiers_of a) (others_of a) (subst (AllByRecursion (λ y. place_of y.name (columns_of a) < length (columns_of a))) (columns_split a) (own_places (columns_of a)))
 
-pub keys_within : (a : Structure) (w : Window) → AllByRecursion (IsNamedColumn (columns_of a)) w.partition → AllByRecursion (λ key. IsNamedColumn (columns_of a) key.component) w.order
-    → All (λ k. k.column < length (columns_of a)) (sort_keys (columns_of a) (identifiers_of a) w)
-keys_within a w h k =
+-- where points tie only columns are looked at
+breakers_within : (a : Structure) (o : AnalyticOp) → AllByRecursion (IsWithin (length (columns_of a))) (identifier_keys (columns_of a) (tie_breakers o (identifiers_of a)))
+breakers_within a op.Rank = tt
+breakers_within a o = ids_within (columns_of a) (identifiers_of a) (identifier_places a)
+
+pub keys_within : (a : Structure) (o : AnalyticOp) (w : Window) → AllByRecursion (IsNamedColumn (columns_of a)) w.partition → AllByRecursion (λ key. IsNamedColumn (columns_of a) key.component) w.order
+    → All (λ k. k.column < length (columns_of a)) (sort_keys (columns_of a) (tie_breakers o (identifiers_of a)) w)
+keys_within a o w h k =
     let xs = columns_of a in
     let P = IsWithin (length xs) in
-    All-from_recursion P (sort_keys xs (identifiers_of a) w)
-    (all_append P (partition_keys xs w ++ order_keys xs w) (identifier_keys xs (identifiers_of a))
+    let ids = tie_breakers o (identifiers_of a) in
+    All-from_recursion P (sort_keys xs ids w)
+    (all_append P (partition_keys xs w ++ order_keys xs w) (identifier_keys xs ids)
     (all_append P (partition_keys xs w) (order_keys xs w) (names_within xs w w.partition h) (orders_within xs w w.order k))
-    (ids_within xs (identifiers_of a) (identifier_places a)))
+    (breakers_within a o))

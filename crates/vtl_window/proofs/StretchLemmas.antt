@@ -1,11 +1,9 @@
 -- A stretch of rows that tie by the columns of a partition is a partition.
 use Rattle.std.proofs.Common.{◌≡◌, ℕ, zero, suc, ◌+◌, ◌-◌, ◌<◌, ◌≤◌, List, [], ◌∷◌, length, drop, take, get_or, map, Bool, true, false, cond, refl, sym, ap, ◌∙◌, arith, true≢false, subst}
 use Rattle.std.specs.Prelude.{filter}
-use Rattle.std.specs.List.{AllByRecursion}
 use Rattle.std.specs.Ordering.{is_eq}
 use Rattle.vtl_cell.specs.Row.{Row, same_row}
 use Rattle.vtl_cell.specs.Sorted.{by_keys}
-use Rattle.vtl_cell.specs.Sorting.{Rises}
 use Rattle.vtl_cell.proofs.Rows.{same_row-is, same_row-refl}
 use Rattle.vtl_rows.specs.Keys.{agree, key_of}
 use Rattle.vtl_rows.specs.Places.{row_at}
@@ -37,34 +35,6 @@ filter_cut q (x ∷ xs) (suc s) (suc e) d h l before inside behind' =
     ap (λ b. cond b (x ∷ filter q xs) (filter q xs)) (before 0 (omega arith))
     ∙ filter_cut q xs s e d (omega (arith, h)) (omega (arith, l)) (λ k m. before (suc k) (omega (arith, m))) (λ k m n. inside (suc k) (omega (arith, m)) (omega (arith, n))) (λ k m n. behind' (suc k) (omega (arith, m)) (omega (arith, n)))
     ∙ ap (λ n. take n (drop s xs)) same
-
-all_from_get : {X : Type 0} (P : X → Type 0) (xs : List X) (d : X) → ((k : ℕ) → k < length xs → P (get_or xs k d)) → AllByRecursion P xs
-all_from_get P [] d h = tt
-all_from_get P (x ∷ xs) d h = (h 0 (omega arith), all_from_get P xs d (λ k l. h (suc k) (omega (arith, l))))
-
-pub rises_drop : {X : Type 0} (le : X → X → Bool) (s : ℕ) (xs : List X) → Rises le xs → Rises le (drop s xs)
-rises_drop le zero xs r = r
-rises_drop le (suc s) [] r = r
-rises_drop le (suc s) (x ∷ xs) r = rises_drop le s xs r.1
-
-all_take : {X : Type 0} (P : X → Type 0) (m : ℕ) (xs : List X) → AllByRecursion P xs → AllByRecursion P (take m xs)
-all_take P zero xs all = tt
-all_take P (suc m) [] all = tt
-all_take P (suc m) (x ∷ xs) all = (all.0, all_take P m xs all.1)
-
-pub rises_take : {X : Type 0} (le : X → X → Bool) (m : ℕ) (xs : List X) → Rises le xs → Rises le (take m xs)
-rises_take le zero xs r = tt
-rises_take le (suc m) [] r = tt
-rises_take le (suc m) (x ∷ xs) r = (all_take (λ y. le x y ≡ true) m xs r.0, rises_take le m xs r.1)
-
--- what rises rises by another order that holds where the first does, between such items
-pub rises_with : {X : Type 0} (A : X → Type 0) (le other : X → X → Bool) → ((x y : X) → A x → A y → le x y ≡ true → other x y ≡ true) → (xs : List X) → AllByRecursion A xs → Rises le xs → Rises other xs
-rises_with A le other f [] all r = tt
-rises_with {X = X} A le other f (x ∷ xs) all r = (go xs all.1 r.0, rises_with A le other f xs all.1 r.1)
-  where
-    go : (ys : List X) → AllByRecursion A ys → AllByRecursion (λ y. le x y ≡ true) ys → AllByRecursion (λ y. other x y ≡ true) ys
-    go [] a b = tt
-    go (y ∷ ys) a b = (f x y all.0 a.0 b.0, go ys a.1 b.1)
 
 -- ---- stretches
 pub record IsStretch (keys : List SortKey) (rows : List Row) (places : List ℕ) (s e : ℕ) : Type 0 where

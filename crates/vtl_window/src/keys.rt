@@ -1,15 +1,15 @@
-// The keys by which the points of a data set are sorted for a window.
+// The keys by which the points of a data set are sorted for a call.
 ghost use Rattle.std.specs.Prelude.{◌≡◌, ◌++◌, IfOk, OnOk, map};
 ghost use Rattle.vtl_tree.specs.Shown.{shown};
-ghost use Rattle.vtl_expr.specs.Columns.{place_of};
-ghost use Rattle.vtl_window.specs.Sorted.{identifier_keys, order_keys, ordering_key, partition_keys, rising_key, sort_keys};
+ghost use Rattle.vtl_expr.specs.Columns.{identifiers_of, place_of};
+ghost use Rattle.vtl_window.specs.Sorted.{identifier_keys, order_keys, ordering_key, partition_keys, rising_key, sort_keys, tie_breakers};
 
 use std::alloc::{AllocError, Global};
 use vtl_cell::Txt;
 use vtl_expr::place_of;
-use vtl_nodes::{OrderKey, Window};
+use vtl_nodes::{AnalyticOp, OrderKey, Window};
 use vtl_rows::SortKey;
-use vtl_tree::Component;
+use vtl_tree::{Component, Structure};
 
 // A key that rises.
 fn rising(column: usize) -> SortKey
@@ -92,7 +92,22 @@ pub(crate) fn order_keys(
     Ok(keys)
 }
 
-/// All keys of the sort, of which the last are all identifiers. It fails only if memory runs out.
+/// The identifiers that the sort for an operator looks at where points tie by the listed order: all of them, or none for
+/// a rank, which is one for points that tie. It fails only if memory runs out.
+pub(crate) fn tie_breakers<'a>(
+    alloc: Global,
+    structure: &'a Structure,
+    op: &AnalyticOp,
+) -> Result<Vec<&'a Component>, AllocError>
+    ensures { IfOk result (λ v. shown v.items ≡ tie_breakers op.now (identifiers_of structure.now)) }
+{
+    match op {
+        AnalyticOp::Rank => Ok(Vec::new(alloc)),
+        _ => structure.identifiers(alloc),
+    }
+}
+
+/// All keys of the sort, of which the last are these identifiers. It fails only if memory runs out.
 pub(crate) fn sort_keys(
     alloc: Global,
     columns: &[&Component],

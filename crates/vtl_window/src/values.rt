@@ -16,16 +16,15 @@ ghost use Rattle.vtl_group.specs.Trees.{analytic};
 ghost use Rattle.vtl_window.specs.Analyses.{cells_by, faults_of};
 ghost use Rattle.vtl_window.specs.Calls.{lent};
 ghost use Rattle.vtl_window.specs.Runs.{start_at};
-ghost use Rattle.vtl_window.specs.Sorted.{order_keys, partition_keys, sort_keys};
+ghost use Rattle.vtl_window.specs.Sorted.{order_keys, partition_keys, sort_keys, tie_breakers};
 
 use crate::call::Call;
-use crate::keys::{order_keys, partition_keys, sort_keys};
+use crate::keys::{order_keys, partition_keys, sort_keys, tie_breakers};
 use crate::partition::{Outcomes, push_call};
 use crate::putting_back::put_back;
 use std::alloc::{AllocError, Global};
 use vtl_cell::{Cell, Kind, Profile, Txt};
 use vtl_expr::{DataSet, Seen, place_of};
-use vtl_nodes::Window;
 use vtl_rows::SortKey;
 use vtl_scalar::ScalarErr;
 use vtl_tree::Component;
@@ -59,21 +58,21 @@ fn stretch(places: &[usize], start: usize, end: usize) -> &[usize]
     &places[start..end]
 }
 
-// The numbers of the points in the order of the sort.
+// The numbers of the points in the order of the sort for a call.
 fn sorted_places(
     alloc: Global,
     a: &DataSet,
     columns: &[&Component],
-    window: &Window,
+    call: Call<'_>,
 ) -> Result<Vec<usize>, AllocError>
     requires columns { shown columns.now ≡ columns_of a.now.structure }
-    requires partition { AllByRecursion (IsNamedColumn (columns_of a.now.structure)) window.now.partition }
-    requires order { AllByRecursion (λ key. IsNamedColumn (columns_of a.now.structure) key.component) window.now.order }
+    requires partition { AllByRecursion (IsNamedColumn (columns_of a.now.structure)) call.window.now.partition }
+    requires order { AllByRecursion (λ key. IsNamedColumn (columns_of a.now.structure) key.component) call.window.now.order }
     ensures within { IfOk result (λ v. All (λ i. i < length a.now.points) v.items) }
-    ensures order { IfOk result (λ v. IsOrderOf (sort_keys (columns_of a.now.structure) (identifiers_of a.now.structure) window.now) a.now.points v.items) }
+    ensures order { IfOk result (λ v. IsOrderOf (sort_keys (columns_of a.now.structure) (tie_breakers call.op.now (identifiers_of a.now.structure)) call.window.now) a.now.points v.items) }
 {
-    let identifiers = a.structure().identifiers(alloc)?;
-    let keys = sort_keys(alloc, columns, &identifiers, window)?;
+    let identifiers = tie_breakers(alloc, a.structure(), call.op)?;
+    let keys = sort_keys(alloc, columns, &identifiers, call.window)?;
     let places = a.table().places_by_columns(alloc, &keys)?;
     Ok(places)
 }
@@ -92,7 +91,7 @@ fn sorted_values(
     requires column { (k : ℕ) → column_of column (row_at a.now.points k) ≡ argument (columns_of a.now.structure) (option_map (λ name. name.now) call.component) (row_at a.now.points k) }
     requires partition { partition.now ≡ partition_keys (columns_of a.now.structure) call.window.now }
     requires order { order.now ≡ order_keys (columns_of a.now.structure) call.window.now }
-    requires sorted { IsOrderOf (sort_keys (columns_of a.now.structure) (identifiers_of a.now.structure) call.window.now) a.now.points places.now }
+    requires sorted { IsOrderOf (sort_keys (columns_of a.now.structure) (tie_breakers call.op.now (identifiers_of a.now.structure)) call.window.now) a.now.points places.now }
     ensures { IfOk result (λ v. v.items ≡ map (λ k. call_value p.now a.now (lent call.entry) (row_at a.now.points k)) places.now) }
 {
     let starts = a.table().runs(alloc, places, partition)?;
@@ -124,7 +123,7 @@ pub(crate) fn call_cells(
     ensures err { IfErr result (λ e. e ≡ ScalarErr.OutOfMemory) }
 {
     let columns = a.structure().columns(alloc)?;
-    let places = sorted_places(alloc, a, &columns, call.window)?;
+    let places = sorted_places(alloc, a, &columns, call)?;
     let partition = partition_keys(alloc, &columns, call.window)?;
     let order = order_keys(alloc, &columns, call.window)?;
     let column = argument_place(&columns, call.component);

@@ -10,13 +10,15 @@ use Rattle.vtl_rows.specs.Places.{row_at}
 use Rattle.vtl_rows.specs.Runs.{is_start}
 use Rattle.vtl_tree.specs.DataSet.{IsDataSet}
 use Rattle.vtl_tree.specs.Structure.{columns_of}
+use Rattle.vtl_expr.specs.Columns.{identifiers_of}
 use Rattle.vtl_group.specs.PointWindows.{call_value}
 use Rattle.vtl_window.specs.Calls.{lent}
 use Rattle.vtl_window.specs.Runs.{AreInOrder, run_values, start_at}
-use Rattle.vtl_window.specs.Sorted.{order_keys, partition_keys}
-use Rattle.vtl_window.proofs.PartitionLemmas.{by_order, partition_values}
+use Rattle.vtl_window.specs.Sorted.{identifier_keys, order_keys, partition_keys, tie_breakers}
+use Rattle.vtl_window.proofs.PartitionLemmas.{by_order}
 use Rattle.vtl_window.proofs.RunLemmas.{all_behind, cut_take, starts, stretch_between}
 use Rattle.vtl_window.proofs.SortLemmas.{order_is}
+use Rattle.vtl_window.proofs.ValueLemmas.{partition_values}
 use Rattle.vtl_window.proofs.values.sorted_values.Goals as goal
 
 pub stretch-run-requires-clause-rises : goal.stretch-run-requires-clause-rises
@@ -69,10 +71,10 @@ push_call-requires-clause-order c =
     let s : c.start_at-start.result ≡ start_at found (length places) i = c.start_at-start.ensures ∙ ap (λ l. start_at l (length places) i) c.deref.ensures.value in
     let e : c.start_at-end.result ≡ start_at found (length places) (i + 1) = c.start_at-end.ensures ∙ ap (λ l. start_at l (length places) (i + 1)) c.deref-in-loop-i.ensures.value in
     let h = stretch_between keys rows places found i c.start_at-start.result c.start_at-end.result same inside s e in
-    let own = subst (λ (l : List Row). IsDataSet d.structure l) c.table.ensures.points c.table.ensures.table.points in
+    let last = identifier_keys (columns_of d.structure) (tie_breakers call.op (identifiers_of d.structure)) in
     subst (λ ks. AreInOrder ks rows c.stretch-run.result.now) (sym c.requires.order)
     (subst (AreInOrder (order_keys (columns_of d.structure) call.window) rows) (sym c.stretch-run.ensures)
-    (by_order d own call places c.requires.sorted c.start_at-start.result c.start_at-end.result h))
+    (by_order d call.window last places c.requires.sorted c.start_at-start.result c.start_at-end.result h))
 
 pub loop-i-preserved : goal.loop-i-preserved
 loop-i-preserved c =
@@ -96,7 +98,7 @@ loop-i-preserved c =
     let some = h.some in
     c.in_ok-push_call.ensures
     ∙ ap (λ r. before ++ run_values p (columns_of d.structure) call rows r) c.stretch-run.ensures
-    ∙ ap (λ l. before ++ l) (partition_values d own call places c.requires.sorted c.start_at-start.result c.start_at-end.result h p)
+    ∙ ap (λ l. before ++ l) (partition_values d own call places c.start_at-start.result c.start_at-end.result h p c.requires.sorted)
     ∙ ap (λ l. l ++ map f run) (c.loop-i.invariant ∙ ap (λ k. map f (take k places)) (sym s))
     ∙ sym (map-append f (take c.start_at-start.result places) run)
     ∙ ap (map f) (cut_take c.start_at-start.result c.start_at-end.result places (omega (arith, some)))
