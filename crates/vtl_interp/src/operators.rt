@@ -71,7 +71,8 @@ pub fn columns<'a>(alloc: Global, a: Value<'a>, made: &Structure) -> Result<Valu
     ensures { AnswersBy value_view result (Ok (data_set made.now (left_of (value_view a.entry) made.now))) }
 {
     let made = share_structure(alloc, made)?;
-    Ok(Value::Made(vtl_window::keep_columns(alloc, a.data(), made)?))
+    let data = a.into_data(alloc)?;
+    Ok(Value::Made(vtl_window::keep_columns(alloc, data, made)?))
 }
 
 /// `filter`

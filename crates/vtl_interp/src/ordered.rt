@@ -9,7 +9,7 @@ use crate::windows::have_window;
 use std::alloc::{AllocError, Global};
 use vtl_backend::{Backend, Checked, RunErr};
 use vtl_cell::Txt;
-use vtl_rows::{Inputs, Outputs, SortKey, Table, Tables};
+use vtl_rows::{Inputs, Outputs, SortKey, Table, Tables, are_all};
 
 /// Runs a script by a back end over tables that are let go then.
 ///
@@ -100,7 +100,7 @@ fn sorted_table(alloc: Global, table: &Table, count: usize) -> Result<Table, All
 {
     let keys = first_columns(alloc, count.min(table.columns().len()))?;
     let places = table.places_by_columns(alloc, &keys)?;
-    if stand_in_turn(&places) {
+    if are_all(&places, table.len()) {
         return table.share();
     }
     table.gather(alloc, &places)
@@ -118,14 +118,4 @@ fn first_columns(alloc: Global, count: usize) -> Result<Vec<SortKey>, AllocError
         })?;
     }
     Ok(keys)
-}
-
-// Whether these are the places of rows as they stand.
-fn stand_in_turn(places: &[usize]) -> bool {
-    for i in 0..places.len() {
-        if places[i] != i {
-            return false;
-        }
-    }
-    true
 }

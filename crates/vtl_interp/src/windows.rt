@@ -54,7 +54,7 @@ fn any_goes_along_identifiers(spec: &AnalyticSpec, structure: &Structure) -> boo
 
 /// Whether any of these expressions has a window that goes along identifiers, at its head or in an operand.
 #[cycle(windowed)]
-pub fn have_window(nodes: &[Node]) -> bool {
+pub(crate) fn have_window(nodes: &[Node]) -> bool {
     for node in nodes {
         if has_window(node) {
             return true;

@@ -4,8 +4,8 @@ use Rattle.std.specs.List.Sorted.{IsPermutation}
 use Rattle.vtl_interp.proofs.Reorders.{gathered_is_reordered, shared_is_reordered}
 use Rattle.vtl_interp.proofs.ordered.sorted_table.Goals as goal
 
-pub returns-then-stand_in_turn : goal.returns-then-stand_in_turn
-returns-then-stand_in_turn c = shared_is_reordered c.args.table.now c.share.result c.share.ensures
+pub returns-then-are_all : goal.returns-then-are_all
+returns-then-are_all c = shared_is_reordered c.args.table.now c.share.result c.share.ensures
 
 pub returns : goal.returns
 returns c =
