@@ -1,7 +1,5 @@
 // Items that are columns: their cells are gathered for all rows of FROM at once.
 ghost use Rattle.std.specs.Prelude.{◌≡◌, ◌<◌, length, map, zip, All, IfOk, IfSome, Ok, OnOk};
-ghost use Rattle.std.specs.Bool.{OnTrue};
-ghost use Rattle.std.specs.List.{range_with_len};
 ghost use Rattle.vtl_rows.specs.Tables.{cells_at, column_kinds};
 ghost use Rattle.sql_tree.specs.View.{item_tree};
 ghost use Rattle.sql_window.specs.Columns.{kinds_at};
@@ -17,7 +15,7 @@ use sql_tree::{Item, ItemValue, SqlExpr};
 use sql_window::{TupleRows, lent_table};
 use std::alloc::{AllocError, Global};
 use vtl_cell::{Kind, is_same_kind};
-use vtl_rows::{Column, Table};
+use vtl_rows::{Column, Table, are_all};
 
 /// The place of the cells of an item in the rows of FROM, if it is a column of this kind.
 pub(crate) fn column_place<N: Names>(names: &N, item: &Item, kind: Kind) -> Option<usize>
@@ -69,21 +67,6 @@ fn copied_columns(alloc: Global, columns: &[Column]) -> Result<Vec<Column>, Allo
         })?;
     }
     Ok(copy)
-}
-
-// Whether places are all those below a number, in order.
-fn are_all(places: &[usize], count: usize) -> bool
-    ensures { OnTrue result (places.now ≡ range_with_len 0 count) }
-{
-    if places.len() != count {
-        return false;
-    }
-    for i in 0..count {
-        if places[i] != i {
-            return false;
-        }
-    }
-    true
 }
 
 // The table of the only source, if its rows are these and the places are those of all its columns, in order.

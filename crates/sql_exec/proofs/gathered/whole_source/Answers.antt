@@ -1,11 +1,12 @@
 use Rattle.std.proofs.Common.{length, map, ap, sym, ◌∙◌}
 use Rattle.std.specs.List.{range_with_len}
 use Rattle.vtl_rows.specs.Tables.{cells_at}
+use Rattle.vtl_rows.proofs.PlacesStay.{rows_stay}
 use Rattle.sql_window.specs.Columns.{kinds_at}
 use Rattle.sql_window.specs.Scopes.{row_of}
 use Rattle.sql_window.specs.Sources.{scope_held}
 use Rattle.sql_window.specs.Standing.{rows_for}
-use Rattle.sql_exec.proofs.WholeSources.{kinds_stay, rows_stay}
+use Rattle.sql_exec.proofs.WholeSources.{kinds_stay}
 use Rattle.sql_exec.proofs.gathered.whole_source.Goals as goal
 
 pub returns-then-are_all-clause-kinds : goal.returns-then-are_all-clause-kinds
@@ -20,4 +21,4 @@ returns-then-are_all-clause-rows c =
     let t = c.in_ok-table.table.now in
     let rows = rows_for c.args.rows.now.sources c.args.rows.now.tuples in
     let places = c.if-are_all.ensures ∙ ap (λ cs. range_with_len 0 (length cs)) c.columns.ensures.columns in
-    sym (ap (λ ps. map (cells_at ps) rows) places ∙ ap (map (cells_at (range_with_len 0 (length t.columns)))) (sym c.in_ok-table.ensures.rows) ∙ rows_stay (length t.columns) t.rows c.columns.ensures.wide)
+    sym (ap (λ ps. map (cells_at ps) rows) places ∙ ap (map (cells_at (range_with_len 0 (length t.columns)))) (sym c.in_ok-table.ensures.rows) ∙ rows_stay t.columns t.rows c.columns.ensures.fit)
