@@ -12,7 +12,7 @@ ghost use Rattle.sql_exec.specs.Outputs.{Adds};
 use crate::output::Output;
 use sql_eval::Names;
 use sql_tree::{Item, ItemValue, SqlExpr};
-use sql_window::{TupleRows, lent_table};
+use sql_window::TupleRows;
 use std::alloc::{AllocError, Global};
 use vtl_cell::{Kind, is_same_kind};
 use vtl_rows::{Column, Table, are_all};
@@ -74,7 +74,7 @@ fn whole_source<'a>(rows: &'a TupleRows<'a>, places: &[usize]) -> Option<&'a Tab
     ensures kinds { IfSome result (λ t. column_kinds t.now.columns ≡ kinds_at places.now (row_of (scope_held rows.now.sources.sources))) }
     ensures rows { IfSome result (λ t. t.now.rows ≡ map (cells_at places.now) (rows_for rows.now.sources rows.now.tuples)) }
 {
-    let table = lent_table(rows)?;
+    let table = rows.lent_table()?;
     if are_all(places, table.columns().len()) {
         Some(table)
     } else {

@@ -1,12 +1,13 @@
 -- Tuples in a flat list of numbers.
-use Rattle.std.proofs.Common.{◌≡◌, ℕ, zero, suc, ◌+◌, ◌*◌, ◌/◌, ◌<◌, ◌≤◌, List, length, get_or, take, drop, arith, sym, ap, ◌∙◌, subst}
-use Rattle.std.specs.List.{AllByRecursion}
+use Rattle.std.proofs.Common.{◌≡◌, ℕ, zero, suc, ◌+◌, ◌*◌, ◌/◌, ◌<◌, ◌≤◌, List, [], ◌∷◌, length, get_or, map, take, drop, arith, refl, sym, ap, ◌∙◌, subst}
+use Rattle.std.specs.List.{AllByRecursion, range_with_len}
 use Rattle.std.specs.Simd.{first_chunks}
 use Rattle.std.proofs.lemmas.List.{length-take-le, length-drop, drop-drop}
+use Rattle.std.proofs.lemmas.List.FromFn.{length-range_with_len}
 use Rattle.std.proofs.lemmas.Nat.{mul-le}
 use Rattle.std.proofs.Math.Nat.{le_refl, mul-div_cancel}
 use Rattle.vtl_rows.specs.Gathered.{pieces}
-use Rattle.vtl_rows.proofs.Gathered.{length-pieces}
+use Rattle.vtl_rows.proofs.Gathered.{length-pieces, pieces-next, pieces-none}
 use Rattle.sql_from.specs.Tuples.{IsFlat}
 
 tuple_ends : (width n i : ℕ) → i < n → i * width + width ≤ n * width
@@ -46,3 +47,11 @@ module _ (width n : ℕ) (ns : List ℕ) (tuples : List (List ℕ)) (flat : IsFl
 
   pub all_wide : AllByRecursion (λ x. length x ≡ width) tuples
   all_wide = subst (AllByRecursion (λ x. length x ≡ width)) (ap (λ k. first_chunks width k ns) (sym count_is) ∙ seen) (chunks_wide width n ns flat.whole)
+
+-- ---- tuples of one number
+pub each_alone : (js : List ℕ) → pieces 1 js ≡ map (λ j. j ∷ []) js
+each_alone [] = pieces-none 1 [] (omega arith)
+each_alone (j ∷ js) = pieces-next 1 (j ∷ []) js (omega arith) refl ∙ ap (λ l. (j ∷ []) ∷ l) (each_alone js)
+
+pub alone_flat : (count : ℕ) (ns : List ℕ) → ns ≡ range_with_len 0 count → IsFlat 1 count ns
+alone_flat count ns e = let all = ap length e ∙ length-range_with_len 0 count in record { wide = omega arith; whole = omega (arith, all) }

@@ -18,6 +18,7 @@ pub mod Means
 pub mod Standing
 pub mod Tabled
 pub mod ChosenCells
+pub mod Alone
 pub mod Equalities
 pub mod Conjunctions
 pub mod Conjuncts

@@ -2,7 +2,7 @@
 ghost use Rattle.std.specs.List.{list_any};
 ghost use Rattle.std.specs.Prelude.{◌≡◌, ◌+◌, ◌<◌, ◌^◌, ◌++◌, length, map, slice_index_or, ℕ, false, IfErr, IfOk, OnOk};
 ghost use Rattle.vtl_cell.specs.Outcome.{join};
-ghost use Rattle.sql_from.specs.Joins.{added, crossed_tuples, ends_with, joined_tuples, keeps_left, keeps_right, kept_fault, kept_tuples, numbers_to, pairs_fault, singles, with_number};
+ghost use Rattle.sql_from.specs.Joins.{added, crossed_tuples, ends_with, joined_tuples, keeps_left, keeps_right, kept_fault, kept_tuples, numbers_to, pairs_fault, with_number};
 ghost use Rattle.sql_from.specs.Lookups.{Finds};
 ghost use Rattle.sql_from.specs.Seen.{seen_of};
 
@@ -15,18 +15,6 @@ use crate::pairs::{EachRow, Walked, left_rows, try_tuple};
 use sql_tree::JoinKind;
 use std::alloc::{AllocError, Global};
 use vtl_scalar::ScalarErr;
-
-// Each number alone.
-pub(crate) fn singles(alloc: Global, count: usize) -> Result<Tuples, AllocError>
-    ensures width { IfOk result (λ t. t.width ≡ 1) }
-    ensures tuples { IfOk result (λ t. t.tuples ≡ singles count) }
-{
-    let mut tuples = Tuples::with_room(alloc, 1, count)?;
-    for i in 0..count {
-        tuples.push(&[], i)?;
-    }
-    Ok(tuples)
-}
 
 // Which numbers are last in a tuple.
 fn met_numbers(alloc: Global, rows: &Tuples, count: usize) -> Result<Vec<bool>, AllocError>

@@ -24,6 +24,7 @@ mod key_index;
 mod key_lookup;
 mod key_pairs;
 mod key_partners;
+mod lent_table;
 mod lookup;
 mod outer_row;
 mod pairing;

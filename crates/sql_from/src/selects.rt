@@ -26,11 +26,11 @@ ghost use Rattle.sql_from.specs.Steps.{IsPlainJoin, JoinsTwo, is_listed, most_st
 use crate::asking::asks;
 use crate::counting::{count_each, count_pairs};
 use crate::early::due;
-use crate::joining::{cross_step, join_each, join_found, keep, singles};
+use crate::joining::{cross_step, join_each, join_found, keep};
 use crate::key_lookup::{KeyLookup, lookup_of};
 use crate::pairs::Walked;
 use crate::source_condition::SourceCondition;
-use crate::{Partners, Seen, Sources, TupleRows};
+use crate::{Partners, Seen, Sources, TupleRows, Tuples};
 use sql_eval::{Early, Level, Resolved, resolve};
 use sql_tree::{Join, JoinKind, Select, Source, SqlExpr};
 use std::alloc::{AllocError, Global};
@@ -295,7 +295,7 @@ fn first_source<'a>(
     Ok(Joining {
         sources,
         walked: Walked {
-            rows: singles(alloc, count)?,
+            rows: Tuples::singles(alloc, count)?,
             seen: Seen::Nothing,
         },
     })
@@ -435,10 +435,7 @@ impl<'a> Joining<'a> {
     {
         let Joining { sources, walked } = self;
         let kept = kept_where(alloc, condition, by_index, &sources, walked, p, steps)?;
-        Ok(TupleRows {
-            tuples: kept.finish()?,
-            sources,
-        })
+        Ok(TupleRows::of(sources, kept.finish()?))
     }
 }
 

@@ -276,6 +276,13 @@ impl<'a> Sources<'a> {
             None => &self.null,
         }
     }
+
+    // The cell of a column in a row of a table; a null where it has no such row, and past the row's last cell.
+    pub(crate) fn cell_in<'r>(&'r self, table: &'r Table, number: usize, column: usize) -> &'r Cell
+        ensures { result.now ≡ column_of column (row_at table.now.rows number) }
+    {
+        cell_of(table, number, column, &self.null)
+    }
 }
 
 // The cell of a column in a row of a table; the null that is lent where it has no such row.

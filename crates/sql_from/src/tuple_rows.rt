@@ -1,5 +1,6 @@
 // Rows of FROM as tuples of row numbers.
-ghost use Rattle.std.specs.Prelude.{◌≡◌, ◌<◌, ◌∷◌, ◌++◌, [], length, map, slice_index_or, All, IfOk};
+ghost use Rattle.std.specs.Prelude.{◌≡◌, ◌<◌, ◌∷◌, ◌++◌, [], length, map, slice_index_or, All, IfOk, IfSome};
+ghost use Rattle.vtl_cell.specs.Row.{column_of};
 ghost use Rattle.vtl_rows.specs.Tables.{cells_at, column_kinds};
 ghost use Rattle.sql_eval.specs.Scopes.{row_of};
 ghost use Rattle.sql_from.specs.Columns.{kinds_at, source_columns};
@@ -7,17 +8,23 @@ ghost use Rattle.sql_from.specs.Rows.{combined, pick_for};
 ghost use Rattle.sql_from.specs.Sources.{parts_of, scope_held};
 ghost use Rattle.sql_from.specs.Standing.{rows_for};
 
+use crate::lent_table::lent_table;
 use crate::{PartneredRow, Partners, Sources, TupleRow, Tuples};
 use std::alloc::{AllocError, Global};
+use vtl_cell::Cell;
 use vtl_rows::{Column, Pick, Table, gather_beside};
 
-/// Rows of FROM: the sources of the select, and for each row a tuple with the number of a row of each source.
+/// Rows of FROM: the sources of the select, and for each row a tuple with the number of a row of each source. Where these
+/// are the rows of the only source, each once and in order, cells are read in its table, and no tuple is.
 pub struct TupleRows<'a> {
     /// The sources.
     pub sources: Sources<'a>,
     /// The tuples, with a number for each source.
     pub tuples: Tuples,
+    lent: Option<&'a Table>,
     ghost is_whole: { tuples.width ≡ length sources.sources },
+    ghost lends_kinds: { IfSome lent (λ t. column_kinds t.now.columns ≡ row_of (scope_held sources.sources)) },
+    ghost lends_rows: { IfSome lent (λ t. t.now.rows ≡ rows_for sources tuples) },
 }
 
 // Written out, so that a proof above sees one call and not the drop of each part.
@@ -26,11 +33,26 @@ impl Drop for TupleRows<'_> {
         let TupleRows {
             sources: _sources,
             tuples: _tuples,
+            lent: _,
         } = self;
     }
 }
 
 impl<'a> TupleRows<'a> {
+    /// The rows of these tuples.
+    pub(crate) fn of(sources: Sources<'a>, tuples: Tuples) -> TupleRows<'a>
+        requires { tuples.width ≡ length sources.sources }
+        ensures sources { result.sources ≡ sources.entry }
+        ensures tuples { result.tuples ≡ tuples.entry }
+    {
+        let lent = lent_table(&sources, &tuples);
+        TupleRows {
+            sources,
+            tuples,
+            lent,
+        }
+    }
+
     /// How many rows there are.
     pub fn len(&self) -> usize
         ensures tuples { result ≡ length self.now.tuples.tuples }
@@ -47,6 +69,28 @@ impl<'a> TupleRows<'a> {
         ensures row { combined (parts_of result.sources.now.sources) (result.front.now ++ result.last ∷ []) ≡ slice_index_or (rows_for self.now.sources self.now.tuples) i [] }
     {
         TupleRow::whole(&self.sources, self.tuples.tuple(i))
+    }
+
+    /// The cell at a place of a row; past its last cell a null.
+    pub fn cell(&self, i: usize, place: usize) -> &Cell
+        requires { i < length self.now.tuples.tuples }
+        ensures { result.now ≡ column_of place (slice_index_or (rows_for self.now.sources self.now.tuples) i []) }
+    {
+        match self.lent {
+            Some(table) => self.sources.cell_in(table, i, place),
+            None => {
+                let row = self.row(i);
+                row.sources.cell(row.front, row.last, place)
+            }
+        }
+    }
+
+    /// The table of the only source, if these are its rows, each once and in order.
+    pub fn lent_table(&self) -> Option<&'a Table>
+        ensures kinds { IfSome result (λ t. column_kinds t.now.columns ≡ row_of (scope_held self.now.sources.sources)) }
+        ensures rows { IfSome result (λ t. t.now.rows ≡ rows_for self.now.sources self.now.tuples) }
+    {
+        self.lent
     }
 
     /// The row at a place, with look-ups for the EXISTS that are asked at it.

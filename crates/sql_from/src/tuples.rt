@@ -2,6 +2,7 @@
 ghost use Rattle.std.specs.Prelude.{◌≡◌, ◌<◌, ◌≤◌, ◌+◌, ◌^◌, ◌++◌, [], ◌∷◌, length, take, drop, slice_index_or, IfOk, OnOk, OnErr};
 ghost use Rattle.std.specs.List.{AllByRecursion};
 ghost use Rattle.vtl_rows.specs.Gathered.{pieces};
+ghost use Rattle.sql_from.specs.Joins.{singles};
 
 use std::alloc::{AllocError, Global};
 use std::marker::Model;
@@ -49,16 +50,19 @@ impl Tuples {
         }
     }
 
-    /// The same, with room for so many tuples. It fails only if memory runs out.
-    pub fn with_room(alloc: Global, width: usize, count: usize) -> Result<Tuples, AllocError>
-        requires { 0 < width }
-        ensures width { IfOk result (λ t. t.width ≡ width) }
-        ensures tuples { IfOk result (λ t. t.tuples ≡ []) }
+    /// Each number below a count alone. It fails only if memory runs out.
+    pub fn singles(alloc: Global, count: usize) -> Result<Tuples, AllocError>
+        ensures width { IfOk result (λ t. t.width ≡ 1) }
+        ensures tuples { IfOk result (λ t. t.tuples ≡ singles count) }
     {
+        let mut numbers = Vec::with_capacity(alloc, count)?;
+        for number in 0..count {
+            numbers.push(number)?;
+        }
         Ok(Tuples {
-            width,
-            numbers: Vec::with_capacity(alloc, count.saturating_mul(width))?,
-            count: 0,
+            width: 1,
+            numbers,
+            count,
         })
     }
 

@@ -1,15 +1,19 @@
 -- The values of an expression at rows, one after the other.
-use Rattle.std.proofs.Common.{◌≡◌, ℕ, ◌+◌, ◌<◌, ◌≤◌, List, [], ◌∷◌, ◌++◌, length, get_or, map, take, Option, sym, ap, ◌∙◌, subst}
+use Rattle.std.proofs.Common.{◌≡◌, ℕ, ◌+◌, ◌<◌, ◌≤◌, List, [], ◌∷◌, ◌++◌, length, get_or, map, take, Option, None, Ok, refl, rules, sym, ap, ◌∙◌, subst}
 use Rattle.std.proofs.lemmas.List.{map-append, map_more, take_all}
 use Rattle.vtl_cell.specs.Groups.{group_value}
 use Rattle.vtl_cell.specs.Outcome.{Fault, Outcome, after, fault_in, faults_by, join, unless}
-use Rattle.vtl_cell.specs.Row.{Row}
+use Rattle.vtl_cell.specs.Row.{Row, column_of}
 use Rattle.vtl_cell.specs.Settings.{Settings}
 use Rattle.vtl_cell.specs.declared.cell.Cell.{Cell}
 use Rattle.vtl_cell.specs.declared.operator.AggKind.{AggKind}
 use Rattle.vtl_rows.specs.Places.{row_at}
 use Rattle.vtl_scalar.specs.Answers.{Answers}
 use Rattle.vtl_scalar.specs.declared.error.ScalarErr.{ScalarErr}
+use Rattle.sql_tree.specs.Trees.{Text}
+use Rattle.sql_eval.specs.Placed.{aggregate_value, column}
+use Rattle.sql_eval.specs.View.{placed_of}
+use Rattle.sql_eval.specs.declared.resolved.Resolved as resolved
 use Rattle.sql_from.specs.Outcomes.{all_values, cell_or_null}
 use Rattle.sql_from.proofs.UpToOrder.{faults_by-append, join_none}
 use Rattle.sql_groups.specs.Grouped.{rows_at}
@@ -42,3 +46,16 @@ all_gathered f rows numbers i p q kind function seen r past settings same s a =
     ((λ n. after (unless (s n) (values_to f rows numbers i)) (group_value (settings n) (same n)))
     ∙ ap (λ l. after (all_values f (rows_at rows l)) (group_value q function)) (take_all i numbers past))
     a
+
+-- those of a column, which have no faults
+column_faults : (place : ℕ) (rows : List Row) → faults_by (λ r. fault_in (let m : Outcome Cell = Ok (column_of place r) in m)) rows ≡ None
+column_faults place [] = refl
+column_faults place (r ∷ rows) = column_faults place rows
+
+placed_column : (place : ℕ) → placed_of (resolved.Column place) ≡ column place
+placed_column place = search (rules, resolved.the_lemmas)
+
+pub column_gathered : (p : Settings) (tables : Text → List Row) (function : AggKind) (place : ℕ) (rows : List Row) → group_value p function (map (column_of place) rows) ≡ aggregate_value p tables function (placed_of (resolved.Column place)) rows
+column_gathered p tables function place rows =
+    ap (λ f. after (unless f (map (column_of place) rows)) (group_value p function)) (sym (column_faults place rows))
+    ∙ ap (λ e. aggregate_value p tables function e rows) (sym (placed_column place))

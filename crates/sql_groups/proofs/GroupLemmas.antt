@@ -1,5 +1,5 @@
 -- Groups of rows as they are laid out: their first rows, their keys and their rows.
-use Rattle.std.proofs.Common.{◌≡◌, ℕ, zero, suc, ◌+◌, ◌<◌, ◌≤◌, Bool, true, false, not, cond, List, [], ◌∷◌, length, get_or, map, filter, refl, sym, ap, ◌∙◌, arith, subst, eqb, eq-eqb, ne_eqb, ◌⊎◌, inl, inr}
+use Rattle.std.proofs.Common.{◌≡◌, ℕ, zero, suc, ◌+◌, ◌<◌, ◌≤◌, Bool, true, false, not, cond, List, [], ◌∷◌, length, get_or, map, filter, refl, sym, ap, ◌∙◌, arith, subst, eqb, eq-eqb, ne_eqb}
 use Rattle.std.specs.List.{AllByRecursion, position_or_len, range_with_len}
 use Rattle.std.specs.Prelude.{slice_index_or}
 use Rattle.std.proofs.lemmas.Bool.{eqb-true}
@@ -7,30 +7,28 @@ use Rattle.std.proofs.lemmas.List.{get_or-map, length-map}
 use Rattle.vtl_cell.proofs.Sorts.{AllByRecursion-filter}
 use Rattle.vtl_cell.specs.Row.{Row, same_row}
 use Rattle.vtl_rows.specs.Places.{row_at}
-use Rattle.vtl_rows.specs.Tables.{Listed, cells_at}
+use Rattle.vtl_rows.specs.Tables.{cells_at}
 use Rattle.vtl_index.specs.Groups.{AreLeads, each_once, firsts, is_first, rows_led}
 use Rattle.vtl_index.specs.Leads.{leads_of}
 use Rattle.vtl_index.proofs.KeyGroups.{are_leads, keys_once, rows_of_key}
-use Rattle.vtl_index.proofs.Ranges.{all_indexed, none_pass, passing, passing_agree, passing_at, passing_is}
+use Rattle.vtl_index.proofs.Ranges.{all_indexed, none_pass, passing, passing_at, passing_is}
 use Rattle.vtl_tuples.specs.Keys as tuples
 use Rattle.sql_from.specs.Groups.{keys_by, rows_with}
 use Rattle.sql_from.proofs.Lists.{all_at}
-use Rattle.sql_groups.specs.Grouped.{AreGroups, AreWithin, Grouped, grouped_in, rows_at}
-use Rattle.sql_groups.specs.declared.grouping.Layout.TheVariants.{Keyed}
-use Rattle.sql_groups.proofs.KeyLemmas.{key_stays, keys_stay}
+use Rattle.sql_groups.specs.Grouped.{AreGroups, AreWithin, Grouped, groups_led, rows_at}
 
 -- ---- the first row of a group
 module _ (leads : List ℕ) (are : AreLeads leads) (g : ℕ) (h : g < length (firsts leads)) where
   abbrev first : ℕ
   first = get_or (firsts leads) g 0
 
-  pub first_within : first < length leads
+  first_within : first < length leads
   first_within = (passing_is (is_first leads) (length leads) g h).0
 
-  pub first_own : get_or leads first 0 ≡ first
+  first_own : get_or leads first 0 ≡ first
   first_own = let e = (passing_is (is_first leads) (length leads) g h).1 in grind (arith, e)
 
-  pub first_stands : (0 < length (rows_led leads first)) × (get_or (rows_led leads first) 0 0 ≡ first)
+  first_stands : (0 < length (rows_led leads first)) × (get_or (rows_led leads first) 0 0 ≡ first)
   first_stands =
       let within = first_within in
       let none = none_pass (λ k. eqb (get_or leads k 0) first) first
@@ -40,18 +38,39 @@ module _ (leads : List ℕ) (are : AreLeads leads) (g : ℕ) (h : g < length (fi
       subst (λ z. (z < length (rows_led leads first)) × (get_or (rows_led leads first) z 0 ≡ first)) zero_th stands
 
 -- ---- what is laid out, seen as groups
-pub keys_many : (keys : Listed) (groups : List ℕ) (x : Grouped) → grouped_in (Keyed keys groups) ≡ x → length x.keys ≡ length (firsts groups)
-keys_many keys groups x e = ap (λ y. length y.keys) (sym e) ∙ length-map (firsts groups) (row_at keys.rows)
+module _ (places : List ℕ) (rows : List Row) (leads : List ℕ) (x : Grouped) (g : ℕ) (e : groups_led places rows leads ≡ x) where
+  abbrev key_at : ℕ → Row
+  key_at i = cells_at places (row_at rows i)
 
-pub key_is : (keys : Listed) (groups : List ℕ) (x : Grouped) (g : ℕ) → grouped_in (Keyed keys groups) ≡ x → g < length x.keys → row_at keys.rows (get_or (firsts groups) g 0) ≡ row_at x.keys g
-key_is keys groups x g e h =
-    let many = keys_many keys groups x e in
-    sym (get_or-map (row_at keys.rows) (firsts groups) g 0 [] (omega (arith, many, h))) ∙ ap (λ y. row_at y.keys g) e
+  keys_many : length x.keys ≡ length (firsts leads)
+  keys_many = ap (λ y. length y.keys) (sym e) ∙ length-map (firsts leads) key_at
 
-pub rows_are : (keys : Listed) (groups : List ℕ) (x : Grouped) (g : ℕ) → grouped_in (Keyed keys groups) ≡ x → g < length x.numbers → rows_led groups (get_or (firsts groups) g 0) ≡ slice_index_or x.numbers g []
-rows_are keys groups x g e h =
-    let many = ap (λ y. length y.numbers) (sym e) ∙ length-map (firsts groups) (rows_led groups) in
-    sym (get_or-map (rows_led groups) (firsts groups) g 0 [] (omega (arith, many, h))) ∙ ap (λ y. slice_index_or y.numbers g []) e
+  key_is : g < length x.keys → key_at (get_or (firsts leads) g 0) ≡ row_at x.keys g
+  key_is h =
+      let many = keys_many in
+      sym (get_or-map key_at (firsts leads) g 0 [] (omega (arith, many, h))) ∙ ap (λ y. row_at y.keys g) e
+
+  pub rows_are : g < length x.numbers → rows_led leads (get_or (firsts leads) g 0) ≡ slice_index_or x.numbers g []
+  rows_are h =
+      let many = ap (λ y. length y.numbers) (sym e) ∙ length-map (firsts leads) (rows_led leads) in
+      sym (get_or-map (rows_led leads) (firsts leads) g 0 [] (omega (arith, many, h))) ∙ ap (λ y. slice_index_or y.numbers g []) e
+
+  -- the first row of a group has its key
+  module _ (laid : (length leads ≡ length rows) × AreLeads leads) (h : g < length x.keys) where
+    abbrev led : List ℕ
+    led = rows_led leads (get_or (firsts leads) g 0)
+
+    is_there : g < length (firsts leads)
+    is_there = let many = keys_many in omega (arith, many, h)
+
+    pub some_led : 0 < length led
+    some_led = (first_stands leads laid.1 g is_there).0
+
+    pub first_led_within : get_or led 0 0 < length rows
+    first_led_within = let first = (first_stands leads laid.1 g is_there).1 in let within = first_within leads laid.1 g is_there in omega (arith, first, within, laid.0)
+
+    pub key_led : key_at (get_or led 0 0) ≡ row_at x.keys g
+    key_led = ap key_at (first_stands leads laid.1 g is_there).1 ∙ key_is h
 
 -- ---- numbers of rows
 numbers_within : (a n m : ℕ) → a + n ≤ m → AllByRecursion (λ i. i < m) (range_with_len a n)
@@ -73,14 +92,6 @@ every_one : (rows : List Row) → filter (λ r. true) rows ≡ rows
 every_one [] = refl
 every_one (r ∷ rows) = ap (λ l. r ∷ l) (every_one rows)
 
-map_agree : {X Y : Type 0} (P : X → Type 0) (f g : X → Y) → ((x : X) → P x → f x ≡ g x) → (xs : List X) → AllByRecursion P xs → map f xs ≡ map g xs
-map_agree P f g h [] all = refl
-map_agree P f g h (x ∷ xs) all = λ n. h x all.0 n ∷ map_agree P f g h xs all.1 n
-
-map_twice : {X Y Z : Type 0} (f : Y → Z) (g : X → Y) (xs : List X) → map f (map g xs) ≡ map (λ x. f (g x)) xs
-map_twice f g [] = refl
-map_twice f g (x ∷ xs) = ap (λ l. f (g x) ∷ l) (map_twice f g xs)
-
 all_mapped : {X Y : Type 0} (P : Y → Type 0) (f : X → Y) → ((x : X) → P (f x)) → (xs : List X) → AllByRecursion P (map f xs)
 all_mapped P f h [] = tt
 all_mapped P f h (x ∷ xs) = (h x, all_mapped P f h xs)
@@ -97,22 +108,20 @@ whole_groups rows numbers x is e = subst (AreGroups [] rows) e (record {
   within = (subst (AreWithin rows) (sym is) (numbers_within 0 (length rows) (length rows) (omega arith)), tt);
 })
 
--- ---- groups by the keys in a table
+-- ---- groups by the cells at places
 module _ (places : List ℕ) (rows : List Row) where
-  abbrev stood : List Row
-  stood = map (cells_at places) rows
-
-  abbrev all_cells : Row → Row
-  all_cells = cells_at (range_with_len 0 (length places))
+  abbrev key : Row → Row
+  key = cells_at places
 
   abbrev leads : List ℕ
-  leads = leads_of all_cells stood
+  leads = leads_of key rows
 
   many_leads : length leads ≡ length rows
-  many_leads = length-leads stood ∙ length-map rows (cells_at places)
-    where
-      length-leads : (xs : List Row) → length (leads_of all_cells xs) ≡ length xs
-      length-leads xs = length-map xs (λ r. position_or_len (λ s. same_row (all_cells s) (all_cells r)) xs)
+  many_leads = length-map rows (λ r. position_or_len (λ s. same_row (key s) (key r)) rows)
+
+  -- the leads are of groups
+  pub are_laid_out : (length leads ≡ length rows) × AreLeads leads
+  are_laid_out = (many_leads, are_leads key rows)
 
   firsts_within : AllByRecursion (λ i. i < length rows) (firsts leads)
   firsts_within = AllByRecursion-filter (λ i. i < length rows) (is_first leads) (range_with_len 0 (length leads)) (numbers_within 0 (length leads) (length rows) (let m = many_leads in omega (arith, m)))
@@ -129,57 +138,40 @@ module _ (places : List ℕ) (rows : List Row) where
           two true e ih = (eqb-true (get_or leads x 0) x e, ih)
           two false e ih = ih
 
-  stood_at : (i : ℕ) → i < length rows → row_at stood i ≡ cells_at places (row_at rows i)
-  stood_at i h = get_or-map (cells_at places) rows i [] [] h
+  abbrev key_of : ℕ → Row
+  key_of i = key (row_at rows i)
 
-  whole_at : (i : ℕ) → i < length rows → all_cells (row_at stood i) ≡ cells_at places (row_at rows i)
-  whole_at i h = ap all_cells (stood_at i h) ∙ key_stays places (row_at rows i)
-
-  keys_of_firsts : map (row_at stood) (firsts leads) ≡ each_once same_row stood
-  keys_of_firsts =
-      map_agree (λ i. i < length rows) (row_at stood) (λ i. all_cells (row_at stood i)) (λ i h. stood_at i h ∙ sym (whole_at i h)) (firsts leads) firsts_within
-      ∙ keys_once all_cells stood ∙ ap (each_once same_row) (keys_stay places rows)
-
-  rows_of_first : (i : ℕ) → i < length rows → get_or leads i 0 ≡ i → rows_at rows (rows_led leads i) ≡ rows_with places rows (row_at stood i)
+  rows_of_first : (i : ℕ) → i < length rows → get_or leads i 0 ≡ i → rows_at rows (rows_led leads i) ≡ rows_with places rows (key_of i)
   rows_of_first i h own =
-      let long : length stood ≡ length rows = length-map rows (cells_at places) in
       ap (λ f. rows_at rows (rows_led leads f)) (sym own)
-      ∙ ap (rows_at rows) (rows_of_key all_cells stood i (omega (arith, long, h)))
-      ∙ ap (λ n. rows_at rows (passing (λ j. same_row (all_cells (row_at stood j)) (all_cells (row_at stood i))) n)) long
-      ∙ ap (rows_at rows) (passing_agree (λ j. same_row (all_cells (row_at stood j)) (all_cells (row_at stood i))) (λ j. same_row (cells_at places (row_at rows j)) (row_at stood i)) (length rows)
-      (λ j k. λ n. same_row (whole_at j k n) ((whole_at i h ∙ sym (stood_at i h)) n)))
-      ∙ passing_rows (λ r. same_row (cells_at places r) (row_at stood i)) rows
+      ∙ ap (rows_at rows) (rows_of_key key rows i h)
+      ∙ passing_rows (λ r. same_row (key r) (key_of i)) rows
 
-  rows_of_firsts : (fs : List ℕ) → AllByRecursion (λ i. i < length rows) fs → AllByRecursion (λ i. get_or leads i 0 ≡ i) fs → map (rows_at rows) (map (rows_led leads) fs) ≡ map (rows_with places rows) (map (row_at stood) fs)
+  rows_of_firsts : (fs : List ℕ) → AllByRecursion (λ i. i < length rows) fs → AllByRecursion (λ i. get_or leads i 0 ≡ i) fs → map (rows_at rows) (map (rows_led leads) fs) ≡ map (rows_with places rows) (map key_of fs)
   rows_of_firsts [] within own = refl
   rows_of_firsts (f ∷ fs) within own = λ n. rows_of_first f within.0 own.0 n ∷ rows_of_firsts fs within.1 own.1 n
 
   led_within : (f : ℕ) → AreWithin rows (rows_led leads f)
   led_within f = AllByRecursion-filter (λ i. i < length rows) (λ i. eqb (get_or leads i 0) f) (range_with_len 0 (length leads)) (numbers_within 0 (length leads) (length rows) (let m = many_leads in omega (arith, m)))
 
-  groups_are : AreGroups places rows (record { keys = map (row_at stood) (firsts leads); numbers = map (rows_led leads) (firsts leads) }) ⊎ (places ≡ [])
-  groups_are = go places refl
+  groups_are : (places ≡ [] → ⊥) → AreGroups places rows (groups_led places rows leads)
+  groups_are some = record {
+    keys_are = keys_once key rows ∙ same_once (map key rows) ∙ go places refl;
+    rows_are = rows_of_firsts (firsts leads) firsts_within firsts_own;
+    within = all_mapped (AreWithin rows) (rows_led leads) led_within (firsts leads);
+  }
     where
-      go : (ps : List ℕ) → ps ≡ places → AreGroups places rows (record { keys = map (row_at stood) (firsts leads); numbers = map (rows_led leads) (firsts leads) }) ⊎ (places ≡ [])
-      go [] e = inr (sym e)
-      go (i ∷ is) e = inl (record {
-        keys_are = keys_of_firsts ∙ same_once stood ∙ subst (λ qs. tuples.each_once same_row (map (cells_at qs) rows) ≡ keys_by qs rows) e refl;
-        rows_are = rows_of_firsts (firsts leads) firsts_within firsts_own;
-        within = all_mapped (AreWithin rows) (rows_led leads) led_within (firsts leads);
-      })
+      go : (ps : List ℕ) → ps ≡ places → tuples.each_once same_row (map key rows) ≡ keys_by places rows
+      go [] e = absurd (some (sym e))
+      go (i ∷ is) e = subst (λ qs. tuples.each_once same_row (map (cells_at qs) rows) ≡ keys_by qs rows) e refl
 
--- what is found of the rows of a table of keys
-pub keyed_groups : (places : List ℕ) (rows : List Row) (columns : List ℕ) (keys : Listed) (groups : List ℕ) (x : Grouped) → (places ≡ [] → ⊥) → columns ≡ range_with_len 0 (length places) → keys.rows ≡ map (cells_at places) rows → groups ≡ leads_of (cells_at columns) keys.rows → grouped_in (Keyed keys groups) ≡ x → AreGroups places rows x
-keyed_groups places rows columns keys groups x some all stand found e =
-    let led : groups ≡ leads places rows = found ∙ (λ n. leads_of (cells_at (all n)) (stand n)) in
-    let made : (let y : Grouped = record { keys = map (row_at (stood places rows)) (firsts (leads places rows)); numbers = map (rows_led (leads places rows)) (firsts (leads places rows)) } in y) ≡ x =
-    (λ n. record { keys = map (row_at (sym stand n)) (firsts (sym led n)); numbers = map (rows_led (sym led n)) (firsts (sym led n)) }) ∙ e in
-    subst (AreGroups places rows) made (elim (groups_are places rows) [ inl h ↦ h | inr none ↦ absurd (some none) ])
+-- what is found of the rows
+pub keyed_groups : (places : List ℕ) (rows : List Row) (groups : List ℕ) (x : Grouped) → (places ≡ [] → ⊥) → groups ≡ leads_of (cells_at places) rows → groups_led places rows groups ≡ x → AreGroups places rows x
+keyed_groups places rows groups x some found e =
+    subst (AreGroups places rows) (ap (groups_led places rows) (sym found) ∙ e) (groups_are places rows some)
 
--- the leads that are found are of groups
-pub found_leads : (columns : List ℕ) (keys : Listed) (groups : List ℕ) → groups ≡ leads_of (cells_at columns) keys.rows → (length groups ≡ length keys.rows) × AreLeads groups
-found_leads columns keys groups found =
-    (ap length found ∙ length-map keys.rows (λ r. position_or_len (λ s. same_row (cells_at columns s) (cells_at columns r)) keys.rows), subst AreLeads (sym found) (are_leads (cells_at columns) keys.rows))
+pub found_leads : (places : List ℕ) (rows : List Row) (groups : List ℕ) → groups ≡ leads_of (cells_at places) rows → (length groups ≡ length rows) × AreLeads groups
+found_leads places rows groups found = subst (λ ls. (length ls ≡ length rows) × AreLeads ls) (sym found) (are_laid_out places rows)
 
 -- ---- one of the groups
 module _ (places : List ℕ) (rows : List Row) (x : Grouped) (are : AreGroups places rows x) where

@@ -4,6 +4,7 @@ use Rattle.std.specs.List.{AllByRecursion}
 use Rattle.vtl_cell.specs.Row.{Row}
 use Rattle.vtl_rows.specs.Named.{NamedTables}
 use Rattle.vtl_rows.specs.Places.{row_at}
+use Rattle.vtl_rows.specs.Tables.{cells_at}
 use Rattle.vtl_index.specs.Groups.{AreLeads, firsts, rows_led}
 use Rattle.sql_from.specs.Groups.{keys_by, rows_with}
 use Rattle.sql_groups.specs.declared.grouping.Layout.{Layout}
@@ -37,11 +38,15 @@ pub record Group : Type 0 where
 
 -- ---- as the code holds them
 
-abbrev pub grouped_in : Layout → Grouped
-grouped_in (Whole numbers) = record { keys = [] ∷ []; numbers = numbers.items ∷ [] }
-grouped_in (Keyed keys groups) = record { keys = map (row_at keys.rows) (firsts groups); numbers = map (rows_led groups) (firsts groups) }
+-- the groups of rows by their cells at these places, each known by its first row
+abbrev pub groups_led : List ℕ → List Row → List ℕ → Grouped
+groups_led places rows leads = record { keys = map (λ i. cells_at places (row_at rows i)) (firsts leads); numbers = map (rows_led leads) (firsts leads) }
 
--- each row has a key, and leads that are of groups
-abbrev pub IsLaidOut : Layout → Type 0
-IsLaidOut (Whole numbers) = Unit {0}
-IsLaidOut (Keyed keys groups) = (length groups ≡ length keys.rows) × AreLeads groups
+abbrev pub grouped_in : List Row → Layout → Grouped
+grouped_in rows (Whole numbers) = record { keys = [] ∷ []; numbers = numbers.items ∷ [] }
+grouped_in rows (Keyed places groups) = groups_led places.items rows groups
+
+-- each row has a lead, and leads are of groups
+abbrev pub IsLaidOut : List Row → Layout → Type 0
+IsLaidOut rows (Whole numbers) = Unit {0}
+IsLaidOut rows (Keyed places groups) = (length groups ≡ length rows) × AreLeads groups

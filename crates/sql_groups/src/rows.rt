@@ -44,19 +44,15 @@ pub(crate) fn push_groups<'r, L: Ledger>(
     ensures columns { table.new.columns ≡ table.old.columns }
     ensures rows { AnswersBy (λ u. table.new.rows) result (after (groups_made (around p.now rows.now group.now) select.now (keys_in rows.now group.now)) (λ made. Ok (table.old.rows ++ made))) }
 {
-    let groups = Grouping::of(alloc, rows, group)?;
+    let groups = Grouping::of(alloc, &*rows, group)?;
     let partners = GroupPartners::of(alloc, select, &*rows, p, steps)?;
+    let mut key = Vec::with_capacity(alloc, group.len())?;
     let mut cells = Vec::with_capacity(alloc, select.items.len())?;
     let mut seen = Seen::Nothing;
     for number in 0..groups.len() {
+        groups.put_key(number, &mut key)?;
         let null = Cell::Null;
-        let at = GroupRow::of(
-            &*rows,
-            &partners,
-            groups.key(number),
-            groups.rows(number),
-            &null,
-        );
+        let at = GroupRow::of(&*rows, &partners, &key, groups.rows(number), &null);
         seen = push_group(alloc, table, &mut cells, seen, select, &at, p)?;
     }
     seen.unless(())

@@ -1,7 +1,8 @@
 // Aggregates of an expression over rows.
-ghost use Rattle.std.specs.Prelude.{◌≡◌, ◌++◌, ◌∷◌, [], IfErr, IfOk, List};
+ghost use Rattle.std.specs.Prelude.{◌≡◌, ◌++◌, ◌∷◌, [], IfErr, IfOk, List, map};
 ghost use Rattle.vtl_cell.specs.Groups.{group_value};
 ghost use Rattle.vtl_cell.specs.Outcome.{after, fault_in, join, unless};
+ghost use Rattle.vtl_cell.specs.Row.{column_of};
 ghost use Rattle.vtl_cell.specs.declared.cell.Cell as cells;
 ghost use Rattle.vtl_agg.specs.Added.{HasRoom, IsAdded};
 ghost use Rattle.vtl_scalar.specs.Answers.{Answers};
@@ -28,7 +29,7 @@ fn fetched(rows: &TupleRows<'_>, numbers: &[usize], place: usize) -> usize {
     let mut count = 0usize;
     for number in numbers {
         if *number < rows.len() {
-            match rows.row(*number).cell(place) {
+            match rows.cell(*number, place) {
                 Cell::Null => {}
                 _ => count = count.saturating_add(1),
             }
@@ -37,23 +38,20 @@ fn fetched(rows: &TupleRows<'_>, numbers: &[usize], place: usize) -> usize {
     count
 }
 
-// Fetches the next rows where a block of them begins, if a column is asked of them. Their count is looked at so that they
-// are fetched; it never is so great.
+// Fetches the next rows where a block of them begins. Their count is looked at so that they are fetched; it never is so
+// great.
 fn fetch_block(
     rows: &TupleRows<'_>,
     numbers: &[usize],
     i: usize,
-    operand: &Resolved,
+    place: usize,
 ) -> Result<(), AllocError> {
-    let Resolved::Column(place) = operand else {
-        return Ok(());
-    };
     if i % BLOCK != 0 {
         return Ok(());
     }
     let rest = numbers.get(i..).unwrap_or(&[]);
     let block = &rest[..rest.len().min(BLOCK)];
-    if fetched(rows, block, *place) > BLOCK {
+    if fetched(rows, block, place) > BLOCK {
         return Err(AllocError);
     }
     Ok(())
@@ -100,9 +98,29 @@ fn finished(acc: Acc, seen: Seen) -> Result<Cell, ScalarErr>
     }
 }
 
-/// An aggregate of the values that an expression has at the rows of these numbers: the worst of their faults, or else
-/// its value or its own fault. It goes over the rows once, at which EXISTS is asked by a look-up where there is one for it.
-pub(crate) fn aggregate<'a>(
+// An aggregate of the cells at a place of the rows with these numbers. It goes over the rows once.
+fn of_cells(
+    alloc: Global,
+    rows: &TupleRows<'_>,
+    numbers: &[usize],
+    function: AggKind,
+    place: usize,
+    p: &Profile,
+) -> Result<Cell, ScalarErr>
+    requires { AreWithin (rows_of rows.now) numbers.now }
+    ensures { Answers result (group_value p.now function (map (column_of place) (rows_at (rows_of rows.now) numbers.now))) }
+{
+    let mut acc = Acc::new(alloc, function, p);
+    for i in 0..numbers.len() {
+        fetch_block(rows, numbers, i, place)?;
+        acc.add(rows.cell(numbers[i], place))?;
+    }
+    Ok(acc.finish()?)
+}
+
+// An aggregate of the values that an expression has at the rows of these numbers: the worst of their faults, or else its
+// value or its own fault. It goes over the rows once, at which EXISTS is asked by a look-up where there is one for it.
+fn of_values<'a>(
     alloc: Global,
     rows: &'a TupleRows<'a>,
     partners: &'a Partners<'a>,
@@ -117,12 +135,30 @@ pub(crate) fn aggregate<'a>(
 {
     let mut acc = Acc::new(alloc, function, p);
     let mut seen = Seen::Nothing;
-    let mut count = 0usize;
     for number in numbers {
-        fetch_block(rows, numbers, count, operand)?;
-        count = count.saturating_add(1);
         let at = rows.partnered(*number, partners);
         seen = add_value(alloc, &mut acc, seen, operand, &at, p)?;
     }
     finished(acc, seen)
+}
+
+/// An aggregate of an expression at the rows of these numbers: the worst of the faults of its values, or else the value of
+/// the aggregate or its own fault. Where the expression is a column, its cells are read and nothing is evaluated.
+pub(crate) fn aggregate<'a>(
+    alloc: Global,
+    rows: &'a TupleRows<'a>,
+    partners: &'a Partners<'a>,
+    numbers: &[usize],
+    function: AggKind,
+    operand: &Resolved,
+    p: &Profile,
+) -> Result<Cell, ScalarErr>
+    requires numbers { AreWithin (rows_of rows.now) numbers.now }
+    requires partners { partners.now ≡ rows.now.sources }
+    ensures { Answers result (aggregate_value p.now (tables_of rows.now) function (placed_of operand.now) (rows_at (rows_of rows.now) numbers.now)) }
+{
+    match operand {
+        Resolved::Column(place) => of_cells(alloc, rows, numbers, function, *place, p),
+        _ => of_values(alloc, rows, partners, numbers, function, operand, p),
+    }
 }

@@ -17,4 +17,3 @@ pub mod PutLemmas
 pub mod RankLemmas
 pub mod StandLemmas
 pub mod StretchLemmas
-pub mod TabledLemmas

@@ -20,5 +20,5 @@ pub use sql_groups::{
     ExecErr, Partners, Plan, Seen, Sources, TupleRows, asks, items_are_lifted_to_columns,
     push_grouped, source_rows, source_tuples,
 };
-pub use tabled_rows::{TabledRows, lent_table};
+pub use tabled_rows::TabledRows;
 pub use windows::window_values;

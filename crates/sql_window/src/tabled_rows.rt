@@ -1,9 +1,7 @@
 // Rows of FROM with a table of them.
-ghost use Rattle.std.specs.List.{range_with_len};
-ghost use Rattle.std.specs.Prelude.{◌≡◌, ◌<◌, ◌∷◌, [], length, map, slice_index_or, true, All, IfOk, IfSome};
-ghost use Rattle.vtl_rows.specs.Tables.{column_kinds};
+ghost use Rattle.std.specs.Prelude.{◌≡◌, ◌<◌, length, slice_index_or, IfOk};
 ghost use Rattle.sql_eval.specs.Scopes.{row_of};
-ghost use Rattle.sql_groups.specs.Sources.{parts_of, scope_held};
+ghost use Rattle.sql_groups.specs.Sources.{scope_held};
 ghost use Rattle.sql_groups.specs.Standing.{rows_for};
 ghost use Rattle.sql_window.specs.TabledRows.{listed_in};
 
@@ -60,55 +58,12 @@ impl Drop for TabledRows<'_> {
     }
 }
 
-// Whether the tuples are the numbers of so many rows of one source, each once and in order.
-fn counts_up(rows: &TupleRows<'_>, count: usize) -> bool
-    requires { length rows.now.sources.sources ≡ 1 }
-    ensures { result ≡ true → rows.now.tuples.tuples ≡ map (λ i. i ∷ []) (range_with_len 0 count) }
-{
-    if rows.len() != count {
-        return false;
-    }
-    for i in 0..count {
-        let tuple = rows.tuples.tuple(i);
-        if tuple[0] != i {
-            return false;
-        }
-    }
-    true
-}
-
-// Whether these are the rows of this table, which is that of their only source.
-fn are_all(rows: &TupleRows<'_>, table: &Table) -> bool
-    requires { parts_of rows.now.sources.sources ≡ table.now ∷ [] }
-    ensures { result ≡ true → table.now.rows ≡ rows_for rows.now.sources rows.now.tuples }
-{
-    let _columns = table.columns();
-    counts_up(rows, table.len())
-}
-
-/// The table of the only source, if its rows are these, each once and in order.
-pub fn lent_table<'a>(rows: &'a TupleRows<'a>) -> Option<&'a Table>
-    ensures kinds { IfSome result (λ t. column_kinds t.now.columns ≡ row_of (scope_held rows.now.sources.sources)) }
-    ensures wide { IfSome result (λ t. length t.now.columns ≡ length (row_of (scope_held rows.now.sources.sources))) }
-    ensures rows { IfSome result (λ t. t.now.rows ≡ rows_for rows.now.sources rows.now.tuples) }
-{
-    if rows.sources.len() != 1 {
-        return None;
-    }
-    let table = rows.sources.table(0);
-    if are_all(rows, table) {
-        Some(table)
-    } else {
-        None
-    }
-}
-
 // A table of these rows.
 fn row_table<'a>(alloc: Global, rows: &'a TupleRows<'a>) -> Result<RowTable<'a>, AllocError>
     ensures wide { IfOk result (λ t. length (listed_in t).columns ≡ length (row_of (scope_held rows.now.sources.sources))) }
     ensures rows { IfOk result (λ t. (listed_in t).rows ≡ rows_for rows.now.sources rows.now.tuples) }
 {
-    match lent_table(rows) {
+    match rows.lent_table() {
         Some(table) => Ok(RowTable::Lent(table)),
         None => Ok(RowTable::Made(rows.table(alloc)?)),
     }

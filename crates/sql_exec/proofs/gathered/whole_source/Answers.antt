@@ -1,5 +1,6 @@
 use Rattle.std.proofs.Common.{length, map, ap, sym, ◌∙◌}
 use Rattle.std.specs.List.{range_with_len}
+use Rattle.std.proofs.lemmas.List.{length-map}
 use Rattle.vtl_rows.specs.Tables.{cells_at}
 use Rattle.vtl_rows.proofs.PlacesStay.{rows_stay}
 use Rattle.sql_window.specs.Columns.{kinds_at}
@@ -14,7 +15,8 @@ returns-then-are_all-clause-kinds c =
     let t = c.in_ok-table.table.now in
     let kinds = row_of (scope_held c.args.rows.now.sources.sources) in
     let places = c.if-are_all.ensures ∙ ap (λ cs. range_with_len 0 (length cs)) c.columns.ensures.columns in
-    c.in_ok-table.ensures.kinds ∙ sym (ap (λ ps. kinds_at ps kinds) places ∙ kinds_stay (length t.columns) kinds (sym c.in_ok-table.ensures.wide))
+    let wide = sym (length-map t.columns (λ x. x.kind)) ∙ ap length c.in_ok-table.ensures.kinds in
+    c.in_ok-table.ensures.kinds ∙ sym (ap (λ ps. kinds_at ps kinds) places ∙ kinds_stay (length t.columns) kinds (sym wide))
 
 pub returns-then-are_all-clause-rows : goal.returns-then-are_all-clause-rows
 returns-then-are_all-clause-rows c =

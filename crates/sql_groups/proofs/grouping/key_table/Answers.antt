@@ -1,11 +1,7 @@
 use Rattle.std.proofs.Common.{◌<◌, ◌++◌, ◌∷◌, ◌∙◌, [], length, map, ap, sym, arith}
 use Rattle.std.proofs.lemmas.List.{map_more}
-use Rattle.vtl_cell.specs.Row.{Row}
 use Rattle.vtl_rows.specs.Places.{row_at}
 use Rattle.vtl_rows.specs.Tables.{cells_at, column_kinds}
-use Rattle.sql_from.specs.Values.{place_in}
-use Rattle.sql_from.specs.Rows.{combined}
-use Rattle.sql_from.specs.Sources.{parts_of}
 use Rattle.sql_groups.specs.Kept.{rows_of, scope_of}
 use Rattle.sql_groups.proofs.KeyLemmas.{key_row_fits}
 use Rattle.sql_groups.proofs.grouping.key_table.Goals as goal
@@ -13,26 +9,24 @@ use Rattle.sql_groups.proofs.grouping.key_table.Goals as goal
 pub push_cells-requires : goal.push_cells-requires
 push_cells-requires c =
     let rows = rows_of c.args.rows.now in
-    let r : Row = combined (parts_of c.row.result.sources.now.sources) (c.row.result.front.now ++ c.row.result.last ∷ []) in
-    let within : c.loop-number.number < length rows = omega (arith, c.len-number-end.ensures.rows, c.loop-number-test.true) in
-    let places = c.deref.ensures.value ∙ c.in_ok-places.ensures in
-    key_row_fits (scope_of c.args.rows.now) c.args.group.now rows c.loop-number.number c.loop-number.table.columns c.push_key.new.key.items r c.requires.seen c.requires.fit within c.row.ensures.row c.loop-number.invariant.kinds
-    (c.in_ok-push_key.ensures ∙ ap (λ l. l ++ cells_at c.deref.result.now r) c.loop-number.invariant.empty ∙ ap (λ l. cells_at l r) places)
+    let i = c.loop-number.number in
+    let r = row_at rows i in
+    let within : i < length rows = omega (arith, c.len-number-end.ensures.rows, c.loop-number-test.true) in
+    key_row_fits (scope_of c.args.rows.now) c.args.group.now rows i c.loop-number.table.columns c.push_key.new.key.items c.requires.seen c.requires.fit within c.loop-number.invariant.kinds
+    (c.in_ok-push_key.ensures ∙ ap (λ l. l ++ cells_at c.args.places.now r) c.loop-number.invariant.empty ∙ ap (λ l. cells_at l r) c.requires.places)
 
 pub loop-number-preserved : goal.loop-number-preserved
 loop-number-preserved c =
     let rows = rows_of c.args.rows.now in
     let i = c.loop-number.number in
-    let r : Row = combined (parts_of c.row.result.sources.now.sources) (c.row.result.front.now ++ c.row.result.last ∷ []) in
     let within : i < length rows = omega (arith, c.len-number-end.ensures.rows, c.loop-number-test.true) in
-    let places = c.deref.ensures.value ∙ c.in_ok-places.ensures in
-    let key = c.in_ok-push_key.ensures ∙ ap (λ l. l ++ cells_at c.deref.result.now r) c.loop-number.invariant.empty ∙ ap (λ l. cells_at l r) places ∙ ap (cells_at (map (place_in (scope_of c.args.rows.now)) c.args.group.now)) c.row.ensures.row in
+    let key = c.in_ok-push_key.ensures ∙ ap (λ l. l ++ cells_at c.args.places.now (row_at rows i)) c.loop-number.invariant.empty in
     record {
       kinds = ap column_kinds c.push_cells.ensures.columns ∙ c.loop-number.invariant.kinds;
       rows =
           c.in_ok-push_cells.ensures.rows
           ∙ ap (λ k. c.loop-number.table.rows ++ k ∷ []) key
-          ∙ ap (λ l. l ++ cells_at (map (place_in (scope_of c.args.rows.now)) c.args.group.now) (row_at rows i) ∷ []) c.loop-number.invariant.rows
-          ∙ sym (map_more (cells_at (map (place_in (scope_of c.args.rows.now)) c.args.group.now)) rows i [] within);
+          ∙ ap (λ l. l ++ cells_at c.args.places.now (row_at rows i) ∷ []) c.loop-number.invariant.rows
+          ∙ sym (map_more (cells_at c.args.places.now) rows i [] within);
       empty = c.in_ok-push_cells.ensures.moved;
     }

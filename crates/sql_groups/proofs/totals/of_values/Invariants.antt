@@ -7,7 +7,7 @@ use Rattle.sql_eval.specs.View.{placed_of}
 use Rattle.sql_groups.specs.Grouped.{rows_at}
 use Rattle.sql_groups.specs.Kept.{rows_of, tables_of}
 use Rattle.sql_from.specs.Seen.{seen_of}
-use Rattle.sql_groups.proofs.totals.aggregate.Given as goal
+use Rattle.sql_groups.proofs.totals.of_values.Given as goal
 
 abbrev pub invariant-loop-number : goal.invariant-loop-number
 invariant-loop-number l = record {

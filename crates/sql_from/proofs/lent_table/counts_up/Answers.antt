@@ -1,10 +1,10 @@
 use Rattle.std.proofs.Common.{◌≡◌, ◌≤◌, length, arith}
-use Rattle.sql_window.proofs.TabledLemmas.{all_alone}
-use Rattle.sql_window.proofs.tabled_rows.counts_up.Goals as goal
+use Rattle.sql_from.proofs.Alone.{all_singles}
+use Rattle.sql_from.proofs.lent_table.counts_up.Goals as goal
 
 pub returns : goal.returns
 returns c = λ all.
-    let tuples = c.args.rows.now.tuples.tuples in
+    let tuples = c.args.tuples.now.tuples in
     let many : length tuples ≡ c.args.count = omega (arith, c.len.ensures.tuples, c.if-len-count.false) in
     let past : c.args.count ≤ c.loop-i.i = omega (arith, c.loop-i-test.false) in
-    all_alone tuples c.args.count c.loop-i.i many past c.loop-i.invariant
+    all_singles tuples c.args.count c.loop-i.i many past c.loop-i.invariant
