@@ -1,4 +1,5 @@
 // Rows of FROM as tuples of row numbers.
+ghost use Rattle.std.proofs.Props.{props};
 ghost use Rattle.std.specs.Prelude.{◌≡◌, ◌<◌, ◌∷◌, ◌++◌, [], length, map, slice_index_or, All, IfOk, IfSome};
 ghost use Rattle.vtl_cell.specs.Row.{column_of};
 ghost use Rattle.vtl_rows.specs.Tables.{cells_at, column_kinds};
@@ -23,8 +24,8 @@ pub struct TupleRows<'a> {
     pub tuples: Tuples,
     lent: Option<&'a Table>,
     ghost is_whole: { tuples.width ≡ length sources.sources },
-    ghost lends_kinds: { IfSome lent (λ t. column_kinds t.now.columns ≡ row_of (scope_held sources.sources)) },
-    ghost lends_rows: { IfSome lent (λ t. t.now.rows ≡ rows_for sources tuples) },
+    ghost lends_kinds: { IfSome lent (λ t. column_kinds t.now.columns ≡ row_of (scope_held sources.sources)) } by { Prim.hlevel props },
+    ghost lends_rows: { IfSome lent (λ t. t.now.rows ≡ rows_for sources tuples) } by { Prim.hlevel props },
 }
 
 // Written out, so that a proof above sees one call and not the drop of each part.
@@ -43,7 +44,7 @@ impl<'a> TupleRows<'a> {
     pub(crate) fn of(sources: Sources<'a>, tuples: Tuples) -> TupleRows<'a>
         requires { tuples.width ≡ length sources.sources }
         ensures sources { result.sources ≡ sources.entry }
-        ensures tuples { result.tuples ≡ tuples.entry }
+        ensures tuples { result.tuples ≡ tuples }
     {
         let lent = lent_table(&sources, &tuples);
         TupleRows {
