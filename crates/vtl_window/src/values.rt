@@ -69,7 +69,7 @@ fn sorted_places(
     requires partition { AllByRecursion (IsNamedColumn (columns_of a.now.structure)) call.window.now.partition }
     requires order { AllByRecursion (λ key. IsNamedColumn (columns_of a.now.structure) key.component) call.window.now.order }
     ensures within { IfOk result (λ v. All (λ i. i < length a.now.points) v.items) }
-    ensures order { IfOk result (λ v. IsOrderOf (sort_keys (columns_of a.now.structure) (tie_breakers call.op.now (identifiers_of a.now.structure)) call.window.now) a.now.points v.items) }
+    ensures order { IfOk result (λ v. IsOrderOf (sort_keys (columns_of a.now.structure) (tie_breakers call.entry.op.now (identifiers_of a.now.structure)) call.entry.window.now) a.now.points v.items) }
 {
     let identifiers = tie_breakers(alloc, a.structure(), call.op)?;
     let keys = sort_keys(alloc, columns, &identifiers, call.window)?;
