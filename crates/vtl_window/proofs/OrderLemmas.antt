@@ -1,4 +1,4 @@
--- Rows in order by several keys: they are in order by the first of these, and where all of them tie by the first, by the others.
+-- Rows in order by several keys are in order by the first of these, and, where all tie by the first, by the others.
 use Rattle.std.proofs.Common.{◌≡◌, ℕ, Bool, true, false, not, List, [], ◌∷◌, ◌++◌, map, refl, sym, ap, ◌∙◌}
 use Rattle.std.specs.Cmp.{Equal-is}
 use Rattle.std.specs.List.{AllByRecursion}

@@ -1,5 +1,5 @@
--- The keys by which the points of a data set are sorted for a call: the partition of its window, the order, and then identifiers, so that no
--- two points tie where this matters.
+-- The keys by which the points of a data set are sorted for a call: the partition of its window, the order, and then
+-- identifiers, so that no two points tie where this matters.
 use Rattle.std.specs.Prelude.{ℕ, false, List, [], ◌++◌, map}
 use Rattle.vtl_rows.specs.declared.column.SortKey.{SortKey}
 use Rattle.vtl_tree.specs.declared.structure.Component.{Component}
@@ -27,7 +27,8 @@ identifier_keys xs ids = map (λ y. rising_key (place_of y.name xs)) ids
 abbrev pub sort_keys : List Component → List Component → Window → List SortKey
 sort_keys xs ids w = (partition_keys xs w ++ order_keys xs w) ++ identifier_keys xs ids
 
--- of a data set's identifiers those that the sort for an operator looks at: all of them, or none for a rank, which is one for points that tie
+-- of a data set's identifiers those that the sort for an operator looks at: all of them, or none for a rank, which is
+-- one for points that tie
 abbrev pub tie_breakers : AnalyticOp → List Component → List Component
 tie_breakers op.Rank ids = []
 tie_breakers o ids = ids

@@ -92,7 +92,7 @@ pub(crate) fn order_keys(
     Ok(keys)
 }
 
-/// The identifiers that the sort for an operator looks at where points tie by the listed order: all of them, or none for
+/// The identifiers that a sort for an operator looks at where points tie by the listed order: all of them, or none for
 /// a rank, which is one for points that tie. It fails only if memory runs out.
 pub(crate) fn tie_breakers<'a>(
     alloc: Global,
