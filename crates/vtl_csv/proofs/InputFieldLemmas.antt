@@ -1,10 +1,10 @@
 -- Steps of the loop over the fields of a record.
-use Rattle.std.proofs.Common.{◌≡◌, ℕ, ◌+◌, ◌<◌, ◌≤◌, ◌==◌, List, [], ◌∷◌, Bool, true, false, cond, chars, get_or, drop, length, Option, Some, None, Result, Ok, Err, refl, ap, sym, ◌∙◌, arith, length-append}
+use Rattle.std.proofs.Common.{◌≡◌, ℕ, ◌+◌, ◌<◌, ◌≤◌, ◌==◌, List, [], ◌∷◌, ◌++◌, Bool, true, false, cond, chars, get_or, drop, take, length, Option, Some, None, Result, Ok, Err, refl, ap, sym, subst, ◌∙◌, arith, length-append, append_assoc}
 use Rattle.std.specs.List.{zip}
 use Rattle.std.specs.Prelude.{IsUtf8}
 use Rattle.std.specs.Str.{is_utf8}
 use Rattle.std.proofs.lemmas.Bool.{eqb-true}
-use Rattle.std.proofs.lemmas.List.{drop_all, drop_more}
+use Rattle.std.proofs.lemmas.List.{append-nil, drop_all, drop_more, take_all, take_at}
 use Rattle.std.proofs.lemmas.Str.{IsUtf8-from_is_utf8, IsUtf8-nil, is_utf8-from_IsUtf8}
 use Rattle.vtl_cell.specs.Settings.{Settings}
 use Rattle.vtl_cell.specs.declared.cell.Cell.{Cell}
@@ -16,7 +16,7 @@ use Rattle.vtl_csv.specs.declared.input.InputKind.{InputKind}
 use Rattle.vtl_csv.specs.declared.input.InputKind.TheVariants as i
 use Rattle.vtl_csv.specs.Declarations.{text_in}
 use Rattle.vtl_csv.specs.InputFields.{at_column, coded_cell, field_cell, row_with, text_cell}
-use Rattle.vtl_csv.specs.InputSteps.{Goes}
+use Rattle.vtl_csv.specs.InputSteps.{AddsRow, Goes}
 use Rattle.vtl_csv.proofs.PointLemmas.{pair_at, zip_ended, zip_within}
 
 -- a field that is a text, or none
@@ -45,16 +45,6 @@ pub field_value : (p : Settings) (x : Component) (f t : List ℕ) (kind : Kind) 
 field_value p x f t kind o some h same of_kind e =
     ap (coded_cell x) (e ∙ ap (λ m. reads p m t) of_kind ∙ ap (reads p x.kind) same) ∙ sym (field_read p x f some h)
 
--- a row that goes on is longer by one
-pub goes_longer : (row longer : Row) (r : Result Cell InputKind) → Goes row longer None r → length longer ≡ length row + 1
-goes_longer row longer (Ok v) h = ap length h.1 ∙ length-append row (v ∷ [])
-goes_longer row longer (Err kind) h = let bad : None ≡ Some kind = h.0 in cc
-
--- a row that stops is as before
-pub goes_nowhere : (row after : Row) (kind : InputKind) (r : Result Cell InputKind) → Goes row after (Some kind) r → after ≡ row
-goes_nowhere row after kind (Err other) h = h.1
-goes_nowhere row after kind (Ok v) h = let bad : Some kind ≡ None = h.0 in cc
-
 -- a field of a column of texts that is none
 pub field_lost : (p : Settings) (x : Component) (f : List ℕ) → None ≡ text_in f → Err i.NotText ≡ field_cell p x f
 field_lost p x f found = go (is_utf8 f) refl found
@@ -63,34 +53,58 @@ field_lost p x f found = go (is_utf8 f) refl found
     go true e q = cc
     go false e q = refl
 
-module _ (p : Settings) (xs : List Component) (ys : List (List ℕ)) (i : ℕ) (row : Row) (same : length ys ≡ length xs) where
+-- behind other cells stand those of the first i fields of a record, whose row is that of these cells and the fields left
+pub record IsFilled (p : Settings) (pairs : List (Component × List ℕ)) (i : ℕ) (before cells : List Cell) : Type 0 where
+  pub row : Row
+  pub stands : cells ≡ before ++ row
+  pub size : length row ≡ i
+  pub goes_on : row_with p row (drop i pairs) ≡ row_with p [] pairs
+
+pub filled_none : (p : Settings) (pairs : List (Component × List ℕ)) (before : List Cell) → IsFilled p pairs 0 before before
+filled_none p pairs before = record { row = []; stands = sym (append-nil before); size = refl; goes_on = refl }
+
+-- cells that were not touched are still in front
+pub kept_in_front : (before : List Cell) → take (length before) before ≡ before
+kept_in_front before = take_all (length before) before (omega arith)
+
+module _ (p : Settings) (xs : List Component) (ys : List (List ℕ)) (i : ℕ) (before cells : List Cell) (same : length ys ≡ length xs) (filled : IsFilled p (zip xs ys) i before cells) where
   module _ (x : Component) (y : List ℕ) (h : i < length xs) (at_x : x ≡ get_or xs i x) (at_y : y ≡ get_or ys i y) where
-    step : (r : Result Cell InputKind) → field_cell p x y ≡ r → row_with p row (drop i (zip xs ys)) ≡ at_column row (λ longer. row_with p longer (drop (i + 1) (zip xs ys))) r
+    step : (r : Result Cell InputKind) → field_cell p x y ≡ r → row_with p [] (zip xs ys) ≡ at_column filled.row (λ longer. row_with p longer (drop (i + 1) (zip xs ys))) r
     step r e =
         let k : i < length ys = omega (arith, same, h) in
-        ap (row_with p row) (drop_more (zip xs ys) i (x, y) (zip_within xs ys i h same))
-        ∙ ap (λ q. at_column row (λ longer. row_with p longer (drop (i + 1) (zip xs ys))) (field_cell p q.0 q.1)) (pair_at xs ys i x y h k at_x at_y)
-        ∙ ap (at_column row (λ longer. row_with p longer (drop (i + 1) (zip xs ys)))) e
+        sym filled.goes_on
+        ∙ ap (row_with p filled.row) (drop_more (zip xs ys) i (x, y) (zip_within xs ys i h same))
+        ∙ ap (λ q. at_column filled.row (λ longer. row_with p longer (drop (i + 1) (zip xs ys))) (field_cell p q.0 q.1)) (pair_at xs ys i x y h k at_x at_y)
+        ∙ ap (at_column filled.row (λ longer. row_with p longer (drop (i + 1) (zip xs ys)))) e
 
-    -- the field is a cell, which the row has got
-    pub row_takes : (longer : Row) → Goes row longer None (field_cell p x y) → row_with p row (drop i (zip xs ys)) ≡ row_with p longer (drop (i + 1) (zip xs ys))
-    row_takes longer goes = go (field_cell p x y) refl goes
+    -- the field is a cell, which stands behind the others now
+    pub filled_more : (after : List Cell) → Goes cells after None (field_cell p x y) → IsFilled p (zip xs ys) (i + 1) before after
+    filled_more after goes = go (field_cell p x y) refl goes
       where
-        go : (r : Result Cell InputKind) → field_cell p x y ≡ r → Goes row longer None r → row_with p row (drop i (zip xs ys)) ≡ row_with p longer (drop (i + 1) (zip xs ys))
-        go (Ok v) e h = step (Ok v) e ∙ ap (λ l. row_with p l (drop (i + 1) (zip xs ys))) (sym h.1)
+        go : (r : Result Cell InputKind) → field_cell p x y ≡ r → Goes cells after None r → IsFilled p (zip xs ys) (i + 1) before after
+        go (Ok v) e h = record {
+          row = filled.row ++ v ∷ [];
+          stands = h.1 ∙ ap (λ l. l ++ v ∷ []) filled.stands ∙ append_assoc before filled.row (v ∷ []);
+          size = length-append filled.row (v ∷ []) ∙ ap (λ n. n + 1) filled.size;
+          goes_on = sym (step (Ok v) e);
+        }
         go (Err kind) e h = let bad : None ≡ Some kind = h.0 in cc
 
-    -- the field has a flaw, and the row is as before
-    pub row_stops : (after : Row) (kind : InputKind) → Goes row after (Some kind) (field_cell p x y) → row_with p row (drop i (zip xs ys)) ≡ Err (length after + 1, kind)
-    row_stops after kind goes = go (field_cell p x y) refl goes
+    -- the field has a flaw, and so has the row
+    pub filled_stops : (after : List Cell) (kind : InputKind) → Goes cells after (Some kind) (field_cell p x y) → AddsRow before after (Some (i + 1, kind)) (row_with p [] (zip xs ys))
+    filled_stops after kind goes = go (field_cell p x y) refl goes
       where
-        go : (r : Result Cell InputKind) → field_cell p x y ≡ r → Goes row after (Some kind) r → row_with p row (drop i (zip xs ys)) ≡ Err (length after + 1, kind)
+        go : (r : Result Cell InputKind) → field_cell p x y ≡ r → Goes cells after (Some kind) r → AddsRow before after (Some (i + 1, kind)) (row_with p [] (zip xs ys))
         go (Ok v) e h = let bad : Some kind ≡ None = h.0 in cc
         go (Err other) e h =
-            let met : row_with p row (drop i (zip xs ys)) ≡ Err (length row + 1, other) = step (Err other) e in
-            let same : after ≡ row = h.1 in
-            let kinds : Some kind ≡ Some other = h.0 in cc
+            let met : row_with p [] (zip xs ys) ≡ Err (i + 1, other) = step (Err other) e ∙ ap (λ n. Err (n + 1, other)) filled.size in
+            let kinds : Some kind ≡ Some other = h.0 in
+            let flaw : Some (i + 1, kind) ≡ Some (i + 1, other) = cc in
+            let front = ap (take (length before)) (h.1 ∙ filled.stands) ∙ take_at before filled.row (length before) refl in
+            subst (AddsRow before after (Some (i + 1, kind))) (sym met) (flaw, front)
 
   -- no field is left
-  pub row_ends : length xs ≤ i → row_with p row (drop i (zip xs ys)) ≡ Ok row
-  row_ends h = ap (row_with p row) (drop_all i (zip xs ys) (zip_ended xs ys i h))
+  pub filled_all : length xs ≤ i → AddsRow before cells None (row_with p [] (zip xs ys))
+  filled_all h =
+      let whole : row_with p [] (zip xs ys) ≡ Ok filled.row = sym filled.goes_on ∙ ap (row_with p filled.row) (drop_all i (zip xs ys) (zip_ended xs ys i h)) in
+      subst (AddsRow before cells None) (sym whole) (refl, filled.stands)

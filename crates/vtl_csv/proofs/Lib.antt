@@ -1,4 +1,3 @@
-pub mod ArrangedLemmas
 pub mod DataSetTextLemmas
 pub mod DeclarationLemmas
 pub mod FieldAgainLemmas

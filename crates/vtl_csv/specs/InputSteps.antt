@@ -1,5 +1,5 @@
 -- The steps by which a CSV file of a data set is read: what each leaves, and how its answer is seen.
-use Rattle.std.specs.Prelude.{ℕ, ◌+◌, ◌≡◌, List, [], ◌∷◌, ◌++◌, length, Option, Some, None, Result, Ok, Err}
+use Rattle.std.specs.Prelude.{ℕ, ◌+◌, ◌≡◌, List, [], ◌∷◌, ◌++◌, length, take, Option, Some, None, Result, Ok, Err}
 use Rattle.std.specs.Global.{Vec}
 use Rattle.vtl_lists.specs.Aliases.{Record}
 use Rattle.vtl_cell.specs.Settings.{Settings}
@@ -23,15 +23,15 @@ flaw_of f = (f.column, f.kind)
 abbrev pub fault_of : FaultFields → Fault
 fault_of f = (f.line, flaw_of f.flaw)
 
--- a row, or the flaw where there is one
-abbrev pub row_answer : Row → Option Flaw → Result Row Flaw
-row_answer row None = Ok row
-row_answer row (Some flaw) = Err flaw
-
--- a row goes on with a cell, or stays as it is where there is a flaw in its place
-abbrev pub Goes : Row → Row → Option InputKind → Result Cell InputKind → Type 0
+-- cells go on with one more, or stay as they are where there is a flaw in its place
+abbrev pub Goes : List Cell → List Cell → Option InputKind → Result Cell InputKind → Type 0
 Goes before after flaw (Ok cell) = (flaw ≡ None) × (after ≡ before ++ cell ∷ [])
 Goes before after flaw (Err kind) = (flaw ≡ Some kind) × (after ≡ before)
+
+-- cells go on with those of a row, or with any where there is a flaw in its place
+abbrev pub AddsRow : List Cell → List Cell → Option Flaw → Result Row Flaw → Type 0
+AddsRow before after flaw (Ok row) = (flaw ≡ None) × (after ≡ before ++ row)
+AddsRow before after flaw (Err what) = (flaw ≡ Some what) × (take (length before) after ≡ before)
 
 -- the columns of a header, or a column
 abbrev pub columns_answer : Result (Vec Component) ℕ → Result (List Component) ℕ

@@ -1,8 +1,6 @@
 // The data set that a CSV file holds.
 ghost use Rattle.std.specs.Prelude.{◌≡◌, ◌<◌, ◌≤◌, [], length, map, take, option_map, All, IfOk, IfSome, Ok};
-ghost use Rattle.std.specs.List.{range_with_len};
-ghost use Rattle.std.specs.Bool.{OnTrue};
-ghost use Rattle.vtl_rows.specs.Tables.{cells_at, column_at};
+ghost use Rattle.vtl_rows.specs.Flat.{IsFlat, flat_rows};
 ghost use Rattle.vtl_tree.specs.DataSet.{AreOfProfile};
 ghost use Rattle.vtl_tree.specs.Structure.{IsStructure, key_width};
 ghost use Rattle.vtl_sets.specs.TableOf.{IsTableOf, column_for};
@@ -17,8 +15,8 @@ use crate::input_fields::{MOST_POINTS, fill_row};
 use crate::records::RecordReader;
 use crate::text_pool::pools;
 use std::alloc::{AllocError, Global};
-use vtl_cell::Profile;
-use vtl_rows::Table;
+use vtl_cell::{Cell, Profile};
+use vtl_rows::{Column, Table};
 use vtl_sets::table_column;
 use vtl_tree::Structure;
 
@@ -38,45 +36,81 @@ fn expected_rows(text: &[u8]) -> usize {
     rows.saturating_add(rows / 32).min(MOST_POINTS)
 }
 
-// A table of no rows with the columns of a file, and with room for this many rows, where there is so much.
-fn table_of(alloc: Global, file: &[FileColumn], expected: usize) -> Result<Table, AllocError>
-    requires { 0 < length file.now }
-    ensures columns { IfOk result (λ t. t.columns ≡ map column_for file.now) }
-    ensures rows { IfOk result (λ t. t.rows ≡ []) }
+// The columns of a file's table.
+fn columns_for(alloc: Global, file: &[FileColumn]) -> Result<Vec<Column>, AllocError>
+    ensures { IfOk result (λ columns. columns.items ≡ map column_for file.now) }
 {
     let mut columns = Vec::with_capacity(alloc, file.len())?;
     for column in file {
         columns.push(table_column(column.component())?)?;
     }
-    let mut table = Table::new(alloc, columns);
-    // Without this room the table grows as it is filled.
-    let _has_room = table.reserve_rows(expected).is_ok();
-    Ok(table)
+    Ok(columns)
 }
 
-// Adds the rows of the records that are left, up to the first flaw, which is the answer.
+// No cells, with room for those of this many rows, where there is so much.
+fn room_for(alloc: Global, rows: usize, width: usize) -> Vec<Cell>
+    ensures { result.items ≡ [] }
+{
+    let mut cells = Vec::new(alloc);
+    // Without this room the list grows as it is filled.
+    let _has_room = cells.reserve(rows.saturating_mul(width)).is_ok();
+    cells
+}
+
+// Where the taking of rows ended: behind how many rows, and at which flaw, if at one.
+#[derive(Clone, Copy)]
+struct Ending {
+    count: usize,
+    flaw: Option<Flaw>,
+}
+
+// Puts the rows of the records that are left into a list of no cells, one row after the other, up to the first flaw.
 fn add_rows<'a>(
     alloc: Global,
-    table: &mut Table,
+    cells: &mut Vec<Cell>,
     columns: &[FileColumn],
     reader: &mut RecordReader<'a>,
     fields: &mut Fields<'a>,
     profile: &Profile,
-) -> Result<Option<Flaw>, AllocError>
-    requires { table.old.columns ≡ map column_for columns.now }
-    ensures columns { table.new.columns ≡ table.old.columns }
-    ensures rows { IfOk result (λ o. taken table.new.rows (option_map flaw_of o) ≡ taken_with profile.now columns.now table.old.rows reader.old) }
+) -> Result<Ending, AllocError>
+    requires some { 0 < length columns.now }
+    requires none { cells.old.items ≡ [] }
+    ensures flat { IfOk result (λ e. IsFlat (map column_for columns.now) e.count cells.new.items) }
+    ensures rows { IfOk result (λ e. taken (flat_rows (length columns.now) e.count cells.new.items) (option_map flaw_of e.flaw) ≡ taken_with profile.now columns.now [] reader.old) }
 {
     let mut pools = pools(alloc, columns.len())?;
-    let mut row = Vec::with_capacity(alloc, columns.len())?;
+    let mut count = 0usize;
     while reader.next(fields)? {
-        let count = table.len();
-        match fill_row(alloc, columns, &mut pools, count, fields, profile, &mut row)? {
-            None => table.push_cells(&mut row)?,
-            Some(flaw) => return Ok(Some(flaw)),
+        match fill_row(alloc, columns, &mut pools, count, fields, profile, cells)? {
+            None => count += 1,
+            Some(flaw) => {
+                cells.truncate(count * columns.len());
+                let flaw = Some(flaw);
+                return Ok(Ending { count, flaw });
+            }
         }
     }
-    Ok(None)
+    Ok(Ending { count, flaw: None })
+}
+
+// A table of the records that are left, about so many, up to the first flaw, and that flaw, if there is one.
+fn take_rows<'a>(
+    alloc: Global,
+    columns: &[FileColumn],
+    expected: usize,
+    reader: &mut RecordReader<'a>,
+    fields: &mut Fields<'a>,
+    profile: &Profile,
+) -> Result<(Table, Option<Flaw>), AllocError>
+    requires { 0 < length columns.now }
+    ensures columns { IfOk result (λ r. r.0.columns ≡ map column_for columns.now) }
+    ensures rows { IfOk result (λ r. taken r.0.rows (option_map flaw_of r.1) ≡ taken_with profile.now columns.now [] reader.old) }
+{
+    let table_columns = columns_for(alloc, columns)?;
+    let mut cells = room_for(alloc, expected, columns.len());
+    let ending = add_rows(alloc, &mut cells, columns, reader, fields, profile)?;
+    let table = Table::of_cells(table_columns, cells, ending.count);
+    Ok((table, ending.flaw))
 }
 
 // The first fault of a file with the rows of a table: the first repeat of identifiers, otherwise the flaw after the
@@ -104,54 +138,26 @@ fn first_fault(table: &Table, repeat: Option<usize>, flaw: Option<Flaw>) -> Opti
     }
 }
 
-// Adds the rows of the records that are left to a table of none, and answers the first fault, if there is one; the
+// A table of the records that are left, about so many, up to the first flaw, and the first fault, if there is one; the
 // identifiers stand at the places `keys`.
 fn read_rows<'a>(
     alloc: Global,
-    table: &mut Table,
     columns: &[FileColumn],
     keys: &[usize],
+    expected: usize,
     reader: &mut RecordReader<'a>,
     fields: &mut Fields<'a>,
     profile: &Profile,
-) -> Result<Option<Fault>, AllocError>
-    requires columns { table.old.columns ≡ map column_for columns.now }
-    requires none { table.old.rows ≡ [] }
-    requires keys { All (λ i. i < length table.old.columns) keys.now }
-    ensures columns { table.new.columns ≡ table.old.columns }
-    ensures rows { IfOk result (λ o. rows_outcome table.new.rows (option_map fault_of o) ≡ rows_with profile.now columns.now keys.now [] reader.old) }
+) -> Result<(Table, Option<Fault>), AllocError>
+    requires some { 0 < length columns.now }
+    requires keys { All (λ i. i < length columns.now) keys.now }
+    ensures columns { IfOk result (λ r. r.0.columns ≡ map column_for columns.now) }
+    ensures rows { IfOk result (λ r. rows_outcome r.0.rows (option_map fault_of r.1) ≡ rows_with profile.now columns.now keys.now [] reader.old) }
 {
-    let flaw = add_rows(alloc, table, columns, reader, fields, profile)?;
+    let (table, flaw) = take_rows(alloc, columns, expected, reader, fields, profile)?;
     let repeat = table.first_repeat(alloc, keys)?;
-    Ok(first_fault(table, repeat, flaw))
-}
-
-// Whether places are all those below a number, in order.
-fn are_in_order(places: &[usize], count: usize) -> bool
-    ensures { OnTrue result (places.now ≡ range_with_len 0 count) }
-{
-    if places.len() != count {
-        return false;
-    }
-    for i in 0..count {
-        if places[i] != i {
-            return false;
-        }
-    }
-    true
-}
-
-// The table with its columns at these places.
-fn arranged(alloc: Global, table: Table, places: &[usize]) -> Result<Table, AllocError>
-    requires some { 0 < length places.now }
-    requires within { All (λ i. i < length table.columns) places.now }
-    ensures columns { IfOk result (λ t. t.columns ≡ map (column_at table.columns) places.now) }
-    ensures rows { IfOk result (λ t. t.rows ≡ map (cells_at places.now) table.rows) }
-{
-    if are_in_order(places, table.columns().len()) {
-        return Ok(table);
-    }
-    table.project(alloc, places)
+    let fault = first_fault(&table, repeat, flaw);
+    Ok((table, fault))
 }
 
 fn bad_header(column: u64) -> Fault
@@ -191,19 +197,19 @@ fn read_table<'a>(
     requires layout { IsLayout structure.now (layout_seen layout.now) }
     ensures { IfOk result (λ r. Answers structure.now r (rows_below profile.now structure.now (layout_seen layout.now) reader.old)) }
 {
-    let mut table = table_of(alloc, &layout.columns, expected)?;
     let keys = key_places(alloc, structure, &layout.places)?;
-    match read_rows(
+    let (table, fault) = read_rows(
         alloc,
-        &mut table,
         &layout.columns,
         keys,
+        expected,
         reader,
         fields,
         profile,
-    )? {
+    )?;
+    match fault {
         Some(fault) => Ok(Err(fault)),
-        None => Ok(Ok(arranged(alloc, table, &layout.places)?)),
+        None => Ok(Ok(table.into_projected(alloc, &layout.places)?)),
     }
 }
 

@@ -4,7 +4,7 @@ ghost use Rattle.vtl_cell.specs.Settings.{Settings};
 ghost use Rattle.vtl_cell.specs.declared.cell.Cell.TheVariants as cell;
 ghost use Rattle.vtl_cell.specs.declared.kind.Kind.TheVariants as kind;
 ghost use Rattle.vtl_csv.specs.InputFields.{coded_cell, field_cell, record_row, row_with};
-ghost use Rattle.vtl_csv.specs.InputSteps.{Goes, flaw_of, row_answer};
+ghost use Rattle.vtl_csv.specs.InputSteps.{AddsRow, Goes, flaw_of};
 ghost use Rattle.vtl_csv.specs.StructuresFile.{is_identifier};
 ghost use Rattle.vtl_csv.specs.declared.input.InputKind.TheVariants as input;
 ghost use Rattle.std.specs.List.{zip};
@@ -22,138 +22,137 @@ use vtl_tree::Role;
 /// The most points that a file may hold.
 pub const MOST_POINTS: usize = 1_000_000;
 
-// Puts a cell at the end of a row. A call of its own would cost more than that.
+// Puts a cell behind others. A call of its own would cost more than that.
 #[inline(always)]
-fn push_cell(row: &mut Vec<Cell>, cell: Cell) -> Result<Option<InputKind>, AllocError>
-    ensures { IfOk result (λ flaw. Goes row.old.items row.new.items flaw (Ok cell)) }
+fn push_cell(cells: &mut Vec<Cell>, cell: Cell) -> Result<Option<InputKind>, AllocError>
+    ensures { IfOk result (λ flaw. Goes cells.old.items cells.new.items flaw (Ok cell)) }
 {
-    row.push(cell)?;
+    cells.push(cell)?;
     Ok(None)
 }
 
-// Puts the cell of an empty field at the end of a row: null, which no identifier is.
-fn push_empty(column: &FileColumn, row: &mut Vec<Cell>) -> Result<Option<InputKind>, AllocError>
-    ensures { IfOk result (λ flaw. Goes row.old.items row.new.items flaw (if is_identifier column.now then Err input.NullIdentifier else Ok cell.Null)) }
+// Puts the cell of an empty field behind others: null, which no identifier is.
+fn push_empty(column: &FileColumn, cells: &mut Vec<Cell>) -> Result<Option<InputKind>, AllocError>
+    ensures { IfOk result (λ flaw. Goes cells.old.items cells.new.items flaw (if is_identifier column.now then Err input.NullIdentifier else Ok cell.Null)) }
 {
     match column.component().role {
         Role::Identifier => Ok(Some(InputKind::NullIdentifier)),
-        Role::Measure | Role::Attribute => push_cell(row, Cell::Null),
+        Role::Measure | Role::Attribute => push_cell(cells, Cell::Null),
     }
 }
 
-// Puts a cell that is read at the end of a row, if it is among the codes of its column.
+// Puts a cell that is read behind others, if it is among the codes of its column.
 fn push_coded(
     column: &FileColumn,
     cell: Cell,
-    row: &mut Vec<Cell>,
+    cells: &mut Vec<Cell>,
 ) -> Result<Option<InputKind>, AllocError>
-    ensures { IfOk result (λ flaw. Goes row.old.items row.new.items flaw (coded_cell column.now (Some cell))) }
+    ensures { IfOk result (λ flaw. Goes cells.old.items cells.new.items flaw (coded_cell column.now (Some cell))) }
 {
     if column.is_coded(&cell) {
-        push_cell(row, cell)
+        push_cell(cells, cell)
     } else {
         Ok(Some(InputKind::NotInCodes))
     }
 }
 
-// Puts the cell of a field that is not empty at the end of a row, in a column of any kind.
+// Puts the cell of a field that is not empty behind others, in a column of any kind.
 fn push_read(
     alloc: Global,
     column: &FileColumn,
     field: &[u8],
     profile: &Profile,
-    row: &mut Vec<Cell>,
+    cells: &mut Vec<Cell>,
 ) -> Result<Option<InputKind>, AllocError>
     requires { 0 < length field.now }
-    ensures { IfOk result (λ flaw. Goes row.old.items row.new.items flaw (field_cell profile.now column.now field.now)) }
+    ensures { IfOk result (λ flaw. Goes cells.old.items cells.new.items flaw (field_cell profile.now column.now field.now)) }
 {
     let text = match str::from_utf8(field) {
         Ok(text) => text,
         Err(_) => return Ok(Some(InputKind::NotText)),
     };
     match read_cell(alloc, column.component().kind, text, profile)? {
-        Some(cell) => push_coded(column, cell, row),
+        Some(cell) => push_coded(column, cell, cells),
         None => Ok(Some(InputKind::BadValue)),
     }
 }
 
-// Puts the cell of a field that is not empty at the end of a row, in a column of integers.
+// Puts the cell of a field that is not empty behind others, in a column of integers.
 fn push_integer(
     alloc: Global,
     column: &FileColumn,
     field: &[u8],
     profile: &Profile,
-    row: &mut Vec<Cell>,
+    cells: &mut Vec<Cell>,
 ) -> Result<Option<InputKind>, AllocError>
     requires some { 0 < length field.now }
     requires integers { column.now.kind ≡ kind.Int }
-    ensures { IfOk result (λ flaw. Goes row.old.items row.new.items flaw (field_cell profile.now column.now field.now)) }
+    ensures { IfOk result (λ flaw. Goes cells.old.items cells.new.items flaw (field_cell profile.now column.now field.now)) }
 {
     match plain_integer(field, profile) {
-        Some(n) => push_cell(row, Cell::Int(n)),
-        None => push_read(alloc, column, field, profile, row),
+        Some(n) => push_cell(cells, Cell::Int(n)),
+        None => push_read(alloc, column, field, profile, cells),
     }
 }
 
-// Puts the cell of a field that is not empty at the end of a row, in a column of texts. Its text is shared with an
+// Puts the cell of a field that is not empty behind others, in a column of texts. Its text is shared with an
 // equal one of the pool.
 fn push_text(
     alloc: Global,
     column: &FileColumn,
     pool: &mut TextPool,
     field: &[u8],
-    row: &mut Vec<Cell>,
+    cells: &mut Vec<Cell>,
 ) -> Result<Option<InputKind>, AllocError>
     requires some { 0 < length field.now }
     requires texts { column.now.kind ≡ kind.Text }
-    ensures { IfOk result (λ flaw. (p : Settings) → Goes row.old.items row.new.items flaw (field_cell p column.now field.now)) }
+    ensures { IfOk result (λ flaw. (p : Settings) → Goes cells.old.items cells.new.items flaw (field_cell p column.now field.now)) }
 {
     match pool.text(alloc, field)? {
-        Some(text) if column.lists_codes() => push_coded(column, Cell::Text(text), row),
-        Some(text) => push_cell(row, Cell::Text(text)),
+        Some(text) if column.lists_codes() => push_coded(column, Cell::Text(text), cells),
+        Some(text) => push_cell(cells, Cell::Text(text)),
         None => Ok(Some(InputKind::NotText)),
     }
 }
 
-// Puts the cell of a field in its column at the end of a row. Where the field has none its flaw is the answer, and the
-// row is as before.
+// Puts the cell of a field in its column behind others. Where the field has none its flaw is the answer, and the cells
+// are as before.
 fn push_field(
     alloc: Global,
     column: &FileColumn,
     pool: &mut TextPool,
     field: &[u8],
     profile: &Profile,
-    row: &mut Vec<Cell>,
+    cells: &mut Vec<Cell>,
 ) -> Result<Option<InputKind>, AllocError>
-    ensures { IfOk result (λ flaw. Goes row.old.items row.new.items flaw (field_cell profile.now column.now field.now)) }
+    ensures { IfOk result (λ flaw. Goes cells.old.items cells.new.items flaw (field_cell profile.now column.now field.now)) }
 {
     if field.is_empty() {
-        return push_empty(column, row);
+        return push_empty(column, cells);
     }
     match column.component().kind {
-        Kind::Int => push_integer(alloc, column, field, profile, row),
-        Kind::Text => push_text(alloc, column, pool, field, row),
-        _ => push_read(alloc, column, field, profile, row),
+        Kind::Int => push_integer(alloc, column, field, profile, cells),
+        Kind::Text => push_text(alloc, column, pool, field, cells),
+        _ => push_read(alloc, column, field, profile, cells),
     }
 }
 
-// Puts the cells of as many fields as columns into an empty row, up to the first flaw, which is the answer.
+// Puts the cells of as many fields as columns behind others, up to the first flaw, which is the answer.
 fn fill(
     alloc: Global,
     columns: &[FileColumn],
     pools: &mut [TextPool],
     fields: &Fields,
     profile: &Profile,
-    row: &mut Vec<Cell>,
+    cells: &mut Vec<Cell>,
 ) -> Result<Option<Flaw>, AllocError>
     requires fields { length fields.now ≡ length columns.now }
     requires pools { length pools.old ≡ length columns.now }
-    requires none { row.old.items ≡ [] }
-    ensures { IfOk result (λ o. row_answer row.new.items (option_map flaw_of o) ≡ row_with profile.now [] (zip columns.now fields.now)) }
+    ensures { IfOk result (λ o. AddsRow cells.old.items cells.new.items (option_map flaw_of o) (row_with profile.now [] (zip columns.now fields.now))) }
 {
     for i in 0..columns.len() {
         let field = fields.field(i);
-        if let Some(kind) = push_field(alloc, &columns[i], &mut pools[i], field, profile, row)? {
+        if let Some(kind) = push_field(alloc, &columns[i], &mut pools[i], field, profile, cells)? {
             let column = i as u64 + 1;
             return Ok(Some(Flaw { column, kind }));
         }
@@ -161,7 +160,7 @@ fn fill(
     Ok(None)
 }
 
-/// Puts the cells of a record after `count` rows into an empty row, up to the first flaw of the record, which is the
+/// Puts the cells of a record after `count` rows behind others, up to the first flaw of the record, which is the
 /// answer. The pools are those of the columns.
 pub fn fill_row(
     alloc: Global,
@@ -170,18 +169,17 @@ pub fn fill_row(
     count: usize,
     fields: &Fields,
     profile: &Profile,
-    row: &mut Vec<Cell>,
+    cells: &mut Vec<Cell>,
 ) -> Result<Option<Flaw>, AllocError>
     requires pools { length pools.old ≡ length columns.now }
-    requires none { row.old.items ≡ [] }
-    ensures { IfOk result (λ o. row_answer row.new.items (option_map flaw_of o) ≡ record_row profile.now columns.now count fields.now) }
+    ensures { IfOk result (λ o. AddsRow cells.old.items cells.new.items (option_map flaw_of o) (record_row profile.now columns.now count fields.now)) }
 {
     if count >= MOST_POINTS {
         let kind = InputKind::TooManyRows;
         return Ok(Some(Flaw { column: 1, kind }));
     }
     if fields.len() == columns.len() {
-        return fill(alloc, columns, pools, fields, profile, row);
+        return fill(alloc, columns, pools, fields, profile, cells);
     }
     let column = fields.len().min(columns.len()) as u64 + 1;
     let kind = InputKind::WrongWidth;

@@ -1,33 +1,30 @@
-use Rattle.std.proofs.Common.{◌+◌, None, Some, Err, length, sym, ap, ◌∙◌}
+use Rattle.std.specs.List.{zip}
+use Rattle.std.proofs.Common.{None, Some}
 use Rattle.vtl_csv.specs.InputFields.{field_cell}
 use Rattle.vtl_csv.specs.InputSteps.{Goes}
-use Rattle.vtl_csv.proofs.InputFieldLemmas.{goes_longer, goes_nowhere, row_ends, row_stops, row_takes}
+use Rattle.vtl_csv.proofs.InputFieldLemmas.{filled_all, filled_more, filled_none, filled_stops}
 use Rattle.vtl_csv.proofs.input_fields.fill.Goals as goal
+
+pub loop-i-init : goal.loop-i-init
+loop-i-init c = filled_none c.args.profile.now (zip c.args.columns.now c.args.fields.now) c.args.cells.now.items
 
 pub returns-in-Some : goal.returns-in-Some
 returns-in-Some c =
     let p = c.args.profile.now in
-    let xs = c.args.columns.now in
     let x = c.index-columns-i.result in
     let y = c.field-field.result.now in
-    let after = c.push_field.new.row.items in
-    let goes : Goes c.loop-i.row.items after (Some c.in-Some.kind) (field_cell p x y) = rw (← c.in-Some.is) c.in_ok-kind.ensures in
-    let stops = row_stops p xs c.args.fields.now c.loop-i.i c.loop-i.row.items c.requires.fields x y c.loop-i-test.true c.index-columns-i.is c.field-field.ensures after c.in-Some.kind goes in
-    let kept = goes_nowhere c.loop-i.row.items after c.in-Some.kind (field_cell p x y) goes in
-    let size = ap length kept ∙ c.loop-i.invariant.1 in
-    sym (ap (λ n. Err (n + 1, c.in-Some.kind)) size) ∙ sym stops ∙ c.loop-i.invariant.0
+    let after = c.push_field.new.cells.items in
+    let goes : Goes c.loop-i.cells.items after (Some c.in-Some.kind) (field_cell p x y) = rw (← c.in-Some.is) c.in_ok-kind.ensures in
+    filled_stops p c.args.columns.now c.args.fields.now c.loop-i.i c.args.cells.now.items c.loop-i.cells.items c.requires.fields c.loop-i.invariant x y c.loop-i-test.true c.index-columns-i.is c.field-field.ensures after c.in-Some.kind goes
 
 pub loop-i-preserved : goal.loop-i-preserved
 loop-i-preserved c =
     let p = c.args.profile.now in
-    let xs = c.args.columns.now in
     let x = c.index-columns-i.result in
     let y = c.field-field.result.now in
-    let longer = c.push_field.new.row.items in
-    let goes : Goes c.loop-i.row.items longer None (field_cell p x y) = rw (← c.in_default.is) c.in_ok-kind.ensures in
-    let takes = row_takes p xs c.args.fields.now c.loop-i.i c.loop-i.row.items c.requires.fields x y c.loop-i-test.true c.index-columns-i.is c.field-field.ensures longer goes in
-    let size = goes_longer c.loop-i.row.items longer (field_cell p x y) goes in
-    (sym takes ∙ c.loop-i.invariant.0, size ∙ ap (λ n. n + 1) c.loop-i.invariant.1)
+    let after = c.push_field.new.cells.items in
+    let goes : Goes c.loop-i.cells.items after None (field_cell p x y) = rw (← c.in_default.is) c.in_ok-kind.ensures in
+    filled_more p c.args.columns.now c.args.fields.now c.loop-i.i c.args.cells.now.items c.loop-i.cells.items c.requires.fields c.loop-i.invariant x y c.loop-i-test.true c.index-columns-i.is c.field-field.ensures after goes
 
 pub returns : goal.returns
-returns c = sym (row_ends c.args.profile.now c.args.columns.now c.args.fields.now c.loop-i.i c.loop-i.row.items c.requires.fields c.loop-i-test.false) ∙ c.loop-i.invariant.0
+returns c = filled_all c.args.profile.now c.args.columns.now c.args.fields.now c.loop-i.i c.args.cells.now.items c.loop-i.cells.items c.requires.fields c.loop-i.invariant c.loop-i-test.false

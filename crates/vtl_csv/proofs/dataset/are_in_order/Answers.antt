@@ -1,6 +1,0 @@
-use Rattle.std.proofs.Common.{arith}
-use Rattle.vtl_csv.proofs.ArrangedLemmas.{places_in_order}
-use Rattle.vtl_csv.proofs.dataset.are_in_order.Goals as goal
-
-pub returns : goal.returns
-returns c = places_in_order c.args.places.now c.args.count c.if-places-count.false (λ k h. c.loop-i.invariant k (omega (arith, h)))
