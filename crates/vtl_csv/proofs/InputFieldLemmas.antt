@@ -4,7 +4,7 @@ use Rattle.std.specs.List.{zip}
 use Rattle.std.specs.Prelude.{IsUtf8}
 use Rattle.std.specs.Str.{is_utf8}
 use Rattle.std.proofs.lemmas.Bool.{eqb-true}
-use Rattle.std.proofs.lemmas.List.{append-nil, drop_all, drop_more, take_all, take_at}
+use Rattle.std.proofs.lemmas.List.{append-nil, drop_all, drop_more, take_at}
 use Rattle.std.proofs.lemmas.Str.{IsUtf8-from_is_utf8, IsUtf8-nil, is_utf8-from_IsUtf8}
 use Rattle.vtl_cell.specs.Settings.{Settings}
 use Rattle.vtl_cell.specs.declared.cell.Cell.{Cell}
@@ -62,10 +62,6 @@ pub record IsFilled (p : Settings) (pairs : List (Component × List ℕ)) (i : �
 
 pub filled_none : (p : Settings) (pairs : List (Component × List ℕ)) (before : List Cell) → IsFilled p pairs 0 before before
 filled_none p pairs before = record { row = []; stands = sym (append-nil before); size = refl; goes_on = refl }
-
--- cells that were not touched are still in front
-pub kept_in_front : (before : List Cell) → take (length before) before ≡ before
-kept_in_front before = take_all (length before) before (omega arith)
 
 module _ (p : Settings) (xs : List Component) (ys : List (List ℕ)) (i : ℕ) (before cells : List Cell) (same : length ys ≡ length xs) (filled : IsFilled p (zip xs ys) i before cells) where
   module _ (x : Component) (y : List ℕ) (h : i < length xs) (at_x : x ≡ get_or xs i x) (at_y : y ≡ get_or ys i y) where

@@ -19,3 +19,4 @@ pub mod RepeatLemmas
 pub mod SortedCodeLemmas
 pub mod RowTextLemmas
 pub mod TableTextLemmas
+pub mod TakenLemmas

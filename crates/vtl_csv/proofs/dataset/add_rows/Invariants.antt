@@ -1,11 +1,10 @@
-use Rattle.std.proofs.Common.{◌≡◌, [], length, vec_len}
-use Rattle.vtl_csv.specs.InputSteps.{taken_with}
+use Rattle.std.proofs.Common.{◌≡◌, length, vec_len}
+use Rattle.vtl_csv.proofs.TakenLemmas.{AreTaken}
 use Rattle.vtl_csv.proofs.dataset.add_rows.Given as goal
 
-abbrev pub invariant-loop-row : goal.invariant-loop-row
-invariant-loop-row l =
-    (taken_with l.profile l.columns l.table.rows l.reader ≡ taken_with l.profile l.columns l.fn.table.rows l.fn.reader)
-    × (l.table.columns ≡ l.fn.table.columns) × (vec_len l.pools ≡ length l.columns) × (l.row.items ≡ [])
+abbrev pub invariant-loop-pools : goal.invariant-loop-pools
+invariant-loop-pools l =
+    record { as_many : vec_len l.pools ≡ length l.columns; taken : AreTaken l.profile l.columns l.count l.cells.items l.reader l.fn.reader }
 
-abbrev pub decreases-loop-row : goal.decreases-loop-row
-decreases-loop-row l = length l.reader
+abbrev pub decreases-loop-pools : goal.decreases-loop-pools
+decreases-loop-pools l = length l.reader

@@ -10,46 +10,45 @@ use Rattle.std.specs.Option.{option_map}
 use Rattle.vtl_sets.specs.TableOf.{column_for}
 use Rattle.vtl_csv.proofs.dataset.read_table.Goals as goal
 
-pub table_of-requires : goal.table_of-requires
-table_of-requires c =
-    let wide = layout_wide c.args.structure.now (layout_seen c.args.layout.now) c.requires.structure c.requires.layout in
-    subst (λ l. 0 < length l) (sym c.deref.ensures.value) wide
-
 pub key_places-requires : goal.key_places-requires
 key_places-requires c =
     let keys = layout_keys c.args.structure.now (layout_seen c.args.layout.now) c.requires.structure c.requires.layout in
-    subst (λ l. key_width c.args.structure.now ≤ length l) (sym c.deref-2.ensures.value) keys
+    subst (λ l. key_width c.args.structure.now ≤ length l) (sym c.deref.ensures.value) keys
+
+pub read_rows-requires-clause-some : goal.read_rows-requires-clause-some
+read_rows-requires-clause-some c =
+    let wide = layout_wide c.args.structure.now (layout_seen c.args.layout.now) c.requires.structure c.requires.layout in
+    subst (λ l. 0 < length l) (sym c.deref-2.ensures.value) wide
 
 pub read_rows-requires-clause-keys : goal.read_rows-requires-clause-keys
 read_rows-requires-clause-keys c =
-    let same = c.in_ok-table.ensures.columns ∙ ap (map column_for) c.deref.ensures.value in
-    let count = ap length same ∙ length-map c.args.layout.now.columns.items column_for in
-    let keys = c.in_ok-keys.ensures ∙ ap (take (key_width c.args.structure.now)) c.deref-2.ensures.value in
-    subst (All (λ i. i < length c.in_ok-table.table.columns)) (sym keys) (layout_below c.args.structure.now (layout_seen c.args.layout.now) c.requires.structure c.requires.layout (length c.in_ok-table.table.columns) (key_width c.args.structure.now) count)
+    let count = ap length c.deref-2.ensures.value in
+    let keys = c.in_ok-keys.ensures ∙ ap (take (key_width c.args.structure.now)) c.deref.ensures.value in
+    subst (All (λ i. i < length c.deref-2.result.now)) (sym keys) (layout_below c.args.structure.now (layout_seen c.args.layout.now) c.requires.structure c.requires.layout (length c.deref-2.result.now) (key_width c.args.structure.now) count)
 
-pub arranged-requires-clause-some : goal.arranged-requires-clause-some
-arranged-requires-clause-some c =
+pub into_projected-requires-clause-some : goal.into_projected-requires-clause-some
+into_projected-requires-clause-some c =
     let some = layout_some c.args.structure.now (layout_seen c.args.layout.now) c.requires.structure c.requires.layout in
     subst (λ l. 0 < length l) (sym c.deref-in-None.ensures.value) some
 
-pub arranged-requires-clause-within : goal.arranged-requires-clause-within
-arranged-requires-clause-within c =
-    let same = c.in_ok-fault.ensures.columns ∙ c.in_ok-table.ensures.columns ∙ ap (map column_for) c.deref.ensures.value in
+pub into_projected-requires-clause-within : goal.into_projected-requires-clause-within
+into_projected-requires-clause-within c =
+    let same = c.in_ok-table.ensures.columns ∙ ap (map column_for) c.deref-2.ensures.value in
     let count = ap length same ∙ length-map c.args.layout.now.columns.items column_for in
-    subst (All (λ i. i < length c.read_rows.new.table.columns)) (sym c.deref-in-None.ensures.value) (layout_all_below c.args.structure.now (layout_seen c.args.layout.now) c.requires.structure c.requires.layout (length c.read_rows.new.table.columns) count)
+    subst (All (λ i. i < length c.in_ok-table.table.columns)) (sym c.deref-in-None.ensures.value) (layout_all_below c.args.structure.now (layout_seen c.args.layout.now) c.requires.structure c.requires.layout (length c.in_ok-table.table.columns) count)
 
-pub returns-in_ok-arranged-in-None : goal.returns-in_ok-arranged-in-None
-returns-in_ok-arranged-in-None c =
-    let same = c.in_ok-fault.ensures.columns ∙ c.in_ok-table.ensures.columns ∙ ap (map column_for) c.deref.ensures.value in
-    let keys = c.in_ok-keys.ensures ∙ ap (take (key_width c.args.structure.now)) c.deref-2.ensures.value in
+pub returns-in_ok-into_projected-in-None : goal.returns-in_ok-into_projected-in-None
+returns-in_ok-into_projected-in-None c =
+    let same = c.in_ok-table.ensures.columns ∙ ap (map column_for) c.deref-2.ensures.value in
+    let keys = c.in_ok-keys.ensures ∙ ap (take (key_width c.args.structure.now)) c.deref.ensures.value in
     let places = c.deref-in-None.ensures.value in
     let read =
-    ap (λ o. rows_outcome c.read_rows.new.table.rows (option_map fault_of o)) (sym c.in-None.is)
-    ∙ c.in_ok-fault.ensures.rows
-    ∙ ap (λ columns. rows_with c.args.profile.now columns c.in_ok-keys.keys.now [] c.args.reader.now) c.deref-3.ensures.value
+    ap (λ o. rows_outcome c.in_ok-table.table.rows (option_map fault_of o)) (sym c.in-None.is)
+    ∙ c.in_ok-table.ensures.rows
+    ∙ ap (λ columns. rows_with c.args.profile.now columns c.in_ok-keys.keys.now [] c.args.reader.now) c.deref-2.ensures.value
     ∙ ap (λ l. rows_with c.args.profile.now c.args.layout.now.columns.items l [] c.args.reader.now) keys in (
-      c.in_ok-arranged-in-None.ensures.columns ∙ ap (λ columns. map (column_at columns) c.deref-in-None.result.now) same ∙ ap (map (column_at (map column_for c.args.layout.now.columns.items))) places
+      c.in_ok-into_projected-in-None.ensures.columns ∙ ap (λ columns. map (column_at columns) c.deref-in-None.result.now) same ∙ ap (map (column_at (map column_for c.args.layout.now.columns.items))) places
           ∙ layout_columns c.args.structure.now (layout_seen c.args.layout.now) c.requires.structure c.requires.layout,
-      rows_arranged c.args.layout.now.places.items (rows_with c.args.profile.now c.args.layout.now.columns.items (take (key_width c.args.structure.now) c.args.layout.now.places.items) [] c.args.reader.now) c.read_rows.new.table.rows c.in_ok-arranged-in-None.field-0.rows
-          read (c.in_ok-arranged-in-None.ensures.rows ∙ ap (λ l. map (cells_at l) c.read_rows.new.table.rows) places),
+      rows_arranged c.args.layout.now.places.items (rows_with c.args.profile.now c.args.layout.now.columns.items (take (key_width c.args.structure.now) c.args.layout.now.places.items) [] c.args.reader.now) c.in_ok-table.table.rows c.in_ok-into_projected-in-None.field-0.rows
+          read (c.in_ok-into_projected-in-None.ensures.rows ∙ ap (λ l. map (cells_at l) c.in_ok-table.table.rows) places),
     )
