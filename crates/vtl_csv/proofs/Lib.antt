@@ -1,5 +1,6 @@
 pub mod DataSetTextLemmas
 pub mod DeclarationLemmas
+pub mod DistinctLemmas
 pub mod FieldAgainLemmas
 pub mod DeterminedLemmas
 pub mod InputDataSetLemmas

@@ -1,6 +1,7 @@
 pub mod CsvText
 pub mod DeclarationFields
 pub mod Declarations
+pub mod Distinct
 pub mod FaultFields
 pub mod InputFields
 pub mod InputFile

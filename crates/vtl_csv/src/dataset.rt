@@ -13,6 +13,7 @@ use crate::header::{Layout, read_layout};
 use crate::input::{Fault, Flaw, InputErr, InputKind};
 use crate::input_fields::{MOST_POINTS, fill_row};
 use crate::records::RecordReader;
+use crate::repeats::first_repeat;
 use crate::text_pool::pools;
 use std::alloc::{AllocError, Global};
 use vtl_cell::{Cell, Profile};
@@ -155,7 +156,7 @@ fn read_rows<'a>(
     ensures rows { IfOk result (λ r. rows_outcome r.0.rows (option_map fault_of r.1) ≡ rows_with profile.now columns.now keys.now [] reader.old) }
 {
     let (table, flaw) = take_rows(alloc, columns, expected, reader, fields, profile)?;
-    let repeat = table.first_repeat(alloc, keys)?;
+    let repeat = first_repeat(alloc, &table, keys)?;
     let fault = first_fault(&table, repeat, flaw);
     Ok((table, fault))
 }

@@ -22,6 +22,7 @@ mod plain_lines;
 mod reading;
 mod record_text;
 mod records;
+mod repeats;
 mod row_text;
 mod structures;
 mod table_text;
