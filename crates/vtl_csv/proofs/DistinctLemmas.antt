@@ -1,5 +1,5 @@
 -- Rows that differ in one column of a key are no repeats of each other.
-use Rattle.std.proofs.Common.{◌≡◌, ℕ, zero, suc, ◌+◌, ◌<◌, ◌≤◌, inl, inr, ℤ, List, [], ◌∷◌, Bool, true, false, ◌&&◌, Option, None, Some, length, get_or, set, arith, refl, sym, ap, ◌∙◌, subst, true≢false, ◌≢◌}
+use Rattle.std.proofs.Common.{◌≡◌, ℕ, zero, suc, ◌+◌, ◌<◌, inl, inr, ℤ, List, [], ◌∷◌, Bool, true, false, ◌&&◌, Option, None, Some, length, get_or, set, arith, refl, sym, ap, ◌∙◌, subst, true≢false, ◌≢◌}
 use Rattle.std.proofs.lemmas.Bool.{cases_eq, cases_order}
 use Rattle.std.proofs.lemmas.List.{get_or-set_same, get_or-set_other}
 use Rattle.vtl_cell.specs.Apart.{all_apart}
@@ -54,7 +54,6 @@ none_yet from column rows met = ((λ j k h l. absurd (omega (arith, l))), (λ j 
 module _ (from : ℤ) (column : ℕ) (rows : List Row) (met : List Bool) (i place : ℕ)
     (before : DistinctUpTo from column rows met i)
     (here : distance_of from (column_of column (row_at rows i)) ≡ Some place) (within : place < length met) (new : get_or met place false ≡ false) where
-
   abbrev cell : ℕ → Cell
   cell j = column_of column (row_at rows j)
 
@@ -79,6 +78,7 @@ module _ (from : ℤ) (column : ℕ) (rows : List Row) (met : List Bool) (i plac
         | inl e ↦ subst (λ z. same_cell (cell j) (cell z) ≡ false) (sym e) (differs j (omega (arith, h, e)))
         | inr ne ↦ before.0 j k h (below k i l ne)
       ]
+
       are_met : AreMet from column rows (set met place true) (i + 1)
       are_met j k h e = elim (cases_eq j i) [
         | inl q ↦

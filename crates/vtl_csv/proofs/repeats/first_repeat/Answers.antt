@@ -1,4 +1,4 @@
-use Rattle.std.proofs.Common.{◌<◌, arith, get_or, length, subst}
+use Rattle.std.proofs.Common.{arith, get_or, length, subst}
 use Rattle.std.specs.Bool.{OnTrue}
 use Rattle.vtl_csv.specs.Distinct.{AreDistinct}
 use Rattle.vtl_csv.proofs.DistinctLemmas.{distinct_is_apart}
