@@ -1,5 +1,4 @@
-use Rattle.std.proofs.Common.{◌≡◌, ◌∙◌, ap}
-use Rattle.std.specs.List.{range_with_len}
+use Rattle.std.proofs.Common.{◌∙◌, ap}
 use Rattle.vtl_rows.specs.Tables.{cells_at}
 use Rattle.vtl_index.specs.Leads.{leads_of}
 use Rattle.sql_from.proofs.Standing.{if_ok}
@@ -11,9 +10,9 @@ pub returns-in-Some : goal.returns-in-Some
 returns-in-Some c =
     if_ok c.by.result _ _ (λ g found. found ∙ ap (leads_of (cells_at c.args.places.now)) c.in-Some.ensures.rows) c.by.ensures
 
-pub returns-in-None : goal.returns-in-None
-returns-in-None c =
+pub returns-in_ok-columns-in-None : goal.returns-in_ok-columns-in-None
+returns-in_ok-columns-in-None c =
     let rows = rows_of c.args.rows.now in
     let places = c.args.places.now in
-    let columns = c.deref.ensures.value ∙ c.in_ok-columns.ensures in
-    if_ok c.by.result _ _ (λ g found. found ∙ (λ n. leads_of (cells_at (columns n)) (c.in_ok-keys.ensures n)) ∙ leads_stay places rows) c.by.ensures
+    let columns = c.deref.ensures.value ∙ c.in_ok-columns-in-None.ensures in
+    if_ok c.by-in-None.result _ _ (λ g found. found ∙ (λ n. leads_of (cells_at (columns n)) (c.in_ok-keys-in-None.ensures n)) ∙ leads_stay places rows) c.by-in-None.ensures

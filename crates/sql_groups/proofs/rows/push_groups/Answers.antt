@@ -29,8 +29,8 @@ of-at-requires g c =
         held = ap (λ (a : Asking). a.held) c.in_ok-partners.ensures.keys;
         sources = c.in_ok-partners.ensures.rows;
         ranged =
-            subst (λ (a : Asking). IsRowOfProfile a.settings c.put_key.new.key.items) (sym c.in_ok-partners.ensures.keys)
-            (subst (IsRowOfProfile c.args.p.now) (sym c.in_ok-put_key.ensures)
+            subst (λ (a : Asking). IsRowOfProfile a.settings c.deref.result.now) (sym c.in_ok-partners.ensures.keys)
+            (subst (IsRowOfProfile c.args.p.now) (sym (c.deref.ensures.value ∙ c.in_ok-put_key.ensures))
             (all_at (IsRowOfProfile c.args.p.now) g.keys c.loop-number.number [] within
             (subst (AreOfProfile c.args.p.now) (sym c.in_ok-groups.ensures.keys_are) (keys_of_profile c.args.p.now (places_of x c.args.group.now) (rows_of x) c.requires.ranged))));
       };
@@ -45,7 +45,7 @@ push_group-requires g c =
     let i = c.loop-number.number in
     let a = around p x c.args.group.now in
     let within : i < length g.keys = omega (arith, c.len-number-end.ensures.keys, c.loop-number-test.true) in
-    let group = group_is x c.args.group.now g i c.of-at.result c.in_ok-groups.ensures within c.of-at.ensures.held (c.of-at.ensures.key ∙ c.in_ok-put_key.ensures) (c.of-at.ensures.rows ∙ ap (rows_at (rows_of x)) c.rows.ensures) in
+    let group = group_is x c.args.group.now g i c.of-at.result c.in_ok-groups.ensures within c.of-at.ensures.held (c.of-at.ensures.key ∙ c.deref.ensures.value ∙ c.in_ok-put_key.ensures) (c.of-at.ensures.rows ∙ ap (rows_at (rows_of x)) c.rows.ensures) in
     ap (λ (z : Group). fits c.loop-number.table.columns (row_for p (rows_held z.held) z.key z.rows s)) group
     ∙ ap (λ l. fits l (row_of_key a s (row_at g.keys i))) c.loop-number.invariant.columns
     ∙ all_at (λ k. fits c.args.table.now.columns (row_of_key a s k) ≡ true) g.keys i [] within
@@ -60,7 +60,7 @@ loop-number-preserved g c =
     let i = c.loop-number.number in
     let a = around p x c.args.group.now in
     let within : i < length g.keys = omega (arith, c.len-number-end.ensures.keys, c.loop-number-test.true) in
-    let group = group_is x c.args.group.now g i c.of-at.result c.in_ok-groups.ensures within c.of-at.ensures.held (c.of-at.ensures.key ∙ c.in_ok-put_key.ensures) (c.of-at.ensures.rows ∙ ap (rows_at (rows_of x)) c.rows.ensures) in
+    let group = group_is x c.args.group.now g i c.of-at.result c.in_ok-groups.ensures within c.of-at.ensures.held (c.of-at.ensures.key ∙ c.deref.ensures.value ∙ c.in_ok-put_key.ensures) (c.of-at.ensures.rows ∙ ap (rows_at (rows_of x)) c.rows.ensures) in
     record {
       columns = c.push_group.ensures.columns ∙ c.loop-number.invariant.columns;
       rows =

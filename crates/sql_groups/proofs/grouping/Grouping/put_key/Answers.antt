@@ -1,4 +1,4 @@
-use Rattle.std.proofs.Common.{◌≡◌, ◌<◌, ◌++◌, ◌∙◌, ℕ, List, length, get_or, sym, ap, subst, arith}
+use Rattle.std.proofs.Common.{◌≡◌, ◌<◌, ◌++◌, ◌∙◌, length, get_or, sym, ap, subst, arith}
 use Rattle.std.specs.Prelude.{OnOk}
 use Rattle.vtl_cell.specs.Row.{Row}
 use Rattle.vtl_rows.specs.Places.{row_at}
@@ -30,5 +30,5 @@ returns-in-Keyed c =
     let laid = subst (IsLaidOut rows) c.in-Keyed.is c.self.invariant in
     let led = key_led places rows c.in-Keyed.groups c.args.self.now c.args.group (ap (grouped_in rows) (sym c.in-Keyed.is) ∙ c.self.view_is) laid c.requires in
     subst (λ (k : Row). OnOk c.push_key.result (c.push_key.new.key.items ≡ k))
-    (ap (λ l. l ++ cells_at places (row_at rows (get_or c.rows.result.now 0 0))) c.clear.ensures ∙ ap (λ (ns : List ℕ). cells_at places (row_at rows (get_or ns 0 0))) c.rows.ensures ∙ led)
+    ((λ n. c.clear.ensures.items n ++ cells_at (c.deref.ensures.value n) (row_at rows (get_or (c.rows.ensures n) 0 0))) ∙ led)
     c.push_key.ensures
